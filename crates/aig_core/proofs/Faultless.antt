@@ -1,0 +1,157 @@
+-- A circuit without a fault is well formed, and a well-formed circuit has no fault.
+use Rattle.std.proofs.Common.{◌≡◌, ℕ, List, [], ◌∷◌, eqb, Bool, true, false, cond, Option, None, Some, refl, sym, ap, subst, ◌∙◌, inl, inr, ⊎_elim, arith}
+use Rattle.std.specs.Prelude.{◌⊎◌, ◌↔◌}
+use mathlib.Core.Bool.{◌||◌}
+use Rattle.std.specs.List.{AllByRecursion, Contains}
+use Rattle.std.proofs.lemmas.Bool.Decides.{Decides-eqb}
+use Rattle.std.specs.Ordering.{nat_cmp, eq_by_cmp}
+use Rattle.std.specs.Cmp.{eq_by_cmp_equiv, unsigned_tied}
+use Rattle.std.proofs.lemmas.Cmp.{nat_cmp_total}
+use Rattle.std.specs.FinSet as set
+use Rattle.std.specs.FinSet.{FinSet, contains-insert, contains-empty}
+use Rattle.aig_core.specs.declared.fault.CheckFault.{CheckFault}
+use Rattle.aig_core.specs.declared.circuit.Circuit.{Circuit}
+use Rattle.aig_core.specs.declared.circuit.Gate.{Gate}
+use Rattle.aig_core.specs.Literal.{variable_of}
+use Rattle.aig_core.specs.Wellformed.{IsAmong, AreDistinct, IsKnown, HasRank, IsWellFormed, defined_variables, used_literals}
+use Rattle.aig_core.specs.Form.{IsInForm}
+use Rattle.aig_core.specs.Fault.{first_repeat, first_unknown, with_all, is_known, first_fault, redefined_or, undefined_fault}
+
+same_is_equal : (x : ℕ) → eq_by_cmp nat_cmp x x ≡ true
+same_is_equal x = (eq_by_cmp_equiv nat_cmp_total).refl x
+
+has_new : (s : FinSet nat_cmp) (x : ℕ) → set.contains (set.insert s x) x ≡ true
+has_new s x = contains-insert nat_cmp_total s x x ∙ ap (λ b. b || set.contains s x) (same_is_equal x)
+
+or_true : (a b : Bool) → b ≡ true → (a || b) ≡ true
+or_true true b e = refl
+or_true false b e = e
+
+has_old : (s : FinSet nat_cmp) (x y : ℕ) → set.contains s y ≡ true → set.contains (set.insert s x) y ≡ true
+has_old s x y h = contains-insert nat_cmp_total s x y ∙ or_true _ _ h
+
+-- what a set with one more has is that one, or was there
+was_there : (s : FinSet nat_cmp) (x y : ℕ) → set.contains (set.insert s x) y ≡ true → (y ≡ x) ⊎ (set.contains s y ≡ true)
+was_there s x y h =
+    elim (eqb y x) as (λ b. eqb y x ≡ b → (b || set.contains s y) ≡ true → (y ≡ x) ⊎ (set.contains s y ≡ true)) [
+      | true ↦ λ e _. inl ((Decides-eqb y x).0 e)
+      | false ↦ λ _ e. inr e
+    ] refl (sym (contains-insert nat_cmp_total s x y ∙ ap (λ b. b || set.contains s y) (unsigned_tied y x)) ∙ h)
+
+-- the first of no repeat is new, and no other is a repeat
+no_repeat : (s : FinSet nat_cmp) (x : ℕ) (xs : List ℕ) → first_repeat s (x ∷ xs) ≡ None → (set.contains s x ≡ false) × (first_repeat (set.insert s x) xs ≡ None)
+no_repeat s x xs h =
+    elim (set.contains s x) as (λ b. cond b (Some x) (first_repeat (set.insert s x) xs) ≡ None → (b ≡ false) × (first_repeat (set.insert s x) xs ≡ None)) [
+      | true ↦ λ e. cc
+      | false ↦ λ e. (refl, e)
+    ] h
+
+apart : (s : FinSet nat_cmp) (xs : List ℕ) → first_repeat s xs ≡ None → (y : ℕ) → set.contains s y ≡ true → ¬ IsAmong y xs
+apart s [] none y has a = a
+apart s (x ∷ xs) none y has a =
+    let n : (set.contains s x ≡ false) × (first_repeat (set.insert s x) xs ≡ None) = no_repeat s x xs none in
+    ⊎_elim (λ (e : y ≡ x). let f : set.contains s x ≡ true = subst (λ z. set.contains s z ≡ true) e has in let g : set.contains s x ≡ false = n.0 in cc)
+    (apart (set.insert s x) xs n.1 y (has_old s x y has)) a
+
+distinct : (s : FinSet nat_cmp) (xs : List ℕ) → first_repeat s xs ≡ None → AreDistinct xs
+distinct s [] none = tt
+distinct s (x ∷ xs) none =
+    let n : (set.contains s x ≡ false) × (first_repeat (set.insert s x) xs ≡ None) = no_repeat s x xs none in
+    (apart (set.insert s x) xs n.1 x (has_new s x), distinct (set.insert s x) xs n.1)
+
+-- a test that is not true is false
+not_true : (b : Bool) → ¬ (b ≡ true) → b ≡ false
+not_true true h = absurd (h refl)
+not_true false h = refl
+
+-- distinct numbers that a set does not have repeat nothing
+nothing_repeats : (s : FinSet nat_cmp) (xs : List ℕ) → AreDistinct xs → ((y : ℕ) → IsAmong y xs → ¬ (set.contains s y ≡ true)) → first_repeat s xs ≡ None
+nothing_repeats s [] d new = refl
+nothing_repeats s (x ∷ xs) d new =
+    let fresh : set.contains s x ≡ false = not_true (set.contains s x) (new x (inl refl)) in
+    ap (λ b. cond b (Some x) (first_repeat (set.insert s x) xs)) fresh
+    ∙ nothing_repeats (set.insert s x) xs d.1 (λ y a has.
+    ⊎_elim (λ (e : y ≡ x). d.0 (subst (λ z. IsAmong z xs) e a)) (λ (old : set.contains s y ≡ true). new y (inr a) old) (was_there s x y has))
+
+-- what the set of all has was there before or stands in the list
+found : (s : FinSet nat_cmp) (xs : List ℕ) (y : ℕ) → set.contains (with_all s xs) y ≡ true → (set.contains s y ≡ true) ⊎ IsAmong y xs
+found s [] y h = inl h
+found s (x ∷ xs) y h =
+    ⊎_elim (λ (e : set.contains (set.insert s x) y ≡ true). ⊎_elim (λ (i : y ≡ x). inr (inl i)) (λ (t : set.contains s y ≡ true). inl t) (was_there s x y e))
+    (λ (a : IsAmong y xs). inr (inr a)) (found (set.insert s x) xs y h)
+
+kept : (s : FinSet nat_cmp) (xs : List ℕ) (y : ℕ) → set.contains s y ≡ true → set.contains (with_all s xs) y ≡ true
+kept s [] y h = h
+kept s (x ∷ xs) y h = kept (set.insert s x) xs y (has_old s x y h)
+
+-- what stands in the list is in the set of all
+taken : (s : FinSet nat_cmp) (xs : List ℕ) (y : ℕ) → IsAmong y xs → set.contains (with_all s xs) y ≡ true
+taken s [] y a = absurd a
+taken s (x ∷ xs) y a =
+    ⊎_elim (λ (e : y ≡ x). kept (set.insert s x) xs y (subst (λ z. set.contains (set.insert s x) z ≡ true) (sym e) (has_new s x)))
+    (taken (set.insert s x) xs y) a
+
+none_in_empty : (y : ℕ) → ¬ (set.contains (set.empty {R = nat_cmp}) y ≡ true)
+none_in_empty y h = let m : set.contains (set.empty {R = nat_cmp}) y ≡ false = contains-empty nat_cmp y in cc
+
+known_is : (vars : List ℕ) (lit : ℕ) → is_known (with_all set.empty vars) lit ≡ true → IsKnown vars lit
+known_is vars lit h =
+    elim (eqb (variable_of lit) 0) as (λ b. eqb (variable_of lit) 0 ≡ b → (b || set.contains (with_all set.empty vars) (variable_of lit)) ≡ true → IsKnown vars lit) [
+      | true ↦ λ e _. inl ((Decides-eqb (variable_of lit) 0).0 e)
+      | false ↦ λ _ e. ⊎_elim (λ (n : set.contains (set.empty {R = nat_cmp}) (variable_of lit) ≡ true). absurd (none_in_empty _ n)) (λ (a : IsAmong (variable_of lit) vars). inr a) (found set.empty vars (variable_of lit) e)
+    ] refl h
+
+known_told : (vars : List ℕ) (lit : ℕ) → IsKnown vars lit → is_known (with_all set.empty vars) lit ≡ true
+known_told vars lit k =
+    ⊎_elim (λ (e : variable_of lit ≡ 0). ap (λ b. b || set.contains (with_all set.empty vars) (variable_of lit)) ((Decides-eqb (variable_of lit) 0).1 e))
+    (λ (a : IsAmong (variable_of lit) vars). or_true _ _ (taken set.empty vars (variable_of lit) a)) k
+
+all_known : (vars lits : List ℕ) → first_unknown (with_all set.empty vars) lits ≡ None → AllByRecursion (IsKnown vars) lits
+all_known vars [] h = tt
+all_known vars (x ∷ xs) h =
+    elim (is_known (with_all set.empty vars) x) as (λ b. is_known (with_all set.empty vars) x ≡ b → cond b (first_unknown (with_all set.empty vars) xs) (Some x) ≡ None → AllByRecursion (IsKnown vars) (x ∷ xs)) [
+      | true ↦ λ e n. (known_is vars x e, all_known vars xs n)
+      | false ↦ λ _ n. cc
+    ] refl h
+
+none_unknown : (vars lits : List ℕ) → AllByRecursion (IsKnown vars) lits → first_unknown (with_all set.empty vars) lits ≡ None
+none_unknown vars [] h = refl
+none_unknown vars (x ∷ xs) h =
+    ap (λ b. cond b (first_unknown (with_all set.empty vars) xs) (Some x)) (known_told vars x h.0) ∙ none_unknown vars xs h.1
+
+no_redefinition : (o : Option ℕ) (f : Option CheckFault) → redefined_or o f ≡ None → (o ≡ None) × (f ≡ None)
+no_redefinition None f h = (refl, h)
+no_redefinition (Some x) f h = cc
+
+no_undefined : (o : Option ℕ) → undefined_fault o ≡ None → o ≡ None
+no_undefined None h = refl
+no_undefined (Some x) h = cc
+
+-- a circuit in form, without a fault and with a rank of its gates, is well formed
+pub well_formed_with_rank : (c : Circuit) → IsInForm c → HasRank c.gates → first_fault c ≡ None → IsWellFormed c
+well_formed_with_rank c form rank h =
+    let n : (first_repeat set.empty (defined_variables c) ≡ None) × (undefined_fault (first_unknown (with_all set.empty (defined_variables c)) (used_literals c)) ≡ None) = no_redefinition _ _ h in
+    record {
+      limits = form.limits;
+      in_range = form.variables;
+      once = distinct set.empty (defined_variables c) n.0;
+      known = all_known (defined_variables c) (used_literals c) (no_undefined _ n.1);
+      symbols = form.symbols;
+      ranked = rank;
+    }
+
+pub rank_of_none : (gates : List Gate) → gates ≡ [] → HasRank gates
+rank_of_none gates no_gates = ((λ _. 0), λ g h g_in h_in e. let q : Contains [] g = subst (λ (gs : List Gate). Contains gs g) no_gates g_in in absurd (omega arith))
+
+pub well_formed : (c : Circuit) → IsInForm c → c.gates ≡ [] → first_fault c ≡ None → IsWellFormed c
+well_formed c form no_gates h = well_formed_with_rank c form (rank_of_none c.gates no_gates) h
+
+-- a well-formed circuit has no fault
+pub faultless : (c : Circuit) → IsWellFormed c → first_fault c ≡ None
+faultless c w =
+    let once : first_repeat set.empty (defined_variables c) ≡ None = nothing_repeats set.empty (defined_variables c) w.once (λ y _ h. none_in_empty y h) in
+    let known : first_unknown (with_all set.empty (defined_variables c)) (used_literals c) ≡ None = none_unknown (defined_variables c) (used_literals c) w.known in
+    ap (λ o. redefined_or o (undefined_fault (first_unknown (with_all set.empty (defined_variables c)) (used_literals c)))) once ∙ ap undefined_fault known
+
+pub faultless_is_well_formed : (c : Circuit) → IsInForm c → c.gates ≡ [] → (first_fault c ≡ None) ↔ IsWellFormed c
+faultless_is_well_formed c form no_gates = (well_formed c form no_gates, faultless c)

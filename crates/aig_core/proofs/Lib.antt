@@ -1,0 +1,7 @@
+pub mod Sets
+pub mod Told
+pub mod InForm
+pub mod Outgoing
+pub mod Sections
+pub mod Faultless
+pub mod Fitting

@@ -1,0 +1,15 @@
+use Rattle.std.proofs.Common.{◌≡◌, ◌≤◌, ◌-◌, length, take}
+use Rattle.aig_core.specs.Transfer.{WentOut}
+use Rattle.aig_core.proofs.block.Block.put.Given as goal
+
+abbrev pub invariant-loop-at : goal.invariant-loop-at
+invariant-loop-at g l =
+    let d = g.W.Sink in
+    record {
+      within : l.at ≤ length l.bytes;
+      out : WentOut (d.taken l.fn.sink) (d.taken l.sink) l.fn.self l.self (take l.at l.bytes);
+      failed : d.failed l.sink ≡ d.failed l.fn.sink;
+    }
+
+abbrev pub decreases-loop-at : goal.decreases-loop-at
+decreases-loop-at g l = length l.bytes - l.at

@@ -1,0 +1,8 @@
+use Rattle.aig_core.proofs.Faultless.{well_formed}
+use Rattle.aig_core.proofs.check.check.Goals as goal
+
+pub invariant_of-result : goal.invariant_of-result
+invariant_of-result c = well_formed c.args.circuit c.requires.in_form c.requires.no_gates c.in-Ok.ensures.ok
+
+pub returns-in-Ok-clause-well_formed : goal.returns-in-Ok-clause-well_formed
+returns-in-Ok-clause-well_formed c = well_formed c.args.circuit c.requires.in_form c.requires.no_gates c.in-Ok.ensures.ok

@@ -1,0 +1,5 @@
+use Rattle.aig_core.proofs.Fitting.{definitions_fit}
+use Rattle.aig_core.proofs.laws.definitions_fit.Goals as goal
+
+pub returns : goal.returns
+returns c = definitions_fit

@@ -1,0 +1,54 @@
+-- The first structural fault of a circuit: a redefinition before an undefined literal (this project's profile).
+use Rattle.std.specs.Prelude.{◌≡◌, ◌==◌, ◌||◌, ℕ, List, [], ◌∷◌, Bool, Option, None, Some, if◌then◌else◌}
+use Rattle.std.specs.Ordering.{nat_cmp}
+use Rattle.std.specs.FinSet as set
+use Rattle.aig_core.specs.declared.circuit.Circuit.{Circuit}
+use Rattle.aig_core.specs.declared.fault.CheckFault.{CheckFault}
+use Rattle.aig_core.specs.declared.fault.CheckFault.TheVariants.{Redefined, Undefined, OutOfMemory}
+use Rattle.aig_core.specs.Literal.{variable_of}
+use Rattle.aig_core.specs.Wellformed.{defined_variables, used_literals}
+
+-- the first number that the set has, or that stands before in the list
+abbrev pub first_repeat : set.FinSet nat_cmp → List ℕ → Option ℕ
+first_repeat seen [] = None
+first_repeat seen (x ∷ xs) = if set.contains seen x then Some x else first_repeat (set.insert seen x) xs
+
+-- the set and all of the list
+abbrev pub with_all : set.FinSet nat_cmp → List ℕ → set.FinSet nat_cmp
+with_all seen [] = seen
+with_all seen (x ∷ xs) = with_all (set.insert seen x) xs
+
+-- a constant, or a literal over one of the variables
+abbrev pub is_known : set.FinSet nat_cmp → ℕ → Bool
+is_known variables literal = (variable_of literal == 0) || set.contains variables (variable_of literal)
+
+-- the first literal that is no constant and over none of the variables
+abbrev pub first_unknown : set.FinSet nat_cmp → List ℕ → Option ℕ
+first_unknown variables [] = None
+first_unknown variables (x ∷ xs) = if is_known variables x then first_unknown variables xs else Some x
+
+abbrev pub undefined_fault : Option ℕ → Option CheckFault
+undefined_fault None = None
+undefined_fault (Some literal) = Some (Undefined literal)
+
+-- the redefinition where there is one, else what is told after it
+abbrev pub redefined_or : Option ℕ → Option CheckFault → Option CheckFault
+redefined_or (Some variable) later = Some (Redefined variable)
+redefined_or None later = later
+
+abbrev pub first_fault : Circuit → Option CheckFault
+first_fault c =
+    redefined_or (first_repeat set.empty (defined_variables c))
+    (undefined_fault (first_unknown (with_all set.empty (defined_variables c)) (used_literals c)))
+
+-- a fault that is told of definitions alone: their first repeat, unless memory was refused
+abbrev pub IsRedefinition : Option ℕ → CheckFault → Type 0
+IsRedefinition repeat OutOfMemory = Unit {0}
+IsRedefinition repeat (Redefined v) = repeat ≡ Some v
+IsRedefinition repeat (Undefined l) = ⊥
+
+-- a fault that is told is this one, unless memory was refused
+abbrev pub IsFault : CheckFault → Option CheckFault → Type 0
+IsFault OutOfMemory first = Unit {0}
+IsFault (Redefined v) first = first ≡ Some (Redefined v)
+IsFault (Undefined l) first = first ≡ Some (Undefined l)

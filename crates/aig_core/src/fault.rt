@@ -1,0 +1,29 @@
+//! Why a circuit is refused.
+ghost use Rattle.std.specs.Prelude.{◌≡◌};
+ghost use Rattle.aig_core.specs.declared.fault.CheckFault.TheVariants.{OutOfMemory};
+
+use crate::literal::{Lit, Var};
+use std::alloc::AllocError;
+use thiserror::Error;
+
+/// Why a circuit is not well formed.
+#[derive(Clone, Copy, Debug, PartialEq, Eq, Error)]
+pub enum CheckFault {
+    /// The variable is defined by a second input, latch or gate.
+    #[error("variable {0} defined twice")]
+    Redefined(Var),
+    /// The literal is used, and nothing defines its variable.
+    #[error("literal {0} not defined")]
+    Undefined(Lit),
+    /// A growth of memory was refused; nothing is known of the circuit.
+    #[error("out of memory")]
+    OutOfMemory,
+}
+
+impl From<AllocError> for CheckFault {
+    ghost from_gives = { λ _ e. e ≡ OutOfMemory };
+
+    fn from(_refused: AllocError) -> CheckFault {
+        CheckFault::OutOfMemory
+    }
+}

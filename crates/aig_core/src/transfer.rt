@@ -1,0 +1,67 @@
+//! All bytes of a source, and all bytes to a sink.
+ghost use Rattle.std.specs.Prelude.{◌≡◌, ◌≢◌, ◌+◌, ◌-◌, ◌^◌, ◌<◌, ◌≤◌, ℕ, [], length, take, Some, IfOk, IfErr, IfSome, OnOk, OnErr, MatchResult, is_ok, if◌then◌else◌};
+ghost use Rattle.std.specs.Io.KnownBytes.{Appends};
+ghost use Rattle.aig_core.specs.Transfer.{GaveAll, GaveSome, TookBeginning};
+ghost use Rattle.aig_core.specs.Failures.{failures_of};
+ghost use Rattle.aig_core.specs.declared.transfer.ReadError.TheVariants.{Source as SourceFault, OutOfMemory};
+
+use crate::device::{DeviceFault, Sink, Source};
+use std::alloc::{AllocError, Global};
+
+/// Why not all bytes came.
+#[derive(Clone, Copy, Debug, PartialEq, Eq)]
+pub enum ReadError {
+    /// The source failed.
+    Source,
+    /// Memory was refused.
+    OutOfMemory,
+}
+
+impl From<DeviceFault> for ReadError {
+    ghost from_gives = { λ _ e. e ≡ SourceFault };
+
+    fn from(_fault: DeviceFault) -> ReadError {
+        ReadError::Source
+    }
+}
+
+impl From<AllocError> for ReadError {
+    ghost from_gives = { λ _ e. e ≡ OutOfMemory };
+
+    fn from(_error: AllocError) -> ReadError {
+        ReadError::OutOfMemory
+    }
+}
+
+/// All bytes that the source still gives. On an error some of them may be gone.
+pub fn read_all<R: Source>(alloc: Global, source: &mut R) -> Result<Vec<u8>, ReadError>
+    requires { R.failed source.old < 2 ^ 64 - 1 }
+    ensures ok { IfOk result (λ all. GaveAll (R.coming source.old) (R.coming source.new) all.items) }
+    ensures ok_failed { OnOk result (R.failed source.new ≡ R.failed source.old) }
+    ensures err_gave { OnErr result (GaveSome (R.coming source.old) (R.coming source.new)) }
+    ensures err { IfErr result (λ e. R.failed source.new ≡ R.failed source.old + failures_of e) }
+{
+    let mut all = Vec::new(alloc);
+    let mut block = [0u8; 8192];
+    loop {
+        let count = source.fetch(&mut block)?;
+        if count == 0 {
+            return Ok(all);
+        }
+        all.extend_from_slice(&block[..count])?;
+    }
+}
+
+/// Sends all bytes. On an error the sink took a beginning of them.
+pub fn send_all<W: Sink>(sink: &mut W, bytes: &[u8]) -> Result<(), DeviceFault>
+    requires { W.failed sink.old < 2 ^ 64 - 1 }
+    ensures ok { OnOk result (Appends (W.taken sink.old) (W.taken sink.new) bytes.now) }
+    ensures err { OnErr result (TookBeginning (W.taken sink.old) (W.taken sink.new) bytes.now) }
+    ensures failed { W.failed sink.new ≡ W.failed sink.old + (if is_ok result then 0 else 1) }
+{
+    let mut at = 0;
+    while at < bytes.len() {
+        at += sink.send(&bytes[at..])?;
+    }
+    Ok(())
+}
