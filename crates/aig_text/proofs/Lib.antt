@@ -1,0 +1,16 @@
+pub mod Cutting
+pub mod KeptNumbers
+pub mod KeptChecks
+pub mod SectionLoop
+pub mod CircuitLines
+pub mod Written
+pub mod Spellings
+pub mod NumberLines
+pub mod Steps
+pub mod SectionRows
+pub mod RowsTold
+pub mod Told
+pub mod Accepted
+pub mod CanonicalLines
+pub mod Canonical
+pub mod WholeText

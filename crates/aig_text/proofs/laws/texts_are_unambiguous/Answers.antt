@@ -1,0 +1,8 @@
+use Rattle.std.proofs.Common.{◌∙◌, sym}
+use Rattle.aig_text.specs.declared.fault.ReadFault.{ReadFault}
+use Rattle.aig_text.proofs.Steps.{ok_same}
+use Rattle.aig_text.proofs.Accepted.{accepted_is_read}
+use Rattle.aig_text.proofs.laws.texts_are_unambiguous.Goals as goal
+
+pub returns : goal.returns
+returns c = λ text limit d e p q. ok_same {E = ReadFault} d e (sym (accepted_is_read limit text d p) ∙ accepted_is_read limit text e q)

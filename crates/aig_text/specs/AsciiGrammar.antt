@@ -1,0 +1,29 @@
+-- Which texts are ASCII AIGER files of which circuits (AIGER report, with the lenient spellings and the limits of this
+-- project's profile). A relation that knows of no reading from left to right.
+use Rattle.std.specs.Prelude.{◌≡◌, ◌≤◌, ◌+◌, ℕ, List, [], ◌∷◌, ◌++◌, None, length}
+use Rattle.std.specs.List.{AllByRecursion, AllZip}
+use Rattle.aig_core.specs.declared.circuit.Circuit.{Circuit}
+use Rattle.aig_core.specs.Wellformed.{IsWellFormed}
+use Rattle.aig_text.specs.Lines.{Line, lines_of}
+use Rattle.aig_text.specs.Numbers.{IsNumberLine, IsHeaderLine}
+use Rattle.aig_text.specs.Rows.{ascii_word, header_row, rows_of}
+
+-- The lines after the numbered ones tell the symbols and the comment. Neither is accepted yet, and so there is no such line.
+abbrev pub AreTailLines : List Line → Circuit → Type 0
+AreTailLines ls c = (ls ≡ []) × (c.symbols ≡ []) × (c.comment ≡ None)
+
+pub record IsAsciiText (text : List ℕ) (limit : ℕ) (c : Circuit) : Type 0 where
+  pub header : Line
+  pub numbered : List Line
+  pub tail : List Line
+  -- The first line is the header, the next ones are the rows of the circuit, and the others are its tail.
+  pub lines : lines_of text ≡ header ∷ (numbered ++ tail)
+  pub is_header : IsHeaderLine ascii_word header (header_row c)
+  pub are_rows : AllZip IsNumberLine numbered (rows_of c)
+  pub is_tail : AreTailLines tail c
+  -- The largest index and the counts are within the limit, and the definitions fit below the largest index.
+  pub limited : AllByRecursion (λ n. n ≤ limit) (header_row c)
+  pub counted : length c.inputs + length c.latches + length c.gates ≤ c.max_var
+  pub well_formed : IsWellFormed c
+  -- Gates are not accepted yet.
+  pub no_gates : c.gates ≡ []

@@ -1,0 +1,46 @@
+-- The canonical ASCII text of a circuit (this project's profile): canonical numbers, single spaces, a line feed after each line.
+use Rattle.std.specs.Prelude.{ℕ, List, [], ◌∷◌, ◌++◌, Option, None, Some, codes, decimal}
+use Rattle.std.specs.List.{flat_map}
+use Rattle.aig_core.specs.declared.circuit.Kind.{Kind}
+use Rattle.aig_core.specs.declared.circuit.Kind.TheVariants.{Input, Latch, Output}
+use Rattle.aig_core.specs.declared.circuit.Symbol.{Symbol}
+use Rattle.aig_core.specs.declared.circuit.Circuit.{Circuit}
+use Rattle.aig_text.specs.Rows.{ascii_word, header_row, rows_of}
+
+abbrev pub spaced_number : ℕ → List ℕ
+spaced_number n = codes " " ++ decimal n
+
+-- each number after a space, and the line feed
+abbrev pub more_numbers_text : List ℕ → List ℕ
+more_numbers_text [] = codes "\n"
+more_numbers_text (n ∷ ns) = codes " " ++ (decimal n ++ more_numbers_text ns)
+
+-- a numbered line: numbers with a space between them, and the line feed
+abbrev pub numbers_text : List ℕ → List ℕ
+numbers_text [] = codes "\n"
+numbers_text (n ∷ ns) = decimal n ++ more_numbers_text ns
+
+abbrev pub header_text : List ℕ → List ℕ → List ℕ
+header_text word ns = word ++ more_numbers_text ns
+
+abbrev pub kind_letter : Kind → List ℕ
+kind_letter Input = codes "i"
+kind_letter Latch = codes "l"
+kind_letter Output = codes "o"
+
+abbrev pub name_text : List ℕ → List ℕ
+name_text name = codes " " ++ (name ++ codes "\n")
+
+abbrev pub symbol_text : Symbol → List ℕ
+symbol_text s = kind_letter s.kind ++ (decimal s.position ++ name_text s.name)
+
+abbrev pub comment_text : Option (List ℕ) → List ℕ
+comment_text None = []
+comment_text (Some bytes) = codes "c\n" ++ bytes
+
+-- the symbols, and then the comment section where there is one
+abbrev pub tail_text : Circuit → List ℕ
+tail_text c = flat_map symbol_text c.symbols ++ comment_text c.comment
+
+unfoldable pub ascii_text : Circuit → List ℕ
+ascii_text c = header_text ascii_word (header_row c) ++ (flat_map numbers_text (rows_of c) ++ tail_text c)

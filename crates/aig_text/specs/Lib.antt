@@ -1,0 +1,9 @@
+pub mod Lines
+pub mod Numbers
+pub mod Rows
+pub mod Kept
+pub mod AsciiText
+pub mod AsciiGrammar
+pub mod Reading
+pub mod Sections
+pub mod Laws

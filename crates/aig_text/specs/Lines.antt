@@ -1,0 +1,29 @@
+-- The lines of a text (this project's profile).
+use Rattle.std.specs.Prelude.{◌==◌, ℕ, List, [], ◌∷◌, ◌++◌, Bool, true, false, if◌then◌else◌}
+use Rattle.std.specs.List.{flat_map}
+
+-- the bytes before the line feed, and whether there is one
+pub record Line : Type 0 where
+  pub text : List ℕ
+  pub ended : Bool
+
+abbrev pub line : List ℕ → Bool → Line
+line text ended = record { text = text; ended = ended }
+
+-- the lines, with one more byte at the front of the first
+abbrev pub begun_by : ℕ → List Line → List Line
+begun_by b [] = line (b ∷ []) false ∷ []
+begun_by b (l ∷ ls) = line (b ∷ l.text) l.ended ∷ ls
+
+-- the pieces of a text that end in a line feed and hold no other, and a last piece without one where it is not empty
+unfoldable pub lines_of : List ℕ → List Line
+lines_of [] = []
+lines_of (b ∷ bs) = if b == 10 then line [] true ∷ lines_of bs else begun_by b (lines_of bs)
+
+-- the bytes of a line, its line feed among them
+abbrev pub line_bytes : Line → List ℕ
+line_bytes l = l.text ++ (if l.ended then 10 ∷ [] else [])
+
+-- the bytes of lines
+abbrev pub bytes_of : List Line → List ℕ
+bytes_of ls = flat_map line_bytes ls

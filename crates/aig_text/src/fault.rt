@@ -1,0 +1,97 @@
+//! Why a text is refused, and where.
+ghost use Rattle.std.specs.Prelude.{◌≡◌};
+ghost use Rattle.aig_text.specs.declared.fault.ReadKind.TheVariants.{OutOfMemory};
+
+use aig_core::literal::{Lit, Var};
+use std::alloc::{AllocError, AllocFailed};
+use std::fmt;
+use thiserror::Error;
+
+/// Where a text is wrong.
+#[derive(Clone, Copy, Debug, PartialEq, Eq)]
+pub enum Place {
+    /// A line, counted from 1.
+    Line(u64),
+    /// A gate of a binary file, counted from 1. The bytes of its gates belong to no line.
+    Gate(u64),
+    /// No one place: the text has the right form throughout.
+    Whole,
+}
+
+impl fmt::Display for Place {
+    fn fmt<W: fmt::Write>(&self, f: &mut fmt::Formatter<W>) -> fmt::Result {
+        match self {
+            Place::Line(number) => write!(f, "line {number}: "),
+            Place::Gate(number) => write!(f, "gate {number}: "),
+            Place::Whole => write!(f, ""),
+        }
+    }
+}
+
+/// What is wrong there.
+#[derive(Clone, Copy, Debug, PartialEq, Eq, Error)]
+pub enum ReadKind {
+    /// The first word is not the reader's.
+    #[error("not an AIGER file")]
+    NotAiger,
+    /// The header is not five numbers, or its counts do not fit below its largest index.
+    #[error("bad header")]
+    BadHeader,
+    /// The largest index or a count is above the limit.
+    #[error("number above the limit")]
+    TooLarge,
+    /// A line that has not the form of its place: how many numbers, or other bytes.
+    #[error("bad line")]
+    BadLine,
+    /// An odd number, or one below 2, where a definition stands.
+    #[error("not a variable")]
+    NotVariable,
+    /// A literal above the largest index.
+    #[error("literal out of range")]
+    LiteralRange,
+    /// The text ends where a line is due.
+    #[error("file ends too early")]
+    Truncated,
+    /// Gates, symbols and comments, which are not read yet.
+    #[error("not supported yet")]
+    NotYet,
+    /// The variable is defined by a second input or latch.
+    #[error("variable {0} defined twice")]
+    Redefined(Var),
+    /// The literal is used, and nothing defines its variable.
+    #[error("literal {0} not defined")]
+    Undefined(Lit),
+    /// A growth of memory was refused; nothing is known of the text.
+    #[error("out of memory")]
+    OutOfMemory,
+}
+
+/// The first fault of a text.
+#[derive(Clone, Copy, Debug, PartialEq, Eq, Error)]
+#[error("{place}{kind}")]
+pub struct ReadFault {
+    pub place: Place,
+    pub kind: ReadKind,
+}
+
+impl From<AllocError> for ReadFault {
+    ghost from_gives = { λ _ e. e.kind ≡ OutOfMemory };
+
+    fn from(_refused: AllocError) -> ReadFault {
+        ReadFault {
+            place: Place::Whole,
+            kind: ReadKind::OutOfMemory,
+        }
+    }
+}
+
+impl<T: Drop> From<AllocFailed<T>> for ReadFault {
+    ghost from_gives = { λ _ e. e.kind ≡ OutOfMemory };
+
+    fn from(_refused: AllocFailed<T>) -> ReadFault {
+        ReadFault {
+            place: Place::Whole,
+            kind: ReadKind::OutOfMemory,
+        }
+    }
+}

@@ -1,0 +1,83 @@
+//! The header line of a file.
+ghost use Rattle.std.specs.Prelude.{◌≡◌, ◌≤◌, Some, IfOk, length};
+ghost use Rattle.std.specs.List.{before_first, position_or_len};
+ghost use Rattle.std.specs.Str.{bytes_eq};
+ghost use Rattle.aig_core.specs.declared.circuit.TheConstants.{LARGEST as largest_index};
+ghost use Rattle.aig_text.specs.Lines.{line};
+ghost use Rattle.aig_text.specs.Reading.{ends_word, header_within, header_of};
+
+use crate::fault::ReadKind;
+use crate::limits::Limits;
+use crate::number::{any_above, more_numbers};
+use aig_core::circuit::LARGEST;
+
+/// What a header tells: the largest variable index and the counts.
+#[derive(Clone, Copy, Debug, PartialEq, Eq)]
+pub struct Header {
+    pub max_var: u32,
+    pub inputs: u32,
+    pub latches: u32,
+    pub outputs: u32,
+    pub gates: u32,
+}
+
+/// How long the word at the front of a line is.
+fn first_word_len(text: &[u8]) -> usize
+    ensures value { result ≡ position_or_len ends_word text.now }
+    ensures within { result ≤ length text.now }
+{
+    text.iter()
+        .take_while(|byte| !(**byte == b' ' || **byte == b'\r'))
+        .count()
+}
+
+/// Whether the word at the front of a line is this one.
+fn begins_with_word(text: &[u8], word: &[u8]) -> bool
+    ensures { result ≡ bytes_eq (before_first ends_word text.now) word.now }
+{
+    let (first, _) = text.split_at(first_word_len(text));
+    first == word
+}
+
+/// The header of its numbers.
+#[tactic(auto, unfolding(crate::specs::Reading::header_within))]
+fn within(limit: u32, numbers: [u64; 5]) -> Result<Header, ReadKind>
+    ensures value { result ≡ header_within limit (Some numbers) }
+    ensures limited { IfOk result (λ h. h.max_var ≤ limit) }
+{
+    if any_above(u64::from(limit), &numbers) {
+        return Err(ReadKind::TooLarge);
+    }
+    let [max_var, inputs, latches, outputs, gates] = numbers;
+    if max_var < inputs + latches + gates {
+        return Err(ReadKind::BadHeader);
+    }
+    Ok(Header {
+        max_var: max_var as u32,
+        inputs: inputs as u32,
+        latches: latches as u32,
+        outputs: outputs as u32,
+        gates: gates as u32,
+    })
+}
+
+/// The header that a line tells, which begins with this word.
+#[tactic(auto, unfolding(crate::specs::Reading::header_of))]
+pub fn read_header(
+    word: &[u8],
+    text: &[u8],
+    ended: bool,
+    limits: Limits,
+) -> Result<Header, ReadKind>
+    ensures value { result ≡ header_of word.now limits.max_var (line text.now ended) }
+    ensures limited { IfOk result (λ h. h.max_var ≤ largest_index) }
+{
+    if !begins_with_word(text, word) {
+        return Err(ReadKind::NotAiger);
+    }
+    let (_, rest) = text.split_at(word.len());
+    match more_numbers::<5>(rest, ended) {
+        Some(numbers) => within(limits.max_var.min(LARGEST), numbers),
+        None => Err(ReadKind::BadHeader),
+    }
+}

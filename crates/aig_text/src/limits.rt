@@ -1,0 +1,20 @@
+//! What a reader accepts at most.
+ghost use Rattle.std.specs.Prelude.{◌≡◌};
+ghost use Rattle.aig_core.specs.declared.circuit.TheConstants.{LARGEST as largest_index};
+
+use aig_core::circuit::LARGEST;
+
+/// How large the largest variable index and each count of a file may be.
+#[derive(Clone, Copy, Debug, PartialEq, Eq)]
+pub struct Limits {
+    pub max_var: u32,
+}
+
+/// As large as those of any circuit may be: 2147483647.
+impl Default for Limits {
+    ghost is_default = { λ limits. limits.max_var ≡ largest_index };
+
+    fn default() -> Limits {
+        Limits { max_var: LARGEST }
+    }
+}
