@@ -1,0 +1,5 @@
+pub mod Conversion
+pub mod Outcome
+pub mod Reported
+pub mod Words
+pub mod Laws

@@ -1,0 +1,66 @@
+//! Why a tool did not do what was asked.
+ghost use Rattle.std.specs.Prelude.{◌≡◌};
+ghost use Rattle.aig_tools.specs.declared.fault.ToolFault.TheVariants.{OutOfMemory, Read, Sink};
+ghost use Rattle.aig_tools.specs.Reported.{is_want_of_memory, tool_fault_of};
+
+use aig_core::transfer::ReadError;
+use aig_text::fault::{ReadFault, ReadKind};
+use aig_text::writer::WriteFault;
+use thiserror::Error;
+
+/// Why a tool did not do what was asked.
+#[derive(Clone, Copy, Debug, PartialEq, Eq, Error)]
+pub enum ToolFault {
+    /// The source is not the file of a circuit.
+    #[error("{0}")]
+    Read(ReadFault),
+    /// The source failed.
+    #[error("cannot read")]
+    Source,
+    /// The sink failed.
+    #[error("cannot write")]
+    Sink,
+    /// A growth of memory was refused while the source was gathered.
+    #[error("out of memory")]
+    OutOfMemory,
+}
+
+impl ToolFault {
+    /// Whether a growth of memory was refused, whoever tells it.
+    pub fn is_want_of_memory(&self) -> bool
+        ensures { result ≡ is_want_of_memory self.now }
+    {
+        match self {
+            ToolFault::OutOfMemory => true,
+            ToolFault::Read(fault) => fault.kind == ReadKind::OutOfMemory,
+            ToolFault::Source | ToolFault::Sink => false,
+        }
+    }
+}
+
+impl From<ReadError> for ToolFault {
+    ghost from_gives = { λ error fault. fault ≡ tool_fault_of error };
+
+    fn from(error: ReadError) -> ToolFault {
+        match error {
+            ReadError::Source => ToolFault::Source,
+            ReadError::OutOfMemory => ToolFault::OutOfMemory,
+        }
+    }
+}
+
+impl From<ReadFault> for ToolFault {
+    ghost from_gives = { λ fault told. told ≡ Read fault };
+
+    fn from(fault: ReadFault) -> ToolFault {
+        ToolFault::Read(fault)
+    }
+}
+
+impl From<WriteFault> for ToolFault {
+    ghost from_gives = { λ _ told. told ≡ Sink };
+
+    fn from(_fault: WriteFault) -> ToolFault {
+        ToolFault::Sink
+    }
+}

@@ -1,0 +1,20 @@
+//! What a user asks for.
+
+/// A conversion between AIGER files.
+#[derive(Debug, Drop)]
+pub struct ToAig {
+    /// Whether ASCII is written, whether an option or the destination's name decided it.
+    pub ascii: bool,
+    /// Whether symbols and comment are left out.
+    pub strip: bool,
+    /// Whether the comment records how the source was renumbered.
+    pub keep_map: bool,
+    /// Whether such a record is undone.
+    pub undo_map: bool,
+    /// The limit on the largest variable index and the counts of the source.
+    pub max_var: u32,
+    /// The source's name; `None` is the standard input.
+    pub source: Option<String>,
+    /// The destination's name; `None` is the standard output.
+    pub destination: Option<String>,
+}
