@@ -1,0 +1,251 @@
+# The table that the end-to-end scripts share. Each script sources this file, defines the function
+#     row NAME INPUT OUTPUT ERRORS STATUS WORD..
+# and calls `rows`. INPUT, OUTPUT and ERRORS are written with the escapes of printf's %b (\n is LF, \r is CR,
+# \t is TAB, \0ooo is the byte ooo in octal). What is wanted was worked out by hand from docs/FORMAT.md.
+
+top=$(cd "$(dirname "${BASH_SOURCE[0]}")/.." && pwd)
+program=${AIGER:-$top/crates/aiger/out/aiger}   # AIGER names another executable to try the same rows on
+passed=0
+failed=0
+
+# pass NAME, fail NAME LINE..: count a row, and say what was wanted and what came
+pass() { passed=$((passed + 1)); }
+fail() {
+    failed=$((failed + 1))
+    printf 'FAILED %s\n' "$1"
+    shift
+    [ $# = 0 ] || printf '    %s\n' "$@"
+}
+
+# the beginning of a file on one line, for a message
+shown() {
+    head -c 300 "$1" | od -An -c -v -w1 | awk '{
+        byte = substr($0, 2)
+        gsub(/ /, "", byte)
+        printf "%s", byte == "" ? " " : length(byte) == 3 ? "\\" byte : byte
+    }'
+}
+
+need_program() {
+    [ -x "$program" ] && return
+    fail 'the linked program is there' "wanted an executable file $program" "came   none: run rt ci, or ./aiger"
+    finish
+}
+
+# the last line of each script, which ./test adds up
+finish() {
+    printf '%s passed, %s failed\n' "$passed" "$failed"
+    [ "$failed" = 0 ] && [ "$passed" != 0 ]
+    exit
+}
+
+# digits COUNT DIGIT
+digits() { printf "%$1s" '' | tr ' ' "$2"; }
+
+accepts() { row "$1" "$2" "$3" '' 0 aigtoaig --ascii; }
+same() { accepts "$1" "$2" "$2"; }
+refuses() { row "$1" "$2" '' "aiger: -: $3\n" 1 aigtoaig --ascii; }
+unknown() { local name=$1; shift; row "$name" 'aag 0 0 0 0 0\n' '' 'aiger: words not supported\n' 2 "$@"; }
+
+rows() {
+    rows_accepted
+    rows_lenient
+    rows_header
+    rows_lines
+    rows_literals
+    rows_ends
+    rows_structure
+    rows_not_yet
+    rows_words
+}
+
+rows_accepted() {
+    same 'one of each section' 'aag 3 1 1 2 0\n6\n2 7\n2\n0\n'
+    same 'the empty circuit' 'aag 0 0 0 0 0\n'
+    same 'unused variables up to the largest' 'aag 2147483647 0 0 0 0\n'
+    same 'the largest variable' 'aag 2147483647 1 0 2 0\n4294967294\n4294967295\n4294967294\n'
+    same 'constants as outputs' 'aag 0 0 0 3 0\n0\n1\n1\n'
+    same 'a toggle' 'aag 1 0 1 2 0\n2 3\n2\n3\n'
+    same 'a latch that keeps itself' 'aag 1 0 1 0 0\n2 2\n'
+    same 'a latch with a constant next state' 'aag 2 0 2 0 0\n2 0\n4 1\n'
+    same 'a latch that names a later latch' 'aag 2 0 2 0 0\n2 5\n4 3\n'
+    same 'any order of variables' 'aag 9 2 1 2 0\n18\n4\n12 19\n5\n13\n'
+    same 'an output given twice' 'aag 1 1 0 2 0\n2\n2\n2\n'
+}
+
+rows_lenient() {
+    accepts 'leading zero, spaces, CR LF, no LF at the end' 'aag 01  1 0 1 0 \r\n2\r\n3' 'aag 1 1 0 1 0\n2\n3\n'
+    accepts 'more than one space' 'aag   1    1  0 0  0\n2\n' 'aag 1 1 0 0 0\n2\n'
+    accepts 'more than one space in a latch' 'aag 1 0 1 0 0\n2    3\n' 'aag 1 0 1 0 0\n2 3\n'
+    accepts 'spaces, then CR LF, in each section' 'aag 3 1 1 2 0  \r\n6 \r\n2 7   \r\n2 \r\n0  \r\n' 'aag 3 1 1 2 0\n6\n2 7\n2\n0\n'
+    accepts 'spaces, then LF, in each section' 'aag 3 1 1 2 0  \n6 \n2 7   \n2 \n0  \n' 'aag 3 1 1 2 0\n6\n2 7\n2\n0\n'
+    accepts 'CR LF alone' 'aag 3 1 1 2 0\r\n6\r\n2 7\r\n2\r\n0\r\n' 'aag 3 1 1 2 0\n6\n2 7\n2\n0\n'
+    accepts 'a header without LF' 'aag 0 0 0 0 0' 'aag 0 0 0 0 0\n'
+    accepts 'a header with spaces and without LF' 'aag 0 0 0 0 0  ' 'aag 0 0 0 0 0\n'
+    accepts 'a last line with spaces and without LF' 'aag 1 0 1 0 0\n2 3  ' 'aag 1 0 1 0 0\n2 3\n'
+    accepts 'leading zeros in each section' 'aag 003 01 0001 02 00\n06\n002 07\n0002\n000\n' 'aag 3 1 1 2 0\n6\n2 7\n2\n0\n'
+    accepts 'four hundred leading zeros' "aag 1 1 0 0 0\n$(digits 400 0)2\n" 'aag 1 1 0 0 0\n2\n'
+    accepts 'four hundred leading zeros in the header' "aag $(digits 400 0)1 0 0 0 $(digits 400 0)\n" 'aag 1 0 0 0 0\n'
+}
+
+rows_header() {
+    refuses 'an empty file' '' 'line 1: not an AIGER file'
+    refuses 'an empty first line' '\naag 0 0 0 0 0\n' 'line 1: not an AIGER file'
+    refuses 'a first line that is CR LF' '\r\naag 0 0 0 0 0\n' 'line 1: not an AIGER file'
+    refuses 'a space first' ' aag 0 0 0 0 0\n' 'line 1: not an AIGER file'
+    refuses 'a TAB after the first word' 'aag\t0 0 0 0 0\n' 'line 1: not an AIGER file'
+    refuses 'a short first word' 'aa' 'line 1: not an AIGER file'
+    refuses 'a long first word' 'aagg 0 0 0 0 0\n' 'line 1: not an AIGER file'
+    refuses 'capital letters' 'AAG 0 0 0 0 0\n' 'line 1: not an AIGER file'
+    refuses 'a binary file' 'aig 0 0 0 0 0\n' 'line 1: not an AIGER file'
+    refuses 'bytes of a compressed file' '\0037\0213\0010\0000' 'line 1: not an AIGER file'
+    refuses 'the first word alone' 'aag' 'line 1: bad header'
+    refuses 'the first word and LF' 'aag\n' 'line 1: bad header'
+    refuses 'the first word and CR LF' 'aag\r\n' 'line 1: bad header'
+    refuses 'the first word and CR' 'aag\r' 'line 1: bad header'
+    refuses 'four numbers' 'aag 0 0 0 0\n' 'line 1: bad header'
+    refuses 'six numbers' 'aag 0 0 0 0 0 0\n' 'line 1: bad header'
+    refuses 'a sign' 'aag 0 0 0 0 -0\n' 'line 1: bad header'
+    refuses 'a plus' 'aag +0 0 0 0 0\n' 'line 1: bad header'
+    refuses 'a TAB between numbers' 'aag 0 0\t0 0 0\n' 'line 1: bad header'
+    refuses 'a word after the numbers' 'aag 0 0 0 0 0 x\n' 'line 1: bad header'
+    refuses 'letters right after a number' 'aag 0 0 0 0 0x\n' 'line 1: bad header'
+    refuses 'counts above the largest index' 'aag 1 1 1 0 0\n2\n4 2\n' 'line 1: bad header'
+    refuses 'more inputs than variables' 'aag 0 1 0 0 0\n2\n' 'line 1: bad header'
+    refuses 'more gates than variables' 'aag 0 0 0 0 1\n' 'line 1: bad header'
+    refuses 'counts whose sum passes 32 bits' 'aag 2147483647 2147483647 2147483647 0 2\n' 'line 1: bad header'
+    refuses 'a largest index above the limit' 'aag 2147483648 0 0 0 0\n' 'line 1: number above the limit'
+    refuses 'inputs above the limit' 'aag 1 2147483648 0 0 0\n' 'line 1: number above the limit'
+    refuses 'latches above the limit' 'aag 1 0 2147483648 0 0\n' 'line 1: number above the limit'
+    refuses 'outputs above the limit' 'aag 1 0 0 2147483648 0\n' 'line 1: number above the limit'
+    refuses 'gates above the limit' 'aag 1 0 0 0 2147483648\n' 'line 1: number above the limit'
+    refuses 'an index of 2^32' 'aag 4294967296 0 0 0 0\n' 'line 1: number above the limit'
+    refuses 'an index of 2^32 + 1' 'aag 4294967297 0 0 0 0\n' 'line 1: number above the limit'
+    refuses 'an index of 2^64' 'aag 18446744073709551616 0 0 0 0\n' 'line 1: number above the limit'
+    refuses 'a count of 2^64' 'aag 0 18446744073709551616 0 0 0\n' 'line 1: number above the limit'
+    refuses 'an index of 400 digits' "aag $(digits 400 9) 0 0 0 0\n" 'line 1: number above the limit'
+    refuses 'the form of the header before its limit' 'aag 99999999999 0 0 0 x\n' 'line 1: bad header'
+    refuses 'the limit before the counts' 'aag 1 99999999999 0 0 0\n' 'line 1: number above the limit'
+}
+
+rows_lines() {
+    refuses 'a missing latch' 'aag 2 1 1 0 0\n2\n' 'line 3: file ends too early'
+    refuses 'a missing input' 'aag 1 1 0 0 0' 'line 2: file ends too early'
+    refuses 'a missing output' 'aag 0 0 0 2 0\n0' 'line 3: file ends too early'
+    refuses 'a header alone that asks for all inputs' 'aag 2147483647 2147483647 0 0 0\n' 'line 2: file ends too early'
+    refuses 'a header alone that asks for all latches' 'aag 2147483647 0 2147483647 0 0\n' 'line 2: file ends too early'
+    refuses 'a header alone that asks for all outputs' 'aag 0 0 0 2147483647 0\n' 'line 2: file ends too early'
+    refuses 'an empty line' 'aag 1 1 0 0 0\n\n' 'line 2: bad line'
+    refuses 'a line that is CR LF' 'aag 1 1 0 0 0\n\r\n' 'line 2: bad line'
+    refuses 'a line of spaces' 'aag 1 1 0 0 0\n  \n' 'line 2: bad line'
+    refuses 'an earlier bad line before a later missing one' 'aag 2 2 0 0 0\nx\n' 'line 2: bad line'
+    refuses 'an earlier wrong literal before a later bad line' 'aag 2 2 0 0 0\n8\nx\n' 'line 2: literal out of range'
+    refuses 'two numbers for an input' 'aag 1 1 0 0 0\n2 2\n' 'line 2: bad line'
+    refuses 'one number for a latch' 'aag 1 0 1 0 0\n2\n' 'line 2: bad line'
+    refuses 'three numbers for a latch' 'aag 1 0 1 0 0\n2 3 0\n' 'line 2: bad line'
+    refuses 'two numbers for an output' 'aag 0 0 0 1 0\n0 0\n' 'line 2: bad line'
+    refuses 'a space first in a line' 'aag 1 1 0 0 0\n 2\n' 'line 2: bad line'
+    refuses 'a TAB in a latch' 'aag 1 0 1 0 0\n2\t3\n' 'line 2: bad line'
+    refuses 'a letter in a number' 'aag 1 1 0 0 0\n2a\n' 'line 2: bad line'
+    refuses 'a negative number' 'aag 1 1 0 0 0\n-2\n' 'line 2: bad line'
+    refuses 'a byte NUL' 'aag 1 1 0 0 0\n2\0000\n' 'line 2: bad line'
+    refuses 'a byte above 127' 'aag 1 1 0 0 0\n\0377\n' 'line 2: bad line'
+    refuses 'a bad third section' 'aag 3 1 1 2 0\n6\n2 7\n2\n-\n' 'line 5: bad line'
+}
+
+rows_literals() {
+    refuses 'an odd input' 'aag 1 1 0 0 0\n3\n' 'line 2: not a variable'
+    refuses 'the input 0' 'aag 1 1 0 0 0\n0\n' 'line 2: not a variable'
+    refuses 'the input 1' 'aag 1 1 0 0 0\n1\n' 'line 2: not a variable'
+    refuses 'the latch 0' 'aag 1 0 1 0 0\n00 0\n' 'line 2: not a variable'
+    refuses 'an output out of range' 'aag 1 0 0 1 0\n4\n' 'line 2: literal out of range'
+    refuses 'an output out of range where there is no variable' 'aag 0 0 0 1 0\n2\n' 'line 2: literal out of range'
+    refuses 'an input out of range' 'aag 1 1 0 0 0\n4\n' 'line 2: literal out of range'
+    refuses 'a latch out of range' 'aag 1 0 1 0 0\n4 0\n' 'line 2: literal out of range'
+    refuses 'a next literal out of range' 'aag 1 0 1 0 0\n2 4\n' 'line 2: literal out of range'
+    refuses 'an odd latch before a next literal out of range' 'aag 1 0 1 0 0\n3 9\n' 'line 2: not a variable'
+    refuses 'the form before an odd latch' 'aag 1 0 1 0 0\n3 x\n' 'line 2: bad line'
+    refuses 'the form before the range' 'aag 1 0 1 0 0\n9999999999 x\n' 'line 2: bad line'
+    refuses 'an output of 2^32' 'aag 2147483647 0 0 1 0\n4294967296\n' 'line 2: literal out of range'
+    refuses 'a next literal of 2^32' 'aag 1 0 1 0 0\n2 4294967296\n' 'line 2: literal out of range'
+    refuses 'an input of 2^64 + 2' 'aag 1 1 0 0 0\n18446744073709551618\n' 'line 2: literal out of range'
+    refuses 'an input of 2^64 + 1' 'aag 1 1 0 0 0\n18446744073709551617\n' 'line 2: not a variable'
+    refuses 'an output of 2^64' 'aag 0 0 0 1 0\n18446744073709551616\n' 'line 2: literal out of range'
+    refuses 'an odd input of 400 digits' "aag 1 1 0 0 0\n$(digits 400 9)\n" 'line 2: not a variable'
+    refuses 'an even input of 400 digits' "aag 1 1 0 0 0\n$(digits 400 8)\n" 'line 2: literal out of range'
+    refuses 'an output of 400 digits' "aag 0 0 0 1 0\n$(digits 400 9)\n" 'line 2: literal out of range'
+}
+
+rows_ends() {
+    refuses 'a CR that ends the file, in the header' 'aag 0 0 0 0 0\r' 'line 1: bad header'
+    refuses 'a CR that ends the file, in a line' 'aag 1 1 0 0 0\n2\r' 'line 2: bad line'
+    refuses 'CR, space, LF in the header' 'aag 0 0 0 0 0\r \n' 'line 1: bad header'
+    refuses 'CR, space, LF in a line' 'aag 1 1 0 0 0\n2\r \n' 'line 2: bad line'
+    refuses 'CR, CR, LF in the header' 'aag 0 0 0 0 0\r\r\n' 'line 1: bad header'
+    refuses 'CR, CR, LF in a line' 'aag 1 1 0 0 0\n2\r\r\n' 'line 2: bad line'
+    refuses 'a CR between numbers' 'aag 1 0 1 0 0\n2\r3\n' 'line 2: bad line'
+    refuses 'a CR first in a line' 'aag 1 1 0 0 0\n\r2\n' 'line 2: bad line'
+    refuses 'a TAB at the end of a line' 'aag 1 1 0 0 0\n2\t\n' 'line 2: bad line'
+
+    # one text, cut after each of its bytes
+    local text='aag 3 1 1 2 0\n6\n2 7\n2\n0\n' cut answer plain
+    plain=$(printf '%b.' "$text")
+    for ((cut = 0; cut <= 24; cut++)); do
+        case $cut in
+            0 | 1 | 2) answer='line 1: not an AIGER file' ;;
+            3 | 4 | 5 | 6 | 7 | 8 | 9 | 10 | 11 | 12) answer='line 1: bad header' ;;
+            13 | 14) answer='line 2: file ends too early' ;;
+            15 | 16) answer='line 3: file ends too early' ;;
+            17 | 18) answer='line 3: bad line' ;;
+            19 | 20) answer='line 4: file ends too early' ;;
+            21 | 22) answer='line 5: file ends too early' ;;
+            *) answer='' ;;
+        esac
+        if [ -n "$answer" ]; then
+            refuses "cut after $cut bytes" "${plain:0:cut}" "$answer"
+        else
+            accepts "cut after $cut bytes" "${plain:0:cut}" "$text"
+        fi
+    done
+}
+
+rows_structure() {
+    refuses 'an output that is not defined' 'aag 2 1 0 1 0\n2\n4\n' 'literal 4 not defined'
+    refuses 'a negated output that is not defined' 'aag 2 1 0 1 0\n2\n5\n' 'literal 5 not defined'
+    refuses 'next literals before outputs' 'aag 3 0 1 1 0\n2 5\n6\n' 'literal 5 not defined'
+    refuses 'the first of two outputs' 'aag 3 0 0 2 0\n7\n4\n' 'literal 7 not defined'
+    refuses 'an input given twice, and a literal not defined' 'aag 2 2 0 1 0\n2\n2\n4\n' 'variable 1 defined twice'
+    refuses 'the first repeat, in the order of the file' 'aag 4 4 0 0 0\n2\n4\n4\n2\n' 'variable 2 defined twice'
+    refuses 'an input that is a latch too' 'aag 2 1 1 0 0\n2\n2 0\n' 'variable 1 defined twice'
+    refuses 'a latch given twice' 'aag 7 0 2 0 0\n14 0\n14 1\n' 'variable 7 defined twice'
+    refuses 'the largest variable twice' 'aag 2147483647 2 0 0 0\n4294967294\n4294967294\n' 'variable 2147483647 defined twice'
+    refuses 'a bad line before a variable defined twice' 'aag 2 2 0 1 0\n2\n2\nx\n' 'line 4: bad line'
+    refuses 'a missing line before a variable defined twice' 'aag 2 2 0 1 0\n2\n2\n' 'line 4: file ends too early'
+}
+
+rows_not_yet() {
+    refuses 'gates' 'aag 1 0 0 0 1\n2 0 0\n' 'line 1: not supported yet'
+    refuses 'gates, whose lines are missing' 'aag 2 1 0 1 1\n2\n4\n' 'line 1: not supported yet'
+    refuses 'a line after the numbered ones' 'aag 1 1 0 0 0\n2\nx\n' 'line 3: not supported yet'
+    refuses 'a symbol' 'aag 1 1 0 0 0\n2\ni0 a\n' 'line 3: not supported yet'
+    refuses 'a comment' 'aag 0 0 0 0 0\nc\nhello\n' 'line 2: not supported yet'
+    refuses 'a comment without LF' 'aag 0 0 0 0 0\nc' 'line 2: not supported yet'
+    refuses 'an empty line at the end' 'aag 0 0 0 0 0\n\n' 'line 2: not supported yet'
+    refuses 'a further line before a literal not defined' 'aag 2 1 0 1 0\n2\n4\nc\n' 'line 4: not supported yet'
+    refuses 'a bad line before a further line' 'aag 1 1 0 0 0\n3\nc\n' 'line 2: not a variable'
+}
+
+rows_words() {
+    unknown 'no words'
+    unknown 'a subcommand alone' aigtoaig
+    unknown 'a word too many' aigtoaig --ascii x
+    unknown 'an empty word too many' aigtoaig --ascii ''
+    unknown 'the option twice' aigtoaig --ascii --ascii
+    unknown 'the words the other way round' --ascii aigtoaig
+    unknown 'a part of the option' aigtoaig --asci
+    unknown 'more than the option' aigtoaig --asciix
+    unknown 'capital letters in a word' aigtoaig --ASCII
+    unknown 'one word of two' 'aigtoaig --ascii'
+    unknown 'help' --help
+    unknown 'another subcommand' aigsim --ascii
+}
