@@ -1,6 +1,6 @@
 -- A circuit without a fault is well formed, and a well-formed circuit has no fault.
 use Rattle.std.proofs.Common.{◌≡◌, ℕ, List, [], ◌∷◌, eqb, Bool, true, false, cond, Option, None, Some, refl, sym, ap, subst, ◌∙◌, inl, inr, ⊎_elim, arith}
-use Rattle.std.specs.Prelude.{◌⊎◌, ◌↔◌}
+use Rattle.std.specs.Prelude.{◌⊎◌, ◌↔◌, ◌≢◌}
 use mathlib.Core.Bool.{◌||◌}
 use Rattle.std.specs.List.{AllByRecursion, Contains}
 use Rattle.std.proofs.lemmas.Bool.Decides.{Decides-eqb}
@@ -15,7 +15,8 @@ use Rattle.aig_core.specs.declared.circuit.Gate.{Gate}
 use Rattle.aig_core.specs.Literal.{variable_of}
 use Rattle.aig_core.specs.Wellformed.{IsAmong, AreDistinct, IsKnown, HasRank, IsWellFormed, defined_variables, used_literals}
 use Rattle.aig_core.specs.Form.{IsInForm}
-use Rattle.aig_core.specs.Fault.{first_repeat, first_unknown, with_all, is_known, first_fault, redefined_or, undefined_fault}
+use Rattle.aig_core.specs.declared.fault.CheckFault.TheVariants.{OutOfMemory, Redefined, Undefined}
+use Rattle.aig_core.specs.Fault.{IsFault, first_repeat, first_unknown, with_all, is_known, first_fault, redefined_or, undefined_fault}
 
 same_is_equal : (x : ℕ) → eq_by_cmp nat_cmp x x ≡ true
 same_is_equal x = (eq_by_cmp_equiv nat_cmp_total).refl x
@@ -155,3 +156,12 @@ faultless c w =
 
 pub faultless_is_well_formed : (c : Circuit) → IsInForm c → c.gates ≡ [] → (first_fault c ≡ None) ↔ IsWellFormed c
 faultless_is_well_formed c form no_gates = (well_formed c form no_gates, faultless c)
+
+-- a well-formed circuit is told nothing but want of memory
+told_of_none : (e : CheckFault) → e ≢ OutOfMemory → IsFault e None → ⊥
+told_of_none OutOfMemory ne h = ne refl
+told_of_none (Redefined v) ne h = cc
+told_of_none (Undefined l) ne h = cc
+
+pub refuted : (e : CheckFault) (c : Circuit) → IsWellFormed c → e ≢ OutOfMemory → IsFault e (first_fault c) → ⊥
+refuted e c good ne h = told_of_none e ne (subst (IsFault e) (faultless c good) h)

@@ -1,5 +1,6 @@
 //! Circuits that are well formed, and the check that tells them from the others.
-ghost use Rattle.std.specs.Prelude.{◌≡◌, [], IfOk, IfErr, OnOk, None};
+ghost use Rattle.std.specs.Prelude.{◌≡◌, ◌≢◌, [], IfOk, IfErr, OnOk, None};
+ghost use Rattle.aig_core.specs.declared.fault.CheckFault.TheVariants.{OutOfMemory};
 ghost use Rattle.aig_core.specs.Wellformed.{IsWellFormed};
 ghost use Rattle.aig_core.specs.Form.{IsInForm};
 ghost use Rattle.aig_core.specs.Fault.{first_fault, IsFault};
@@ -58,6 +59,7 @@ pub fn check(alloc: Global, circuit: Circuit) -> Result<Checked, (Circuit, Check
     ensures ok_faultless { OnOk result (first_fault circuit ≡ None) }
     ensures handed_back { IfErr result (λ e. e.0 ≡ circuit) }
     ensures fault { IfErr result (λ e. IsFault e.1 (first_fault circuit)) }
+    ensures refused { IfErr result (λ e. e.1 ≢ OutOfMemory → ¬ IsWellFormed circuit) }
 {
     match find_fault(alloc, &circuit) {
         Ok(()) => Ok(Checked { circuit }),

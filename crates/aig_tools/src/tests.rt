@@ -267,45 +267,46 @@ fn small_pieces(rt: HostRuntime) -> Result<(), Fail> {
 /// The call of each number fails in turn: nothing is written where the source fails, and a beginning where the sink does.
 #[test]
 fn failing_calls(rt: HostRuntime) -> Result<(), Fail> {
-    let text = "aag 3 1 1 2 0\n6\n2 7\n2\n0\n";
-    for call in 1..5u64 {
-        let behaviour = Behaviour {
-            piece: 7,
-            failing_fetch: call,
-            failing_send: 0,
-        };
-        let outcome = convert(&rt, text, behaviour)?;
-        assert!(rt;
-            outcome.is(1, b"", b"aiger: -: cannot read\n"),
-            "fetch {call}"
-        );
+    for text in [
+        "aag 3 1 1 2 0\n6\n2 7\n2\n0\n",
+        "aag 0 0 0 0 0\n",
+        "aag 2147483647 1 0 1 0\n4294967294\n4294967295\n",
+    ] {
+        let sends = text.len().div_ceil(7);
+        // One more fetch than there are pieces finds the end.
+        for call in 1..sends + 3 {
+            let behaviour = Behaviour {
+                piece: 7,
+                failing_fetch: call as u64,
+                failing_send: 0,
+            };
+            let outcome = convert(&rt, text, behaviour)?;
+            let is_told = if call <= sends + 1 {
+                outcome.is(1, b"", b"aiger: -: cannot read\n")
+            } else {
+                outcome.is(0, text.as_bytes(), b"")
+            };
+            assert!(rt; is_told, "fetch {call}");
 
-        let behaviour = Behaviour {
-            piece: 7,
-            failing_fetch: 0,
-            failing_send: call,
-        };
-        let outcome = convert(&rt, text, behaviour)?;
-        let begun = text
-            .as_bytes()
-            .split_at((7 * (call as usize - 1)).min(text.len()))
-            .0;
-        assert!(rt;
-            outcome.is(1, begun, b"aiger: -: cannot write\n"),
-            "send {call}"
-        );
+            let behaviour = Behaviour {
+                piece: 7,
+                failing_fetch: 0,
+                failing_send: call as u64,
+            };
+            let outcome = convert(&rt, text, behaviour)?;
+            let begun = text.as_bytes().split_at((7 * (call - 1)).min(text.len())).0;
+            let is_told = if call <= sends {
+                outcome.is(1, begun, b"aiger: -: cannot write\n")
+            } else {
+                outcome.is(0, text.as_bytes(), b"")
+            };
+            assert!(rt; is_told, "send {call}");
+        }
     }
-    let late = Behaviour {
-        piece: 7,
-        failing_fetch: 6,
-        failing_send: 5,
-    };
-    let outcome = convert(&rt, text, late)?;
-    assert!(rt; outcome.is(0, text.as_bytes(), b""));
     Ok(())
 }
 
-/// A refused text is told even where the source would fail afterwards, and nothing is sent.
+/// Where the line cannot be told, the status tells it all the same.
 #[test]
 fn errors_that_cannot_be_told(rt: HostRuntime) -> Result<(), Fail> {
     let alloc = rt.alloc();
