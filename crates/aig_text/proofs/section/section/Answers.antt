@@ -1,7 +1,7 @@
 use Rattle.std.proofs.Common.{◌∙◌, inr}
 use Rattle.std.proofs.lemmas.Result.{err_from_is_err_and}
 use Rattle.aig_text.specs.Lines.{lines_of}
-use Rattle.aig_text.proofs.SectionLoop.{section_start, section_more, section_wrong, section_done}
+use Rattle.aig_text.proofs.SectionLoop.{told, section_start, section_more, section_wrong, section_done}
 use Rattle.aig_text.proofs.section.section.Goals as goal
 
 pub loop-number-init : goal.loop-number-init
@@ -12,7 +12,8 @@ pub returns-in_err-row : goal.returns-in_err-row
 returns-in_err-row g c = let h = err_from_is_err_and c.from_residual.result c.from_residual.ensures.1 in
     rw (h.1, h.2) (inr (
     section_wrong g.T.Row.made_of g.T.Row.more g.T.Row.defines c.args.max_var c.args.first_line c.loop-number.number c.from.result c.args.count c.loop-number.found (lines_of c.loop-number.rest.now)
-    c.in_err-row.field-0.0 _ c.loop-number-test.true c.from.ensures c.in_err-row.ensures c.loop-number.invariant
+    c.in_err-row.field-0.0
+    (told g.T.Row.made_of g.T.Row.more g.T.Row.defines c.args.max_var c.args.first_line c.args.count (lines_of c.args.rest.now)) c.loop-number-test.true c.from.ensures c.in_err-row.ensures c.loop-number.invariant
     ))
 
 pub loop-number-preserved : goal.loop-number-preserved
