@@ -6,39 +6,8 @@ ghost use Rattle.aig_core.specs.Form.{IsInForm};
 ghost use Rattle.aig_core.specs.SymbolOrder.{place_of, IsRisingFrom};
 
 use crate::circuit::{Circuit, Gate, Kind, LARGEST, Latch, Symbol};
-use crate::literal::{Lit, Var};
-
-/// An item of a section whose items each define a variable.
-trait HasVariable {
-    ghost variable: { Self → ℕ };
-
-    fn variable(&self) -> Var
-        ensures { result ≡ variable self.now };
-}
-
-impl HasVariable for Var {
-    ghost variable = { λ v. v };
-
-    fn variable(&self) -> Var {
-        *self
-    }
-}
-
-impl HasVariable for Latch {
-    ghost variable = { λ l. l.var };
-
-    fn variable(&self) -> Var {
-        self.var
-    }
-}
-
-impl HasVariable for Gate {
-    ghost variable = { λ g. g.var };
-
-    fn variable(&self) -> Var {
-        self.var
-    }
-}
+use crate::defines::Defines;
+use crate::literal::Lit;
 
 /// An item of a section whose items each use literals.
 trait HasLiterals {
@@ -81,8 +50,8 @@ fn is_short_enough<T>(items: &[T]) -> bool
 }
 
 /// Whether each item of a section defines a variable from 1 to the largest one.
-fn are_variables_up_to<T: HasVariable>(max_var: u32, items: &[T]) -> bool
-    ensures { IsTrue result ↔ All (λ i. IsVariableUpTo max_var (T.variable i)) items.now }
+fn are_variables_up_to<T: Defines>(max_var: u32, items: &[T]) -> bool
+    ensures { IsTrue result ↔ All (λ i. IsVariableUpTo max_var (T.defined i)) items.now }
 {
     items.iter().all(|item| {
         let index = item.variable().0;
@@ -256,6 +225,7 @@ impl Circuit {
 mod tests {
     use super::*;
     use crate::listing::Listing;
+    use crate::literal::Var;
     use std::alloc::{AllocError, Global};
     use std::test::Fail;
 

@@ -4,6 +4,7 @@
 pub mod block;
 pub mod check;
 pub mod circuit;
+mod defines;
 pub mod device;
 #[cfg(test)]
 mod device_tests;

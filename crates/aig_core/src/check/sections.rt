@@ -6,42 +6,11 @@ ghost use Rattle.aig_core.specs.Wellformed.{defined_variables, used_literals, op
 ghost use Rattle.aig_core.specs.Fault.{first_fault, first_repeat, first_unknown, with_all, is_known, IsFault, IsRedefinition};
 
 use crate::circuit::{Circuit, Gate, Latch};
+use crate::defines::Defines;
 use crate::fault::CheckFault;
 use crate::literal::{Lit, Var};
 use crate::var_set::VarSet;
 use std::alloc::Global;
-
-/// What defines a variable.
-pub(crate) trait Defines {
-    ghost defined: { Self → ℕ };
-
-    fn variable(&self) -> Var
-        ensures { result ≡ defined self.now };
-}
-
-impl Defines for Var {
-    ghost defined = { λ v. v };
-
-    fn variable(&self) -> Var {
-        *self
-    }
-}
-
-impl Defines for Latch {
-    ghost defined = { λ l. l.var };
-
-    fn variable(&self) -> Var {
-        self.var
-    }
-}
-
-impl Defines for Gate {
-    ghost defined = { λ g. g.var };
-
-    fn variable(&self) -> Var {
-        self.var
-    }
-}
 
 /// What uses literals.
 pub(crate) trait Uses {
