@@ -46,15 +46,6 @@ impl Block {
         self.len == ROOM
     }
 
-    /// Adds a byte where there is room.
-    pub fn push(&mut self, byte: u8)
-        requires { length self.old < 8192 }
-        ensures { self.new ≡ self.old ++ byte ∷ [] }
-    {
-        self.bytes[self.len] = byte;
-        self.len += 1;
-    }
-
     /// The bytes.
     pub fn as_slice(&self) -> &[u8]
         ensures value { result.now ≡ self.now }

@@ -36,22 +36,22 @@ fn put_fault<E: Sink>(errors: &mut E, name: &str, fault: &ToolFault) -> Result<(
     block.flush(errors)
 }
 
-/// Tells a fault. Whether the line could be sent changes nothing: there is no other place to tell it.
-pub(crate) fn tell_fault<E: Sink>(errors: &mut E, name: &str, fault: &ToolFault)
-    requires { E.failed errors.old < 2 ^ 64 - 1 }
-{
-    let _sent = if fault.is_want_of_memory() {
-        put_line(errors, b"out of memory")
-    } else {
-        put_fault(errors, name, fault)
-    };
-}
-
-/// Tells that a growth of memory was refused before there was anything to do.
+/// Tells that a growth of memory was refused. No file is at fault, so none is named.
 pub(crate) fn tell_want_of_memory<E: Sink>(errors: &mut E)
     requires { E.failed errors.old < 2 ^ 64 - 1 }
 {
     let _sent = put_line(errors, b"out of memory");
+}
+
+/// Tells a fault. Whether the line could be sent changes nothing: there is no other place to tell it.
+pub(crate) fn tell_fault<E: Sink>(errors: &mut E, name: &str, fault: &ToolFault)
+    requires { E.failed errors.old < 2 ^ 64 - 1 }
+{
+    if fault.is_want_of_memory() {
+        tell_want_of_memory(errors);
+    } else {
+        let _sent = put_fault(errors, name, fault);
+    }
 }
 
 /// Tells that the words ask for nothing that the program knows.

@@ -1,5 +1,5 @@
 //! What the program does with its words.
-ghost use Rattle.std.specs.Prelude.{◌≡◌, ◌≢◌, ◌-◌, ◌^◌, ◌<◌, ◌↔◌, ◌⊎◌, IsTrue, map, string_bytes, true, false};
+ghost use Rattle.std.specs.Prelude.{◌≡◌, ◌≢◌, ◌+◌, ◌-◌, ◌^◌, ◌<◌, ◌≤◌, ◌↔◌, ◌⊎◌, IsTrue, map, string_bytes, true, false};
 ghost use Rattle.aig_tools.specs.Outcome.{Converted, ConvertedInPart};
 ghost use Rattle.aig_tools.specs.Words.{ascii_conversion, AsksForAscii};
 
@@ -63,6 +63,9 @@ pub fn start<T: Files, R: Source, W: Sink, E: Sink>(
     ensures understood { (result ≢ 2) ↔ AsksForAscii (map (λ word. string_bytes word) words.now) }
     ensures done { result ≡ 0 → Converted ascii_conversion (R.coming input.old) (R.coming input.new) (W.taken output.old) (W.taken output.new) }
     ensures failed { result ≡ 1 → (output.new ≡ output.old) ⊎ ConvertedInPart ascii_conversion (R.coming input.old) (R.coming input.new) (W.taken output.old) (W.taken output.new) }
+    ensures done_counts { result ≡ 0 → (R.failed input.new ≡ R.failed input.old) × (W.failed output.new ≡ W.failed output.old) }
+    // No device is used after its failure, so at most one of the two failed, and once.
+    ensures failed_counts { result ≡ 1 → R.failed input.new + W.failed output.new ≤ R.failed input.old + W.failed output.old + 1 }
     ensures untouched { result ≡ 2 → (input.new ≡ input.old) × (output.new ≡ output.old) }
 {
     if !asks_for_ascii(words) {
