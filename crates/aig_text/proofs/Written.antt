@@ -7,8 +7,8 @@ use Rattle.std.proofs.lemmas.List.Folds.{flat_map-map}
 use Rattle.aig_core.specs.Transfer.{WentOut, TookBeginning}
 use Rattle.aig_core.specs.declared.circuit.Circuit.{Circuit}
 use Rattle.aig_core.proofs.Outgoing.{went_out_twice, beginning_after, beginning_of_more}
-use Rattle.aig_text.specs.AsciiText.{spaced_number, more_numbers_text, numbers_text}
-use Rattle.aig_text.specs.Rows.{rows_of, input_row, latch_row, output_row, gate_row}
+use Rattle.aig_text.specs.AsciiText.{spaced_number, more_numbers_text, numbers_text, row_text}
+use Rattle.aig_text.specs.Rows.{rows_of, row, input_form, latch_form, output_form, gate_form, input_row, latch_row, output_row, gate_row}
 
 -- the texts of one item more
 text_of_more : {X : Type 0} (f : X → List ℕ) (xs : List X) (i : ℕ) (d : X) → i < length xs → flat_map f (take i xs) ++ f (get_or xs i d) ≡ flat_map f (take (i + 1) xs)
@@ -39,14 +39,12 @@ more_text [] = refl
 more_text (n ∷ ns) = append_assoc (spaced_number n) (flat_map spaced_number ns) (codes "\n") ∙ ap (λ (text : List ℕ). spaced_number n ++ text) (more_text ns)
 
 -- the lines of all sections, section by section
-pub sections_text : (c : Circuit) → flat_map (λ x. numbers_text (input_row x)) c.inputs ++ (flat_map (λ x. numbers_text (latch_row x)) c.latches ++ (flat_map (λ x. numbers_text (output_row x)) c.outputs ++ flat_map (λ x. numbers_text (gate_row x)) c.gates)) ≡ flat_map numbers_text (rows_of c)
+pub sections_text : (c : Circuit) → flat_map (λ x. numbers_text (input_row x)) c.inputs ++ (flat_map (λ x. numbers_text (latch_row x)) c.latches ++ (flat_map (λ x. numbers_text (output_row x)) c.outputs ++ flat_map (λ x. numbers_text (gate_row x)) c.gates)) ≡ flat_map row_text (rows_of c)
 sections_text c =
-    sym (flat_map-append numbers_text (map input_row c.inputs ++ map latch_row c.latches ++ map output_row c.outputs) (map gate_row c.gates)
-    ∙ ap (λ (t : List ℕ). t ++ flat_map numbers_text (map gate_row c.gates)) (flat_map-append numbers_text (map input_row c.inputs ++ map latch_row c.latches) (map output_row c.outputs)
-    ∙ ap (λ (t : List ℕ). t ++ flat_map numbers_text (map output_row c.outputs)) (flat_map-append numbers_text (map input_row c.inputs) (map latch_row c.latches)))
-    ∙ append_assoc (flat_map numbers_text (map input_row c.inputs) ++ flat_map numbers_text (map latch_row c.latches)) _ _
-    ∙ append_assoc (flat_map numbers_text (map input_row c.inputs)) _ _
-    ∙ simp (flat_map-map))
+    sym (flat_map-append row_text (map (row input_form) (map input_row c.inputs)) _ ∙ ap (λ (t : List ℕ). flat_map row_text (map (row input_form) (map input_row c.inputs)) ++ t) (flat_map-append row_text (map (row latch_form) (map latch_row c.latches)) _
+    ∙ ap (λ (t : List ℕ). flat_map row_text (map (row latch_form) (map latch_row c.latches)) ++ t) (flat_map-append row_text (map (row output_form) (map output_row c.outputs)) _
+    ∙ ap (λ (t : List ℕ). flat_map row_text (map (row output_form) (map output_row c.outputs)) ++ t) (flat_map-append row_text (map (row gate_form) (map gate_row c.gates)) []
+    ∙ append-nil (flat_map row_text (map (row gate_form) (map gate_row c.gates)))))) ∙ simp (flat_map-map))
 
 -- the same where the item has a name
 pub one_item_more : {X : Type 0} (f : X → List ℕ) (xs : List X) (i : ℕ) (x : X) (a b c : Option (List ℕ)) (h0 h1 h2 : List ℕ)

@@ -3,10 +3,11 @@ ghost use Rattle.std.specs.Io.KnownBytes.{Appends};
 ghost use Rattle.std.specs.List.{flat_map};
 ghost use Rattle.std.specs.Prelude.{◌≡◌, ◌+◌, ◌-◌, ◌^◌, ◌<◌, ◌∷◌, ◌++◌, ℕ, List, decimal, is_ok, OnErr, OnOk, if◌then◌else◌};
 ghost use Rattle.aig_core.specs.Transfer.{TookBeginning, WentOut};
-ghost use Rattle.aig_text.specs.AsciiText.{ascii_text, comment_text, header_text, kind_letter, more_numbers_text, name_text, numbers_text, spaced_number, symbol_text, tail_text};
+ghost use Rattle.aig_text.specs.AsciiText.{ascii_text, comment_text, header_text, kind_letter, more_numbers_text, name_text, numbers_text, row_text, spaced_number, symbol_text, tail_text};
 ghost use Rattle.aig_text.specs.Rows.{ascii_word, gate_row, header_row, input_row, latch_row, output_row, rows_of};
 ghost use Rattle.aig_text.specs.declared.writer.WriteFault.TheVariants.{Device};
 
+use crate::header::ASCII_WORD;
 use aig_core::block::Block;
 use aig_core::check::Checked;
 use aig_core::circuit::{Circuit, Gate, Kind, Latch, Symbol};
@@ -30,9 +31,6 @@ impl From<DeviceFault> for WriteFault {
         WriteFault::Device
     }
 }
-
-/// The first word of an ASCII file.
-const ASCII_WORD: &[u8] = b"aag";
 
 /// A space and a number.
 fn put_spaced_number<W: Sink>(
@@ -280,8 +278,8 @@ fn put_sections<W: Sink>(
     circuit: &Circuit,
 ) -> Result<(), DeviceFault>
     requires { W.failed sink.old < 2 ^ 64 - 1 }
-    ensures ok { OnOk result (WentOut (W.taken sink.old) (W.taken sink.new) block.old block.new (flat_map numbers_text (rows_of circuit.now))) }
-    ensures err { OnErr result (TookBeginning (W.taken sink.old) (W.taken sink.new) (block.old ++ flat_map numbers_text (rows_of circuit.now))) }
+    ensures ok { OnOk result (WentOut (W.taken sink.old) (W.taken sink.new) block.old block.new (flat_map row_text (rows_of circuit.now))) }
+    ensures err { OnErr result (TookBeginning (W.taken sink.old) (W.taken sink.new) (block.old ++ flat_map row_text (rows_of circuit.now))) }
     ensures failed { W.failed sink.new ≡ W.failed sink.old + (if is_ok result then 0 else 1) }
 {
     put_lines(block, sink, circuit.inputs.as_slice())?;

@@ -1,7 +1,7 @@
 use Rattle.std.proofs.Common.{◌++◌}
 use Rattle.std.specs.List.{flat_map}
 use Rattle.aig_core.proofs.Outgoing.{beginning_after, beginning_longer, failed_by, went_out_twice}
-use Rattle.aig_text.specs.AsciiText.{numbers_text}
+use Rattle.aig_text.specs.AsciiText.{numbers_text, row_text}
 use Rattle.aig_text.specs.Rows.{input_row, latch_row, output_row, gate_row}
 use Rattle.aig_text.proofs.Written.{sections_text}
 use Rattle.aig_text.proofs.writer.put_sections.Goals as goal
