@@ -7,3 +7,4 @@ pub mod Scanning
 pub mod Reading
 pub mod Laws
 pub mod Kept
+pub mod Plain

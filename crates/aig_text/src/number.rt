@@ -1,14 +1,19 @@
 //! Numbers of any length, and lines of numbers.
-ghost use Rattle.std.specs.Prelude.{◌≡◌, ◌==◌, ◌&&◌, ◌+◌, ◌-◌, ◌*◌, ◌^◌, ◌<◌, ◌≤◌, ◌∷◌, length, nat_lt, take};
+ghost use Rattle.std.specs.Prelude.{◌≡◌, ◌==◌, ◌&&◌, ◌+◌, ◌-◌, ◌*◌, ◌^◌, ◌<◌, ◌≤◌, ◌∷◌, length, nat_lt, take, IfSome};
 ghost use Rattle.std.specs.List.{list_any, prefix_len};
 ghost use Rattle.aig_text.specs.Spelling.{is_digit, is_space, value_of};
 ghost use Rattle.aig_text.specs.Scanning.{number_at, after_gap, is_line_end, more_numbers_at, numbers_at};
+ghost use Rattle.aig_text.specs.Plain.{BeginsWithNumber, EndsPlainly};
 ghost use Rattle.aig_text.specs.Kept.{kept, kept_numbers, kept_first, Gives};
 
 use crate::line::Line;
+use core::dec2flt::read_digits;
 
 /// Numbers from here on are all above each limit, and only whether they are odd is kept of them.
 const LARGE: u64 = 1 << 33;
+
+/// How many digits always spell a number of 64 bits.
+const LONGEST: usize = 18;
 
 /// What is kept of a number with one more digit.
 fn with_digit(value: u64, digit: u8) -> u64
@@ -122,6 +127,47 @@ pub fn numbers<const N: usize>(line: Line, least: usize) -> Option<(u64, [u64; N
     let (first, rest) = number(line.text)?;
     let others = more_numbers::<N>(rest, line.ended, least)?;
     Some((first, others))
+}
+
+/// A number of at most 18 digits at the front, and what follows it.
+#[inline(always)]
+pub fn plain_number(bytes: &[u8]) -> Option<(u64, &[u8])>
+    ensures { IfSome result (λ x. BeginsWithNumber bytes.now x.0 x.1.now) }
+{
+    let (end, value) = read_digits(bytes, 0, 0);
+    if end == 0 || end > LONGEST {
+        return None;
+    }
+    let (_, rest) = bytes.split_at(end);
+    Some((value, rest))
+}
+
+/// What follows a byte at the front.
+#[inline(always)]
+fn after_byte(bytes: &[u8], byte: u8) -> Option<&[u8]>
+    ensures { IfSome result (λ rest. bytes.now ≡ byte ∷ rest.now) }
+{
+    match bytes.split_first() {
+        Some((first, rest)) if *first == byte => Some(rest),
+        _ => None,
+    }
+}
+
+/// Numbers at the front, each after one space, the line feed behind them, and what follows it.
+#[inline(always)]
+pub fn plain_numbers<const N: usize>(bytes: &[u8]) -> Option<([u64; N], &[u8])>
+    ensures are { IfSome result (λ x. EndsPlainly bytes.now x.0 x.1.now) }
+    ensures long { IfSome result (λ x. length x.0 ≡ N) }
+{
+    let mut numbers = [0; N];
+    let mut rest = bytes;
+    for at in 0..N {
+        let (number, after) = plain_number(after_byte(rest, b' ')?)?;
+        numbers[at] = number;
+        rest = after;
+    }
+    let rest = after_byte(rest, b'\n')?;
+    Some((numbers, rest))
 }
 
 /// Whether one of the numbers is above the limit.

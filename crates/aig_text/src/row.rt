@@ -1,15 +1,14 @@
 //! Rows: what one numbered line tells.
-ghost use Rattle.std.specs.Prelude.{◌≡◌, ◌+◌, ◌*◌, ◌≤◌, ℕ, List, ◌∷◌, IfOk, length, slice_index};
-ghost use Rattle.std.specs.Result.{result_map_both};
+ghost use Rattle.std.specs.Prelude.{◌≡◌, ◌+◌, ◌*◌, ◌<◌, ◌≤◌, ℕ, List, ◌∷◌, Ok, IfOk, IfSome, length, slice_index};
 ghost use Rattle.aig_core.specs.declared.circuit.TheConstants.{LARGEST as largest_index};
-ghost use Rattle.aig_text.specs.Lines.{line as line_of};
+ghost use Rattle.aig_text.specs.Lines.{line as line_of, lines_of};
 ghost use Rattle.aig_text.specs.Rows.{Form, input_form, latch_form, output_form, gate_form, input_of, latch_of, output_of, gate_of};
-ghost use Rattle.aig_text.specs.Kept.{GivesOrFails};
-ghost use Rattle.aig_text.specs.Reading.{misdefines, exceeds, any_number, fault_in_row, row_of};
+ghost use Rattle.aig_text.specs.Kept.{GivesOrFails, row_told};
+ghost use Rattle.aig_text.specs.Reading.{misdefines, exceeds, any_number, fault_in_row, row_of, row_at};
 
-use crate::fault::ReadKind;
-use crate::line::Line;
-use crate::number::numbers;
+use crate::fault::{Place, ReadFault, ReadKind};
+use crate::line::{Cursor, Line, split_line};
+use crate::number::{numbers, plain_number, plain_numbers};
 use aig_core::circuit::{Gate, Latch};
 use aig_core::literal::{Lit, Var};
 
@@ -30,10 +29,11 @@ pub trait Row: Copy {
     /// What its numbers tell.
     ghost told_by: { List ℕ → Self };
 
-    /// What the line tells.
-    fn read_row(line: Line, max_var: u32) -> Result<Self, ReadKind>
+    /// What the next line tells. Goes behind that line, unless it is not right.
+    fn read_row(at: &mut Cursor, max_var: u32) -> Result<Self, ReadFault>
         requires { max_var ≤ largest_index }
-        ensures { result ≡ result_map_both told_by (λ e. e) (row_of form max_var (line_of line.entry.text.now line.entry.ended)) };
+        ensures { GivesOrFails (λ row. (row, at.new.number, lines_of at.new.rest.now)) result
+            (row_told told_by (row_at form max_var at.old.number (lines_of at.old.rest.now))) };
 }
 
 /// Whether a number cannot be the definition that it stands for.
@@ -122,14 +122,110 @@ fn row_numbers<const N: usize>(
     }
 }
 
+/// The numbers of the row that the next line holds, however it is spelled, or its fault.
+#[cold]
+#[inline(never)]
+fn lenient_row<const N: usize>(
+    role: Role,
+    others: [Role; N],
+    least: usize,
+    at: &mut Cursor,
+    max_var: u32,
+) -> Result<(u64, [u64; N]), ReadFault>
+    requires max_var { max_var ≤ largest_index }
+    requires least { least ≤ N }
+    requires others { length others ≡ N }
+    ensures row { GivesOrFails (λ x. (x.0 ∷ x.1, at.new.number, lines_of at.new.rest.now)) result
+        (row_at (record { first = role; others = others.entry; least = least }) max_var at.old.number
+        (lines_of at.old.rest.now)) }
+    ensures first { IfOk result (λ x. x.0 ≤ 2 * max_var + 1) }
+    ensures others { IfOk result (λ x. (k : ℕ) → slice_index x.1 k ≤ 2 * max_var + 1) }
+{
+    let place = Place::Line(at.number);
+    let Some((line, rest)) = split_line(at.rest) else {
+        return Err(ReadFault {
+            place,
+            kind: ReadKind::Truncated,
+        });
+    };
+    match row_numbers::<N>(role, others, least, line, max_var) {
+        Ok(found) => {
+            let number = at.number + 1;
+            *at = Cursor { rest, number };
+            Ok(found)
+        }
+        Err(kind) => Err(ReadFault { place, kind }),
+    }
+}
+
+/// The numbers of a good row in plain spelling at the front, and what follows it.
+#[inline(always)]
+fn plain_row<const N: usize>(
+    role: Role,
+    others: [Role; N],
+    bytes: &[u8],
+    max_var: u32,
+) -> Option<((u64, [u64; N]), &[u8])>
+    requires max_var { max_var ≤ largest_index }
+    requires others { length others ≡ N }
+    ensures row { (least number : ℕ) → least ≤ N → IfSome result (λ x.
+        row_at (record { first = role; others = others.entry; least = least }) max_var number (lines_of bytes.now)
+        ≡ Ok (x.0.0 ∷ x.0.1, number + 1, lines_of x.1.now)) }
+    ensures shorter { IfSome result (λ x. length x.1.now < length bytes.now) }
+    ensures first { IfSome result (λ x. x.0.0 ≤ 2 * max_var + 1) }
+    ensures others { IfSome result (λ x. (k : ℕ) → slice_index x.0.1 k ≤ 2 * max_var + 1) }
+{
+    let (first, rest) = plain_number(bytes)?;
+    let Some(found) = plain_numbers::<N>(rest) else {
+        return None;
+    };
+    let more = found.0;
+    let rest = found.1;
+    match row_fault(max_var, role, &others, first, &more) {
+        Some(_) => None,
+        None => Some(((first, more), rest)),
+    }
+}
+
+/// The numbers of the row that the next line holds. Most rows are in plain spelling, and are read at once.
+#[inline(always)]
+fn next_row<const N: usize>(
+    role: Role,
+    others: [Role; N],
+    least: usize,
+    at: &mut Cursor,
+    max_var: u32,
+) -> Result<(u64, [u64; N]), ReadFault>
+    requires max_var { max_var ≤ largest_index }
+    requires least { least ≤ N }
+    requires others { length others ≡ N }
+    ensures row { GivesOrFails (λ x. (x.0 ∷ x.1, at.new.number, lines_of at.new.rest.now)) result
+        (row_at (record { first = role; others = others.entry; least = least }) max_var at.old.number
+        (lines_of at.old.rest.now)) }
+    ensures first { IfOk result (λ x. x.0 ≤ 2 * max_var + 1) }
+    ensures others { IfOk result (λ x. (k : ℕ) → slice_index x.1 k ≤ 2 * max_var + 1) }
+{
+    match plain_row::<N>(role, others, at.rest, max_var) {
+        Some((found, rest)) => {
+            let number = at.number + 1;
+            *at = Cursor { rest, number };
+            Ok(found)
+        }
+        None => lenient_row::<N>(role, others, least, at, max_var),
+    }
+}
+
 impl Row for Var {
     ghost form = { input_form };
 
     ghost told_by = { input_of };
 
-    fn read_row(line: Line, max_var: u32) -> Result<Var, ReadKind> {
-        let found = row_numbers::<0>(Role::Definition, [], 0, line, max_var)?;
-        Ok(Var((found.0 / 2) as u32))
+    #[inline(always)]
+    fn read_row(at: &mut Cursor, max_var: u32) -> Result<Var, ReadFault> {
+        match next_row::<0>(Role::Definition, [], 0, at, max_var) {
+            Ok(found) => Ok(Var((found.0 / 2) as u32)),
+            Err(fault) => Err(fault),
+        }
     }
 }
 
@@ -138,13 +234,18 @@ impl Row for Latch {
 
     ghost told_by = { latch_of };
 
-    fn read_row(line: Line, max_var: u32) -> Result<Latch, ReadKind> {
-        let found = row_numbers::<1>(Role::Definition, [Role::Literal], 1, line, max_var)?;
-        let [next] = found.1;
-        Ok(Latch {
-            var: Var((found.0 / 2) as u32),
-            next: Lit(next as u32),
-        })
+    #[inline(always)]
+    fn read_row(at: &mut Cursor, max_var: u32) -> Result<Latch, ReadFault> {
+        match next_row::<1>(Role::Definition, [Role::Literal], 1, at, max_var) {
+            Ok(found) => {
+                let [next] = found.1;
+                Ok(Latch {
+                    var: Var((found.0 / 2) as u32),
+                    next: Lit(next as u32),
+                })
+            }
+            Err(fault) => Err(fault),
+        }
     }
 }
 
@@ -153,9 +254,12 @@ impl Row for Lit {
 
     ghost told_by = { output_of };
 
-    fn read_row(line: Line, max_var: u32) -> Result<Lit, ReadKind> {
-        let found = row_numbers::<0>(Role::Literal, [], 0, line, max_var)?;
-        Ok(Lit(found.0 as u32))
+    #[inline(always)]
+    fn read_row(at: &mut Cursor, max_var: u32) -> Result<Lit, ReadFault> {
+        match next_row::<0>(Role::Literal, [], 0, at, max_var) {
+            Ok(found) => Ok(Lit(found.0 as u32)),
+            Err(fault) => Err(fault),
+        }
     }
 }
 
@@ -164,14 +268,19 @@ impl Row for Gate {
 
     ghost told_by = { gate_of };
 
-    fn read_row(line: Line, max_var: u32) -> Result<Gate, ReadKind> {
+    #[inline(always)]
+    fn read_row(at: &mut Cursor, max_var: u32) -> Result<Gate, ReadFault> {
         let operands = [Role::Literal, Role::Literal];
-        let found = row_numbers::<2>(Role::Definition, operands, 2, line, max_var)?;
-        let [left, right] = found.1;
-        Ok(Gate {
-            var: Var((found.0 / 2) as u32),
-            left: Lit(left as u32),
-            right: Lit(right as u32),
-        })
+        match next_row::<2>(Role::Definition, operands, 2, at, max_var) {
+            Ok(found) => {
+                let [left, right] = found.1;
+                Ok(Gate {
+                    var: Var((found.0 / 2) as u32),
+                    left: Lit(left as u32),
+                    right: Lit(right as u32),
+                })
+            }
+            Err(fault) => Err(fault),
+        }
     }
 }

@@ -3,12 +3,12 @@ ghost use Rattle.std.specs.Prelude.{◌≡◌, ◌≤◌};
 ghost use Rattle.aig_core.specs.declared.circuit.TheConstants.{LARGEST as largest_index};
 ghost use Rattle.aig_text.specs.Lines.{lines_of};
 ghost use Rattle.aig_text.specs.Rows.{sections};
-ghost use Rattle.aig_text.specs.Kept.{GivesOrFails, GivesOrMemory, row_told, rows_told};
-ghost use Rattle.aig_text.specs.Reading.{row_at, rows_at, section_at, sections_at};
+ghost use Rattle.aig_text.specs.Kept.{GivesOrMemory, rows_told};
+ghost use Rattle.aig_text.specs.Reading.{rows_at, section_at, sections_at};
 
-use crate::fault::{Place, ReadFault, ReadKind};
+use crate::fault::ReadFault;
 use crate::header::Header;
-use crate::line::{Cursor, split_line};
+use crate::line::Cursor;
 use crate::row::Row;
 use aig_core::circuit::Circuit;
 use aig_core::listing::Listing;
@@ -30,31 +30,6 @@ const SECTIONS: [Section; 4] = [
     Section::Gates,
 ];
 
-/// What the next line tells. Goes behind that line, unless it is not right.
-#[cold]
-#[inline(never)]
-fn next_row<T: Row>(at: &mut Cursor, max_var: u32) -> Result<T, ReadFault>
-    requires { max_var ≤ largest_index }
-    ensures { GivesOrFails (λ row. (row, at.new.number, lines_of at.new.rest.now)) result
-        (row_told T.told_by (row_at T.form max_var at.old.number (lines_of at.old.rest.now))) }
-{
-    let place = Place::Line(at.number);
-    let Some((line, rest)) = split_line(at.rest) else {
-        return Err(ReadFault {
-            place,
-            kind: ReadKind::Truncated,
-        });
-    };
-    match T::read_row(line, max_var) {
-        Ok(row) => {
-            let number = at.number + 1;
-            *at = Cursor { rest, number };
-            Ok(row)
-        }
-        Err(kind) => Err(ReadFault { place, kind }),
-    }
-}
-
 /// Adds what so many lines tell, and goes behind them.
 fn read_rows<T: Row>(
     found: &mut Listing<T>,
@@ -67,7 +42,7 @@ fn read_rows<T: Row>(
         (rows_told T.told_by found.old (rows_at T.form max_var count at.old.number (lines_of at.old.rest.now))) }
 {
     for _ in 0..count {
-        let row = next_row::<T>(at, max_var)?;
+        let row = T::read_row(at, max_var)?;
         found.push(row)?;
     }
     Ok(())

@@ -6,7 +6,7 @@ use crate::fault::ToolFault;
 use crate::request::ToAig;
 use aig_core::device::{Sink, Source};
 use aig_core::transfer::read_all;
-use aig_text::ascii::read_ascii;
+use aig_text::reader::read_ascii;
 use aig_text::limits::Limits;
 use aig_text::writer::write_ascii;
 use std::alloc::Global;

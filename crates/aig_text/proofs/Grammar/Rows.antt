@@ -36,7 +36,7 @@ is_right m roles.Definition n h = (is_variable n h.even h.no_constant, le-ltb (2
 is_right m roles.Literal n h = (refl, le-ltb (2 * m + 1) n h)
 
 -- the numbers of a row
-all_may_stand : (m : ℕ) (rs : List Role) (ns : List ℕ) → length ns ≡ length rs → any_number misdefines rs ns ≡ false → any_number (exceeds m) rs ns ≡ false → AllZip (MayStand m) rs ns
+pub all_may_stand : (m : ℕ) (rs : List Role) (ns : List ℕ) → length ns ≡ length rs → any_number misdefines rs ns ≡ false → any_number (exceeds m) rs ns ≡ false → AllZip (MayStand m) rs ns
 all_may_stand m [] [] long d e = tt
 all_may_stand m [] (n ∷ ns) long d e = absurd (omega arith)
 all_may_stand m (r ∷ rs) [] long d e = absurd (omega arith)
@@ -76,7 +76,7 @@ unfolding row_of
 row_tells form m l ns s h = row_told form m l (numbers_at l.ended form.least (length form.others) l.text) ns s refl h
 
 -- and a line that holds a good row is read as it
-row_is_told : (form : Form) (m : ℕ) (l : Line) (ns : List ℕ) → IsRowLine l (row form ns) → IsGoodRow form m ns → row_of form m l ≡ Ok ns
+pub row_is_told : (form : Form) (m : ℕ) (l : Line) (ns : List ℕ) → IsRowLine l (row form ns) → IsGoodRow form m ns → row_of form m l ≡ Ok ns
 unfolding row_of checked_row
 row_is_told form m l ns h g =
     let long : length ns ≡ suc (length form.others) = AllZip-long (MayStand m) (roles_of form) ns g in

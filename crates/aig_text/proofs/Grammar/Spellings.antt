@@ -18,7 +18,7 @@ pub one_more : (n : ℕ) → 1 + n ≡ suc n
 one_more n = omega arith
 
 -- the elements at the front that pass do so, and are as many as stand before one that does not
-front_passes : (p : ℕ → Bool) (bs : List ℕ) → AllByRecursion (λ b. p b ≡ true) (take (prefix_len p bs) bs)
+pub front_passes : (p : ℕ → Bool) (bs : List ℕ) → AllByRecursion (λ b. p b ≡ true) (take (prefix_len p bs) bs)
 front_passes p [] = tt
 front_passes p (b ∷ bs) =
     elim (p b) as (λ t. p b ≡ t → AllByRecursion (λ b. p b ≡ true) (take (cond t (1 + prefix_len p bs) 0) (b ∷ bs))) [

@@ -14,7 +14,7 @@ returns-in_err-row g c = let h = err_from_is_err_and c.from_residual.result c.fr
 pub loop-preserved : goal.loop-preserved
 loop-preserved g c =
     rw c.in_ok-push.ensures.ok (
-    rows_more g.T.Row.told_by g.T.Row.form c.args.max_var c.loop.counter c.args.count c.loop.at.number c.next_row.new.at.number (lines_of c.loop.at.rest.now) (lines_of c.next_row.new.at.rest.now) c.loop.found
+    rows_more g.T.Row.told_by g.T.Row.form c.args.max_var c.loop.counter c.args.count c.loop.at.number c.read_row.new.at.number (lines_of c.loop.at.rest.now) (lines_of c.read_row.new.at.rest.now) c.loop.found
     c.in_ok-row.row c.loop-test.true c.in_ok-row.ensures
     ∙ c.loop.invariant
     )
