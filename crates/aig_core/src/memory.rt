@@ -1,5 +1,5 @@
 //! Devices in memory.
-ghost use Rattle.std.specs.Prelude.{◌≡◌, ◌+◌, ◌-◌, ◌^◌, ◌<◌, ◌≤◌, ◌↔◌, ℕ, Some, IsTrue, MatchResult, IfOk, OnErr, is_ok, true, false, drop, take, length, vec_len, vec_capacity, if◌then◌else◌};
+ghost use Rattle.std.specs.Prelude.{◌≡◌, ◌+◌, ◌-◌, ◌^◌, ◌<◌, ◌≤◌, ◌↔◌, ℕ, Some, IsTrue, MatchResult, IfOk, OnErr, is_ok, true, false, drop, take, length, max, vec_len, vec_capacity, if◌then◌else◌};
 ghost use Rattle.std.specs.Io.KnownBytes.{WriteAppends, ReadConsumes};
 ghost use Rattle.aig_core.specs.Memory.{accepted, after_failed_fetch, after_failed_send, after_giving, after_taking, given, is_due, new_sink, new_source, one_call_later};
 
@@ -152,6 +152,8 @@ impl MemorySink {
 impl Sink for MemorySink {
     ghost taken = { λ s. Some s.taken };
 
+    ghost longest = { λ s. s.longest };
+
     ghost failed = { λ s. s.failures };
 
     fn send(&mut self, bytes: &[u8]) -> Result<usize, DeviceFault>
@@ -160,6 +162,7 @@ impl Sink for MemorySink {
         ensures within { IfOk result (λ n. n ≤ length bytes.now) }
         ensures moves { IfOk result (λ n. 0 < n) }
         ensures bytes { WriteAppends (Some self.old.taken) (Some self.new.taken) result bytes.now }
+        ensures longest { self.new.longest ≡ max self.old.longest (length bytes.now) }
         ensures failed { self.new.failures ≡ self.old.failures + (if is_ok result then 0 else 1) }
         ensures chosen { IsTrue (is_ok result) ↔ ((is_due self.old.fails_in ≡ false) × (0 < self.old.room)) }
         ensures count { IfOk result (λ n. n ≡ accepted self.old bytes.now) }
