@@ -72,21 +72,8 @@ put_held a b h text e p = put_twice a b (out b.taken b.longest b.failures h) [] 
 pub put_next : (a b c : Out) (bytes : List ℕ) (at n : ℕ) → Put a b (take at bytes) → Put b c (take n (drop at bytes)) → Put a c (take (at + n) bytes)
 put_next a b c bytes at n p q = rw take-add (put_twice a b c (take at bytes) (take n (drop at bytes)) p q)
 
--- What the sink of an empty block took of a text, once the block was sent.
-module _ (a b c : Out) (text : List ℕ) (start : a.held ≡ nothing_held) (put : Put a b text) (sent : Put b c []) (end : c.held.bytes ≡ []) where
-  whole : Put a c (text ++ [])
-  whole = put_twice a b c text [] put sent
-
-  text_is : a.held.bytes ++ (text ++ []) ≡ text
-  text_is = ap (λ (h : Held). h.bytes ++ (text ++ [])) start ∙ append-nil text
-
-  pub all_sent : c.held.failed ≡ false → (c.failures ≡ a.failures) × Appends a.taken c.taken text
-  all_sent e =
-      let went = whole.went e in
-      let out_is = sym (append-nil went.2.sent) ∙ ap (λ (left : List ℕ). went.2.sent ++ left) (sym end) ∙ sym went.2.order ∙ text_is in
-      (went.1, subst (λ (bytes : List ℕ). Appends a.taken c.taken bytes) out_is went.2.took)
-
-  pub beginning_sent : c.held.failed ≡ true → (c.failures ≡ a.failures + 1) × TookBeginning a.taken c.taken text
-  beginning_sent e =
-      let begun = whole.begun (ap (λ (h : Held). h.failed) start) e in
-      (begun.0, subst (λ (bytes : List ℕ). TookBeginning a.taken c.taken bytes) text_is begun.1)
+-- an empty block was sent with a text in it, and the sink failed on the way
+pub beginning_sent : (a b c : Out) (text : List ℕ) → a.held ≡ nothing_held → Put a b text → Put b c [] → c.held.failed ≡ true → TookBeginning a.taken c.taken text
+beginning_sent a b c text start put sent failed =
+    let begun = (put_twice a b c text [] put sent).begun (ap (λ (h : Held). h.failed) start) failed in
+    subst (λ (bytes : List ℕ). TookBeginning a.taken c.taken bytes) (ap (λ (h : Held). h.bytes ++ (text ++ [])) start ∙ append-nil text) begun.1

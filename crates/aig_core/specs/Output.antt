@@ -1,5 +1,6 @@
 -- A text on its way to a sink through a block (this project's devices). After a failure of the sink nothing more is sent.
-use Rattle.std.specs.Prelude.{◌≡◌, ◌+◌, ◌-◌, ◌^◌, ◌<◌, ◌≤◌, ◌++◌, ℕ, List, [], Option, Bool, true, false, max}
+use Rattle.std.specs.Prelude.{◌≡◌, ◌+◌, ◌-◌, ◌^◌, ◌<◌, ◌≤◌, ◌++◌, ℕ, List, [], Option, Bool, true, false, max, codes, decimal}
+use Rattle.std.specs.List.{flat_map}
 use Rattle.aig_core.specs.declared.block.TheConstants.{ROOM}
 use Rattle.aig_core.specs.Transfer.{TookBeginning, WentOut}
 
@@ -38,3 +39,7 @@ pub record Put (a b : Out) (text : List ℕ) : Type 0 where
   pub begun : a.held.failed ≡ false → b.held.failed ≡ true → (b.failures ≡ a.failures + 1) × TookBeginning a.taken b.taken (a.held.bytes ++ text)
   pub stopped : a.held.failed ≡ true → (b.held.failed ≡ true) × IsLeftAlone a b
   pub short : b.longest ≤ max a.longest ROOM
+
+-- a line of numbers: the first, each other after a space, and the line feed
+abbrev pub row_text : ℕ → List ℕ → List ℕ
+row_text first others = decimal first ++ (flat_map (λ n. codes " " ++ decimal n) others ++ codes "\n")

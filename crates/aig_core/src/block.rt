@@ -1,7 +1,6 @@
 //! Output in blocks.
-ghost use Rattle.std.specs.List.{flat_map};
-ghost use Rattle.std.specs.Prelude.{◌≡◌, ◌+◌, ◌-◌, ◌*◌, ◌<◌, ◌≤◌, [], ◌++◌, ◌↔◌, length, take, min, codes, decimal, false, is_ok, IsOk, IsTrue, OnErr};
-ghost use Rattle.aig_core.specs.Output.{CanFail, nothing_held, out, Put};
+ghost use Rattle.std.specs.Prelude.{◌≡◌, ◌+◌, ◌-◌, ◌*◌, ◌<◌, ◌≤◌, [], ◌++◌, ◌↔◌, length, take, min, decimal, is_err, IsOk, OnErr};
+ghost use Rattle.aig_core.specs.Output.{CanFail, nothing_held, out, Put, row_text};
 ghost use Rattle.aig_core.specs.declared.block.TheConstants.{ROOM};
 ghost use Rattle.aig_core.specs.declared.digits.TheConstants.{MOST_DIGITS};
 
@@ -74,7 +73,7 @@ impl Block {
         ensures put { Put (out (W.taken sink.old) (W.longest sink.old) (W.failed sink.old) self.old)
             (out (W.taken sink.new) (W.longest sink.new) (W.failed sink.new) self.new) [] }
         ensures empty { self.new.bytes ≡ [] }
-        ensures told { IsTrue (is_ok result) ↔ (self.new.failed ≡ false) }
+        ensures told { self.new.failed ≡ is_err result }
     {
         self.empty(sink);
         if self.failed {
@@ -121,8 +120,7 @@ impl Block {
     #[inline]
     pub fn fill_row(&mut self, first: u64, others: &[u64])
         requires { length self.old.bytes + (length others.now + 1) * (MOST_DIGITS + 1) ≤ ROOM }
-        ensures { let row = decimal first ++ flat_map (λ n. codes " " ++ decimal n) others.now ++ codes "\n" in
-            self.new ≡ record self.old { bytes = self.old.bytes ++ row } }
+        ensures { self.new ≡ record self.old { bytes = self.old.bytes ++ row_text first others.now } }
     {
         self.len = write_row(&mut self.bytes, self.len, first, others);
     }

@@ -1,6 +1,6 @@
 //! Numbers in decimal, written straight to where they are wanted.
-ghost use Rattle.std.specs.List.{flat_map};
 ghost use Rattle.std.specs.Prelude.{◌≡◌, ◌+◌, ◌*◌, ◌^◌, ◌<◌, ◌≤◌, ◌++◌, length, decimal, codes, take};
+ghost use Rattle.aig_core.specs.Output.{row_text};
 ghost use Rattle.aig_core.specs.declared.digits.TheConstants.{MOST_DIGITS};
 
 /// How many digits a number has at most.
@@ -83,7 +83,7 @@ pub(crate) fn write_row(bytes: &mut [u8], at: usize, first: u64, others: &[u64])
     requires { at + (length others.now + 1) * (MOST_DIGITS + 1) ≤ length bytes.old }
     ensures within { result ≤ length bytes.old }
     ensures len { length bytes.new ≡ length bytes.old }
-    ensures text { take result bytes.new ≡ take at bytes.old ++ (decimal first ++ flat_map (λ n. codes " " ++ decimal n) others.now ++ codes "\n") }
+    ensures text { take result bytes.new ≡ take at bytes.old ++ row_text first others.now }
 {
     let mut end = write_number(bytes, at, first);
     for number in others {
