@@ -1,9 +1,7 @@
 -- Texts that are put one after another.
-use Rattle.std.proofs.Common.{◌≡◌, ◌≢◌, ◌+◌, ◌<◌, ◌≤◌, ◌-◌, ◌^◌, ◌++◌, ℕ, List, [], Option, Bool, true, false, max, take, drop, take-add, arith, refl, sym, ap, subst, ◌∙◌}
+use Rattle.std.proofs.Common.{◌≡◌, ◌+◌, ◌++◌, ℕ, List, [], Bool, true, false, take, drop, take-add, arith, refl, sym, ap, subst, ◌∙◌}
 use Rattle.std.proofs.lemmas.List.{append-nil}
 use Rattle.std.proofs.lemmas.Bool.{false≢true}
-use Rattle.std.specs.Io.KnownBytes.{Appends}
-use Rattle.aig_core.specs.declared.block.TheConstants.{ROOM}
 use Rattle.aig_core.specs.Output.{CanFail, Held, IsLeftAlone, nothing_held, Out, out, Put}
 use Rattle.aig_core.specs.Transfer.{TookBeginning, WentOut}
 use Rattle.aig_core.proofs.Outgoing.{beginning_after, beginning_longer, kept, went_out_twice}

@@ -1,5 +1,6 @@
 //! Output in blocks.
-ghost use Rattle.std.specs.Prelude.{◌≡◌, ◌+◌, ◌-◌, ◌*◌, ◌<◌, ◌≤◌, [], ◌++◌, ◌↔◌, length, take, min, decimal, is_err, IsOk, OnErr};
+ghost use Rattle.std.specs.Prelude.{◌≡◌, ◌+◌, ◌-◌, ◌*◌, ◌<◌, ◌≤◌, [], ◌++◌, ◌↔◌, length, take, min, decimal};
+ghost use Rattle.std.specs.Prelude.{is_err, IsOk, OnErr};
 ghost use Rattle.aig_core.specs.Output.{CanFail, nothing_held, out, Put, row_text};
 ghost use Rattle.aig_core.specs.declared.block.TheConstants.{ROOM};
 ghost use Rattle.aig_core.specs.declared.digits.TheConstants.{MOST_DIGITS};
@@ -13,8 +14,8 @@ use std::marker::Model;
 /// How many bytes a block holds.
 pub const ROOM: usize = 8192;
 
-/// Bytes on their way to a sink. A block keeps in mind that its sink failed: what it still holds then, and all that is put
-/// later, is dropped, and `flush` tells the failure at the end.
+/// Bytes on their way to a sink. A block keeps in mind that its sink failed: what it holds then, and what is put later,
+/// is dropped, and `flush` tells the failure at the end.
 #[derive(Drop)]
 pub struct Block {
     bytes: [u8; ROOM],
@@ -54,8 +55,8 @@ impl Block {
         &self.bytes[..self.len]
     }
 
-    /// Sends what is held, unless the sink failed.
-    fn empty<W: Sink>(&mut self, sink: &mut W)
+    /// Sends what is held, unless the sink failed before.
+    fn send_held<W: Sink>(&mut self, sink: &mut W)
         requires { CanFail (out (W.taken sink.old) (W.longest sink.old) (W.failed sink.old) self.old) }
         ensures put { Put (out (W.taken sink.old) (W.longest sink.old) (W.failed sink.old) self.old)
             (out (W.taken sink.new) (W.longest sink.new) (W.failed sink.new) self.new) [] }
@@ -67,7 +68,8 @@ impl Block {
         self.len = 0;
     }
 
-    /// Sends what is held, and tells whether all that was put was sent. It fails again after a failure, and sends nothing then.
+    /// Sends what is held, and tells whether the sink took all that was put. After a failure it sends nothing, and
+    /// tells the failure again.
     pub fn flush<W: Sink>(&mut self, sink: &mut W) -> Result<(), DeviceFault>
         requires { CanFail (out (W.taken sink.old) (W.longest sink.old) (W.failed sink.old) self.old) }
         ensures put { Put (out (W.taken sink.old) (W.longest sink.old) (W.failed sink.old) self.old)
@@ -75,7 +77,7 @@ impl Block {
         ensures empty { self.new.bytes ≡ [] }
         ensures told { self.new.failed ≡ is_err result }
     {
-        self.empty(sink);
+        self.send_held(sink);
         if self.failed {
             return Err(DeviceFault);
         }
@@ -92,7 +94,7 @@ impl Block {
         ensures room { length self.new.bytes + room ≤ ROOM }
     {
         if ROOM - self.len < room {
-            self.empty(sink);
+            self.send_held(sink);
         }
     }
 

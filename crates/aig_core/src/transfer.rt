@@ -1,5 +1,6 @@
 //! All bytes of a source, and all bytes to a sink.
-ghost use Rattle.std.specs.Prelude.{◌≡◌, ◌≢◌, ◌+◌, ◌-◌, ◌^◌, ◌<◌, ◌≤◌, ℕ, [], length, max, take, Some, IfOk, IfErr, IfSome, OnOk, OnErr, MatchResult, is_ok, if◌then◌else◌};
+ghost use Rattle.std.specs.Prelude.{◌≡◌, ◌≢◌, ◌+◌, ◌-◌, ◌^◌, ◌<◌, ◌≤◌, ℕ, [], length, max, take, Some, IfOk, IfErr};
+ghost use Rattle.std.specs.Prelude.{IfSome, OnOk, OnErr, MatchResult, is_ok, if◌then◌else◌};
 ghost use Rattle.std.specs.Io.KnownBytes.{Appends};
 ghost use Rattle.aig_core.specs.Transfer.{GaveAll, GaveSome, TookBeginning};
 ghost use Rattle.aig_core.specs.Failures.{failures_of};

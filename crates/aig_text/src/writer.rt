@@ -1,11 +1,13 @@
 //! The canonical ASCII text of a circuit, written to a sink through a block.
 ghost use Rattle.std.specs.Io.KnownBytes.{Appends};
 ghost use Rattle.std.specs.List.{flat_map};
-ghost use Rattle.std.specs.Prelude.{◌≡◌, ◌+◌, ◌-◌, ◌^◌, ◌<◌, ◌≤◌, ◌∷◌, ℕ, List, length, max, is_ok, OnErr, OnOk, if◌then◌else◌};
+ghost use Rattle.std.specs.Prelude.{◌≡◌, ◌+◌, ◌-◌, ◌^◌, ◌<◌, ◌≤◌, ◌∷◌, ℕ, List, length, max, is_ok, OnErr, OnOk};
+ghost use Rattle.std.specs.Prelude.{if◌then◌else◌};
 ghost use Rattle.aig_core.specs.Output.{CanFail, out, Put};
 ghost use Rattle.aig_core.specs.Transfer.{TookBeginning};
 ghost use Rattle.aig_core.specs.declared.block.TheConstants.{ROOM};
-ghost use Rattle.aig_text.specs.AsciiText.{ascii_text, comment_text, header_text, kind_letter, more_numbers_text, name_text, numbers_text, spaced_number, symbol_text, tail_text};
+ghost use Rattle.aig_text.specs.AsciiText.{ascii_text, comment_text, header_text, kind_letter, more_numbers_text};
+ghost use Rattle.aig_text.specs.AsciiText.{name_text, numbers_text, spaced_number, symbol_text, tail_text};
 ghost use Rattle.aig_text.specs.Rows.{ascii_word, gate_row, header_row, input_row, latch_row, output_row, rows_of};
 ghost use Rattle.aig_text.specs.declared.writer.TheConstants.{FEW};
 ghost use Rattle.aig_text.specs.declared.writer.WriteFault.TheVariants.{Device};
@@ -44,11 +46,9 @@ const FEW: usize = 8;
 /// A space and a number.
 fn put_spaced_number<W: Sink>(block: &mut Block, sink: &mut W, number: u64)
     requires { CanFail (out (W.taken sink.old) (W.longest sink.old) (W.failed sink.old) block.old) }
-    ensures {
-        Put (out (W.taken sink.old) (W.longest sink.old) (W.failed sink.old) block.old)
-            (out (W.taken sink.new) (W.longest sink.new) (W.failed sink.new) block.new)
-            (spaced_number number)
-    }
+    ensures { Put (out (W.taken sink.old) (W.longest sink.old) (W.failed sink.old) block.old)
+        (out (W.taken sink.new) (W.longest sink.new) (W.failed sink.new) block.new)
+        (spaced_number number) }
 {
     block.put(sink, b" ");
     block.put_number(sink, number);
@@ -57,11 +57,9 @@ fn put_spaced_number<W: Sink>(block: &mut Block, sink: &mut W, number: u64)
 /// Each number after a space.
 fn put_spaced_numbers<W: Sink>(block: &mut Block, sink: &mut W, numbers: &[u64])
     requires { CanFail (out (W.taken sink.old) (W.longest sink.old) (W.failed sink.old) block.old) }
-    ensures {
-        Put (out (W.taken sink.old) (W.longest sink.old) (W.failed sink.old) block.old)
-            (out (W.taken sink.new) (W.longest sink.new) (W.failed sink.new) block.new)
-            (flat_map spaced_number numbers.now)
-    }
+    ensures { Put (out (W.taken sink.old) (W.longest sink.old) (W.failed sink.old) block.old)
+        (out (W.taken sink.new) (W.longest sink.new) (W.failed sink.new) block.new)
+        (flat_map spaced_number numbers.now) }
 {
     for number in numbers {
         put_spaced_number(block, sink, *number);
@@ -71,11 +69,9 @@ fn put_spaced_numbers<W: Sink>(block: &mut Block, sink: &mut W, numbers: &[u64])
 /// Each number after a space, and the line feed.
 fn put_more_numbers<W: Sink>(block: &mut Block, sink: &mut W, numbers: &[u64])
     requires { CanFail (out (W.taken sink.old) (W.longest sink.old) (W.failed sink.old) block.old) }
-    ensures {
-        Put (out (W.taken sink.old) (W.longest sink.old) (W.failed sink.old) block.old)
-            (out (W.taken sink.new) (W.longest sink.new) (W.failed sink.new) block.new)
-            (more_numbers_text numbers.now)
-    }
+    ensures { Put (out (W.taken sink.old) (W.longest sink.old) (W.failed sink.old) block.old)
+        (out (W.taken sink.new) (W.longest sink.new) (W.failed sink.new) block.new)
+        (more_numbers_text numbers.now) }
 {
     put_spaced_numbers(block, sink, numbers);
     block.put(sink, b"\n");
@@ -86,11 +82,9 @@ fn put_more_numbers<W: Sink>(block: &mut Block, sink: &mut W, numbers: &[u64])
 fn put_row<W: Sink>(block: &mut Block, sink: &mut W, first: u64, others: &[u64])
     requires countable { CanFail (out (W.taken sink.old) (W.longest sink.old) (W.failed sink.old) block.old) }
     requires few { length others.now ≤ FEW }
-    ensures {
-        Put (out (W.taken sink.old) (W.longest sink.old) (W.failed sink.old) block.old)
-            (out (W.taken sink.new) (W.longest sink.new) (W.failed sink.new) block.new)
-            (numbers_text (first ∷ others.now))
-    }
+    ensures { Put (out (W.taken sink.old) (W.longest sink.old) (W.failed sink.old) block.old)
+        (out (W.taken sink.new) (W.longest sink.new) (W.failed sink.new) block.new)
+        (numbers_text (first ∷ others.now)) }
 {
     block.make_room(sink, (others.len() + 1) * (MOST_DIGITS + 1));
     block.fill_row(first, others);
@@ -100,11 +94,9 @@ fn put_row<W: Sink>(block: &mut Block, sink: &mut W, first: u64, others: &[u64])
 #[inline]
 pub fn put_numbers<W: Sink>(block: &mut Block, sink: &mut W, first: u64, others: &[u64])
     requires { CanFail (out (W.taken sink.old) (W.longest sink.old) (W.failed sink.old) block.old) }
-    ensures {
-        Put (out (W.taken sink.old) (W.longest sink.old) (W.failed sink.old) block.old)
-            (out (W.taken sink.new) (W.longest sink.new) (W.failed sink.new) block.new)
-            (numbers_text (first ∷ others.now))
-    }
+    ensures { Put (out (W.taken sink.old) (W.longest sink.old) (W.failed sink.old) block.old)
+        (out (W.taken sink.new) (W.longest sink.new) (W.failed sink.new) block.new)
+        (numbers_text (first ∷ others.now)) }
 {
     if others.len() <= FEW {
         put_row(block, sink, first, others);
@@ -117,11 +109,9 @@ pub fn put_numbers<W: Sink>(block: &mut Block, sink: &mut W, first: u64, others:
 /// The header line: its word and its numbers.
 pub fn put_header<W: Sink>(block: &mut Block, sink: &mut W, word: &[u8], numbers: &[u64])
     requires { CanFail (out (W.taken sink.old) (W.longest sink.old) (W.failed sink.old) block.old) }
-    ensures {
-        Put (out (W.taken sink.old) (W.longest sink.old) (W.failed sink.old) block.old)
-            (out (W.taken sink.new) (W.longest sink.new) (W.failed sink.new) block.new)
-            (header_text word.now numbers.now)
-    }
+    ensures { Put (out (W.taken sink.old) (W.longest sink.old) (W.failed sink.old) block.old)
+        (out (W.taken sink.new) (W.longest sink.new) (W.failed sink.new) block.new)
+        (header_text word.now numbers.now) }
 {
     block.put(sink, word);
     put_more_numbers(block, sink, numbers);
@@ -135,11 +125,9 @@ trait NumberedLine {
     /// Adds the line.
     fn put_line<W: Sink>(&self, block: &mut Block, sink: &mut W)
         requires { CanFail (out (W.taken sink.old) (W.longest sink.old) (W.failed sink.old) block.old) }
-        ensures {
-            Put (out (W.taken sink.old) (W.longest sink.old) (W.failed sink.old) block.old)
-                (out (W.taken sink.new) (W.longest sink.new) (W.failed sink.new) block.new)
-                (numbers_text (line_numbers self.now))
-        };
+        ensures { Put (out (W.taken sink.old) (W.longest sink.old) (W.failed sink.old) block.old)
+            (out (W.taken sink.new) (W.longest sink.new) (W.failed sink.new) block.new)
+            (numbers_text (line_numbers self.now)) };
 }
 
 impl NumberedLine for Var {
@@ -156,7 +144,12 @@ impl NumberedLine for Latch {
 
     #[inline]
     fn put_line<W: Sink>(&self, block: &mut Block, sink: &mut W) {
-        put_numbers(block, sink, 2 * u64::from(self.var.0), &[u64::from(self.next.0)]);
+        put_numbers(
+            block,
+            sink,
+            2 * u64::from(self.var.0),
+            &[u64::from(self.next.0)],
+        );
     }
 }
 
@@ -182,11 +175,9 @@ impl NumberedLine for Gate {
 /// The numbered lines of a section.
 fn put_lines<T: NumberedLine, W: Sink>(block: &mut Block, sink: &mut W, items: &[T])
     requires { CanFail (out (W.taken sink.old) (W.longest sink.old) (W.failed sink.old) block.old) }
-    ensures {
-        Put (out (W.taken sink.old) (W.longest sink.old) (W.failed sink.old) block.old)
-            (out (W.taken sink.new) (W.longest sink.new) (W.failed sink.new) block.new)
-            (flat_map (λ x. numbers_text (T.line_numbers x)) items.now)
-    }
+    ensures { Put (out (W.taken sink.old) (W.longest sink.old) (W.failed sink.old) block.old)
+        (out (W.taken sink.new) (W.longest sink.new) (W.failed sink.new) block.new)
+        (flat_map (λ x. numbers_text (T.line_numbers x)) items.now) }
 {
     for item in items {
         item.put_line(block, sink);
@@ -207,11 +198,9 @@ fn letter(kind: Kind) -> &'static [u8]
 /// A space, a name and the line feed.
 fn put_name<W: Sink>(block: &mut Block, sink: &mut W, name: &[u8])
     requires { CanFail (out (W.taken sink.old) (W.longest sink.old) (W.failed sink.old) block.old) }
-    ensures {
-        Put (out (W.taken sink.old) (W.longest sink.old) (W.failed sink.old) block.old)
-            (out (W.taken sink.new) (W.longest sink.new) (W.failed sink.new) block.new)
-            (name_text name.now)
-    }
+    ensures { Put (out (W.taken sink.old) (W.longest sink.old) (W.failed sink.old) block.old)
+        (out (W.taken sink.new) (W.longest sink.new) (W.failed sink.new) block.new)
+        (name_text name.now) }
 {
     block.put(sink, b" ");
     block.put(sink, name);
@@ -221,11 +210,9 @@ fn put_name<W: Sink>(block: &mut Block, sink: &mut W, name: &[u8])
 /// A symbol line.
 fn put_symbol<W: Sink>(block: &mut Block, sink: &mut W, symbol: &Symbol)
     requires { CanFail (out (W.taken sink.old) (W.longest sink.old) (W.failed sink.old) block.old) }
-    ensures {
-        Put (out (W.taken sink.old) (W.longest sink.old) (W.failed sink.old) block.old)
-            (out (W.taken sink.new) (W.longest sink.new) (W.failed sink.new) block.new)
-            (symbol_text symbol.now)
-    }
+    ensures { Put (out (W.taken sink.old) (W.longest sink.old) (W.failed sink.old) block.old)
+        (out (W.taken sink.new) (W.longest sink.new) (W.failed sink.new) block.new)
+        (symbol_text symbol.now) }
 {
     block.put(sink, letter(symbol.kind));
     block.put_number(sink, u64::from(symbol.position));
@@ -235,11 +222,9 @@ fn put_symbol<W: Sink>(block: &mut Block, sink: &mut W, symbol: &Symbol)
 /// The symbol lines.
 fn put_symbols<W: Sink>(block: &mut Block, sink: &mut W, symbols: &[Symbol])
     requires { CanFail (out (W.taken sink.old) (W.longest sink.old) (W.failed sink.old) block.old) }
-    ensures {
-        Put (out (W.taken sink.old) (W.longest sink.old) (W.failed sink.old) block.old)
-            (out (W.taken sink.new) (W.longest sink.new) (W.failed sink.new) block.new)
-            (flat_map symbol_text symbols.now)
-    }
+    ensures { Put (out (W.taken sink.old) (W.longest sink.old) (W.failed sink.old) block.old)
+        (out (W.taken sink.new) (W.longest sink.new) (W.failed sink.new) block.new)
+        (flat_map symbol_text symbols.now) }
 {
     for symbol in symbols {
         put_symbol(block, sink, symbol);
@@ -249,11 +234,9 @@ fn put_symbols<W: Sink>(block: &mut Block, sink: &mut W, symbols: &[Symbol])
 /// The comment section, where there is one.
 fn put_comment<W: Sink>(block: &mut Block, sink: &mut W, comment: &Option<Listing<u8>>)
     requires { CanFail (out (W.taken sink.old) (W.longest sink.old) (W.failed sink.old) block.old) }
-    ensures {
-        Put (out (W.taken sink.old) (W.longest sink.old) (W.failed sink.old) block.old)
-            (out (W.taken sink.new) (W.longest sink.new) (W.failed sink.new) block.new)
-            (comment_text comment.now)
-    }
+    ensures { Put (out (W.taken sink.old) (W.longest sink.old) (W.failed sink.old) block.old)
+        (out (W.taken sink.new) (W.longest sink.new) (W.failed sink.new) block.new)
+        (comment_text comment.now) }
 {
     if let Some(bytes) = comment {
         block.put(sink, b"c\n");
@@ -264,11 +247,9 @@ fn put_comment<W: Sink>(block: &mut Block, sink: &mut W, comment: &Option<Listin
 /// What follows the gates: the symbols, and the comment section where there is one.
 pub fn put_tail<W: Sink>(block: &mut Block, sink: &mut W, circuit: &Circuit)
     requires { CanFail (out (W.taken sink.old) (W.longest sink.old) (W.failed sink.old) block.old) }
-    ensures {
-        Put (out (W.taken sink.old) (W.longest sink.old) (W.failed sink.old) block.old)
-            (out (W.taken sink.new) (W.longest sink.new) (W.failed sink.new) block.new)
-            (tail_text circuit.now)
-    }
+    ensures { Put (out (W.taken sink.old) (W.longest sink.old) (W.failed sink.old) block.old)
+        (out (W.taken sink.new) (W.longest sink.new) (W.failed sink.new) block.new)
+        (tail_text circuit.now) }
 {
     put_symbols(block, sink, circuit.symbols.as_slice());
     put_comment(block, sink, &circuit.comment);
@@ -277,11 +258,9 @@ pub fn put_tail<W: Sink>(block: &mut Block, sink: &mut W, circuit: &Circuit)
 /// The numbered lines of all sections.
 fn put_sections<W: Sink>(block: &mut Block, sink: &mut W, circuit: &Circuit)
     requires { CanFail (out (W.taken sink.old) (W.longest sink.old) (W.failed sink.old) block.old) }
-    ensures {
-        Put (out (W.taken sink.old) (W.longest sink.old) (W.failed sink.old) block.old)
-            (out (W.taken sink.new) (W.longest sink.new) (W.failed sink.new) block.new)
-            (flat_map numbers_text (rows_of circuit.now))
-    }
+    ensures { Put (out (W.taken sink.old) (W.longest sink.old) (W.failed sink.old) block.old)
+        (out (W.taken sink.new) (W.longest sink.new) (W.failed sink.new) block.new)
+        (flat_map numbers_text (rows_of circuit.now)) }
 {
     put_lines(block, sink, circuit.inputs.as_slice());
     put_lines(block, sink, circuit.latches.as_slice());
@@ -305,11 +284,9 @@ fn header_numbers(circuit: &Circuit) -> [u64; 5]
 /// The whole text.
 fn put_text<W: Sink>(block: &mut Block, sink: &mut W, circuit: &Circuit)
     requires { CanFail (out (W.taken sink.old) (W.longest sink.old) (W.failed sink.old) block.old) }
-    ensures {
-        Put (out (W.taken sink.old) (W.longest sink.old) (W.failed sink.old) block.old)
-            (out (W.taken sink.new) (W.longest sink.new) (W.failed sink.new) block.new)
-            (ascii_text circuit.now)
-    }
+    ensures { Put (out (W.taken sink.old) (W.longest sink.old) (W.failed sink.old) block.old)
+        (out (W.taken sink.new) (W.longest sink.new) (W.failed sink.new) block.new)
+        (ascii_text circuit.now) }
 {
     put_header(block, sink, ASCII_WORD, &header_numbers(circuit));
     put_sections(block, sink, circuit);
