@@ -41,7 +41,7 @@ fn short_len(number: u64) -> usize
 
 /// How many digits a number has.
 #[inline]
-pub(crate) fn decimal_len(number: u64) -> usize
+fn decimal_len(number: u64) -> usize
     ensures value { result ≡ length (decimal number) }
     ensures short { result ≤ MOST_DIGITS }
 {
@@ -61,7 +61,7 @@ pub(crate) fn write_number(bytes: &mut [u8], at: usize, number: u64) -> usize
     ensures text { take result bytes.new ≡ take at bytes.old ++ decimal number }
 {
     let end = at + decimal_len(number);
-    let _ = itoa::write_digits(number, bytes, end);
+    itoa::write_digits(number, bytes, end);
     end
 }
 
