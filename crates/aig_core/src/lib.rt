@@ -8,6 +8,7 @@ mod defines;
 pub mod device;
 #[cfg(test)]
 mod device_tests;
+pub mod digits;
 pub mod fault;
 mod form;
 pub mod laws;

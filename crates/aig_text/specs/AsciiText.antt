@@ -42,8 +42,8 @@ comment_text (Some bytes) = codes "c\n" ++ bytes
 abbrev pub tail_text : Circuit → List ℕ
 tail_text c = flat_map symbol_text c.symbols ++ comment_text c.comment
 
-abbrev pub row_text : Row → List ℕ
-row_text row = numbers_text row.numbers
+abbrev pub line_text : Row → List ℕ
+line_text row = numbers_text row.numbers
 
 unfoldable pub ascii_text : Circuit → List ℕ
-ascii_text c = header_text ascii_word (header_row c) ++ (flat_map row_text (rows_of c) ++ tail_text c)
+ascii_text c = header_text ascii_word (header_row c) ++ (flat_map line_text (rows_of c) ++ tail_text c)

@@ -14,9 +14,9 @@ fn put_line<E: Sink>(errors: &mut E, text: &[u8]) -> Result<(), DeviceFault>
     requires { E.failed errors.old < 2 ^ 64 - 1 }
 {
     let mut block = Block::new();
-    block.put(errors, b"aiger: ")?;
-    block.put(errors, text)?;
-    block.put(errors, b"\n")?;
+    block.put(errors, b"aiger: ");
+    block.put(errors, text);
+    block.put(errors, b"\n");
     block.flush(errors)
 }
 
@@ -28,11 +28,11 @@ fn put_fault<E: Sink>(errors: &mut E, name: &str, fault: &ToolFault) -> Result<(
     // A fault is far shorter than a block, so this always fits.
     let _fits = write!(text, "{fault}");
     let mut block = Block::new();
-    block.put(errors, b"aiger: ")?;
-    block.put(errors, name.as_bytes())?;
-    block.put(errors, b": ")?;
-    block.put(errors, text.as_slice())?;
-    block.put(errors, b"\n")?;
+    block.put(errors, b"aiger: ");
+    block.put(errors, name.as_bytes());
+    block.put(errors, b": ");
+    block.put(errors, text.as_slice());
+    block.put(errors, b"\n");
     block.flush(errors)
 }
 

@@ -9,7 +9,7 @@ use Rattle.aig_text.specs.Lines.{Line, line, lines_of}
 use Rattle.aig_text.specs.Spelling.{is_digit, value_of, IsNumber, AreMoreNumbers, IsLineEnd, EndInNumbers, IsNumberLine, IsHeaderLine}
 use Rattle.aig_text.specs.Rows.{Form, Row, row}
 use Rattle.aig_text.specs.AsciiGrammar.{IsRowLine}
-use Rattle.aig_text.specs.AsciiText.{more_numbers_text, numbers_text, row_text, header_text}
+use Rattle.aig_text.specs.AsciiText.{more_numbers_text, numbers_text, line_text, header_text}
 
 -- bytes that are all decimal digits
 abbrev pub AreDigits : List ℕ → Type 0
@@ -132,11 +132,11 @@ pub record IsFullRow (r : Row) : Type 0 where
 abbrev pub row_lines : List Row → List Line
 row_lines rows = map (λ (r : Row). number_line r.numbers) rows
 
-pub rows_are_first : (rows : List Row) (rest : List ℕ) → AllByRecursion IsFullRow rows → lines_of (flat_map row_text rows ++ rest) ≡ row_lines rows ++ lines_of rest
+pub rows_are_first : (rows : List Row) (rest : List ℕ) → AllByRecursion IsFullRow rows → lines_of (flat_map line_text rows ++ rest) ≡ row_lines rows ++ lines_of rest
 rows_are_first [] rest h = refl
 rows_are_first (r ∷ rows) rest h =
-    ap lines_of (append_assoc (row_text r) (flat_map row_text rows) rest)
-    ∙ row_is_first r.numbers (flat_map row_text rows ++ rest) h.0.small
+    ap lines_of (append_assoc (line_text r) (flat_map line_text rows) rest)
+    ∙ row_is_first r.numbers (flat_map line_text rows ++ rest) h.0.small
     ∙ ap (λ (ls : List Line). number_line r.numbers ∷ ls) (rows_are_first rows rest h.1)
 
 number_line_is_good : (least : ℕ) (ns : List ℕ) → least < length ns → AreSmall ns → IsNumberLine least (number_line ns) ns

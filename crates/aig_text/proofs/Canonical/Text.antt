@@ -10,7 +10,7 @@ use Rattle.aig_text.specs.declared.row.Role.TheVariants as roles
 use Rattle.aig_text.specs.declared.section.Section.TheVariants.{Inputs, Latches, Outputs, Gates}
 use Rattle.aig_text.specs.Lines.{Line, lines_of}
 use Rattle.aig_text.specs.AsciiGrammar.{IsAsciiText}
-use Rattle.aig_text.specs.AsciiText.{ascii_text, row_text, tail_text}
+use Rattle.aig_text.specs.AsciiText.{ascii_text, line_text, tail_text}
 use Rattle.aig_text.specs.Rows.{ascii_word, header_row, rows_of, Role, Form, roles_of, Section, sections, form_of, rows_in, Row, row}
 use Rattle.aig_text.proofs.Grammar.Entries.{MayStand, IsGoodRow, all_mapped}
 use Rattle.aig_text.proofs.Grammar.Sections.{rows_good}
@@ -59,7 +59,7 @@ canonical_lines : (c : Circuit) → IsInForm c → c.symbols ≡ [] → c.commen
 unfolding ascii_text lines_of
 canonical_lines c form s k =
     let tail : tail_text c ≡ [] = no_tail c s k in
-    header_is_first ascii_word (header_row c) (flat_map row_text (rows_of c) ++ tail_text c) (refl, (refl, (refl, tt))) (header_is_small c form.limits)
+    header_is_first ascii_word (header_row c) (flat_map line_text (rows_of c) ++ tail_text c) (refl, (refl, (refl, tt))) (header_is_small c form.limits)
     ∙ ap (λ (ls : List Line). header_line ascii_word (header_row c) ∷ ls)
     (rows_are_first (rows_of c) (tail_text c) (sections_full c form sections) ∙ ap (λ (t : List ℕ). row_lines (rows_of c) ++ lines_of t) tail)
 
