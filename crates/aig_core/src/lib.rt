@@ -4,10 +4,10 @@
 pub mod block;
 pub mod check;
 pub mod circuit;
-mod defines;
 pub mod device;
 #[cfg(test)]
 mod device_tests;
+mod entry;
 pub mod fault;
 mod form;
 pub mod laws;

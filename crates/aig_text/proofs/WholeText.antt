@@ -2,7 +2,6 @@
 use Rattle.std.proofs.Common.{◌≡◌, ℕ, List, true, None, Ok, Err, refl, ap, ◌∙◌, ◌⊎◌, inl, inr}
 use Rattle.aig_core.specs.declared.circuit.Circuit.{Circuit}
 use Rattle.aig_core.specs.declared.fault.CheckFault.{CheckFault}
-use Rattle.aig_core.specs.declared.fault.CheckFault.TheVariants as checks
 use Rattle.aig_core.specs.Fault as structure
 use Rattle.aig_text.specs.declared.fault.Place.TheVariants as places
 use Rattle.aig_text.specs.declared.fault.ReadFault.{ReadFault}
@@ -28,9 +27,8 @@ line_fault limit text e (inr h) = inr (rw h refl)
 -- a structural fault is the first fault
 pub structural_fault : (limit : ℕ) (text : List ℕ) (c : Circuit) (f : CheckFault) → circuit_at limit (lines_of text) ≡ Ok c → structure.IsFault f (structure.first_fault c)
     → IsFirstFault (record { place = places.Whole; kind = kind_of f }) (first_fault limit text)
-structural_fault limit text c checks.OutOfMemory h is = inl refl
-structural_fault limit text c (checks.Redefined v) h is = inr (ap fault_of (reading_of limit text c h ∙ ap (unless_faulty c) is))
-structural_fault limit text c (checks.Undefined l) h is = inr (ap fault_of (reading_of limit text c h ∙ ap (unless_faulty c) is))
+structural_fault limit text c f h (inl out) = inl (ap (λ told. is_want_of_memory (kind_of told)) out)
+structural_fault limit text c f h (inr is) = inr (ap fault_of (reading_of limit text c h ∙ ap (unless_faulty c) is))
 
 -- a text that is the file of a circuit is refused only for want of memory
 pub memory_only : (limit : ℕ) (text : List ℕ) (c : Circuit) (e : ReadFault) → IsFirstFault e (first_fault limit text) → IsAsciiText text limit c → is_want_of_memory e.kind ≡ true
