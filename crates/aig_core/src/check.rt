@@ -5,13 +5,13 @@ ghost use Rattle.aig_core.specs.Wellformed.{IsWellFormed};
 ghost use Rattle.aig_core.specs.Form.{IsInForm};
 ghost use Rattle.aig_core.specs.Fault.{first_fault, IsFault};
 
-use crate::check::sections::find_fault;
+use crate::check::faults::find_fault;
 use crate::circuit::Circuit;
 use crate::fault::CheckFault;
 use std::alloc::Global;
 use std::marker::Model;
 
-mod sections;
+mod faults;
 #[cfg(test)]
 mod tests;
 

@@ -4,11 +4,12 @@
 pub mod block;
 pub mod check;
 pub mod circuit;
-mod defines;
 pub mod device;
 #[cfg(test)]
 mod device_tests;
+
 pub mod digits;
+mod entry;
 pub mod fault;
 mod form;
 pub mod laws;

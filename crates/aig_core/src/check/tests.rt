@@ -3,7 +3,7 @@ ghost use Rattle.std.specs.Prelude.{◌≡◌, ◌≤◌, [], IfOk};
 ghost use Rattle.aig_core.specs.Form.{IsInForm};
 
 use crate::check::check;
-use crate::check::sections::find_fault;
+use crate::check::faults::find_fault;
 use crate::circuit::{Circuit, Gate, Latch};
 use crate::fault::CheckFault;
 use crate::fault::CheckFault::{Redefined, Undefined};

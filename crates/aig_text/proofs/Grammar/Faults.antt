@@ -2,7 +2,6 @@
 use Rattle.std.proofs.Common.{◌≡◌, ℕ, List, None, Some, Ok, Err, refl, ap, ◌∙◌, sym, ◌⊎◌, inl, inr}
 use Rattle.aig_core.specs.declared.circuit.Circuit.{Circuit}
 use Rattle.aig_core.specs.declared.fault.CheckFault.{CheckFault}
-use Rattle.aig_core.specs.declared.fault.CheckFault.TheVariants as checks
 use Rattle.aig_core.specs.Fault as structure
 use Rattle.aig_text.specs.declared.fault.ReadFault.{ReadFault}
 use Rattle.aig_text.specs.Lines.{lines_of}
@@ -27,9 +26,8 @@ line_fault limit text e (inr h) = inr (rw h refl)
 -- a structural fault is the first fault
 pub structural_fault : (limit : ℕ) (text : List ℕ) (c : Circuit) (f : CheckFault) → circuit_at limit (lines_of text) ≡ Ok c → structure.IsFault f (structure.first_fault c)
     → IsFirstFault (whole_fault (kind_of f)) (first_fault limit text)
-structural_fault limit text c checks.OutOfMemory h is = inl refl
-structural_fault limit text c (checks.Redefined v) h is = inr (ap fault_of (reading_of limit text c h ∙ ap (unless_faulty c) is))
-structural_fault limit text c (checks.Undefined l) h is = inr (ap fault_of (reading_of limit text c h ∙ ap (unless_faulty c) is))
+structural_fault limit text c f h (inl out) = inl (ap (λ told. whole_fault (kind_of told)) out)
+structural_fault limit text c f h (inr is) = inr (ap fault_of (reading_of limit text c h ∙ ap (unless_faulty c) is))
 
 -- a text that is the file of a circuit is refused only for want of memory
 pub memory_only : (limit : ℕ) (text : List ℕ) (c : Circuit) (e : ReadFault) → IsFirstFault e (first_fault limit text) → IsAsciiText text limit c → e ≡ want_of_memory
