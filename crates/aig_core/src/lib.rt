@@ -7,7 +7,6 @@ pub mod circuit;
 pub mod device;
 #[cfg(test)]
 mod device_tests;
-
 pub mod digits;
 mod entry;
 pub mod fault;

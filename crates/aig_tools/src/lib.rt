@@ -9,3 +9,4 @@ pub mod request;
 pub mod start;
 #[cfg(test)]
 mod tests;
+mod words;

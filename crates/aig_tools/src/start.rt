@@ -1,13 +1,18 @@
 //! What the program does with its words.
-ghost use Rattle.std.specs.Prelude.{◌≡◌, ◌≢◌, ◌+◌, ◌-◌, ◌^◌, ◌<◌, ◌≤◌, ◌↔◌, ◌⊎◌, IsTrue, map, string_bytes, true, false};
-ghost use Rattle.aig_tools.specs.Outcome.{Converted, ConvertedInPart};
-ghost use Rattle.aig_tools.specs.Words.{ascii_conversion, AsksForAscii};
+ghost use Rattle.std.specs.Prelude.{◌≡◌, ◌-◌, ◌^◌, ◌<◌, ◌≤◌, ◌↔◌, IfErr, IfSome, None, OnOk};
+ghost use Rattle.aig_tools.specs.Blame.{at_fault};
+ghost use Rattle.aig_tools.specs.Messages.{memory_line, Told, ToldFault, words_line};
+ghost use Rattle.aig_tools.specs.Outcome.{Done, NotDone};
+ghost use Rattle.aig_tools.specs.SoFar.{CanDo};
+ghost use Rattle.aig_tools.specs.Words.{request_of, texts};
+ghost use Rattle.aig_tools.specs.declared.fault.ToolFault.{ToolFault as Error};
 
 use crate::conversion::run_toaig;
-use crate::message::{STANDARD, tell_fault, tell_unsupported_words, tell_want_of_memory};
-use crate::request::ToAig;
+use crate::fault::ToolFault;
+use crate::message::{tell_fault, tell_unsupported_words, tell_want_of_memory};
+use crate::request::Request;
+use crate::words::parse;
 use aig_core::device::{Sink, Source};
-use aig_text::limits::Limits;
 use std::alloc::Global;
 use std::rt::Files;
 
@@ -20,28 +25,24 @@ const FAILED: u8 = 1;
 /// Words that ask for nothing that the program knows.
 const NOT_UNDERSTOOD: u8 = 2;
 
-/// Whether the words, the program's name first, are `aigtoaig --ascii`.
-fn asks_for_ascii(words: &[String]) -> bool
-    ensures { IsTrue result ↔ AsksForAscii (map (λ word. string_bytes word) words.now) }
-{
-    match words {
-        [_, tool, option] => tool.as_str() == "aigtoaig" && option.as_str() == "--ascii",
-        _ => false,
-    }
-}
+/// Does what is asked for.
+fn run<R: Source, W: Sink>(
+    alloc: Global,
+    request: &Request,
+    input: &mut R,
+    output: &mut W,
+) -> Result<(), ToolFault>
+    requires input { R.failed input.old < 2 ^ 64 - 1 }
+    requires output { W.failed output.old < 2 ^ 64 - 1 }
+    requires can_do { CanDo request.now }
 
-/// The conversion that `aigtoaig --ascii` asks for.
-fn ascii_request() -> ToAig
-    ensures { result ≡ ascii_conversion }
+    ensures ok { OnOk result (Done request.now
+        R.coming R.failed input.old input.new W.taken W.failed output.old output.new) }
+    ensures err { IfErr result (λ error. NotDone request.now error
+        R.coming R.failed input.old input.new W.taken W.failed output.old output.new) }
 {
-    ToAig {
-        ascii: true,
-        strip: false,
-        keep_map: false,
-        undo_map: false,
-        max_var: Limits::default().max_var,
-        source: None,
-        destination: None,
+    match request {
+        Request::ToAig(request) => run_toaig(alloc, request, input, output),
     }
 }
 
@@ -60,23 +61,25 @@ pub fn start<T: Files, R: Source, W: Sink, E: Sink>(
     requires output { W.failed output.old < 2 ^ 64 - 1 }
     requires errors { E.failed errors.old < 2 ^ 64 - 1 }
 
-    ensures understood { (result ≢ 2) ↔ AsksForAscii (map (λ word. string_bytes word) words.now) }
-    ensures done { result ≡ 0 → Converted ascii_conversion (R.coming input.old) (R.coming input.new) (W.taken output.old) (W.taken output.new) }
-    ensures failed { result ≡ 1 → (output.new ≡ output.old) ⊎ ConvertedInPart ascii_conversion (R.coming input.old) (R.coming input.new) (W.taken output.old) (W.taken output.new) }
-    ensures done_counts { result ≡ 0 → (R.failed input.new ≡ R.failed input.old) × (W.failed output.new ≡ W.failed output.old) }
-    // No device is used after its failure, so at most one of the two failed, and once.
-    ensures failed_counts { result ≡ 1 → R.failed input.new + W.failed output.new ≤ R.failed input.old + W.failed output.old + 1 }
+    ensures status { result ≤ 2 }
+    ensures done { result ≡ 0 → IfSome (request_of (texts words.now)) (λ request. Done request
+        R.coming R.failed input.old input.new W.taken W.failed output.old output.new) }
+    ensures done_quietly { result ≡ 0 → errors.new ≡ errors.old }
+    ensures failed { result ≡ 1 → IfSome (request_of (texts words.now)) (λ request. (error : Error)
+        × NotDone request error R.coming R.failed input.old input.new W.taken W.failed output.old output.new
+        × ToldFault E.taken E.failed errors.old errors.new (at_fault error)) }
+    ensures not_understood { (result ≡ 2) ↔ (request_of (texts words.now) ≡ None) }
+    ensures words_told { result ≡ 2 → Told E.taken E.failed errors.old errors.new words_line }
     ensures untouched { result ≡ 2 → (input.new ≡ input.old) × (output.new ≡ output.old) }
 {
-    if !asks_for_ascii(words) {
+    let Some(request) = parse(words) else {
         tell_unsupported_words(errors);
         return NOT_UNDERSTOOD;
-    }
-    let request = ascii_request();
-    match run_toaig(alloc, &request, input, output) {
+    };
+    match run(alloc, &request, input, output) {
         Ok(()) => DONE,
         Err(fault) => {
-            tell_fault(errors, STANDARD, &fault);
+            tell_fault(errors, &fault);
             FAILED
         }
     }
@@ -85,7 +88,8 @@ pub fn start<T: Files, R: Source, W: Sink, E: Sink>(
 /// Tells that the words are no text, and answers the status.
 pub fn refuse_words<E: Sink>(errors: &mut E) -> u8
     requires { E.failed errors.old < 2 ^ 64 - 1 }
-    ensures { result ≡ 2 }
+    ensures status { result ≡ 2 }
+    ensures told { Told E.taken E.failed errors.old errors.new words_line }
 {
     tell_unsupported_words(errors);
     NOT_UNDERSTOOD
@@ -94,7 +98,8 @@ pub fn refuse_words<E: Sink>(errors: &mut E) -> u8
 /// Tells that memory was refused before the words were there, and answers the status.
 pub fn refuse_for_memory<E: Sink>(errors: &mut E) -> u8
     requires { E.failed errors.old < 2 ^ 64 - 1 }
-    ensures { result ≡ 1 }
+    ensures status { result ≡ 1 }
+    ensures told { Told E.taken E.failed errors.old errors.new memory_line }
 {
     tell_want_of_memory(errors);
     FAILED
