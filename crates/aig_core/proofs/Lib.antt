@@ -1,4 +1,5 @@
 pub mod Sets
+pub mod Members
 pub mod Told
 pub mod InForm
 pub mod DigitCounts

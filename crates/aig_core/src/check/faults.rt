@@ -94,8 +94,7 @@ fn definitions(alloc: Global, circuit: &Circuit) -> Result<VarSet, CheckFault>
     ensures ok { OnOk result (first_repeat set.empty (defined_variables circuit.now) ≡ None) }
     ensures err { IfErr result (λ e. IsFault e (first_redefinition set.empty (defined_variables circuit.now))) }
 {
-    let expected = definition_count(circuit);
-    let mut variables = VarSet::new(alloc, expected)?;
+    let mut variables = VarSet::new(alloc, definition_count(circuit), circuit.max_var)?;
     define_all(&mut variables, &circuit.inputs)?;
     define_all(&mut variables, &circuit.latches)?;
     define_all(&mut variables, &circuit.gates)?;
