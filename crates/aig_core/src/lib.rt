@@ -6,8 +6,6 @@ pub mod check;
 pub mod circuit;
 mod defines;
 pub mod device;
-#[cfg(test)]
-mod device_tests;
 pub mod fault;
 mod form;
 pub mod laws;

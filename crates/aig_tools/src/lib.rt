@@ -7,5 +7,3 @@ pub mod laws;
 mod message;
 pub mod request;
 pub mod start;
-#[cfg(test)]
-mod tests;
