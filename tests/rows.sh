@@ -70,6 +70,7 @@ rows_accepted() {
     same 'a latch with a constant next state' 'aag 2 0 2 0 0\n2 0\n4 1\n'
     same 'a latch that names a later latch' 'aag 2 0 2 0 0\n2 5\n4 3\n'
     same 'any order of variables' 'aag 9 2 1 2 0\n18\n4\n12 19\n5\n13\n'
+    same 'large variables beside a small one' 'aag 2000000 2 1 1 0\n2000000\n2\n4000000 4000001\n3\n'
     same 'an output given twice' 'aag 1 1 0 2 0\n2\n2\n2\n'
 }
 
@@ -84,6 +85,7 @@ rows_lenient() {
     accepts 'a header with spaces and without LF' 'aag 0 0 0 0 0  ' 'aag 0 0 0 0 0\n'
     accepts 'a last line with spaces and without LF' 'aag 1 0 1 0 0\n2 3  ' 'aag 1 0 1 0 0\n2 3\n'
     accepts 'leading zeros in each section' 'aag 003 01 0001 02 00\n06\n002 07\n0002\n000\n' 'aag 3 1 1 2 0\n6\n2 7\n2\n0\n'
+    accepts 'leading zeros, spaces and CR LF in a latch' 'aag 1 0 1 0 0\n002    03  \r\n' 'aag 1 0 1 0 0\n2 3\n'
     accepts 'four hundred leading zeros' "aag 1 1 0 0 0\n$(digits 400 0)2\n" 'aag 1 1 0 0 0\n2\n'
     accepts 'four hundred leading zeros in the header' "aag $(digits 400 0)1 0 0 0 $(digits 400 0)\n" 'aag 1 0 0 0 0\n'
 }
@@ -214,9 +216,16 @@ rows_structure() {
     refuses 'a negated output that is not defined' 'aag 2 1 0 1 0\n2\n5\n' 'literal 5 not defined'
     refuses 'next literals before outputs' 'aag 3 0 1 1 0\n2 5\n6\n' 'literal 5 not defined'
     refuses 'the first of two outputs' 'aag 3 0 0 2 0\n7\n4\n' 'literal 7 not defined'
+    refuses 'the first output that is not defined' 'aag 2 1 0 3 0\n2\n2\n4\n5\n' 'literal 4 not defined'
+    refuses 'a literal not defined after constants' 'aag 4 1 1 3 0\n2\n4 1\n0\n9\n7\n' 'literal 9 not defined'
+    refuses 'a large literal that is not defined' 'aag 2000000 1 0 3 0\n2\n2\n4000001\n9\n' 'literal 4000001 not defined'
     refuses 'an input given twice, and a literal not defined' 'aag 2 2 0 1 0\n2\n2\n4\n' 'variable 1 defined twice'
+    refuses 'an input given twice, and a next literal not defined' 'aag 4 2 1 1 0\n2\n2\n4 9\n6\n' 'variable 1 defined twice'
     refuses 'the first repeat, in the order of the file' 'aag 4 4 0 0 0\n2\n4\n4\n2\n' 'variable 2 defined twice'
     refuses 'an input that is a latch too' 'aag 2 1 1 0 0\n2\n2 0\n' 'variable 1 defined twice'
+    refuses 'the first latch that is an input too' 'aag 4 2 2 0 0\n2\n4\n4 0\n2 0\n' 'variable 2 defined twice'
+    refuses 'a latch given twice before one that is an input too' 'aag 4 1 3 0 0\n2\n6 0\n6 0\n2 0\n' 'variable 3 defined twice'
+    refuses 'a large variable in two sections' 'aag 1000000 2 2 0 0\n2\n2000000\n4 0\n2000000 0\n' 'variable 1000000 defined twice'
     refuses 'a latch given twice' 'aag 7 0 2 0 0\n14 0\n14 1\n' 'variable 7 defined twice'
     refuses 'the largest variable twice' 'aag 2147483647 2 0 0 0\n4294967294\n4294967294\n' 'variable 2147483647 defined twice'
     refuses 'a bad line before a variable defined twice' 'aag 2 2 0 1 0\n2\n2\nx\n' 'line 4: bad line'
@@ -232,6 +241,7 @@ rows_not_yet() {
     refuses 'a comment without LF' 'aag 0 0 0 0 0\nc' 'line 2: not supported yet'
     refuses 'an empty line at the end' 'aag 0 0 0 0 0\n\n' 'line 2: not supported yet'
     refuses 'a further line before a literal not defined' 'aag 2 1 0 1 0\n2\n4\nc\n' 'line 4: not supported yet'
+    refuses 'a further line before a variable defined twice' 'aag 2 2 0 0 0\n2\n2\nc\n' 'line 4: not supported yet'
     refuses 'a bad line before a further line' 'aag 1 1 0 0 0\n3\nc\n' 'line 2: not a variable'
 }
 
@@ -248,4 +258,6 @@ rows_words() {
     unknown 'one word of two' 'aigtoaig --ascii'
     unknown 'help' --help
     unknown 'another subcommand' aigsim --ascii
+    unknown 'another option' aigtoaig --binary
+    unknown 'a word that is no text' aigtoaig $'\377'
 }

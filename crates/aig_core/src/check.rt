@@ -12,8 +12,6 @@ use std::alloc::Global;
 use std::marker::Model;
 
 mod faults;
-#[cfg(test)]
-mod tests;
 
 /// A circuit that is well formed. Only `check` makes one.
 #[derive(Debug, Drop)]

@@ -5,8 +5,6 @@ pub mod block;
 pub mod check;
 pub mod circuit;
 pub mod device;
-#[cfg(test)]
-mod device_tests;
 pub mod digits;
 mod entry;
 pub mod fault;

@@ -67,24 +67,3 @@ impl Lit {
         Lit(self.0 ^ 1)
     }
 }
-
-#[cfg(test)]
-mod tests {
-    use super::*;
-
-    #[test]
-    fn literals_of_the_report(rt: HostRuntime) {
-        for (literal, variable, is_negated, negation) in [
-            (0, 0, false, 1),
-            (1, 0, true, 0),
-            (2, 1, false, 3),
-            (5, 2, true, 4),
-            (u32::MAX, u32::MAX / 2, true, u32::MAX - 1),
-        ] {
-            let literal = Lit(literal);
-            assert!(rt; literal.var() == Var(variable));
-            assert!(rt; literal.is_negated() == is_negated);
-            assert!(rt; literal.negated() == Lit(negation));
-        }
-    }
-}

@@ -10,6 +10,4 @@ pub mod number;
 pub mod reader;
 pub mod row;
 pub mod section;
-#[cfg(test)]
-mod tests;
 pub mod writer;

@@ -7,6 +7,4 @@ pub mod laws;
 mod message;
 pub mod request;
 pub mod start;
-#[cfg(test)]
-mod tests;
 mod words;

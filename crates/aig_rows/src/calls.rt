@@ -1,0 +1,111 @@
+//! Calls that are given what they need.
+use crate::forms::{numbers_of, symbols_of};
+use aig_core::block::Block;
+use aig_core::check::check;
+use aig_core::circuit::Circuit;
+use aig_core::listing::Listing;
+use aig_core::literal::{Lit, Var};
+use aig_core::memory::{MemorySink, MemorySource};
+use aig_core::transfer::read_all;
+use aig_text::reader::read_ascii;
+use aig_text::limits::Limits;
+use aig_text::writer::write_ascii;
+use std::alloc::Global;
+use std::test::Fail;
+
+/// A literal, its variable, its negation, and whether it is negated.
+const LITERALS: &str = "\
+0 0 1 no
+1 0 0 yes
+2 1 3 no
+5 2 4 yes
+4294967295 2147483647 4294967294 yes
+";
+
+/// Texts, and whether they keep to the limit 4.
+const LIMITED: &str = "\
+aag 4 0 0 0 0\n:yes;\
+aag 4 0 0 4 0\n0\n0\n0\n0\n:yes;\
+aag 5 0 0 0 0\n:no;\
+aag 4 0 0 5 0\n0\n0\n0\n0\n0\n:no";
+
+/// The circuit of a text.
+pub fn circuit_of(alloc: Global, text: &str) -> Result<Circuit, Fail> {
+    Ok(read_ascii(alloc, text.as_bytes(), Limits::default())?.into_circuit())
+}
+
+#[test]
+fn literals(rt: HostRuntime) -> Result<(), Fail> {
+    for row in LITERALS.lines() {
+        let (numbers, answer) = row.rsplit_once(' ').ok_or("a row has an answer")?;
+        let numbers = numbers_of(rt.alloc(), numbers)?;
+        let [literal, variable, negation] = *numbers.as_slice() else {
+            return Err("a row has three numbers")?;
+        };
+        assert!(rt; Lit(literal).var() == Var(variable), "{row}");
+        assert!(rt; Lit(literal).negated() == Lit(negation), "{row}");
+        assert!(rt; Lit(literal).is_negated() == (answer == "yes"), "{row}");
+    }
+    Ok(())
+}
+
+#[test]
+fn limits(rt: HostRuntime) -> Result<(), Fail> {
+    for row in LIMITED.split(';') {
+        let (text, answer) = row.split_once(':').ok_or("a row has an answer")?;
+        let read = read_ascii(rt.alloc(), text.as_bytes(), Limits { max_var: 4 });
+        assert!(rt; read.is_ok() == (answer == "yes"), "{row}");
+    }
+    Ok(())
+}
+
+#[test]
+fn listings_are_copied(rt: HostRuntime) -> Result<(), Fail> {
+    let mut listing = Listing::new(rt.alloc());
+    listing.push(Var(7))?;
+    assert!(rt; listing.copy(rt.alloc())?.as_slice() == [Var(7)].as_slice());
+    assert!(rt; listing.clone()?.into_vec().as_slice() == [Var(7)].as_slice());
+    Ok(())
+}
+
+#[test]
+fn circuits_are_copied(rt: HostRuntime) -> Result<(), Fail> {
+    let circuit = circuit_of(rt.alloc(), "aag 2 1 1 1 0\n2\n4 3\n5\n")?;
+    assert!(rt; circuit.clone()? == circuit);
+    Ok(())
+}
+
+/// What the reader does not accept yet is written all the same.
+#[test]
+fn symbols_and_comments_are_written(rt: HostRuntime) -> Result<(), Fail> {
+    let alloc = rt.alloc();
+    let mut circuit = circuit_of(alloc, "aag 7 1 1 2 0\n2\n4 3\n5\n0\n")?;
+    circuit.symbols = symbols_of(alloc, "o1 a b\r,l0 ,i0 c")?;
+    circuit.comment = Some(Listing::from_vec(Vec::from_slice(alloc, b"made by hand\n\n")?));
+    circuit.gates = Listing::new(alloc);
+    assert!(rt; circuit.in_form());
+    let checked = check(alloc, circuit).ok().ok_or("it is well formed")?;
+    let mut sink = MemorySink::new(alloc, 100, 7, 0)?;
+    write_ascii(&checked, &mut sink)?;
+    let wanted = "aag 7 1 1 2 0\n2\n4 3\n5\n0\no1 a b\r\nl0 \ni0 c\nc\nmade by hand\n\n";
+    assert!(rt; sink.taken() == wanted.as_bytes());
+    Ok(())
+}
+
+/// The devices in memory fail at the chosen call alone.
+#[test]
+fn devices_in_memory(rt: HostRuntime) -> Result<(), Fail> {
+    let alloc = rt.alloc();
+    let text = Vec::from_slice(alloc, b"abcdefghij")?;
+    let mut source = MemorySource::new(text, 4, 2);
+    assert!(rt; read_all(alloc, &mut source).is_err());
+    let rest = read_all(alloc, &mut source)?;
+    assert!(rt; rest.as_slice() == b"efghij".as_slice());
+    let mut sink = MemorySink::new(alloc, 100, 4, 2)?;
+    let mut block = Block::new();
+    block.put(&mut sink, &rest);
+    assert!(rt; block.flush(&mut sink).is_err());
+    assert!(rt; sink.taken() == b"efgh".as_slice());
+    assert_eq!(rt; sink.longest(), 6);
+    Ok(())
+}

@@ -1,0 +1,86 @@
+//! Devices that fail, and devices that move few bytes in a call.
+use crate::run::{Behaviour, convert};
+use std::alloc::{AllocError, Global};
+use std::test::Fail;
+
+/// Canonical texts, with a `#` between them.
+const TEXTS: &str = "\
+aag 3 1 1 2 0
+6
+2 7
+2
+0
+#aag 0 0 0 0 0
+#aag 2147483647 1 0 1 0
+4294967294
+4294967295
+";
+
+/// A canonical text of 20,001 bytes, which are more than two blocks.
+fn long_text(alloc: Global) -> Result<String, AllocError> {
+    let mut text = String::from_str(alloc, "aag 0 0 0 9992 0\n")?;
+    for _ in 0..9992 {
+        text.push_str("0\n")?;
+    }
+    Ok(text)
+}
+
+/// The texts and the long one, with a `#` between them.
+fn texts(alloc: Global) -> Result<String, AllocError> {
+    let mut texts = long_text(alloc)?;
+    texts.push_str("#")?;
+    texts.push_str(TEXTS)?;
+    Ok(texts)
+}
+
+/// Each read fails in turn: no byte was written, and no read came after it.
+#[test]
+fn failed_reads(rt: HostRuntime) -> Result<(), Fail> {
+    for text in texts(rt.alloc())?.as_str().split('#') {
+        let mut behaviour = Behaviour::pieces_of(text.len() / 12 + 1);
+        for call in 0..convert(&rt, text.as_bytes(), behaviour)?.reads {
+            behaviour.failing_read = call;
+            let outcome = convert(&rt, text.as_bytes(), behaviour)?;
+            assert!(rt; outcome.told(1, "aiger: -: cannot read\n"), "read {call}");
+            assert_eq!(rt; outcome.reads, call + 1);
+            assert_eq!(rt; outcome.output.calls, 0);
+        }
+    }
+    Ok(())
+}
+
+/// Each write fails in turn: a beginning was written, and no write came after it.
+#[test]
+fn failed_writes(rt: HostRuntime) -> Result<(), Fail> {
+    for text in texts(rt.alloc())?.as_str().split('#') {
+        let mut behaviour = Behaviour::pieces_of(text.len() / 12 + 1);
+        for call in 0..convert(&rt, text.as_bytes(), behaviour)?.output.calls {
+            behaviour.failing_write = call;
+            let outcome = convert(&rt, text.as_bytes(), behaviour)?;
+            assert!(rt; outcome.told(1, "aiger: -: cannot write\n"), "write {call}");
+            assert!(rt;
+                text.as_bytes().starts_with(outcome.output.taken.as_slice()),
+                "write {call}"
+            );
+            assert_eq!(rt; outcome.output.calls, call + 1);
+        }
+    }
+    Ok(())
+}
+
+/// Few bytes in a call change nothing, and no slice is longer than a block.
+#[test]
+fn pieces(rt: HostRuntime) -> Result<(), Fail> {
+    for text in texts(rt.alloc())?.as_str().split('#') {
+        for piece in [1, 7, 30_000] {
+            let outcome = convert(&rt, text.as_bytes(), Behaviour::pieces_of(piece))?;
+            assert!(rt; outcome.told(0, ""), "in pieces of {piece}");
+            assert!(rt;
+                outcome.output.taken.as_slice() == text.as_bytes(),
+                "in pieces of {piece}"
+            );
+            assert!(rt; outcome.output.longest <= 8192, "in pieces of {piece}");
+        }
+    }
+    Ok(())
+}

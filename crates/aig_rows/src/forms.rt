@@ -1,0 +1,131 @@
+//! Which circuits are in form.
+use crate::calls::circuit_of;
+use aig_core::circuit::{Circuit, Gate, Kind, Latch, Symbol};
+use aig_core::listing::Listing;
+use aig_core::literal::{Lit, Var};
+use std::alloc::Global;
+use std::test::Fail;
+
+/// The largest index, the variables of an input, a latch and a gate, then the literals of the latch, an output and the
+/// gate's operands, and whether a circuit of these is in form.
+const SECTIONS: &str = "\
+4 1 2 3 0 1 2 7 yes
+4 1 4 4 9 9 9 9 yes
+1 1 1 1 3 3 3 3 yes
+2147483647 1 2 2147483647 4294967295 0 0 0 yes
+2147483648 1 2 3 0 0 0 0 no
+4 0 2 3 0 0 0 0 no
+4 1 0 3 0 0 0 0 no
+4 1 2 0 0 0 0 0 no
+4 5 2 3 0 0 0 0 no
+4 1 5 3 0 0 0 0 no
+4 1 2 5 0 0 0 0 no
+4 1 2 3 10 0 0 0 no
+4 1 2 3 0 10 0 0 no
+4 1 2 3 0 0 10 0 no
+4 1 2 3 0 0 0 10 no
+";
+
+/// Symbols of a circuit of two inputs, one latch and one output, and whether it is in form with them. One of the names
+/// has a line feed.
+const SYMBOLS: &str = "\
+i0 a,i1 a,l0 a,o0 a:yes;\
+o0 a,l0 b,i1 c,i0 d:yes;\
+i1 a,o0 :yes;\
+i2 a:no;\
+l1 a:no;\
+o1 a:no;\
+i0 a,i0 b:no;\
+i0 a,i1 a,l0 a,l0 b,o0 a:no;\
+o0 a,i0 a,i0 b:no;\
+i0 a,l0 a,i0 b:no;\
+o0 a,i1 a,l0 a,i1 b:no;\
+l0 a,i0 a,o0 a,i1 a,l0 b:no;\
+o0 a\nb:no;\
+i0 a,l0 a,o0 \n:no";
+
+/// The numbers of a row.
+pub fn numbers_of(alloc: Global, row: &str) -> Result<Vec<u32>, Fail> {
+    let mut numbers = Vec::new(alloc);
+    for word in row.split(' ') {
+        numbers.push(word.parse::<u32>()?)?;
+    }
+    Ok(numbers)
+}
+
+/// A circuit of the numbers of a row.
+fn circuit_of_row(alloc: Global, row: &str) -> Result<Circuit, Fail> {
+    let numbers = numbers_of(alloc, row)?;
+    let [max_var, input, latch, gate, next, output, left, right] = *numbers.as_slice() else {
+        return Err("a row has eight numbers")?;
+    };
+    let latch = Latch {
+        var: Var(latch),
+        next: Lit(next),
+    };
+    let gate = Gate {
+        var: Var(gate),
+        left: Lit(left),
+        right: Lit(right),
+    };
+    Ok(Circuit {
+        max_var,
+        inputs: Listing::from_vec(Vec::from_slice(alloc, &[Var(input)])?),
+        latches: Listing::from_vec(Vec::from_slice(alloc, &[latch])?),
+        outputs: Listing::from_vec(Vec::from_slice(alloc, &[Lit(output)])?),
+        gates: Listing::from_vec(Vec::from_slice(alloc, &[gate])?),
+        symbols: Listing::new(alloc),
+        comment: None,
+    })
+}
+
+/// What a symbol with this letter names.
+fn kind_of(letter: u8) -> Kind {
+    match letter {
+        b'i' => Kind::Input,
+        b'l' => Kind::Latch,
+        _ => Kind::Output,
+    }
+}
+
+/// The symbol of a text as `i0 name`.
+fn symbol_of(alloc: Global, text: &[u8]) -> Result<Symbol, Fail> {
+    let [letter, digit, _, name @ ..] = text else {
+        return Err("a symbol has a letter, a digit and a name")?;
+    };
+    Ok(Symbol {
+        kind: kind_of(*letter),
+        position: u32::from(*digit).saturating_sub(48),
+        name: Listing::from_vec(Vec::from_slice(alloc, name)?),
+    })
+}
+
+/// The symbols of a text, with commas between them.
+pub fn symbols_of(alloc: Global, text: &str) -> Result<Listing<Symbol>, Fail> {
+    let mut symbols = Listing::new(alloc);
+    for symbol in text.split(',') {
+        symbols.push(symbol_of(alloc, symbol.as_bytes())?)?;
+    }
+    Ok(symbols)
+}
+
+#[test]
+fn variables_and_literals(rt: HostRuntime) -> Result<(), Fail> {
+    for row in SECTIONS.lines() {
+        let (numbers, answer) = row.rsplit_once(' ').ok_or("a row has an answer")?;
+        let circuit = circuit_of_row(rt.alloc(), numbers)?;
+        assert!(rt; circuit.in_form() == (answer == "yes"), "{row}");
+    }
+    Ok(())
+}
+
+#[test]
+fn symbols(rt: HostRuntime) -> Result<(), Fail> {
+    for row in SYMBOLS.split(';') {
+        let (symbols, answer) = row.split_once(':').ok_or("a row has an answer")?;
+        let mut circuit = circuit_of(rt.alloc(), "aag 3 2 1 1 0\n2\n4\n6 6\n6\n")?;
+        circuit.symbols = symbols_of(rt.alloc(), symbols)?;
+        assert!(rt; circuit.in_form() == (answer == "yes"), "{row}");
+    }
+    Ok(())
+}

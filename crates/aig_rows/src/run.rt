@@ -1,0 +1,86 @@
+//! A run of the program's engine over devices in memory.
+use crate::streams::{NEVER, OnceReader, OnceWriter};
+use aig_core::memory::MemorySink;
+use aig_core::streams::{ReadSource, WriteSink};
+use aig_tools::start::start;
+use std::alloc::{AllocError, Global};
+use std::rt::Files;
+use std::test::Fail;
+
+/// How the devices behave: how many bytes they move in a call, and which call fails, counted from 0.
+#[derive(Clone, Copy)]
+pub struct Behaviour {
+    pub piece: usize,
+    pub failing_read: u64,
+    pub failing_write: u64,
+}
+
+impl Behaviour {
+    /// No call fails.
+    pub fn pieces_of(piece: usize) -> Self {
+        Behaviour {
+            piece,
+            failing_read: NEVER,
+            failing_write: NEVER,
+        }
+    }
+}
+
+/// What came of a run.
+#[derive(Drop)]
+pub struct Outcome {
+    pub status: u8,
+    pub reads: u64,
+    pub output: OnceWriter,
+    errors: MemorySink,
+}
+
+impl Outcome {
+    /// Whether this is the status, and this was told.
+    pub fn told(&self, status: u8, errors: &str) -> bool {
+        self.status == status && self.errors.taken() == errors.as_bytes()
+    }
+}
+
+/// Words that ask for the conversion to ASCII.
+fn words(alloc: Global) -> Result<Vec<String>, AllocError> {
+    let mut words = Vec::new(alloc);
+    for word in "aiger aigtoaig --ascii".split(' ') {
+        words.push(String::from_str(alloc, word)?)?;
+    }
+    Ok(words)
+}
+
+/// Converts a text to ASCII.
+pub fn convert<R: Files + AllocGlobal>(
+    rt: &R,
+    text: &[u8],
+    behaviour: Behaviour,
+) -> Result<Outcome, Fail> {
+    let alloc = rt.alloc();
+    let words = words(alloc)?;
+    let mut reader = OnceReader {
+        left: text,
+        piece: behaviour.piece,
+        failing: behaviour.failing_read,
+        calls: 0,
+    };
+    let mut output = OnceWriter::new(alloc, behaviour.piece, behaviour.failing_write);
+    let mut errors = MemorySink::new(alloc, 100, 100, 0)?;
+    let mut source = ReadSource::new(&mut reader);
+    let mut sink = WriteSink::new(&mut output);
+    let status = start(
+        rt,
+        alloc,
+        words.as_slice(),
+        &mut source,
+        &mut sink,
+        &mut errors,
+    );
+    Ok(Outcome {
+        status,
+        reads: reader.calls,
+        output,
+        errors,
+    })
+}
