@@ -37,6 +37,8 @@ pub fn run_toaig<R: Source, W: Sink>(
         max_var: request.max_var,
     };
     let circuit = read_ascii(alloc, bytes.as_slice(), limits)?;
+    // The text is not needed from here on, and may be larger than the circuit.
+    drop(bytes);
     write_ascii(&circuit, sink)?;
     Ok(())
 }
