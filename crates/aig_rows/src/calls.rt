@@ -1,15 +1,7 @@
 //! Calls that are given what they need.
 use crate::forms::{numbers_of, symbols_of};
-use aig_core::block::Block;
-use aig_core::check::check;
-use aig_core::circuit::Circuit;
-use aig_core::listing::Listing;
-use aig_core::literal::{Lit, Var};
-use aig_core::memory::{MemorySink, MemorySource};
-use aig_core::transfer::read_all;
-use aig_text::reader::read_ascii;
-use aig_text::limits::Limits;
-use aig_text::writer::write_ascii;
+use aig_core::{Block, Circuit, Listing, Lit, MemorySink, MemorySource, Var, check, read_all};
+use aig_text::{Limits, read_ascii, write_ascii};
 use std::alloc::Global;
 use std::test::Fail;
 

@@ -2,7 +2,7 @@
 ghost use Rattle.std.specs.Prelude.{◌≡◌};
 ghost use Rattle.aig_text.specs.Reading.{want_of_memory};
 
-use aig_core::literal::{Lit, Var};
+use aig_core::{Lit, Var};
 use std::alloc::{AllocError, AllocFailed};
 use std::fmt;
 use thiserror::Error;

@@ -10,10 +10,10 @@ use crate::fault::ReadKind;
 use crate::limits::Limits;
 use crate::line::Line;
 use crate::number::{any_above, more_numbers};
-use aig_core::circuit::LARGEST;
+use aig_core::LARGEST;
 
 /// The first word of an ASCII file.
-pub const ASCII_WORD: &[u8] = b"aag";
+pub(crate) const ASCII_WORD: &[u8] = b"aag";
 
 /// What a header tells: the largest variable index and the counts.
 #[derive(Clone, Copy, Debug, PartialEq, Eq)]
@@ -67,7 +67,7 @@ fn within(limit: u32, numbers: [u64; 5]) -> Result<Header, ReadKind>
 
 /// The header that a line tells, which begins with this word.
 #[tactic(auto, unfolding(crate::specs::Reading::header_of))]
-pub fn read_header(word: &[u8], line: Line, limits: Limits) -> Result<Header, ReadKind>
+pub(crate) fn read_header(word: &[u8], line: Line, limits: Limits) -> Result<Header, ReadKind>
     ensures value { result ≡ header_of word.now limits.max_var (line_of line.entry.text.now line.entry.ended) }
     ensures limited { IfOk result (λ h. h.max_var ≤ largest_index) }
 {

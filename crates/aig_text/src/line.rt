@@ -6,7 +6,7 @@ use memchr::memchr;
 
 /// A line without its line feed.
 #[derive(Clone, Copy)]
-pub struct Line<'a> {
+pub(crate) struct Line<'a> {
     pub text: &'a [u8],
     /// Whether a line feed follows; only the last line of a text may lack it.
     pub ended: bool,
@@ -14,7 +14,7 @@ pub struct Line<'a> {
 
 /// A place in a text where a line begins.
 #[derive(Clone, Copy)]
-pub struct Cursor<'a> {
+pub(crate) struct Cursor<'a> {
     /// What is left of the text.
     pub rest: &'a [u8],
     /// The number of the line that begins here, counted from 1.
@@ -37,7 +37,7 @@ impl<'a> Cursor<'a> {
 }
 
 /// The first line, and what follows it; `None` where no line is left.
-pub fn split_line(bytes: &[u8]) -> Option<(Line, &[u8])>
+pub(crate) fn split_line(bytes: &[u8]) -> Option<(Line, &[u8])>
     ensures lines { MatchOption result (lines_of bytes.now ≡ [])
         (λ x. lines_of bytes.now ≡ line x.0.text.now x.0.ended ∷ lines_of x.1.now) }
     ensures shorter { MatchOption result (length bytes.now ≡ 0) (λ x. length x.1.now < length bytes.now) }

@@ -97,7 +97,11 @@ fn may_end(bytes: &[u8], ended: bool, due: usize) -> bool
 /// What is kept of the numbers that stand there, each after one or more spaces, where the line ends after them. There are
 /// at least `least` of them; those that are left out are 0.
 #[tactic(auto, unfolding(crate::specs::Scanning::more_numbers_at))]
-pub fn more_numbers<const N: usize>(text: &[u8], ended: bool, least: usize) -> Option<[u64; N]>
+pub(crate) fn more_numbers<const N: usize>(
+    text: &[u8],
+    ended: bool,
+    least: usize,
+) -> Option<[u64; N]>
     ensures { Gives (λ x. x) result (kept_numbers (more_numbers_at ended least N text.now)) }
 {
     let mut numbers = [0; N];
@@ -121,7 +125,7 @@ pub fn more_numbers<const N: usize>(text: &[u8], ended: bool, least: usize) -> O
 /// What is kept of a number and of others, where the line ends after them. There are at least `least` others; those that
 /// are left out are 0.
 #[tactic(auto, unfolding(crate::specs::Scanning::numbers_at))]
-pub fn numbers<const N: usize>(line: Line, least: usize) -> Option<(u64, [u64; N])>
+pub(crate) fn numbers<const N: usize>(line: Line, least: usize) -> Option<(u64, [u64; N])>
     ensures { Gives (λ x. x.0 ∷ x.1) result (kept_numbers (numbers_at line.entry.ended least N line.entry.text.now)) }
 {
     let (first, rest) = number(line.text)?;
@@ -131,7 +135,7 @@ pub fn numbers<const N: usize>(line: Line, least: usize) -> Option<(u64, [u64; N
 
 /// A number of at most 18 digits at the front, and what follows it.
 #[inline(always)]
-pub fn plain_number(bytes: &[u8]) -> Option<(u64, &[u8])>
+pub(crate) fn plain_number(bytes: &[u8]) -> Option<(u64, &[u8])>
     ensures { IfSome result (λ x. BeginsWithNumber bytes.now x.0 x.1.now) }
 {
     let (end, value) = read_digits(bytes, 0, 0);
@@ -155,7 +159,7 @@ fn after_byte(bytes: &[u8], byte: u8) -> Option<&[u8]>
 
 /// Numbers at the front, each after one space, the line feed behind them, and what follows it.
 #[inline(always)]
-pub fn plain_numbers<const N: usize>(bytes: &[u8]) -> Option<([u64; N], &[u8])>
+pub(crate) fn plain_numbers<const N: usize>(bytes: &[u8]) -> Option<([u64; N], &[u8])>
     ensures are { IfSome result (λ x. EndsPlainly bytes.now x.0 x.1.now) }
     ensures long { IfSome result (λ x. length x.0 ≡ N) }
 {
@@ -171,7 +175,7 @@ pub fn plain_numbers<const N: usize>(bytes: &[u8]) -> Option<([u64; N], &[u8])>
 }
 
 /// Whether one of the numbers is above the limit.
-pub fn any_above(limit: u64, numbers: &[u64]) -> bool
+pub(crate) fn any_above(limit: u64, numbers: &[u64]) -> bool
     ensures { result ≡ list_any (λ n. nat_lt limit n) numbers.now }
 {
     numbers.iter().any(|number| *number > limit)

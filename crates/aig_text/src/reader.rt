@@ -13,10 +13,7 @@ use crate::header::{ASCII_WORD, Header, read_header};
 use crate::limits::Limits;
 use crate::line::{Cursor, split_line};
 use crate::section::read_sections;
-use aig_core::check::{Checked, check};
-use aig_core::circuit::Circuit;
-use aig_core::fault::CheckFault;
-use aig_core::listing::Listing;
+use aig_core::{CheckFault, Checked, Circuit, Listing, check};
 use std::alloc::Global;
 
 /// What the header line tells. Goes behind that line, unless it is not right. Gates are not read yet.

@@ -9,12 +9,11 @@ ghost use Rattle.aig_text.specs.Reading.{misdefines, exceeds, any_number, fault_
 use crate::fault::{Place, ReadFault, ReadKind};
 use crate::line::{Cursor, Line, split_line};
 use crate::number::{numbers, plain_number, plain_numbers};
-use aig_core::circuit::{Gate, Latch};
-use aig_core::literal::{Lit, Var};
+use aig_core::{Gate, Latch, Lit, Var};
 
 /// What a number of a row is.
 #[derive(Clone, Copy)]
-pub enum Role {
+pub(crate) enum Role {
     /// The literal of a variable that is defined here: even, and no constant.
     Definition,
     /// A literal.
@@ -22,7 +21,7 @@ pub enum Role {
 }
 
 /// What one numbered line tells.
-pub trait Row: Copy {
+pub(crate) trait Row: Copy {
     /// What the line has to hold.
     ghost form: { Form };
 

@@ -10,12 +10,11 @@ use crate::fault::ReadFault;
 use crate::header::Header;
 use crate::line::Cursor;
 use crate::row::Row;
-use aig_core::circuit::Circuit;
-use aig_core::listing::Listing;
+use aig_core::{Circuit, Listing};
 
 /// What a file lists.
 #[derive(Clone, Copy)]
-pub enum Section {
+pub(crate) enum Section {
     Inputs,
     Latches,
     Outputs,
@@ -69,7 +68,7 @@ fn read_section(
 }
 
 /// Adds what the lines of all sections tell, and goes behind them.
-pub fn read_sections(
+pub(crate) fn read_sections(
     header: &Header,
     circuit: &mut Circuit,
     at: &mut Cursor,

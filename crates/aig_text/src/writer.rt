@@ -13,13 +13,10 @@ ghost use Rattle.aig_text.specs.declared.writer.TheConstants.{FEW};
 ghost use Rattle.aig_text.specs.declared.writer.WriteFault.TheVariants.{Device};
 
 use crate::header::ASCII_WORD;
-use aig_core::block::Block;
-use aig_core::check::Checked;
-use aig_core::circuit::{Circuit, Gate, Kind, Latch, Symbol};
-use aig_core::device::{DeviceFault, Sink};
-use aig_core::digits::MOST_DIGITS;
-use aig_core::listing::Listing;
-use aig_core::literal::{Lit, Var};
+use aig_core::{
+    Block, Checked, Circuit, DeviceFault, Gate, Kind, Latch, Listing, Lit, MOST_DIGITS, Sink,
+    Symbol, Var,
+};
 use thiserror::Error;
 
 /// Why a text was not written whole.

@@ -4,11 +4,8 @@ ghost use Rattle.aig_tools.specs.Outcome.{Converted, NotConverted};
 
 use crate::fault::ToolFault;
 use crate::request::ToAig;
-use aig_core::device::{Sink, Source};
-use aig_core::transfer::read_all;
-use aig_text::reader::read_ascii;
-use aig_text::limits::Limits;
-use aig_text::writer::write_ascii;
+use aig_core::{Sink, Source, read_all};
+use aig_text::{Limits, read_ascii, write_ascii};
 use std::alloc::Global;
 
 /// Reads the source to its end, and writes what the request asks for. Nothing is sent before the whole source was

@@ -4,9 +4,8 @@ ghost use Rattle.aig_tools.specs.declared.fault.ToolFault.TheVariants.{OutOfMemo
 ghost use Rattle.aig_tools.specs.Blame.{at_fault, Memory};
 ghost use Rattle.aig_tools.specs.Reported.{tool_fault_of};
 
-use aig_core::transfer::ReadError;
-use aig_text::fault::{ReadFault, ReadKind};
-use aig_text::writer::WriteFault;
+use aig_core::ReadError;
+use aig_text::{ReadFault, ReadKind, WriteFault};
 use thiserror::Error;
 
 pub(crate) const CANNOT_READ: &str = "cannot read";

@@ -5,8 +5,7 @@ ghost use Rattle.aig_tools.specs.Blame.{at_fault};
 ghost use Rattle.aig_tools.specs.Messages.{line_of, memory_line, Told, ToldFault, words_line};
 
 use crate::fault::{CANNOT_READ, CANNOT_WRITE, OUT_OF_MEMORY, ToolFault};
-use aig_core::block::Block;
-use aig_core::device::Sink;
+use aig_core::{Block, Sink};
 use std::fmt::Write;
 
 /// What a line about a standard stream begins with, after the program's name.

@@ -4,7 +4,7 @@ ghost use Rattle.aig_tools.specs.SoFar.{CanDo};
 ghost use Rattle.aig_tools.specs.Words.{ascii_conversion, conversion_of, request_of, texts};
 
 use crate::request::{Request, ToAig};
-use aig_text::limits::Limits;
+use aig_text::Limits;
 
 /// The conversion that `aigtoaig --ascii` asks for.
 fn ascii_request() -> ToAig

@@ -1,8 +1,8 @@
 //! The program: the words and the streams of the process, and the status that `start` answers.
 #![tactic(auto)]
 
-use aig_core::streams::{ReadSource, WriteSink};
-use aig_tools::start::{refuse_for_memory, refuse_words, start};
+use aig_core::{ReadSource, WriteSink};
+use aig_tools::{refuse_for_memory, refuse_words, start};
 use std::alloc::Global;
 use std::env::FillError;
 use std::process::ExitCode;

@@ -12,7 +12,7 @@ use crate::fault::ToolFault;
 use crate::message::{tell_fault, tell_unsupported_words, tell_want_of_memory};
 use crate::request::Request;
 use crate::words::parse;
-use aig_core::device::{Sink, Source};
+use aig_core::{Sink, Source};
 use std::alloc::Global;
 use std::rt::Files;
 

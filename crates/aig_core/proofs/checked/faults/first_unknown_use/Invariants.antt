@@ -1,7 +1,7 @@
 use Rattle.std.proofs.Common.{◌≡◌, drop}
 use Rattle.std.specs.List.{flat_map}
 use Rattle.aig_core.specs.Fault.{first_unknown}
-use Rattle.aig_core.proofs.check.faults.first_unknown_use.Given as goal
+use Rattle.aig_core.proofs.checked.faults.first_unknown_use.Given as goal
 
 abbrev pub invariant-loop-entry : goal.invariant-loop-entry
 invariant-loop-entry g l =

@@ -2,7 +2,7 @@ use Rattle.std.proofs.Common.{◌≡◌, refl}
 use Rattle.aig_tools.specs.declared.request.Request.{Request}
 use Rattle.aig_tools.specs.declared.request.ToAig.{ToAig}
 use Rattle.aig_tools.specs.declared.request.Request.TheVariants as requests
-use Rattle.aig_tools.proofs.start.run.Goals as goal
+use Rattle.aig_tools.proofs.program.run.Goals as goal
 
 -- so far every request is a conversion
 abbrev conversion_in : Request → ToAig

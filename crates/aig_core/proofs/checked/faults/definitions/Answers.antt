@@ -1,7 +1,7 @@
 use Rattle.std.proofs.Common.{◌∙◌}
 use Rattle.std.proofs.lemmas.Result.{err_from_is_err_and}
 use Rattle.aig_core.proofs.Sections.{told_of_inputs, told_of_latches, told_of_gates, gates_repeat, all_seen}
-use Rattle.aig_core.proofs.check.faults.definitions.Goals as goal
+use Rattle.aig_core.proofs.checked.faults.definitions.Goals as goal
 
 pub returns-in_err-define_all-clause-err : goal.returns-in_err-define_all-clause-err
 returns-in_err-define_all-clause-err c =

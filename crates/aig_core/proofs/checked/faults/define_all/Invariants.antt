@@ -1,7 +1,7 @@
 use Rattle.std.proofs.Common.{◌≡◌, drop}
 use Rattle.std.specs.List.{flat_map}
 use Rattle.aig_core.specs.Fault.{first_repeat, with_all}
-use Rattle.aig_core.proofs.check.faults.define_all.Given as goal
+use Rattle.aig_core.proofs.checked.faults.define_all.Given as goal
 
 abbrev pub invariant-loop-entry : goal.invariant-loop-entry
 invariant-loop-entry g l =

@@ -5,7 +5,7 @@ ghost use Rattle.aig_core.specs.Wellformed.{IsWellFormed};
 ghost use Rattle.aig_core.specs.Form.{IsInForm};
 ghost use Rattle.aig_core.specs.Fault.{first_fault, IsFault};
 
-use crate::check::faults::find_fault;
+use crate::checked::faults::find_fault;
 use crate::circuit::Circuit;
 use crate::fault::CheckFault;
 use std::alloc::Global;
