@@ -10,7 +10,7 @@ use Rattle.aig_core.specs.declared.circuit.Circuit.{Circuit}
 use Rattle.aig_core.specs.Wellformed.{IsAmong, IsWithinLimits, IsVariableUpTo, HasGoodSymbols, NameTheSame, NameApart, operands}
 use Rattle.aig_core.specs.Form.{IsInForm, IsLiteralUpTo, AreInRange, HasEntriesInRange}
 use Rattle.aig_core.proofs.Sections.{defined_inputs, defined_latches, defined_gates, used_nexts, used_outputs, defined_is, used_is}
-use Rattle.aig_core.specs.SymbolOrder.{start_of, place_of, IsRisingFrom}
+use Rattle.aig_core.specs.Parts.SymbolOrder.{start_of, place_of, IsRisingFrom}
 
 -- a fact on each item of two lists, and on each of the two joined
 module _ {X : Type 0} (P : X → Type 0) where

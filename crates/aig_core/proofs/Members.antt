@@ -19,7 +19,7 @@ use Rattle.std.specs.Cmp.{eq_by_cmp_equiv, unsigned_tied}
 use Rattle.std.proofs.lemmas.Cmp.{nat_cmp_total}
 use Rattle.std.specs.BTreeSet.{BTreeSet, contains, Updates}
 use Rattle.aig_core.specs.declared.var_set.bucket.TheConstants.{ROOM}
-use Rattle.aig_core.specs.Marks.{is_marked, bucket_of, bucket_at, is_listed, IsSpread, is_kept, set_of}
+use Rattle.aig_core.specs.Parts.Marks.{is_marked, bucket_of, bucket_at, is_listed, IsSpread, is_kept, set_of}
 
 -- a word with one more bit
 abbrev with_bit : ℕ → ℕ → ℕ

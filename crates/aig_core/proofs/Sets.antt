@@ -10,7 +10,7 @@ use Rattle.std.proofs.lemmas.Bool.Decides.{eqb_tells}
 use Rattle.std.proofs.lemmas.Cmp.{nat_cmp_total}
 use Rattle.std.specs.FinSet as set
 use Rattle.std.specs.FinSet.{FinSet, same_set, contains-from_list_nat, contains-insert, contains-empty, nat_cmp-IsAntisymmetric}
-use Rattle.aig_core.specs.Marks.{passing, set_of}
+use Rattle.aig_core.specs.Parts.Marks.{passing, set_of}
 
 past : (test : ℕ → Bool) (n q : ℕ) → n ≤ q → list_any (λ y. eqb y q) (passing test n) ≡ false
 unfolding passing

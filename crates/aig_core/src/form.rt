@@ -4,7 +4,7 @@ ghost use Rattle.std.specs.List.{All};
 ghost use Rattle.aig_core.specs.Wellformed.{IsWithinLimits, IsVariableUpTo, count_of};
 ghost use Rattle.aig_core.specs.Wellformed.{HasGoodSymbols, NameApart, NameTheSame, IsAmong};
 ghost use Rattle.aig_core.specs.Form.{IsInForm, HasEntriesInRange, AreInRange, IsLiteralUpTo};
-ghost use Rattle.aig_core.specs.SymbolOrder.{place_of, IsRisingFrom};
+ghost use Rattle.aig_core.specs.Parts.SymbolOrder.{place_of, IsRisingFrom};
 
 use crate::circuit::{Circuit, Kind, LARGEST, Symbol};
 use crate::entry::Entry;

@@ -3,7 +3,7 @@ ghost use Rattle.std.specs.Prelude.{◌≡◌, IfOk, OnOk, OnErr, not};
 ghost use Rattle.std.specs.Ordering.{nat_cmp};
 ghost use Rattle.std.specs.FinSet as set;
 ghost use Rattle.std.specs.Coded.{coded_ℕ};
-ghost use Rattle.aig_core.specs.Marks.{set_of, is_kept};
+ghost use Rattle.aig_core.specs.Parts.Marks.{set_of, is_kept};
 
 use crate::literal::Var;
 use crate::var_set::bits::Bits;

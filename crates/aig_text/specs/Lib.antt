@@ -6,5 +6,4 @@ pub mod AsciiText
 pub mod Scanning
 pub mod Reading
 pub mod Laws
-pub mod Kept
-pub mod Plain
+pub mod Parts

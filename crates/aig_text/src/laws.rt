@@ -1,5 +1,6 @@
 //! Laws: facts about the definitions alone, each the contract of a function with an empty body.
-ghost use Rattle.aig_text.specs.Laws.{LinesAreThePieces, ReadExactly, FaultyOrAccepted, TextsAreUnambiguous, CanonicalTextIsAccepted};
+ghost use Rattle.aig_text.specs.Laws.{LinesAreThePieces, ReadExactly, FaultyOrAccepted, TextsAreUnambiguous};
+ghost use Rattle.aig_text.specs.Laws.{CanonicalTextIsAccepted};
 
 /// The lines of a text, joined, are the text; no line holds a line feed, and only the last may lack its own.
 pub fn lines_are_the_pieces()

@@ -3,8 +3,8 @@ ghost use Rattle.std.specs.Prelude.{◌≡◌, ◌==◌, ◌&&◌, ◌+◌, ◌-
 ghost use Rattle.std.specs.List.{list_any, prefix_len};
 ghost use Rattle.aig_text.specs.Spelling.{is_digit, is_space, value_of};
 ghost use Rattle.aig_text.specs.Scanning.{number_at, after_gap, is_line_end, more_numbers_at, numbers_at};
-ghost use Rattle.aig_text.specs.Plain.{BeginsWithNumber, EndsPlainly};
-ghost use Rattle.aig_text.specs.Kept.{kept, kept_numbers, kept_first, Gives};
+ghost use Rattle.aig_text.specs.Parts.Plain.{BeginsWithNumber, EndsPlainly};
+ghost use Rattle.aig_text.specs.Parts.Kept.{kept, kept_numbers, kept_first, Gives};
 
 use crate::line::Line;
 use core::dec2flt::read_digits;
@@ -94,8 +94,8 @@ fn may_end(bytes: &[u8], ended: bool, due: usize) -> bool
     due == 0 && ends_line(bytes, ended)
 }
 
-/// What is kept of the numbers that stand there, each after one or more spaces, where the line ends after them. There are
-/// at least `least` of them; those that are left out are 0.
+/// What is kept of the numbers that stand there, each after one or more spaces, where the line ends after them. There
+/// are at least `least` of them; those that are left out are 0.
 #[tactic(auto, unfolding(crate::specs::Scanning::more_numbers_at))]
 pub(crate) fn more_numbers<const N: usize>(
     text: &[u8],
@@ -122,8 +122,8 @@ pub(crate) fn more_numbers<const N: usize>(
     }
 }
 
-/// What is kept of a number and of others, where the line ends after them. There are at least `least` others; those that
-/// are left out are 0.
+/// What is kept of a number and of others, where the line ends after them. There are at least `least` others; those
+/// that are left out are 0.
 #[tactic(auto, unfolding(crate::specs::Scanning::numbers_at))]
 pub(crate) fn numbers<const N: usize>(line: Line, least: usize) -> Option<(u64, [u64; N])>
     ensures { Gives (λ x. x.0 ∷ x.1) result (kept_numbers (numbers_at line.entry.ended least N line.entry.text.now)) }

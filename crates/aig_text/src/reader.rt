@@ -4,8 +4,9 @@ ghost use Rattle.aig_core.specs.declared.circuit.Circuit.{Circuit as CircuitReco
 ghost use Rattle.aig_core.specs.declared.circuit.TheConstants.{LARGEST as largest_index};
 ghost use Rattle.aig_text.specs.Lines.{lines_of};
 ghost use Rattle.aig_text.specs.Rows.{ascii_word};
-ghost use Rattle.aig_text.specs.Kept.{GivesOrFails, GivesOrMemory};
-ghost use Rattle.aig_text.specs.Reading.{IsFirstFault, first_fault, want_of_memory, whole_fault, kind_of, tail_not_yet, header_at, circuit_at, empty_circuit};
+ghost use Rattle.aig_text.specs.Parts.Kept.{GivesOrFails, GivesOrMemory};
+ghost use Rattle.aig_text.specs.Reading.{IsFirstFault, first_fault, want_of_memory, whole_fault, kind_of, tail_not_yet};
+ghost use Rattle.aig_text.specs.Reading.{header_at, circuit_at, empty_circuit};
 ghost use Rattle.aig_text.specs.AsciiGrammar.{IsAsciiText};
 
 use crate::fault::{Place, ReadFault, ReadKind};

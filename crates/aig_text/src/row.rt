@@ -2,8 +2,9 @@
 ghost use Rattle.std.specs.Prelude.{◌≡◌, ◌+◌, ◌*◌, ◌<◌, ◌≤◌, ℕ, List, ◌∷◌, Ok, IfOk, IfSome, length, slice_index};
 ghost use Rattle.aig_core.specs.declared.circuit.TheConstants.{LARGEST as largest_index};
 ghost use Rattle.aig_text.specs.Lines.{line as line_of, lines_of};
-ghost use Rattle.aig_text.specs.Rows.{Form, input_form, latch_form, output_form, gate_form, input_of, latch_of, output_of, gate_of};
-ghost use Rattle.aig_text.specs.Kept.{GivesOrFails, row_told};
+ghost use Rattle.aig_text.specs.Rows.{Form, input_form, latch_form, output_form, gate_form, input_of, latch_of};
+ghost use Rattle.aig_text.specs.Rows.{output_of, gate_of};
+ghost use Rattle.aig_text.specs.Parts.Kept.{GivesOrFails, row_told};
 ghost use Rattle.aig_text.specs.Reading.{misdefines, exceeds, any_number, fault_in_row, row_of, row_at};
 
 use crate::fault::{Place, ReadFault, ReadKind};

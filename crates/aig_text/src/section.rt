@@ -3,7 +3,7 @@ ghost use Rattle.std.specs.Prelude.{◌≡◌, ◌≤◌};
 ghost use Rattle.aig_core.specs.declared.circuit.TheConstants.{LARGEST as largest_index};
 ghost use Rattle.aig_text.specs.Lines.{lines_of};
 ghost use Rattle.aig_text.specs.Rows.{sections};
-ghost use Rattle.aig_text.specs.Kept.{GivesOrMemory, rows_told};
+ghost use Rattle.aig_text.specs.Parts.Kept.{GivesOrMemory, rows_told};
 ghost use Rattle.aig_text.specs.Reading.{rows_at, section_at, sections_at};
 
 use crate::fault::ReadFault;

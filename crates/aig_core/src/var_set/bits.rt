@@ -1,6 +1,6 @@
 //! Tables of bits.
 ghost use Rattle.std.specs.Prelude.{◌≡◌, ◌==◌, ◌||◌, ◌↔◌, ◌*◌, ◌/◌, ◌<◌, ℕ, length, not, false, IfOk, IsTrue};
-ghost use Rattle.aig_core.specs.Marks.{is_marked};
+ghost use Rattle.aig_core.specs.Parts.Marks.{is_marked};
 
 use std::alloc::{AllocError, Global};
 use std::marker::Model;

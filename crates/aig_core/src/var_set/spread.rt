@@ -3,7 +3,7 @@ ghost use Rattle.std.specs.Prelude.{◌≡◌, ◌==◌, ◌||◌, ◌^◌, ◌<
 ghost use Rattle.std.specs.Ordering.{nat_cmp};
 ghost use Rattle.std.specs.FinSet as set;
 ghost use Rattle.std.specs.Coded.{coded_ℕ};
-ghost use Rattle.aig_core.specs.Marks.{bucket_of, set_of, is_listed, IsSpread};
+ghost use Rattle.aig_core.specs.Parts.Marks.{bucket_of, set_of, is_listed, IsSpread};
 
 use crate::literal::Var;
 use crate::var_set::bucket::Bucket;

@@ -12,7 +12,7 @@ use Rattle.aig_text.specs.Lines.{Line, line}
 use Rattle.aig_text.specs.Scanning.{more_numbers_at, numbers_at}
 use Rattle.aig_text.specs.Rows.{Role, Form, roles_of}
 use Rattle.aig_text.specs.Reading.{header_within, header_of, ends_word, is_no_variable, misdefines, exceeds, any_number, fault_in_row, unless_wrong, checked_row, row_of}
-use Rattle.aig_text.specs.Kept.{kept, kept_numbers}
+use Rattle.aig_text.specs.Parts.Kept.{kept, kept_numbers}
 use Rattle.aig_text.proofs.Grammar.NumberLines.{row_reads}
 use Rattle.aig_text.proofs.Kept.Numbers.{kept_small, kept_large}
 

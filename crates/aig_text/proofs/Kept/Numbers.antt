@@ -7,7 +7,7 @@ use Rattle.std.proofs.lemmas.List.{take_all, take_more_set, take-append-drop, dr
 use Rattle.std.proofs.Math.ListN.{set, length-set}
 use Rattle.aig_text.specs.Spelling.{is_digit, value_of, zeros}
 use Rattle.aig_text.specs.Scanning.{after_gap, number_at, more_numbers_at, is_line_end, ◌>>=◌}
-use Rattle.aig_text.specs.Kept.{kept, kept_numbers, kept_first}
+use Rattle.aig_text.specs.Parts.Kept.{kept, kept_numbers, kept_first}
 
 pub kept_small : (n : ℕ) → n < 2 ^ 33 → kept n ≡ n
 kept_small n h = rw (lt-ltb n (2 ^ 33) h) refl

@@ -17,7 +17,7 @@ use Rattle.aig_text.proofs.Kept.Checks.{right_parts}
 use Rattle.aig_text.proofs.Grammar.Entries.{IsGoodRow}
 use Rattle.aig_text.proofs.Grammar.Rows.{all_may_stand, row_is_told}
 use Rattle.aig_text.specs.Spelling.{is_digit, value_of, IsNumber, AreMoreNumbers}
-use Rattle.aig_text.specs.Plain.{HasNoLineFeed, BeginsWithNumber, BeginsWithMore, EndsPlainly}
+use Rattle.aig_text.specs.Parts.Plain.{HasNoLineFeed, BeginsWithNumber, BeginsWithMore, EndsPlainly}
 use Rattle.aig_text.proofs.Grammar.Spellings.{front_passes}
 
 -- bytes that are all decimal digits

@@ -1,5 +1,5 @@
 use Rattle.aig_text.specs.Scanning.{more_numbers_at}
-use Rattle.aig_text.specs.Kept.{kept_numbers}
+use Rattle.aig_text.specs.Parts.Kept.{kept_numbers}
 use Rattle.aig_text.proofs.Kept.Numbers.{AreStored}
 use Rattle.aig_text.proofs.number.more_numbers.Given as goal
 

@@ -1,5 +1,5 @@
 use Rattle.std.proofs.Common.{◌≡◌, take, length}
-use Rattle.aig_text.specs.Plain.{BeginsWithMore}
+use Rattle.aig_text.specs.Parts.Plain.{BeginsWithMore}
 use Rattle.aig_text.proofs.number.plain_numbers.Given as goal
 
 abbrev pub invariant-loop-at : goal.invariant-loop-at

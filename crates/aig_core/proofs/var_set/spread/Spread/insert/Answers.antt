@@ -1,7 +1,7 @@
 use Rattle.std.proofs.Common.{◌≡◌, ◌<◌, ◌≤◌, length, ap, ap₂, ◌∙◌, rules, arith}
 use Rattle.std.proofs.lemmas.Grind.{common_steps}
 use Rattle.aig_core.specs.declared.var_set.bucket.TheConstants.{ROOM}
-use Rattle.aig_core.specs.Marks.{bucket_at, bucket_of}
+use Rattle.aig_core.specs.Parts.Marks.{bucket_at, bucket_of}
 use Rattle.aig_core.proofs.Sets.{grown, set_has, was_there}
 use Rattle.aig_core.proofs.Members.{full_bucket, listed_in_tree, spread_in_tree, listed_in_bucket}
 use Rattle.aig_core.proofs.var_set.spread.Spread.insert.Goals as goal
