@@ -16,7 +16,7 @@ mod faults;
 mod tests;
 
 /// A circuit that is well formed. Only `check` makes one.
-#[derive(Debug, Drop)]
+#[derive(Drop)]
 pub struct Checked {
     circuit: Circuit,
 }
