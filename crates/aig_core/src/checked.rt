@@ -14,7 +14,7 @@ use std::marker::Model;
 mod faults;
 
 /// A circuit that is well formed. Only `check` makes one.
-#[derive(Debug, Drop)]
+#[derive(Drop)]
 pub struct Checked {
     circuit: Circuit,
 }

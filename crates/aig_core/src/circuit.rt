@@ -6,14 +6,14 @@ use crate::literal::{Lit, Var};
 pub const LARGEST: u32 = 2_147_483_647;
 
 /// A latch: a variable that holds its state, and the literal whose value it takes in the next step. It starts at 0.
-#[derive(Clone, Copy, Debug, PartialEq, Eq)]
+#[derive(Clone, Copy, PartialEq)]
 pub struct Latch {
     pub var: Var,
     pub next: Lit,
 }
 
 /// An AND gate: the variable that it defines, and its two operands in the order of the file.
-#[derive(Clone, Copy, Debug, PartialEq, Eq)]
+#[derive(Clone, Copy, PartialEq)]
 pub struct Gate {
     pub var: Var,
     pub left: Lit,
@@ -21,7 +21,7 @@ pub struct Gate {
 }
 
 /// What a symbol names.
-#[derive(Clone, Copy, Debug, PartialEq, Eq)]
+#[derive(Clone, Copy, PartialEq)]
 pub enum Kind {
     Input,
     Latch,
@@ -29,7 +29,7 @@ pub enum Kind {
 }
 
 /// The name of the input, latch or output at a position, counted from 0.
-#[derive(Clone, Debug, PartialEq, Eq, Drop)]
+#[derive(Clone, PartialEq, Drop)]
 pub struct Symbol {
     pub kind: Kind,
     pub position: u32,
@@ -37,7 +37,7 @@ pub struct Symbol {
 }
 
 /// What an AIGER file says, in the order of the file.
-#[derive(Clone, Debug, PartialEq, Eq, Drop)]
+#[derive(Clone, PartialEq, Drop)]
 pub struct Circuit {
     /// The largest variable index; indices up to it may be unused.
     pub max_var: u32,

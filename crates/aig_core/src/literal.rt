@@ -6,7 +6,7 @@ use std::fmt;
 use std::marker::Model;
 
 /// A variable, by its index. Index 0 belongs to the constants and is never defined.
-#[derive(Clone, Copy, Debug, PartialEq, Eq, PartialOrd, Ord, Hash)]
+#[derive(Clone, Copy, Debug, PartialEq, Eq, PartialOrd, Ord)]
 pub struct Var(pub u32);
 
 impl Model for Var {
@@ -20,7 +20,7 @@ impl Model for Var {
 }
 
 /// A literal: twice a variable's index, and one more where the variable is negated. 0 is FALSE, 1 is TRUE.
-#[derive(Clone, Copy, Debug, PartialEq, Eq, PartialOrd, Ord, Hash)]
+#[derive(Clone, Copy, Debug, PartialEq, Eq)]
 pub struct Lit(pub u32);
 
 impl Model for Lit {
