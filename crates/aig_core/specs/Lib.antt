@@ -1,6 +1,7 @@
 pub mod Literal
 pub mod Wellformed
 pub mod Form
+pub mod Names
 pub mod Fault
 pub mod Laws
 pub mod Transfer

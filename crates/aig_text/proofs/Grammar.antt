@@ -1,5 +1,8 @@
 pub mod Spellings
 pub mod NumberLines
+pub mod Symbols
+pub mod Named
+pub mod Tail
 pub mod Entries
 pub mod Rows
 pub mod Sections

@@ -1,3 +1,4 @@
 pub mod Cutting
 pub mod Rows
+pub mod Tail
 pub mod Text

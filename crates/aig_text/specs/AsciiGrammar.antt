@@ -1,20 +1,17 @@
 -- Which texts are ASCII AIGER files of which circuits (AIGER report, with the lenient spellings and the limits of this
 -- project's profile). A relation that knows of no reading from left to right.
-use Rattle.std.specs.Prelude.{◌≡◌, ◌≤◌, ◌+◌, ℕ, List, [], ◌∷◌, ◌++◌, None, length}
+use Rattle.std.specs.Prelude.{◌≡◌, ◌≤◌, ◌+◌, ℕ, List, [], ◌∷◌, ◌++◌, length}
 use Rattle.std.specs.List.{AllByRecursion, AllZip}
 use Rattle.aig_core.specs.declared.circuit.Circuit.{Circuit}
 use Rattle.aig_core.specs.Wellformed.{IsWellFormed}
 use Rattle.aig_text.specs.Lines.{Line, lines_of}
 use Rattle.aig_text.specs.Spelling.{IsNumberLine, IsHeaderLine}
+use Rattle.aig_text.specs.Tail.{AreTailLines}
 use Rattle.aig_text.specs.Rows.{ascii_word, header_row, rows_of, Row}
 
 -- The line holds the numbers of the row, where some may be left out as its form tells.
 abbrev pub IsRowLine : Line → Row → Type 0
 IsRowLine l row = IsNumberLine row.form.least l row.numbers
-
--- The lines after the numbered ones tell the symbols and the comment. Neither is accepted yet, and so there is no such line.
-abbrev pub AreTailLines : List Line → Circuit → Type 0
-AreTailLines ls c = (ls ≡ []) × (c.symbols ≡ []) × (c.comment ≡ None)
 
 pub record IsAsciiText (text : List ℕ) (limit : ℕ) (c : Circuit) : Type 0 where
   pub header : Line

@@ -1,10 +1,9 @@
 -- The canonical ASCII text of a circuit (this project's profile): canonical numbers, single spaces, a line feed after each line.
 use Rattle.std.specs.Prelude.{ℕ, List, [], ◌∷◌, ◌++◌, Option, None, Some, codes, decimal}
 use Rattle.std.specs.List.{flat_map}
-use Rattle.aig_core.specs.declared.circuit.Kind.{Kind}
-use Rattle.aig_core.specs.declared.circuit.Kind.TheVariants.{Input, Latch, Output}
 use Rattle.aig_core.specs.declared.circuit.Symbol.{Symbol}
 use Rattle.aig_core.specs.declared.circuit.Circuit.{Circuit}
+pub use Rattle.aig_text.specs.Tail.{kind_letter}
 use Rattle.aig_text.specs.Rows.{ascii_word, header_row, rows_of, Row}
 
 abbrev pub spaced_number : ℕ → List ℕ
@@ -22,11 +21,6 @@ numbers_text (n ∷ ns) = decimal n ++ more_numbers_text ns
 
 abbrev pub header_text : List ℕ → List ℕ → List ℕ
 header_text word ns = word ++ more_numbers_text ns
-
-abbrev pub kind_letter : Kind → List ℕ
-kind_letter Input = codes "i"
-kind_letter Latch = codes "l"
-kind_letter Output = codes "o"
 
 abbrev pub name_text : List ℕ → List ℕ
 name_text name = codes " " ++ (name ++ codes "\n")

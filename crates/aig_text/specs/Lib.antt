@@ -1,6 +1,7 @@
 pub mod Lines
 pub mod Spelling
 pub mod Rows
+pub mod Tail
 pub mod AsciiGrammar
 pub mod AsciiText
 pub mod Scanning

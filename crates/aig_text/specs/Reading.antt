@@ -1,6 +1,6 @@
 -- What a text is read as, or its first fault (this project's profile): the first line that is not right for its place, with
 -- the first kind that applies; only where every line is right, the first structural fault of the circuit.
-use Rattle.std.specs.Prelude.{◌≡◌, ◌+◌, ◌*◌, ◌%◌, ◌==◌, ◌||◌, ◌⊎◌, ℕ, zero, suc, List, [], ◌∷◌, min, drop, length, slice_index, Bool, false, nat_lt, Option, None, Some, Result, Ok, Err, if◌then◌else◌}
+use Rattle.std.specs.Prelude.{◌≡◌, ◌+◌, ◌*◌, ◌%◌, ◌==◌, ◌||◌, ◌⊎◌, ◌++◌, ℕ, zero, suc, List, [], ◌∷◌, min, drop, length, slice_index, Bool, false, nat_lt, nat_le, Option, None, Some, Result, Ok, Err, if◌then◌else◌}
 use Rattle.std.specs.List.{list_any, before_first, zip}
 use Rattle.std.specs.Str.{bytes_eq}
 use Rattle.aig_core.specs.declared.circuit.Circuit.{Circuit}
@@ -12,8 +12,13 @@ use Rattle.aig_text.specs.declared.fault.Place.TheVariants as places
 use Rattle.aig_text.specs.declared.fault.ReadKind.{ReadKind}
 use Rattle.aig_text.specs.declared.fault.ReadKind.TheVariants as kinds
 use Rattle.aig_text.specs.declared.fault.ReadFault.{ReadFault}
-use Rattle.aig_text.specs.Lines.{Line, lines_of}
-use Rattle.aig_text.specs.Scanning.{numbers_at, more_numbers_at}
+use Rattle.aig_core.specs.declared.circuit.Kind.{Kind}
+use Rattle.aig_core.specs.declared.circuit.Kind.TheVariants as named
+use Rattle.aig_core.specs.declared.circuit.Symbol.{Symbol}
+use Rattle.aig_core.specs.declared.names.Names.{Names}
+use Rattle.aig_core.specs.Names.{nothing_named, is_named, with_name}
+use Rattle.aig_text.specs.Lines.{Line, lines_of, bytes_of}
+use Rattle.aig_text.specs.Scanning.{numbers_at, more_numbers_at, symbol_at, is_comment_line}
 use Rattle.aig_text.specs.Rows.{ascii_word, Header, Role, Form, roles_of, Section, sections, form_of, count_in, with_rows}
 use Rattle.aig_text.specs.declared.row.Role.TheVariants as roles
 
@@ -139,13 +144,41 @@ empty_circuit max_var = record {
   comment = None;
 }
 
--- Gates, symbols and comments are not read yet.
+-- Gates are not read yet.
 abbrev pub gates_not_yet : Header → Result Header ReadKind
 gates_not_yet h = if h.gates == 0 then Ok h else Err kinds.NotYet
 
-abbrev pub tail_not_yet : Circuit → ℕ → List Line → Result Circuit ReadFault
-tail_not_yet c n [] = Ok c
-tail_not_yet c n (l ∷ ls) = Err (fault_at n kinds.NotYet)
+-- how many things of a kind a symbol may name
+abbrev pub count_named : Header → Kind → ℕ
+count_named h named.Input = h.inputs
+count_named h named.Latch = h.latches
+count_named h named.Output = h.outputs
+
+-- what is wrong with a symbol where these things are named before
+abbrev pub fault_in_symbol : Header → Names → Symbol → Option ReadKind
+fault_in_symbol h before s =
+    if nat_le (count_named h s.kind) s.position then Some kinds.SymbolRange
+    else if is_named before s.kind s.position then Some kinds.SymbolTwice
+    else None
+
+-- the symbol, where there is one
+unfoldable pub checked_symbol : Header → Names → Option Symbol → Result Symbol ReadKind
+checked_symbol h before None = Err kinds.BadSymbol
+checked_symbol h before (Some s) = unless_wrong s (fault_in_symbol h before s)
+
+abbrev pub with_comment : Circuit → List ℕ → Circuit
+with_comment c bytes = record c { comment = Some bytes }
+
+abbrev pub with_symbol : Circuit → Symbol → Circuit
+with_symbol c s = record c { symbols = c.symbols ++ s ∷ [] }
+
+-- the circuit with the symbols and the comment that these lines tell
+unfoldable pub tail_at : Header → Names → Circuit → ℕ → List Line → Result Circuit ReadFault
+tail_at h before c n [] = Ok c
+tail_at h before c n (l ∷ ls) =
+    if is_comment_line l then Ok (with_comment c (bytes_of ls)) else (do
+      s ← at_line n (checked_symbol h before (symbol_at l.text))
+      tail_at h (with_name before s.kind s.position) (with_symbol c s) (n + 1) ls)
 
 -- the header that the next line tells
 abbrev pub header_at : List ℕ → ℕ → ℕ → List Line → Told Header
@@ -159,7 +192,7 @@ unfoldable pub circuit_at : ℕ → List Line → Result Circuit ReadFault
 circuit_at limit ls = do
   header ← header_at ascii_word limit 1 ls
   numbered ← sections_at header.0 sections (empty_circuit header.0.max_var) header.1 header.2
-  tail_not_yet numbered.0 numbered.1 numbered.2
+  tail_at header.0 nothing_named numbered.0 numbered.1 numbered.2
 
 -- a structural fault as the fault of a text
 abbrev pub kind_of : CheckFault → ReadKind

@@ -1,6 +1,10 @@
 -- What stands at the front of bytes, read from left to right.
-use Rattle.std.specs.Prelude.{◌-◌, ◌==◌, ◌&&◌, ◌||◌, ℕ, zero, suc, List, [], ◌∷◌, length, take, drop, slice_index, Bool, Option, None, Some, if◌then◌else◌}
+use Rattle.std.specs.Prelude.{◌-◌, ◌==◌, ◌&&◌, ◌||◌, ℕ, zero, suc, List, [], ◌∷◌, length, take, drop, slice_index, Bool, false, Option, None, Some, if◌then◌else◌}
 use Rattle.std.specs.List.{prefix_len}
+use Rattle.aig_core.specs.declared.circuit.Kind.{Kind}
+use Rattle.aig_core.specs.declared.circuit.Kind.TheVariants.{Input, Latch, Output}
+use Rattle.aig_core.specs.declared.circuit.Symbol.{Symbol}
+use Rattle.aig_text.specs.Lines.{Line}
 use Rattle.aig_text.specs.Spelling.{is_digit, is_space, value_of, zeros}
 
 infixl 10 ◌>>=◌
@@ -38,3 +42,32 @@ numbers_at ended least most bytes = do
   first ← number_at bytes
   others ← more_numbers_at ended least most first.1
   Some (first.0 ∷ others)
+
+-- what the letter at the front of a symbol line names
+abbrev pub kind_at : ℕ → Option Kind
+kind_at b = if b == 105 then Some Input else if b == 108 then Some Latch else if b == 111 then Some Output else None
+
+-- what follows one space
+abbrev pub after_space : List ℕ → Option (List ℕ)
+after_space [] = None
+after_space (b ∷ bytes) = if b == 32 then Some bytes else None
+
+abbrev pub symbol : Kind → ℕ → List ℕ → Symbol
+symbol kind position name = record { kind = kind; position = position; name = name }
+
+-- a symbol: the letter, the position, one space, and all the rest as its name
+unfoldable pub symbol_at : List ℕ → Option Symbol
+symbol_at [] = None
+symbol_at (b ∷ bytes) = do
+  kind ← kind_at b
+  position ← number_at bytes
+  name ← after_space position.1
+  Some (symbol kind position.0 name)
+
+abbrev pub begins_comment : Bool → List ℕ → Bool
+begins_comment ended [] = false
+begins_comment ended (b ∷ bytes) = (b == 99) && is_line_end ended bytes
+
+-- whether a line is the line `c`
+unfoldable pub is_comment_line : Line → Bool
+is_comment_line l = begins_comment l.ended l.text

@@ -52,7 +52,16 @@ pub enum ReadKind {
     /// The text ends where a line is due.
     #[error("file ends too early")]
     Truncated,
-    /// Gates, symbols and comments, which are not read yet.
+    /// A line of the tail that is neither a symbol line nor the line `c`.
+    #[error("bad symbol line")]
+    BadSymbol,
+    /// A symbol's position is not below the count of its kind.
+    #[error("symbol position out of range")]
+    SymbolRange,
+    /// What a symbol names has a name already.
+    #[error("symbol given twice")]
+    SymbolTwice,
+    /// Gates, which are not read yet.
     #[error("not supported yet")]
     NotYet,
     /// The variable is defined by a second input or latch.

@@ -10,6 +10,7 @@ mod number;
 mod reader;
 mod row;
 mod section;
+mod tail;
 mod writer;
 
 pub use crate::fault::{Place, ReadFault, ReadKind};

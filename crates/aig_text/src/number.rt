@@ -54,7 +54,7 @@ fn leading_spaces(bytes: &[u8]) -> usize
 
 /// What is kept of the number at the front, and what follows it.
 #[tactic(auto, unfolding(crate::specs::Scanning::number_at))]
-fn number(bytes: &[u8]) -> Option<(u64, &[u8])>
+pub(crate) fn number(bytes: &[u8]) -> Option<(u64, &[u8])>
     ensures { Gives (λ x. (x.0, x.1.now)) result (kept_first (number_at bytes.now)) }
 {
     let (value, count) = leading_digits(bytes);
@@ -80,7 +80,7 @@ fn skip_gap(bytes: &[u8]) -> Option<&[u8]>
 
 /// Whether a line may end so.
 #[tactic(auto, unfolding(crate::specs::Scanning::is_line_end))]
-fn ends_line(bytes: &[u8], ended: bool) -> bool
+pub(crate) fn ends_line(bytes: &[u8], ended: bool) -> bool
     ensures { result ≡ is_line_end ended bytes.now }
 {
     let (_, rest) = bytes.split_at(leading_spaces(bytes));

@@ -5,7 +5,7 @@ ghost use Rattle.aig_core.specs.declared.circuit.TheConstants.{LARGEST as larges
 ghost use Rattle.aig_text.specs.Lines.{lines_of};
 ghost use Rattle.aig_text.specs.Rows.{ascii_word};
 ghost use Rattle.aig_text.specs.Parts.Kept.{GivesOrFails, GivesOrMemory};
-ghost use Rattle.aig_text.specs.Reading.{IsFirstFault, first_fault, want_of_memory, whole_fault, kind_of, tail_not_yet};
+ghost use Rattle.aig_text.specs.Reading.{IsFirstFault, first_fault, want_of_memory, whole_fault, kind_of};
 ghost use Rattle.aig_text.specs.Reading.{header_at, circuit_at, empty_circuit};
 ghost use Rattle.aig_text.specs.AsciiGrammar.{IsAsciiText};
 
@@ -14,6 +14,7 @@ use crate::header::{ASCII_WORD, Header, read_header};
 use crate::limits::Limits;
 use crate::line::{Cursor, split_line};
 use crate::section::read_sections;
+use crate::tail::read_tail;
 use aig_core::{CheckFault, Checked, Circuit, Listing, check};
 use std::alloc::Global;
 
@@ -61,19 +62,6 @@ fn empty_circuit(alloc: Global, max_var: u32) -> Circuit
     }
 }
 
-/// The circuit, where no line is left. Symbols and comments are not read yet.
-fn without_tail(circuit: Circuit, at: &Cursor) -> Result<Circuit, ReadFault>
-    ensures { result ≡ tail_not_yet circuit at.now.number (lines_of at.now.rest.now) }
-{
-    match split_line(at.rest) {
-        Some(_) => Err(ReadFault {
-            place: Place::Line(at.number),
-            kind: ReadKind::NotYet,
-        }),
-        None => Ok(circuit),
-    }
-}
-
 /// The circuit that the lines of a text tell. Its definitions and uses are not looked at here.
 fn read_circuit(alloc: Global, bytes: &[u8], limits: Limits) -> Result<Circuit, ReadFault>
     ensures { GivesOrMemory (λ c. c) result (circuit_at limits.max_var (lines_of bytes.now)) }
@@ -82,7 +70,8 @@ fn read_circuit(alloc: Global, bytes: &[u8], limits: Limits) -> Result<Circuit, 
     let header = header_line(ASCII_WORD, &mut at, limits)?;
     let mut circuit = empty_circuit(alloc, header.max_var);
     read_sections(&header, &mut circuit, &mut at)?;
-    without_tail(circuit, &at)
+    read_tail(alloc, &header, &mut circuit, &mut at)?;
+    Ok(circuit)
 }
 
 /// A structural fault as what is wrong with a text.

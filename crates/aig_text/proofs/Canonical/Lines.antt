@@ -1,23 +1,16 @@
 -- The lines of the canonical text: each number's digits spell it, and no line holds a line feed but at its end.
-use Rattle.std.proofs.Common.{◌≡◌, ◌+◌, ◌-◌, ◌*◌, ◌<◌, ◌≤◌, ◌^◌, ◌==◌, ℕ, true, false, List, [], ◌∷◌, ◌++◌, length, map, refl, sym, ap, ◌∙◌, inl, arith, rules}
+use Rattle.std.proofs.Common.{◌≡◌, ◌<◌, ◌≤◌, ◌^◌, ℕ, true, List, [], ◌∷◌, ◌++◌, length, map, refl, sym, ap, ◌∙◌, inl, arith}
 use Rattle.std.specs.List.{AllByRecursion, AllZip, flat_map}
-use Rattle.std.specs.Prelude.{decimal, fold}
-use Rattle.std.proofs.lemmas.Str.Parse.{IsNumeralModel, numerals_by_fold}
+use Rattle.std.specs.Prelude.{decimal}
 use Rattle.std.proofs.lemmas.Fmt.{digits_decimal, digits_value-decimal, decimal_nonempty}
 use Rattle.std.proofs.lemmas.List.{append_assoc, append-nil}
 use Rattle.aig_text.specs.Lines.{Line, line, lines_of}
-use Rattle.aig_text.specs.Spelling.{is_digit, value_of, IsNumber, AreMoreNumbers, IsLineEnd, EndInNumbers, IsNumberLine, IsHeaderLine}
+use Rattle.aig_text.specs.Spelling.{IsNumber, AreMoreNumbers, IsLineEnd, EndInNumbers, IsNumberLine, IsHeaderLine}
 use Rattle.aig_text.specs.Rows.{Row}
 use Rattle.aig_text.specs.AsciiGrammar.{IsRowLine}
+use Rattle.aig_text.specs.Parts.Plain.{HasNoLineFeed}
+use Rattle.aig_text.proofs.Kept.Plain.{decimal_model, all_joined, digits_have_no_line_feed, first_line}
 use Rattle.aig_text.specs.AsciiText.{more_numbers_text, numbers_text, line_text, header_text}
-
--- bytes that are all decimal digits
-abbrev pub AreDigits : List ℕ → Type 0
-AreDigits text = AllByRecursion (λ b. is_digit b ≡ true) text
-
--- the tests and the value of this crate are std's, in other words
-decimal_model : IsNumeralModel AreDigits value_of
-decimal_model = numerals_by_fold AreDigits (search rules) (λ n digits. fold (λ m b. 10 * m + (b - 48)) n digits) (search rules)
 
 pub decimal_is_number : (n : ℕ) → n < 2 ^ 64 → IsNumber (decimal n) n
 decimal_is_number n small = record {
@@ -25,22 +18,6 @@ decimal_is_number n small = record {
   digits = digits_decimal decimal_model n small;
   value = digits_value-decimal decimal_model n small;
 }
-
--- what holds of the parts holds of the whole
-pub all_joined : {X : Type 0} (P : X → Type 0) (xs ys : List X) → AllByRecursion P xs → AllByRecursion P ys → AllByRecursion P (xs ++ ys)
-all_joined P [] ys h k = k
-all_joined P (x ∷ xs) ys h k = (h.0, all_joined P xs ys h.1 k)
-
--- bytes with no line feed among them
-abbrev pub HasNoLineFeed : List ℕ → Type 0
-HasNoLineFeed text = AllByRecursion (λ b. (b == 10) ≡ false) text
-
-digit_is_no_line_feed : (b : ℕ) → is_digit b ≡ true → (b == 10) ≡ false
-digit_is_no_line_feed b h = search rules
-
-digits_have_no_line_feed : (text : List ℕ) → AreDigits text → HasNoLineFeed text
-digits_have_no_line_feed [] h = tt
-digits_have_no_line_feed (b ∷ bs) h = (digit_is_no_line_feed b h.0, digits_have_no_line_feed bs h.1)
 
 -- numbers that a file can tell
 abbrev pub AreSmall : List ℕ → Type 0
@@ -75,12 +52,6 @@ front_has_no_line_feed : (ns : List ℕ) → AreSmall ns → HasNoLineFeed (fron
 front_has_no_line_feed [] small = tt
 front_has_no_line_feed (n ∷ ns) small =
     all_joined _ (decimal n) (more_front ns) (digits_have_no_line_feed (decimal n) (decimal_is_number n small.0).digits) (more_front_has_no_line_feed ns small.1)
-
--- up to its first line feed a text is one line
-first_line : (text rest : List ℕ) → HasNoLineFeed text → lines_of (text ++ 10 ∷ rest) ≡ line text true ∷ lines_of rest
-unfolding lines_of
-first_line [] rest h = refl
-first_line (b ∷ bs) rest h = rw (h.0, first_line bs rest h.1) refl
 
 -- the line of these numbers
 abbrev pub number_line : List ℕ → Line

@@ -1,20 +1,29 @@
 -- The canonical text of a well-formed circuit is its file.
-use Rattle.std.proofs.Common.{◌≡◌, ◌+◌, ◌*◌, ◌<◌, ◌≤◌, ◌^◌, ℕ, List, [], ◌∷◌, ◌++◌, length, map, refl, ap, ◌∙◌, arith, None}
+use Rattle.std.proofs.Common.{◌≡◌, ◌+◌, ◌*◌, ◌<◌, ◌≤◌, ◌^◌, ℕ, List, [], ◌∷◌, ◌++◌, length, map, append_assoc, sym, inl, inr, Option, Some, true, refl, ap, ◌∙◌, arith, None}
 use Rattle.std.specs.List.{AllByRecursion, AllZip, flat_map}
 use Rattle.std.proofs.lemmas.Slice.Zip.{AllZip-long}
 use Rattle.aig_core.specs.declared.circuit.Circuit.{Circuit}
 use Rattle.aig_core.specs.declared.circuit.TheConstants.{LARGEST}
-use Rattle.aig_core.specs.Wellformed.{IsWellFormed, IsWithinLimits}
+use Rattle.aig_core.specs.Wellformed.{IsWellFormed, IsWithinLimits, IsAmong, count_of}
 use Rattle.aig_core.specs.Form.{IsInForm}
 use Rattle.aig_text.specs.declared.row.Role.TheVariants as roles
 use Rattle.aig_text.specs.declared.section.Section.TheVariants.{Inputs, Latches, Outputs, Gates}
-use Rattle.aig_text.specs.Lines.{Line, lines_of}
+use Rattle.aig_text.specs.Lines.{Line, line, lines_of}
 use Rattle.aig_text.specs.AsciiGrammar.{IsAsciiText}
-use Rattle.aig_text.specs.AsciiText.{ascii_text, line_text, tail_text}
+use Rattle.aig_text.specs.AsciiText.{ascii_text, line_text, tail_text, symbol_text, comment_text}
+use Rattle.aig_text.specs.Tail.{kind_letter, IsSymbolLine, IsComment}
+use Rattle.aig_text.specs.Parts.Plain.{HasNoLineFeed}
+use Rattle.aig_core.specs.declared.circuit.Kind.{Kind}
+use Rattle.aig_core.specs.declared.circuit.Kind.TheVariants.{Input, Latch, Output}
+use Rattle.aig_core.specs.declared.circuit.Symbol.{Symbol}
+use Rattle.std.proofs.lemmas.Bool.{ne_eqb}
+use Rattle.std.specs.Prelude.{decimal}
+use Rattle.aig_text.proofs.Loops.Cutting.{pieces}
 use Rattle.aig_text.specs.Rows.{ascii_word, header_row, rows_of, Role, roles_of, Section, sections, form_of, rows_in, row}
 use Rattle.aig_text.proofs.Grammar.Entries.{MayStand, IsGoodRow, all_mapped}
 use Rattle.aig_text.proofs.Grammar.Sections.{rows_good}
-use Rattle.aig_text.proofs.Canonical.Lines.{all_joined, AreSmall, IsFullRow, header_line, row_lines, header_is_first, header_line_is_good, rows_are_first, rows_are_good}
+use Rattle.aig_text.proofs.Kept.Plain.{all_joined, digits_have_no_line_feed, first_line}
+use Rattle.aig_text.proofs.Canonical.Lines.{decimal_is_number, AreSmall, IsFullRow, header_line, row_lines, header_is_first, header_line_is_good, rows_are_first, rows_are_good}
 
 small_number : (m : ℕ) → m ≤ LARGEST → (r : Role) (n : ℕ) → MayStand m r n → n < 2 ^ 64
 small_number m h roles.Definition n g = let top : n ≤ 2 * m + 1 = g.within in omega arith
@@ -52,27 +61,99 @@ header_is_small c limits =
     let gates : length c.gates ≤ LARGEST = limits.gates in
     (omega arith, (omega arith, (omega arith, (omega arith, (omega arith, tt)))))
 
-no_tail : (c : Circuit) → c.symbols ≡ [] → c.comment ≡ None → tail_text c ≡ []
-no_tail c s k = rw (s, k) refl
+-- the line of a symbol
+abbrev symbol_line : Symbol → Line
+symbol_line s = line (kind_letter s.kind ++ (decimal s.position ++ (32 ∷ s.name))) true
 
-canonical_lines : (c : Circuit) → IsInForm c → c.symbols ≡ [] → c.comment ≡ None → lines_of (ascii_text c) ≡ header_line ascii_word (header_row c) ∷ (row_lines (rows_of c) ++ [])
-unfolding ascii_text lines_of
-canonical_lines c form s k =
-    let tail : tail_text c ≡ [] = no_tail c s k in
+symbol_is : (s : Symbol) (rest : List ℕ) → symbol_text s ++ rest ≡ (kind_letter s.kind ++ (decimal s.position ++ (32 ∷ s.name))) ++ 10 ∷ rest
+symbol_is s rest = simp append_assoc
+
+letter_is_plain : (k : Kind) → HasNoLineFeed (kind_letter k)
+letter_is_plain Input = (refl, tt)
+letter_is_plain Latch = (refl, tt)
+letter_is_plain Output = (refl, tt)
+
+name_is_plain : (name : List ℕ) → ¬ IsAmong 10 name → HasNoLineFeed name
+name_is_plain [] h = tt
+name_is_plain (b ∷ bs) h = (ne_eqb b 10 (λ e. h (inl (sym e))), name_is_plain bs (λ a. h (inr a)))
+
+abbrev IsTold : Symbol → Type 0
+IsTold s = (s.position < 2 ^ 64) × (¬ IsAmong 10 s.name)
+
+plain_symbol : (s : Symbol) → IsTold s → HasNoLineFeed (kind_letter s.kind ++ (decimal s.position ++ (32 ∷ s.name)))
+plain_symbol s h =
+    all_joined _ (kind_letter s.kind) (decimal s.position ++ (32 ∷ s.name)) (letter_is_plain s.kind)
+    (all_joined _ (decimal s.position) (32 ∷ s.name) (digits_have_no_line_feed (decimal s.position) (decimal_is_number s.position h.0).digits) (refl, name_is_plain s.name h.1))
+
+symbol_is_good : (s : Symbol) → IsTold s → IsSymbolLine (symbol_line s) s
+symbol_is_good s h = record { digits = decimal s.position; text = refl; position = decimal_is_number s.position h.0 }
+
+abbrev symbol_lines : List Symbol → List Line
+symbol_lines ss = map symbol_line ss
+
+symbols_are_first : (ss : List Symbol) (rest : List ℕ) → AllByRecursion IsTold ss → lines_of (flat_map symbol_text ss ++ rest) ≡ symbol_lines ss ++ lines_of rest
+symbols_are_first [] rest h = refl
+symbols_are_first (s ∷ ss) rest h =
+    ap lines_of (append_assoc (symbol_text s) (flat_map symbol_text ss) rest ∙ symbol_is s (flat_map symbol_text ss ++ rest))
+    ∙ first_line (kind_letter s.kind ++ (decimal s.position ++ (32 ∷ s.name))) (flat_map symbol_text ss ++ rest) (plain_symbol s h.0)
+    ∙ ap (λ (ls : List Line). symbol_line s ∷ ls) (symbols_are_first ss rest h.1)
+
+symbols_are_good : (ss : List Symbol) → AllByRecursion IsTold ss → AllZip IsSymbolLine (symbol_lines ss) ss
+symbols_are_good [] h = tt
+symbols_are_good (s ∷ ss) h = (symbol_is_good s h.0, symbols_are_good ss h.1)
+
+abbrev comment_lines : Option (List ℕ) → List Line
+comment_lines None = []
+comment_lines (Some bytes) = line (99 ∷ []) true ∷ lines_of bytes
+
+comment_is_first : (comment : Option (List ℕ)) → lines_of (comment_text comment) ≡ comment_lines comment
+unfolding lines_of
+comment_is_first None = refl
+comment_is_first (Some bytes) = refl
+
+comment_is_good : (comment : Option (List ℕ)) → IsComment (comment_lines comment) comment
+comment_is_good None = tt
+comment_is_good (Some bytes) = (record { ending = []; text = refl; ends = ([], tt, inl refl) }, sym (pieces bytes).joined)
+
+count_within : (c : Circuit) → IsWithinLimits c → (k : Kind) → count_of c k ≤ LARGEST
+count_within c limits Input = limits.inputs
+count_within c limits Latch = limits.latches
+count_within c limits Output = limits.outputs
+
+-- what may be said of a symbol can be told in a line
+all_told : (c : Circuit) → IsWithinLimits c → (ss : List Symbol) → AllByRecursion (λ (s : Symbol). s.position < count_of c s.kind) ss → AllByRecursion (λ (s : Symbol). ¬ IsAmong 10 s.name) ss → AllByRecursion IsTold ss
+all_told c limits [] p l = tt
+all_told c limits (s ∷ ss) p l =
+    let top : count_of c s.kind ≤ LARGEST = count_within c limits s.kind in
+    let low : s.position < count_of c s.kind = p.0 in
+    ((omega arith, l.0), all_told c limits ss p.1 l.1)
+
+canonical_lines : (c : Circuit) → IsInForm c → lines_of (ascii_text c) ≡ header_line ascii_word (header_row c) ∷ (row_lines (rows_of c) ++ (symbol_lines c.symbols ++ comment_lines c.comment))
+unfolding ascii_text
+canonical_lines c form =
     header_is_first ascii_word (header_row c) (flat_map line_text (rows_of c) ++ tail_text c) (refl, (refl, (refl, tt))) (header_is_small c form.limits)
     ∙ ap (λ (ls : List Line). header_line ascii_word (header_row c) ∷ ls)
-    (rows_are_first (rows_of c) (tail_text c) (sections_full c form sections) ∙ ap (λ (t : List ℕ). row_lines (rows_of c) ++ lines_of t) tail)
+    (rows_are_first (rows_of c) (tail_text c) (sections_full c form sections)
+    ∙ ap (λ (ls : List Line). row_lines (rows_of c) ++ ls)
+    (symbols_are_first c.symbols (comment_text c.comment) (all_told c form.limits c.symbols form.symbols.positions form.symbols.lines)
+    ∙ ap (λ (ls : List Line). symbol_lines c.symbols ++ ls) (comment_is_first c.comment)))
 
 -- Where the definitions fit below the largest index, and the circuit is in form, its canonical text is its file.
-pub canonical_text : (c : Circuit) → IsWellFormed c → IsInForm c → length c.inputs + length c.latches + length c.gates ≤ c.max_var → c.gates ≡ [] → c.symbols ≡ [] → c.comment ≡ None → IsAsciiText (ascii_text c) LARGEST c
-canonical_text c good form fits none s k = record {
+pub canonical_text : (c : Circuit) → IsWellFormed c → IsInForm c → length c.inputs + length c.latches + length c.gates ≤ c.max_var → c.gates ≡ [] → IsAsciiText (ascii_text c) LARGEST c
+canonical_text c good form fits none = record {
   header = header_line ascii_word (header_row c);
   numbered = row_lines (rows_of c);
-  tail = [];
-  lines = canonical_lines c form s k;
+  tail = symbol_lines c.symbols ++ comment_lines c.comment;
+  lines = canonical_lines c form;
   is_header = header_line_is_good ascii_word 5 (header_row c) (omega arith) (header_is_small c form.limits);
   are_rows = rows_are_good (rows_of c) (sections_full c form sections);
-  is_tail = (refl, s, k);
+  is_tail = record {
+    named = symbol_lines c.symbols;
+    rest = comment_lines c.comment;
+    are = refl;
+    symbols = symbols_are_good c.symbols (all_told c form.limits c.symbols form.symbols.positions form.symbols.lines);
+    comment = comment_is_good c.comment;
+  };
   limited = (form.limits.max_var, (form.limits.inputs, (form.limits.latches, (form.limits.outputs, (form.limits.gates, tt)))));
   counted = fits;
   well_formed = good;

@@ -44,7 +44,7 @@ no_more ended bytes most h = record {
   ends = end_reads ended bytes h;
 }
 
-some_then : {A B : Type 0} (x : Option A) (f : A → Option B) (z : B) → (x >>= f) ≡ Some z → (y : A) × (x ≡ Some y) × (f y ≡ Some z)
+pub some_then : {A B : Type 0} (x : Option A) (f : A → Option B) (z : B) → (x >>= f) ≡ Some z → (y : A) × (x ≡ Some y) × (f y ≡ Some z)
 some_then None f z h = cc
 some_then (Some y) f z h = (y, refl, h)
 

@@ -250,6 +250,10 @@ zips_split R (x ∷ xs) (y ∷ ys) zs h =
     let t = zips_split R xs ys zs h.1 in
     record { first = x ∷ t.first; second = t.second; are = ap (λ (l : List _). x ∷ l) t.are; first_zips = (h.0, t.first_zips); second_zips = t.second_zips }
 
+-- a circuit without its tail
+abbrev pub bare : Circuit → Circuit
+bare c = record c { symbols = []; comment = None }
+
 -- a circuit of all its parts
 abbrev whole : ℕ → List ℕ → List Latch → List ℕ → List Gate → List Symbol → Option (List ℕ) → Circuit
 whole m is ls os gs ss comment = record { max_var = m; inputs = is; latches = ls; outputs = os; gates = gs; symbols = ss; comment = comment }
@@ -284,18 +288,18 @@ module _ (c : Circuit) (form : IsInForm c) where
       rw lines (subst (λ count. rows_at (form_of s) c.max_var count n (z.first ++ (z.second ++ rest)) ≡ Ok (rows_in c s, r.0, z.second ++ rest)) (counted c s) r.1) in
       (o.0, one_is_read s ss d n r.0 o.0 (front ++ rest) (z.second ++ rest) rest here o.1)
 
-  -- the rows of the circuit tell the circuit
-  rows_tell : c.symbols ≡ [] → c.comment ≡ None → with_all sections (map (rows_in c) sections) (empty_circuit c.max_var) ≡ c
-  rows_tell symbols comment =
+  -- the rows of the circuit tell the circuit, but for its tail
+  rows_tell : with_all sections (map (rows_in c) sections) (empty_circuit c.max_var) ≡ bare c
+  rows_tell =
       let i = all_again input_row input_of input_entry.again c.inputs in
       let l = all_again latch_row latch_of latch_entry.again c.latches in
       let o = all_again output_row output_of output_entry.again c.outputs in
       let g = all_again gate_row gate_of gate_entry.again c.gates in
       let t : whole c.max_var (map input_of (map input_row c.inputs)) (map latch_of (map latch_row c.latches)) (map output_of (map output_row c.outputs)) (map gate_of (map gate_row c.gates)) [] None
-      ≡ whole c.max_var c.inputs c.latches c.outputs c.gates c.symbols c.comment = cc in
+      ≡ whole c.max_var c.inputs c.latches c.outputs c.gates [] None = cc in
       t
 
-  pub sections_are_read : (n : ℕ) (front rest : List Line) → c.symbols ≡ [] → c.comment ≡ None → AllZip IsRowLine front (rows_of c) → (k : ℕ) × (sections_at own_header sections (empty_circuit c.max_var) n (front ++ rest) ≡ Ok (c, k, rest))
-  sections_are_read n front rest symbols comment h =
+  pub sections_are_read : (n : ℕ) (front rest : List Line) → AllZip IsRowLine front (rows_of c) → (k : ℕ) × (sections_at own_header sections (empty_circuit c.max_var) n (front ++ rest) ≡ Ok (bare c, k, rest))
+  sections_are_read n front rest h =
       let t = sections_are_told sections (empty_circuit c.max_var) n front rest h in
-      (t.0, t.1 ∙ ap (λ (d : Circuit). Ok (d, t.0, rest)) (rows_tell symbols comment))
+      (t.0, t.1 ∙ ap (λ (d : Circuit). Ok (d, t.0, rest)) rows_tell)

@@ -1,5 +1,5 @@
 -- A text that is read is the text of its circuit, and the other way round.
-use Rattle.std.proofs.Common.{◌≡◌, ℕ, zero, suc, ◌+◌, ◌≤◌, min, true, false, cond, List, [], ◌∷◌, ◌++◌, drop, length, get_or, Option, None, Some, Result, Ok, Err, refl, ap, subst, ◌∙◌, sym, arith}
+use Rattle.std.proofs.Common.{◌≡◌, ℕ, zero, suc, ◌+◌, ◌*◌, ◌<◌, ◌≤◌, min, true, false, cond, List, [], ◌∷◌, ◌++◌, drop, length, get_or, Option, None, Some, Result, Ok, Err, refl, ap, subst, ◌∙◌, sym, arith}
 use Rattle.std.specs.List.{AllByRecursion, AllZip, list_any, before_first}
 use Rattle.std.specs.Str.{bytes_eq}
 use Rattle.std.proofs.lemmas.Bool.{ltb-false, le-ltb, eqb-true, eq-eqb, or_parts, or_from}
@@ -10,7 +10,11 @@ use Rattle.aig_core.specs.declared.fault.CheckFault.{CheckFault}
 use Rattle.aig_core.specs.Fault.{first_fault}
 use Rattle.aig_core.proofs.Faultless.{well_formed, faultless}
 use Rattle.aig_core.proofs.Fitting.{all_weaker, well_formed_in_form}
-use Rattle.aig_core.specs.Wellformed.{IsWellFormed, IsWithinLimits}
+use Rattle.aig_core.specs.declared.circuit.Kind.{Kind}
+use Rattle.aig_core.specs.declared.circuit.Kind.TheVariants.{Input, Latch, Output}
+use Rattle.aig_core.specs.declared.circuit.Symbol.{Symbol}
+use Rattle.aig_core.specs.Names.{nothing_named}
+use Rattle.aig_core.specs.Wellformed.{IsWellFormed, IsWithinLimits, IsVariableUpTo, HasGoodSymbols, NameApart, IsAmong, count_of, defined_variables, used_literals}
 use Rattle.aig_core.specs.Form.{IsInForm}
 use Rattle.aig_text.specs.declared.fault.ReadFault.{ReadFault}
 use Rattle.aig_text.specs.declared.fault.ReadKind.{ReadKind}
@@ -18,12 +22,17 @@ use Rattle.aig_text.specs.declared.fault.ReadKind.TheVariants as kinds
 use Rattle.aig_text.specs.Lines.{Line, lines_of}
 use Rattle.aig_text.specs.Spelling.{IsHeaderLine}
 use Rattle.aig_text.specs.Scanning.{more_numbers_at}
-use Rattle.aig_text.specs.Rows.{ascii_word, Header, header_row, sections}
+use Rattle.aig_text.specs.Rows.{ascii_word, Header, header_row, rows_of, sections}
+use Rattle.aig_text.specs.Laws.{IsOneLine}
+use Rattle.aig_text.specs.Tail.{IsSymbolLine, IsComment}
 use Rattle.aig_text.specs.AsciiGrammar.{IsRowLine, IsAsciiText}
-use Rattle.aig_text.specs.Reading.{◌>>=◌, at_line, ends_word, header_of_row, header_within, header_of, gates_not_yet, tail_not_yet, header_at, sections_at, empty_circuit, circuit_at, unless_faulty, reading}
+use Rattle.aig_text.specs.Reading.{◌>>=◌, at_line, ends_word, header_of_row, header_within, header_of, gates_not_yet, tail_at, count_named, header_at, sections_at, empty_circuit, circuit_at, unless_faulty, reading}
 use Rattle.aig_text.proofs.Steps.{both_ok, ok_at_line, ok_same, passed, let_through}
 use Rattle.aig_text.proofs.Grammar.NumberLines.{header_reads, header_is_read}
-use Rattle.aig_text.proofs.Grammar.Sections.{FourSections, four_told, rows_read, counts_read, row_of_header, in_form, sections_are_read}
+use Rattle.aig_text.proofs.Grammar.Sections.{FourSections, four_told, rows_read, counts_read, row_of_header, in_form, sections_are_read, bare}
+use Rattle.aig_text.proofs.Grammar.Named.{IsPlaced, new_apart, new_placed, apart_new}
+use Rattle.aig_text.proofs.Grammar.Tail.{TellsTail, with_tail, tail_tells, tail_is_told, names_in_lines}
+use Rattle.aig_text.proofs.Loops.Cutting.{pieces}
 
 none_larger : (m : ℕ) (ns : List ℕ) → list_any (λ n. ltb m n) ns ≡ false → AllByRecursion (λ n. n ≤ m) ns
 none_larger m [] h = tt
@@ -85,19 +94,24 @@ record TellCircuit (limit : ℕ) (ls : List Line) (c : Circuit) : Type 0 where
   pub header : Header
   pub heads : TellsHeader ascii_word limit first header
   pub no_gates : header.gates ≡ 0
-  pub sections : FourSections header c others []
+  pub numbered : Circuit
+  pub rest : List Line
+  pub sections : FourSections header numbered others rest
+  pub tail : TellsTail header nothing_named numbered c rest
 
 no_gates_told : (h g : Header) → gates_not_yet h ≡ Ok g → (h.gates ≡ 0) × (h ≡ g)
 no_gates_told h g is =
     let p = let_through (eqb h.gates 0) kinds.NotYet (Ok h) g is in
     (eqb-true h.gates 0 p.0, ok_same {E = ReadKind} h g p.1)
 
-no_tail : (d c : Circuit) (n : ℕ) (ls : List Line) → tail_not_yet d n ls ≡ Ok c → (ls ≡ []) × (d ≡ c)
-no_tail d c n [] h = (refl, ok_same {E = ReadFault} d c h)
-no_tail d c n (l ∷ ls) h = cc
+abbrev then_tail : Header → Circuit × ℕ × List Line → Result Circuit ReadFault
+then_tail h numbered = tail_at h nothing_named numbered.0 numbered.1 numbered.2
 
 abbrev then_sections : Header × ℕ × List Line → Result Circuit ReadFault
-then_sections header = sections_at header.0 sections (empty_circuit header.0.max_var) header.1 header.2 >>= (λ (numbered : Circuit × ℕ × List Line). tail_not_yet numbered.0 numbered.1 numbered.2)
+then_sections header = sections_at header.0 sections (empty_circuit header.0.max_var) header.1 header.2 >>= then_tail header.0
+
+no_comment : (h : Header) (c : Circuit) (ls rest : List Line) → FourSections h c ls rest → c.comment ≡ None
+no_comment h c ls rest f = subst (λ (d : Circuit). d.comment ≡ None) f.circuit refl
 
 circuit_told : (limit : ℕ) (ls : List Line) (c : Circuit) → circuit_at limit ls ≡ Ok c → TellCircuit limit ls c
 unfolding circuit_at
@@ -108,10 +122,9 @@ circuit_told limit (l ∷ ls) c is =
     let g = both_ok (header_of ascii_word limit l) gates_not_yet f.0 (ok_at_line 1 (header_of ascii_word limit l >>= gates_not_yet) f.0 f.1) in
     let n = no_gates_told g.0 f.0 g.2 in
     let e : (f.0, 2, ls) ≡ a.0 = ok_same {E = ReadFault} _ _ f.2 in
-    let b = both_ok (sections_at a.0.0 sections (empty_circuit a.0.0.max_var) a.0.1 a.0.2) (λ (numbered : Circuit × ℕ × List Line). tail_not_yet numbered.0 numbered.1 numbered.2) c a.2 in
-    let t = no_tail b.0.0 c b.0.1 b.0.2 b.2 in
+    let b = both_ok (sections_at a.0.0 sections (empty_circuit a.0.0.max_var) a.0.1 a.0.2) (then_tail a.0.0) c a.2 in
     let s : FourSections a.0.0 b.0.0 a.0.2 b.0.2 = four_told a.0.0 a.0.1 a.0.2 b.0 b.1 in
-    let whole : FourSections a.0.0 c a.0.2 [] = subst (λ (rest : List Line). FourSections a.0.0 c a.0.2 rest) t.0 (subst (λ (d : Circuit). FourSections a.0.0 d a.0.2 b.0.2) t.1 s) in
+    let t : TellsTail a.0.0 nothing_named b.0.0 c b.0.2 = tail_tells a.0.0 nothing_named b.0.0 b.0.1 b.0.2 c (no_comment a.0.0 b.0.0 a.0.2 b.0.2 s) b.2 in
     record {
       first = l;
       others = ls;
@@ -119,7 +132,10 @@ circuit_told limit (l ∷ ls) c is =
       header = f.0;
       heads = subst (λ (h : Header). TellsHeader ascii_word limit l h) n.1 (header_tells ascii_word limit l g.0 g.1);
       no_gates = subst (λ (h : Header). h.gates ≡ 0) n.1 n.0;
-      sections = subst (λ (q : Header × ℕ × List Line). FourSections q.0 c q.2 []) (sym e) whole;
+      numbered = b.0.0;
+      rest = b.0.2;
+      sections = subst (λ (q : Header × ℕ × List Line). FourSections q.0 b.0.0 q.2 b.0.2) (sym e) s;
+      tail = subst (λ (q : Header × ℕ × List Line). TellsTail q.0 nothing_named b.0.0 c b.0.2) (sym e) t;
     }
 
 -- the header's row, and its limits
@@ -132,13 +148,20 @@ five (a ∷ b ∷ d ∷ e ∷ []) h = absurd (omega arith)
 five (a ∷ b ∷ d ∷ e ∷ f ∷ []) h = refl
 five (a ∷ b ∷ d ∷ e ∷ f ∷ g ∷ ns) h = absurd (omega arith)
 
+-- what the tail adds changes no row and no count
+rows_kept : (limit : ℕ) (ls : List Line) (c : Circuit) (t : TellCircuit limit ls c) → rows_of t.numbered ≡ rows_of c
+rows_kept limit ls c t = ap rows_of t.tail.circuit
+
+counts_kept : (limit : ℕ) (ls : List Line) (c : Circuit) (t : TellCircuit limit ls c) → header_row c ≡ row_of_header t.header
+counts_kept limit ls c t = sym (ap header_row t.tail.circuit) ∙ counts_read t.header t.numbered t.others t.rest t.sections
+
 abbrev IsHeaderOf : ℕ → Line → Circuit → List ℕ → Type 0
 IsHeaderOf limit l c ns = (header_row c ≡ ns) × IsHeaderLine ascii_word 5 l ns
 
 header_holds : (limit : ℕ) (ls : List Line) (c : Circuit) (t : TellCircuit limit ls c) → IsHeaderOf limit t.first c t.heads.numbers
 header_holds limit ls c t =
     let s = header_reads ascii_word t.first 5 5 t.heads.numbers (omega arith) t.heads.begins t.heads.read in
-    (counts_read t.header c t.others [] t.sections ∙ ap row_of_header (sym t.heads.is) ∙ five t.heads.numbers s.1, s.0)
+    (counts_kept limit ls c t ∙ ap row_of_header (sym t.heads.is) ∙ five t.heads.numbers s.1, s.0)
 
 abbrev AreLimits : List ℕ → Type 0
 AreLimits ns = (get_or ns 0 0 ≤ LARGEST) × (get_or ns 1 0 ≤ LARGEST) × (get_or ns 2 0 ≤ LARGEST) × (get_or ns 3 0 ≤ LARGEST) × (get_or ns 4 0 ≤ LARGEST)
@@ -157,28 +180,91 @@ none_left (x ∷ xs) h = absurd (omega arith)
 
 no_gates : (limit : ℕ) (ls : List Line) (c : Circuit) → TellCircuit limit ls c → c.gates ≡ []
 no_gates limit ls c t =
-    let row : get_or (header_row c) 4 0 ≡ get_or (row_of_header t.header) 4 0 = ap (λ (ns : List ℕ). get_or ns 4 0) (counts_read t.header c t.others [] t.sections) in
+    let row : get_or (header_row c) 4 0 ≡ get_or (row_of_header t.header) 4 0 = ap (λ (ns : List ℕ). get_or ns 4 0) (counts_kept limit ls c t) in
     none_left c.gates (row ∙ t.no_gates)
 
+-- as many things as the header tells may be named
+abbrev HasCounts : Header → Circuit → Type 0
+HasCounts h c = header_row c ≡ row_of_header h
+
+count_is : (h : Header) (c : Circuit) → HasCounts h c → (k : Kind) → count_named h k ≡ count_of c k
+count_is h c e Input = sym (ap (λ (ns : List ℕ). get_or ns 1 0) e)
+count_is h c e Latch = sym (ap (λ (ns : List ℕ). get_or ns 2 0) e)
+count_is h c e Output = sym (ap (λ (ns : List ℕ). get_or ns 3 0) e)
+
+placed : (h : Header) (c : Circuit) → HasCounts h c → (ss : List Symbol) → AllByRecursion (IsPlaced h) ss → AllByRecursion (λ (s : Symbol). s.position < count_of c s.kind) ss
+placed h c e [] p = tt
+placed h c e (s ∷ ss) p = (subst (λ n. s.position < n) (count_is h c e s.kind) p.0, placed h c e ss p.1)
+
+left_of : {X : Type 0} (P : X → Type 0) (xs ys : List X) → AllByRecursion P (xs ++ ys) → AllByRecursion P xs
+left_of P [] ys h = tt
+left_of P (x ∷ xs) ys h = (h.0, left_of P xs ys h.1)
+
+right_of : {X : Type 0} (P : X → Type 0) (xs ys : List X) → AllByRecursion P (xs ++ ys) → AllByRecursion P ys
+right_of P [] ys h = h
+right_of P (x ∷ xs) ys h = right_of P xs ys h.1
+
+-- the symbols that lines tell are those of the circuit
+symbols_told : (limit : ℕ) (ls : List Line) (c : Circuit) (t : TellCircuit limit ls c) → t.tail.symbols ≡ c.symbols
+symbols_told limit ls c t =
+    let none : t.numbered.symbols ≡ [] = subst (λ (d : Circuit). d.symbols ≡ []) t.sections.circuit refl in
+    ap (λ (ss : List Symbol). ss ++ t.tail.symbols) (sym none) ∙ ap (λ (d : Circuit). d.symbols) t.tail.circuit
+
+-- and are good
+good_symbols : (limit : ℕ) (ls : List Line) (c : Circuit) → AllByRecursion IsOneLine ls → TellCircuit limit ls c → HasGoodSymbols c
+good_symbols limit ls c one t =
+    let lines : ls ≡ (t.first ∷ t.sections.front) ++ (t.tail.named ++ t.tail.rest) = t.are ∙ ap (λ (ks : List Line). t.first ∷ ks) (t.sections.lines ∙ ap (λ (ks : List Line). t.sections.front ++ ks) t.tail.are) in
+    let named : AllByRecursion IsOneLine t.tail.named =
+    left_of IsOneLine t.tail.named t.tail.rest (right_of IsOneLine (t.first ∷ t.sections.front) (t.tail.named ++ t.tail.rest) (subst (λ (ks : List Line). AllByRecursion IsOneLine ks) lines one)) in
+    let symbols : t.tail.symbols ≡ c.symbols = symbols_told limit ls c t in
+    record {
+      positions = subst (λ (ss : List Symbol). AllByRecursion (λ (s : Symbol). s.position < count_of c s.kind) ss) symbols (placed t.header c (counts_kept limit ls c t) t.tail.symbols (new_placed t.header nothing_named t.tail.symbols t.tail.new));
+      apart = subst NameApart symbols (new_apart t.header t.tail.symbols t.tail.new);
+      lines = subst (λ (ss : List Symbol). AllByRecursion (λ (s : Symbol). ¬ IsAmong 10 s.name) ss) symbols (names_in_lines t.tail.named t.tail.symbols t.tail.spelled named);
+    }
+
+-- a circuit in form stays so with good symbols
+stays_in_form : (c d : Circuit) (ss : List Symbol) (comment : Option (List ℕ)) → with_tail c ss comment ≡ d → IsWithinLimits d → IsInForm c → HasGoodSymbols d → IsInForm d
+stays_in_form c d ss comment is limits form good =
+    record {
+      limits = limits;
+      variables = subst (λ (e : Circuit). AllByRecursion (IsVariableUpTo e.max_var) (defined_variables e)) is form.variables;
+      literals = subst (λ (e : Circuit). AllByRecursion (λ n. n ≤ 2 * e.max_var + 1) (used_literals e)) is form.literals;
+      symbols = good;
+    }
+
+limits_back : (c d : Circuit) (ss : List Symbol) (comment : Option (List ℕ)) → with_tail c ss comment ≡ d → IsWithinLimits d → IsWithinLimits c
+limits_back c d ss comment is limits =
+    let w : IsWithinLimits (with_tail c ss comment) = subst IsWithinLimits (sym is) limits in
+    record { max_var = w.max_var; inputs = w.inputs; latches = w.latches; outputs = w.outputs; gates = w.gates }
+
 -- what the lines of a text tell is in form
-pub circuit_in_form : (limit : ℕ) (ls : List Line) (c : Circuit) → circuit_at limit ls ≡ Ok c → IsInForm c × (c.gates ≡ [])
-circuit_in_form limit ls c is =
+pub circuit_in_form : (limit : ℕ) (ls : List Line) (c : Circuit) → AllByRecursion IsOneLine ls → circuit_at limit ls ≡ Ok c → IsInForm c × (c.gates ≡ [])
+circuit_in_form limit ls c one is =
     let t : TellCircuit limit ls c = circuit_told limit ls c is in
-    (in_form t.header c t.others [] (within_limits limit ls c t) t.sections, no_gates limit ls c t)
+    let limits = within_limits limit ls c t in
+    let numbered : IsInForm t.numbered = in_form t.header t.numbered t.others t.rest (limits_back t.numbered c t.tail.symbols t.tail.comment t.tail.circuit limits) t.sections in
+    (stays_in_form t.numbered c t.tail.symbols t.tail.comment t.tail.circuit limits numbered (good_symbols limit ls c one t), no_gates limit ls c t)
 
 -- a well-formed circuit that the lines of a text tell has the text as its file
 told_is_accepted : (limit : ℕ) (text : List ℕ) (c : Circuit) → TellCircuit limit (lines_of text) c → IsWellFormed c → IsAsciiText text limit c
 told_is_accepted limit text c t w =
     let holds = header_holds limit (lines_of text) c t in
-    let bare : (c.symbols ≡ []) × (c.comment ≡ None) = subst (λ (d : Circuit). (d.symbols ≡ []) × (d.comment ≡ None)) t.sections.circuit (refl, refl) in
+    let comment : t.tail.comment ≡ c.comment = ap (λ (d : Circuit). d.comment) t.tail.circuit in
     record {
       header = t.first;
       numbered = t.sections.front;
-      tail = [];
+      tail = t.rest;
       lines = t.are ∙ ap (λ (ms : List Line). t.first ∷ ms) t.sections.lines;
       is_header = subst (λ (ns : List ℕ). IsHeaderLine ascii_word 5 t.first ns) (sym holds.0) holds.1;
-      are_rows = subst (λ (rows : List _). AllZip IsRowLine t.sections.front rows) (rows_read t.header c t.others [] t.sections) t.sections.spelled;
-      is_tail = (refl, bare.0, bare.1);
+      are_rows = subst (λ (rows : List _). AllZip IsRowLine t.sections.front rows) (rows_read t.header t.numbered t.others t.rest t.sections ∙ rows_kept limit (lines_of text) c t) t.sections.spelled;
+      is_tail = record {
+        named = t.tail.named;
+        rest = t.tail.rest;
+        are = t.tail.are;
+        symbols = subst (λ (ss : List Symbol). AllZip IsSymbolLine t.tail.named ss) (symbols_told limit (lines_of text) c t) t.tail.spelled;
+        comment = subst (λ (o : Option (List ℕ)). IsComment t.tail.rest o) comment t.tail.is_comment;
+      };
       limited = subst (λ (ns : List ℕ). AllByRecursion (λ n. n ≤ limit) ns) (sym holds.0) (all_weaker (λ n. n ≤ min limit LARGEST) (λ n. n ≤ limit) (λ n h. omega arith) t.heads.numbers t.heads.within);
       counted = subst (λ (ns : List ℕ). get_or ns 1 0 + get_or ns 2 0 + get_or ns 4 0 ≤ get_or ns 0 0) (sym holds.0) t.heads.counted;
       well_formed = w;
@@ -195,7 +281,7 @@ unfolding reading
 reading_is_accepted limit text c h =
     let r = both_ok (circuit_at limit (lines_of text)) (λ (d : Circuit). unless_faulty d (first_fault d)) c h in
     let n = no_fault r.0 c (first_fault r.0) r.2 in
-    let form : IsInForm r.0 × (r.0.gates ≡ []) = circuit_in_form limit (lines_of text) r.0 r.1 in
+    let form : IsInForm r.0 × (r.0.gates ≡ []) = circuit_in_form limit (lines_of text) r.0 (pieces text).one_each r.1 in
     subst (λ (d : Circuit). IsAsciiText text limit d) n.1
     (told_is_accepted limit text r.0 (circuit_told limit (lines_of text) r.0 r.1) (well_formed r.0 form.0 form.1 n.0))
 
@@ -218,15 +304,29 @@ accepted_header limit text c a =
     }
 
 -- the lines of a circuit's file are read as the circuit
-steps : (limit k : ℕ) (l : Line) (others : List Line) (c : Circuit) → header_of ascii_word limit l ≡ Ok (header_of_row (header_row c)) → length c.gates ≡ 0 → sections_at (header_of_row (header_row c)) sections (empty_circuit c.max_var) 2 others ≡ Ok (c, k, []) → circuit_at limit (l ∷ others) ≡ Ok c
+steps : (limit k : ℕ) (l : Line) (others rest : List Line) (c : Circuit) → header_of ascii_word limit l ≡ Ok (header_of_row (header_row c)) → length c.gates ≡ 0
+    → sections_at (header_of_row (header_row c)) sections (empty_circuit c.max_var) 2 others ≡ Ok (bare c, k, rest) → tail_at (header_of_row (header_row c)) nothing_named (bare c) k rest ≡ Ok c → circuit_at limit (l ∷ others) ≡ Ok c
 unfolding circuit_at
-steps limit k l others c h none s = rw (h, eq-eqb (length c.gates) 0 none, s) refl
+steps limit k l others rest c h none s t = rw (h, eq-eqb (length c.gates) 0 none, s) t
+
+own_count : (c : Circuit) (k : Kind) → count_of c k ≡ count_named (header_of_row (header_row c)) k
+own_count c Input = refl
+own_count c Latch = refl
+own_count c Output = refl
+
+own_placed : (c : Circuit) (ss : List Symbol) → AllByRecursion (λ (s : Symbol). s.position < count_of c s.kind) ss → AllByRecursion (IsPlaced (header_of_row (header_row c))) ss
+own_placed c [] p = tt
+own_placed c (s ∷ ss) p = (subst (λ n. s.position < n) (own_count c s.kind) p.0, own_placed c ss p.1)
 
 accepted_lines : (limit : ℕ) (text : List ℕ) (c : Circuit) → IsAsciiText text limit c → circuit_at limit (lines_of text) ≡ Ok c
 accepted_lines limit text c a =
-    let s = sections_are_read c (well_formed_in_form c a.well_formed) 2 a.numbered a.tail a.is_tail.1 a.is_tail.2 a.are_rows in
-    let no_tail : sections_at (header_of_row (header_row c)) sections (empty_circuit c.max_var) 2 (a.numbered ++ a.tail) ≡ Ok (c, s.0, []) = s.1 ∙ ap (λ (rest : List Line). Ok (c, s.0, rest)) a.is_tail.0 in
-    rw a.lines (steps limit s.0 a.header (a.numbered ++ a.tail) c (told_header ascii_word limit a.header (header_of_row (header_row c)) (accepted_header limit text c a)) (ap length a.no_gates) no_tail)
+    let s = sections_are_read c (well_formed_in_form c a.well_formed) 2 a.numbered a.tail a.are_rows in
+    let good : HasGoodSymbols c = a.well_formed.symbols in
+    let new = apart_new (header_of_row (header_row c)) c.symbols (own_placed c c.symbols good.positions) good.apart in
+    let t : tail_at (header_of_row (header_row c)) nothing_named (bare c) s.0 a.tail ≡ Ok c =
+    ap (tail_at (header_of_row (header_row c)) nothing_named (bare c) s.0) a.is_tail.are
+    ∙ tail_is_told (header_of_row (header_row c)) nothing_named (bare c) s.0 a.is_tail.named a.is_tail.rest c.symbols c.comment refl a.is_tail.symbols new a.is_tail.comment in
+    rw a.lines (steps limit s.0 a.header (a.numbered ++ a.tail) a.tail c (told_header ascii_word limit a.header (header_of_row (header_row c)) (accepted_header limit text c a)) (ap length a.no_gates) s.1 t)
 
 -- a circuit's file is read as the circuit
 pub accepted_is_read : (limit : ℕ) (text : List ℕ) (c : Circuit) → IsAsciiText text limit c → reading limit text ≡ Ok c

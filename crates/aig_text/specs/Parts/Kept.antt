@@ -1,6 +1,7 @@
 -- How what a function of the reader returned is compared with what is read: numbers of any length as a machine word keeps
 -- them, and outcomes seen by a view.
 use Rattle.std.specs.Prelude.{◌≡◌, ◌+◌, ◌%◌, ◌^◌, ◌++◌, ◌⊎◌, ℕ, List, map, nat_lt, Option, None, Some, Result, Ok, Err, if◌then◌else◌}
+use Rattle.aig_core.specs.declared.circuit.Symbol.{Symbol}
 use Rattle.aig_text.specs.declared.fault.ReadFault.{ReadFault}
 use Rattle.aig_text.specs.Reading.{want_of_memory, Told}
 
@@ -42,3 +43,8 @@ row_told tell (Err e) = Err e
 abbrev pub rows_told : {A : Type 0} → (List ℕ → A) → List A → Told (List (List ℕ)) → Told (List A)
 rows_told tell found (Ok x) = Ok (found ++ map tell x.0, x.1, x.2)
 rows_told tell found (Err e) = Err e
+
+-- what is kept of a symbol
+abbrev pub kept_symbol : Option Symbol → Option Symbol
+kept_symbol None = None
+kept_symbol (Some s) = Some (record s { position = kept s.position })

@@ -2,6 +2,7 @@ use Rattle.std.proofs.Common.{◌∙◌}
 use Rattle.std.proofs.lemmas.Result.{err_from_is_err_and}
 use Rattle.aig_text.specs.Lines.{lines_of}
 use Rattle.aig_text.proofs.Grammar.Text.{circuit_in_form, reading_is_accepted}
+use Rattle.aig_text.proofs.Loops.Cutting.{pieces}
 use Rattle.aig_text.proofs.Grammar.Faults.{sound, line_fault, structural_fault, memory_only, one_circuit}
 use Rattle.aig_text.proofs.reader.read_ascii.Goals as goal
 
@@ -14,10 +15,10 @@ returns-in_err-circuit-clause-fault c = let h = err_from_is_err_and c.from_resid
     rw (h.1, h.2) (line_fault c.args.limits.max_var c.args.bytes.now c.in_err-circuit.field-0.0 c.in_err-circuit.ensures)
 
 pub check-requires-clause-in_form : goal.check-requires-clause-in_form
-check-requires-clause-in_form c = (circuit_in_form c.args.limits.max_var (lines_of c.args.bytes.now) c.in_ok-circuit.circuit c.in_ok-circuit.ensures).0
+check-requires-clause-in_form c = (circuit_in_form c.args.limits.max_var (lines_of c.args.bytes.now) c.in_ok-circuit.circuit (pieces c.args.bytes.now).one_each c.in_ok-circuit.ensures).0
 
 pub check-requires-clause-no_gates : goal.check-requires-clause-no_gates
-check-requires-clause-no_gates c = (circuit_in_form c.args.limits.max_var (lines_of c.args.bytes.now) c.in_ok-circuit.circuit c.in_ok-circuit.ensures).1
+check-requires-clause-no_gates c = (circuit_in_form c.args.limits.max_var (lines_of c.args.bytes.now) c.in_ok-circuit.circuit (pieces c.args.bytes.now).one_each c.in_ok-circuit.ensures).1
 
 pub returns-in-Ok-clause-ok : goal.returns-in-Ok-clause-ok
 returns-in-Ok-clause-ok c =

@@ -1,0 +1,23 @@
+-- Which inputs, latches and outputs symbols name, by their positions.
+use Rattle.std.specs.Prelude.{ℕ, Bool}
+use Rattle.std.specs.Ordering.{nat_cmp}
+use Rattle.std.specs.FinSet as set
+use Rattle.aig_core.specs.declared.circuit.Kind.{Kind}
+use Rattle.aig_core.specs.declared.circuit.Kind.TheVariants as kinds
+pub use Rattle.aig_core.specs.declared.names.Names.{Names}
+
+abbrev pub nothing_named : Names
+nothing_named = record { inputs = set.empty; latches = set.empty; outputs = set.empty }
+
+abbrev pub positions_named : Names → Kind → set.FinSet nat_cmp
+positions_named n kinds.Input = n.inputs
+positions_named n kinds.Latch = n.latches
+positions_named n kinds.Output = n.outputs
+
+abbrev pub with_name : Names → Kind → ℕ → Names
+with_name n kinds.Input position = record n { inputs = set.insert n.inputs position }
+with_name n kinds.Latch position = record n { latches = set.insert n.latches position }
+with_name n kinds.Output position = record n { outputs = set.insert n.outputs position }
+
+abbrev pub is_named : Names → Kind → ℕ → Bool
+is_named n kind position = set.contains (positions_named n kind) position

@@ -1,0 +1,86 @@
+-- How symbol lines and the line `c` are spelled and how they are read: each follows from the other.
+use Rattle.std.proofs.Common.{◌≡◌, ℕ, Bool, true, false, cond, List, [], ◌∷◌, ◌++◌, None, Some, refl, ap, subst, ◌∙◌, eqb}
+use Rattle.std.proofs.lemmas.Bool.{eqb-true, and_parts}
+use Rattle.aig_core.specs.declared.circuit.Kind.{Kind}
+use Rattle.aig_core.specs.declared.circuit.Kind.TheVariants.{Input, Latch, Output}
+use Rattle.aig_core.specs.declared.circuit.Symbol.{Symbol}
+use Rattle.aig_text.specs.Lines.{Line}
+use Rattle.aig_text.specs.Spelling.{IsNumber}
+use Rattle.aig_text.specs.Tail.{kind_letter, IsSymbolLine, IsCommentLine}
+use Rattle.aig_text.specs.Scanning.{kind_at, after_space, symbol, symbol_at, begins_comment, is_comment_line, is_line_end}
+use Rattle.aig_text.proofs.Grammar.Spellings.{number_reads, number_is_read, end_reads, end_is_read}
+use Rattle.aig_text.proofs.Grammar.NumberLines.{some_then}
+
+-- the letter
+abbrev IsLetter : ℕ → Kind → Type 0
+IsLetter b k = b ∷ [] ≡ kind_letter k
+
+by_letter : (b : ℕ) (i l o : Bool) (k : Kind) → eqb b 105 ≡ i → eqb b 108 ≡ l → eqb b 111 ≡ o → cond i (Some Input) (cond l (Some Latch) (cond o (Some Output) None)) ≡ Some k → IsLetter b k
+by_letter b true l o k hi hl ho h = let e : Input ≡ k = cc in subst (IsLetter b) e (ap (λ (n : ℕ). n ∷ []) (eqb-true b 105 hi))
+by_letter b false true o k hi hl ho h = let e : Latch ≡ k = cc in subst (IsLetter b) e (ap (λ (n : ℕ). n ∷ []) (eqb-true b 108 hl))
+by_letter b false false true k hi hl ho h = let e : Output ≡ k = cc in subst (IsLetter b) e (ap (λ (n : ℕ). n ∷ []) (eqb-true b 111 ho))
+by_letter b false false false k hi hl ho h = cc
+
+letter_reads : (b : ℕ) (k : Kind) → kind_at b ≡ Some k → IsLetter b k
+letter_reads b k h = by_letter b (eqb b 105) (eqb b 108) (eqb b 111) k refl refl refl h
+
+-- one space
+space_reads : (bytes rest : List ℕ) → after_space bytes ≡ Some rest → bytes ≡ 32 ∷ rest
+space_reads [] rest h = cc
+space_reads (b ∷ bytes) rest h =
+    elim (eqb b 32) as (λ t. eqb b 32 ≡ t → cond t (Some bytes) None ≡ Some rest → b ∷ bytes ≡ 32 ∷ rest) [
+      | true ↦ λ e g. let same : bytes ≡ rest = cc in ap (λ (n : ℕ). n ∷ bytes) (eqb-true b 32 e) ∙ ap (λ (t : List ℕ). 32 ∷ t) same
+      | false ↦ λ e g. cc
+    ] refl h
+
+-- a symbol
+pub symbol_reads : (l : Line) (text : List ℕ) (s : Symbol) → l.text ≡ text → symbol_at text ≡ Some s → IsSymbolLine l s
+unfolding symbol_at
+symbol_reads l [] s is h = cc
+symbol_reads l (b ∷ bytes) s is h =
+    let a = some_then _ _ _ h in
+    let p = some_then _ _ _ a.2 in
+    let n = some_then _ _ _ p.2 in
+    let letter : IsLetter b a.0 = letter_reads b a.0 a.1 in
+    let number = number_reads bytes p.0.1 p.0.0 p.1 in
+    let space : p.0.1 ≡ 32 ∷ n.0 = space_reads p.0.1 n.0 n.1 in
+    let whole : symbol a.0 p.0.0 n.0 ≡ s = cc in
+    subst (λ (t : Symbol). IsSymbolLine l t) whole (record {
+      digits = number.0;
+      text = is ∙ ap (λ (t : List ℕ). b ∷ t) number.1 ∙ ap (λ (t : List ℕ). t ++ (number.0 ++ p.0.1)) letter ∙ ap (λ (t : List ℕ). kind_letter a.0 ++ (number.0 ++ t)) space;
+      position = number.2;
+    })
+
+read_of : (k : Kind) (digits name : List ℕ) (n : ℕ) → IsNumber digits n → symbol_at (kind_letter k ++ (digits ++ (32 ∷ name))) ≡ Some (symbol k n name)
+unfolding symbol_at
+read_of Input digits name n h = rw (number_is_read digits (32 ∷ name) n h refl) refl
+read_of Latch digits name n h = rw (number_is_read digits (32 ∷ name) n h refl) refl
+read_of Output digits name n h = rw (number_is_read digits (32 ∷ name) n h refl) refl
+
+pub symbol_is_read : (l : Line) (s : Symbol) → IsSymbolLine l s → symbol_at l.text ≡ Some s
+symbol_is_read l s h = ap symbol_at h.text ∙ read_of s.kind h.digits s.name s.position h.position
+
+no_comment : (k : Kind) (ended : Bool) (rest : List ℕ) → begins_comment ended (kind_letter k ++ rest) ≡ false
+no_comment Input ended rest = refl
+no_comment Latch ended rest = refl
+no_comment Output ended rest = refl
+
+-- a symbol line does not begin the comment
+pub symbol_is_no_comment : (l : Line) (s : Symbol) → IsSymbolLine l s → is_comment_line l ≡ false
+unfolding is_comment_line
+symbol_is_no_comment l s h = ap (begins_comment l.ended) h.text ∙ no_comment s.kind l.ended (h.digits ++ (32 ∷ s.name))
+
+-- the line `c`
+comment_begins : (l : Line) (text : List ℕ) → l.text ≡ text → begins_comment l.ended text ≡ true → IsCommentLine l
+comment_begins l [] is h = cc
+comment_begins l (b ∷ bytes) is h =
+    let both = and_parts (eqb b 99) (is_line_end l.ended bytes) h in
+    record { ending = bytes; text = is ∙ ap (λ (n : ℕ). n ∷ bytes) (eqb-true b 99 both.0); ends = end_reads l.ended bytes both.1 }
+
+pub comment_reads : (l : Line) → is_comment_line l ≡ true → IsCommentLine l
+unfolding is_comment_line
+comment_reads l h = comment_begins l l.text refl h
+
+pub comment_is_read : (l : Line) → IsCommentLine l → is_comment_line l ≡ true
+unfolding is_comment_line
+comment_is_read l h = ap (begins_comment l.ended) h.text ∙ end_is_read l.ended h.ending h.ends

@@ -1,0 +1,158 @@
+//! The tail of a file: symbols and comment.
+ghost use Rattle.std.specs.Prelude.{◌≡◌, IfErr, IfOk, OnOk};
+ghost use Rattle.aig_core.specs.Names.{nothing_named, with_name};
+ghost use Rattle.aig_text.specs.Lines.{line as line_of, lines_of};
+ghost use Rattle.aig_text.specs.Parts.Kept.{kept_symbol, Gives, GivesOrMemory};
+ghost use Rattle.aig_text.specs.Scanning.{is_comment_line, kind_at, symbol, symbol_at};
+ghost use Rattle.aig_text.specs.Reading.{at_line, checked_symbol, count_named, tail_at, want_of_memory, with_comment, with_symbol};
+
+use crate::fault::{Place, ReadFault, ReadKind};
+use crate::header::Header;
+use crate::line::{Cursor, Line, split_line};
+use crate::number::{ends_line, number};
+use aig_core::{Circuit, Kind, Listing, Names, Symbol};
+use std::alloc::Global;
+
+/// What a symbol line tells.
+#[derive(Clone, Copy)]
+struct Naming<'a> {
+    kind: Kind,
+    /// What is kept of the position.
+    position: u64,
+    name: &'a [u8],
+}
+
+/// What the letter of a symbol line names.
+fn kind_of_letter(letter: u8) -> Option<Kind>
+    ensures { result ≡ kind_at letter }
+{
+    match letter {
+        b'i' => Some(Kind::Input),
+        b'l' => Some(Kind::Latch),
+        b'o' => Some(Kind::Output),
+        _ => None,
+    }
+}
+
+/// What a symbol line tells.
+#[tactic(auto, unfolding(crate::specs::Scanning::symbol_at))]
+fn leading_symbol(text: &[u8]) -> Option<Naming>
+    ensures { Gives (λ x. symbol x.kind x.position x.name.now) result (kept_symbol (symbol_at text.now)) }
+{
+    let (letter, rest) = text.split_first()?;
+    let kind = kind_of_letter(*letter)?;
+    let (position, rest) = number(rest)?;
+    match rest.split_first() {
+        Some((b' ', name)) => Some(Naming {
+            kind,
+            position,
+            name,
+        }),
+        _ => None,
+    }
+}
+
+/// Whether the line is the line `c`.
+#[tactic(auto, unfolding(crate::specs::Scanning::is_comment_line))]
+fn is_comment_line(line: Line) -> bool
+    ensures { result ≡ is_comment_line (line_of line.entry.text.now line.entry.ended) }
+{
+    match line.text.split_first() {
+        Some((b'c', rest)) => ends_line(rest, line.ended),
+        _ => false,
+    }
+}
+
+/// How many things of a kind there are.
+fn count_named(header: &Header, kind: Kind) -> u32
+    ensures { result ≡ count_named header.now kind }
+{
+    match kind {
+        Kind::Input => header.inputs,
+        Kind::Latch => header.latches,
+        Kind::Output => header.outputs,
+    }
+}
+
+/// The symbol of a line, whose number this is.
+fn read_symbol(
+    alloc: Global,
+    header: &Header,
+    names: &mut Names,
+    line: Line,
+    number: u64,
+) -> Result<Symbol, ReadFault>
+    ensures symbol { GivesOrMemory (λ s. s) result
+        (at_line number (checked_symbol header.now names.old (symbol_at line.entry.text.now))) }
+    ensures named { IfOk result (λ s. names.new ≡ with_name names.old s.kind s.position) }
+{
+    let place = Place::Line(number);
+    let Some(found) = leading_symbol(line.text) else {
+        return Err(ReadFault {
+            place,
+            kind: ReadKind::BadSymbol,
+        });
+    };
+    if u64::from(count_named(header, found.kind)) <= found.position {
+        return Err(ReadFault {
+            place,
+            kind: ReadKind::SymbolRange,
+        });
+    }
+    let position = found.position as u32;
+    if !names.insert(found.kind, position)? {
+        return Err(ReadFault {
+            place,
+            kind: ReadKind::SymbolTwice,
+        });
+    }
+    Ok(Symbol {
+        kind: found.kind,
+        position,
+        name: Listing::from_vec(Vec::from_slice(alloc, found.name)?),
+    })
+}
+
+/// Makes a copy of the bytes the comment of the circuit.
+fn put_comment(alloc: Global, circuit: &mut Circuit, bytes: &[u8]) -> Result<(), ReadFault>
+    ensures ok { OnOk result (circuit.new ≡ with_comment circuit.old bytes.now) }
+    ensures err { IfErr result (λ e. e ≡ want_of_memory) }
+{
+    circuit.comment = Some(Listing::from_vec(Vec::from_slice(alloc, bytes)?));
+    Ok(())
+}
+
+/// Adds the symbol to those of the circuit.
+fn put_symbol(circuit: &mut Circuit, symbol: Symbol) -> Result<(), ReadFault>
+    ensures ok { OnOk result (circuit.new ≡ with_symbol circuit.old symbol) }
+    ensures err { IfErr result (λ e. e ≡ want_of_memory) }
+{
+    circuit.symbols.push(symbol)?;
+    Ok(())
+}
+
+/// Adds the symbols and the comment that the lines from here on tell. Where there are none, it takes no memory.
+pub(crate) fn read_tail(
+    alloc: Global,
+    header: &Header,
+    circuit: &mut Circuit,
+    at: &mut Cursor,
+) -> Result<(), ReadFault>
+    ensures { GivesOrMemory (λ _. circuit.new) result
+        (tail_at header.now nothing_named circuit.old at.old.number (lines_of at.old.rest.now)) }
+{
+    if at.rest.is_empty() {
+        return Ok(());
+    }
+    let mut names = Names::new(alloc, header.inputs, header.latches, header.outputs)?;
+    while let Some((line, rest)) = split_line(at.rest) {
+        if is_comment_line(line) {
+            return put_comment(alloc, circuit, rest);
+        }
+        let symbol = read_symbol(alloc, header, &mut names, line, at.number)?;
+        put_symbol(circuit, symbol)?;
+        let number = at.number + 1;
+        *at = Cursor { rest, number };
+    }
+    Ok(())
+}
