@@ -1,17 +1,33 @@
 #!/usr/bin/env python3
-"""Writes the files that bench/run.py measures: bench/generate.py [FOLDER [LINES ..]], by default to bench/out.
+"""Writes the files that bench/run.py measures: those that are named KIND-N, where N is a number of lines.
 
-Each file is canonical, so the program gives it back byte for byte, and the same on every machine.
-  latches-N.aag   N latches, variables 1 to N in order: the easy case for the index of definitions
-  spread-N.aag    N latches, variables spread up to 2147483647 and shuffled: the hard case for it
-  outputs-N.aag   8 inputs and N outputs: reading and writing, and next to no definitions
+kinds:
+  latches         N latches, variables 1 to N in order: the index of definitions at its easiest
+  spread          N latches, variables spread up to 2147483647 and shuffled: the index at its hardest
+  outputs         8 inputs and N outputs: reading and writing, and next to no definitions
+  gates-ordered   N gates, each after those that it stands on, with 1,000 inputs, latches and outputs
+  gates-shuffled  the same circuit with its gates in any order
+  gates-sparse    the same circuit, variables spread up to 2147483647 and shuffled
+  gates-chain     N gates, each over the one before it and an input: as deep as a circuit can be
+
+Each file is canonical, so a conversion to ASCII gives it back byte for byte, and it is the same on every machine.
 """
+import argparse
 import os
 import random
-import sys
+import re
 
 LARGEST = 2147483647
-SIZES = (10_000, 100_000, 1_000_000)
+ENDS = 1000
+OUT = os.path.join(os.path.dirname(os.path.abspath(__file__)), "out")
+
+
+def spread_variables(count, chance):
+    """So many variables up to the largest, evenly apart but for chance, in shuffled order."""
+    room = LARGEST // count
+    variables = [place * room + chance.randrange(1, room + 1) for place in range(count)]
+    chance.shuffle(variables)
+    return variables
 
 
 def latches(count):
@@ -23,9 +39,7 @@ def latches(count):
 
 def spread(count):
     chance = random.Random(2)
-    room = LARGEST // count
-    variables = [place * room + chance.randrange(1, room + 1) for place in range(count)]
-    chance.shuffle(variables)
+    variables = spread_variables(count, chance)
     yield f"aag {LARGEST} 0 {count} 0 0\n"
     for variable in variables:
         yield f"{2 * variable} {2 * chance.choice(variables) + chance.randrange(2)}\n"
@@ -40,14 +54,73 @@ def outputs(count):
         yield f"{chance.randrange(18)}\n"
 
 
-def main(folder=None, *sizes):
-    folder = folder or os.path.join(os.path.dirname(os.path.abspath(__file__)), "out")
+def gates(count, is_sparse=False, is_shuffled=False, is_chain=False):
+    """A circuit whose places are its inputs, its latches and its gates, each gate over places before it."""
+    chance = random.Random(4)
+    first = 2 * ENDS
+    total = first + count
+    numbers = spread_variables(total, random.Random(5)) if is_sparse else range(1, total + 1)
+
+    def literal(below):
+        return 2 * numbers[chance.randrange(below)] + chance.randrange(2)
+
+    def gate(place):
+        left = 2 * numbers[place - 1] + chance.randrange(2) if is_chain else literal(place)
+        return f"{2 * numbers[place]} {left} {literal(first if is_chain else place)}\n"
+
+    yield f"aag {LARGEST if is_sparse else total} {ENDS} {ENDS} {ENDS} {count}\n"
+    for place in range(ENDS):
+        yield f"{2 * numbers[place]}\n"
+    for place in range(ENDS, first):
+        yield f"{2 * numbers[place]} {literal(total)}\n"
+    for _ in range(ENDS):
+        yield f"{literal(total)}\n"
+    lines = [gate(place) for place in range(first, total)]
+    if is_shuffled:
+        chance.shuffle(lines)
+    yield from lines
+
+
+KINDS = {
+    "latches": latches,
+    "spread": spread,
+    "outputs": outputs,
+    "gates-ordered": gates,
+    "gates-shuffled": lambda count: gates(count, is_shuffled=True),
+    "gates-sparse": lambda count: gates(count, is_sparse=True),
+    "gates-chain": lambda count: gates(count, is_chain=True),
+}
+# what the program takes today: no gates
+DEFAULT = [f"{kind}-{count}" for kind in ("latches", "spread", "outputs") for count in (10_000, 100_000, 1_000_000)]
+
+
+def file_name(text):
+    """A name of the form KIND-N, for argparse."""
+    form = re.fullmatch(r"(.+)-(\d+)", text)
+    if not form or form[1] not in KINDS or not 0 < int(form[2]) <= 10_000_000:
+        raise argparse.ArgumentTypeError(f"{text} is no KIND-N, with a kind that --help lists and N from 1 to 10000000")
+    return text
+
+
+def write(name, folder=OUT):
+    """Writes the file of that name, and returns its path."""
+    kind, count = name.rsplit("-", 1)
     os.makedirs(folder, exist_ok=True)
-    for make in (latches, spread, outputs):
-        for count in map(int, sizes or SIZES):
-            with open(f"{folder}/{make.__name__}-{count}.aag", "w", encoding="ascii") as file:
-                file.writelines(make(count))
+    path = os.path.join(folder, f"{name}.aag")
+    with open(path, "w", encoding="ascii") as file:
+        file.writelines(KINDS[kind](int(count)))
+    return path
+
+
+def main():
+    asked = argparse.ArgumentParser(description=__doc__, formatter_class=argparse.RawDescriptionHelpFormatter)
+    sizes = "by default latches, spread and outputs, each with 10000, 100000 and 1000000"
+    asked.add_argument("names", metavar="KIND-N", nargs="*", type=file_name, help=sizes)
+    asked.add_argument("--folder", default=OUT, help="where the files go, NAME.aag each (bench/out)")
+    given = asked.parse_args()
+    for name in given.names or DEFAULT:
+        print(write(name, given.folder))
 
 
 if __name__ == "__main__":
-    main(*sys.argv[1:])
+    main()

@@ -1,51 +1,57 @@
 #!/usr/bin/env python3
-"""Measures the program, wc -l and cat on the files of bench/generate.py, and prints a Markdown table.
+"""Measures the program, and another beside it, on the files of bench/generate.py, and prints a Markdown table.
 
-Each command reads the file as its standard input and writes to /dev/null. A time is the best of some runs, from the
-start of the process to its end, divided by the lines of the file. Peak memory is the kernel's count of resident memory.
+Each program reads the file as its standard input and writes to /dev/null. A time is the best of some runs, in which the
+programs take turns, from the start of the process to its end. Peak memory is the kernel's count of resident memory.
 """
 import argparse
-import glob
+import math
 import os
-import re
-import shlex
 import shutil
 import subprocess
 import sys
 import time
 
+sys.dont_write_bytecode = True
+import generate
+
 TOP = os.path.dirname(os.path.dirname(os.path.abspath(__file__)))
+LINKED = f"{TOP}/crates/aiger/out/aiger"
+WORDS = ["aigtoaig", "--ascii"]
 GNU_TIME = shutil.which("time", path="/usr/bin:/usr/local/bin")
 
 
-def spawned(words, source, target=os.devnull):
-    """Runs the words once. Returns seconds, peak kilobytes and the status."""
+def spawned(command, source, target=os.devnull):
+    """Runs the command once. Returns seconds, peak kilobytes and the status."""
     files = [
         (os.POSIX_SPAWN_OPEN, 0, source, os.O_RDONLY, 0),
         (os.POSIX_SPAWN_OPEN, 1, target, os.O_WRONLY | os.O_CREAT | os.O_TRUNC, 0o644),
     ]
     began = time.perf_counter()
-    child = os.posix_spawnp(words[0], words, os.environ, file_actions=files)
+    child = os.posix_spawnp(command[0], command, os.environ, file_actions=files)
     _, status, usage = os.wait4(child, 0)
     return time.perf_counter() - began, usage.ru_maxrss, os.waitstatus_to_exitcode(status)
 
 
-def best_seconds(words, source, runs):
-    return min(spawned(words, source)[0] for _ in range(runs))
+def best_seconds(commands, source, runs):
+    """The best time of each command. They take turns: what slows the machine for a while then slows all of them."""
+    rounds = [[spawned(it, source)[0] for it in commands] for _ in range(runs)]
+    return [min(times) for times in zip(*rounds)]
 
 
-def peak_kilobytes(words, source):
-    """Peak memory by GNU time, since the kernel counts this script's own memory to the processes that it starts itself."""
+def peak_bytes(command, source):
+    """Peak memory by GNU time, since the kernel counts this script's own memory to what it starts itself."""
     if not GNU_TIME:
-        return spawned(words, source)[1]
+        return 1024 * spawned(command, source)[1]
     with open(source, "rb") as given:
-        ran = subprocess.run([GNU_TIME, "-f", "%M", *words], stdin=given, stdout=subprocess.DEVNULL, stderr=subprocess.PIPE, check=False)
-    return int(ran.stderr.split()[-1])
+        how = {"stdin": given, "stdout": subprocess.DEVNULL, "stderr": subprocess.PIPE, "check": False}
+        ran = subprocess.run([GNU_TIME, "-f", "%M", *command], **how)
+    return 1024 * int(ran.stderr.split()[-1])
 
 
-def same_bytes(words, source, scratch):
-    """Whether the program takes the file and gives it back as it is: a wrong answer has no speed."""
-    status = spawned(words, source, scratch)[2]
+def gives_back(command, source, scratch):
+    """Whether the command gives the file back as it is: a wrong answer has no speed."""
+    status = spawned(command, source, scratch)[2]
     with open(source, "rb") as one, open(scratch, "rb") as other:
         return status == 0 and one.read() == other.read()
 
@@ -55,49 +61,71 @@ def lines_of(file):
         return it.read().count(b"\n")
 
 
-def by_name_and_size(file):
-    name, size = re.fullmatch(r"(.*?)-?(\d*)\.aag", os.path.basename(file)).groups()
-    return name, int(size or 0)
+def row(*cells):
+    print("| " + " | ".join(cells) + " |", flush=True)
+
+
+def measure(programs, files, runs):
+    """Prints the table. The programs are commands by name; the first is compared with the second, if there is one."""
+    names, commands = list(programs), list(programs.values())
+    os.makedirs(generate.OUT, exist_ok=True)
+    scratch, smallest = f"{generate.OUT}/scratch", f"{generate.OUT}/smallest"
+    with open(smallest, "w", encoding="ascii") as it:
+        it.write("aag 0 0 0 0 0\n")
+    starts = best_seconds(commands, smallest, 5 * runs)
+    floors = [peak_bytes(it, smallest) for it in commands]
+
+    heads = [f"{it}, ns a line" for it in names] + ["quotient"] * (len(names) > 1)
+    heads += [f"{it}, bytes a line" for it in names]
+    row("file", "lines", *heads)
+    print("|---|---:|" + "---:|" * len(heads))
+    quotients = []
+    for file in files:
+        for name, command in programs.items():
+            if not gives_back(command, file, scratch):
+                sys.exit(f"bench/run.py: {name} did not give {file} back")
+        lines = lines_of(file)
+        times = best_seconds(commands, file, runs)
+        memory = [max(peak_bytes(it, file) - floor, 0) for it, floor in zip(commands, floors)]
+        quotients += [times[0] / it for it in times[1:]]
+        cells = [f"{it * 1e9 / lines:.1f}" for it in times] + [f"{it:.2f}" for it in quotients[-1:]]
+        row(os.path.basename(file), f"{lines:,}", *cells, *[f"{it / lines:.0f}" for it in memory])
+
+    print(f"\nBest of {runs} runs. On the file `aag 0 0 0 0 0`:", end=" ")
+    ends = zip(names, starts, floors)
+    print("; ".join(f"{name} {start * 1e3:.2f} ms and {floor / 1e6:.1f} MB" for name, start, floor in ends) + ".")
+    if quotients:
+        mean = math.exp(sum(map(math.log, quotients)) / len(quotients))
+        print(f"Quotients: geometric mean {mean:.2f}, largest {max(quotients):.2f}.")
+    if not GNU_TIME:
+        print("Memory has this script's own in it, since GNU time is not installed.")
 
 
 def main():
-    asked = argparse.ArgumentParser(description=__doc__.splitlines()[0])
-    asked.add_argument("--program", default=f"{TOP}/crates/aiger/out/aiger", help="the executable to measure")
-    asked.add_argument("--other", action="append", default=[], metavar="COMMAND", help="a further command to measure on the same files")
-    asked.add_argument("--runs", type=int, default=7, help="runs of which the best counts")
-    asked.add_argument("files", nargs="*", help="by default those of bench/out, which are made where they are missing")
+    asked = argparse.ArgumentParser(description=__doc__, formatter_class=argparse.RawDescriptionHelpFormatter)
+    asked.add_argument("--program", default=LINKED, help="the executable to measure (crates/aiger/out/aiger)")
+    peer = "an executable to measure beside it, which takes the same words, aigtoaig --ascii, and the same streams"
+    asked.add_argument("--peer", help=peer)
+    asked.add_argument("--runs", type=int, default=15, help="runs of each program, of which the best counts (15)")
+    default = "what to measure on (those that bench/generate.py writes by default, made where they are missing)"
+    asked.add_argument("files", nargs="*", help=default)
     given = asked.parse_args()
 
-    folder = f"{TOP}/bench/out"
-    if not given.files and not glob.glob(f"{folder}/*.aag"):
-        subprocess.run([sys.executable, f"{TOP}/bench/generate.py", folder], check=True)
-    files = given.files or sorted(glob.glob(f"{folder}/*.aag"), key=by_name_and_size)
-    os.makedirs(folder, exist_ok=True)
-
-    program = [given.program, "aigtoaig", "--ascii"]
-    others = [["wc", "-l"], ["cat"], *map(shlex.split, given.other)]
-    smallest = f"{folder}/start.txt"
-    with open(smallest, "w", encoding="ascii") as it:
-        it.write("aag 0 0 0 0 0\n")
-    start, floor = best_seconds(program, smallest, 5 * given.runs), peak_kilobytes(program, smallest)
-
-    heads = ["file", "lines", "aiger, ns a line", "less the start", *[f"{shlex.join(it)}, ns a line" for it in others], "aiger, peak MB", "bytes a line"]
-    print("| " + " | ".join(heads) + " |")
-    print("|---|" + "---:|" * (len(heads) - 1))
-    for file in files:
-        if not same_bytes(program, file, f"{folder}/scratch.txt"):
-            sys.exit(f"{file}: the program did not give the file back")
-        lines = lines_of(file)
-        nanoseconds = lambda seconds: f"{seconds * 1e9 / lines:.1f}"
-        taken = best_seconds(program, file, given.runs)
-        peak = peak_kilobytes(program, file)
-        cells = [os.path.basename(file), f"{lines:,}", nanoseconds(taken), nanoseconds(max(taken - start, 0))]
-        cells += [nanoseconds(best_seconds(it, file, given.runs)) for it in others]
-        cells += [f"{peak / 1024:.1f}", f"{max(peak - floor, 0) * 1024 / lines:.0f}"]
-        print("| " + " | ".join(cells) + " |", flush=True)
-    print(f"\nStart (the file `aag 0 0 0 0 0`): {start * 1e3:.2f} ms, {floor / 1024:.1f} MB. Best of {given.runs} runs each.")
-    if not GNU_TIME:
-        print("Peak memory has this script's own memory in it, since GNU time is not installed.")
+    programs = {"aiger": given.program, **({"peer": given.peer} if given.peer else {})}
+    for path in programs.values():
+        if not (os.path.isfile(path) and os.access(path, os.X_OK)):
+            sys.exit(f"bench/run.py: no executable file: {path}" + " (./aiger links it)" * (path == LINKED))
+    for file in given.files:
+        if not os.path.isfile(file):
+            sys.exit(f"bench/run.py: no such file: {file}")
+    if given.runs < 1:
+        sys.exit("bench/run.py: --runs takes a number from 1")
+    files = given.files or [f"{generate.OUT}/{it}.aag" for it in generate.DEFAULT]
+    for name in generate.DEFAULT:
+        if not given.files and not os.path.isfile(f"{generate.OUT}/{name}.aag"):
+            generate.write(name)
+    commands = {name: [os.path.abspath(path), *WORDS] for name, path in programs.items()}
+    measure(commands, files, given.runs)
 
 
 if __name__ == "__main__":

@@ -1,30 +1,9 @@
 #!/usr/bin/env bash
 # Runs the linked program on real files and pipes: the rows of the table in rows.sh, and what needs a device of
-# the system, as a closed standard output, a large file or little memory.
+# the system, as a closed standard output, a large file or little memory. Then the launcher.
 . "$(dirname "${BASH_SOURCE[0]}")/rows.sh"
+. "$top/tests/judge.sh"
 need_program
-
-work=$(mktemp -d) || exit
-trap 'rm -rf "$work"' EXIT
-
-# judge NAME STATUS: compares what came in the files out, err and the status with the files want_out, want_err and $status
-judge() {
-    local name=$1 came=$2
-    if [ "$came" = "$status" ] && cmp -s "$work/out" "$work/want_out" && cmp -s "$work/err" "$work/want_err"; then
-        pass
-    else
-        fail "$name" \
-            "wanted status $status, output '$(shown "$work/want_out")', errors '$(shown "$work/want_err")'" \
-            "came   status $came, output '$(shown "$work/out")', errors '$(shown "$work/err")'"
-    fi
-}
-
-# wants OUTPUT ERRORS STATUS
-wants() {
-    printf '%b' "$1" > "$work/want_out"
-    printf '%b' "$2" > "$work/want_err"
-    status=$3
-}
 
 # each row through a pipe, and from a file
 row() {
@@ -32,54 +11,58 @@ row() {
     wants "$3" "$4" "$5"
     shift 5
     printf '%b' "$input" > "$work/in"
-    cat "$work/in" 2> "$work/cat" | "$program" "$@" > "$work/out" 2> "$work/err"
+    cat "$work/in" 2> /dev/null | "$program" "$@" > "$work/out" 2> "$work/err"
     judge "$name (pipe)" "${PIPESTATUS[1]}"
-    "$program" "$@" < "$work/in" > "$work/out" 2> "$work/err"
-    judge "$name (file)" $?
+    check "$name (file)" "$program" "$@" < "$work/in"
 }
 rows
 
-convert() { "$program" aigtoaig --ascii "$@"; }
+convert() { "$program" aigtoaig --ascii; }
 small='aag 3 1 1 2 0\n6\n2 7\n2\n0\n'
 printf '%b' "$small" > "$work/small"
 
+# the words run with a standard stream that takes nothing
+output_closed() { "$@" >&-; }
+output_full() { "$@" > /dev/full; }
+errors_closed() { "$@" 2>&-; }
+errors_full() { "$@" 2> /dev/full; }
+
 # --- devices ---
 wants '' 'aiger: -: cannot write\n' 1
-: > "$work/out"
-convert < "$work/small" 2> "$work/err" >&-
-judge 'a closed standard output' $?
-convert < "$work/small" 2> "$work/err" > /dev/full
-judge 'a full standard output' $?
+check 'a closed standard output' output_closed convert < "$work/small"
+check 'a full standard output' output_full convert < "$work/small"
 # the reader of the pipe goes after one byte, with more to come than a pipe holds
 awk 'BEGIN { print "aag 0 0 0 100000 0"; for (i = 0; i < 100000; i++) print i % 2 }' > "$work/long"
+: > "$work/out"
 convert < "$work/long" 2> "$work/err" | head -c 1 > "$work/first"
 judge 'a pipe that nobody reads any more' "${PIPESTATUS[0]}"
 
 wants '' 'aiger: -: cannot read\n' 1
-convert < "$work" > "$work/out" 2> "$work/err"
-judge 'a directory as standard input' $?
-convert > "$work/out" 2> "$work/err" <&-
-judge 'a closed standard input' $?
+check 'a directory as standard input' convert < "$work"
+check 'a closed standard input' convert <&-
 
+# a fault of the file is told before anything is written, so a standard output that fails is not seen
+wants '' 'aiger: -: line 1: not an AIGER file\n' 1
+check 'a refusal with a closed standard output' output_closed convert < /dev/null
+check 'a refusal with a full standard output' output_full convert < /dev/null
+
+# that the message cannot be told changes nothing
 wants '' '' 1
-: > "$work/err"
-convert < /dev/null > "$work/out" 2>&-
-judge 'a refusal with a closed standard error' $?
-convert < /dev/null > "$work/out" 2> /dev/full
-judge 'a refusal with a full standard error' $?
+check 'a refusal with a closed standard error' errors_closed convert < /dev/null
+check 'a refusal with a full standard error' errors_full convert < /dev/null
 wants '' '' 2
-"$program" < /dev/null > "$work/out" 2>&-
-judge 'no words with a closed standard error' $?
+check 'no words with a closed standard error' errors_closed "$program" < /dev/null
+check 'no words with a full standard error' errors_full "$program" < /dev/null
 
 wants "$small" '' 0
-{ printf 'aag 3 1'; sleep 0.1; printf ' 1 2 0\n6\n2'; sleep 0.1; printf ' 7\n2\n0\n'; } | convert > "$work/out" 2> "$work/err"
+in_pieces() { printf 'aag 3 1'; sleep 0.1; printf ' 1 2 0\n6\n2'; sleep 0.1; printf ' 7\n2\n0\n'; }
+in_pieces | convert > "$work/out" 2> "$work/err"
 judge 'a file that comes in pieces' "${PIPESTATUS[1]}"
 convert < "$work/small" 2> "$work/err" | cat > "$work/out"
 judge 'into a pipe' "${PIPESTATUS[0]}"
 # words that are not supported leave standard input alone, for whoever reads it next
-{ "$program" 2> "$work/err"; cat; } < "$work/small" > "$work/out"
-: > "$work/err"
-judge 'nothing is read for words not supported' 0
+then_read() { errors_closed "$program"; cat; }
+check 'nothing is read for words not supported' then_read < "$work/small"
 
 # --- large files: 100,000 lines after the header, canonical, so that they come back as they are ---
 large() {
@@ -92,73 +75,51 @@ large() {
     }'
 }
 round_trip() {
-    status=0
-    large "$2" "$3" "$4" > "$work/want_out"
-    : > "$work/want_err"
-    convert < "$work/want_out" > "$work/out" 2> "$work/err"
-    judge "a large file comes back: $1" $?
+    wants '' '' 0
+    large "$2" "$3" "$4" > "$work/in"
+    cp "$work/in" "$work/want_out"
+    check "a large file comes back: $1" convert < "$work/in"
 }
 round_trip 'all sections' 20000 40000 40000
 round_trip 'inputs' 100000 0 0
 round_trip 'latches' 0 100000 0
 round_trip 'outputs' 1 0 99999
 
-# the first variable again, on the last of many lines
 { printf 'aag 100001 100001 0 0 0\n'; seq 2 2 200000; printf '2\n'; } > "$work/in"
 wants '' 'aiger: -: variable 1 defined twice\n' 1
-convert < "$work/in" > "$work/out" 2> "$work/err"
-judge 'a variable again after 100,000 lines' $?
+check 'the first variable again, after 100,000 lines' convert < "$work/in"
 { printf 'aag 100000 100000 0 0 0\n'; seq 2 2 199998; printf 'x\n'; } > "$work/in"
 wants '' 'aiger: -: line 100001: bad line\n' 1
-convert < "$work/in" > "$work/out" 2> "$work/err"
-judge 'a bad line after 100,000 lines' $?
+check 'a bad line after 100,000 lines' convert < "$work/in"
 { printf 'aag 1 0 0 1 0\n'; head -c 3000000 /dev/zero | tr '\0' '0'; printf '\n'; } > "$work/in"
 wants 'aag 1 0 0 1 0\n0\n' '' 0
-convert < "$work/in" > "$work/out" 2> "$work/err"
-judge 'a line of 3,000,000 digits' $?
+check 'a line of 3,000,000 digits' convert < "$work/in"
 
 # --- little memory: what a header asks for is not taken before its lines are there ---
-with_little() {
-    ( ulimit -v 204800; exec timeout 10 "$program" aigtoaig --ascii ) < "$work/in" > "$work/out" 2> "$work/err"
-}
+# within KILOBYTES WORD..: the words with so much memory, for ten seconds at most
+within() { ( ulimit -v "$1" && shift && exec timeout 10 "$@" ); }
 for header in '2147483647 2147483647 0 0 0' '2147483647 0 2147483647 0 0' '2147483647 0 0 2147483647 0'; do
-    wants '' 'aiger: -: line 2: file ends too early\n' 1
     printf 'aag %s\n' "$header" > "$work/in"
-    with_little
-    judge "200 MB are enough for the header $header" $?
+    wants '' 'aiger: -: line 2: file ends too early\n' 1
+    check "200 MB are enough for the header $header" within 204800 "$program" aigtoaig --ascii < "$work/in"
 done
-wants 'aag 2147483647 2 0 1 0\n4294967294\n2\n4294967295\n' '' 0
-cp "$work/want_out" "$work/in"
-with_little
-judge '200 MB are enough for the largest variable' $?
-# 20 MB of memory cannot hold this file: the program says so and writes nothing
+widest='aag 2147483647 2 0 1 0\n4294967294\n2\n4294967295\n'
+printf '%b' "$widest" > "$work/in"
+wants "$widest" '' 0
+check '200 MB are enough for the largest variable' within 204800 "$program" aigtoaig --ascii < "$work/in"
 large 0 2000000 0 > "$work/in"
 wants '' 'aiger: out of memory\n' 1
-( ulimit -v 20480; exec "$program" aigtoaig --ascii ) < "$work/in" > "$work/out" 2> "$work/err"
-judge 'a file larger than memory' $?
+check 'a file larger than the 20 MB of memory' within 20480 "$program" aigtoaig --ascii < "$work/in"
 
-# --- the examples, and the launcher, which stands in front of the same program ---
+# --- the examples ---
 for file in "$top"/examples/*.aag; do
     canonical=$top/examples/canonical/${file##*/}
-    status=0
-    : > "$work/want_err"
+    wants '' '' 0
     cp "$canonical" "$work/want_out"
-    convert < "$file" > "$work/out" 2> "$work/err"
-    judge "the example ${file##*/}" $?
-    convert < "$canonical" > "$work/out" 2> "$work/err"
-    judge "the example ${file##*/}, once more" $?
+    check "the example ${file##*/}" convert < "$file"
+    check "the example ${file##*/}, once more" convert < "$canonical"
 done
-if [ -z "${AIGER-}" ]; then
-    wants "$small" '' 0
-    "$top/aiger" aigtoaig --ascii < "$work/small" > "$work/out" 2> "$work/err"
-    judge 'the launcher' $?
-    wants '' 'aiger: words not supported\n' 2
-    "$top/aiger" > "$work/out" 2> "$work/err"
-    judge "the launcher's status" $?
-    wants "$small" '' 0
-    ln -s "$top/aiger" "$work/link"
-    ( cd / && "$work/link" aigtoaig --ascii < "$work/small" > "$work/out" 2> "$work/err" )
-    judge 'the launcher by a link, from another folder' $?
-fi
+
+. "$top/tests/launcher.sh"
 
 finish

@@ -3,9 +3,9 @@
 
        REFUSE=3 REFUSED=/tmp/refused LD_PRELOAD=./refuse_growth.so aiger aigtoaig --ascii < some.aag
 
-   A growth is a call of malloc, calloc, realloc, aligned_alloc or posix_memalign; all others go to the C library. Nothing
-   is included and nothing is linked, so that this compiles where there is a compiler and no headers of the C library:
-   clang -O1 -shared -fPIC -nostdinc -nostdlib -o refuse_growth.so refuse_growth.c */
+   A growth is a call of malloc, calloc, realloc, aligned_alloc or posix_memalign; the C library answers those that are
+   not refused. Nothing is included and nothing is linked, so this compiles where the C library's headers are missing:
+   clang -O1 -fno-builtin -shared -fPIC -nostdinc -nostdlib -o refuse_growth.so refuse_growth.c */
 
 typedef unsigned long size;
 #define NOTHING ((void *)0)

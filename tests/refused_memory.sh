@@ -3,10 +3,8 @@
 # A run with a refusal answers 'aiger: out of memory', status 1, and writes nothing; the run without one gives the
 # row's own answer. A row counts once.
 . "$(dirname "${BASH_SOURCE[0]}")/rows.sh"
+. "$top/tests/judge.sh"
 need_program
-
-work=$(mktemp -d) || exit
-trap 'rm -rf "$work"' EXIT
 most=20000   # a row that grows more often than this fails
 
 # compile COMMAND..: only what every C compiler has is used, no header and no library
@@ -14,53 +12,46 @@ compile() {
     command -v "$1" > /dev/null && "$@" -O1 -fno-builtin -shared -fPIC -nostdinc -nostdlib \
         -o "$work/refuse_growth.so" "$top/tests/refuse_growth.c" 2>> "$work/compile"
 }
-rt=$(command -v rt || echo /opt/rattle/bin/rt)
+rt=${RT:-$(command -v rt)}
 kit=$(dirname "$(readlink -f "$rt")")/../toolchain/bin
 if ! compile gcc && ! compile cc && ! compile clang && ! compile "$kit/clang" "--ld-path=$kit/ld.lld"; then
-    fail 'tests/refuse_growth.c compiles' "wanted gcc, cc, clang or $kit/clang" "came   $(cat "$work/compile" 2> /dev/null)"
+    fail 'tests/refuse_growth.c compiles' \
+        "wanted gcc, cc, clang or $kit/clang" "came   $(cat "$work/compile" 2> /dev/null)"
     finish
 fi
 
-# run_with N WORD..: one run with the Nth growth refused; its status is in $came
-run_with() {
+# run_refusing N WORD..: one run with the Nth growth refused, which then leaves the file refused
+run_refusing() {
     local number=$1
     shift
     rm -f "$work/refused"
     REFUSE=$number REFUSED=$work/refused LD_PRELOAD=$work/refuse_growth.so \
         "$program" "$@" < "$work/in" > "$work/out" 2> "$work/err"
-    came=$?
 }
 
-printf 'aiger: out of memory\n' > "$work/want_refused"
 growths=0
 
 row() {
-    local name=$1 status=$5 number wrong=''
-    printf '%b' "$2" > "$work/in"
-    printf '%b' "$3" > "$work/want_out"
-    printf '%b' "$4" > "$work/want_err"
+    local name=$1 input=$2 output=$3 errors=$4 status=$5 number ended
     shift 5
+    printf '%b' "$input" > "$work/in"
+    wants '' 'aiger: out of memory\n' 1
     for ((number = 1; number <= most; number++)); do
-        run_with "$number" "$@"
+        run_refusing "$number" "$@"
+        ended=$?
         [ -e "$work/refused" ] || break
         growths=$((growths + 1))
-        if [ "$came" != 1 ] || [ -s "$work/out" ] || ! cmp -s "$work/err" "$work/want_refused"; then
-            wrong="growth $number refused: wanted status 1, output '', errors 'aiger: out of memory\\n'"
-            break
+        if ! came "$ended"; then
+            tell "$name, growth $number refused"
+            return
         fi
     done
-    if [ -z "$wrong" ]; then
-        if [ "$number" -gt "$most" ]; then
-            wrong="wanted an end within $most growths"
-        elif [ "$came" != "$status" ] || ! cmp -s "$work/out" "$work/want_out" || ! cmp -s "$work/err" "$work/want_err"; then
-            wrong="no growth refused: wanted status $status, output '$(shown "$work/want_out")', errors '$(shown "$work/want_err")'"
-        fi
+    if [ "$number" -gt "$most" ]; then
+        fail "$name" "wanted an end within $most growths"
+        return
     fi
-    if [ -z "$wrong" ]; then
-        pass
-    else
-        fail "$name" "$wrong" "came status $came, output '$(shown "$work/out")', errors '$(shown "$work/err")'"
-    fi
+    wants "$output" "$errors" "$status"
+    judge "$name, no growth refused" "$ended"
 }
 rows
 
@@ -76,9 +67,14 @@ many() {
 for lines in 10 100 1000; do
     same "$lines inputs, latches and outputs" "$(many "$lines")\n"
 done
-refuses 'the first of 1,000 inputs again at the end' "aag 1001 1001 0 0 0\n$(seq 2 2 2000)\n2\n" 'variable 1 defined twice'
+twice="aag 1001 1001 0 0 0\n$(seq 2 2 2000)\n2\n"
+refuses 'the first of 1,000 inputs again at the end' "$twice" 'variable 1 defined twice'
 
 # without a single growth refused the table would show nothing
-if [ "$growths" -gt 0 ]; then pass; else fail 'some growth was refused' 'wanted at least one' 'came   none: was refuse_growth.so loaded?'; fi
+if [ "$growths" -gt 0 ]; then
+    pass
+else
+    fail 'some growth was refused' 'wanted at least one' 'came   none: was refuse_growth.so loaded?'
+fi
 printf '%s growths refused\n' "$growths"
 finish

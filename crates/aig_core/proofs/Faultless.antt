@@ -16,7 +16,8 @@ use Rattle.aig_core.specs.Literal.{variable_of}
 use Rattle.aig_core.specs.Wellformed.{IsAmong, AreDistinct, IsKnown, HasRank, IsWellFormed, defined_variables, used_literals}
 use Rattle.aig_core.specs.Form.{IsInForm}
 use Rattle.aig_core.specs.declared.fault.CheckFault.TheVariants.{OutOfMemory, Redefined, Undefined}
-use Rattle.aig_core.specs.Fault.{IsFault, first_repeat, first_unknown, with_all, is_known, first_fault, redefined_or, undefined_fault}
+use Rattle.aig_core.specs.Fault.{IsFault, first_repeat, first_unknown, with_all, is_known, first_fault}
+use Rattle.std.specs.Option.{option_map, option_or}
 
 same_is_equal : (x : ℕ) → eq_by_cmp nat_cmp x x ≡ true
 same_is_equal x = (eq_by_cmp_equiv nat_cmp_total).refl x
@@ -120,23 +121,20 @@ none_unknown vars [] h = refl
 none_unknown vars (x ∷ xs) h =
     ap (λ b. cond b (first_unknown (with_all set.empty vars) xs) (Some x)) (known_told vars x h.0) ∙ none_unknown vars xs h.1
 
-no_redefinition : (o : Option ℕ) (f : Option CheckFault) → redefined_or o f ≡ None → (o ≡ None) × (f ≡ None)
-no_redefinition None f h = (refl, h)
-no_redefinition (Some x) f h = cc
-
-no_undefined : (o : Option ℕ) → undefined_fault o ≡ None → o ≡ None
-no_undefined None h = refl
-no_undefined (Some x) h = cc
+nothing_told : (repeat unknown : Option ℕ) → option_or (option_map Redefined repeat) (option_map Undefined unknown) ≡ None → (repeat ≡ None) × (unknown ≡ None)
+nothing_told None None h = (refl, refl)
+nothing_told None (Some x) h = cc
+nothing_told (Some x) unknown h = cc
 
 -- a circuit in form, without a fault and with a rank of its gates, is well formed
 pub well_formed_with_rank : (c : Circuit) → IsInForm c → HasRank c.gates → first_fault c ≡ None → IsWellFormed c
 well_formed_with_rank c form rank h =
-    let n : (first_repeat set.empty (defined_variables c) ≡ None) × (undefined_fault (first_unknown (with_all set.empty (defined_variables c)) (used_literals c)) ≡ None) = no_redefinition _ _ h in
+    let n = nothing_told (first_repeat set.empty (defined_variables c)) (first_unknown (with_all set.empty (defined_variables c)) (used_literals c)) h in
     record {
       limits = form.limits;
       in_range = form.variables;
       once = distinct set.empty (defined_variables c) n.0;
-      known = all_known (defined_variables c) (used_literals c) (no_undefined _ n.1);
+      known = all_known (defined_variables c) (used_literals c) n.1;
       symbols = form.symbols;
       ranked = rank;
     }
@@ -152,16 +150,14 @@ pub faultless : (c : Circuit) → IsWellFormed c → first_fault c ≡ None
 faultless c w =
     let once : first_repeat set.empty (defined_variables c) ≡ None = nothing_repeats set.empty (defined_variables c) w.once (λ y _ h. none_in_empty y h) in
     let known : first_unknown (with_all set.empty (defined_variables c)) (used_literals c) ≡ None = none_unknown (defined_variables c) (used_literals c) w.known in
-    ap (λ o. redefined_or o (undefined_fault (first_unknown (with_all set.empty (defined_variables c)) (used_literals c)))) once ∙ ap undefined_fault known
+    rw (once, known) refl
 
 pub faultless_is_well_formed : (c : Circuit) → IsInForm c → c.gates ≡ [] → (first_fault c ≡ None) ↔ IsWellFormed c
 faultless_is_well_formed c form no_gates = (well_formed c form no_gates, faultless c)
 
 -- a well-formed circuit is told nothing but want of memory
 told_of_none : (e : CheckFault) → e ≢ OutOfMemory → IsFault e None → ⊥
-told_of_none OutOfMemory ne h = ne refl
-told_of_none (Redefined v) ne h = cc
-told_of_none (Undefined l) ne h = cc
+told_of_none e ne h = ⊎_elim ne (λ none. cc) h
 
 pub refuted : (e : CheckFault) (c : Circuit) → IsWellFormed c → e ≢ OutOfMemory → IsFault e (first_fault c) → ⊥
 refuted e c good ne h = told_of_none e ne (subst (IsFault e) (faultless c good) h)

@@ -1,5 +1,5 @@
 -- Facts on each item of a section, joined to facts on the circuit's lists, and symbols in order.
-use Rattle.std.proofs.Common.{◌≡◌, ℕ, ◌+◌, ◌<◌, Bool, true, false, List, [], ◌∷◌, ◌++◌, map, arith, sym, ap₂, ◌∙◌, flat_map, Decides, true≢false, not, ◌==◌}
+use Rattle.std.proofs.Common.{◌≡◌, ℕ, ◌+◌, ◌<◌, Bool, List, [], ◌∷◌, ◌++◌, map, arith, sym, ap₂, flat_map, Decides, not, ◌==◌}
 use Rattle.std.specs.List.{All, AllByRecursion, list_any}
 use Rattle.std.proofs.lemmas.Bool.Decides.{Decides-eqb, Decides-or, Decides-not, Decides-like, Decides-at}
 use Rattle.std.proofs.lemmas.List.Elements.{All-from_recursion, recursion_from_All}
@@ -7,8 +7,10 @@ use Rattle.aig_core.specs.declared.circuit.Latch.{Latch}
 use Rattle.aig_core.specs.declared.circuit.Gate.{Gate}
 use Rattle.aig_core.specs.declared.circuit.Symbol.{Symbol}
 use Rattle.aig_core.specs.declared.circuit.Circuit.{Circuit}
-use Rattle.aig_core.specs.Wellformed.{IsAmong, NameTheSame, NameApart, operands, defined_variables, used_literals}
-use Rattle.aig_core.specs.SymbolOrder.{start_of, place_of, IsRisingFrom}
+use Rattle.aig_core.specs.Wellformed.{IsAmong, IsWithinLimits, IsVariableUpTo, HasGoodSymbols, NameTheSame, NameApart, operands}
+use Rattle.aig_core.specs.Form.{IsInForm, IsLiteralUpTo, AreInRange, HasEntriesInRange}
+use Rattle.aig_core.proofs.Sections.{defined_inputs, defined_latches, defined_gates, used_nexts, used_outputs, defined_is, used_is}
+use Rattle.aig_core.specs.Parts.SymbolOrder.{start_of, place_of, IsRisingFrom}
 
 -- a fact on each item of two lists, and on each of the two joined
 module _ {X : Type 0} (P : X → Type 0) where
@@ -24,81 +26,76 @@ module _ {X : Type 0} (P : X → Type 0) where
   back [] ys h = h
   back (x ∷ xs) ys h = back xs ys h.1
 
--- a fact on each item's number, and on each number of their list
-module _ {X : Type 0} (f : X → ℕ) (P : ℕ → Type 0) where
-  pub map_to : (xs : List X) → AllByRecursion (λ x. P (f x)) xs → AllByRecursion P (map f xs)
-  map_to [] h = tt
-  map_to (x ∷ xs) h = (h.0, map_to xs h.1)
+-- what the entries of a section define and use is in range, one by one and in a row
+module _ {X : Type 0} (max_var : ℕ) (defined used : X → List ℕ) where
+  in_a_row : (xs : List X) → AllByRecursion (λ x. AreInRange max_var (defined x) (used x)) xs → AreInRange max_var (flat_map defined xs) (flat_map used xs)
+  in_a_row [] h = (tt, tt)
+  in_a_row (x ∷ xs) h =
+      let later : AreInRange max_var (flat_map defined xs) (flat_map used xs) = in_a_row xs h.1 in
+      (joined _ (defined x) (flat_map defined xs) h.0.0 later.0, joined _ (used x) (flat_map used xs) h.0.1 later.1)
 
-  pub map_from : (xs : List X) → AllByRecursion P (map f xs) → AllByRecursion (λ x. P (f x)) xs
-  map_from [] h = tt
-  map_from (x ∷ xs) h = (h.0, map_from xs h.1)
+  one_by_one : (xs : List X) → AreInRange max_var (flat_map defined xs) (flat_map used xs) → AllByRecursion (λ x. AreInRange max_var (defined x) (used x)) xs
+  one_by_one [] h = tt
+  one_by_one (x ∷ xs) h = (
+    (front _ (defined x) (flat_map defined xs) h.0, front _ (used x) (flat_map used xs) h.1),
+    one_by_one xs (back _ (defined x) (flat_map defined xs) h.0, back _ (used x) (flat_map used xs) h.1),
+  )
 
--- the same, where the fact on an item is on a list of one
-module _ {X : Type 0} (f : X → ℕ) (P : ℕ → Type 0) where
-  pub one_to : (xs : List X) → AllByRecursion (λ x. AllByRecursion P (f x ∷ [])) xs → AllByRecursion P (map f xs)
-  one_to [] h = tt
-  one_to (x ∷ xs) h = (h.0.0, one_to xs h.1)
+  pub entries_to : (xs : List X) → All (λ x. AreInRange max_var (defined x) (used x)) xs → AreInRange max_var (flat_map defined xs) (flat_map used xs)
+  entries_to xs h = in_a_row xs (recursion_from_All _ xs h)
 
-  pub one_from : (xs : List X) → AllByRecursion P (map f xs) → AllByRecursion (λ x. AllByRecursion P (f x ∷ [])) xs
-  one_from [] h = tt
-  one_from (x ∷ xs) h = ((h.0, tt), one_from xs h.1)
+  pub entries_from : (xs : List X) → AreInRange max_var (flat_map defined xs) (flat_map used xs) → All (λ x. AreInRange max_var (defined x) (used x)) xs
+  entries_from xs h = All-from_recursion _ xs (one_by_one xs h)
 
-module _ (P : ℕ → Type 0) where
-  pub ones_to : (xs : List ℕ) → AllByRecursion (λ x. AllByRecursion P (x ∷ [])) xs → AllByRecursion P xs
-  ones_to [] h = tt
-  ones_to (x ∷ xs) h = (h.0.0, ones_to xs h.1)
+-- entries that define nothing, and entries that use nothing
+none_of : {X : Type 0} (P : ℕ → Type 0) (xs : List X) → AllByRecursion P (flat_map (λ (_ : X). []) xs)
+none_of P [] = tt
+none_of P (x ∷ xs) = none_of P xs
 
-  pub ones_from : (xs : List ℕ) → AllByRecursion P xs → AllByRecursion (λ x. AllByRecursion P (x ∷ [])) xs
-  ones_from [] h = tt
-  ones_from (x ∷ xs) h = ((h.0, tt), ones_from xs h.1)
+module _ (c : Circuit) where
+  abbrev Defines : ℕ → Type 0
+  Defines = IsVariableUpTo c.max_var
 
-  pub pairs_to : (gs : List Gate) → AllByRecursion (λ g. AllByRecursion P (operands g)) gs → AllByRecursion P (flat_map operands gs)
-  pairs_to [] h = tt
-  pairs_to (g ∷ gs) h = (h.0.0, (h.0.1.0, pairs_to gs h.1))
+  abbrev Uses : ℕ → Type 0
+  Uses = IsLiteralUpTo c.max_var
 
-  pub pairs_from : (gs : List Gate) → AllByRecursion P (flat_map operands gs) → AllByRecursion (λ g. AllByRecursion P (operands g)) gs
-  pairs_from [] h = tt
-  pairs_from (g ∷ gs) h = ((h.0, (h.1.0, tt)), pairs_from gs h.1.1)
+  abbrev inputs : List ℕ
+  inputs = defined_inputs c.inputs
 
--- the sections that define variables, and those that use literals
-module _ (P : ℕ → Type 0) (c : Circuit) where
-  pub variables_to : All P c.inputs → All (λ (l : Latch). P l.var) c.latches → All (λ (g : Gate). P g.var) c.gates → AllByRecursion P (defined_variables c)
-  variables_to i l g =
-      joined P _ _ (joined P _ _ (recursion_from_All P c.inputs i) (map_to _ P c.latches (recursion_from_All _ c.latches l)))
-      (map_to _ P c.gates (recursion_from_All _ c.gates g))
+  abbrev latches : List ℕ
+  latches = defined_latches c.latches
 
-  pub variables_from : AllByRecursion P (defined_variables c) → All P c.inputs × All (λ (l : Latch). P l.var) c.latches × All (λ (g : Gate). P g.var) c.gates
-  variables_from h =
-      let before = front P (c.inputs ++ map (λ (l : Latch). l.var) c.latches) (map (λ (g : Gate). g.var) c.gates) h in (
-        All-from_recursion P c.inputs (front P c.inputs _ before),
-        All-from_recursion _ c.latches (map_from _ P c.latches (back P c.inputs _ before)),
-        All-from_recursion _ c.gates (map_from _ P c.gates (back P (c.inputs ++ map (λ (l : Latch). l.var) c.latches) _ h)),
-      )
+  abbrev nexts : List ℕ
+  nexts = used_nexts c.latches
 
-  pub literals_to : All (λ (l : Latch). AllByRecursion P (l.next ∷ [])) c.latches → All (λ l. AllByRecursion P (l ∷ [])) c.outputs → All (λ (g : Gate). AllByRecursion P (operands g)) c.gates → AllByRecursion P (used_literals c)
-  literals_to l o g =
-      joined P _ _ (joined P _ _ (one_to _ P c.latches (recursion_from_All _ c.latches l)) (ones_to P c.outputs (recursion_from_All _ c.outputs o)))
-      (pairs_to P c.gates (recursion_from_All _ c.gates g))
+  abbrev outputs : List ℕ
+  outputs = used_outputs c.outputs
 
-  pub literals_from : AllByRecursion P (used_literals c) → All (λ (l : Latch). AllByRecursion P (l.next ∷ [])) c.latches × All (λ l. AllByRecursion P (l ∷ [])) c.outputs × All (λ (g : Gate). AllByRecursion P (operands g)) c.gates
-  literals_from h =
-      let before = front P (map (λ (l : Latch). l.next) c.latches ++ c.outputs) (flat_map operands c.gates) h in (
-        All-from_recursion _ c.latches (one_from _ P c.latches (front P _ c.outputs before)),
-        All-from_recursion _ c.outputs (ones_from P c.outputs (back P (map (λ (l : Latch). l.next) c.latches) _ before)),
-        All-from_recursion _ c.gates (pairs_from P c.gates (back P (map (λ (l : Latch). l.next) c.latches ++ c.outputs) _ h)),
-      )
+  pub in_form_by_parts : IsWithinLimits c → HasEntriesInRange c → HasGoodSymbols c → IsInForm c
+  in_form_by_parts limits entries symbols =
+      let latch_entries : AreInRange c.max_var latches nexts = entries_to c.max_var (λ (l : Latch). l.var ∷ []) (λ (l : Latch). l.next ∷ []) c.latches entries.latches in
+      let gate_entries : AreInRange c.max_var (defined_gates c.gates) (flat_map operands c.gates) = entries_to c.max_var (λ (g : Gate). g.var ∷ []) operands c.gates entries.gates in
+      let first_inputs : AllByRecursion Defines inputs = (entries_to c.max_var (λ (v : ℕ). v ∷ []) (λ _. []) c.inputs entries.inputs).0 in
+      let all_outputs : AllByRecursion Uses outputs = (entries_to c.max_var (λ (l : ℕ). []) (λ (l : ℕ). l ∷ []) c.outputs entries.outputs).1 in
+      record {
+        limits = limits;
+        variables = rw (← defined_is c) (joined Defines (inputs ++ latches) (defined_gates c.gates) (joined Defines inputs latches first_inputs latch_entries.0) gate_entries.0);
+        literals = rw (← used_is c) (joined Uses (nexts ++ outputs) (flat_map operands c.gates) (joined Uses nexts outputs latch_entries.1 all_outputs) gate_entries.1);
+        symbols = symbols;
+      }
 
--- three tests, the later ones made only where those before them hold: what the last one that was made tells of the whole
-module _ {A B C All : Type 0} (to : A → B → C → All) (from : All → A × B × C) where
-  pub third_tells : (a b before last : Bool) → Decides a A → Decides b B → Decides last C → a ≡ true → before ≡ b → before ≡ true → Decides last All
-  third_tells a b before last p q r holds same holds_too = (λ e. to (p.0 holds) (q.0 (sym same ∙ holds_too)) (r.0 e), λ h. r.1 (from h).2)
-
-  pub second_tells : (b before : Bool) → Decides b B → before ≡ b → before ≡ false → Decides before All
-  second_tells b before q same fails = (λ e. absurd (true≢false (sym e ∙ fails)), λ h. same ∙ q.1 (from h).1)
-
-  pub first_tells : (a before : Bool) → Decides a A → before ≡ a → a ≡ false → Decides before All
-  first_tells a before p same fails = (λ e. absurd (true≢false (sym e ∙ same ∙ fails)), λ h. same ∙ p.1 (from h).0)
+  pub entries_of_form : IsInForm c → HasEntriesInRange c
+  entries_of_form form =
+      let variables : AllByRecursion Defines ((inputs ++ latches) ++ defined_gates c.gates) = rw (← defined_is c) at form.variables in
+      let literals : AllByRecursion Uses ((nexts ++ outputs) ++ flat_map operands c.gates) = rw (← used_is c) at form.literals in
+      let sequential = front Defines (inputs ++ latches) (defined_gates c.gates) variables in
+      let without_gates = front Uses (nexts ++ outputs) (flat_map operands c.gates) literals in
+      record {
+        inputs = entries_from c.max_var (λ (v : ℕ). v ∷ []) (λ _. []) c.inputs (front Defines inputs latches sequential, none_of Uses c.inputs);
+        latches = entries_from c.max_var (λ (l : Latch). l.var ∷ []) (λ (l : Latch). l.next ∷ []) c.latches (back Defines inputs latches sequential, front Uses nexts outputs without_gates);
+        outputs = entries_from c.max_var (λ (l : ℕ). []) (λ (l : ℕ). l ∷ []) c.outputs (none_of Defines c.outputs, back Uses nexts outputs without_gates);
+        gates = entries_from c.max_var (λ (g : Gate). g.var ∷ []) operands c.gates (back Defines (inputs ++ latches) (defined_gates c.gates) variables, back Uses (nexts ++ outputs) (flat_map operands c.gates) literals);
+      }
 
 -- whether a number stands in a list
 pub among_decides : (n : ℕ) (xs : List ℕ) → Decides (list_any (λ x. x == n) xs) (IsAmong n xs)

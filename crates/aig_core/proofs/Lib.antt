@@ -1,7 +1,10 @@
 pub mod Sets
+pub mod Members
 pub mod Told
 pub mod InForm
+pub mod DigitCounts
 pub mod Outgoing
+pub mod Puts
 pub mod Sections
 pub mod Faultless
 pub mod Fitting

@@ -1,6 +1,6 @@
 -- Texts that go out through a block, one after another. A writer of several texts joins their contracts by these.
-use Rattle.std.proofs.Common.{◌≡◌, ℕ, ◌+◌, List, [], ◌++◌, Option, None, Some, Result, Ok, Err, OnErr, take, drop, min, length, refl, sym, ap, subst, ◌∙◌, append_assoc, take-add}
-use Rattle.std.proofs.lemmas.List.{append-nil, take_min, take-append-le, take-append-drop}
+use Rattle.std.proofs.Common.{◌≡◌, ℕ, ◌+◌, List, [], ◌++◌, Option, None, Some, Result, Ok, Err, OnErr, take, min, length, refl, sym, ap, subst, ◌∙◌, append_assoc}
+use Rattle.std.proofs.lemmas.List.{append-nil, take_min, take-append-le}
 use Rattle.std.proofs.Math.Seq.{take-append-add}
 use Rattle.std.proofs.Math.Nat.{min-le_right}
 use Rattle.std.specs.Io.KnownBytes.{Appends}
@@ -34,7 +34,7 @@ beginning_after a b c h0 h1 xs ys p q =
     }
 
 -- a beginning of a text is one of each longer text
-pub beginning_of_more : (a b : Option (List ℕ)) (xs ys : List ℕ) → TookBeginning a b xs → TookBeginning a b (xs ++ ys)
+beginning_of_more : (a b : Option (List ℕ)) (xs ys : List ℕ) → TookBeginning a b xs → TookBeginning a b (xs ++ ys)
 beginning_of_more a b xs ys p =
     let same : take (min p.count (length xs)) (xs ++ ys) ≡ take p.count xs =
     take-append-le (min p.count (length xs)) xs ys (min-le_right p.count (length xs)) ∙ take_min p.count xs in
@@ -44,30 +44,6 @@ pub beginning_longer : (a b : Option (List ℕ)) (h xs ys : List ℕ) → TookBe
 beginning_longer a b h xs ys p =
     subst (λ (zs : List ℕ). TookBeginning a b zs) (append_assoc h xs ys) (beginning_of_more a b (h ++ xs) ys p)
 
--- the last flush
-pub flushed : (a b c : Option (List ℕ)) (h xs : List ℕ) → WentOut a b [] h xs → Appends b c h → Appends a c xs
-flushed a b c h xs p q = subst (λ (zs : List ℕ). Appends a c zs) (sym p.order) (appends_twice a b c p.sent h p.took q)
-
-pub flush_failed : (a b c : Option (List ℕ)) (h xs : List ℕ) → WentOut a b [] h xs → TookBeginning b c h → TookBeginning a c xs
-flush_failed a b c h xs p q = record {
-  count = length p.sent + q.count;
-  took = subst (λ (zs : List ℕ). Appends a c (take (length p.sent + q.count) zs)) (sym p.order) (took_before a b c p.sent h q.count p.took q.took);
-}
-
--- a flush in the midst fails
-pub failed_within : (a b c : Option (List ℕ)) (h0 h1 bytes : List ℕ) (at : ℕ) → WentOut a b h0 h1 (take at bytes) → TookBeginning b c h1 → TookBeginning a c (h0 ++ bytes)
-failed_within a b c h0 h1 bytes at p q =
-    subst (λ (zs : List ℕ). TookBeginning a c (h0 ++ zs)) (take-append-drop at bytes)
-    (beginning_after a b c h0 h1 (take at bytes) (drop at bytes) p (beginning_of_more b c h1 (drop at bytes) q))
-
--- the next n bytes go out
-pub went_on : (a b c : Option (List ℕ)) (h0 h1 h2 bytes : List ℕ) (at n : ℕ) → WentOut a b h0 h1 (take at bytes) → WentOut b c h1 h2 (take n (drop at bytes)) → WentOut a c h0 h2 (take (at + n) bytes)
-went_on a b c h0 h1 h2 bytes at n p q = rw take-add (went_out_twice a b c h0 h1 h2 (take at bytes) (take n (drop at bytes)) p q)
-
--- nothing more is held, and the bytes that were are sent
-pub emptied : (a b : Option (List ℕ)) (h : List ℕ) → Appends a b h → WentOut a b h [] []
-emptied a b h p = record { sent = h; took = p; order = refl }
-
 appends_none : (a : Option (List ℕ)) → Appends a a []
 appends_none None = tt
 appends_none (Some xs) = sym (append-nil xs)
@@ -75,14 +51,6 @@ appends_none (Some xs) = sym (append-nil xs)
 -- all is held
 pub kept : (a : Option (List ℕ)) (h xs : List ℕ) → WentOut a a h (h ++ xs) xs
 kept a h xs = record { sent = []; took = appends_none a; order = refl }
-
--- the block is sent, and then holds the bytes
-pub held_after : (a b : Option (List ℕ)) (h0 h1 h2 xs : List ℕ) → WentOut a b h0 h1 [] → h2 ≡ h1 ++ xs → WentOut a b h0 h2 xs
-held_after a b h0 h1 h2 xs p e = record {
-  sent = p.sent;
-  took = p.took;
-  order = ap (λ (zs : List ℕ). zs ++ xs) (sym (append-nil h0) ∙ p.order) ∙ append_assoc p.sent h1 xs ∙ ap (λ (zs : List ℕ). p.sent ++ zs) (sym e);
-}
 
 -- what holds anyway holds on an error
 pub failed_by : {A E : Type 0} {P : Type 0} (r : Result A E) → P → OnErr r P

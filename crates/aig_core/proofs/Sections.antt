@@ -1,135 +1,100 @@
--- The first fault over sections end to end, as the loops over each section tell it.
-use Rattle.std.proofs.Common.{◌≡◌, ℕ, List, [], ◌∷◌, ◌++◌, true, false, cond, Option, None, Some, refl, sym, ap, subst, ◌∙◌, map, ◌<◌, ◌+◌, length, get_or, drop}
+-- Definitions and uses over sections end to end, as the loops over each section tell them.
+use Rattle.std.proofs.Common.{◌≡◌, ℕ, List, [], ◌∷◌, ◌++◌, true, false, cond, Option, None, Some, refl, sym, ◌∙◌, inl, ⊎_elim}
 use Rattle.std.specs.List.{flat_map}
+use Rattle.std.specs.Option.{option_map, option_or}
 use Rattle.std.specs.Ordering.{nat_cmp}
 use Rattle.std.specs.FinSet as set
 use Rattle.std.specs.FinSet.{FinSet}
-use Rattle.std.proofs.lemmas.List.{map-id, drop_more}
-use Rattle.std.proofs.lemmas.List.Concat.{flat_map_single, flat_map-cons}
+use Rattle.std.proofs.lemmas.Grind.{common_steps}
+use Rattle.std.proofs.lemmas.List.{map-id}
+use Rattle.std.proofs.lemmas.List.Concat.{flat_map_single}
 use Rattle.aig_core.specs.declared.circuit.Latch.{Latch}
 use Rattle.aig_core.specs.declared.circuit.Gate.{Gate}
 use Rattle.aig_core.specs.declared.circuit.Circuit.{Circuit}
 use Rattle.aig_core.specs.declared.fault.CheckFault.{CheckFault}
-use Rattle.aig_core.specs.declared.fault.CheckFault.TheVariants.{Redefined, Undefined, OutOfMemory}
+use Rattle.aig_core.specs.declared.fault.CheckFault.TheVariants.{Redefined}
 use Rattle.aig_core.specs.Wellformed.{defined_variables, used_literals, operands}
-use Rattle.aig_core.specs.Fault.{first_repeat, first_unknown, with_all, is_known, IsRedefinition}
+use Rattle.aig_core.specs.Fault.{first_repeat, first_redefinition, first_unknown, with_all, is_known, IsFault}
 
--- the first of two answers
-abbrev pub earlier : Option ℕ → Option ℕ → Option ℕ
-earlier None later = later
-earlier (Some x) later = Some x
+-- what the loops over the sections go through
+abbrev pub defined_inputs : List ℕ → List ℕ
+defined_inputs = flat_map (λ (v : ℕ). v ∷ [])
 
-pub with_all-append : (s : FinSet nat_cmp) (xs ys : List ℕ) → with_all s (xs ++ ys) ≡ with_all (with_all s xs) ys
-with_all-append s [] ys = refl
-with_all-append s (x ∷ xs) ys = with_all-append (set.insert s x) xs ys
+abbrev pub defined_latches : List Latch → List ℕ
+defined_latches = flat_map (λ (l : Latch). l.var ∷ [])
 
-pub first_repeat-append : (s : FinSet nat_cmp) (xs ys : List ℕ) → first_repeat s (xs ++ ys) ≡ earlier (first_repeat s xs) (first_repeat (with_all s xs) ys)
-first_repeat-append s [] ys = refl
-first_repeat-append s (x ∷ xs) ys =
-    elim (set.contains s x) as (λ b. cond b (Some x) (first_repeat (set.insert s x) (xs ++ ys)) ≡ earlier (cond b (Some x) (first_repeat (set.insert s x) xs)) (first_repeat (with_all (set.insert s x) xs) ys)) [
+abbrev pub defined_gates : List Gate → List ℕ
+defined_gates = flat_map (λ (g : Gate). g.var ∷ [])
+
+abbrev pub used_nexts : List Latch → List ℕ
+used_nexts = flat_map (λ (l : Latch). l.next ∷ [])
+
+abbrev pub used_outputs : List ℕ → List ℕ
+used_outputs = flat_map (λ (l : ℕ). l ∷ [])
+
+pub defined_is : (c : Circuit) → (defined_inputs c.inputs ++ defined_latches c.latches) ++ defined_gates c.gates ≡ defined_variables c
+defined_is c = rw (flat_map_single (λ (v : ℕ). v) c.inputs, map-id c.inputs, flat_map_single (λ (l : Latch). l.var) c.latches, flat_map_single (λ (g : Gate). g.var) c.gates) refl
+
+pub used_is : (c : Circuit) → (used_nexts c.latches ++ used_outputs c.outputs) ++ flat_map operands c.gates ≡ used_literals c
+used_is c = rw (flat_map_single (λ (l : ℕ). l) c.outputs, map-id c.outputs, flat_map_single (λ (l : Latch). l.next) c.latches) refl
+
+pub with_all_append : (s : FinSet nat_cmp) (xs ys : List ℕ) → with_all s (xs ++ ys) ≡ with_all (with_all s xs) ys
+with_all_append s [] ys = refl
+with_all_append s (x ∷ xs) ys = with_all_append (set.insert s x) xs ys
+
+pub repeat_append : (s : FinSet nat_cmp) (xs ys : List ℕ) → first_repeat s (xs ++ ys) ≡ option_or (first_repeat s xs) (first_repeat (with_all s xs) ys)
+repeat_append s [] ys = refl
+repeat_append s (x ∷ xs) ys =
+    elim (set.contains s x) as (λ b. cond b (Some x) (first_repeat (set.insert s x) (xs ++ ys)) ≡ option_or (cond b (Some x) (first_repeat (set.insert s x) xs)) (first_repeat (with_all (set.insert s x) xs) ys)) [
       | true ↦ refl
-      | false ↦ first_repeat-append (set.insert s x) xs ys
+      | false ↦ repeat_append (set.insert s x) xs ys
     ]
 
-pub first_unknown-append : (s : FinSet nat_cmp) (xs ys : List ℕ) → first_unknown s (xs ++ ys) ≡ earlier (first_unknown s xs) (first_unknown s ys)
-first_unknown-append s [] ys = refl
-first_unknown-append s (x ∷ xs) ys =
-    elim (is_known s x) as (λ b. cond b (first_unknown s (xs ++ ys)) (Some x) ≡ earlier (cond b (first_unknown s xs) (Some x)) (first_unknown s ys)) [
-      | true ↦ first_unknown-append s xs ys
+pub unknown_append : (s : FinSet nat_cmp) (xs ys : List ℕ) → first_unknown s (xs ++ ys) ≡ option_or (first_unknown s xs) (first_unknown s ys)
+unknown_append s [] ys = refl
+unknown_append s (x ∷ xs) ys =
+    elim (is_known s x) as (λ b. cond b (first_unknown s (xs ++ ys)) (Some x) ≡ option_or (cond b (first_unknown s xs) (Some x)) (first_unknown s ys)) [
+      | true ↦ unknown_append s xs ys
       | false ↦ refl
     ]
 
--- the first unknown literal of items, one at the front
-pub unknown_at_front : {X : Type 0} (f : X → List ℕ) (s : FinSet nat_cmp) (x : X) (xs : List X) → first_unknown s (flat_map f (x ∷ xs)) ≡ earlier (first_unknown s (f x)) (first_unknown s (flat_map f xs))
-unknown_at_front f s x xs = ap (first_unknown s) (flat_map-cons f x xs) ∙ first_unknown-append s (f x) (flat_map f xs)
+-- the first redefinition in a section is the circuit's, where the sections before it have none
+-- the facts on joined lists, for loops over a section
+pub ruleset joined_lists = (common_steps, with_all_append, repeat_append, unknown_append)
 
--- a loop over items goes on to the next
-pub unknown_goes_on : {X : Type 0} (f : X → List ℕ) (s : FinSet nat_cmp) (xs : List X) (i : ℕ) (x : X) → i < length xs → x ≡ get_or xs i x → first_unknown s (flat_map f (drop i xs)) ≡ earlier (first_unknown s (f x)) (first_unknown s (flat_map f (drop (i + 1) xs)))
-unknown_goes_on f s xs i x below is =
-    let e : drop i xs ≡ x ∷ drop (i + 1) xs = drop_more xs i x below ∙ ap (λ y. y ∷ drop (i + 1) xs) (sym is) in
-    ap (λ ys. first_unknown s (flat_map f ys)) e ∙ unknown_at_front f s x (drop (i + 1) xs)
+told_first : (o p : Option ℕ) (e : CheckFault) → IsFault e (option_map Redefined o) → IsFault e (option_map Redefined (option_or o p))
+told_first None p e told = ⊎_elim (λ out. inl out) (λ none. cc) told
+told_first (Some x) p e told = told
 
-pub told_first : (o p q : Option ℕ) (e : CheckFault) → q ≡ earlier o p → IsRedefinition o e → IsRedefinition q e
-told_first o p q OutOfMemory is h = tt
-told_first o p q (Undefined x) is h = absurd h
-told_first o p q (Redefined x) is h = is ∙ ap (λ r. earlier r p) h
+told_at_front : (s : FinSet nat_cmp) (xs ys : List ℕ) (e : CheckFault) → IsFault e (first_redefinition s xs) → IsFault e (first_redefinition s (xs ++ ys))
+told_at_front s xs ys e told = rw repeat_append (told_first (first_repeat s xs) _ e told)
 
-pub told_second : (o p q : Option ℕ) (e : CheckFault) → q ≡ earlier o p → o ≡ None → IsRedefinition p e → IsRedefinition q e
-told_second o p q OutOfMemory is none h = tt
-told_second o p q (Undefined x) is none h = absurd h
-told_second o p q (Redefined x) is none h = is ∙ ap (λ r. earlier r p) none ∙ h
+goes_on : (s t : FinSet nat_cmp) (xs ys : List ℕ) → t ≡ with_all s xs → first_repeat s xs ≡ None → first_repeat s (xs ++ ys) ≡ first_repeat t ys
+goes_on s t xs ys is none = repeat_append s xs ys ∙ rw (none, is) refl
 
--- what the three sections of definitions tell of the whole
-abbrev pub vars_of : List Latch → List ℕ
-vars_of ls = map (λ (l : Latch). l.var) ls
+module _ (c : Circuit) where
+  pub told_of_inputs : (e : CheckFault) → IsFault e (first_redefinition set.empty (defined_inputs c.inputs)) → IsFault e (first_redefinition set.empty (defined_variables c))
+  told_of_inputs e told = rw (← defined_is c) (told_at_front _ _ (defined_gates c.gates) e (told_at_front _ _ (defined_latches c.latches) e told))
 
-abbrev pub gates_of : List Gate → List ℕ
-gates_of gs = map (λ (g : Gate). g.var) gs
+  module _ (t : FinSet nat_cmp) (t_is : t ≡ with_all set.empty (defined_inputs c.inputs)) (none : first_repeat set.empty (defined_inputs c.inputs) ≡ None) where
+    latches_repeat : first_repeat t (defined_latches c.latches) ≡ first_repeat set.empty (defined_inputs c.inputs ++ defined_latches c.latches)
+    latches_repeat = sym (goes_on _ _ _ _ t_is none)
 
-abbrev pub as_is : List ℕ → List ℕ
-as_is xs = map (λ (v : ℕ). v) xs
+    pub told_of_latches : (e : CheckFault) → IsFault e (first_redefinition t (defined_latches c.latches)) → IsFault e (first_redefinition set.empty (defined_variables c))
+    told_of_latches e told = rw (← defined_is c) (told_at_front _ _ (defined_gates c.gates) e (rw latches_repeat at told))
 
-module _ (s : FinSet nat_cmp) (c : Circuit) (xs : List ℕ) (xs_is : xs ≡ c.inputs) where
-  inputs_are : as_is xs ≡ c.inputs
-  inputs_are = map-id xs ∙ xs_is
+    module _ (u : FinSet nat_cmp) (u_is : u ≡ with_all t (defined_latches c.latches)) (none_later : first_repeat t (defined_latches c.latches) ≡ None) where
+      all_before : u ≡ with_all set.empty (defined_inputs c.inputs ++ defined_latches c.latches)
+      all_before = u_is ∙ rw t_is (sym (with_all_append set.empty (defined_inputs c.inputs) (defined_latches c.latches)))
 
-  repeats : first_repeat s (defined_variables c) ≡ earlier (earlier (first_repeat s (as_is xs)) (first_repeat (with_all s (as_is xs)) (vars_of c.latches))) (first_repeat (with_all s (as_is xs ++ vars_of c.latches)) (gates_of c.gates))
-  repeats =
-      rw inputs_are (first_repeat-append s (c.inputs ++ vars_of c.latches) (gates_of c.gates) ∙ ap (λ o. earlier o (first_repeat (with_all s (c.inputs ++ vars_of c.latches)) (gates_of c.gates))) (first_repeat-append s c.inputs (vars_of c.latches)))
+      pub gates_repeat : first_repeat set.empty (defined_variables c) ≡ first_repeat u (defined_gates c.gates)
+      gates_repeat = rw (← defined_is c) (goes_on _ _ _ _ all_before (sym latches_repeat ∙ none_later))
 
-  pub told_of_inputs : (e : CheckFault) → IsRedefinition (first_repeat s (as_is xs)) e → IsRedefinition (first_repeat s (defined_variables c)) e
-  told_of_inputs e h = told_first _ _ _ e repeats (told_first _ _ _ e refl h)
+      pub told_of_gates : (e : CheckFault) → IsFault e (first_redefinition u (defined_gates c.gates)) → IsFault e (first_redefinition set.empty (defined_variables c))
+      told_of_gates e told = rw gates_repeat told
 
-  module _ (none : first_repeat s (as_is xs) ≡ None) (t : FinSet nat_cmp) (t_is : t ≡ with_all s (as_is xs)) (ls : List Latch) (ls_is : ls ≡ c.latches) where
-    latches_repeat : first_repeat t (vars_of ls) ≡ first_repeat (with_all s (as_is xs)) (vars_of c.latches)
-    latches_repeat = rw (t_is, ls_is) refl
+      pub all_seen : with_all u (defined_gates c.gates) ≡ with_all set.empty (defined_variables c)
+      all_seen = rw (all_before, ← defined_is c) (sym (with_all_append set.empty (defined_inputs c.inputs ++ defined_latches c.latches) (defined_gates c.gates)))
 
-    pub told_of_latches : (e : CheckFault) → IsRedefinition (first_repeat t (vars_of ls)) e → IsRedefinition (first_repeat s (defined_variables c)) e
-    told_of_latches e h = told_first _ _ _ e repeats (told_second _ _ _ e refl none (subst (λ o. IsRedefinition o e) latches_repeat h))
-
-    module _ (none_later : first_repeat t (vars_of ls) ≡ None) (u : FinSet nat_cmp) (u_is : u ≡ with_all t (vars_of ls)) (gs : List Gate) (gs_is : gs ≡ c.gates) where
-      seen_is : u ≡ with_all s (as_is xs ++ vars_of c.latches)
-      seen_is = u_is ∙ rw (t_is, ls_is) (sym (with_all-append s (as_is xs) (vars_of c.latches)))
-
-      none_so_far : earlier (first_repeat s (as_is xs)) (first_repeat (with_all s (as_is xs)) (vars_of c.latches)) ≡ None
-      none_so_far = rw none (sym latches_repeat ∙ none_later)
-
-      gates_repeat : first_repeat u (gates_of gs) ≡ first_repeat (with_all s (as_is xs ++ vars_of c.latches)) (gates_of c.gates)
-      gates_repeat = rw (seen_is, gs_is) refl
-
-      pub told_of_gates : (e : CheckFault) → IsRedefinition (first_repeat u (gates_of gs)) e → IsRedefinition (first_repeat s (defined_variables c)) e
-      told_of_gates e h = told_second _ _ _ e repeats none_so_far (subst (λ o. IsRedefinition o e) gates_repeat h)
-
-      pub no_repeats : first_repeat u (gates_of gs) ≡ None → first_repeat s (defined_variables c) ≡ None
-      no_repeats h = repeats ∙ rw none_so_far (sym gates_repeat ∙ h)
-
-      pub all_seen : with_all u (gates_of gs) ≡ with_all s (defined_variables c)
-      all_seen = rw (seen_is, gs_is, inputs_are) (sym (with_all-append s (c.inputs ++ vars_of c.latches) (gates_of c.gates)))
-
--- what the three sections of uses tell of the whole
-abbrev pub nexts_of : List Latch → List ℕ
-nexts_of ls = flat_map (λ (l : Latch). l.next ∷ []) ls
-
-abbrev pub outputs_of : List ℕ → List ℕ
-outputs_of os = flat_map (λ (o : ℕ). o ∷ []) os
-
-module _ (s : FinSet nat_cmp) (c : Circuit) (ls : List Latch) (ls_is : ls ≡ c.latches) where
-  nexts_are : nexts_of ls ≡ map (λ (l : Latch). l.next) c.latches
-  nexts_are = flat_map_single (λ (l : Latch). l.next) ls ∙ ap (map (λ (l : Latch). l.next)) ls_is
-
-  unknowns : first_unknown s (used_literals c) ≡ earlier (earlier (first_unknown s (nexts_of ls)) (first_unknown s c.outputs)) (first_unknown s (flat_map operands c.gates))
-  unknowns =
-      rw nexts_are (first_unknown-append s (map (λ (l : Latch). l.next) c.latches ++ c.outputs) (flat_map operands c.gates) ∙ ap (λ o. earlier o (first_unknown s (flat_map operands c.gates))) (first_unknown-append s (map (λ (l : Latch). l.next) c.latches) c.outputs))
-
-  pub unknown_next : (o : Option ℕ) (x : ℕ) → o ≡ first_unknown s (nexts_of ls) → o ≡ Some x → Some x ≡ first_unknown s (used_literals c)
-  unknown_next o x told is = sym (unknowns ∙ rw (sym told ∙ is) refl)
-
-  module _ (none : None ≡ first_unknown s (nexts_of ls)) (os : List ℕ) (os_is : os ≡ c.outputs) where
-    outputs_are : outputs_of os ≡ c.outputs
-    outputs_are = flat_map_single (λ (o : ℕ). o) os ∙ map-id os ∙ os_is
-
-    pub unknown_output : (x : ℕ) → Some x ≡ first_unknown s (outputs_of os) → Some x ≡ first_unknown s (used_literals c)
-    unknown_output x told = sym (unknowns ∙ rw (← none, ← outputs_are, ← told) refl)
-
-    pub unknown_operand : None ≡ first_unknown s (outputs_of os) → (gs : List Gate) → gs ≡ c.gates → first_unknown s (flat_map operands gs) ≡ first_unknown s (used_literals c)
-    unknown_operand none_later gs gs_is = sym (unknowns ∙ rw (← none, ← outputs_are, ← none_later, gs_is) refl)
+pub unknowns : (s : FinSet nat_cmp) (c : Circuit) → option_or (option_or (first_unknown s (used_nexts c.latches)) (first_unknown s (used_outputs c.outputs))) (first_unknown s (flat_map operands c.gates)) ≡ first_unknown s (used_literals c)
+unknowns s c = rw (← used_is c, unknown_append s (used_nexts c.latches ++ used_outputs c.outputs) (flat_map operands c.gates), unknown_append s (used_nexts c.latches) (used_outputs c.outputs)) refl

@@ -1,75 +1,73 @@
--- A table of marks and a tree of numbers, read as a finite set.
-use Rattle.std.proofs.Common.{◌≡◌, ◌≢◌, ◌<◌, ◌+◌, ℕ, zero, suc, List, [], ◌∷◌, ◌++◌, Bool, true, false, cond, eqb, length, get_or, refl, sym, ap, ◌∙◌, subst, ⊎_elim, arith}
+-- Finite sets of indices, by a test.
+use Rattle.std.proofs.Common.{◌≡◌, ◌≢◌, ◌<◌, ◌≤◌, ◌^◌, ℕ, zero, suc, ◌∷◌, Bool, true, false, cond, eqb, refl, sym, ap, ap₂, ◌∙◌, subst, ⊎_elim, arith}
 use mathlib.Core.Bool.{◌||◌}
-use Rattle.std.specs.Prelude.{replicate}
 use Rattle.std.specs.List.{list_any}
-use Rattle.std.specs.Ordering.{nat_cmp, eq_by_cmp}
-use Rattle.std.specs.Cmp.{eq_by_cmp_equiv, unsigned_tied}
-use Rattle.std.proofs.Math.ListN.{set as put}
-use Rattle.std.proofs.lemmas.Bool.{ne_eqb}
-use Rattle.std.proofs.lemmas.Bool.Decides.{Decides-eqb, eqb_tells}
+use Rattle.std.specs.Ordering.{nat_cmp}
+use Rattle.std.specs.Cmp.{unsigned_tied}
+use Rattle.std.proofs.lemmas.Bool.{ne_eqb, cases_lt}
+use Rattle.std.specs.Prelude.{◌⊎◌}
+use Rattle.std.proofs.lemmas.Bool.Decides.{eqb_tells}
 use Rattle.std.proofs.lemmas.Cmp.{nat_cmp_total}
-use Rattle.std.proofs.lemmas.List.{get_or-set_same, get_or-set_other, get_or_past}
-use Rattle.std.proofs.lemmas.List.Folds.{list_any-append}
-use Rattle.std.specs.BTreeSet.{BTreeSet, contains, Updates}
 use Rattle.std.specs.FinSet as set
-use Rattle.std.specs.FinSet.{FinSet, same_set, contains-from_list, contains-from_list_nat, contains-insert, nat_cmp-IsAntisymmetric}
-use Rattle.aig_core.specs.Marks.{marked_from}
+use Rattle.std.specs.FinSet.{FinSet, same_set, contains-from_list_nat, contains-insert, contains-empty, nat_cmp-IsAntisymmetric}
+use Rattle.aig_core.specs.Parts.Marks.{passing, set_of}
 
--- nothing below the table's begin is marked
-none_before : (first : ℕ) (marks : List Bool) (q : ℕ) → q < first → list_any (λ y. eqb y q) (marked_from first marks) ≡ false
-none_before first [] q h = refl
-none_before first (true ∷ marks) q h = ap (λ b. b || list_any (λ y. eqb y q) (marked_from (first + 1) marks)) (ne_eqb first q (λ e. absurd (omega arith))) ∙ none_before (first + 1) marks q (omega arith)
-none_before first (false ∷ marks) q h = none_before (first + 1) marks q (omega arith)
+past : (test : ℕ → Bool) (n q : ℕ) → n ≤ q → list_any (λ y. eqb y q) (passing test n) ≡ false
+unfolding passing
+past test zero q h = refl
+past test (suc n) q h =
+    elim (test n) as (λ b. list_any (λ y. eqb y q) (cond b (n ∷ passing test n) (passing test n)) ≡ false) [
+      | true ↦ ap (λ b. b || list_any (λ y. eqb y q) (passing test n)) (ne_eqb n q (λ e. absurd (omega arith))) ∙ past test n q (omega arith)
+      | false ↦ past test n q (omega arith)
+    ]
 
--- a number is marked where its place in the table is
-marked_at : (first : ℕ) (marks : List Bool) (k q : ℕ) → q ≡ first + k → list_any (λ y. eqb y q) (marked_from first marks) ≡ get_or marks k false
-marked_at first [] k q is = sym (get_or_past [] k false (omega arith))
-marked_at first (true ∷ marks) zero q is = ap (λ b. b || list_any (λ y. eqb y q) (marked_from (first + 1) marks)) ((Decides-eqb first q).1 (omega arith))
-marked_at first (false ∷ marks) zero q is = none_before (first + 1) marks q (omega arith)
-marked_at first (true ∷ marks) (suc k) q is = ap (λ b. b || list_any (λ y. eqb y q) (marked_from (first + 1) marks)) (ne_eqb first q (λ e. absurd (omega arith))) ∙ marked_at (first + 1) marks k q (omega arith)
-marked_at first (false ∷ marks) (suc k) q is = marked_at (first + 1) marks k q (omega arith)
+-- of the numbers below the bound, those that pass are in the list
+passes : (test : ℕ → Bool) (n q : ℕ) → q < n → list_any (λ y. eqb y q) (passing test n) ≡ test q
+unfolding passing
+passes test zero q h = absurd (omega arith)
+passes test (suc n) q h =
+    ⊎_elim (λ (t : (eqb n q ≡ true) × (n ≡ q)).
+    elim (test n) as (λ b. b ≡ test n → list_any (λ y. eqb y q) (cond b (n ∷ passing test n) (passing test n)) ≡ test q) [
+      | true ↦ λ is. ap (λ b. b || list_any (λ y. eqb y q) (passing test n)) t.0 ∙ is ∙ ap test t.1
+      | false ↦ λ is. past test n q (omega (arith, t.1)) ∙ is ∙ ap test t.1
+    ] refl
+    ) (λ (f : (eqb n q ≡ false) × (n ≢ q)).
+    let below : q < n = omega (arith, f.1) in
+    elim (test n) as (λ b. list_any (λ y. eqb y q) (cond b (n ∷ passing test n) (passing test n)) ≡ test q) [
+      | true ↦ ap (λ b. b || list_any (λ y. eqb y q) (passing test n)) f.0 ∙ passes test n q below
+      | false ↦ passes test n q below
+    ]
+    ) (eqb_tells n q)
 
--- what the set has is marked, or the tree has it
-pub has_key : (marks : List Bool) (s : BTreeSet ℕ) (q : ℕ) → set.contains (set.from_list {R = nat_cmp} (marked_from 0 marks ++ s.keys)) q ≡ (get_or marks q false || contains nat_cmp s q)
-has_key marks s q =
-    contains-from_list_nat (marked_from 0 marks ++ s.keys) q ∙ list_any-append (λ y. eqb y q) (marked_from 0 marks) s.keys
-    ∙ ap (λ b. b || list_any (λ y. eqb y q) s.keys) (marked_at 0 marks q q (omega arith))
-    ∙ ap (λ b. get_or marks q false || b) (sym (contains-from_list_nat s.keys q) ∙ contains-from_list nat_cmp_total s.keys q)
+pub set_has : (test : ℕ → Bool) (q : ℕ) → q < 2 ^ 32 → set.contains (set_of test) q ≡ test q
+unfolding set_of
+set_has test q below = contains-from_list_nat (passing test (2 ^ 32)) q ∙ passes test (2 ^ 32) q below
 
-cond_is_or : (a b : Bool) → cond a true b ≡ (a || b)
-cond_is_or true b = refl
-cond_is_or false b = refl
+set_past : (test : ℕ → Bool) (q : ℕ) → 2 ^ 32 ≤ q → set.contains (set_of test) q ≡ false
+unfolding set_of
+set_past test q h = contains-from_list_nat (passing test (2 ^ 32)) q ∙ past test (2 ^ 32) q h
 
-or_swap : (a b c : Bool) → (a || (b || c)) ≡ (b || (a || c))
-or_swap true true c = refl
-or_swap true false c = refl
-or_swap false b c = refl
+by_bound : (q : ℕ) → (q < 2 ^ 32) ⊎ (2 ^ 32 ≤ q)
+by_bound q = cases_lt q (2 ^ 32)
 
-or_assoc : (a b c : Bool) → ((a || b) || c) ≡ (a || (b || c))
-or_assoc true b c = refl
-or_assoc false b c = refl
+-- a test that one more index passes
+pub grown : (old new : ℕ → Bool) (k : ℕ) → k < 2 ^ 32 → ((q : ℕ) → new q ≡ (eqb q k || old q)) → set_of new ≡ set.insert (set_of old) k
+grown old new k below more = same_set nat_cmp_total nat_cmp-IsAntisymmetric _ _ (λ q.
+    ⊎_elim (λ (h : q < 2 ^ 32). set_has new q h ∙ more q ∙ ap₂ (λ a b. a || b) (sym (unsigned_tied q k)) (sym (set_has old q h)))
+    (λ (h : 2 ^ 32 ≤ q). set_past new q h ∙ ap₂ (λ a b. a || b) (sym (unsigned_tied q k ∙ ne_eqb q k (λ e. absurd (omega arith)))) (sym (set_past old q h)))
+    (by_bound q)
+    ∙ sym (contains-insert nat_cmp_total (set_of old) k q))
 
--- after an insert into the tree the set has one more
-pub inserted : (marks : List Bool) (s n : BTreeSet ℕ) (k : ℕ) → Updates nat_cmp s n k true → set.from_list {R = nat_cmp} (marked_from 0 marks ++ n.keys) ≡ set.insert (set.from_list (marked_from 0 marks ++ s.keys)) k
-inserted marks s n k h = same_set nat_cmp_total nat_cmp-IsAntisymmetric _ _ (λ q.
-    has_key marks n q
-    ∙ ap (λ b. get_or marks q false || b) (h.0 q ∙ cond_is_or (eq_by_cmp nat_cmp k q) (contains nat_cmp s q) ∙ ap (λ b. b || contains nat_cmp s q) ((eq_by_cmp_equiv nat_cmp_total).symm k q))
-    ∙ or_swap (get_or marks q false) (eq_by_cmp nat_cmp q k) (contains nat_cmp s q)
-    ∙ sym (contains-insert nat_cmp_total (set.from_list (marked_from 0 marks ++ s.keys)) k q ∙ ap (λ b. eq_by_cmp nat_cmp q k || b) (has_key marks s q)))
+-- tests that no index tells apart
+pub unchanged : (old new : ℕ → Bool) → ((q : ℕ) → new q ≡ old q) → set_of new ≡ set_of old
+unchanged old new same = same_set nat_cmp_total nat_cmp-IsAntisymmetric _ _ (λ q.
+    ⊎_elim (λ (h : q < 2 ^ 32). set_has new q h ∙ same q ∙ sym (set_has old q h))
+    (λ (h : 2 ^ 32 ≤ q). set_past new q h ∙ sym (set_past old q h)) (by_bound q))
 
-mark_tells : (marks : List Bool) (k q : ℕ) → k < length marks → get_or (put marks k true) q false ≡ (eqb q k || get_or marks q false)
-mark_tells marks k q below =
-    ⊎_elim (λ (t : (eqb q k ≡ true) × (q ≡ k)). subst (λ j. get_or (put marks k true) j false ≡ true) (sym t.1) (get_or-set_same marks k true false below) ∙ ap (λ b. b || get_or marks q false) (sym t.0))
-    (λ (f : (eqb q k ≡ false) × (q ≢ k)). get_or-set_other marks k q true false f.1 ∙ ap (λ b. b || get_or marks q false) (sym f.0)) (eqb_tells q k)
-
--- after a mark the set has one more
-pub marked : (marks : List Bool) (s : BTreeSet ℕ) (k : ℕ) → k < length marks → set.from_list {R = nat_cmp} (marked_from 0 (put marks k true) ++ s.keys) ≡ set.insert (set.from_list (marked_from 0 marks ++ s.keys)) k
-marked marks s k below = same_set nat_cmp_total nat_cmp-IsAntisymmetric _ _ (λ q.
-    has_key (put marks k true) s q
-    ∙ ap (λ b. b || contains nat_cmp s q) (mark_tells marks k q below ∙ ap (λ b. b || get_or marks q false) (sym (unsigned_tied q k)))
-    ∙ or_assoc (eq_by_cmp nat_cmp q k) (get_or marks q false) (contains nat_cmp s q)
-    ∙ sym (contains-insert nat_cmp_total (set.from_list (marked_from 0 marks ++ s.keys)) k q ∙ ap (λ b. eq_by_cmp nat_cmp q k || b) (has_key marks s q)))
+-- a test that no index passes
+pub nothing : (test : ℕ → Bool) → ((q : ℕ) → test q ≡ false) → set_of test ≡ set.empty
+nothing test none = same_set nat_cmp_total nat_cmp-IsAntisymmetric _ _ (λ q.
+    ⊎_elim (λ (h : q < 2 ^ 32). set_has test q h ∙ none q) (λ (h : 2 ^ 32 ≤ q). set_past test q h) (by_bound q) ∙ sym (contains-empty nat_cmp q))
 
 -- an insert of what is there changes nothing
 pub was_there : (s : FinSet nat_cmp) (k : ℕ) → set.contains s k ≡ true → s ≡ set.insert s k
@@ -77,19 +75,3 @@ was_there s k h = same_set nat_cmp_total nat_cmp-IsAntisymmetric _ _ (λ q.
     ⊎_elim (λ (t : (eqb q k ≡ true) × (q ≡ k)). subst (λ j. set.contains s j ≡ true) (sym t.1) h ∙ ap (λ b. b || set.contains s q) (sym t.0))
     (λ (f : (eqb q k ≡ false) × (q ≢ k)). ap (λ b. b || set.contains s q) (sym f.0)) (eqb_tells q k)
     ∙ ap (λ b. b || set.contains s q) (sym (unsigned_tied q k)) ∙ sym (contains-insert nat_cmp_total s k q))
-
--- a table without marks and an empty tree are the empty set
-pub unmarked : (first n : ℕ) → marked_from first (replicate n false) ≡ []
-unmarked first zero = refl
-unmarked first (suc n) = unmarked (first + 1) n
-
--- what the two parts of `contains` answer
-module _ (marks : List Bool) (s : BTreeSet ℕ) (q : ℕ) (answer : Bool) (told : answer ≡ get_or marks q false) where
-  pub contained_by_mark : answer ≡ true → answer ≡ set.contains (set.from_list {R = nat_cmp} (marked_from 0 marks ++ s.keys)) q
-  contained_by_mark is = sym (has_key marks s q ∙ ap (λ b. b || contains nat_cmp s q) (sym told ∙ is) ∙ sym is)
-
-  pub contained_by_tree : answer ≡ false → contains nat_cmp s q ≡ set.contains (set.from_list {R = nat_cmp} (marked_from 0 marks ++ s.keys)) q
-  contained_by_tree is = sym (has_key marks s q ∙ ap (λ b. b || contains nat_cmp s q) (sym told ∙ is))
-
-pub nothing_in : (n : ℕ) (marks : List Bool) (keys : List ℕ) → marks ≡ replicate n false → keys ≡ [] → set.from_list {R = nat_cmp} (marked_from 0 marks ++ keys) ≡ set.empty
-nothing_in n marks keys marks_are keys_are = rw (marks_are, keys_are, unmarked 0 n) refl

@@ -1,6 +1,6 @@
 -- Known bytes that grow twice.
-use Rattle.std.proofs.Common.{◌≡◌, ℕ, ◌+◌, List, ◌++◌, Option, None, Some, take, drop, take-add, length, ◌-◌, ◌≤◌, length-drop, arith, refl, sym, ap, ◌∙◌, append_assoc}
-use Rattle.std.proofs.lemmas.List.{take_all, take-append-le, length-take-le, take-append-drop, drop-drop}
+use Rattle.std.proofs.Common.{◌≡◌, ℕ, ◌+◌, List, ◌++◌, Option, None, Some, take, drop, take-add, length, ◌-◌, ◌≤◌, max, length-drop, arith, refl, sym, ap, ◌∙◌, append_assoc}
+use Rattle.std.proofs.lemmas.List.{take_all, take-append-le, length-take, length-take-le, take-append-drop, drop-drop}
 use Rattle.std.specs.Io.KnownBytes.{Appends, Consumes}
 use Rattle.aig_core.specs.Transfer.{GaveSome}
 
@@ -17,6 +17,10 @@ rest_is bs n = take_all (length bs - n) (drop n bs) (omega (arith, length-drop n
 -- the first n bytes, and then k of the slice from n on
 pub appends_more : (a b c : Option (List ℕ)) (bs : List ℕ) (n k : ℕ) → Appends a b (take n bs) → Appends b c (take k (take (length bs - n) (drop n bs))) → Appends a c (take (n + k) bs)
 appends_more a b c bs n k p q = rw take-add (appends_twice a b c _ _ p (rw rest_is at q))
+
+-- the slice from n on is no longer than all
+pub no_longer : (a b c : ℕ) (bs : List ℕ) (n : ℕ) → b ≤ max a (length bs) → c ≤ max b (length (take (length bs - n) (drop n bs))) → c ≤ max a (length bs)
+no_longer a b c bs n p q = omega (arith, p, q, length-take (length bs - n) (drop n bs), length-drop n bs)
 
 -- a source puts the next k of its bytes at the front
 pub gives_next : (bs cs room ys : List ℕ) (n k : ℕ) → n + k ≤ length bs → cs ≡ bs → ys ≡ take (n + k - n) (drop n cs) → drop n bs ≡ take k (ys ++ room) ++ drop (n + k) bs

@@ -1,5 +1,6 @@
 -- The first structural fault of a circuit: a redefinition before an undefined literal (this project's profile).
-use Rattle.std.specs.Prelude.{◌≡◌, ◌==◌, ◌||◌, ℕ, List, [], ◌∷◌, Bool, Option, None, Some, if◌then◌else◌}
+use Rattle.std.specs.Prelude.{◌≡◌, ◌==◌, ◌||◌, ◌⊎◌, ℕ, List, [], ◌∷◌, Bool, Option, None, Some, if◌then◌else◌}
+use Rattle.std.specs.Option.{option_map, option_or}
 use Rattle.std.specs.Ordering.{nat_cmp}
 use Rattle.std.specs.FinSet as set
 use Rattle.aig_core.specs.declared.circuit.Circuit.{Circuit}
@@ -27,28 +28,16 @@ abbrev pub first_unknown : set.FinSet nat_cmp → List ℕ → Option ℕ
 first_unknown variables [] = None
 first_unknown variables (x ∷ xs) = if is_known variables x then first_unknown variables xs else Some x
 
-abbrev pub undefined_fault : Option ℕ → Option CheckFault
-undefined_fault None = None
-undefined_fault (Some literal) = Some (Undefined literal)
+-- the first redefinition, where these variables were defined before
+abbrev pub first_redefinition : set.FinSet nat_cmp → List ℕ → Option CheckFault
+first_redefinition seen variables = option_map Redefined (first_repeat seen variables)
 
--- the redefinition where there is one, else what is told after it
-abbrev pub redefined_or : Option ℕ → Option CheckFault → Option CheckFault
-redefined_or (Some variable) later = Some (Redefined variable)
-redefined_or None later = later
-
+-- the first redefinition, or else the first undefined literal
 abbrev pub first_fault : Circuit → Option CheckFault
 first_fault c =
-    redefined_or (first_repeat set.empty (defined_variables c))
-    (undefined_fault (first_unknown (with_all set.empty (defined_variables c)) (used_literals c)))
-
--- a fault that is told of definitions alone: their first repeat, unless memory was refused
-abbrev pub IsRedefinition : Option ℕ → CheckFault → Type 0
-IsRedefinition repeat OutOfMemory = Unit {0}
-IsRedefinition repeat (Redefined v) = repeat ≡ Some v
-IsRedefinition repeat (Undefined l) = ⊥
+    option_or (first_redefinition set.empty (defined_variables c))
+    (option_map Undefined (first_unknown (with_all set.empty (defined_variables c)) (used_literals c)))
 
 -- a fault that is told is this one, unless memory was refused
 abbrev pub IsFault : CheckFault → Option CheckFault → Type 0
-IsFault OutOfMemory first = Unit {0}
-IsFault (Redefined v) first = first ≡ Some (Redefined v)
-IsFault (Undefined l) first = first ≡ Some (Undefined l)
+IsFault told first = (told ≡ OutOfMemory) ⊎ (first ≡ Some told)

@@ -1,11 +1,11 @@
 pub mod Literal
 pub mod Wellformed
 pub mod Form
-pub mod SymbolOrder
 pub mod Fault
 pub mod Laws
-pub mod Marks
 pub mod Transfer
+pub mod Output
 pub mod Failures
 pub mod Memory
 pub mod Streams
+pub mod Parts

@@ -1,9 +1,12 @@
 //! Output in blocks.
-ghost use Rattle.std.specs.Prelude.{◌≡◌, ◌+◌, ◌-◌, ◌^◌, ◌<◌, ◌≤◌, ℕ, List, [], ◌∷◌, ◌++◌, length, take, min, decimal, IsOk, IfOk, OnOk, OnErr, ◌↔◌, IsTrue, is_ok, if◌then◌else◌};
-ghost use Rattle.std.specs.Io.KnownBytes.{Appends};
-ghost use Rattle.aig_core.specs.Transfer.{TookBeginning, WentOut};
+ghost use Rattle.std.specs.Prelude.{◌≡◌, ◌+◌, ◌-◌, ◌*◌, ◌<◌, ◌≤◌, [], ◌++◌, ◌↔◌, length, take, min, decimal};
+ghost use Rattle.std.specs.Prelude.{is_err, IsOk, OnErr};
+ghost use Rattle.aig_core.specs.Output.{CanFail, nothing_held, out, Put, row_text};
+ghost use Rattle.aig_core.specs.declared.block.TheConstants.{ROOM};
+ghost use Rattle.aig_core.specs.declared.digits.TheConstants.{MOST_DIGITS};
 
 use crate::device::{DeviceFault, Sink};
+use crate::digits::{MOST_DIGITS, write_number, write_row};
 use crate::transfer::send_all;
 use std::fmt;
 use std::marker::Model;
@@ -11,74 +14,94 @@ use std::marker::Model;
 /// How many bytes a block holds.
 pub const ROOM: usize = 8192;
 
-/// Bytes on their way to a sink.
+/// Bytes on their way to a sink. A block keeps in mind that its sink failed: what it holds then, and what is put later,
+/// is dropped, and `flush` tells the failure at the end.
 #[derive(Drop)]
 pub struct Block {
     bytes: [u8; ROOM],
     len: usize,
+    failed: bool,
 }
 
 impl Model for Block {
-    ghost use Rattle.std.specs.Prelude.{ℕ, List, take, ◌≤◌};
+    ghost use Rattle.std.specs.Prelude.{take, ◌≤◌};
+    ghost use Rattle.aig_core.specs.Output.{Held};
+    ghost use Rattle.aig_core.specs.declared.block.TheConstants.{ROOM};
 
-    ghost Value = { List ℕ };
+    ghost Value = { Held };
 
-    ghost view = { λ b. take b.len b.bytes };
+    ghost view = { λ b. record { bytes = take b.len b.bytes; failed = b.failed } };
 
-    ghost invariant = { λ b. b.len ≤ 8192 };
+    ghost invariant = { λ b. b.len ≤ ROOM };
 }
 
 impl Block {
     /// An empty block.
     pub fn new() -> Self
-        ensures { result ≡ [] }
+        ensures { result ≡ nothing_held }
     {
         Block {
             bytes: [0; ROOM],
             len: 0,
+            failed: false,
         }
     }
 
-    /// Whether there is no room.
-    pub fn is_full(&self) -> bool
-        ensures { IsTrue result ↔ (8192 ≤ length self.now) }
-    {
-        self.len == ROOM
-    }
-
-    /// The bytes.
+    /// The bytes that it holds.
     pub fn as_slice(&self) -> &[u8]
-        ensures value { result.now ≡ self.now }
-        ensures short { length self.now ≤ 8192 }
+        ensures value { result.now ≡ self.now.bytes }
+        ensures short { length self.now.bytes ≤ ROOM }
     {
         &self.bytes[..self.len]
     }
 
-    /// Drops the bytes.
-    pub fn clear(&mut self)
-        ensures { self.new ≡ [] }
+    /// Sends what is held, unless the sink failed before.
+    fn send_held<W: Sink>(&mut self, sink: &mut W)
+        requires { CanFail (out (W.taken sink.old) (W.longest sink.old) (W.failed sink.old) self.old) }
+        ensures put { Put (out (W.taken sink.old) (W.longest sink.old) (W.failed sink.old) self.old)
+            (out (W.taken sink.new) (W.longest sink.new) (W.failed sink.new) self.new) [] }
+        ensures empty { self.new.bytes ≡ [] }
     {
+        if !self.failed {
+            self.failed = send_all(sink, self.as_slice()).is_err();
+        }
         self.len = 0;
     }
 
-    /// Sends the bytes, and is empty then. On an error the sink took a beginning of them, and the block still has them.
+    /// Sends what is held, and tells whether the sink took all that was put. After a failure it sends nothing, and
+    /// tells the failure again.
     pub fn flush<W: Sink>(&mut self, sink: &mut W) -> Result<(), DeviceFault>
-        requires { W.failed sink.old < 2 ^ 64 - 1 }
-        ensures ok { OnOk result (Appends (W.taken sink.old) (W.taken sink.new) self.old) }
-        ensures empty { OnOk result (self.new ≡ []) }
-        ensures err { OnErr result (TookBeginning (W.taken sink.old) (W.taken sink.new) self.old) }
-        ensures kept { OnErr result (self.new ≡ self.old) }
-        ensures failed { W.failed sink.new ≡ W.failed sink.old + (if is_ok result then 0 else 1) }
+        requires { CanFail (out (W.taken sink.old) (W.longest sink.old) (W.failed sink.old) self.old) }
+        ensures put { Put (out (W.taken sink.old) (W.longest sink.old) (W.failed sink.old) self.old)
+            (out (W.taken sink.new) (W.longest sink.new) (W.failed sink.new) self.new) [] }
+        ensures empty { self.new.bytes ≡ [] }
+        ensures told { self.new.failed ≡ is_err result }
     {
-        send_all(sink, self.as_slice())?;
-        self.clear();
+        self.send_held(sink);
+        if self.failed {
+            return Err(DeviceFault);
+        }
         Ok(())
+    }
+
+    /// Sends what is held where fewer bytes than these fit.
+    #[inline]
+    pub fn make_room<W: Sink>(&mut self, sink: &mut W, room: usize)
+        requires countable { CanFail (out (W.taken sink.old) (W.longest sink.old) (W.failed sink.old) self.old) }
+        requires fits { room ≤ ROOM }
+        ensures put { Put (out (W.taken sink.old) (W.longest sink.old) (W.failed sink.old) self.old)
+            (out (W.taken sink.new) (W.longest sink.new) (W.failed sink.new) self.new) [] }
+        ensures room { length self.new.bytes + room ≤ ROOM }
+    {
+        if ROOM - self.len < room {
+            self.send_held(sink);
+        }
     }
 
     /// Takes as many of the bytes as there is room for, and answers how many.
     fn fill(&mut self, bytes: &[u8]) -> usize
-        ensures count { result ≡ min (8192 - length self.old) (length bytes.now) }
-        ensures value { self.new ≡ self.old ++ take result bytes.now }
+        ensures count { result ≡ min (ROOM - length self.old.bytes) (length bytes.now) }
+        ensures value { self.new ≡ record self.old { bytes = self.old.bytes ++ take result bytes.now } }
     {
         let count = (ROOM - self.len).min(bytes.len());
         self.bytes[self.len..self.len + count].copy_from_slice(&bytes[..count]);
@@ -86,70 +109,68 @@ impl Block {
         count
     }
 
-    /// Sends the bytes where there is no room. On an error the sink took a beginning of them.
-    fn make_room<W: Sink>(&mut self, sink: &mut W) -> Result<(), DeviceFault>
-        requires { W.failed sink.old < 2 ^ 64 - 1 }
-        ensures ok { OnOk result (WentOut (W.taken sink.old) (W.taken sink.new) self.old self.new []) }
-        ensures room { OnOk result (length self.new < 8192) }
-        ensures err { OnErr result (TookBeginning (W.taken sink.old) (W.taken sink.new) self.old) }
-        ensures failed { W.failed sink.new ≡ W.failed sink.old + (if is_ok result then 0 else 1) }
+    /// Takes a number, where there is room for it.
+    #[inline]
+    fn fill_number(&mut self, number: u64)
+        requires { length self.old.bytes + MOST_DIGITS ≤ ROOM }
+        ensures { self.new ≡ record self.old { bytes = self.old.bytes ++ decimal number } }
     {
-        if self.is_full() {
-            return self.flush(sink);
-        }
-        Ok(())
+        self.len = write_number(&mut self.bytes, self.len, number);
     }
 
-    /// Takes some of the bytes, and answers how many; sends the block first where it is full. On an error the
-    /// sink took a beginning of what the block held.
-    fn put_some<W: Sink>(&mut self, sink: &mut W, bytes: &[u8]) -> Result<usize, DeviceFault>
+    /// Takes a line of numbers with a space between them, where there is room for it.
+    #[inline]
+    pub fn fill_row(&mut self, first: u64, others: &[u64])
+        requires { length self.old.bytes + (length others.now + 1) * (MOST_DIGITS + 1) ≤ ROOM }
+        ensures { self.new ≡ record self.old { bytes = self.old.bytes ++ row_text first others.now } }
+    {
+        self.len = write_row(&mut self.bytes, self.len, first, others);
+    }
+
+    /// Takes some of the bytes, and answers how many; sends what is held first where the block is full.
+    fn put_some<W: Sink>(&mut self, sink: &mut W, bytes: &[u8]) -> usize
         requires some { 0 < length bytes.now }
-        requires countable { W.failed sink.old < 2 ^ 64 - 1 }
-        ensures within { IfOk result (λ n. n ≤ length bytes.now) }
-        ensures moves { IfOk result (λ n. 0 < n) }
-        ensures ok { IfOk result (λ n. WentOut (W.taken sink.old) (W.taken sink.new) self.old self.new (take n bytes.now)) }
-        ensures err { OnErr result (TookBeginning (W.taken sink.old) (W.taken sink.new) self.old) }
-        ensures failed { W.failed sink.new ≡ W.failed sink.old + (if is_ok result then 0 else 1) }
+        requires countable { CanFail (out (W.taken sink.old) (W.longest sink.old) (W.failed sink.old) self.old) }
+        ensures within { result ≤ length bytes.now }
+        ensures moves { 0 < result }
+        ensures put { Put (out (W.taken sink.old) (W.longest sink.old) (W.failed sink.old) self.old)
+            (out (W.taken sink.new) (W.longest sink.new) (W.failed sink.new) self.new) (take result bytes.now) }
     {
-        self.make_room(sink)?;
-        Ok(self.fill(bytes))
+        self.make_room(sink, 1);
+        self.fill(bytes)
     }
 
-    /// Adds bytes, and sends the block each time that it is full. On an error the sink took a beginning of
-    /// what the block held and of them.
-    pub fn put<W: Sink>(&mut self, sink: &mut W, bytes: &[u8]) -> Result<(), DeviceFault>
-        requires { W.failed sink.old < 2 ^ 64 - 1 }
-        ensures ok { OnOk result (WentOut (W.taken sink.old) (W.taken sink.new) self.old self.new bytes.now) }
-        ensures err { OnErr result (TookBeginning (W.taken sink.old) (W.taken sink.new) (self.old ++ bytes.now)) }
-        ensures failed { W.failed sink.new ≡ W.failed sink.old + (if is_ok result then 0 else 1) }
+    /// Adds bytes, and sends what is held each time that the block is full.
+    pub fn put<W: Sink>(&mut self, sink: &mut W, bytes: &[u8])
+        requires { CanFail (out (W.taken sink.old) (W.longest sink.old) (W.failed sink.old) self.old) }
+        ensures { Put (out (W.taken sink.old) (W.longest sink.old) (W.failed sink.old) self.old)
+            (out (W.taken sink.new) (W.longest sink.new) (W.failed sink.new) self.new) bytes.now }
     {
         let mut at = 0;
         while at < bytes.len() {
-            at += self.put_some(sink, bytes.split_at(at).1)?;
+            at += self.put_some(sink, bytes.split_at(at).1);
         }
-        Ok(())
     }
 
     /// Adds a number in decimal, as `put` adds bytes.
-    pub fn put_number<W: Sink>(&mut self, sink: &mut W, number: u64) -> Result<(), DeviceFault>
-        requires { W.failed sink.old < 2 ^ 64 - 1 }
-        ensures ok { OnOk result (WentOut (W.taken sink.old) (W.taken sink.new) self.old self.new (decimal number)) }
-        ensures err { OnErr result (TookBeginning (W.taken sink.old) (W.taken sink.new) (self.old ++ decimal number)) }
-        ensures failed { W.failed sink.new ≡ W.failed sink.old + (if is_ok result then 0 else 1) }
+    pub fn put_number<W: Sink>(&mut self, sink: &mut W, number: u64)
+        requires { CanFail (out (W.taken sink.old) (W.longest sink.old) (W.failed sink.old) self.old) }
+        ensures { Put (out (W.taken sink.old) (W.longest sink.old) (W.failed sink.old) self.old)
+            (out (W.taken sink.new) (W.longest sink.new) (W.failed sink.new) self.new) (decimal number) }
     {
-        let mut digits = itoa::Buffer::new();
-        self.put(sink, digits.format(number).as_bytes())
+        self.make_room(sink, MOST_DIGITS);
+        self.fill_number(number);
     }
 }
 
 /// Adds a text where it fits, and sends nothing. So a message is formatted without memory.
 impl fmt::Write for Block {
-    ghost write_str_gives = { λ before text after. after ≡ before ++ text };
+    ghost write_str_gives = { λ before text after. after ≡ record before { bytes = before.bytes ++ text } };
 
     fn write_str(&mut self, text: &str) -> fmt::Result
-        ensures ok { IsOk result → self.new ≡ self.old ++ text.now }
+        ensures ok { IsOk result → self.new ≡ record self.old { bytes = self.old.bytes ++ text.now } }
         ensures err { OnErr result (self.new ≡ self.old) }
-        ensures fits { IsOk result ↔ (length self.old + length text.now ≤ 8192) }
+        ensures fits { IsOk result ↔ (length self.old.bytes + length text.now ≤ ROOM) }
     {
         let bytes = text.as_bytes();
         if bytes.len() > ROOM - self.len {

@@ -1,69 +1,54 @@
 //! What can be told of a circuit part by part, before its definitions and its uses are looked at together.
-ghost use Rattle.std.specs.Prelude.{◌≡◌, ◌↔◌, ◌+◌, ◌*◌, ◌^◌, ◌<◌, ◌≤◌, ℕ, List, [], ◌∷◌, length, map, IsTrue};
-ghost use Rattle.std.specs.List.{All, AllByRecursion};
-ghost use Rattle.aig_core.specs.Wellformed.{IsWithinLimits, IsVariableUpTo, HasGoodSymbols, NameApart, NameTheSame, IsAmong, count_of, defined_variables, used_literals, operands};
-ghost use Rattle.aig_core.specs.Form.{IsInForm};
-ghost use Rattle.aig_core.specs.SymbolOrder.{place_of, IsRisingFrom};
+ghost use Rattle.std.specs.Prelude.{◌≡◌, ◌↔◌, ◌^◌, ◌<◌, ◌≤◌, length, map, IsTrue};
+ghost use Rattle.std.specs.List.{All};
+ghost use Rattle.aig_core.specs.Wellformed.{IsWithinLimits, IsVariableUpTo, count_of};
+ghost use Rattle.aig_core.specs.Wellformed.{HasGoodSymbols, NameApart, NameTheSame, IsAmong};
+ghost use Rattle.aig_core.specs.Form.{IsInForm, HasEntriesInRange, AreInRange, IsLiteralUpTo};
+ghost use Rattle.aig_core.specs.Parts.SymbolOrder.{place_of, IsRisingFrom};
 
-use crate::circuit::{Circuit, Gate, Kind, LARGEST, Latch, Symbol};
-use crate::defines::Defines;
-use crate::literal::Lit;
-
-/// An item of a section whose items each use literals.
-trait HasLiterals {
-    ghost literals: { Self → List ℕ };
-
-    /// Whether none of the item's literals is above the limit.
-    fn has_literals_up_to(&self, limit: u64) -> bool
-        ensures { IsTrue result ↔ AllByRecursion (λ l. l ≤ limit) (literals self.now) };
-}
-
-impl HasLiterals for Lit {
-    ghost literals = { λ l. l ∷ [] };
-
-    fn has_literals_up_to(&self, limit: u64) -> bool {
-        u64::from(self.0) <= limit
-    }
-}
-
-impl HasLiterals for Latch {
-    ghost literals = { λ l. l.next ∷ [] };
-
-    fn has_literals_up_to(&self, limit: u64) -> bool {
-        u64::from(self.next.0) <= limit
-    }
-}
-
-impl HasLiterals for Gate {
-    ghost literals = { operands };
-
-    fn has_literals_up_to(&self, limit: u64) -> bool {
-        u64::from(self.left.0) <= limit && u64::from(self.right.0) <= limit
-    }
-}
+use crate::circuit::{Circuit, Kind, LARGEST, Symbol};
+use crate::entry::Entry;
+use crate::listing::Listing;
+use crate::literal::{Lit, Var};
 
 /// Whether a section is short enough to be told in a file.
-fn is_short_enough<T>(items: &[T]) -> bool
+fn is_short_enough<T>(items: &Listing<T>) -> bool
     ensures { IsTrue result ↔ (length items.now ≤ LARGEST) }
 {
     items.len() <= LARGEST as usize
 }
 
-/// Whether each item of a section defines a variable from 1 to the largest one.
-fn are_variables_up_to<T: Defines>(max_var: u32, items: &[T]) -> bool
-    ensures { IsTrue result ↔ All (λ i. IsVariableUpTo max_var (T.defined i)) items.now }
+/// Whether a circuit with this largest index may define the variable.
+fn is_variable_up_to(max_var: u32, variable: Var) -> bool
+    ensures { IsTrue result ↔ IsVariableUpTo max_var variable }
 {
-    items.iter().all(|item| {
-        let index = item.variable().0;
-        1 <= index && index <= max_var
-    })
+    1 <= variable.0 && variable.0 <= max_var
 }
 
-/// Whether each item of a section uses no literal above the limit.
-fn are_literals_up_to<T: HasLiterals>(limit: u64, items: &[T]) -> bool
-    ensures { IsTrue result ↔ All (λ i. AllByRecursion (λ l. l ≤ limit) (T.literals i)) items.now }
+/// Whether a circuit with this largest index may use the literal.
+fn is_literal_up_to(max_var: u32, literal: Lit) -> bool
+    ensures { IsTrue result ↔ IsLiteralUpTo max_var literal }
 {
-    items.iter().all(|item| item.has_literals_up_to(limit))
+    literal.var().0 <= max_var
+}
+
+/// Whether what an entry defines and uses is in range.
+fn is_in_range<T: Entry>(max_var: u32, entry: &T) -> bool
+    ensures { IsTrue result ↔ AreInRange max_var (T.defined entry.now) (T.used entry.now) }
+{
+    let (first, second) = entry.uses();
+    entry
+        .definition()
+        .is_none_or(|variable| is_variable_up_to(max_var, variable))
+        && first.is_none_or(|literal| is_literal_up_to(max_var, literal))
+        && second.is_none_or(|literal| is_literal_up_to(max_var, literal))
+}
+
+/// Whether what each entry of a section defines and uses is in range.
+fn are_in_range<T: Entry>(max_var: u32, entries: &Listing<T>) -> bool
+    ensures { IsTrue result ↔ All (λ e. AreInRange max_var (T.defined e) (T.used e)) entries.now }
+{
+    entries.iter().all(|entry| is_in_range(max_var, entry))
 }
 
 /// Whether a name stands in one line.
@@ -144,29 +129,20 @@ impl Circuit {
         ensures { IsTrue result ↔ IsWithinLimits self.now }
     {
         self.max_var <= LARGEST
-            && is_short_enough(self.inputs.as_slice())
-            && is_short_enough(self.latches.as_slice())
-            && is_short_enough(self.outputs.as_slice())
-            && is_short_enough(self.gates.as_slice())
+            && is_short_enough(&self.inputs)
+            && is_short_enough(&self.latches)
+            && is_short_enough(&self.outputs)
+            && is_short_enough(&self.gates)
     }
 
-    /// Whether each defined variable is one from 1 to the largest index.
-    fn has_good_variables(&self) -> bool
-        ensures { IsTrue result ↔ AllByRecursion (IsVariableUpTo self.now.max_var) (defined_variables self.now) }
+    /// Whether each variable that is defined, and each literal that is used, is in range.
+    fn has_entries_in_range(&self) -> bool
+        ensures { IsTrue result ↔ HasEntriesInRange self.now }
     {
-        are_variables_up_to(self.max_var, self.inputs.as_slice())
-            && are_variables_up_to(self.max_var, self.latches.as_slice())
-            && are_variables_up_to(self.max_var, self.gates.as_slice())
-    }
-
-    /// Whether each used literal is over a variable up to the largest index.
-    fn has_good_literals(&self) -> bool
-        ensures { IsTrue result ↔ AllByRecursion (λ l. l ≤ 2 * self.now.max_var + 1) (used_literals self.now) }
-    {
-        let limit = 2 * u64::from(self.max_var) + 1;
-        are_literals_up_to(limit, self.latches.as_slice())
-            && are_literals_up_to(limit, self.outputs.as_slice())
-            && are_literals_up_to(limit, self.gates.as_slice())
+        are_in_range(self.max_var, &self.inputs)
+            && are_in_range(self.max_var, &self.latches)
+            && are_in_range(self.max_var, &self.outputs)
+            && are_in_range(self.max_var, &self.gates)
     }
 
     /// Whether the symbol names something that is there.
@@ -211,12 +187,10 @@ impl Circuit {
     /// Whether the circuit is in form: the limits hold, variables and literals are in range, and symbols are good. What
     /// is defined and used is not compared. It takes no memory. The time grows with the circuit's size; only
     /// where symbols stand in another order than by kind and rising position, all pairs of them are compared.
+    #[tactic(auto, using(crate::proofs::InForm::in_form_by_parts, crate::proofs::InForm::entries_of_form))]
     pub fn in_form(&self) -> bool
         ensures { IsTrue result ↔ IsInForm self.now }
     {
-        self.is_within_limits()
-            && self.has_good_variables()
-            && self.has_good_literals()
-            && self.has_good_symbols()
+        self.is_within_limits() && self.has_entries_in_range() && self.has_good_symbols()
     }
 }

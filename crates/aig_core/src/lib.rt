@@ -1,17 +1,30 @@
 //! What a circuit is, when it is well formed, and the devices that its bytes come from and go to.
 #![tactic(auto)]
 
-pub mod block;
-pub mod check;
-pub mod circuit;
-mod defines;
-pub mod device;
-pub mod fault;
+mod block;
+mod checked;
+mod circuit;
+mod device;
+mod digits;
+mod entry;
+mod fault;
 mod form;
 pub mod laws;
-pub mod listing;
-pub mod literal;
-pub mod memory;
-pub mod streams;
-pub mod transfer;
+mod listing;
+mod literal;
+mod memory;
+mod streams;
+mod transfer;
 mod var_set;
+
+pub use crate::block::{Block, ROOM};
+pub use crate::checked::{Checked, check};
+pub use crate::circuit::{Circuit, Gate, Kind, LARGEST, Latch, Symbol};
+pub use crate::device::{DeviceFault, Sink, Source};
+pub use crate::digits::MOST_DIGITS;
+pub use crate::fault::CheckFault;
+pub use crate::listing::Listing;
+pub use crate::literal::{Lit, Var};
+pub use crate::memory::{MemorySink, MemorySource};
+pub use crate::streams::{ReadSource, WriteSink};
+pub use crate::transfer::{ReadError, read_all};

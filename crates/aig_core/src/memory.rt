@@ -1,7 +1,10 @@
 //! Devices in memory.
-ghost use Rattle.std.specs.Prelude.{◌≡◌, ◌+◌, ◌-◌, ◌^◌, ◌<◌, ◌≤◌, ◌↔◌, ℕ, Some, IsTrue, MatchResult, IfOk, OnErr, is_ok, true, false, drop, take, length, vec_len, vec_capacity, if◌then◌else◌};
+ghost use Rattle.std.specs.Prelude.{◌≡◌, ◌+◌, ◌-◌, ◌^◌, ◌<◌, ◌≤◌, ◌↔◌, ℕ, Some, IsTrue, MatchResult, IfOk, OnErr};
+ghost use Rattle.std.specs.Prelude.{is_ok, true, false, drop, take, length, max, vec_len, vec_capacity};
+ghost use Rattle.std.specs.Prelude.{if◌then◌else◌};
 ghost use Rattle.std.specs.Io.KnownBytes.{WriteAppends, ReadConsumes};
-ghost use Rattle.aig_core.specs.Memory.{accepted, after_failed_fetch, after_failed_send, after_giving, after_taking, given, is_due, new_sink, new_source, one_call_later};
+ghost use Rattle.aig_core.specs.Memory.{accepted, after_failed_fetch, after_failed_send, after_giving};
+ghost use Rattle.aig_core.specs.Memory.{after_taking, given, is_due, new_sink, new_source, one_call_later};
 
 use crate::device::{DeviceFault, Sink, Source};
 use std::alloc::{AllocError, Global};
@@ -23,7 +26,12 @@ impl Model for MemorySource {
 
     ghost Value = { SourceInMemory };
 
-    ghost view = { λ s. record { coming = drop s.at s.bytes.items; piece = s.piece; fails_in = s.calls_before; failures = s.failures } };
+    ghost view = { λ s. record {
+      coming = drop s.at s.bytes.items;
+      piece = s.piece;
+      fails_in = s.calls_before;
+      failures = s.failures;
+    } };
 
     ghost invariant = { λ s. (vec_len s.bytes ≤ 2 ^ 62) × (s.at ≤ vec_len s.bytes) × (0 < s.piece) };
 }
@@ -72,7 +80,8 @@ impl Source for MemorySource {
         ensures within { IfOk result (λ n. n ≤ length into.new) }
         ensures bytes { ReadConsumes (Some self.old.coming) (Some self.new.coming) result into.new }
         ensures limited { length self.old.coming ≤ 2 ^ 62 }
-        ensures bound { MatchResult result (λ n. length self.new.coming + n ≤ length self.old.coming) (λ _. length self.new.coming ≤ length self.old.coming) }
+        ensures bound { MatchResult result (λ n. length self.new.coming + n ≤ length self.old.coming)
+            (λ _. length self.new.coming ≤ length self.old.coming) }
         ensures failed { self.new.failures ≡ self.old.failures + (if is_ok result then 0 else 1) }
         ensures chosen { IsTrue (is_ok result) ↔ (is_due self.old.fails_in ≡ false) }
         ensures count { IfOk result (λ n. n ≡ given self.old (length into.old)) }
@@ -112,7 +121,14 @@ impl Model for MemorySink {
 
     ghost Value = { SinkInMemory };
 
-    ghost view = { λ s. record { taken = s.taken.items; room = s.room; piece = s.piece; longest = s.longest; fails_in = s.calls_before; failures = s.failures } };
+    ghost view = { λ s. record {
+      taken = s.taken.items;
+      room = s.room;
+      piece = s.piece;
+      longest = s.longest;
+      fails_in = s.calls_before;
+      failures = s.failures;
+    } };
 
     ghost invariant = { λ s. (vec_len s.taken + s.room ≤ vec_capacity s.taken) × (0 < s.piece) };
 }
@@ -152,6 +168,8 @@ impl MemorySink {
 impl Sink for MemorySink {
     ghost taken = { λ s. Some s.taken };
 
+    ghost longest = { λ s. s.longest };
+
     ghost failed = { λ s. s.failures };
 
     fn send(&mut self, bytes: &[u8]) -> Result<usize, DeviceFault>
@@ -160,6 +178,7 @@ impl Sink for MemorySink {
         ensures within { IfOk result (λ n. n ≤ length bytes.now) }
         ensures moves { IfOk result (λ n. 0 < n) }
         ensures bytes { WriteAppends (Some self.old.taken) (Some self.new.taken) result bytes.now }
+        ensures longest { self.new.longest ≡ max self.old.longest (length bytes.now) }
         ensures failed { self.new.failures ≡ self.old.failures + (if is_ok result then 0 else 1) }
         ensures chosen { IsTrue (is_ok result) ↔ ((is_due self.old.fails_in ≡ false) × (0 < self.old.room)) }
         ensures count { IfOk result (λ n. n ≡ accepted self.old bytes.now) }

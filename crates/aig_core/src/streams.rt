@@ -51,7 +51,8 @@ impl<R: Read> Source for ReadSource<R> {
         ensures within { IfOk result (λ n. n ≤ length into.new) }
         ensures bytes { ReadConsumes (R.remaining self.old.reader) (R.remaining self.new.reader) result into.new }
         ensures limited { self.old.left ≤ 2 ^ 62 }
-        ensures bound { MatchResult result (λ n. self.new.left + n ≡ self.old.left) (λ _. self.new.left ≡ self.old.left) }
+        ensures bound { MatchResult result (λ n. self.new.left + n ≡ self.old.left)
+            (λ _. self.new.left ≡ self.old.left) }
         ensures failed { self.new.failures ≡ self.old.failures + (if is_ok result then 0 else 1) }
     {
         if self.left == 0 {

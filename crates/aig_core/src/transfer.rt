@@ -1,5 +1,6 @@
 //! All bytes of a source, and all bytes to a sink.
-ghost use Rattle.std.specs.Prelude.{◌≡◌, ◌≢◌, ◌+◌, ◌-◌, ◌^◌, ◌<◌, ◌≤◌, ℕ, [], length, take, Some, IfOk, IfErr, IfSome, OnOk, OnErr, MatchResult, is_ok, if◌then◌else◌};
+ghost use Rattle.std.specs.Prelude.{◌≡◌, ◌≢◌, ◌+◌, ◌-◌, ◌^◌, ◌<◌, ◌≤◌, ℕ, [], length, max, take, Some, IfOk, IfErr};
+ghost use Rattle.std.specs.Prelude.{IfSome, OnOk, OnErr, MatchResult, is_ok, if◌then◌else◌};
 ghost use Rattle.std.specs.Io.KnownBytes.{Appends};
 ghost use Rattle.aig_core.specs.Transfer.{GaveAll, GaveSome, TookBeginning};
 ghost use Rattle.aig_core.specs.Failures.{failures_of};
@@ -7,13 +8,16 @@ ghost use Rattle.aig_core.specs.declared.transfer.ReadError.TheVariants.{Source 
 
 use crate::device::{DeviceFault, Sink, Source};
 use std::alloc::{AllocError, Global};
+use thiserror::Error;
 
 /// Why not all bytes came.
-#[derive(Clone, Copy, Debug, PartialEq, Eq)]
+#[derive(Debug, Drop, Error)]
 pub enum ReadError {
     /// The source failed.
+    #[error("cannot read")]
     Source,
     /// Memory was refused.
+    #[error("out of memory")]
     OutOfMemory,
 }
 
@@ -53,10 +57,11 @@ pub fn read_all<R: Source>(alloc: Global, source: &mut R) -> Result<Vec<u8>, Rea
 }
 
 /// Sends all bytes. On an error the sink took a beginning of them.
-pub fn send_all<W: Sink>(sink: &mut W, bytes: &[u8]) -> Result<(), DeviceFault>
+pub(crate) fn send_all<W: Sink>(sink: &mut W, bytes: &[u8]) -> Result<(), DeviceFault>
     requires { W.failed sink.old < 2 ^ 64 - 1 }
     ensures ok { OnOk result (Appends (W.taken sink.old) (W.taken sink.new) bytes.now) }
     ensures err { OnErr result (TookBeginning (W.taken sink.old) (W.taken sink.new) bytes.now) }
+    ensures longest { W.longest sink.new ≤ max (W.longest sink.old) (length bytes.now) }
     ensures failed { W.failed sink.new ≡ W.failed sink.old + (if is_ok result then 0 else 1) }
 {
     let mut at = 0;

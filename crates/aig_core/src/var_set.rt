@@ -1,24 +1,29 @@
 //! Sets of variables.
-ghost use Rattle.std.specs.Prelude.{◌≡◌, ◌++◌, IfOk, OnOk, OnErr, not, false, slice_index_or};
+ghost use Rattle.std.specs.Prelude.{◌≡◌, IfOk, OnOk, OnErr, not};
 ghost use Rattle.std.specs.Ordering.{nat_cmp};
 ghost use Rattle.std.specs.FinSet as set;
 ghost use Rattle.std.specs.Coded.{coded_ℕ};
-ghost use Rattle.aig_core.specs.Marks.{marked_from};
+ghost use Rattle.aig_core.specs.Parts.Marks.{set_of, is_kept};
 
 use crate::literal::Var;
+use crate::var_set::bits::Bits;
+use crate::var_set::spread::Spread;
 use std::alloc::{AllocError, Global};
-use std::collections::BTreeSet;
 use std::marker::Model;
 
-/// How many marks there are at most for each variable that is expected.
-const MARKS_PER_VARIABLE: usize = 4;
+mod bits;
+mod bucket;
+mod spread;
 
-/// A set of variables: a table of marks for those below a bound, which are most, and a tree for the others. So a
-/// circuit with few variables of large indices takes little memory.
+/// How many bits there are at most for each variable that is expected.
+const BITS_PER_VARIABLE: usize = 4;
+
+/// A set of variables. Where the largest index is not far above their number, which is most often, each index has its
+/// bit. Otherwise few variables of large indices take little memory.
 #[derive(Drop)]
 pub struct VarSet {
-    marks: Vec<bool>,
-    others: BTreeSet<Var>,
+    bits: Bits,
+    spread: Spread,
 }
 
 impl Model for VarSet {
@@ -26,49 +31,53 @@ impl Model for VarSet {
 
     ghost coded = { set.code coded_ℕ };
 
-    ghost view = { λ a. set.from_list (marked_from 0 a.marks.items ++ a.others.keys) };
-}
-
-/// Whether the table marks the variable.
-fn is_marked(marks: &[bool], var: Var) -> bool
-    ensures { result ≡ slice_index_or marks.now var false }
-{
-    match marks.get(var.0 as usize) {
-        Some(mark) => *mark,
-        None => false,
-    }
+    ghost view = { λ a. set_of (is_kept a.bits a.spread) };
 }
 
 impl VarSet {
-    /// An empty set that is fast for about so many variables.
-    pub fn new(alloc: Global, expected: usize) -> Result<Self, AllocError>
+    /// An empty set that is fast for about so many variables, of indices up to the largest one.
+    pub fn new(alloc: Global, expected: usize, largest: u32) -> Result<Self, AllocError>
         ensures { IfOk result (λ variables. variables ≡ set.empty) }
     {
+        let largest = largest as usize;
+        let is_dense = largest < expected.saturating_mul(BITS_PER_VARIABLE);
+        let (words, spread) = if is_dense {
+            (largest / 64 + 1, 0)
+        } else {
+            (0, expected)
+        };
         Ok(VarSet {
-            marks: vec![in alloc; false; expected.saturating_mul(MARKS_PER_VARIABLE)]?,
-            others: BTreeSet::new(alloc),
+            bits: Bits::new(alloc, words)?,
+            spread: Spread::new(alloc, spread)?,
         })
     }
 
+    #[tactic(auto, using(crate::proofs::Sets::set_has))]
+    #[inline(always)]
     pub fn contains(&self, var: Var) -> bool
         ensures { result ≡ set.contains self.now var }
     {
-        is_marked(self.marks.as_slice(), var) || self.others.contains(&var)
+        let index = var.0 as usize;
+        if self.bits.covers(index) {
+            self.bits.is_marked(index)
+        } else {
+            self.spread.contains(var)
+        }
     }
 
     /// Adds a variable, and answers whether it is new.
+    #[tactic(auto, using(crate::proofs::Sets::set_has))]
+    #[inline(always)]
     pub fn insert(&mut self, var: Var) -> Result<bool, AllocError>
         ensures added { IfOk result (λ added. added ≡ not (set.contains self.old var)) }
         ensures ok { OnOk result (self.new ≡ set.insert self.old var) }
         ensures err { OnErr result (self.new ≡ self.old) }
     {
-        let added = !self.contains(var);
         let index = var.0 as usize;
-        if index < self.marks.len() {
-            self.marks[index] = true;
-        } else if added {
-            self.others.insert(var)?;
+        if self.bits.covers(index) {
+            Ok(self.bits.mark(index))
+        } else {
+            self.spread.insert(var)
         }
-        Ok(added)
     }
 }

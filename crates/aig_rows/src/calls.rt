@@ -1,14 +1,7 @@
 //! Calls that are given what they need.
 use crate::forms::{numbers_of, symbols_of};
-use aig_core::check::check;
-use aig_core::circuit::Circuit;
-use aig_core::listing::Listing;
-use aig_core::literal::{Lit, Var};
-use aig_core::memory::{MemorySink, MemorySource};
-use aig_core::transfer::{read_all, send_all};
-use aig_text::ascii::read_ascii;
-use aig_text::limits::Limits;
-use aig_text::writer::write_ascii;
+use aig_core::{Block, Circuit, Listing, Lit, MemorySink, MemorySource, Var, check, read_all};
+use aig_text::{Limits, read_ascii, write_ascii};
 use std::alloc::Global;
 use std::test::Fail;
 
@@ -101,7 +94,9 @@ fn devices_in_memory(rt: HostRuntime) -> Result<(), Fail> {
     let rest = read_all(alloc, &mut source)?;
     assert!(rt; rest.as_slice() == b"efghij".as_slice());
     let mut sink = MemorySink::new(alloc, 100, 4, 2)?;
-    assert!(rt; send_all(&mut sink, &rest).is_err());
+    let mut block = Block::new();
+    block.put(&mut sink, &rest);
+    assert!(rt; block.flush(&mut sink).is_err());
     assert!(rt; sink.taken() == b"efgh".as_slice());
     assert_eq!(rt; sink.longest(), 6);
     Ok(())

@@ -1,8 +1,6 @@
 //! Which circuits are in form.
 use crate::calls::circuit_of;
-use aig_core::circuit::{Circuit, Gate, Kind, Latch, Symbol};
-use aig_core::listing::Listing;
-use aig_core::literal::{Lit, Var};
+use aig_core::{Circuit, Gate, Kind, Latch, Listing, Lit, Symbol, Var};
 use std::alloc::Global;
 use std::test::Fail;
 

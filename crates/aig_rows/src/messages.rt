@@ -1,9 +1,6 @@
 //! Messages that the program does not print.
-use aig_core::device::DeviceFault;
-use aig_core::fault::CheckFault;
-use aig_core::literal::{Lit, Var};
-use aig_text::fault::{Place, ReadFault, ReadKind};
-use aig_text::writer::WriteFault;
+use aig_core::{CheckFault, DeviceFault, Lit, Var};
+use aig_text::{Place, ReadFault, ReadKind, WriteFault};
 use std::test::Fail;
 
 /// The messages below, in their order.

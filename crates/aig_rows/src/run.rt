@@ -1,8 +1,7 @@
 //! A run of the program's engine over devices in memory.
 use crate::streams::{NEVER, OnceReader, OnceWriter};
-use aig_core::memory::MemorySink;
-use aig_core::streams::{ReadSource, WriteSink};
-use aig_tools::start::start;
+use aig_core::{MemorySink, ReadSource, WriteSink};
+use aig_tools::start;
 use std::alloc::{AllocError, Global};
 use std::rt::Files;
 use std::test::Fail;

@@ -1,6 +1,5 @@
 //! Readers and writers of std that count their calls, of which one fails.
-use aig_core::device::{Sink, Source};
-use aig_core::streams::{ReadSource, WriteSink};
+use aig_core::{ReadSource, Sink, Source, WriteSink};
 use std::alloc::Global;
 use std::io;
 use std::io::{ErrorKind, Read, Write};
@@ -90,7 +89,11 @@ fn a_fetch_reads_once(rt: HostRuntime) {
     assert!(rt; source.fetch(&mut into).is_err());
     assert_eq!(rt; source.failures(), 1);
     assert_eq!(rt; reader.calls, 1);
-    assert!(rt; ReadSource::new(&mut reader).fetch(&mut into) == Ok(5));
+    assert!(rt;
+        ReadSource::new(&mut reader)
+            .fetch(&mut into)
+            .is_ok_and(|count| count == 5)
+    );
 }
 
 /// The writer would take the bytes at a second call, which `send` does not make.
@@ -102,5 +105,9 @@ fn a_send_writes_once(rt: HostRuntime) {
     assert_eq!(rt; sink.failures(), 1);
     assert_eq!(rt; writer.calls, 1);
     assert!(rt; writer.taken.is_empty());
-    assert!(rt; WriteSink::new(&mut writer).send(b"bytes") == Ok(5));
+    assert!(rt;
+        WriteSink::new(&mut writer)
+            .send(b"bytes")
+            .is_ok_and(|count| count == 5)
+    );
 }

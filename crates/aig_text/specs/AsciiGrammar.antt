@@ -5,8 +5,12 @@ use Rattle.std.specs.List.{AllByRecursion, AllZip}
 use Rattle.aig_core.specs.declared.circuit.Circuit.{Circuit}
 use Rattle.aig_core.specs.Wellformed.{IsWellFormed}
 use Rattle.aig_text.specs.Lines.{Line, lines_of}
-use Rattle.aig_text.specs.Numbers.{IsNumberLine, IsHeaderLine}
-use Rattle.aig_text.specs.Rows.{ascii_word, header_row, rows_of}
+use Rattle.aig_text.specs.Spelling.{IsNumberLine, IsHeaderLine}
+use Rattle.aig_text.specs.Rows.{ascii_word, header_row, rows_of, Row}
+
+-- The line holds the numbers of the row, where some may be left out as its form tells.
+abbrev pub IsRowLine : Line → Row → Type 0
+IsRowLine l row = IsNumberLine row.form.least l row.numbers
 
 -- The lines after the numbered ones tell the symbols and the comment. Neither is accepted yet, and so there is no such line.
 abbrev pub AreTailLines : List Line → Circuit → Type 0
@@ -18,8 +22,8 @@ pub record IsAsciiText (text : List ℕ) (limit : ℕ) (c : Circuit) : Type 0 wh
   pub tail : List Line
   -- The first line is the header, the next ones are the rows of the circuit, and the others are its tail.
   pub lines : lines_of text ≡ header ∷ (numbered ++ tail)
-  pub is_header : IsHeaderLine ascii_word header (header_row c)
-  pub are_rows : AllZip IsNumberLine numbered (rows_of c)
+  pub is_header : IsHeaderLine ascii_word 5 header (header_row c)
+  pub are_rows : AllZip IsRowLine numbered (rows_of c)
   pub is_tail : AreTailLines tail c
   -- The largest index and the counts are within the limit, and the definitions fit below the largest index.
   pub limited : AllByRecursion (λ n. n ≤ limit) (header_row c)

@@ -5,7 +5,7 @@ use Rattle.aig_core.specs.declared.circuit.Kind.{Kind}
 use Rattle.aig_core.specs.declared.circuit.Kind.TheVariants.{Input, Latch, Output}
 use Rattle.aig_core.specs.declared.circuit.Symbol.{Symbol}
 use Rattle.aig_core.specs.declared.circuit.Circuit.{Circuit}
-use Rattle.aig_text.specs.Rows.{ascii_word, header_row, rows_of}
+use Rattle.aig_text.specs.Rows.{ascii_word, header_row, rows_of, Row}
 
 abbrev pub spaced_number : ℕ → List ℕ
 spaced_number n = codes " " ++ decimal n
@@ -42,5 +42,8 @@ comment_text (Some bytes) = codes "c\n" ++ bytes
 abbrev pub tail_text : Circuit → List ℕ
 tail_text c = flat_map symbol_text c.symbols ++ comment_text c.comment
 
+abbrev pub line_text : Row → List ℕ
+line_text row = numbers_text row.numbers
+
 unfoldable pub ascii_text : Circuit → List ℕ
-ascii_text c = header_text ascii_word (header_row c) ++ (flat_map numbers_text (rows_of c) ++ tail_text c)
+ascii_text c = header_text ascii_word (header_row c) ++ (flat_map line_text (rows_of c) ++ tail_text c)

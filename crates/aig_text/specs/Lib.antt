@@ -1,9 +1,9 @@
 pub mod Lines
-pub mod Numbers
+pub mod Spelling
 pub mod Rows
-pub mod Kept
-pub mod AsciiText
 pub mod AsciiGrammar
+pub mod AsciiText
+pub mod Scanning
 pub mod Reading
-pub mod Sections
 pub mod Laws
+pub mod Parts

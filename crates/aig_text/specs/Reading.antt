@@ -1,33 +1,34 @@
 -- What a text is read as, or its first fault (this project's profile): the first line that is not right for its place, with
 -- the first kind that applies; only where every line is right, the first structural fault of the circuit.
-use Rattle.std.specs.Prelude.{◌≡◌, ◌+◌, ◌*◌, ◌%◌, ◌==◌, ◌&&◌, ◌||◌, ◌⊎◌, ℕ, zero, suc, List, [], ◌∷◌, map, min, drop, length, slice_index, Bool, true, false, nat_lt, Option, None, Some, Result, Ok, Err, if◌then◌else◌}
-use Rattle.std.specs.List.{list_any, before_first}
+use Rattle.std.specs.Prelude.{◌≡◌, ◌+◌, ◌*◌, ◌%◌, ◌==◌, ◌||◌, ◌⊎◌, ℕ, zero, suc, List, [], ◌∷◌, min, drop, length, slice_index, Bool, true, false, nat_lt, Option, None, Some, Result, Ok, Err, if◌then◌else◌}
+use Rattle.std.specs.List.{list_any, before_first, zip}
 use Rattle.std.specs.Str.{bytes_eq}
-use Rattle.aig_core.specs.declared.circuit.Latch.{Latch}
 use Rattle.aig_core.specs.declared.circuit.Circuit.{Circuit}
 use Rattle.aig_core.specs.declared.circuit.TheConstants.{LARGEST}
 use Rattle.aig_core.specs.declared.fault.CheckFault.{CheckFault}
 use Rattle.aig_core.specs.declared.fault.CheckFault.TheVariants as checks
-use Rattle.aig_core.specs.Literal.{variable_of}
 use Rattle.aig_core.specs.Fault as structure
 use Rattle.aig_text.specs.declared.fault.Place.TheVariants as places
 use Rattle.aig_text.specs.declared.fault.ReadKind.{ReadKind}
 use Rattle.aig_text.specs.declared.fault.ReadKind.TheVariants as kinds
 use Rattle.aig_text.specs.declared.fault.ReadFault.{ReadFault}
-pub use Rattle.aig_text.specs.declared.header.Header.{Header}
 use Rattle.aig_text.specs.Lines.{Line, lines_of}
-use Rattle.aig_text.specs.Numbers.{numbers_at, more_numbers_at}
-use Rattle.aig_text.specs.Rows.{ascii_word}
+use Rattle.aig_text.specs.Scanning.{numbers_at, more_numbers_at}
+use Rattle.aig_text.specs.Rows.{ascii_word, Header, Role, Form, roles_of, Section, sections, form_of, count_in, with_rows}
+use Rattle.aig_text.specs.declared.row.Role.TheVariants as roles
 
 infixl 10 ◌>>=◌
 abbrev pub ◌>>=◌ : {A B E : Type 0} → Result A E → (A → Result B E) → Result B E
 (Ok x) >>= f = f x
 (Err e) >>= f = Err e
 
+abbrev pub fault_at : ℕ → ReadKind → ReadFault
+fault_at n kind = record { place = places.Line n; kind = kind }
+
 -- what is read, or what is wrong at this line
 abbrev pub at_line : {A : Type 0} → ℕ → Result A ReadKind → Result A ReadFault
 at_line n (Ok x) = Ok x
-at_line n (Err kind) = Err (record { place = places.Line n; kind = kind })
+at_line n (Err kind) = Err (fault_at n kind)
 
 -- a word ends at a space or a carriage return, or where the line ends
 abbrev pub ends_word : ℕ → Bool
@@ -50,84 +51,115 @@ header_within limit (Some ns) =
     else if nat_lt (slice_index ns 0) (slice_index ns 1 + slice_index ns 2 + slice_index ns 4) then Err kinds.BadHeader
     else Ok (header_of_row ns)
 
--- the header of the first line: the word, then five numbers
+-- the header that a line tells: the word, then its numbers
 unfoldable pub header_of : List ℕ → ℕ → Line → Result Header ReadKind
 header_of word limit l =
     if bytes_eq (before_first ends_word l.text) word
-    then header_within (min limit LARGEST) (more_numbers_at l.ended 5 (drop (length word) l.text))
+    then header_within (min limit LARGEST) (more_numbers_at l.ended 5 5 (drop (length word) l.text))
     else Err kinds.NotAiger
 
 -- a number that cannot be a definition: an odd one or a constant
 abbrev pub is_no_variable : ℕ → Bool
 is_no_variable n = (n % 2 == 1) || nat_lt n 2
 
--- what is wrong with the numbers of a line, whose first is a definition where `defines`
-unfoldable pub checked_row : Bool → ℕ → Option (List ℕ) → Result (List ℕ) ReadKind
-checked_row defines max_var None = Err kinds.BadLine
-checked_row defines max_var (Some ns) =
-    if defines && is_no_variable (slice_index ns 0) then Err kinds.NotVariable
-    else if list_any (λ n. nat_lt (2 * max_var + 1) n) ns then Err kinds.LiteralRange
-    else Ok ns
+-- a number that stands where a variable is defined, and cannot be that
+abbrev pub misdefines : Role → ℕ → Bool
+misdefines roles.Definition n = is_no_variable n
+misdefines roles.Literal n = false
 
--- the numbers of a numbered line: one and so many more
-unfoldable pub row_at : ℕ → Bool → ℕ → Line → Result (List ℕ) ReadKind
-row_at more defines max_var l = checked_row defines max_var (numbers_at l.ended more l.text)
+-- a number above what may stand there
+abbrev pub exceeds : ℕ → Role → ℕ → Bool
+exceeds max_var roles.Definition n = nat_lt (2 * max_var + 1) n
+exceeds max_var roles.Literal n = nat_lt (2 * max_var + 1) n
 
--- the rows of a section from line n on, and the lines after them
-unfoldable pub section_at : ℕ → Bool → ℕ → ℕ → ℕ → List Line → Result (List (List ℕ) × List Line) ReadFault
-section_at more defines max_var n zero ls = Ok ([], ls)
-section_at more defines max_var n (suc count) [] = Err (record { place = places.Line n; kind = kinds.Truncated })
-section_at more defines max_var n (suc count) (l ∷ ls) = do
-  first ← at_line n (row_at more defines max_var l)
-  others ← section_at more defines max_var (n + 1) count ls
-  Ok (first ∷ others.0, others.1)
+-- one of the numbers of a row is such in its role
+abbrev pub any_number : (Role → ℕ → Bool) → List Role → List ℕ → Bool
+any_number test rs ns = list_any (λ p. test p.0 p.1) (zip rs ns)
 
--- what a row tells
-abbrev pub input_of : List ℕ → ℕ
-input_of ns = variable_of (slice_index ns 0)
+-- what is wrong with the numbers of a row
+abbrev pub fault_in_row : ℕ → List Role → List ℕ → Option ReadKind
+fault_in_row max_var rs ns =
+    if any_number misdefines rs ns then Some kinds.NotVariable
+    else if any_number (exceeds max_var) rs ns then Some kinds.LiteralRange
+    else None
 
-abbrev pub latch_of : List ℕ → Latch
-latch_of ns = record { var = variable_of (slice_index ns 0); next = slice_index ns 1 }
+abbrev pub unless_wrong : {A : Type 0} → A → Option ReadKind → Result A ReadKind
+unless_wrong x None = Ok x
+unless_wrong x (Some kind) = Err kind
 
-abbrev pub output_of : List ℕ → ℕ
-output_of ns = slice_index ns 0
+-- the numbers of a row, where there is one
+unfoldable pub checked_row : Form → ℕ → Option (List ℕ) → Result (List ℕ) ReadKind
+checked_row form max_var None = Err kinds.BadLine
+checked_row form max_var (Some ns) = unless_wrong ns (fault_in_row max_var (roles_of form) ns)
 
--- a circuit that has no gates, symbols and comment
-abbrev pub circuit_of : ℕ → List ℕ → List Latch → List ℕ → Circuit
-circuit_of max_var inputs latches outputs = record {
+-- the row that a line tells
+unfoldable pub row_of : Form → ℕ → Line → Result (List ℕ) ReadKind
+row_of form max_var l = checked_row form max_var (numbers_at l.ended form.least (length form.others) l.text)
+
+-- What is told by the lines from line n on, the number of the line after them, and the lines from there on.
+abbrev pub Told : Type 0 → Type 0
+Told A = Result (A × ℕ × List Line) ReadFault
+
+-- the row of the next line
+abbrev pub row_at : Form → ℕ → ℕ → List Line → Told (List ℕ)
+row_at form max_var n [] = Err (fault_at n kinds.Truncated)
+row_at form max_var n (l ∷ ls) = do
+  told ← at_line n (row_of form max_var l)
+  Ok (told, n + 1, ls)
+
+-- so many rows
+unfoldable pub rows_at : Form → ℕ → ℕ → ℕ → List Line → Told (List (List ℕ))
+rows_at form max_var zero n ls = Ok ([], n, ls)
+rows_at form max_var (suc count) n ls = do
+  first ← row_at form max_var n ls
+  others ← rows_at form max_var count first.1 first.2
+  Ok (first.0 ∷ others.0, others.1, others.2)
+
+-- the circuit with the rows of a section, of all sections
+abbrev pub section_at : Header → Section → Circuit → ℕ → List Line → Told Circuit
+section_at h s c n ls = do
+  told ← rows_at (form_of s) h.max_var (count_in h s) n ls
+  Ok (with_rows s told.0 c, told.1, told.2)
+
+unfoldable pub sections_at : Header → List Section → Circuit → ℕ → List Line → Told Circuit
+sections_at h [] c n ls = Ok (c, n, ls)
+sections_at h (s ∷ ss) c n ls = do
+  told ← section_at h s c n ls
+  sections_at h ss told.0 told.1 told.2
+
+-- a circuit that has nothing in it
+abbrev pub empty_circuit : ℕ → Circuit
+empty_circuit max_var = record {
   max_var = max_var;
-  inputs = inputs;
-  latches = latches;
-  outputs = outputs;
+  inputs = [];
+  latches = [];
+  outputs = [];
   gates = [];
   symbols = [];
   comment = None;
 }
 
 -- Gates, symbols and comments are not read yet.
-abbrev pub gates_not_yet : Header → Result Header ReadFault
-gates_not_yet h = if h.gates == 0 then Ok h else Err (record { place = places.Line 1; kind = kinds.NotYet })
+abbrev pub gates_not_yet : Header → Result Header ReadKind
+gates_not_yet h = if h.gates == 0 then Ok h else Err kinds.NotYet
 
-abbrev pub tail_not_yet : ℕ → Circuit → List Line → Result Circuit ReadFault
-tail_not_yet n c [] = Ok c
-tail_not_yet n c (l ∷ ls) = Err (record { place = places.Line n; kind = kinds.NotYet })
+abbrev pub tail_not_yet : Circuit → ℕ → List Line → Result Circuit ReadFault
+tail_not_yet c n [] = Ok c
+tail_not_yet c n (l ∷ ls) = Err (fault_at n kinds.NotYet)
 
--- the circuit that the lines after the header tell, judged line by line
-unfoldable pub sections_of : Header → List Line → Result Circuit ReadFault
-sections_of h ls = do
-  inputs ← section_at 0 true h.max_var 2 h.inputs ls
-  latches ← section_at 1 true h.max_var (2 + h.inputs) h.latches inputs.1
-  outputs ← section_at 0 false h.max_var (2 + h.inputs + h.latches) h.outputs latches.1
-  tail_not_yet (2 + h.inputs + h.latches + h.outputs)
-      (circuit_of h.max_var (map input_of inputs.0) (map latch_of latches.0) (map output_of outputs.0)) outputs.1
+-- the header that the next line tells
+abbrev pub header_at : List ℕ → ℕ → ℕ → List Line → Told Header
+header_at word limit n [] = Err (fault_at n kinds.NotAiger)
+header_at word limit n (l ∷ ls) = do
+  told ← at_line n (header_of word limit l >>= gates_not_yet)
+  Ok (told, n + 1, ls)
 
 -- the circuit that the lines of a text tell, judged line by line
 unfoldable pub circuit_at : ℕ → List Line → Result Circuit ReadFault
-circuit_at limit [] = Err (record { place = places.Line 1; kind = kinds.NotAiger })
-circuit_at limit (l ∷ ls) = do
-  header ← at_line 1 (header_of ascii_word limit l)
-  h ← gates_not_yet header
-  sections_of h ls
+circuit_at limit ls = do
+  header ← header_at ascii_word limit 1 ls
+  numbered ← sections_at header.0 sections (empty_circuit header.0.max_var) header.1 header.2
+  tail_not_yet numbered.0 numbered.1 numbered.2
 
 -- a structural fault as the fault of a text
 abbrev pub kind_of : CheckFault → ReadKind
@@ -135,9 +167,12 @@ kind_of (checks.Redefined v) = kinds.Redefined v
 kind_of (checks.Undefined l) = kinds.Undefined l
 kind_of checks.OutOfMemory = kinds.OutOfMemory
 
+abbrev pub whole_fault : ReadKind → ReadFault
+whole_fault kind = record { place = places.Whole; kind = kind }
+
 abbrev pub unless_faulty : Circuit → Option CheckFault → Result Circuit ReadFault
 unless_faulty c None = Ok c
-unless_faulty c (Some fault) = Err (record { place = places.Whole; kind = kind_of fault })
+unless_faulty c (Some fault) = Err (whole_fault (kind_of fault))
 
 unfoldable pub reading : ℕ → List ℕ → Result Circuit ReadFault
 reading limit text = do
@@ -152,15 +187,10 @@ fault_of (Err fault) = Some fault
 abbrev pub first_fault : ℕ → List ℕ → Option ReadFault
 first_fault limit text = fault_of (reading limit text)
 
-abbrev pub is_want_of_memory : ReadKind → Bool
-is_want_of_memory kinds.OutOfMemory = true
-is_want_of_memory _ = false
+-- memory was refused while the text was judged
+abbrev pub want_of_memory : ReadFault
+want_of_memory = whole_fault kinds.OutOfMemory
 
 -- a fault that is told is the first one, unless memory was refused
 abbrev pub IsFirstFault : ReadFault → Option ReadFault → Type 0
-IsFirstFault told first = (is_want_of_memory told.kind ≡ true) ⊎ (first ≡ Some told)
-
--- What a function returned, seen by view, is what reading gives, unless memory was refused.
-abbrev pub GivesOrMemory : {X Y : Type 0} → (X → Y) → Result X ReadFault → Result Y ReadFault → Type 0
-GivesOrMemory view (Ok x) read = read ≡ Ok (view x)
-GivesOrMemory view (Err e) read = (is_want_of_memory e.kind ≡ true) ⊎ (read ≡ Err e)
+IsFirstFault told first = (told ≡ want_of_memory) ⊎ (first ≡ Some told)

@@ -1,8 +1,8 @@
 //! Why a text is refused, and where.
 ghost use Rattle.std.specs.Prelude.{◌≡◌};
-ghost use Rattle.aig_text.specs.declared.fault.ReadKind.TheVariants.{OutOfMemory};
+ghost use Rattle.aig_text.specs.Reading.{want_of_memory};
 
-use aig_core::literal::{Lit, Var};
+use aig_core::{Lit, Var};
 use std::alloc::{AllocError, AllocFailed};
 use std::fmt;
 use thiserror::Error;
@@ -75,7 +75,7 @@ pub struct ReadFault {
 }
 
 impl From<AllocError> for ReadFault {
-    ghost from_gives = { λ _ e. e.kind ≡ OutOfMemory };
+    ghost from_gives = { λ _ e. e ≡ want_of_memory };
 
     fn from(_refused: AllocError) -> ReadFault {
         ReadFault {
@@ -86,7 +86,7 @@ impl From<AllocError> for ReadFault {
 }
 
 impl<T: Drop> From<AllocFailed<T>> for ReadFault {
-    ghost from_gives = { λ _ e. e.kind ≡ OutOfMemory };
+    ghost from_gives = { λ _ e. e ≡ want_of_memory };
 
     fn from(_refused: AllocFailed<T>) -> ReadFault {
         ReadFault {

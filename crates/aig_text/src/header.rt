@@ -3,13 +3,17 @@ ghost use Rattle.std.specs.Prelude.{◌≡◌, ◌≤◌, Some, IfOk, length};
 ghost use Rattle.std.specs.List.{before_first, position_or_len};
 ghost use Rattle.std.specs.Str.{bytes_eq};
 ghost use Rattle.aig_core.specs.declared.circuit.TheConstants.{LARGEST as largest_index};
-ghost use Rattle.aig_text.specs.Lines.{line};
+ghost use Rattle.aig_text.specs.Lines.{line as line_of};
 ghost use Rattle.aig_text.specs.Reading.{ends_word, header_within, header_of};
 
 use crate::fault::ReadKind;
 use crate::limits::Limits;
+use crate::line::Line;
 use crate::number::{any_above, more_numbers};
-use aig_core::circuit::LARGEST;
+use aig_core::LARGEST;
+
+/// The first word of an ASCII file.
+pub(crate) const ASCII_WORD: &[u8] = b"aag";
 
 /// What a header tells: the largest variable index and the counts.
 #[derive(Clone, Copy, Debug, PartialEq, Eq)]
@@ -63,20 +67,15 @@ fn within(limit: u32, numbers: [u64; 5]) -> Result<Header, ReadKind>
 
 /// The header that a line tells, which begins with this word.
 #[tactic(auto, unfolding(crate::specs::Reading::header_of))]
-pub fn read_header(
-    word: &[u8],
-    text: &[u8],
-    ended: bool,
-    limits: Limits,
-) -> Result<Header, ReadKind>
-    ensures value { result ≡ header_of word.now limits.max_var (line text.now ended) }
+pub(crate) fn read_header(word: &[u8], line: Line, limits: Limits) -> Result<Header, ReadKind>
+    ensures value { result ≡ header_of word.now limits.max_var (line_of line.entry.text.now line.entry.ended) }
     ensures limited { IfOk result (λ h. h.max_var ≤ largest_index) }
 {
-    if !begins_with_word(text, word) {
+    if !begins_with_word(line.text, word) {
         return Err(ReadKind::NotAiger);
     }
-    let (_, rest) = text.split_at(word.len());
-    match more_numbers::<5>(rest, ended) {
+    let (_, rest) = line.text.split_at(word.len());
+    match more_numbers::<5>(rest, line.ended, 5) {
         Some(numbers) => within(limits.max_var.min(LARGEST), numbers),
         None => Err(ReadKind::BadHeader),
     }

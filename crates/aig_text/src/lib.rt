@@ -1,13 +1,19 @@
 //! ASCII AIGER files: their lines and numbers, the reader and the writer.
 #![tactic(auto)]
 
-pub mod ascii;
-pub mod fault;
-pub mod header;
+mod fault;
+mod header;
 pub mod laws;
-pub mod limits;
-pub mod line;
-pub mod number;
-pub mod row;
-pub mod section;
-pub mod writer;
+mod limits;
+mod line;
+mod number;
+mod reader;
+mod row;
+mod section;
+mod writer;
+
+pub use crate::fault::{Place, ReadFault, ReadKind};
+pub use crate::header::Header;
+pub use crate::limits::Limits;
+pub use crate::reader::read_ascii;
+pub use crate::writer::{WriteFault, put_header, put_numbers, put_tail, write_ascii};

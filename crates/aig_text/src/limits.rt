@@ -2,7 +2,7 @@
 ghost use Rattle.std.specs.Prelude.{◌≡◌};
 ghost use Rattle.aig_core.specs.declared.circuit.TheConstants.{LARGEST as largest_index};
 
-use aig_core::circuit::LARGEST;
+use aig_core::LARGEST;
 
 /// How large the largest variable index and each count of a file may be.
 #[derive(Clone, Copy, Debug, PartialEq, Eq)]

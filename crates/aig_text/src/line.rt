@@ -1,12 +1,46 @@
 //! Lines of a text.
-ghost use Rattle.std.specs.Prelude.{◌≡◌, [], ◌∷◌, MatchOption};
+ghost use Rattle.std.specs.Prelude.{◌≡◌, ◌+◌, ◌^◌, ◌<◌, [], ◌∷◌, length, MatchOption};
 ghost use Rattle.aig_text.specs.Lines.{line, lines_of};
 
 use memchr::memchr;
 
-/// The first line without its line feed, whether it has one, and what follows the line; `None` where no line is left.
-pub fn split_line(bytes: &[u8]) -> Option<(&[u8], bool, &[u8])>
-    ensures { MatchOption result (lines_of bytes.now ≡ []) (λ x. lines_of bytes.now ≡ line x.0.now x.1 ∷ lines_of x.2.now) }
+/// A line without its line feed.
+#[derive(Clone, Copy)]
+pub(crate) struct Line<'a> {
+    pub text: &'a [u8],
+    /// Whether a line feed follows; only the last line of a text may lack it.
+    pub ended: bool,
+}
+
+/// A place in a text where a line begins.
+#[derive(Clone, Copy)]
+pub(crate) struct Cursor<'a> {
+    /// What is left of the text.
+    pub rest: &'a [u8],
+    /// The number of the line that begins here, counted from 1.
+    pub number: u64,
+    // Each line has a byte, so no number is too large to be counted.
+    ghost countable: { number + length rest.now < 2 ^ 64 },
+}
+
+impl<'a> Cursor<'a> {
+    /// The beginning of a text.
+    pub fn new(text: &'a [u8]) -> Self
+        ensures rest { result.rest.now ≡ text.now }
+        ensures number { result.number ≡ 1 }
+    {
+        Cursor {
+            rest: text,
+            number: 1,
+        }
+    }
+}
+
+/// The first line, and what follows it; `None` where no line is left.
+pub(crate) fn split_line(bytes: &[u8]) -> Option<(Line, &[u8])>
+    ensures lines { MatchOption result (lines_of bytes.now ≡ [])
+        (λ x. lines_of bytes.now ≡ line x.0.text.now x.0.ended ∷ lines_of x.1.now) }
+    ensures shorter { MatchOption result (length bytes.now ≡ 0) (λ x. length x.1.now < length bytes.now) }
 {
     if bytes.is_empty() {
         return None;
@@ -15,8 +49,14 @@ pub fn split_line(bytes: &[u8]) -> Option<(&[u8], bool, &[u8])>
         Some(at) => {
             let (text, rest) = bytes.split_at(at);
             let (_, rest) = rest.split_at(1);
-            Some((text, true, rest))
+            Some((Line { text, ended: true }, rest))
         }
-        None => Some((bytes, false, &[])),
+        None => Some((
+            Line {
+                text: bytes,
+                ended: false,
+            },
+            &[],
+        )),
     }
 }

@@ -1,11 +1,19 @@
 //! Numbers of any length, and lines of numbers.
-ghost use Rattle.std.specs.Prelude.{◌≡◌, ◌+◌, ◌-◌, ◌*◌, ◌^◌, ◌<◌, ◌≤◌, ◌∷◌, length, nat_lt, take};
+ghost use Rattle.std.specs.Prelude.{◌≡◌, ◌==◌, ◌&&◌, ◌+◌, ◌-◌, ◌*◌, ◌^◌, ◌<◌, ◌≤◌, ◌∷◌, length, nat_lt, take, IfSome};
 ghost use Rattle.std.specs.List.{list_any, prefix_len};
-ghost use Rattle.aig_text.specs.Numbers.{is_digit, is_space, value_of, number_at, after_gap, is_line_end, more_numbers_at, numbers_at};
-ghost use Rattle.aig_text.specs.Kept.{kept, kept_numbers, kept_first, Gives};
+ghost use Rattle.aig_text.specs.Spelling.{is_digit, is_space, value_of};
+ghost use Rattle.aig_text.specs.Scanning.{number_at, after_gap, is_line_end, more_numbers_at, numbers_at};
+ghost use Rattle.aig_text.specs.Parts.Plain.{BeginsWithNumber, EndsPlainly};
+ghost use Rattle.aig_text.specs.Parts.Kept.{kept, kept_numbers, kept_first, Gives};
+
+use crate::line::Line;
+use core::dec2flt::read_digits;
 
 /// Numbers from here on are all above each limit, and only whether they are odd is kept of them.
 const LARGE: u64 = 1 << 33;
+
+/// How many digits always spell a number of 64 bits.
+const LONGEST: usize = 18;
 
 /// What is kept of a number with one more digit.
 fn with_digit(value: u64, digit: u8) -> u64
@@ -45,7 +53,7 @@ fn leading_spaces(bytes: &[u8]) -> usize
 }
 
 /// What is kept of the number at the front, and what follows it.
-#[tactic(auto, unfolding(crate::specs::Numbers::number_at))]
+#[tactic(auto, unfolding(crate::specs::Scanning::number_at))]
 fn number(bytes: &[u8]) -> Option<(u64, &[u8])>
     ensures { Gives (λ x. (x.0, x.1.now)) result (kept_first (number_at bytes.now)) }
 {
@@ -58,7 +66,7 @@ fn number(bytes: &[u8]) -> Option<(u64, &[u8])>
 }
 
 /// What follows one or more spaces.
-#[tactic(auto, unfolding(crate::specs::Numbers::after_gap))]
+#[tactic(auto, unfolding(crate::specs::Scanning::after_gap))]
 fn skip_gap(bytes: &[u8]) -> Option<&[u8]>
     ensures { Gives (λ x. x.now) result (after_gap bytes.now) }
 {
@@ -71,7 +79,7 @@ fn skip_gap(bytes: &[u8]) -> Option<&[u8]>
 }
 
 /// Whether a line may end so.
-#[tactic(auto, unfolding(crate::specs::Numbers::is_line_end))]
+#[tactic(auto, unfolding(crate::specs::Scanning::is_line_end))]
 fn ends_line(bytes: &[u8], ended: bool) -> bool
     ensures { result ≡ is_line_end ended bytes.now }
 {
@@ -79,17 +87,32 @@ fn ends_line(bytes: &[u8], ended: bool) -> bool
     rest.is_empty() || (ended && rest.len() == 1 && rest[0] == b'\r')
 }
 
-/// What is kept of so many numbers, each after one or more spaces, where the line ends after them.
-#[tactic(auto, unfolding(crate::specs::Numbers::more_numbers_at))]
-pub fn more_numbers<const N: usize>(text: &[u8], ended: bool) -> Option<[u64; N]>
-    ensures { Gives (λ x. x) result (kept_numbers (more_numbers_at ended N text.now)) }
+/// Whether a line may end so, where so many more numbers are due.
+fn may_end(bytes: &[u8], ended: bool, due: usize) -> bool
+    ensures { result ≡ ((due == 0) && is_line_end ended bytes.now) }
+{
+    due == 0 && ends_line(bytes, ended)
+}
+
+/// What is kept of the numbers that stand there, each after one or more spaces, where the line ends after them. There
+/// are at least `least` of them; those that are left out are 0.
+#[tactic(auto, unfolding(crate::specs::Scanning::more_numbers_at))]
+pub(crate) fn more_numbers<const N: usize>(
+    text: &[u8],
+    ended: bool,
+    least: usize,
+) -> Option<[u64; N]>
+    ensures { Gives (λ x. x) result (kept_numbers (more_numbers_at ended least N text.now)) }
 {
     let mut numbers = [0; N];
     let mut rest = text;
-    for place in numbers.iter_mut() {
+    for at in 0..N {
+        if may_end(rest, ended, least.saturating_sub(at)) {
+            return Some(numbers);
+        }
         let digits = skip_gap(rest)?;
         let (value, after) = number(digits)?;
-        *place = value;
+        numbers[at] = value;
         rest = after;
     }
     if ends_line(rest, ended) {
@@ -99,18 +122,60 @@ pub fn more_numbers<const N: usize>(text: &[u8], ended: bool) -> Option<[u64; N]
     }
 }
 
-/// What is kept of a number and so many more, where the line ends after them.
-#[tactic(auto, unfolding(crate::specs::Numbers::numbers_at))]
-pub fn numbers<const N: usize>(text: &[u8], ended: bool) -> Option<(u64, [u64; N])>
-    ensures { Gives (λ x. x.0 ∷ x.1) result (kept_numbers (numbers_at ended N text.now)) }
+/// What is kept of a number and of others, where the line ends after them. There are at least `least` others; those
+/// that are left out are 0.
+#[tactic(auto, unfolding(crate::specs::Scanning::numbers_at))]
+pub(crate) fn numbers<const N: usize>(line: Line, least: usize) -> Option<(u64, [u64; N])>
+    ensures { Gives (λ x. x.0 ∷ x.1) result (kept_numbers (numbers_at line.entry.ended least N line.entry.text.now)) }
 {
-    let (first, rest) = number(text)?;
-    let others = more_numbers::<N>(rest, ended)?;
+    let (first, rest) = number(line.text)?;
+    let others = more_numbers::<N>(rest, line.ended, least)?;
     Some((first, others))
 }
 
+/// A number of at most 18 digits at the front, and what follows it.
+#[inline(always)]
+pub(crate) fn plain_number(bytes: &[u8]) -> Option<(u64, &[u8])>
+    ensures { IfSome result (λ x. BeginsWithNumber bytes.now x.0 x.1.now) }
+{
+    let (end, value) = read_digits(bytes, 0, 0);
+    if end == 0 || end > LONGEST {
+        return None;
+    }
+    let (_, rest) = bytes.split_at(end);
+    Some((value, rest))
+}
+
+/// What follows a byte at the front.
+#[inline(always)]
+fn after_byte(bytes: &[u8], byte: u8) -> Option<&[u8]>
+    ensures { IfSome result (λ rest. bytes.now ≡ byte ∷ rest.now) }
+{
+    match bytes.split_first() {
+        Some((first, rest)) if *first == byte => Some(rest),
+        _ => None,
+    }
+}
+
+/// Numbers at the front, each after one space, the line feed behind them, and what follows it.
+#[inline(always)]
+pub(crate) fn plain_numbers<const N: usize>(bytes: &[u8]) -> Option<([u64; N], &[u8])>
+    ensures are { IfSome result (λ x. EndsPlainly bytes.now x.0 x.1.now) }
+    ensures long { IfSome result (λ x. length x.0 ≡ N) }
+{
+    let mut numbers = [0; N];
+    let mut rest = bytes;
+    for at in 0..N {
+        let (number, after) = plain_number(after_byte(rest, b' ')?)?;
+        numbers[at] = number;
+        rest = after;
+    }
+    let rest = after_byte(rest, b'\n')?;
+    Some((numbers, rest))
+}
+
 /// Whether one of the numbers is above the limit.
-pub fn any_above(limit: u64, numbers: &[u64]) -> bool
+pub(crate) fn any_above(limit: u64, numbers: &[u64]) -> bool
     ensures { result ≡ list_any (λ n. nat_lt limit n) numbers.now }
 {
     numbers.iter().any(|number| *number > limit)

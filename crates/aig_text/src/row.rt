@@ -1,114 +1,286 @@
 //! Rows: what one numbered line tells.
-ghost use Rattle.std.specs.Prelude.{◌≡◌, ◌+◌, ◌*◌, ◌≤◌, ℕ, List, ◌∷◌, Bool, true, false, Some, IfOk, slice_index};
+ghost use Rattle.std.specs.Prelude.{◌≡◌, ◌+◌, ◌*◌, ◌<◌, ◌≤◌, ℕ, List, ◌∷◌, Ok, IfOk, IfSome, length, slice_index};
 ghost use Rattle.aig_core.specs.declared.circuit.TheConstants.{LARGEST as largest_index};
-ghost use Rattle.aig_text.specs.Lines.{line};
-ghost use Rattle.aig_text.specs.Kept.{made, GivesOrFails};
-ghost use Rattle.aig_text.specs.Reading.{checked_row, row_at, input_of, latch_of, output_of};
+ghost use Rattle.aig_text.specs.Lines.{line as line_of, lines_of};
+ghost use Rattle.aig_text.specs.Rows.{Form, input_form, latch_form, output_form, gate_form, input_of, latch_of};
+ghost use Rattle.aig_text.specs.Rows.{output_of, gate_of};
+ghost use Rattle.aig_text.specs.Parts.Kept.{GivesOrFails, row_told};
+ghost use Rattle.aig_text.specs.Reading.{misdefines, exceeds, any_number, fault_in_row, row_of, row_at};
 
-use crate::fault::ReadKind;
-use crate::number::{any_above, numbers};
-use aig_core::circuit::Latch;
-use aig_core::literal::{Lit, Var};
+use crate::fault::{Place, ReadFault, ReadKind};
+use crate::line::{Cursor, Line, split_line};
+use crate::number::{numbers, plain_number, plain_numbers};
+use aig_core::{Gate, Latch, Lit, Var};
+
+/// What a number of a row is.
+#[derive(Clone, Copy)]
+pub(crate) enum Role {
+    /// The literal of a variable that is defined here: even, and no constant.
+    Definition,
+    /// A literal.
+    Literal,
+}
 
 /// What one numbered line tells.
-pub trait Row: Copy {
-    /// How many numbers stand behind the first.
-    ghost more: { ℕ };
+pub(crate) trait Row: Copy {
+    /// What the line has to hold.
+    ghost form: { Form };
 
-    /// Whether the first number is a definition.
-    ghost defines: { Bool };
+    /// What its numbers tell.
+    ghost told_by: { List ℕ → Self };
 
-    /// What the numbers tell.
-    ghost made_of: { List ℕ → Self };
-
-    /// What the line tells.
-    fn read_row(text: &[u8], ended: bool, max_var: u32) -> Result<Self, ReadKind>
+    /// What the next line tells. Goes behind that line, unless it is not right.
+    fn read_row(at: &mut Cursor, max_var: u32) -> Result<Self, ReadFault>
         requires { max_var ≤ largest_index }
-        ensures { result ≡ made made_of (row_at more defines max_var (line text.now ended)) };
+        ensures { GivesOrFails (λ row. (row, at.new.number, lines_of at.new.rest.now)) result
+            (row_told told_by (row_at form max_var at.old.number (lines_of at.old.rest.now))) };
 }
 
-/// The numbers of a row, where they may stand there.
-#[tactic(auto, unfolding(crate::specs::Reading::checked_row))]
-fn checked<const N: usize>(
-    defines: bool,
+/// Whether a number cannot be the definition that it stands for.
+fn misdefines(role: Role, number: u64) -> bool
+    ensures { result ≡ misdefines role number }
+{
+    match role {
+        Role::Definition => number % 2 == 1 || number < 2,
+        Role::Literal => false,
+    }
+}
+
+/// Whether a number is above what may stand there.
+fn exceeds(max_var: u32, role: Role, number: u64) -> bool
+    ensures { result ≡ exceeds max_var role number }
+{
+    match role {
+        Role::Definition | Role::Literal => number > 2 * u64::from(max_var) + 1,
+    }
+}
+
+/// Whether one of the numbers cannot be the definition that it stands for.
+fn any_misdefines(roles: &[Role], numbers: &[u64]) -> bool
+    ensures { result ≡ any_number misdefines roles.now numbers.now }
+{
+    roles
+        .iter()
+        .zip(numbers)
+        .any(|(role, number)| misdefines(*role, *number))
+}
+
+/// Whether one of the numbers is above what may stand there.
+fn any_exceeds(max_var: u32, roles: &[Role], numbers: &[u64]) -> bool
+    ensures { result ≡ any_number (exceeds max_var) roles.now numbers.now }
+{
+    roles
+        .iter()
+        .zip(numbers)
+        .any(|(role, number)| exceeds(max_var, *role, *number))
+}
+
+/// What is wrong with the numbers of a row, the first apart from the others.
+fn row_fault(
     max_var: u32,
+    role: Role,
+    others: &[Role],
     first: u64,
-    others: [u64; N],
-) -> Result<(u64, [u64; N]), ReadKind>
-    ensures row { GivesOrFails (λ x. x.0 ∷ x.1) result (checked_row defines max_var (Some (first ∷ others.entry))) }
-    ensures first { IfOk result (λ x. x.0 ≤ 2 * max_var + 1) }
-    ensures others { IfOk result (λ x. (k : ℕ) → slice_index x.1 k ≤ 2 * max_var + 1) }
+    more: &[u64],
+) -> Option<ReadKind>
+    ensures { result ≡ fault_in_row max_var (role ∷ others.now) (first ∷ more.now) }
 {
-    if defines && (first % 2 == 1 || first < 2) {
-        return Err(ReadKind::NotVariable);
+    if misdefines(role, first) || any_misdefines(others, more) {
+        return Some(ReadKind::NotVariable);
     }
-    let largest = 2 * u64::from(max_var) + 1;
-    if first > largest || any_above(largest, &others) {
-        return Err(ReadKind::LiteralRange);
+    if exceeds(max_var, role, first) || any_exceeds(max_var, others, more) {
+        return Some(ReadKind::LiteralRange);
     }
-    Ok((first, others))
+    None
 }
 
-/// The numbers of the row that a line holds.
+/// The numbers of the row that a line holds, the first apart from the others. Of these there are at least `least`.
 fn row_numbers<const N: usize>(
-    text: &[u8],
-    ended: bool,
-    defines: bool,
+    role: Role,
+    others: [Role; N],
+    least: usize,
+    line: Line,
     max_var: u32,
 ) -> Result<(u64, [u64; N]), ReadKind>
-    requires { max_var ≤ largest_index }
-    ensures row { GivesOrFails (λ x. x.0 ∷ x.1) result (row_at N defines max_var (line text.now ended)) }
+    requires max_var { max_var ≤ largest_index }
+    requires least { least ≤ N }
+    requires others { length others ≡ N }
+    ensures row { GivesOrFails (λ x. x.0 ∷ x.1) result
+        (row_of (record { first = role; others = others.entry; least = least }) max_var
+        (line_of line.entry.text.now line.entry.ended)) }
     ensures first { IfOk result (λ x. x.0 ≤ 2 * max_var + 1) }
     ensures others { IfOk result (λ x. (k : ℕ) → slice_index x.1 k ≤ 2 * max_var + 1) }
 {
-    match numbers::<N>(text, ended) {
-        Some(found) => {
-            let others = found.1;
-            checked::<N>(defines, max_var, found.0, others)
+    let Some(found) = numbers::<N>(line, least) else {
+        return Err(ReadKind::BadLine);
+    };
+    let first = found.0;
+    let more = found.1;
+    match row_fault(max_var, role, &others, first, &more) {
+        Some(kind) => Err(kind),
+        None => Ok((first, more)),
+    }
+}
+
+/// The numbers of the row that the next line holds, however it is spelled, or its fault.
+#[cold]
+#[inline(never)]
+fn lenient_row<const N: usize>(
+    role: Role,
+    others: [Role; N],
+    least: usize,
+    at: &mut Cursor,
+    max_var: u32,
+) -> Result<(u64, [u64; N]), ReadFault>
+    requires max_var { max_var ≤ largest_index }
+    requires least { least ≤ N }
+    requires others { length others ≡ N }
+    ensures row { GivesOrFails (λ x. (x.0 ∷ x.1, at.new.number, lines_of at.new.rest.now)) result
+        (row_at (record { first = role; others = others.entry; least = least }) max_var at.old.number
+        (lines_of at.old.rest.now)) }
+    ensures first { IfOk result (λ x. x.0 ≤ 2 * max_var + 1) }
+    ensures others { IfOk result (λ x. (k : ℕ) → slice_index x.1 k ≤ 2 * max_var + 1) }
+{
+    let place = Place::Line(at.number);
+    let Some((line, rest)) = split_line(at.rest) else {
+        return Err(ReadFault {
+            place,
+            kind: ReadKind::Truncated,
+        });
+    };
+    match row_numbers::<N>(role, others, least, line, max_var) {
+        Ok(found) => {
+            let number = at.number + 1;
+            *at = Cursor { rest, number };
+            Ok(found)
         }
-        None => Err(ReadKind::BadLine),
+        Err(kind) => Err(ReadFault { place, kind }),
+    }
+}
+
+/// The numbers of a good row in plain spelling at the front, and what follows it.
+#[inline(always)]
+fn plain_row<const N: usize>(
+    role: Role,
+    others: [Role; N],
+    bytes: &[u8],
+    max_var: u32,
+) -> Option<((u64, [u64; N]), &[u8])>
+    requires max_var { max_var ≤ largest_index }
+    requires others { length others ≡ N }
+    ensures row { (least number : ℕ) → least ≤ N → IfSome result (λ x.
+        row_at (record { first = role; others = others.entry; least = least }) max_var number (lines_of bytes.now)
+        ≡ Ok (x.0.0 ∷ x.0.1, number + 1, lines_of x.1.now)) }
+    ensures shorter { IfSome result (λ x. length x.1.now < length bytes.now) }
+    ensures first { IfSome result (λ x. x.0.0 ≤ 2 * max_var + 1) }
+    ensures others { IfSome result (λ x. (k : ℕ) → slice_index x.0.1 k ≤ 2 * max_var + 1) }
+{
+    let (first, rest) = plain_number(bytes)?;
+    let Some(found) = plain_numbers::<N>(rest) else {
+        return None;
+    };
+    let more = found.0;
+    let rest = found.1;
+    match row_fault(max_var, role, &others, first, &more) {
+        Some(_) => None,
+        None => Some(((first, more), rest)),
+    }
+}
+
+/// The numbers of the row that the next line holds. Most rows are in plain spelling, and are read at once.
+#[inline(always)]
+fn next_row<const N: usize>(
+    role: Role,
+    others: [Role; N],
+    least: usize,
+    at: &mut Cursor,
+    max_var: u32,
+) -> Result<(u64, [u64; N]), ReadFault>
+    requires max_var { max_var ≤ largest_index }
+    requires least { least ≤ N }
+    requires others { length others ≡ N }
+    ensures row { GivesOrFails (λ x. (x.0 ∷ x.1, at.new.number, lines_of at.new.rest.now)) result
+        (row_at (record { first = role; others = others.entry; least = least }) max_var at.old.number
+        (lines_of at.old.rest.now)) }
+    ensures first { IfOk result (λ x. x.0 ≤ 2 * max_var + 1) }
+    ensures others { IfOk result (λ x. (k : ℕ) → slice_index x.1 k ≤ 2 * max_var + 1) }
+{
+    match plain_row::<N>(role, others, at.rest, max_var) {
+        Some((found, rest)) => {
+            let number = at.number + 1;
+            *at = Cursor { rest, number };
+            Ok(found)
+        }
+        None => lenient_row::<N>(role, others, least, at, max_var),
     }
 }
 
 impl Row for Var {
-    ghost more = { 0 };
+    ghost form = { input_form };
 
-    ghost defines = { true };
+    ghost told_by = { input_of };
 
-    ghost made_of = { input_of };
-
-    fn read_row(text: &[u8], ended: bool, max_var: u32) -> Result<Var, ReadKind> {
-        let found = row_numbers::<0>(text, ended, true, max_var)?;
-        Ok(Var((found.0 / 2) as u32))
+    #[inline(always)]
+    fn read_row(at: &mut Cursor, max_var: u32) -> Result<Var, ReadFault> {
+        match next_row::<0>(Role::Definition, [], 0, at, max_var) {
+            Ok(found) => Ok(Var((found.0 / 2) as u32)),
+            Err(fault) => Err(fault),
+        }
     }
 }
 
 impl Row for Latch {
-    ghost more = { 1 };
+    ghost form = { latch_form };
 
-    ghost defines = { true };
+    ghost told_by = { latch_of };
 
-    ghost made_of = { latch_of };
-
-    fn read_row(text: &[u8], ended: bool, max_var: u32) -> Result<Latch, ReadKind> {
-        let found = row_numbers::<1>(text, ended, true, max_var)?;
-        let others = found.1;
-        Ok(Latch {
-            var: Var((found.0 / 2) as u32),
-            next: Lit(others[0] as u32),
-        })
+    #[inline(always)]
+    fn read_row(at: &mut Cursor, max_var: u32) -> Result<Latch, ReadFault> {
+        match next_row::<1>(Role::Definition, [Role::Literal], 1, at, max_var) {
+            Ok(found) => {
+                let [next] = found.1;
+                Ok(Latch {
+                    var: Var((found.0 / 2) as u32),
+                    next: Lit(next as u32),
+                })
+            }
+            Err(fault) => Err(fault),
+        }
     }
 }
 
 impl Row for Lit {
-    ghost more = { 0 };
+    ghost form = { output_form };
 
-    ghost defines = { false };
+    ghost told_by = { output_of };
 
-    ghost made_of = { output_of };
+    #[inline(always)]
+    fn read_row(at: &mut Cursor, max_var: u32) -> Result<Lit, ReadFault> {
+        match next_row::<0>(Role::Literal, [], 0, at, max_var) {
+            Ok(found) => Ok(Lit(found.0 as u32)),
+            Err(fault) => Err(fault),
+        }
+    }
+}
 
-    fn read_row(text: &[u8], ended: bool, max_var: u32) -> Result<Lit, ReadKind> {
-        let found = row_numbers::<0>(text, ended, false, max_var)?;
-        Ok(Lit(found.0 as u32))
+impl Row for Gate {
+    ghost form = { gate_form };
+
+    ghost told_by = { gate_of };
+
+    #[inline(always)]
+    fn read_row(at: &mut Cursor, max_var: u32) -> Result<Gate, ReadFault> {
+        let operands = [Role::Literal, Role::Literal];
+        match next_row::<2>(Role::Definition, operands, 2, at, max_var) {
+            Ok(found) => {
+                let [left, right] = found.1;
+                Ok(Gate {
+                    var: Var((found.0 / 2) as u32),
+                    left: Lit(left as u32),
+                    right: Lit(right as u32),
+                })
+            }
+            Err(fault) => Err(fault),
+        }
     }
 }

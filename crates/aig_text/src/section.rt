@@ -1,52 +1,86 @@
 //! Sections: rows of one kind, one to a line.
-ghost use Rattle.std.specs.Prelude.{◌≡◌, ◌+◌, ◌^◌, ◌<◌, ◌≤◌};
+ghost use Rattle.std.specs.Prelude.{◌≡◌, ◌≤◌};
 ghost use Rattle.aig_core.specs.declared.circuit.TheConstants.{LARGEST as largest_index};
 ghost use Rattle.aig_text.specs.Lines.{lines_of};
-ghost use Rattle.aig_text.specs.Kept.{GivesOrFails};
-ghost use Rattle.aig_text.specs.Sections.{next_row_at, section_told};
-ghost use Rattle.aig_text.specs.Reading.{GivesOrMemory, section_at};
+ghost use Rattle.aig_text.specs.Rows.{sections};
+ghost use Rattle.aig_text.specs.Parts.Kept.{GivesOrMemory, rows_told};
+ghost use Rattle.aig_text.specs.Reading.{rows_at, section_at, sections_at};
 
-use crate::fault::{Place, ReadFault, ReadKind};
-use crate::line::split_line;
+use crate::fault::ReadFault;
+use crate::header::Header;
+use crate::line::Cursor;
 use crate::row::Row;
-use aig_core::listing::Listing;
-use std::alloc::Global;
+use aig_core::{Circuit, Listing};
 
-/// What the next line tells, and what follows that line.
-fn next_row<T: Row>(rest: &[u8], number: u64, max_var: u32) -> Result<(T, &[u8]), ReadFault>
+/// What a file lists.
+#[derive(Clone, Copy)]
+pub(crate) enum Section {
+    Inputs,
+    Latches,
+    Outputs,
+    Gates,
+}
+
+/// The sections, in the order of the file.
+const SECTIONS: [Section; 4] = [
+    Section::Inputs,
+    Section::Latches,
+    Section::Outputs,
+    Section::Gates,
+];
+
+/// Adds what so many lines tell, and goes behind them.
+fn read_rows<T: Row>(
+    found: &mut Listing<T>,
+    count: u32,
+    max_var: u32,
+    at: &mut Cursor,
+) -> Result<(), ReadFault>
     requires { max_var ≤ largest_index }
-    ensures { GivesOrFails (λ x. (x.0, lines_of x.1.now)) result (next_row_at T.made_of T.more T.defines max_var number (lines_of rest.now)) }
+    ensures { GivesOrMemory (λ _. (found.new, at.new.number, lines_of at.new.rest.now)) result
+        (rows_told T.told_by found.old (rows_at T.form max_var count at.old.number (lines_of at.old.rest.now))) }
 {
-    let place = Place::Line(number);
-    let Some((text, ended, after)) = split_line(rest) else {
-        return Err(ReadFault {
-            place,
-            kind: ReadKind::Truncated,
-        });
-    };
-    match T::read_row(text, ended, max_var) {
-        Ok(row) => Ok((row, after)),
-        Err(kind) => Err(ReadFault { place, kind }),
+    for _ in 0..count {
+        let row = T::read_row(at, max_var)?;
+        found.push(row)?;
+    }
+    Ok(())
+}
+
+/// Adds what the lines of a section tell, and goes behind them.
+fn read_section(
+    section: Section,
+    header: &Header,
+    circuit: &mut Circuit,
+    at: &mut Cursor,
+) -> Result<(), ReadFault>
+    requires { header.now.max_var ≤ largest_index }
+    ensures { GivesOrMemory (λ _. (circuit.new, at.new.number, lines_of at.new.rest.now)) result
+        (section_at header.now section circuit.old at.old.number (lines_of at.old.rest.now)) }
+{
+    let max_var = header.max_var;
+    match section {
+        Section::Inputs => read_rows(&mut circuit.inputs, header.inputs, max_var, at),
+        Section::Latches => read_rows(&mut circuit.latches, header.latches, max_var, at),
+        Section::Outputs => read_rows(&mut circuit.outputs, header.outputs, max_var, at),
+        Section::Gates => read_rows(&mut circuit.gates, header.gates, max_var, at),
     }
 }
 
-/// What so many lines tell, of which the first has this number, and what follows them.
-pub fn section<'a, T: Row>(
-    alloc: Global,
-    mut rest: &'a [u8],
-    first_line: u64,
-    max_var: u32,
-    count: u32,
-) -> Result<(Listing<T>, &'a [u8]), ReadFault>
-    requires max_var { max_var ≤ largest_index }
-    requires lines { first_line + count < 2 ^ 64 }
-    ensures { GivesOrMemory (λ x. (x.0, lines_of x.1.now)) result (section_told T.made_of (section_at T.more T.defines max_var first_line count (lines_of rest.entry.now))) }
+/// Adds what the lines of all sections tell, and goes behind them.
+pub(crate) fn read_sections(
+    header: &Header,
+    circuit: &mut Circuit,
+    at: &mut Cursor,
+) -> Result<(), ReadFault>
+    requires { header.now.max_var ≤ largest_index }
+    ensures { GivesOrMemory (λ _. (circuit.new, at.new.number, lines_of at.new.rest.now)) result
+        (sections_at header.now sections circuit.old at.old.number (lines_of at.old.rest.now)) }
 {
-    let mut found = Listing::new(alloc);
-    for number in 0..count {
-        let (row, after) = next_row::<T>(rest, first_line + u64::from(number), max_var)?;
-        found.push(row)?;
-        rest = after;
+    for section in SECTIONS {
+        if let Err(fault) = read_section(section, header, circuit, at) {
+            return Err(fault);
+        }
     }
-    Ok((found, rest))
+    Ok(())
 }

@@ -5,8 +5,18 @@ use Rattle.aig_text.specs.AsciiGrammar.{IsAsciiText}
 use Rattle.aig_text.specs.AsciiText.{ascii_text}
 use Rattle.aig_tools.specs.declared.request.ToAig.{ToAig}
 
--- the canonical ASCII text of the circuit that the bytes are the file of
+-- the circuit that is written for the one that was read: so far the same
+abbrev pub IsChangedTo : ToAig → Circuit → Circuit → Type 0
+IsChangedTo request found written = written ≡ found
+
+-- the text that a circuit is written as: so far its canonical ASCII text
+abbrev pub IsWrittenAs : ToAig → Circuit → List ℕ → Type 0
+IsWrittenAs request written text = text ≡ ascii_text written
+
+-- the text that is written for these bytes
 pub record IsConversionText (request : ToAig) (bytes text : List ℕ) : Type 0 where
-  pub circuit : Circuit
-  pub read : IsAsciiText bytes request.max_var circuit
-  pub written : text ≡ ascii_text circuit
+  pub found : Circuit
+  pub written : Circuit
+  pub read : IsAsciiText bytes request.max_var found
+  pub changed : IsChangedTo request found written
+  pub written_as : IsWrittenAs request written text

@@ -5,4 +5,5 @@ use Rattle.aig_tools.specs.Conversion.{IsConversionText}
 
 -- bytes have one conversion text at most
 abbrev pub ConversionsAreUnambiguous : Type 0
-ConversionsAreUnambiguous = (request : ToAig) (bytes text other : List ℕ) → IsConversionText request bytes text → IsConversionText request bytes other → text ≡ other
+ConversionsAreUnambiguous = (request : ToAig) (bytes text other : List ℕ)
+    → IsConversionText request bytes text → IsConversionText request bytes other → text ≡ other

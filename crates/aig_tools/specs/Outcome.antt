@@ -1,29 +1,36 @@
--- What the outcome of a conversion tells of its source and its sink.
-use Rattle.std.specs.Prelude.{ℕ, List, Option}
+-- What came of a request, for a source and what is left of it, and a sink and how it is filled then. Nothing is said of
+-- the bytes of a device that does not tell them.
+use Rattle.std.specs.Prelude.{◌≡◌, ◌+◌, ◌⊎◌, ℕ, List, Option, IfSome}
 use Rattle.std.specs.Io.KnownBytes.{Appends}
-use Rattle.aig_core.specs.Transfer.{GaveAll, TookBeginning}
+use Rattle.aig_core.specs.Transfer.{GaveAll, GaveSome, TookBeginning}
 use Rattle.aig_text.specs.declared.fault.ReadFault.{ReadFault}
 use Rattle.aig_text.specs.Reading.{first_fault, IsFirstFault}
-use Rattle.aig_tools.specs.declared.request.ToAig.{ToAig}
 use Rattle.aig_tools.specs.declared.fault.ToolFault.{ToolFault}
-use Rattle.aig_tools.specs.declared.fault.ToolFault.TheVariants.{Read, Source, Sink, OutOfMemory}
+use Rattle.aig_tools.specs.declared.request.ToAig.{ToAig}
+use Rattle.aig_tools.specs.declared.request.Request.{Request}
+use Rattle.aig_tools.specs.declared.request.Request.TheVariants as requests
+use Rattle.aig_tools.specs.Blame.{at_fault, sink_failures, source_failures, text_fault, TheSink}
 use Rattle.aig_tools.specs.Conversion.{IsConversionText}
 
--- the source gave all its bytes, and the sink took the conversion text of them
-pub record Converted (request : ToAig) (coming left taken_before taken_after : Option (List ℕ)) : Type 0 where
+-- the source gave all its bytes, the sink took the conversion text of them, and neither failed
+pub record Converted {R W : Type 0} (request : ToAig)
+    (coming : R → Option (List ℕ)) (source_failed : R → ℕ) (source left : R)
+    (taken : W → Option (List ℕ)) (sink_failed : W → ℕ) (sink filled : W) : Type 0 where
   pub bytes : List ℕ
   pub text : List ℕ
-  pub gave : GaveAll coming left bytes
+  pub gave : GaveAll (coming source) (coming left) bytes
   pub is_text : IsConversionText request bytes text
-  pub took : Appends taken_before taken_after text
+  pub took : Appends (taken sink) (taken filled) text
+  pub source_held : source_failed left ≡ source_failed source
+  pub sink_held : sink_failed filled ≡ sink_failed sink
 
 -- the source gave all its bytes, and the sink took a beginning of the conversion text of them
-pub record ConvertedInPart (request : ToAig) (coming left taken_before taken_after : Option (List ℕ)) : Type 0 where
+pub record ConvertedInPart (request : ToAig) (coming left taken filled : Option (List ℕ)) : Type 0 where
   pub bytes : List ℕ
   pub text : List ℕ
   pub gave : GaveAll coming left bytes
   pub is_text : IsConversionText request bytes text
-  pub took : TookBeginning taken_before taken_after text
+  pub took : TookBeginning taken filled text
 
 -- the source gave all its bytes, and this is their first fault, unless memory was refused
 pub record Refused (request : ToAig) (coming left : Option (List ℕ)) (fault : ReadFault) : Type 0 where
@@ -31,36 +38,26 @@ pub record Refused (request : ToAig) (coming left : Option (List ℕ)) (fault : 
   pub gave : GaveAll coming left bytes
   pub is_first : IsFirstFault fault (first_fault request.max_var bytes)
 
--- what holds of the fault of a text, where that is what is told
-abbrev pub OnRead : ToolFault → (ReadFault → Type 0) → Type 0
-OnRead (Read fault) P = P fault
-OnRead Source P = Unit {0}
-OnRead Sink P = Unit {0}
-OnRead OutOfMemory P = Unit {0}
+-- what an error of a conversion says of its source and its sink
+pub record NotConverted {R W : Type 0} (request : ToAig) (error : ToolFault)
+    (coming : R → Option (List ℕ)) (source_failed : R → ℕ) (source left : R)
+    (taken : W → Option (List ℕ)) (sink_failed : W → ℕ) (sink filled : W) : Type 0 where
+  pub gave : GaveSome (coming source) (coming left)
+  pub refused : IfSome (text_fault error) (Refused request (coming source) (coming left))
+  -- Nothing is sent before all is read and found right.
+  pub unsent : (at_fault error ≡ TheSink) ⊎ (filled ≡ sink)
+  pub in_part : at_fault error ≡ TheSink
+      → ConvertedInPart request (coming source) (coming left) (taken sink) (taken filled)
+  -- A device is at fault where its count of failures rose, which is by one.
+  pub source_count : source_failed left ≡ source_failed source + source_failures (at_fault error)
+  pub sink_count : sink_failed filled ≡ sink_failed sink + sink_failures (at_fault error)
 
--- what holds where the sink failed
-abbrev pub OnSink : ToolFault → Type 0 → Type 0
-OnSink (Read fault) P = Unit {0}
-OnSink Source P = Unit {0}
-OnSink Sink P = P
-OnSink OutOfMemory P = Unit {0}
+-- what was asked for is done
+abbrev pub Done : {R W : Type 0} → Request
+    → (R → Option (List ℕ)) → (R → ℕ) → R → R → (W → Option (List ℕ)) → (W → ℕ) → W → W → Type 0
+Done (requests.ToAig request) = Converted request
 
--- what holds wherever something else than the sink is at fault
-abbrev pub UnlessSink : ToolFault → Type 0 → Type 0
-UnlessSink (Read fault) P = P
-UnlessSink Source P = P
-UnlessSink Sink P = Unit {0}
-UnlessSink OutOfMemory P = P
-
--- how many failures of the source an error tells, and how many of the sink
-abbrev pub source_failures : ToolFault → ℕ
-source_failures (Read fault) = 0
-source_failures Source = 1
-source_failures Sink = 0
-source_failures OutOfMemory = 0
-
-abbrev pub sink_failures : ToolFault → ℕ
-sink_failures (Read fault) = 0
-sink_failures Source = 0
-sink_failures Sink = 1
-sink_failures OutOfMemory = 0
+-- what an error says where it was not done
+abbrev pub NotDone : {R W : Type 0} → Request → ToolFault
+    → (R → Option (List ℕ)) → (R → ℕ) → R → R → (W → Option (List ℕ)) → (W → ℕ) → W → W → Type 0
+NotDone (requests.ToAig request) error = NotConverted request error

@@ -1,17 +1,18 @@
 -- Which words ask for what (this project's profile).
-use Rattle.std.specs.Prelude.{◌≡◌, ℕ, List, [], ◌∷◌, None, true, false, codes}
+use Rattle.std.specs.Prelude.{ℕ, List, [], ◌∷◌, map, Option, None, Some, true, false, if◌then◌else◌}
+use Rattle.std.specs.Prelude.{codes, String, string_bytes}
+use Rattle.std.specs.Global.{Global}
+use Rattle.std.specs.Str.{bytes_eq}
 use Rattle.aig_core.specs.declared.circuit.TheConstants.{LARGEST}
 use Rattle.aig_tools.specs.declared.request.ToAig.{ToAig}
+use Rattle.aig_tools.specs.declared.request.Request.{Request}
+use Rattle.aig_tools.specs.declared.request.Request.TheVariants as requests
 
--- the words `aigtoaig --ascii` after the program's name
-abbrev pub AsksForAscii : List (List ℕ) → Type 0
-AsksForAscii [] = ⊥
-AsksForAscii (program ∷ []) = ⊥
-AsksForAscii (program ∷ tool ∷ []) = ⊥
-AsksForAscii (program ∷ tool ∷ option ∷ []) = (tool ≡ codes "aigtoaig") × (option ≡ codes "--ascii")
-AsksForAscii (program ∷ tool ∷ option ∷ more ∷ others) = ⊥
+-- the bytes of each word
+abbrev pub texts : List (String Global) → List (List ℕ)
+texts words = map (λ word. string_bytes word) words
 
--- the conversion that they ask for: ASCII from the standard input to the standard output
+-- ASCII from the standard input to the standard output
 abbrev pub ascii_conversion : ToAig
 ascii_conversion = record {
   ascii = true;
@@ -22,3 +23,13 @@ ascii_conversion = record {
   source = None;
   destination = None;
 }
+
+-- what the words after `aigtoaig` ask for
+abbrev pub conversion_of : List (List ℕ) → Option Request
+conversion_of (option ∷ []) = if bytes_eq option (codes "--ascii") then Some (requests.ToAig ascii_conversion) else None
+conversion_of _ = None
+
+-- What the words ask for, where the program knows it. The first is the program's name, which is not looked at.
+abbrev pub request_of : List (List ℕ) → Option Request
+request_of (name ∷ tool ∷ options) = if bytes_eq tool (codes "aigtoaig") then conversion_of options else None
+request_of _ = None

@@ -1,14 +1,11 @@
 //! `aigtoaig`: conversion of AIGER files.
-ghost use Rattle.std.specs.Prelude.{◌≡◌, ◌+◌, ◌-◌, ◌^◌, ◌<◌, false, IfErr, IsTrue, OnOk, true};
-ghost use Rattle.aig_tools.specs.Outcome.{Converted, ConvertedInPart, OnRead, OnSink, Refused, sink_failures, source_failures, UnlessSink};
+ghost use Rattle.std.specs.Prelude.{◌≡◌, ◌-◌, ◌^◌, ◌<◌, false, IfErr, OnOk, true};
+ghost use Rattle.aig_tools.specs.Outcome.{Converted, NotConverted};
 
 use crate::fault::ToolFault;
 use crate::request::ToAig;
-use aig_core::device::{Sink, Source};
-use aig_core::transfer::read_all;
-use aig_text::ascii::read_ascii;
-use aig_text::limits::Limits;
-use aig_text::writer::write_ascii;
+use aig_core::{Sink, Source, read_all};
+use aig_text::{Limits, read_ascii, write_ascii};
 use std::alloc::Global;
 
 /// Reads the source to its end, and writes what the request asks for. Nothing is sent before the whole source was
@@ -27,21 +24,18 @@ pub fn run_toaig<R: Source, W: Sink>(
     requires keep_map { request.now.keep_map ≡ false }
     requires undo_map { request.now.undo_map ≡ false }
 
-    ensures ok { OnOk result (Converted request.now (R.coming source.old) (R.coming source.new) (W.taken sink.old) (W.taken sink.new)) }
-    ensures refused { IfErr result (λ e. OnRead e (Refused request.now (R.coming source.old) (R.coming source.new))) }
-    ensures nothing_sent { IfErr result (λ e. UnlessSink e (sink.new ≡ sink.old)) }
-    ensures sent_in_part { IfErr result (λ e. OnSink e (ConvertedInPart request.now (R.coming source.old) (R.coming source.new) (W.taken sink.old) (W.taken sink.new))) }
-
-    ensures ok_source { OnOk result (R.failed source.new ≡ R.failed source.old) }
-    ensures ok_sink { OnOk result (W.failed sink.new ≡ W.failed sink.old) }
-    ensures err_source { IfErr result (λ e. R.failed source.new ≡ R.failed source.old + source_failures e) }
-    ensures err_sink { IfErr result (λ e. W.failed sink.new ≡ W.failed sink.old + sink_failures e) }
+    ensures ok { OnOk result (Converted request.now
+        R.coming R.failed source.old source.new W.taken W.failed sink.old sink.new) }
+    ensures err { IfErr result (λ error. NotConverted request.now error
+        R.coming R.failed source.old source.new W.taken W.failed sink.old sink.new) }
 {
     let bytes = read_all(alloc, source)?;
     let limits = Limits {
         max_var: request.max_var,
     };
     let circuit = read_ascii(alloc, bytes.as_slice(), limits)?;
+    // The text is not needed from here on, and may be larger than the circuit.
+    drop(bytes);
     write_ascii(&circuit, sink)?;
     Ok(())
 }

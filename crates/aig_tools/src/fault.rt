@@ -1,38 +1,44 @@
 //! Why a tool did not do what was asked.
-ghost use Rattle.std.specs.Prelude.{◌≡◌};
+ghost use Rattle.std.specs.Prelude.{◌≡◌, ◌↔◌, IsTrue};
 ghost use Rattle.aig_tools.specs.declared.fault.ToolFault.TheVariants.{OutOfMemory, Read, Sink};
-ghost use Rattle.aig_tools.specs.Reported.{is_want_of_memory, tool_fault_of};
+ghost use Rattle.aig_tools.specs.Blame.{at_fault, Memory};
+ghost use Rattle.aig_tools.specs.Reported.{tool_fault_of};
 
-use aig_core::transfer::ReadError;
-use aig_text::fault::{ReadFault, ReadKind};
-use aig_text::writer::WriteFault;
+use aig_core::ReadError;
+use aig_text::{ReadFault, ReadKind, WriteFault};
 use thiserror::Error;
 
+pub(crate) const CANNOT_READ: &str = "cannot read";
+
+pub(crate) const CANNOT_WRITE: &str = "cannot write";
+
+pub(crate) const OUT_OF_MEMORY: &str = "out of memory";
+
 /// Why a tool did not do what was asked.
-#[derive(Clone, Copy, Debug, PartialEq, Eq, Error)]
+#[derive(Debug, Drop, PartialEq, Error)]
 pub enum ToolFault {
     /// The source is not the file of a circuit.
     #[error("{0}")]
     Read(ReadFault),
     /// The source failed.
-    #[error("cannot read")]
+    #[error("{text}", text = CANNOT_READ)]
     Source,
     /// The sink failed.
-    #[error("cannot write")]
+    #[error("{text}", text = CANNOT_WRITE)]
     Sink,
     /// A growth of memory was refused while the source was gathered.
-    #[error("out of memory")]
+    #[error("{text}", text = OUT_OF_MEMORY)]
     OutOfMemory,
 }
 
 impl ToolFault {
     /// Whether a growth of memory was refused, whoever tells it.
     pub fn is_want_of_memory(&self) -> bool
-        ensures { result ≡ is_want_of_memory self.now }
+        ensures { IsTrue result ↔ (at_fault self.now ≡ Memory) }
     {
         match self {
             ToolFault::OutOfMemory => true,
-            ToolFault::Read(fault) => fault.kind == ReadKind::OutOfMemory,
+            ToolFault::Read(fault) => matches!(fault.kind, ReadKind::OutOfMemory),
             ToolFault::Source | ToolFault::Sink => false,
         }
     }

@@ -1,9 +1,15 @@
 //! The tools: what each does over a source and a sink, and what the program does with its words.
 #![tactic(auto)]
 
-pub mod conversion;
-pub mod fault;
+mod conversion;
+mod fault;
 pub mod laws;
 mod message;
-pub mod request;
-pub mod start;
+mod program;
+mod request;
+mod words;
+
+pub use crate::conversion::run_toaig;
+pub use crate::fault::ToolFault;
+pub use crate::program::{refuse_for_memory, refuse_words, start};
+pub use crate::request::{Request, ToAig};

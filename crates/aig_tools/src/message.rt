@@ -1,62 +1,63 @@
-//! What is printed on standard error: one line each.
+//! What is told on standard error: one line each. Whether it could be sent changes nothing: there is no other place to
+//! tell it. Formatting and sending take no memory, so that want of memory can be told too.
 ghost use Rattle.std.specs.Prelude.{◌-◌, ◌^◌, ◌<◌};
+ghost use Rattle.aig_tools.specs.Blame.{at_fault};
+ghost use Rattle.aig_tools.specs.Messages.{line_of, memory_line, Told, ToldFault, words_line};
 
-use crate::fault::ToolFault;
-use aig_core::block::Block;
-use aig_core::device::{DeviceFault, Sink};
+use crate::fault::{CANNOT_READ, CANNOT_WRITE, OUT_OF_MEMORY, ToolFault};
+use aig_core::{Block, Sink};
 use std::fmt::Write;
 
-/// The name of a standard stream.
-pub(crate) const STANDARD: &str = "-";
+/// What a line about a standard stream begins with, after the program's name.
+const STANDARD_STREAM: &str = "-: ";
 
-/// Sends a line that is at hand. Formatting and sending take no memory, so that want of memory can be told too.
-fn put_line<E: Sink>(errors: &mut E, text: &[u8]) -> Result<(), DeviceFault>
+/// Sends a line: the program's name, what the line is about, and what is wrong.
+fn send_line<E: Sink>(errors: &mut E, subject: &str, text: &[u8])
     requires { E.failed errors.old < 2 ^ 64 - 1 }
+    ensures { Told E.taken E.failed errors.old errors.new (line_of subject.now text.now) }
 {
     let mut block = Block::new();
-    block.put(errors, b"aiger: ")?;
-    block.put(errors, text)?;
-    block.put(errors, b"\n")?;
-    block.flush(errors)
-}
-
-/// Sends the name of the file at fault and the fault.
-fn put_fault<E: Sink>(errors: &mut E, name: &str, fault: &ToolFault) -> Result<(), DeviceFault>
-    requires { E.failed errors.old < 2 ^ 64 - 1 }
-{
-    let mut text = Block::new();
-    // A fault is far shorter than a block, so this always fits.
-    let _fits = write!(text, "{fault}");
-    let mut block = Block::new();
-    block.put(errors, b"aiger: ")?;
-    block.put(errors, name.as_bytes())?;
-    block.put(errors, b": ")?;
-    block.put(errors, text.as_slice())?;
-    block.put(errors, b"\n")?;
-    block.flush(errors)
+    block.put(errors, b"aiger: ");
+    block.put(errors, subject.as_bytes());
+    block.put(errors, text);
+    block.put(errors, b"\n");
+    let _sent = block.flush(errors);
 }
 
 /// Tells that a growth of memory was refused. No file is at fault, so none is named.
 pub(crate) fn tell_want_of_memory<E: Sink>(errors: &mut E)
     requires { E.failed errors.old < 2 ^ 64 - 1 }
+    ensures { Told E.taken E.failed errors.old errors.new memory_line }
 {
-    let _sent = put_line(errors, b"out of memory");
-}
-
-/// Tells a fault. Whether the line could be sent changes nothing: there is no other place to tell it.
-pub(crate) fn tell_fault<E: Sink>(errors: &mut E, name: &str, fault: &ToolFault)
-    requires { E.failed errors.old < 2 ^ 64 - 1 }
-{
-    if fault.is_want_of_memory() {
-        tell_want_of_memory(errors);
-    } else {
-        let _sent = put_fault(errors, name, fault);
-    }
+    send_line(errors, "", OUT_OF_MEMORY.as_bytes());
 }
 
 /// Tells that the words ask for nothing that the program knows.
 pub(crate) fn tell_unsupported_words<E: Sink>(errors: &mut E)
     requires { E.failed errors.old < 2 ^ 64 - 1 }
+    ensures { Told E.taken E.failed errors.old errors.new words_line }
 {
-    let _sent = put_line(errors, b"words not supported");
+    send_line(errors, "", b"words not supported");
+}
+
+/// Tells a fault of a run over the standard streams.
+pub(crate) fn tell_fault<E: Sink>(errors: &mut E, fault: &ToolFault)
+    requires { E.failed errors.old < 2 ^ 64 - 1 }
+    ensures { ToldFault E.taken E.failed errors.old errors.new (at_fault fault.now) }
+{
+    if fault.is_want_of_memory() {
+        tell_want_of_memory(errors);
+        return;
+    }
+    let mut text = Block::new();
+    let told = match fault {
+        ToolFault::Source => CANNOT_READ.as_bytes(),
+        ToolFault::Sink => CANNOT_WRITE.as_bytes(),
+        ToolFault::Read(_) | ToolFault::OutOfMemory => {
+            // What is wrong with an input is far shorter than a block, so this always fits.
+            let _fits = write!(text, "{fault}");
+            text.as_slice()
+        }
+    };
+    send_line(errors, STANDARD_STREAM, told);
 }

@@ -1,7 +1,7 @@
 //! What a user asks for.
 
 /// A conversion between AIGER files.
-#[derive(Debug, Drop)]
+#[derive(Drop)]
 pub struct ToAig {
     /// Whether ASCII is written, whether an option or the destination's name decided it.
     pub ascii: bool,
@@ -17,4 +17,10 @@ pub struct ToAig {
     pub source: Option<String>,
     /// The destination's name; `None` is the standard output.
     pub destination: Option<String>,
+}
+
+/// What the words of the command line ask for.
+#[derive(Drop)]
+pub enum Request {
+    ToAig(ToAig),
 }

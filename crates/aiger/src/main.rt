@@ -1,16 +1,43 @@
 //! The program: the words and the streams of the process, and the status that `start` answers.
 #![tactic(auto)]
 
-use aig_core::streams::{ReadSource, WriteSink};
-use aig_tools::start::{refuse_for_memory, refuse_words, start};
+use aig_core::{ReadSource, WriteSink};
+use aig_tools::{refuse_for_memory, refuse_words, start};
+use std::alloc::Global;
+use std::env::FillError;
 use std::process::ExitCode;
 use std::rt::Env;
 use std::{env, io};
 
-/// The program's name and its words. They are pushed one by one, so that a growth that is refused ends it.
-fn words_of<R: Env + AllocGlobal>(rt: &R) -> io::Result<Vec<String>> {
-    let mut words = Vec::new(rt.alloc());
-    for word in env::args(rt)? {
+/// The environment of a program without a name. The name that the program is called by is a path, which may be no
+/// text, and nothing looks at it.
+#[derive(Drop)]
+struct Nameless<'a, R> {
+    rt: &'a R,
+}
+
+impl<R: Env> Env for Nameless<'_, R> {
+    fn arg(&self, index: usize, buffer: &mut [u8]) -> Result<usize, FillError> {
+        if index == 0 {
+            return Ok(0);
+        }
+        self.rt.arg(index, buffer)
+    }
+
+    fn var(&self, name: &str, buffer: &mut [u8]) -> Result<usize, FillError> {
+        self.rt.var(name, buffer)
+    }
+
+    fn var_at(&self, index: usize, buffer: &mut [u8]) -> Result<usize, FillError> {
+        self.rt.var_at(index, buffer)
+    }
+}
+
+/// An empty name and the words after the program's. They are pushed one by one, so that a growth that is refused
+/// ends it.
+fn words_of<R: Env>(rt: &R, alloc: Global) -> io::Result<Vec<String>> {
+    let mut words = Vec::new(alloc);
+    for word in env::args(&(Nameless { rt }, alloc))? {
         words.push(word)?;
     }
     Ok(words)
@@ -19,7 +46,7 @@ fn words_of<R: Env + AllocGlobal>(rt: &R) -> io::Result<Vec<String>> {
 fn main(rt: HostRuntime) -> ExitCode {
     let alloc = rt.alloc();
     let mut errors = WriteSink::new(rt.stderr());
-    let words = match words_of(&rt) {
+    let words = match words_of(&rt, alloc) {
         Ok(words) => words,
         Err(error) if error.kind() == io::ErrorKind::OutOfMemory => {
             return ExitCode::from(refuse_for_memory(&mut errors));

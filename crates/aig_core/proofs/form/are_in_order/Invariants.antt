@@ -1,5 +1,5 @@
 use Rattle.std.proofs.Common.{◌↔◌, drop, map}
-use Rattle.aig_core.specs.SymbolOrder.{IsRisingFrom, place_of}
+use Rattle.aig_core.specs.Parts.SymbolOrder.{IsRisingFrom, place_of}
 use Rattle.aig_core.proofs.form.are_in_order.Given as goal
 
 abbrev pub invariant-loop-symbol : goal.invariant-loop-symbol

@@ -1,4 +1,4 @@
-use Rattle.std.proofs.Common.{◌≡◌, ◌≤◌, ◌-◌, length, take}
+use Rattle.std.proofs.Common.{◌≡◌, ◌≤◌, ◌-◌, length, max, take}
 use Rattle.std.specs.Io.KnownBytes.{Appends}
 use Rattle.aig_core.proofs.transfer.send_all.Given as goal
 
@@ -8,6 +8,7 @@ invariant-loop-at g l =
     record {
       within : l.at ≤ length l.bytes;
       bytes : Appends (d.taken l.fn.sink) (d.taken l.sink) (take l.at l.bytes);
+      longest : d.longest l.sink ≤ max (d.longest l.fn.sink) (length l.bytes);
       failed : d.failed l.sink ≡ d.failed l.fn.sink;
     }
 

@@ -1,7 +1,7 @@
 use Rattle.std.proofs.Common.{◌∙◌, sym}
 use Rattle.aig_text.specs.declared.fault.ReadFault.{ReadFault}
 use Rattle.aig_text.proofs.Steps.{ok_same}
-use Rattle.aig_text.proofs.Accepted.{accepted_is_read}
+use Rattle.aig_text.proofs.Grammar.Text.{accepted_is_read}
 use Rattle.aig_text.proofs.laws.texts_are_unambiguous.Goals as goal
 
 pub returns : goal.returns

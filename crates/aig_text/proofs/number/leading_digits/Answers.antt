@@ -1,5 +1,5 @@
 use Rattle.std.proofs.Common.{◌≡◌, length, sym, ◌∙◌, arith}
-use Rattle.aig_text.proofs.KeptNumbers.{digits_end, value_ends}
+use Rattle.aig_text.proofs.Kept.Numbers.{digits_end, value_ends}
 use Rattle.aig_text.proofs.number.leading_digits.Goals as goal
 
 pub returns-then-not-is_ascii_digit-clause-count : goal.returns-then-not-is_ascii_digit-clause-count

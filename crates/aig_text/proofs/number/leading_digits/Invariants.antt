@@ -1,6 +1,6 @@
 use Rattle.std.proofs.Common.{◌≡◌, ◌<◌, ℕ, take, get_or, true}
-use Rattle.aig_text.specs.Numbers.{is_digit, value_of}
-use Rattle.aig_text.specs.Kept.{kept}
+use Rattle.aig_text.specs.Spelling.{is_digit, value_of}
+use Rattle.aig_text.specs.Parts.Kept.{kept}
 use Rattle.aig_text.proofs.number.leading_digits.Given as goal
 
 abbrev pub invariant-loop-at : goal.invariant-loop-at

@@ -1,10 +1,7 @@
-use Rattle.std.proofs.Common.{◌≡◌, ◌-◌, take, length}
-use Rattle.aig_text.specs.Numbers.{more_numbers_at}
-use Rattle.aig_text.specs.Kept.{kept_numbers}
-use Rattle.aig_text.proofs.KeptNumbers.{put_before}
+use Rattle.aig_text.specs.Scanning.{more_numbers_at}
+use Rattle.aig_text.specs.Parts.Kept.{kept_numbers}
+use Rattle.aig_text.proofs.Kept.Numbers.{AreStored}
 use Rattle.aig_text.proofs.number.more_numbers.Given as goal
 
-abbrev pub invariant-loop-place : goal.invariant-loop-place
-invariant-loop-place g l =
-    (length l.place-items ≡ g.row.N)
-    × (put_before (take l.place-index l.place-items) (kept_numbers (more_numbers_at l.ended (g.row.N - l.place-index) l.rest)) ≡ kept_numbers (more_numbers_at l.ended g.row.N l.text))
+abbrev pub invariant-loop-at : goal.invariant-loop-at
+invariant-loop-at g l = AreStored l.ended l.least g.row.N l.at l.numbers l.rest (kept_numbers (more_numbers_at l.ended l.least g.row.N l.text))

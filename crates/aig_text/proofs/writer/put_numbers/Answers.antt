@@ -1,15 +1,5 @@
-use Rattle.std.proofs.Common.{decimal}
-use Rattle.aig_core.proofs.Outgoing.{beginning_after, beginning_longer, failed_by, went_out_twice}
-use Rattle.aig_text.specs.AsciiText.{more_numbers_text}
+use Rattle.aig_core.proofs.Puts.{put_twice}
 use Rattle.aig_text.proofs.writer.put_numbers.Goals as goal
 
-pub returns-in_err-put_number-clause-err : goal.returns-in_err-put_number-clause-err
-returns-in_err-put_number-clause-err g c =
-    failed_by c.from_residual.result (beginning_longer _ _ _ (decimal c.args.first) (more_numbers_text c.args.others.now) c.in_err-put_number.ensures.err)
-
-pub returns-in_err-put_more_numbers-clause-err : goal.returns-in_err-put_more_numbers-clause-err
-returns-in_err-put_more_numbers-clause-err g c =
-    failed_by c.from_residual-in_err-put_more_numbers.result (beginning_after _ _ _ _ _ (decimal c.args.first) (more_numbers_text c.args.others.now) c.in_ok-put_number.ensures.ok c.in_err-put_more_numbers.ensures.err)
-
-pub returns-clause-ok : goal.returns-clause-ok
-returns-clause-ok g c = went_out_twice _ _ _ _ _ _ (decimal c.args.first) (more_numbers_text c.args.others.now) c.in_ok-put_number.ensures.ok c.in_ok-put_more_numbers.ensures.ok
+pub returns-else-others-le-FEW : goal.returns-else-others-le-FEW
+returns-else-others-le-FEW g c = put_twice _ _ _ _ _ c.put_number.ensures c.put_more_numbers.ensures

@@ -1,5 +1,5 @@
-use Rattle.std.proofs.Common.{◌≡◌, ◌≤◌, ◌-◌, length, take}
-use Rattle.aig_core.specs.Transfer.{WentOut}
+use Rattle.std.proofs.Common.{◌≤◌, ◌-◌, length, take}
+use Rattle.aig_core.specs.Output.{out, Put}
 use Rattle.aig_core.proofs.block.Block.put.Given as goal
 
 abbrev pub invariant-loop-at : goal.invariant-loop-at
@@ -7,8 +7,7 @@ invariant-loop-at g l =
     let d = g.W.Sink in
     record {
       within : l.at ≤ length l.bytes;
-      out : WentOut (d.taken l.fn.sink) (d.taken l.sink) l.fn.self l.self (take l.at l.bytes);
-      failed : d.failed l.sink ≡ d.failed l.fn.sink;
+      put : Put (out (d.taken l.fn.sink) (d.longest l.fn.sink) (d.failed l.fn.sink) l.fn.self) (out (d.taken l.sink) (d.longest l.sink) (d.failed l.sink) l.self) (take l.at l.bytes);
     }
 
 abbrev pub decreases-loop-at : goal.decreases-loop-at

@@ -1,15 +1,17 @@
-use Rattle.std.proofs.Common.{sym, ap, ◌∙◌, ◌<◌, length, arith}
-use Rattle.std.specs.FinSet as set
-use Rattle.aig_core.proofs.Sets.{inserted, marked, was_there}
+use Rattle.std.proofs.Common.{◌≤◌, ◌/◌, length, rules, sym, ◌∙◌, true≢false, ⊎_elim}
+use Rattle.std.proofs.lemmas.Bool.{cases_lt}
+use Rattle.std.proofs.lemmas.Result.{on_ok_weaker}
+use Rattle.aig_core.proofs.Members.{kept_with_bit, kept_elsewhere_too}
 use Rattle.aig_core.proofs.var_set.VarSet.insert.Goals as goal
 
-pub returns-then-index-len-clause-ok : goal.returns-then-index-len-clause-ok
-returns-then-index-len-clause-ok c =
-    let below : c.var.inside.0 < length c.self.inside.marks.items = omega arith in
-    marked c.self.inside.marks.items c.self.inside.others c.var.inside.0 below ∙ ap (λ s. set.insert s c.var.inside.0) c.self.view_is ∙ ap (set.insert c.args.self.now) c.var.view_is
+pub returns-then-covers-clause-ok : goal.returns-then-covers-clause-ok
+returns-then-covers-clause-ok c =
+    rw (← c.self.view_is, ← c.var.view_is) (
+    kept_with_bit c.self.inside.bits c.self.inside.spread c.var.inside.0 (search rules) c.mark.new.self (c.covers.ensures.0 c.if-covers.true) c.mark.ensures.as_many c.mark.ensures.marked
+    )
 
-pub returns-in_ok-insert-clause-ok : goal.returns-in_ok-insert-clause-ok
-returns-in_ok-insert-clause-ok c = inserted c.self.inside.marks.items c.self.inside.others c.insert.new.self c.args.var c.in_ok-insert.ensures.updates ∙ ap (λ s. set.insert s c.args.var) c.self.view_is
-
-pub returns-else-added-clause-ok : goal.returns-else-added-clause-ok
-returns-else-added-clause-ok c = was_there c.args.self.now c.args.var (sym c.contains-added.ensures ∙ c.if-added.false)
+pub returns-else-covers-clause-ok : goal.returns-else-covers-clause-ok
+returns-else-covers-clause-ok c =
+    let above : length c.self.inside.bits ≤ c.args.var / 64 =
+    ⊎_elim (λ below. absurd (true≢false (sym (c.covers.ensures.1 (rw c.var.view_is below)) ∙ c.if-covers.false))) (λ above. above) (cases_lt (c.args.var / 64) (length c.self.inside.bits)) in
+    rw (← c.self.view_is) (on_ok_weaker c.insert.result (kept_elsewhere_too c.self.inside.bits c.self.inside.spread c.args.var (search rules) c.insert.new.self above) c.insert.ensures.ok)

@@ -1,5 +1,6 @@
-use Rattle.aig_core.proofs.Sets.{nothing_in}
+use Rattle.aig_core.proofs.Members.{none_kept}
+use Rattle.aig_core.proofs.Sets.{nothing}
 use Rattle.aig_core.proofs.var_set.VarSet.new.Goals as goal
 
 pub returns : goal.returns
-returns c = nothing_in c.saturating_mul.result c.in_ok-vec.field-0.items c.new.result.keys (c.in_ok-vec.ensures.items_if_clones_equal (λ y e. e)) c.new.ensures.empty
+returns c = nothing _ (none_kept c.in_ok-new.field-0 c.in_ok-new-2.field-0 c.in_ok-new.ensures c.in_ok-new-2.ensures)

@@ -1,0 +1,66 @@
+//! Circuits that are well formed, and the check that tells them from the others.
+ghost use Rattle.std.specs.Prelude.{◌≡◌, ◌≢◌, [], IfOk, IfErr, OnOk, None};
+ghost use Rattle.aig_core.specs.declared.fault.CheckFault.TheVariants.{OutOfMemory};
+ghost use Rattle.aig_core.specs.Wellformed.{IsWellFormed};
+ghost use Rattle.aig_core.specs.Form.{IsInForm};
+ghost use Rattle.aig_core.specs.Fault.{first_fault, IsFault};
+
+use crate::checked::faults::find_fault;
+use crate::circuit::Circuit;
+use crate::fault::CheckFault;
+use std::alloc::Global;
+use std::marker::Model;
+
+mod faults;
+
+/// A circuit that is well formed. Only `check` makes one.
+#[derive(Debug, Drop)]
+pub struct Checked {
+    circuit: Circuit,
+}
+
+impl Model for Checked {
+    ghost use Rattle.aig_core.specs.declared.circuit.Circuit.{Circuit as CircuitRecord};
+    ghost use Rattle.aig_core.specs.Wellformed.{IsWellFormed as IsGood};
+
+    ghost Value = { CircuitRecord };
+
+    ghost view = { λ a. a.circuit };
+
+    ghost invariant = { λ a. IsGood a.circuit };
+}
+
+impl Checked {
+    /// The circuit.
+    pub fn circuit(&self) -> &Circuit
+        ensures value { result.now ≡ self.now }
+        ensures well_formed { IsWellFormed self.now }
+    {
+        &self.circuit
+    }
+
+    /// The circuit, to be kept or changed; what it becomes has to be checked again.
+    pub fn into_circuit(self) -> Circuit
+        ensures value { result ≡ self }
+        ensures well_formed { IsWellFormed self }
+    {
+        self.circuit
+    }
+}
+
+/// Checks a circuit in form, so far without gates, and hands it back with its first fault where it is not well formed.
+pub fn check(alloc: Global, circuit: Circuit) -> Result<Checked, (Circuit, CheckFault)>
+    requires in_form { IsInForm circuit }
+    requires no_gates { circuit.gates ≡ [] }
+    ensures ok { IfOk result (λ checked. checked ≡ circuit) }
+    ensures well_formed { OnOk result (IsWellFormed circuit) }
+    ensures ok_faultless { OnOk result (first_fault circuit ≡ None) }
+    ensures handed_back { IfErr result (λ e. e.0 ≡ circuit) }
+    ensures fault { IfErr result (λ e. IsFault e.1 (first_fault circuit)) }
+    ensures refused { IfErr result (λ e. e.1 ≢ OutOfMemory → ¬ IsWellFormed circuit) }
+{
+    match find_fault(alloc, &circuit) {
+        Ok(()) => Ok(Checked { circuit }),
+        Err(fault) => Err((circuit, fault)),
+    }
+}

@@ -1,0 +1,123 @@
+//! What is wrong with a circuit: the first variable that is defined twice, or else the first literal that is used and
+//! not defined.
+ghost use Rattle.std.specs.Prelude.{◌≡◌, IfOk, IfErr, OnOk, None};
+ghost use Rattle.std.specs.List.{flat_map};
+ghost use Rattle.std.specs.Option.{option_to_list};
+ghost use Rattle.std.specs.FinSet as set;
+ghost use Rattle.aig_core.specs.Wellformed.{defined_variables, used_literals};
+ghost use Rattle.aig_core.specs.Fault.{first_fault, first_repeat, first_redefinition, first_unknown, with_all};
+ghost use Rattle.aig_core.specs.Fault.{is_known, IsFault};
+
+use crate::circuit::Circuit;
+use crate::entry::Entry;
+use crate::fault::CheckFault;
+use crate::listing::Listing;
+use crate::literal::Lit;
+use crate::var_set::VarSet;
+use std::alloc::Global;
+
+/// Adds the variable that an entry defines to those that were seen, unless it was seen before.
+fn define<T: Entry>(seen: &mut VarSet, entry: &T) -> Result<(), CheckFault>
+    ensures seen { OnOk result (seen.new ≡ with_all seen.old (T.defined entry.now)) }
+    ensures ok { OnOk result (first_repeat seen.old (T.defined entry.now) ≡ None) }
+    ensures err { IfErr result (λ e. IsFault e (first_redefinition seen.old (T.defined entry.now))) }
+{
+    if let Some(variable) = entry.definition() {
+        if !seen.insert(variable)? {
+            return Err(CheckFault::Redefined(variable));
+        }
+    }
+    Ok(())
+}
+
+/// Adds the variables of a section to those that were seen, unless one of them was seen before.
+#[tactic(auto, using(crate::proofs::Sections::joined_lists))]
+fn define_all<T: Entry>(seen: &mut VarSet, entries: &Listing<T>) -> Result<(), CheckFault>
+    ensures seen { OnOk result (seen.new ≡ with_all seen.old (flat_map T.defined entries.now)) }
+    ensures ok { OnOk result (first_repeat seen.old (flat_map T.defined entries.now) ≡ None) }
+    ensures err { IfErr result (λ e. IsFault e (first_redefinition seen.old (flat_map T.defined entries.now))) }
+{
+    for entry in entries.as_slice() {
+        define(seen, entry)?;
+    }
+    Ok(())
+}
+
+/// Whether the literal is a constant, or over one of the variables.
+fn knows(variables: &VarSet, literal: Lit) -> bool
+    ensures { result ≡ is_known variables.now literal }
+{
+    let variable = literal.var();
+    variable.0 == 0 || variables.contains(variable)
+}
+
+/// The literal, if there is one and it is no constant and over none of the variables.
+fn unknown(variables: &VarSet, literal: Option<Lit>) -> Option<Lit>
+    ensures { result ≡ first_unknown variables.now (option_to_list literal) }
+{
+    literal.filter(|literal| !knows(variables, *literal))
+}
+
+/// The first literal of an entry that is no constant and over none of the variables.
+fn unknown_use<T: Entry>(variables: &VarSet, entry: &T) -> Option<Lit>
+    ensures { result ≡ first_unknown variables.now (T.used entry.now) }
+{
+    let (first, second) = entry.uses();
+    unknown(variables, first).or_else(|| unknown(variables, second))
+}
+
+/// The first literal of a section that is no constant and over none of the variables.
+#[tactic(auto, using(crate::proofs::Sections::joined_lists))]
+fn first_unknown_use<T: Entry>(variables: &VarSet, entries: &Listing<T>) -> Option<Lit>
+    ensures { result ≡ first_unknown variables.now (flat_map T.used entries.now) }
+{
+    for entry in entries.as_slice() {
+        if let Some(literal) = unknown_use(variables, entry) {
+            return Some(literal);
+        }
+    }
+    None
+}
+
+/// How many definitions a circuit has.
+fn definition_count(circuit: &Circuit) -> usize {
+    circuit
+        .inputs
+        .len()
+        .saturating_add(circuit.latches.len())
+        .saturating_add(circuit.gates.len())
+}
+
+/// The variables that a circuit defines, unless one of them is defined twice.
+fn definitions(alloc: Global, circuit: &Circuit) -> Result<VarSet, CheckFault>
+    ensures variables { IfOk result (λ variables. variables ≡ with_all set.empty (defined_variables circuit.now)) }
+    ensures ok { OnOk result (first_repeat set.empty (defined_variables circuit.now) ≡ None) }
+    ensures err { IfErr result (λ e. IsFault e (first_redefinition set.empty (defined_variables circuit.now))) }
+{
+    let mut variables = VarSet::new(alloc, definition_count(circuit), circuit.max_var)?;
+    define_all(&mut variables, &circuit.inputs)?;
+    define_all(&mut variables, &circuit.latches)?;
+    define_all(&mut variables, &circuit.gates)?;
+    Ok(variables)
+}
+
+/// The first literal that a circuit uses, of those that are no constants and over none of the variables.
+fn first_undefined(variables: &VarSet, circuit: &Circuit) -> Option<Lit>
+    ensures { result ≡ first_unknown variables.now (used_literals circuit.now) }
+{
+    first_unknown_use(variables, &circuit.latches)
+        .or_else(|| first_unknown_use(variables, &circuit.outputs))
+        .or_else(|| first_unknown_use(variables, &circuit.gates))
+}
+
+/// The first fault of a circuit, which tells nothing of the order of its gates.
+pub(crate) fn find_fault(alloc: Global, circuit: &Circuit) -> Result<(), CheckFault>
+    ensures ok { OnOk result (first_fault circuit.now ≡ None) }
+    ensures err { IfErr result (λ e. IsFault e (first_fault circuit.now)) }
+{
+    let variables = definitions(alloc, circuit)?;
+    match first_undefined(&variables, circuit) {
+        Some(literal) => Err(CheckFault::Undefined(literal)),
+        None => Ok(()),
+    }
+}

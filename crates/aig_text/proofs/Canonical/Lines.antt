@@ -1,0 +1,157 @@
+-- The lines of the canonical text: each number's digits spell it, and no line holds a line feed but at its end.
+use Rattle.std.proofs.Common.{◌≡◌, ◌+◌, ◌-◌, ◌*◌, ◌<◌, ◌≤◌, ◌^◌, ◌==◌, ℕ, true, false, List, [], ◌∷◌, ◌++◌, length, map, refl, sym, ap, ◌∙◌, inl, arith, rules}
+use Rattle.std.specs.List.{AllByRecursion, AllZip, flat_map}
+use Rattle.std.specs.Prelude.{decimal, fold}
+use Rattle.std.proofs.lemmas.Str.Parse.{IsNumeralModel, numerals_by_fold}
+use Rattle.std.proofs.lemmas.Fmt.{digits_decimal, digits_value-decimal, decimal_nonempty}
+use Rattle.std.proofs.lemmas.List.{append_assoc, append-nil}
+use Rattle.aig_text.specs.Lines.{Line, line, lines_of}
+use Rattle.aig_text.specs.Spelling.{is_digit, value_of, IsNumber, AreMoreNumbers, IsLineEnd, EndInNumbers, IsNumberLine, IsHeaderLine}
+use Rattle.aig_text.specs.Rows.{Form, Row, row}
+use Rattle.aig_text.specs.AsciiGrammar.{IsRowLine}
+use Rattle.aig_text.specs.AsciiText.{more_numbers_text, numbers_text, line_text, header_text}
+
+-- bytes that are all decimal digits
+abbrev pub AreDigits : List ℕ → Type 0
+AreDigits text = AllByRecursion (λ b. is_digit b ≡ true) text
+
+-- the tests and the value of this crate are std's, in other words
+decimal_model : IsNumeralModel AreDigits value_of
+decimal_model = numerals_by_fold AreDigits (search rules) (λ n digits. fold (λ m b. 10 * m + (b - 48)) n digits) (search rules)
+
+pub decimal_is_number : (n : ℕ) → n < 2 ^ 64 → IsNumber (decimal n) n
+decimal_is_number n small = record {
+  some = decimal_nonempty n small;
+  digits = digits_decimal decimal_model n small;
+  value = digits_value-decimal decimal_model n small;
+}
+
+-- what holds of the parts holds of the whole
+pub all_joined : {X : Type 0} (P : X → Type 0) (xs ys : List X) → AllByRecursion P xs → AllByRecursion P ys → AllByRecursion P (xs ++ ys)
+all_joined P [] ys h k = k
+all_joined P (x ∷ xs) ys h k = (h.0, all_joined P xs ys h.1 k)
+
+-- bytes with no line feed among them
+abbrev pub HasNoLineFeed : List ℕ → Type 0
+HasNoLineFeed text = AllByRecursion (λ b. (b == 10) ≡ false) text
+
+digit_is_no_line_feed : (b : ℕ) → is_digit b ≡ true → (b == 10) ≡ false
+digit_is_no_line_feed b h = search rules
+
+digits_have_no_line_feed : (text : List ℕ) → AreDigits text → HasNoLineFeed text
+digits_have_no_line_feed [] h = tt
+digits_have_no_line_feed (b ∷ bs) h = (digit_is_no_line_feed b h.0, digits_have_no_line_feed bs h.1)
+
+-- numbers that a file can tell
+abbrev pub AreSmall : List ℕ → Type 0
+AreSmall ns = AllByRecursion (λ n. n < 2 ^ 64) ns
+
+-- each number after a space, as `more_numbers_text` has it, without the line feed
+abbrev pub more_front : List ℕ → List ℕ
+more_front [] = []
+more_front (n ∷ ns) = 32 ∷ (decimal n ++ more_front ns)
+
+-- numbers with a space between them, as `numbers_text` has it, without the line feed
+abbrev pub front : List ℕ → List ℕ
+front [] = []
+front (n ∷ ns) = decimal n ++ more_front ns
+
+more_text_is : (ns : List ℕ) (rest : List ℕ) → more_numbers_text ns ++ rest ≡ more_front ns ++ 10 ∷ rest
+more_text_is [] rest = refl
+more_text_is (n ∷ ns) rest = ap (λ (t : List ℕ). 32 ∷ t)
+    (append_assoc (decimal n) (more_numbers_text ns) rest ∙ ap (λ (t : List ℕ). decimal n ++ t) (more_text_is ns rest) ∙ sym (append_assoc (decimal n) (more_front ns) (10 ∷ rest)))
+
+text_is : (ns : List ℕ) (rest : List ℕ) → numbers_text ns ++ rest ≡ front ns ++ 10 ∷ rest
+text_is [] rest = refl
+text_is (n ∷ ns) rest =
+    append_assoc (decimal n) (more_numbers_text ns) rest ∙ ap (λ (t : List ℕ). decimal n ++ t) (more_text_is ns rest) ∙ sym (append_assoc (decimal n) (more_front ns) (10 ∷ rest))
+
+more_front_has_no_line_feed : (ns : List ℕ) → AreSmall ns → HasNoLineFeed (more_front ns)
+more_front_has_no_line_feed [] small = tt
+more_front_has_no_line_feed (n ∷ ns) small =
+    (refl, all_joined _ (decimal n) (more_front ns) (digits_have_no_line_feed (decimal n) (decimal_is_number n small.0).digits) (more_front_has_no_line_feed ns small.1))
+
+front_has_no_line_feed : (ns : List ℕ) → AreSmall ns → HasNoLineFeed (front ns)
+front_has_no_line_feed [] small = tt
+front_has_no_line_feed (n ∷ ns) small =
+    all_joined _ (decimal n) (more_front ns) (digits_have_no_line_feed (decimal n) (decimal_is_number n small.0).digits) (more_front_has_no_line_feed ns small.1)
+
+-- up to its first line feed a text is one line
+first_line : (text rest : List ℕ) → HasNoLineFeed text → lines_of (text ++ 10 ∷ rest) ≡ line text true ∷ lines_of rest
+unfolding lines_of
+first_line [] rest h = refl
+first_line (b ∷ bs) rest h = rw (h.0, first_line bs rest h.1) refl
+
+-- the line of these numbers
+abbrev pub number_line : List ℕ → Line
+number_line ns = line (front ns) true
+
+-- the line of a header
+abbrev pub header_line : List ℕ → List ℕ → Line
+header_line word ns = line (word ++ more_front ns) true
+
+pub row_is_first : (ns rest : List ℕ) → AreSmall ns → lines_of (numbers_text ns ++ rest) ≡ number_line ns ∷ lines_of rest
+row_is_first ns rest small = ap lines_of (text_is ns rest) ∙ first_line (front ns) rest (front_has_no_line_feed ns small)
+
+pub header_is_first : (word ns rest : List ℕ) → HasNoLineFeed word → AreSmall ns → lines_of (header_text word ns ++ rest) ≡ header_line word ns ∷ lines_of rest
+header_is_first word ns rest plain small =
+    ap lines_of (append_assoc word (more_numbers_text ns) rest ∙ ap (λ (t : List ℕ). word ++ t) (more_text_is ns rest) ∙ sym (append_assoc word (more_front ns) (10 ∷ rest)))
+    ∙ first_line (word ++ more_front ns) rest (all_joined _ word (more_front ns) plain (more_front_has_no_line_feed ns small))
+
+-- a line may end where its text ends
+ends_at_once : IsLineEnd true []
+ends_at_once = ([], tt, inl refl)
+
+more_front_is_spelled : (ns : List ℕ) → AreSmall ns → AreMoreNumbers (more_front ns) ns
+more_front_is_spelled [] small = refl
+more_front_is_spelled (n ∷ ns) small =
+    (32 ∷ [], decimal n, more_front ns, refl, (omega arith, (refl, tt)), decimal_is_number n small.0, more_front_is_spelled ns small.1)
+
+end_is_good : (least : ℕ) (ns : List ℕ) → least ≤ length ns → AreSmall ns → EndInNumbers least true (more_front ns) ns
+end_is_good least ns enough small = record {
+  written = ns;
+  left_out = 0;
+  numbers = more_front ns;
+  ending = [];
+  are = sym (append-nil ns);
+  enough = enough;
+  text_is = sym (append-nil (more_front ns));
+  spelled = more_front_is_spelled ns small;
+  ends = ends_at_once;
+}
+
+pub header_line_is_good : (word : List ℕ) (least : ℕ) (ns : List ℕ) → least ≤ length ns → AreSmall ns → IsHeaderLine word least (header_line word ns) ns
+header_line_is_good word least ns enough small = record { rest = more_front ns; begins = refl; others = end_is_good least ns enough small }
+
+-- as many numbers as the form has roles, which a file can tell
+pub record IsFullRow (r : Row) : Type 0 where
+  pub some : r.form.least < length r.numbers
+  pub small : AreSmall r.numbers
+
+-- the lines of rows
+abbrev pub row_lines : List Row → List Line
+row_lines rows = map (λ (r : Row). number_line r.numbers) rows
+
+pub rows_are_first : (rows : List Row) (rest : List ℕ) → AllByRecursion IsFullRow rows → lines_of (flat_map line_text rows ++ rest) ≡ row_lines rows ++ lines_of rest
+rows_are_first [] rest h = refl
+rows_are_first (r ∷ rows) rest h =
+    ap lines_of (append_assoc (line_text r) (flat_map line_text rows) rest)
+    ∙ row_is_first r.numbers (flat_map line_text rows ++ rest) h.0.small
+    ∙ ap (λ (ls : List Line). number_line r.numbers ∷ ls) (rows_are_first rows rest h.1)
+
+number_line_is_good : (least : ℕ) (ns : List ℕ) → least < length ns → AreSmall ns → IsNumberLine least (number_line ns) ns
+number_line_is_good least [] some small = absurd (omega arith)
+number_line_is_good least (n ∷ ns) some small = record {
+  first = n;
+  more = ns;
+  digits = decimal n;
+  rest = more_front ns;
+  are = refl;
+  begins = refl;
+  spelled = decimal_is_number n small.0;
+  others = end_is_good least ns (omega arith) small.1;
+}
+
+pub rows_are_good : (rows : List Row) → AllByRecursion IsFullRow rows → AllZip IsRowLine (row_lines rows) rows
+rows_are_good [] h = tt
+rows_are_good (r ∷ rows) h = (number_line_is_good r.form.least r.numbers h.0.some h.0.small, rows_are_good rows h.1)

@@ -1,0 +1,301 @@
+-- Sections that are read hold the rows of the circuit, and the other way round.
+use Rattle.std.proofs.Common.{◌≡◌, ℕ, ◌+◌, ◌*◌, ◌≤◌, List, [], ◌∷◌, ◌++◌, map, length, Option, None, Ok, refl, ap, subst, ◌∙◌, sym, arith, append_assoc}
+use Rattle.std.specs.List.{AllByRecursion, AllZip, flat_map}
+use Rattle.std.proofs.lemmas.List.{length-map}
+use Rattle.aig_core.specs.declared.circuit.Circuit.{Circuit}
+use Rattle.aig_core.specs.declared.circuit.Latch.{Latch}
+use Rattle.aig_core.specs.declared.circuit.Gate.{Gate}
+use Rattle.aig_core.specs.declared.circuit.Symbol.{Symbol}
+use Rattle.aig_core.specs.Wellformed.{IsWithinLimits, IsVariableUpTo, operands}
+use Rattle.aig_core.specs.Form.{IsInForm}
+use Rattle.aig_text.specs.declared.fault.ReadFault.{ReadFault}
+use Rattle.aig_text.specs.declared.section.Section.TheVariants.{Inputs, Latches, Outputs, Gates}
+use Rattle.aig_text.specs.Lines.{Line}
+use Rattle.aig_text.specs.Rows.{Header, Section, sections, form_of, count_in, rows_in, with_rows, Row, row, rows_of, header_row, input_row, latch_row, output_row, gate_row, input_of, latch_of, output_of, gate_of, input_form, latch_form, output_form, gate_form}
+use Rattle.aig_text.specs.AsciiGrammar.{IsRowLine}
+use Rattle.aig_text.specs.Reading.{◌>>=◌, Told, rows_at, section_at, sections_at, header_of_row, empty_circuit}
+use Rattle.aig_text.proofs.Steps.{both_ok, ok_same}
+use Rattle.aig_text.proofs.Grammar.Entries.{IsGoodRow, IsEntry, IsLiteralUpTo, IsLatchUpTo, IsGateUpTo, input_entry, latch_entry, output_entry, gate_entry, all_again, rows_again, all_mapped}
+use Rattle.aig_text.proofs.Grammar.Rows.{IsSound, AreRows, rows_told, rows_are_told}
+
+-- the rows of these sections, and the circuit with them
+abbrev pub rows_under : List Section → List (List (List ℕ)) → List Row
+rows_under [] told = []
+rows_under (s ∷ ss) [] = []
+rows_under (s ∷ ss) (rows ∷ told) = map (row (form_of s)) rows ++ rows_under ss told
+
+abbrev pub with_all : List Section → List (List (List ℕ)) → Circuit → Circuit
+with_all [] told c = c
+with_all (s ∷ ss) [] c = c
+with_all (s ∷ ss) (rows ∷ told) c = with_all ss told (with_rows s rows c)
+
+-- the rows that a section may have under this header
+pub record FitSection (h : Header) (s : Section) (rows : List (List ℕ)) : Type 0 where
+  pub good : AllByRecursion (IsGoodRow (form_of s) h.max_var) rows
+  pub counted : length rows ≡ count_in h s
+
+-- lines that hold the rows of sections
+pub record AreSections (h : Header) (ss : List Section) (c d : Circuit) (ls rest : List Line) : Type 0 where
+  pub told : List (List (List ℕ))
+  pub front : List Line
+  pub lines : ls ≡ front ++ rest
+  pub spelled : AllZip IsRowLine front (rows_under ss told)
+  pub fit : AllZip (FitSection h) ss told
+  pub circuit : with_all ss told c ≡ d
+
+sound : (s : Section) → IsSound (form_of s)
+sound Inputs = omega arith
+sound Latches = omega arith
+sound Outputs = omega arith
+sound Gates = omega arith
+
+zips_joined : {A B : Type 0} (R : A → B → Type 0) (us vs : List A) (ys zs : List B) → AllZip R us ys → AllZip R vs zs → AllZip R (us ++ vs) (ys ++ zs)
+zips_joined R [] vs [] zs g h = h
+zips_joined R [] vs (y ∷ ys) zs g h = absurd g
+zips_joined R (u ∷ us) vs [] zs g h = absurd g
+zips_joined R (u ∷ us) vs (y ∷ ys) zs g h = (g.0, zips_joined R us vs ys zs g.1 h)
+
+-- one section at the front
+one_section : (h : Header) (s : Section) (ss : List Section) (c d : Circuit) (rows : List (List ℕ)) (ls between rest : List Line) → AreRows (form_of s) h.max_var (count_in h s) ls rows between → AreSections h ss (with_rows s rows c) d between rest → AreSections h (s ∷ ss) c d ls rest
+one_section h s ss c d rows ls between rest a o = record {
+  told = rows ∷ o.told;
+  front = a.front ++ o.front;
+  lines = a.lines ∙ ap (λ (ks : List Line). a.front ++ ks) o.lines ∙ sym (append_assoc a.front o.front rest);
+  spelled = zips_joined IsRowLine a.front o.front (map (row (form_of s)) rows) (rows_under ss o.told) a.spelled o.spelled;
+  fit = (record { good = a.good; counted = a.counted }, o.fit);
+  circuit = o.circuit;
+}
+
+module _ (h : Header) where
+  abbrev after_rows : Section → Circuit → List (List ℕ) × ℕ × List Line → Told Circuit
+  after_rows s c told = Ok (with_rows s told.0 c, told.1, told.2)
+
+  abbrev then_sections : List Section → Circuit × ℕ × List Line → Told Circuit
+  then_sections ss told = sections_at h ss told.0 told.1 told.2
+
+  pub sections_told : (ss : List Section) (c : Circuit) (n : ℕ) (ls : List Line) (p : Circuit × ℕ × List Line) → sections_at h ss c n ls ≡ Ok p → AreSections h ss c p.0 ls p.2
+  unfolding sections_at
+  sections_told [] c n ls p is =
+      let e : (c, n, ls) ≡ p = ok_same {E = ReadFault} _ _ is in
+      subst (λ (q : Circuit × ℕ × List Line). AreSections h [] c q.0 ls q.2) e (record { told = []; front = []; lines = refl; spelled = tt; fit = tt; circuit = refl })
+  sections_told (s ∷ ss) c n ls p is =
+      let f = both_ok (section_at h s c n ls) (then_sections ss) p is in
+      let r = both_ok (rows_at (form_of s) h.max_var (count_in h s) n ls) (after_rows s c) f.0 f.1 in
+      let e : (with_rows s r.0.0 c, r.0.1, r.0.2) ≡ f.0 = ok_same {E = ReadFault} _ _ r.2 in
+      let rows : AreRows (form_of s) h.max_var (count_in h s) ls r.0.0 r.0.2 = rows_told (form_of s) h.max_var (count_in h s) n ls r.0 (sound s) r.1 in
+      let others : AreSections h ss f.0.0 p.0 f.0.2 p.2 = sections_told ss f.0.0 f.0.1 f.0.2 p f.2 in
+      one_section h s ss c p.0 r.0.0 ls r.0.2 p.2 rows
+      (subst (λ (q : Circuit × ℕ × List Line). AreSections h ss q.0 p.0 q.2 p.2) (sym e) others)
+
+-- the circuit of four lists of rows
+abbrev pub circuit_of : ℕ → List (List ℕ) → List (List ℕ) → List (List ℕ) → List (List ℕ) → Circuit
+circuit_of m is ls os gs = record {
+  max_var = m;
+  inputs = map input_of is;
+  latches = map latch_of ls;
+  outputs = map output_of os;
+  gates = map gate_of gs;
+  symbols = [];
+  comment = None;
+}
+
+pub record FourSections (h : Header) (c : Circuit) (ls rest : List Line) : Type 0 where
+  pub inputs : List (List ℕ)
+  pub latches : List (List ℕ)
+  pub outputs : List (List ℕ)
+  pub gates : List (List ℕ)
+  pub front : List Line
+  pub lines : ls ≡ front ++ rest
+  pub spelled : AllZip IsRowLine front (rows_under sections (inputs ∷ latches ∷ outputs ∷ gates ∷ []))
+  pub fit_inputs : FitSection h Inputs inputs
+  pub fit_latches : FitSection h Latches latches
+  pub fit_outputs : FitSection h Outputs outputs
+  pub fit_gates : FitSection h Gates gates
+  pub circuit : circuit_of h.max_var inputs latches outputs gates ≡ c
+
+four : (h : Header) (c : Circuit) (ls rest front : List Line) (told : List (List (List ℕ))) → ls ≡ front ++ rest → AllZip IsRowLine front (rows_under sections told) → AllZip (FitSection h) sections told → with_all sections told (empty_circuit h.max_var) ≡ c → FourSections h c ls rest
+four h c ls rest front [] lines spelled fit is = absurd fit
+four h c ls rest front (i ∷ []) lines spelled fit is = absurd fit.1
+four h c ls rest front (i ∷ l ∷ []) lines spelled fit is = absurd fit.1.1
+four h c ls rest front (i ∷ l ∷ o ∷ []) lines spelled fit is = absurd fit.1.1.1
+four h c ls rest front (i ∷ l ∷ o ∷ g ∷ []) lines spelled fit is = record {
+  inputs = i;
+  latches = l;
+  outputs = o;
+  gates = g;
+  front = front;
+  lines = lines;
+  spelled = spelled;
+  fit_inputs = fit.0;
+  fit_latches = fit.1.0;
+  fit_outputs = fit.1.1.0;
+  fit_gates = fit.1.1.1.0;
+  circuit = is;
+}
+four h c ls rest front (i ∷ l ∷ o ∷ g ∷ x ∷ told) lines spelled fit is = absurd fit.1.1.1.1
+
+pub four_told : (h : Header) (n : ℕ) (ls : List Line) (p : Circuit × ℕ × List Line) → sections_at h sections (empty_circuit h.max_var) n ls ≡ Ok p → FourSections h p.0 ls p.2
+four_told h n ls p is =
+    let a = sections_told h sections (empty_circuit h.max_var) n ls p is in
+    four h p.0 ls p.2 a.front a.told a.lines a.spelled a.fit a.circuit
+
+-- the rows of the circuit are those that were read
+pub rows_read : (h : Header) (c : Circuit) (ls rest : List Line) (f : FourSections h c ls rest) → rows_under sections (f.inputs ∷ f.latches ∷ f.outputs ∷ f.gates ∷ []) ≡ rows_of c
+rows_read h c ls rest f =
+    let i = rows_again (IsGoodRow input_form h.max_var) input_row input_of (input_entry.row_again h.max_var) f.inputs f.fit_inputs.good in
+    let l = rows_again (IsGoodRow latch_form h.max_var) latch_row latch_of (latch_entry.row_again h.max_var) f.latches f.fit_latches.good in
+    let o = rows_again (IsGoodRow output_form h.max_var) output_row output_of (output_entry.row_again h.max_var) f.outputs f.fit_outputs.good in
+    let g = rows_again (IsGoodRow gate_form h.max_var) gate_row gate_of (gate_entry.row_again h.max_var) f.gates f.fit_gates.good in
+    let here : rows_under sections (f.inputs ∷ f.latches ∷ f.outputs ∷ f.gates ∷ []) ≡ rows_of (circuit_of h.max_var f.inputs f.latches f.outputs f.gates) = sym (rw (i, l, o, g) refl) in
+    here ∙ ap rows_of f.circuit
+
+-- and so are their numbers
+abbrev pub row_of_header : Header → List ℕ
+row_of_header h = h.max_var ∷ h.inputs ∷ h.latches ∷ h.outputs ∷ h.gates ∷ []
+
+pub counts_read : (h : Header) (c : Circuit) (ls rest : List Line) → FourSections h c ls rest → header_row c ≡ row_of_header h
+counts_read h c ls rest f =
+    let i : length (map input_of f.inputs) ≡ h.inputs = length-map f.inputs input_of ∙ f.fit_inputs.counted in
+    let l : length (map latch_of f.latches) ≡ h.latches = length-map f.latches latch_of ∙ f.fit_latches.counted in
+    let o : length (map output_of f.outputs) ≡ h.outputs = length-map f.outputs output_of ∙ f.fit_outputs.counted in
+    let g : length (map gate_of f.gates) ≡ h.gates = length-map f.gates gate_of ∙ f.fit_gates.counted in
+    subst (λ (d : Circuit). header_row d ≡ row_of_header h) f.circuit (rw (i, l, o, g) refl)
+
+all_append : {X : Type 0} (P : X → Type 0) (xs ys : List X) → AllByRecursion P xs → AllByRecursion P ys → AllByRecursion P (xs ++ ys)
+all_append P [] ys h g = g
+all_append P (x ∷ xs) ys h g = (h.0, all_append P xs ys h.1 g)
+
+all_flat : {X Y : Type 0} (P : X → Type 0) (Q : Y → Type 0) (f : X → List Y) → ((x : X) → P x → AllByRecursion Q (f x)) → (xs : List X) → AllByRecursion P xs → AllByRecursion Q (flat_map f xs)
+all_flat P Q f h [] all = tt
+all_flat P Q f h (x ∷ xs) all = all_append Q (f x) (flat_map f xs) (h x all.0) (all_flat P Q f h xs all.1)
+
+-- what is made of good rows is in form
+pub in_form : (h : Header) (c : Circuit) (ls rest : List Line) → IsWithinLimits c → FourSections h c ls rest → IsInForm c
+in_form h c ls rest limits f =
+    let m : ℕ = h.max_var in
+    let is : AllByRecursion (IsVariableUpTo m) (map input_of f.inputs) = all_mapped (IsGoodRow input_form m) (IsVariableUpTo m) input_of (input_entry.up_to m) f.inputs f.fit_inputs.good in
+    let ls : AllByRecursion (IsLatchUpTo m) (map latch_of f.latches) = all_mapped (IsGoodRow latch_form m) (IsLatchUpTo m) latch_of (latch_entry.up_to m) f.latches f.fit_latches.good in
+    let os : AllByRecursion (IsLiteralUpTo m) (map output_of f.outputs) = all_mapped (IsGoodRow output_form m) (IsLiteralUpTo m) output_of (output_entry.up_to m) f.outputs f.fit_outputs.good in
+    let gs : AllByRecursion (IsGateUpTo m) (map gate_of f.gates) = all_mapped (IsGoodRow gate_form m) (IsGateUpTo m) gate_of (gate_entry.up_to m) f.gates f.fit_gates.good in
+    let d : Circuit = circuit_of m f.inputs f.latches f.outputs f.gates in
+    subst IsInForm f.circuit (record {
+      limits = subst IsWithinLimits (sym f.circuit) limits;
+      variables =
+          all_append (IsVariableUpTo m) (d.inputs ++ map (λ (l : Latch). l.var) d.latches) (map (λ (g : Gate). g.var) d.gates)
+          (all_append (IsVariableUpTo m) d.inputs (map (λ (l : Latch). l.var) d.latches) is
+          (all_mapped (IsLatchUpTo m) (IsVariableUpTo m) (λ (l : Latch). l.var) (λ l p. p.0) d.latches ls))
+          (all_mapped (IsGateUpTo m) (IsVariableUpTo m) (λ (g : Gate). g.var) (λ g p. p.0) d.gates gs);
+      literals =
+          all_append (IsLiteralUpTo m) (map (λ (l : Latch). l.next) d.latches ++ d.outputs) (flat_map operands d.gates)
+          (all_append (IsLiteralUpTo m) (map (λ (l : Latch). l.next) d.latches) d.outputs
+          (all_mapped (IsLatchUpTo m) (IsLiteralUpTo m) (λ (l : Latch). l.next) (λ l p. p.1) d.latches ls) os)
+          (all_flat (IsGateUpTo m) (IsLiteralUpTo m) operands (λ g p. (p.1, (p.2, tt))) d.gates gs);
+      symbols = record { positions = tt; apart = tt; lines = tt };
+    })
+
+-- the rows of a circuit in form are good
+all_left : {X : Type 0} (P : X → Type 0) (xs ys : List X) → AllByRecursion P (xs ++ ys) → AllByRecursion P xs
+all_left P [] ys h = tt
+all_left P (x ∷ xs) ys h = (h.0, all_left P xs ys h.1)
+
+all_right : {X : Type 0} (P : X → Type 0) (xs ys : List X) → AllByRecursion P (xs ++ ys) → AllByRecursion P ys
+all_right P [] ys h = h
+all_right P (x ∷ xs) ys h = all_right P xs ys h.1
+
+latches_up_to : (m : ℕ) (ls : List Latch) → AllByRecursion (IsVariableUpTo m) (map (λ (l : Latch). l.var) ls) → AllByRecursion (IsLiteralUpTo m) (map (λ (l : Latch). l.next) ls) → AllByRecursion (IsLatchUpTo m) ls
+latches_up_to m [] v n = tt
+latches_up_to m (l ∷ ls) v n = ((v.0, n.0), latches_up_to m ls v.1 n.1)
+
+gates_up_to : (m : ℕ) (gs : List Gate) → AllByRecursion (IsVariableUpTo m) (map (λ (g : Gate). g.var) gs) → AllByRecursion (IsLiteralUpTo m) (flat_map operands gs) → AllByRecursion (IsGateUpTo m) gs
+gates_up_to m [] v n = tt
+gates_up_to m (g ∷ gs) v n = ((v.0, n.0, n.1.0), gates_up_to m gs v.1 n.1.1)
+
+pub rows_good : (c : Circuit) → IsInForm c → (s : Section) → AllByRecursion (IsGoodRow (form_of s) c.max_var) (rows_in c s)
+rows_good c form Inputs =
+    all_mapped (IsVariableUpTo c.max_var) (IsGoodRow input_form c.max_var) input_row (input_entry.good c.max_var) c.inputs
+    (all_left (IsVariableUpTo c.max_var) c.inputs (map (λ (l : Latch). l.var) c.latches) (all_left (IsVariableUpTo c.max_var) (c.inputs ++ map (λ (l : Latch). l.var) c.latches) (map (λ (g : Gate). g.var) c.gates) form.variables))
+rows_good c form Latches =
+    all_mapped (IsLatchUpTo c.max_var) (IsGoodRow latch_form c.max_var) latch_row (latch_entry.good c.max_var) c.latches
+    (latches_up_to c.max_var c.latches
+    (all_right (IsVariableUpTo c.max_var) c.inputs (map (λ (l : Latch). l.var) c.latches) (all_left (IsVariableUpTo c.max_var) (c.inputs ++ map (λ (l : Latch). l.var) c.latches) (map (λ (g : Gate). g.var) c.gates) form.variables))
+    (all_left (IsLiteralUpTo c.max_var) (map (λ (l : Latch). l.next) c.latches) c.outputs (all_left (IsLiteralUpTo c.max_var) (map (λ (l : Latch). l.next) c.latches ++ c.outputs) (flat_map operands c.gates) form.literals)))
+rows_good c form Outputs =
+    all_mapped (IsLiteralUpTo c.max_var) (IsGoodRow output_form c.max_var) output_row (output_entry.good c.max_var) c.outputs
+    (all_right (IsLiteralUpTo c.max_var) (map (λ (l : Latch). l.next) c.latches) c.outputs (all_left (IsLiteralUpTo c.max_var) (map (λ (l : Latch). l.next) c.latches ++ c.outputs) (flat_map operands c.gates) form.literals))
+rows_good c form Gates =
+    all_mapped (IsGateUpTo c.max_var) (IsGoodRow gate_form c.max_var) gate_row (gate_entry.good c.max_var) c.gates
+    (gates_up_to c.max_var c.gates
+    (all_right (IsVariableUpTo c.max_var) (c.inputs ++ map (λ (l : Latch). l.var) c.latches) (map (λ (g : Gate). g.var) c.gates) form.variables)
+    (all_right (IsLiteralUpTo c.max_var) (map (λ (l : Latch). l.next) c.latches ++ c.outputs) (flat_map operands c.gates) form.literals))
+
+-- as many rows as the header tells
+counted : (c : Circuit) (s : Section) → length (rows_in c s) ≡ count_in (header_of_row (header_row c)) s
+counted c Inputs = length-map c.inputs input_row
+counted c Latches = length-map c.latches latch_row
+counted c Outputs = length-map c.outputs output_row
+counted c Gates = length-map c.gates gate_row
+
+-- two lists that go together, split where one is joined of two
+record ZipsTwo {A B : Type 0} (R : A → B → Type 0) (xs : List A) (ys zs : List B) : Type 0 where
+  pub first : List A
+  pub second : List A
+  pub are : xs ≡ first ++ second
+  pub first_zips : AllZip R first ys
+  pub second_zips : AllZip R second zs
+
+zips_split : {A B : Type 0} (R : A → B → Type 0) (xs : List A) (ys zs : List B) → AllZip R xs (ys ++ zs) → ZipsTwo R xs ys zs
+zips_split R xs [] zs h = record { first = []; second = xs; are = refl; first_zips = tt; second_zips = h }
+zips_split R [] (y ∷ ys) zs h = absurd h
+zips_split R (x ∷ xs) (y ∷ ys) zs h =
+    let t = zips_split R xs ys zs h.1 in
+    record { first = x ∷ t.first; second = t.second; are = ap (λ (l : List _). x ∷ l) t.are; first_zips = (h.0, t.first_zips); second_zips = t.second_zips }
+
+-- a circuit of all its parts
+abbrev whole : ℕ → List ℕ → List Latch → List ℕ → List Gate → List Symbol → Option (List ℕ) → Circuit
+whole m is ls os gs ss comment = record { max_var = m; inputs = is; latches = ls; outputs = os; gates = gs; symbols = ss; comment = comment }
+
+-- lines that hold the rows of a circuit are read as them
+module _ (c : Circuit) (form : IsInForm c) where
+  abbrev own_header : Header
+  own_header = header_of_row (header_row c)
+
+  abbrev rows_under_own : List Section → List Row
+  rows_under_own ss = flat_map (λ s. map (row (form_of s)) (rows_in c s)) ss
+
+  abbrev ReadsSections : List Section → Circuit → ℕ → List Line → List Line → Type 0
+  ReadsSections ss d n ls rest = (k : ℕ) × (sections_at own_header ss d n ls ≡ Ok (with_all ss (map (rows_in c) ss) d, k, rest))
+
+  one_is_read : (s : Section) (ss : List Section) (d : Circuit) (n k j : ℕ) (ls between rest : List Line) → rows_at (form_of s) c.max_var (count_in own_header s) n ls ≡ Ok (rows_in c s, k, between)
+      → sections_at own_header ss (with_rows s (rows_in c s) d) k between ≡ Ok (with_all ss (map (rows_in c) ss) (with_rows s (rows_in c s) d), j, rest)
+      → sections_at own_header (s ∷ ss) d n ls ≡ Ok (with_all (s ∷ ss) (map (rows_in c) (s ∷ ss)) d, j, rest)
+  unfolding sections_at
+  one_is_read s ss d n k j ls between rest r o = rw (r, o) refl
+
+  sections_are_told : (ss : List Section) (d : Circuit) (n : ℕ) (front rest : List Line) → AllZip IsRowLine front (rows_under_own ss) → ReadsSections ss d n (front ++ rest) rest
+  unfolding sections_at
+  sections_are_told [] d n [] rest h = (n, refl)
+  sections_are_told [] d n (l ∷ ls) rest h = absurd h
+  sections_are_told (s ∷ ss) d n front rest h =
+      let z = zips_split IsRowLine front (map (row (form_of s)) (rows_in c s)) (rows_under_own ss) h in
+      let r = rows_are_told (form_of s) c.max_var n z.first (z.second ++ rest) (rows_in c s) z.first_zips (rows_good c form s) in
+      let o = sections_are_told ss (with_rows s (rows_in c s) d) r.0 z.second rest z.second_zips in
+      let lines : front ++ rest ≡ z.first ++ (z.second ++ rest) = ap (λ (ks : List Line). ks ++ rest) z.are ∙ append_assoc z.first z.second rest in
+      let here : rows_at (form_of s) c.max_var (count_in own_header s) n (front ++ rest) ≡ Ok (rows_in c s, r.0, z.second ++ rest) =
+      rw lines (subst (λ count. rows_at (form_of s) c.max_var count n (z.first ++ (z.second ++ rest)) ≡ Ok (rows_in c s, r.0, z.second ++ rest)) (counted c s) r.1) in
+      (o.0, one_is_read s ss d n r.0 o.0 (front ++ rest) (z.second ++ rest) rest here o.1)
+
+  -- the rows of the circuit tell the circuit
+  rows_tell : c.symbols ≡ [] → c.comment ≡ None → with_all sections (map (rows_in c) sections) (empty_circuit c.max_var) ≡ c
+  rows_tell symbols comment =
+      let i = all_again input_row input_of input_entry.again c.inputs in
+      let l = all_again latch_row latch_of latch_entry.again c.latches in
+      let o = all_again output_row output_of output_entry.again c.outputs in
+      let g = all_again gate_row gate_of gate_entry.again c.gates in
+      let t : whole c.max_var (map input_of (map input_row c.inputs)) (map latch_of (map latch_row c.latches)) (map output_of (map output_row c.outputs)) (map gate_of (map gate_row c.gates)) [] None
+      ≡ whole c.max_var c.inputs c.latches c.outputs c.gates c.symbols c.comment = cc in
+      t
+
+  pub sections_are_read : (n : ℕ) (front rest : List Line) → c.symbols ≡ [] → c.comment ≡ None → AllZip IsRowLine front (rows_of c) → (k : ℕ) × (sections_at own_header sections (empty_circuit c.max_var) n (front ++ rest) ≡ Ok (c, k, rest))
+  sections_are_read n front rest symbols comment h =
+      let t = sections_are_told sections (empty_circuit c.max_var) n front rest h in
+      (t.0, t.1 ∙ ap (λ (d : Circuit). Ok (d, t.0, rest)) (rows_tell symbols comment))

@@ -1,0 +1,3 @@
+pub mod Cutting
+pub mod Rows
+pub mod Text

@@ -1,0 +1,88 @@
+-- Reading rows one after another, and sections one after another.
+use Rattle.std.proofs.Common.{◌≡◌, ◌+◌, ◌-◌, ◌<◌, ◌≤◌, ℕ, zero, suc, List, [], ◌∷◌, ◌++◌, map, drop, length, get_or, Result, Ok, Err, refl, sym, ap, subst, ◌∙◌, ◌⊎◌, inl, inr, append_assoc, append-nil, arith, add-one}
+use Rattle.std.proofs.Math.Seq.{drop-cons, drop-nil}
+use Rattle.aig_core.specs.declared.circuit.Circuit.{Circuit}
+use Rattle.aig_text.specs.declared.fault.ReadFault.{ReadFault}
+use Rattle.aig_text.specs.Lines.{Line}
+use Rattle.aig_text.specs.Rows.{Header, Form, Section, sections}
+use Rattle.aig_text.specs.Parts.Kept.{row_told, rows_told, GivesOrMemory}
+use Rattle.aig_text.specs.Reading.{◌>>=◌, Told, row_at, rows_at, section_at, sections_at, want_of_memory}
+
+-- what comes behind a row that is right
+abbrev with_first : {X : Type 0} → X → List X × ℕ × List Line → Told (List X)
+with_first x others = Ok (x ∷ others.0, others.1, others.2)
+
+told_first : {A : Type 0} (tell : List ℕ → A) (found : List A) (ns : List ℕ) (r : Told (List (List ℕ))) → rows_told tell (found ++ tell ns ∷ []) r ≡ rows_told tell found (◌>>=◌ {B = List (List ℕ) × ℕ × List Line} r (with_first ns))
+told_first tell found ns (Ok x) = ap (λ (xs : List _). Ok (xs, x.1, x.2)) (append_assoc found (tell ns ∷ []) (map tell x.0))
+told_first tell found ns (Err e) = refl
+
+module _ {A : Type 0} (tell : List ℕ → A) (form : Form) (m : ℕ) where
+  abbrev then_rows : ℕ → List ℕ × ℕ × List Line → Told (List (List ℕ))
+  then_rows count first = ◌>>=◌ {B = List (List ℕ) × ℕ × List Line} (rows_at form m count first.1 first.2) (with_first first.0)
+
+  right_row : (count n : ℕ) (after : List Line) (found : List A) (x : A) (r : Told (List ℕ)) → row_told tell r ≡ Ok (x, n, after)
+      → rows_told tell (found ++ x ∷ []) (rows_at form m count n after) ≡ rows_told tell found (r >>= then_rows count)
+  right_row count n after found x (Err e) h = cc
+  right_row count n after found x (Ok y) h =
+      let p : (tell y.0, y.1, y.2) ≡ (x, n, after) = cc in
+      subst (λ (q : A × ℕ × List Line). rows_told tell (found ++ q.0 ∷ []) (rows_at form m count q.1 q.2) ≡ rows_told tell found (then_rows count y)) p
+      (told_first tell found y.0 (rows_at form m count y.1 y.2))
+
+  wrong_row : (count : ℕ) (found : List A) (e : ReadFault) (r : Told (List ℕ)) → row_told tell r ≡ Err e → rows_told tell found (r >>= then_rows count) ≡ Err e
+  wrong_row count found e (Ok y) h = cc
+  wrong_row count found e (Err f) h = let same : f ≡ e = cc in ap (λ (g : ReadFault). Err g) same
+
+  -- one more row
+  pub rows_more : (i count n k : ℕ) (ls after : List Line) (found : List A) (x : A) → i < count → row_told tell (row_at form m n ls) ≡ Ok (x, k, after)
+      → rows_told tell (found ++ x ∷ []) (rows_at form m (count - (i + 1)) k after) ≡ rows_told tell found (rows_at form m (count - i) n ls)
+  unfolding rows_at
+  rows_more i count n k ls after found x l h =
+      let one : count - i ≡ suc (count - (i + 1)) = omega arith in
+      rw one (right_row (count - (i + 1)) k after found x (row_at form m n ls) h)
+
+  -- a row that is not right
+  pub rows_wrong : (i count n : ℕ) (ls : List Line) (found : List A) (e : ReadFault) (whole : Told (List A)) → i < count → row_told tell (row_at form m n ls) ≡ Err e
+      → rows_told tell found (rows_at form m (count - i) n ls) ≡ whole → whole ≡ Err e
+  unfolding rows_at
+  rows_wrong i count n ls found e whole l h w =
+      let one : count - i ≡ suc (count - (i + 1)) = omega arith in
+      sym w ∙ rw one (wrong_row (count - (i + 1)) found e (row_at form m n ls) h)
+
+  -- no row is left
+  pub rows_done : (i count n : ℕ) (ls : List Line) (found : List A) (whole : Told (List A)) → count ≤ i → rows_told tell found (rows_at form m (count - i) n ls) ≡ whole → whole ≡ Ok (found, n, ls)
+  unfolding rows_at
+  rows_done i count n ls found whole l w =
+      let none : count - i ≡ 0 = omega arith in
+      sym w ∙ rw none (ap (λ (xs : List A). Ok (xs, n, ls)) (append-nil found))
+
+rest_none : {X : Type 0} (xs : List X) (i : ℕ) → length xs ≤ i → drop i xs ≡ []
+rest_none [] i l = drop-nil i
+rest_none (x ∷ xs) zero l = absurd (omega arith)
+rest_none (x ∷ xs) (suc i) l = rest_none xs i (omega arith)
+
+-- one more section
+abbrev pub left_from : ℕ → List Section
+left_from i = drop i sections
+
+module _ (h : Header) where
+  then_sections : List Section → Circuit × ℕ × List Line → Told Circuit
+  then_sections ss told = sections_at h ss told.0 told.1 told.2
+
+  next_section : (i : ℕ) (d : Section) (c : Circuit) (n : ℕ) (ls : List Line) → i < length sections
+      → sections_at h (left_from i) c n ls ≡ section_at h (get_or sections i d) c n ls >>= then_sections (left_from (i + 1))
+  unfolding sections_at then_sections
+  next_section i d c n ls l = rw (add-one, drop-cons sections i d l) refl
+
+  pub sections_more : (i : ℕ) (s : Section) (c d : Circuit) (n k : ℕ) (ls after : List Line) → i < length sections → section_at h (get_or sections i s) c n ls ≡ Ok (d, k, after)
+      → sections_at h (left_from (i + 1)) d k after ≡ sections_at h (left_from i) c n ls
+  unfolding then_sections
+  sections_more i s c d n k ls after l r = sym (next_section i s c n ls l ∙ rw r refl)
+
+  pub sections_wrong : (i : ℕ) (s : Section) (c : Circuit) (n : ℕ) (ls : List Line) (e : ReadFault) (whole : Told Circuit) → i < length sections
+      → (e ≡ want_of_memory) ⊎ (section_at h (get_or sections i s) c n ls ≡ Err e) → sections_at h (left_from i) c n ls ≡ whole → (e ≡ want_of_memory) ⊎ (whole ≡ Err e)
+  sections_wrong i s c n ls e whole l (inl m) w = inl m
+  sections_wrong i s c n ls e whole l (inr r) w = inr (sym w ∙ next_section i s c n ls l ∙ rw r refl)
+
+  pub sections_done : (i : ℕ) (c : Circuit) (n : ℕ) (ls : List Line) (whole : Told Circuit) → length sections ≤ i → sections_at h (left_from i) c n ls ≡ whole → whole ≡ Ok (c, n, ls)
+  unfolding sections_at
+  sections_done i c n ls whole l w = let none : left_from i ≡ [] = rest_none sections i l in sym w ∙ rw none refl

@@ -1,0 +1,40 @@
+-- What an error of a tool puts at fault.
+use Rattle.std.specs.Prelude.{ℕ, Option, None, Some}
+use Rattle.aig_text.specs.declared.fault.ReadFault.{ReadFault}
+use Rattle.aig_text.specs.declared.fault.ReadKind.{ReadKind}
+use Rattle.aig_text.specs.declared.fault.ReadKind.TheVariants as kinds
+use Rattle.aig_tools.specs.declared.fault.ToolFault.{ToolFault}
+use Rattle.aig_tools.specs.declared.fault.ToolFault.TheVariants.{Read, Source, Sink, OutOfMemory}
+
+-- the device that failed, memory that was refused, or else what the source gave
+pub data Party : Type 0 where
+  TheSource : Party
+  TheSink : Party
+  Memory : Party
+  TheInput : Party
+
+-- where this is wrong with a text
+abbrev pub blamed : ReadKind → Party
+blamed kinds.OutOfMemory = Memory
+blamed _ = TheInput
+
+-- want of memory while a text is judged is told as a fault of the text
+abbrev pub at_fault : ToolFault → Party
+at_fault (Read fault) = blamed fault.kind
+at_fault Source = TheSource
+at_fault Sink = TheSink
+at_fault OutOfMemory = Memory
+
+-- what is wrong with a text, where that is what is told
+abbrev pub text_fault : ToolFault → Option ReadFault
+text_fault (Read fault) = Some fault
+text_fault _ = None
+
+-- how many failures of its source a run with this at fault has seen, and how many of its sink
+abbrev pub source_failures : Party → ℕ
+source_failures TheSource = 1
+source_failures _ = 0
+
+abbrev pub sink_failures : Party → ℕ
+sink_failures TheSink = 1
+sink_failures _ = 0

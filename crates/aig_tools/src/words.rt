@@ -1,0 +1,44 @@
+//! What the words of the command line ask for.
+ghost use Rattle.std.specs.Prelude.{◌≡◌, IfSome};
+ghost use Rattle.aig_tools.specs.SoFar.{CanDo};
+ghost use Rattle.aig_tools.specs.Words.{ascii_conversion, conversion_of, request_of, texts};
+
+use crate::request::{Request, ToAig};
+use aig_text::Limits;
+
+/// The conversion that `aigtoaig --ascii` asks for.
+fn ascii_request() -> ToAig
+    ensures { result ≡ ascii_conversion }
+{
+    ToAig {
+        ascii: true,
+        strip: false,
+        keep_map: false,
+        undo_map: false,
+        max_var: Limits::default().max_var,
+        source: None,
+        destination: None,
+    }
+}
+
+/// What the words after `aigtoaig` ask for.
+fn conversion_of(options: &[String]) -> Option<Request>
+    ensures value { result ≡ conversion_of (texts options.now) }
+    ensures can_do { IfSome result CanDo }
+{
+    match options {
+        [option] if option.as_str() == "--ascii" => Some(Request::ToAig(ascii_request())),
+        _ => None,
+    }
+}
+
+/// What the words ask for, the program's name first, where the program knows it.
+pub(crate) fn parse(words: &[String]) -> Option<Request>
+    ensures value { result ≡ request_of (texts words.now) }
+    ensures can_do { IfSome result CanDo }
+{
+    match words {
+        [_, tool, options @ ..] if tool.as_str() == "aigtoaig" => conversion_of(options),
+        _ => None,
+    }
+}
