@@ -11,7 +11,7 @@ use crate::transfer::send_all;
 use std::fmt;
 use std::marker::Model;
 
-/// How many bytes a block holds.
+/// How many bytes a block holds at most, and so how many it hands to its sink in one slice.
 pub const ROOM: usize = 8192;
 
 /// Bytes on their way to a sink. A block keeps in mind that its sink failed: what it holds then, and what is put later,

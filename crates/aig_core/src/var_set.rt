@@ -35,7 +35,8 @@ impl Model for VarSet {
 }
 
 impl VarSet {
-    /// An empty set that is fast for about so many variables, of indices up to the largest one.
+    /// An empty set that is fast for about so many variables, of indices up to the largest one. Its memory grows with
+    /// their number, and not with the largest index.
     pub(crate) fn new(alloc: Global, expected: usize, largest: u32) -> Result<Self, AllocError>
         ensures { IfOk result (λ variables. variables ≡ set.empty) }
     {
@@ -52,6 +53,7 @@ impl VarSet {
         })
     }
 
+    /// Whether it has the variable.
     #[tactic(auto, using(crate::proofs::Sets::set_has))]
     #[inline(always)]
     pub(crate) fn contains(&self, var: Var) -> bool

@@ -61,6 +61,7 @@ impl Spread {
         })
     }
 
+    /// Whether it has the variable.
     #[tactic(auto, using(crate::proofs::Sets::set_has))]
     #[inline(never)]
     pub(super) fn contains(&self, var: Var) -> bool
