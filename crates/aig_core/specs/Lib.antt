@@ -7,6 +7,7 @@ pub mod Laws
 pub mod Marks
 pub mod Transfer
 pub mod Output
+pub mod Digits
 pub mod Failures
 pub mod Memory
 pub mod Streams
