@@ -74,7 +74,7 @@ fn put_more_numbers<W: Sink>(block: &mut Block, sink: &mut W, numbers: &[u64])
 }
 
 /// A numbered line with few numbers: room is made for all of it, and then it is filled in.
-#[inline]
+#[inline(always)]
 fn put_row<W: Sink>(block: &mut Block, sink: &mut W, first: u64, others: &[u64])
     requires countable { CanFail (out (W.taken sink.old) (W.longest sink.old) (W.failed sink.old) block.old) }
     requires few { length others.now ≤ FEW }
@@ -87,7 +87,7 @@ fn put_row<W: Sink>(block: &mut Block, sink: &mut W, first: u64, others: &[u64])
 }
 
 /// Puts a numbered line into a block: its first number and the others.
-#[inline]
+#[inline(always)]
 pub fn put_numbers<W: Sink>(block: &mut Block, sink: &mut W, first: u64, others: &[u64])
     requires { CanFail (out (W.taken sink.old) (W.longest sink.old) (W.failed sink.old) block.old) }
     ensures { Put (out (W.taken sink.old) (W.longest sink.old) (W.failed sink.old) block.old)
@@ -129,7 +129,7 @@ trait NumberedLine {
 impl NumberedLine for Var {
     ghost line_numbers = { input_row };
 
-    #[inline]
+    #[inline(always)]
     fn put_line<W: Sink>(&self, block: &mut Block, sink: &mut W) {
         put_numbers(block, sink, 2 * u64::from(self.0), &[]);
     }
@@ -138,7 +138,7 @@ impl NumberedLine for Var {
 impl NumberedLine for Latch {
     ghost line_numbers = { latch_row };
 
-    #[inline]
+    #[inline(always)]
     fn put_line<W: Sink>(&self, block: &mut Block, sink: &mut W) {
         put_numbers(
             block,
@@ -152,7 +152,7 @@ impl NumberedLine for Latch {
 impl NumberedLine for Lit {
     ghost line_numbers = { output_row };
 
-    #[inline]
+    #[inline(always)]
     fn put_line<W: Sink>(&self, block: &mut Block, sink: &mut W) {
         put_numbers(block, sink, u64::from(self.0), &[]);
     }
@@ -161,7 +161,7 @@ impl NumberedLine for Lit {
 impl NumberedLine for Gate {
     ghost line_numbers = { gate_row };
 
-    #[inline]
+    #[inline(always)]
     fn put_line<W: Sink>(&self, block: &mut Block, sink: &mut W) {
         let operands = [u64::from(self.left.0), u64::from(self.right.0)];
         put_numbers(block, sink, 2 * u64::from(self.var.0), &operands);
