@@ -86,7 +86,7 @@ fn put_row<W: Sink>(block: &mut Block, sink: &mut W, first: u64, others: &[u64])
     block.fill_row(first, others);
 }
 
-/// Puts a numbered line into a block: its first number and the others.
+/// A numbered line: its first number and the others.
 #[inline]
 pub fn put_numbers<W: Sink>(block: &mut Block, sink: &mut W, first: u64, others: &[u64])
     requires { CanFail (out (W.taken sink.old) (W.longest sink.old) (W.failed sink.old) block.old) }
@@ -102,7 +102,7 @@ pub fn put_numbers<W: Sink>(block: &mut Block, sink: &mut W, first: u64, others:
     }
 }
 
-/// Puts the header line into a block: its word and its numbers.
+/// The header line: its word and its numbers.
 pub fn put_header<W: Sink>(block: &mut Block, sink: &mut W, word: &[u8], numbers: &[u64])
     requires { CanFail (out (W.taken sink.old) (W.longest sink.old) (W.failed sink.old) block.old) }
     ensures { Put (out (W.taken sink.old) (W.longest sink.old) (W.failed sink.old) block.old)
@@ -240,7 +240,7 @@ fn put_comment<W: Sink>(block: &mut Block, sink: &mut W, comment: &Option<Listin
     }
 }
 
-/// Puts what follows the gates into a block: the symbols, and the comment section where there is one.
+/// What follows the gates: the symbols, and the comment section where there is one.
 pub fn put_tail<W: Sink>(block: &mut Block, sink: &mut W, circuit: &Circuit)
     requires { CanFail (out (W.taken sink.old) (W.longest sink.old) (W.failed sink.old) block.old) }
     ensures { Put (out (W.taken sink.old) (W.longest sink.old) (W.failed sink.old) block.old)
