@@ -3,6 +3,8 @@ pub mod Members
 pub mod Told
 pub mod InForm
 pub mod DigitCounts
+pub mod DigitWords
+pub mod LeadingDigits
 pub mod Outgoing
 pub mod Puts
 pub mod Sections

@@ -6,6 +6,7 @@ pub mod Fault
 pub mod Laws
 pub mod Transfer
 pub mod Output
+pub mod Digits
 pub mod Failures
 pub mod Memory
 pub mod Streams

@@ -70,11 +70,14 @@ abbrev pub NameApart : List Symbol → Type 0
 NameApart [] = Unit {0}
 NameApart (s ∷ ss) = AllByRecursion (λ t. ¬ NameTheSame s t) ss × NameApart ss
 
+abbrev pub line_feed : ℕ
+line_feed = 10
+
 -- each symbol names something that is there, in one line, and nothing is named twice
 pub record HasGoodSymbols (c : Circuit) : Type 0 where
   pub positions : AllByRecursion (λ (s : Symbol). s.position < count_of c s.kind) c.symbols
   pub apart : NameApart c.symbols
-  pub lines : AllByRecursion (λ (s : Symbol). ¬ IsAmong 10 s.name) c.symbols
+  pub lines : AllByRecursion (λ (s : Symbol). ¬ IsAmong line_feed s.name) c.symbols
 
 pub record IsWellFormed (c : Circuit) : Type 0 where
   pub limits : IsWithinLimits c

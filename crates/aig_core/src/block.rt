@@ -11,7 +11,7 @@ use crate::transfer::send_all;
 use std::fmt;
 use std::marker::Model;
 
-/// How many bytes a block holds.
+/// How many bytes a block holds at most, and so how many it hands to its sink in one slice.
 pub const ROOM: usize = 8192;
 
 /// Bytes on their way to a sink. A block keeps in mind that its sink failed: what it holds then, and what is put later,
@@ -56,6 +56,7 @@ impl Block {
     }
 
     /// Sends what is held, unless the sink failed before.
+    #[inline(never)]
     fn send_held<W: Sink>(&mut self, sink: &mut W)
         requires { CanFail (out (W.taken sink.old) (W.longest sink.old) (W.failed sink.old) self.old) }
         ensures put { Put (out (W.taken sink.old) (W.longest sink.old) (W.failed sink.old) self.old)
@@ -85,7 +86,7 @@ impl Block {
     }
 
     /// Sends what is held where fewer bytes than these fit.
-    #[inline]
+    #[inline(always)]
     pub fn make_room<W: Sink>(&mut self, sink: &mut W, room: usize)
         requires countable { CanFail (out (W.taken sink.old) (W.longest sink.old) (W.failed sink.old) self.old) }
         requires fits { room ≤ ROOM }
@@ -119,7 +120,7 @@ impl Block {
     }
 
     /// Takes a line of numbers with a space between them, where there is room for it.
-    #[inline]
+    #[inline(always)]
     pub fn fill_row(&mut self, first: u64, others: &[u64])
         requires { length self.old.bytes + (length others.now + 1) * (MOST_DIGITS + 1) ≤ ROOM }
         ensures { self.new ≡ record self.old { bytes = self.old.bytes ++ row_text first others.now } }

@@ -48,7 +48,8 @@ impl Checked {
     }
 }
 
-/// Checks a circuit in form, so far without gates, and hands it back with its first fault where it is not well formed.
+/// Checks a circuit in form, so far without gates. Where it is not well formed, it is handed back with its first fault;
+/// where memory is refused, with that.
 pub fn check(alloc: Global, circuit: Circuit) -> Result<Checked, (Circuit, CheckFault)>
     requires in_form { IsInForm circuit }
     requires no_gates { circuit.gates ≡ [] }

@@ -2,7 +2,7 @@
 ghost use Rattle.std.specs.Prelude.{◌≡◌, ◌↔◌, ◌^◌, ◌<◌, ◌≤◌, length, map, IsTrue};
 ghost use Rattle.std.specs.List.{All};
 ghost use Rattle.aig_core.specs.Wellformed.{IsWithinLimits, IsVariableUpTo, count_of};
-ghost use Rattle.aig_core.specs.Wellformed.{HasGoodSymbols, NameApart, NameTheSame, IsAmong};
+ghost use Rattle.aig_core.specs.Wellformed.{HasGoodSymbols, NameApart, NameTheSame, IsAmong, line_feed};
 ghost use Rattle.aig_core.specs.Form.{IsInForm, HasEntriesInRange, AreInRange, IsLiteralUpTo};
 ghost use Rattle.aig_core.specs.Parts.SymbolOrder.{place_of, IsRisingFrom};
 
@@ -53,7 +53,7 @@ fn are_in_range<T: Entry>(max_var: u32, entries: &Listing<T>) -> bool
 
 /// Whether a name stands in one line.
 fn is_one_line(name: &[u8]) -> bool
-    ensures { IsTrue result ↔ ¬ IsAmong 10 name.now }
+    ensures { IsTrue result ↔ ¬ IsAmong line_feed name.now }
 {
     !name.contains(&b'\n')
 }
@@ -169,7 +169,7 @@ impl Circuit {
 
     /// Whether each symbol's name stands in one line.
     fn has_lines(&self) -> bool
-        ensures { IsTrue result ↔ All (λ (s : Symbol). ¬ IsAmong 10 s.name) self.now.symbols }
+        ensures { IsTrue result ↔ All (λ (s : Symbol). ¬ IsAmong line_feed s.name) self.now.symbols }
     {
         self.symbols
             .as_slice()

@@ -1,4 +1,4 @@
-//! Variables and literals.
+//! Variables and literals (AIGER report).
 ghost use Rattle.std.specs.Prelude.{◌≡◌, ◌↔◌, IsTrue};
 ghost use Rattle.aig_core.specs.Literal.{variable_of, IsNegated, negation_of};
 

@@ -104,7 +104,7 @@ impl Source for MemorySource {
 }
 
 /// A sink that keeps what it took. It has room for so many bytes, and takes at most `piece` in each call. One call
-/// may be chosen to fail.
+/// may be chosen to fail, and where no room is left each call fails.
 #[derive(Drop)]
 pub struct MemorySink {
     taken: Vec<u8>,
@@ -134,8 +134,8 @@ impl Model for MemorySink {
 }
 
 impl MemorySink {
-    /// A sink that reserves its room now and never grows. The call numbered `fails_at` fails, counted from 1; with 0
-    /// no call is chosen.
+    /// A sink that reserves its room here, unless memory is refused, and never grows. The call numbered `fails_at`
+    /// fails, counted from 1; with 0 no call is chosen.
     pub fn new(alloc: Global, room: usize, piece: usize, fails_at: u64) -> Result<Self, AllocError>
         requires { 0 < piece }
         ensures { IfOk result (λ s. s ≡ new_sink room piece fails_at) }
@@ -157,7 +157,7 @@ impl MemorySink {
         self.taken.as_slice()
     }
 
-    /// How long the longest slice was that it was handed.
+    /// How many bytes the longest slice had that it was handed.
     pub fn longest(&self) -> usize
         ensures { result ≡ self.now.longest }
     {

@@ -37,7 +37,7 @@ impl From<AllocError> for ReadError {
     }
 }
 
-/// All bytes that the source still gives. On an error some of them may be gone.
+/// All bytes that the source still gives, unless it fails or memory is refused. On an error some of them may be gone.
 pub fn read_all<R: Source>(alloc: Global, source: &mut R) -> Result<Vec<u8>, ReadError>
     requires { R.failed source.old < 2 ^ 64 - 1 }
     ensures ok { IfOk result (λ all. GaveAll (R.coming source.old) (R.coming source.new) all.items) }

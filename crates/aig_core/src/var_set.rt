@@ -21,7 +21,7 @@ const BITS_PER_VARIABLE: usize = 4;
 /// A set of variables. Where the largest index is not far above their number, which is most often, each index has its
 /// bit. Otherwise few variables of large indices take little memory.
 #[derive(Drop)]
-pub struct VarSet {
+pub(crate) struct VarSet {
     bits: Bits,
     spread: Spread,
 }
@@ -35,8 +35,9 @@ impl Model for VarSet {
 }
 
 impl VarSet {
-    /// An empty set that is fast for about so many variables, of indices up to the largest one.
-    pub fn new(alloc: Global, expected: usize, largest: u32) -> Result<Self, AllocError>
+    /// An empty set that is fast for about so many variables, of indices up to the largest one. Its memory grows with
+    /// their number, and not with the largest index.
+    pub(crate) fn new(alloc: Global, expected: usize, largest: u32) -> Result<Self, AllocError>
         ensures { IfOk result (λ variables. variables ≡ set.empty) }
     {
         let largest = largest as usize;
@@ -52,9 +53,10 @@ impl VarSet {
         })
     }
 
+    /// Whether it has the variable.
     #[tactic(auto, using(crate::proofs::Sets::set_has))]
     #[inline(always)]
-    pub fn contains(&self, var: Var) -> bool
+    pub(crate) fn contains(&self, var: Var) -> bool
         ensures { result ≡ set.contains self.now var }
     {
         let index = var.0 as usize;
@@ -68,7 +70,7 @@ impl VarSet {
     /// Adds a variable, and answers whether it is new.
     #[tactic(auto, using(crate::proofs::Sets::set_has))]
     #[inline(always)]
-    pub fn insert(&mut self, var: Var) -> Result<bool, AllocError>
+    pub(crate) fn insert(&mut self, var: Var) -> Result<bool, AllocError>
         ensures added { IfOk result (λ added. added ≡ not (set.contains self.old var)) }
         ensures ok { OnOk result (self.new ≡ set.insert self.old var) }
         ensures err { OnErr result (self.new ≡ self.old) }

@@ -22,7 +22,7 @@ aag 5 0 0 0 0\n:no;\
 aag 4 0 0 5 0\n0\n0\n0\n0\n0\n:no";
 
 /// The circuit of a text.
-pub fn circuit_of(alloc: Global, text: &str) -> Result<Circuit, Fail> {
+pub(crate) fn circuit_of(alloc: Global, text: &str) -> Result<Circuit, Fail> {
     Ok(read_ascii(alloc, text.as_bytes(), Limits::default())?.into_circuit())
 }
 

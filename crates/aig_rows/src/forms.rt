@@ -43,7 +43,7 @@ o0 a\nb:no;\
 i0 a,l0 a,o0 \n:no";
 
 /// The numbers of a row.
-pub fn numbers_of(alloc: Global, row: &str) -> Result<Vec<u32>, Fail> {
+pub(crate) fn numbers_of(alloc: Global, row: &str) -> Result<Vec<u32>, Fail> {
     let mut numbers = Vec::new(alloc);
     for word in row.split(' ') {
         numbers.push(word.parse::<u32>()?)?;
@@ -99,7 +99,7 @@ fn symbol_of(alloc: Global, text: &[u8]) -> Result<Symbol, Fail> {
 }
 
 /// The symbols of a text, with commas between them.
-pub fn symbols_of(alloc: Global, text: &str) -> Result<Listing<Symbol>, Fail> {
+pub(crate) fn symbols_of(alloc: Global, text: &str) -> Result<Listing<Symbol>, Fail> {
     let mut symbols = Listing::new(alloc);
     for symbol in text.split(',') {
         symbols.push(symbol_of(alloc, symbol.as_bytes())?)?;

@@ -8,7 +8,7 @@ use std::test::Fail;
 
 /// How the devices behave: how many bytes they move in a call, and which call fails, counted from 0.
 #[derive(Clone, Copy)]
-pub struct Behaviour {
+pub(crate) struct Behaviour {
     pub piece: usize,
     pub failing_read: u64,
     pub failing_write: u64,
@@ -16,7 +16,7 @@ pub struct Behaviour {
 
 impl Behaviour {
     /// No call fails.
-    pub fn pieces_of(piece: usize) -> Self {
+    pub(crate) fn pieces_of(piece: usize) -> Self {
         Behaviour {
             piece,
             failing_read: NEVER,
@@ -27,7 +27,7 @@ impl Behaviour {
 
 /// What came of a run.
 #[derive(Drop)]
-pub struct Outcome {
+pub(crate) struct Outcome {
     pub status: u8,
     pub reads: u64,
     pub output: OnceWriter,
@@ -36,7 +36,7 @@ pub struct Outcome {
 
 impl Outcome {
     /// Whether this is the status, and this was told.
-    pub fn told(&self, status: u8, errors: &str) -> bool {
+    pub(crate) fn told(&self, status: u8, errors: &str) -> bool {
         self.status == status && self.errors.taken() == errors.as_bytes()
     }
 }
@@ -51,7 +51,7 @@ fn words(alloc: Global) -> Result<Vec<String>, AllocError> {
 }
 
 /// Converts a text to ASCII.
-pub fn convert<R: Files + AllocGlobal>(
+pub(crate) fn convert<R: Files + AllocGlobal>(
     rt: &R,
     text: &[u8],
     behaviour: Behaviour,

@@ -6,7 +6,7 @@ use std::io::{ErrorKind, Read, Write};
 use std::test::Fail;
 
 /// The number of no call.
-pub const NEVER: u64 = u64::MAX;
+pub(crate) const NEVER: u64 = u64::MAX;
 
 /// The error after which std's own loops call once more.
 fn interruption() -> io::Error {
@@ -15,7 +15,7 @@ fn interruption() -> io::Error {
 
 /// Gives these bytes, at most `piece` in a call. The call numbered `failing`, counted from 0, fails, and no other does.
 #[derive(Drop)]
-pub struct OnceReader<'a> {
+pub(crate) struct OnceReader<'a> {
     pub left: &'a [u8],
     pub piece: usize,
     pub failing: u64,
@@ -37,7 +37,7 @@ impl<'a> Read for OnceReader<'a> {
 /// Takes at most `piece` bytes in a call, and keeps how long the longest slice was that it was handed. The call
 /// numbered `failing`, counted from 0, fails, and no other does.
 #[derive(Drop)]
-pub struct OnceWriter {
+pub(crate) struct OnceWriter {
     pub taken: Vec<u8>,
     pub piece: usize,
     pub failing: u64,
@@ -46,7 +46,7 @@ pub struct OnceWriter {
 }
 
 impl OnceWriter {
-    pub fn new(alloc: Global, piece: usize, failing: u64) -> Self {
+    pub(crate) fn new(alloc: Global, piece: usize, failing: u64) -> Self {
         OnceWriter {
             taken: Vec::new(alloc),
             piece,

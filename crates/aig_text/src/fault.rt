@@ -1,4 +1,4 @@
-//! Why a text is refused, and where.
+//! Why a text is refused, and where (this project's profile).
 ghost use Rattle.std.specs.Prelude.{◌≡◌};
 ghost use Rattle.aig_text.specs.Reading.{want_of_memory};
 
@@ -75,11 +75,13 @@ pub enum ReadKind {
     OutOfMemory,
 }
 
-/// The first fault of a text.
+/// The first fault of a text, or want of memory.
 #[derive(Clone, Copy, Debug, PartialEq, Eq, Error)]
 #[error("{place}{kind}")]
 pub struct ReadFault {
+    /// Where it is.
     pub place: Place,
+    /// What it is.
     pub kind: ReadKind,
 }
 

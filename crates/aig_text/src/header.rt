@@ -15,13 +15,18 @@ use aig_core::LARGEST;
 /// The first word of an ASCII file.
 pub(crate) const ASCII_WORD: &[u8] = b"aag";
 
-/// What a header tells: the largest variable index and the counts.
+/// What a header tells (AIGER report): the largest variable index and the counts.
 #[derive(Clone, Copy, Debug, PartialEq, Eq)]
 pub struct Header {
+    /// The largest variable index.
     pub max_var: u32,
+    /// How many inputs the file lists.
     pub inputs: u32,
+    /// How many latches.
     pub latches: u32,
+    /// How many outputs.
     pub outputs: u32,
+    /// How many AND gates.
     pub gates: u32,
 }
 

@@ -1,4 +1,4 @@
-//! What a reader accepts at most.
+//! What a reader accepts at most (this project's profile).
 ghost use Rattle.std.specs.Prelude.{◌≡◌};
 ghost use Rattle.aig_core.specs.declared.circuit.TheConstants.{LARGEST as largest_index};
 
@@ -7,6 +7,7 @@ use aig_core::LARGEST;
 /// How large the largest variable index and each count of a file may be.
 #[derive(Clone, Copy, Debug, PartialEq, Eq)]
 pub struct Limits {
+    /// None of them is above this, nor above the largest index that a circuit may have.
     pub max_var: u32,
 }
 

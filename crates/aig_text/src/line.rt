@@ -7,6 +7,7 @@ use memchr::memchr;
 /// A line without its line feed.
 #[derive(Clone, Copy)]
 pub(crate) struct Line<'a> {
+    /// Its bytes.
     pub text: &'a [u8],
     /// Whether a line feed follows; only the last line of a text may lack it.
     pub ended: bool,

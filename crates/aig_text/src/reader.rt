@@ -85,7 +85,8 @@ fn kind_of_fault(fault: CheckFault) -> ReadKind
     }
 }
 
-/// The circuit whose file a text is, or the first fault of the text.
+/// The circuit whose file a text is, within these limits, or the first fault of the text. Where memory is refused, that
+/// is told in place of either.
 pub fn read_ascii(alloc: Global, bytes: &[u8], limits: Limits) -> Result<Checked, ReadFault>
     ensures ok { IfOk result (λ c. IsAsciiText bytes.now limits.max_var c) }
     ensures only { (c : CircuitRecord) → IsAsciiText bytes.now limits.max_var c

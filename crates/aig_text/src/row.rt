@@ -222,6 +222,7 @@ impl Row for Var {
 
     #[inline(always)]
     fn read_row(at: &mut Cursor, max_var: u32) -> Result<Var, ReadFault> {
+        // For a `?` here, and in the rows below, the kit's borrow checker makes no proof.
         match next_row::<0>(Role::Definition, [], 0, at, max_var) {
             Ok(found) => Ok(Var((found.0 / 2) as u32)),
             Err(fault) => Err(fault),

@@ -15,9 +15,13 @@ use aig_core::{Circuit, Listing};
 /// What a file lists.
 #[derive(Clone, Copy)]
 pub(crate) enum Section {
+    /// The variable of each input.
     Inputs,
+    /// The variable and the next state of each latch.
     Latches,
+    /// The literal of each output.
     Outputs,
+    /// The variable and the operands of each gate.
     Gates,
 }
 
@@ -78,6 +82,7 @@ pub(crate) fn read_sections(
         (sections_at header.now sections circuit.old at.old.number (lines_of at.old.rest.now)) }
 {
     for section in SECTIONS {
+        // For a `?` here the kit's borrow checker makes no proof.
         if let Err(fault) = read_section(section, header, circuit, at) {
             return Err(fault);
         }

@@ -74,7 +74,7 @@ fn put_more_numbers<W: Sink>(block: &mut Block, sink: &mut W, numbers: &[u64])
 }
 
 /// A numbered line with few numbers: room is made for all of it, and then it is filled in.
-#[inline]
+#[inline(always)]
 fn put_row<W: Sink>(block: &mut Block, sink: &mut W, first: u64, others: &[u64])
     requires countable { CanFail (out (W.taken sink.old) (W.longest sink.old) (W.failed sink.old) block.old) }
     requires few { length others.now ≤ FEW }
@@ -86,8 +86,8 @@ fn put_row<W: Sink>(block: &mut Block, sink: &mut W, first: u64, others: &[u64])
     block.fill_row(first, others);
 }
 
-/// A numbered line: its first number and the others.
-#[inline]
+/// Puts a numbered line into a block: its first number and the others.
+#[inline(always)]
 pub fn put_numbers<W: Sink>(block: &mut Block, sink: &mut W, first: u64, others: &[u64])
     requires { CanFail (out (W.taken sink.old) (W.longest sink.old) (W.failed sink.old) block.old) }
     ensures { Put (out (W.taken sink.old) (W.longest sink.old) (W.failed sink.old) block.old)
@@ -102,7 +102,7 @@ pub fn put_numbers<W: Sink>(block: &mut Block, sink: &mut W, first: u64, others:
     }
 }
 
-/// The header line: its word and its numbers.
+/// Puts the header line into a block: its word and its numbers.
 pub fn put_header<W: Sink>(block: &mut Block, sink: &mut W, word: &[u8], numbers: &[u64])
     requires { CanFail (out (W.taken sink.old) (W.longest sink.old) (W.failed sink.old) block.old) }
     ensures { Put (out (W.taken sink.old) (W.longest sink.old) (W.failed sink.old) block.old)
@@ -129,7 +129,7 @@ trait NumberedLine {
 impl NumberedLine for Var {
     ghost line_numbers = { input_row };
 
-    #[inline]
+    #[inline(always)]
     fn put_line<W: Sink>(&self, block: &mut Block, sink: &mut W) {
         put_numbers(block, sink, 2 * u64::from(self.0), &[]);
     }
@@ -138,7 +138,7 @@ impl NumberedLine for Var {
 impl NumberedLine for Latch {
     ghost line_numbers = { latch_row };
 
-    #[inline]
+    #[inline(always)]
     fn put_line<W: Sink>(&self, block: &mut Block, sink: &mut W) {
         put_numbers(
             block,
@@ -152,7 +152,7 @@ impl NumberedLine for Latch {
 impl NumberedLine for Lit {
     ghost line_numbers = { output_row };
 
-    #[inline]
+    #[inline(always)]
     fn put_line<W: Sink>(&self, block: &mut Block, sink: &mut W) {
         put_numbers(block, sink, u64::from(self.0), &[]);
     }
@@ -161,7 +161,7 @@ impl NumberedLine for Lit {
 impl NumberedLine for Gate {
     ghost line_numbers = { gate_row };
 
-    #[inline]
+    #[inline(always)]
     fn put_line<W: Sink>(&self, block: &mut Block, sink: &mut W) {
         let operands = [u64::from(self.left.0), u64::from(self.right.0)];
         put_numbers(block, sink, 2 * u64::from(self.var.0), &operands);
@@ -240,7 +240,7 @@ fn put_comment<W: Sink>(block: &mut Block, sink: &mut W, comment: &Option<Listin
     }
 }
 
-/// What follows the gates: the symbols, and the comment section where there is one.
+/// Puts what follows the gates into a block: the symbols, and the comment section where there is one.
 pub fn put_tail<W: Sink>(block: &mut Block, sink: &mut W, circuit: &Circuit)
     requires { CanFail (out (W.taken sink.old) (W.longest sink.old) (W.failed sink.old) block.old) }
     ensures { Put (out (W.taken sink.old) (W.longest sink.old) (W.failed sink.old) block.old)

@@ -9,7 +9,8 @@ use aig_text::{Limits, read_ascii, write_ascii};
 use std::alloc::Global;
 
 /// Reads the source to its end, and writes what the request asks for. Nothing is sent before the whole source was
-/// read and found right.
+/// read and found right. It fails where a device fails, where the bytes are no file of a circuit, and where memory is
+/// refused; only a sink that fails may have taken a beginning of what is written.
 pub fn run_toaig<R: Source, W: Sink>(
     alloc: Global,
     request: &ToAig,

@@ -22,5 +22,6 @@ pub struct ToAig {
 /// What the words of the command line ask for.
 #[derive(Drop)]
 pub enum Request {
+    /// `aigtoaig`.
     ToAig(ToAig),
 }

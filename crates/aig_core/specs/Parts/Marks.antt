@@ -6,6 +6,7 @@ use Rattle.std.specs.Ordering.{nat_cmp}
 use Rattle.std.specs.BTreeSet.{BTreeSet, contains}
 use Rattle.std.specs.FinSet as set
 use Rattle.aig_core.specs.declared.var_set.bucket.TheConstants.{ROOM}
+use Rattle.aig_core.specs.declared.var_set.spread.TheConstants.{MULTIPLIER}
 
 -- whether the number's bit is set, 64 of them to a word
 abbrev pub is_marked : List ℕ → ℕ → Bool
@@ -13,7 +14,7 @@ is_marked words number = bit_at (slice_index_or words (number / 64) 0) (number %
 
 -- which of so many buckets a number belongs to: multiples of this odd number spread over all of them
 abbrev pub bucket_of : ℕ → ℕ → ℕ
-bucket_of count number = number * 2654435769 % 2 ^ 32 * count / 2 ^ 32
+bucket_of count number = number * MULTIPLIER % 2 ^ 32 * count / 2 ^ 32
 
 -- the bucket that a number belongs to
 abbrev pub bucket_at : List (List ℕ) → ℕ → List ℕ

@@ -7,7 +7,7 @@ use std::marker::Model;
 
 /// A table of bits, 64 to a word.
 #[derive(Drop)]
-pub(crate) struct Bits {
+pub(super) struct Bits {
     words: Vec<u64>,
 }
 
@@ -21,7 +21,7 @@ impl Model for Bits {
 
 impl Bits {
     /// So many words, and no bit set.
-    pub(crate) fn new(alloc: Global, words: usize) -> Result<Self, AllocError>
+    pub(super) fn new(alloc: Global, words: usize) -> Result<Self, AllocError>
         ensures { IfOk result (λ bits. (i : ℕ) → is_marked bits i ≡ false) }
     {
         Ok(Bits {
@@ -31,7 +31,7 @@ impl Bits {
 
     /// Whether there is a bit for the index.
     #[inline(always)]
-    pub(crate) fn covers(&self, index: usize) -> bool
+    pub(super) fn covers(&self, index: usize) -> bool
         ensures { IsTrue result ↔ (index / 64 < length self.now) }
     {
         index / 64 < self.words.len()
@@ -39,7 +39,7 @@ impl Bits {
 
     /// Whether the index has its bit set.
     #[inline(always)]
-    pub(crate) fn is_marked(&self, index: usize) -> bool
+    pub(super) fn is_marked(&self, index: usize) -> bool
         requires { index / 64 < length self.now }
         ensures { result ≡ is_marked self.now index }
     {
@@ -48,7 +48,7 @@ impl Bits {
 
     /// Sets the bit of an index, and answers whether it was not set before.
     #[inline(always)]
-    pub(crate) fn mark(&mut self, index: usize) -> bool
+    pub(super) fn mark(&mut self, index: usize) -> bool
         requires { index / 64 < length self.old }
         ensures fresh { result ≡ not (is_marked self.old index) }
         ensures marked { (i : ℕ) → is_marked self.new i ≡ ((i == index) || is_marked self.old i) }

@@ -6,23 +6,24 @@ use std::alloc::AllocError;
 use std::marker::Model;
 
 /// How many numbers a bucket has room for. With their count they fill a line of the processor's cache.
-pub(crate) const ROOM: usize = 15;
+const ROOM: usize = 15;
 
 /// A few numbers that lie together.
 #[derive(Drop)]
-pub(crate) struct Bucket {
+pub(super) struct Bucket {
     numbers: [u32; ROOM],
     len: u32,
 }
 
 impl Model for Bucket {
     ghost use Rattle.std.specs.Prelude.{ℕ, List, take, ◌≤◌};
+    ghost use Rattle.aig_core.specs.declared.var_set.bucket.TheConstants.{ROOM as MOST};
 
     ghost Value = { List ℕ };
 
     ghost view = { λ b. take b.len b.numbers };
 
-    ghost invariant = { λ b. b.len ≤ 15 };
+    ghost invariant = { λ b. b.len ≤ MOST };
 }
 
 impl Clone for Bucket {
@@ -38,7 +39,7 @@ impl Clone for Bucket {
 
 impl Bucket {
     /// An empty bucket.
-    pub(crate) fn new() -> Self
+    pub(super) fn new() -> Self
         ensures { result ≡ [] }
     {
         Bucket {
@@ -49,7 +50,7 @@ impl Bucket {
 
     /// Whether the number is there.
     #[inline(always)]
-    pub(crate) fn holds(&self, number: u32) -> bool
+    pub(super) fn holds(&self, number: u32) -> bool
         ensures { result ≡ list_any (λ n. n == number) self.now }
     {
         self.numbers[..self.len as usize].contains(&number)
@@ -57,7 +58,7 @@ impl Bucket {
 
     /// Whether there is no room.
     #[inline(always)]
-    pub(crate) fn is_full(&self) -> bool
+    pub(super) fn is_full(&self) -> bool
         ensures { IsTrue result ↔ (ROOM ≤ length self.now) }
     {
         self.len as usize == ROOM
@@ -65,7 +66,7 @@ impl Bucket {
 
     /// Puts one more number there.
     #[inline(always)]
-    pub(crate) fn put(&mut self, number: u32)
+    pub(super) fn put(&mut self, number: u32)
         requires { length self.old < ROOM }
         ensures { self.new ≡ self.old ++ number ∷ [] }
     {

@@ -23,7 +23,7 @@ const MULTIPLIER: u32 = 2_654_435_769;
 /// A set of variables in buckets by a fixed multiplier, and in a tree where a bucket has no room. So indices that are
 /// chosen against the multiplier take the time of the tree.
 #[derive(Drop)]
-pub(crate) struct Spread {
+pub(super) struct Spread {
     buckets: Vec<Bucket>,
     others: BTreeSet<Var>,
 }
@@ -51,7 +51,7 @@ fn bucket_of(count: usize, index: u32) -> usize
 
 impl Spread {
     /// An empty set that is fast for about so many variables.
-    pub(crate) fn new(alloc: Global, expected: usize) -> Result<Self, AllocError>
+    pub(super) fn new(alloc: Global, expected: usize) -> Result<Self, AllocError>
         ensures { IfOk result (λ variables. variables ≡ set.empty) }
     {
         let count = (expected / VARIABLES_PER_BUCKET + 1).min(MOST_BUCKETS);
@@ -61,9 +61,10 @@ impl Spread {
         })
     }
 
+    /// Whether it has the variable.
     #[tactic(auto, using(crate::proofs::Sets::set_has))]
     #[inline(never)]
-    pub(crate) fn contains(&self, var: Var) -> bool
+    pub(super) fn contains(&self, var: Var) -> bool
         ensures { result ≡ set.contains self.now var }
     {
         let bucket = &self.buckets[bucket_of(self.buckets.len(), var.0)];
@@ -73,7 +74,7 @@ impl Spread {
     /// Adds a variable, and answers whether it is new.
     #[tactic(auto, using(crate::proofs::Sets::set_has))]
     #[inline(never)]
-    pub(crate) fn insert(&mut self, var: Var) -> Result<bool, AllocError>
+    pub(super) fn insert(&mut self, var: Var) -> Result<bool, AllocError>
         ensures added { IfOk result (λ added. added ≡ not (set.contains self.old var)) }
         ensures ok { OnOk result (self.new ≡ set.insert self.old var) }
         ensures err { OnErr result (self.new ≡ self.old) }

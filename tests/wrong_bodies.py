@@ -1,0 +1,284 @@
+#!/usr/bin/env python3
+"""Sees that the prover refuses each wrong body tests/wrong_bodies/CRATE/NAME.edit.
+
+    tests/wrong_bodies.py [CRATE ..]     tries those of the crates named, or of all
+
+A wrong body is a file with a line 'file: src/F.rt' and pairs of lines 'old: TEXT' and 'new: TEXT', as in must-fail/:
+each old text stands in that file exactly once, and further pairs apply to what the earlier ones made. A line
+'in: Type::function' has the pairs after it look in that function alone.
+
+They are put into a copy of the repository, which takes over the work that earlier checks kept. Those of distinct
+functions are put in together, and each is judged by what 'rt check' says of its own function. One whose function only
+waits for another that is not proved is tried again when that one is right again. One that seems to be proved is tried
+again alone.
+
+Each public function that has a body wants a wrong one, here or in must-fail/, but for those of the file WITHOUT.
+
+The last line is 'N passed, M failed'. The variable RT names another rt than the one on the PATH.
+"""
+
+import os
+import re
+import shutil
+import subprocess
+import sys
+import tempfile
+from pathlib import Path
+
+TOP = Path(__file__).resolve().parent.parent
+BODIES = TOP / "tests" / "wrong_bodies"
+RT = os.environ.get("RT", "rt")
+
+FUNCTION = re.compile(r"^( *)(pub )?(?:pub\(\w+\) )?(?:const )?fn (\w+)", re.M)
+BLOCK = re.compile(r"^(?:impl\b|(?:pub(?:\(\w+\))? )?trait\b)[^{]*", re.M)
+# What the check says of a function with goals of its own that are open, and not of one that waits for another.
+OPEN = re.compile(r"not proved$|not proved; it stands on|no proof: expected|.* did not prove ")
+
+
+class Unfit(Exception):
+    """A wrong body that cannot be tried."""
+
+
+class Function:
+    """A function of a file: where it stands, and its name as the check prints it, without its module."""
+
+    def __init__(self, text, head):
+        indent = head[1]
+        end = re.compile(rf"^{indent}(\}}|\{{\}})$", re.M).search(text, head.end())
+        self.start, self.end = head.start(), end.end() if end else len(text)
+        self.is_public_with_a_body = bool(head[2] and end and end[1] == "}")
+        self.is_method = bool(indent)
+        blocks = [*BLOCK.finditer(text, 0, self.start)][-1:] if indent else []
+        self.name = "::".join([*(block_name(it[0]) for it in blocks), head[3]])
+
+    def path(self, crate, file):
+        """How its whole name ends. A method stands in the module of its type, which may be that of another file."""
+        if self.is_method:
+            return f"::{self.name}"
+        module = file.removeprefix("src/").removesuffix(".rt").replace("/", "::")
+        return "::".join([crate, *([] if module in ("lib", "main") else [module]), self.name])
+
+
+def block_name(head):
+    """The name of an impl block or a trait: the type, then the trait and what it is applied to."""
+    head = re.sub(r"^impl\s*(<(?:[^<>]|<[^<>]*>)*>)?|^.*\btrait\b", "", head).partition(" where ")[0]
+    trait, is_for, implementor = head.partition(" for ")
+    if not is_for:
+        trait, implementor = "", head
+    words = [re.sub(r"&('\w+ )?|<.*", "", implementor), trait.partition("<")[0], *re.findall(r"^[^<]*<([\w:]+)", trait)]
+    return "Ref" * implementor.startswith("&") + "".join(it.strip().rpartition("::")[2] for it in words)
+
+
+def functions_of(text):
+    return [Function(text, it) for it in FUNCTION.finditer(text)]
+
+
+class Change:
+    """One text in place of another, in a file or in one function of it."""
+
+    def __init__(self, file, function, old, new):
+        self.file, self.function, self.old, self.new = file, function, old, new
+
+    def place(self, text):
+        """Where the old text stands."""
+        start, end = 0, len(text)
+        if self.function:
+            spans = [(it.start, it.end) for it in functions_of(text) if it.name == self.function]
+            if len(spans) != 1:
+                raise Unfit(f"{self.file} has {len(spans)} functions {self.function}")
+            start, end = spans[0]
+        if text.count(self.old, start, end) != 1:
+            raise Unfit(f"an old text stands there {text.count(self.old, start, end)} times, and not once: {self.old}")
+        return text.index(self.old, start, end)
+
+    def made(self, text):
+        at = self.place(text)
+        return text[:at] + self.new + text[at + len(self.old) :]
+
+
+class WrongBody:
+    """The changes of a file NAME.edit, and the functions that they are in; None among these is another place."""
+
+    def __init__(self, crate, path):
+        self.label = f"{crate}/{path.stem}"
+        self.changes = []
+        file = function = old = None
+        for line in path.read_text(encoding="utf-8").splitlines():
+            word, _, rest = line.partition(":")
+            rest = rest.removeprefix(" ")
+            if word == "file":
+                file, function = rest, None
+            elif word == "in":
+                function = rest
+            elif word == "old":
+                old = rest
+            elif word == "new" and file and old:
+                self.changes.append(Change(file, function, old, rest))
+                old = None
+        if not self.changes:
+            raise Unfit("it has no pair of lines 'old:' and 'new:'")
+        self.functions = {it for it in self.changed(crate) if it != "use"}
+
+    def changed(self, crate):
+        texts = {}
+        for change in self.changes:
+            path = TOP / "crates" / crate / change.file
+            if not change.file.startswith("src/") or not path.is_file():
+                raise Unfit(f"there is no {change.file} below src/")
+            text = texts.get(change.file) or path.read_text(encoding="utf-8")
+            middle = change.place(text) + len(change.old) // 2
+            inside = [it for it in functions_of(text) if it.start <= middle <= it.end]
+            yield inside[-1].path(crate, change.file) if inside else "use" if change.old.startswith("use ") else None
+            texts[change.file] = change.made(text)
+
+    def function(self):
+        """The one function that it changes."""
+        return next(iter(self.functions)) if len(self.functions) == 1 else None
+
+
+class Said:
+    """What a check said: whether all is proved, None where there is no verdict, and of each function."""
+
+    def __init__(self, text):
+        self.text = text
+        verdict = re.findall(r"^logic=(proved|not-proved)", text, re.M)
+        self.is_proved = verdict[-1] == "proved" if verdict else None
+        self.functions = dict(re.findall(r"^fn (\S+): (.*)$", text, re.M))
+
+    def of(self, function):
+        found = [said for name, said in self.functions.items() if name == function or function[0] == ":" and name.endswith(function)]
+        return found[0] if len(found) == 1 else "proved"
+
+    def start(self):
+        lines = self.text.splitlines()
+        return " / ".join([it for it in lines if "error" in it][:2] or lines[-2:])[:300]
+
+
+def crates():
+    """Each crate of crates.txt, and the repository's crates that it stands on."""
+    lines = [it.partition("#")[0].partition(":") for it in (TOP / "crates.txt").read_text().splitlines()]
+    listed = {name.split()[0]: below.split() for name, colon, below in lines if colon}
+    return {name: [it for it in below if it in listed] for name, below in listed.items()}
+
+
+def needed(crate, known):
+    """A crate and all that it stands on."""
+    return {crate}.union(*(needed(it, known) for it in known[crate]))
+
+
+class Copy:
+    """A copy of the repository in which one crate is changed and checked."""
+
+    def __init__(self, crate, room):
+        self.folder, self.checks = Path(room) / "crates" / crate, 0
+        known = crates()
+        shutil.copy2(TOP / "crates.txt", room)
+        for name in known:
+            unread = shutil.ignore_patterns("must-fail", *[] if name in needed(crate, known) else ["out"])
+            shutil.copytree(TOP / "crates" / name, Path(room) / "crates" / name, ignore=unread)
+
+    def with_bodies(self, bodies):
+        """The bodies that fit in together, and the texts of the files that they change."""
+        fitting, texts = [], {}
+        for body in bodies:
+            made = dict(texts)
+            try:
+                for it in body.changes:
+                    made[it.file] = it.made(made.get(it.file) or (self.folder / it.file).read_text(encoding="utf-8"))
+            except Unfit:
+                continue
+            fitting, texts = [*fitting, body], made
+        return fitting, texts
+
+    def check(self, texts):
+        """What a check says with these texts in place of the files."""
+        self.checks += 1
+        were = {it: (self.folder / it).read_text(encoding="utf-8") for it in texts}
+        for file, text in texts.items():
+            (self.folder / file).write_text(text, encoding="utf-8")
+        how = {"stdin": subprocess.DEVNULL, "stdout": subprocess.PIPE, "stderr": subprocess.STDOUT}
+        ran = subprocess.run([RT, "check"], cwd=self.folder, text=True, errors="replace", **how)
+        for file, text in were.items():
+            (self.folder / file).write_text(text, encoding="utf-8")
+        return Said(ran.stdout)
+
+    def alone(self, body):
+        """Why a body fails; None where the prover refuses it."""
+        said = self.check(self.with_bodies([body])[1])
+        if said.is_proved is None:
+            return f"it could not be judged: {said.start()}"
+        return "NOT REFUSED: the crate is still proved with it" if said.is_proved else None
+
+    def together(self, bodies):
+        """Why each of the bodies that could be judged fails; None where the prover refuses it."""
+        bodies, texts = self.with_bodies(bodies)
+        if len(bodies) == 1:
+            return {bodies[0]: self.alone(bodies[0])}
+        said = self.check(texts)
+        if said.is_proved is None:
+            half = len(bodies) // 2
+            return {**self.together(bodies[:half]), **self.together(bodies[half:])}
+        lines = {it: said.of(it.function()) for it in bodies}
+        judged = {it: None for it, line in lines.items() if OPEN.match(line)}
+        judged.update({it: self.alone(it) for it, line in lines.items() if line.startswith("proved")})
+        return judged or {bodies[0]: self.alone(bodies[0])}
+
+    def judge(self, bodies):
+        waiting, judged = list(bodies), {}
+        while waiting:
+            # (of those of one function the first)
+            batch = {it.function(): it for it in reversed(waiting) if it.function()}
+            judged.update(self.together([*batch.values()] or waiting[:1]))
+            waiting = [it for it in waiting if it not in judged]
+        return judged
+
+
+def without(crate, changed):
+    """The public functions with a body that are in neither of these and the file WITHOUT."""
+    excused = re.findall(rf"^{crate}/(\S+: \S+)", (BODIES / "WITHOUT").read_text(), re.M)
+    for path in sorted((TOP / "crates" / crate / "src").rglob("*.rt")):
+        file = str(path.relative_to(TOP / "crates" / crate))
+        for it in functions_of(path.read_text(encoding="utf-8")):
+            if it.is_public_with_a_body and it.path(crate, file) not in changed and f"{file}: {it.name}" not in excused:
+                yield f"{crate}/{file}: {it.name}"
+
+
+def try_crate(crate):
+    """How many of a crate's wrong bodies are refused, and what fails."""
+    bodies, changed, failed = [], set(), []
+    tried = sorted((BODIES / crate).glob("*.edit"))
+    for path in [*tried, *(TOP / "crates" / crate / "must-fail").glob("*.edit")]:
+        try:
+            body = WrongBody(crate, path)
+            changed |= body.functions
+            bodies += [body] * (path in tried)
+        except Unfit as why:
+            failed.append(f"{path.relative_to(TOP)}: {why}")
+    failed += [f"{it} has no wrong body" for it in without(crate, changed)]
+    if not bodies:
+        return 0, failed
+    with tempfile.TemporaryDirectory(prefix="wrong-bodies-") as room:
+        copy = Copy(crate, room)
+        if not copy.check({}).is_proved:
+            return 0, [*failed, f"{crate} is not proved as it is, so nothing was tried"]
+        judged = copy.judge(bodies)
+    wrong = [f"{body.label}: {why}" for body, why in judged.items() if why]
+    refused = len(judged) - len(wrong)
+    print(f"{crate}: {refused} of {len(bodies)} wrong bodies are refused, after {copy.checks} checks", flush=True)
+    return refused, failed + wrong
+
+
+def main(names):
+    known = crates()
+    passed, failed = 0, [f"crates.txt lists no crate {it}" for it in names if it not in known]
+    for crate in [it for it in names or known if it in known]:
+        refused, told = try_crate(crate)
+        passed, failed = passed + refused, failed + told
+    for it in failed:
+        print(f"FAILED {it}")
+    print(f"{passed} passed, {len(failed)} failed")
+    return 1 if failed or not passed else 0
+
+
+if __name__ == "__main__":
+    sys.exit(main(sys.argv[1:]))
