@@ -55,6 +55,7 @@ rows() {
     rows_literals
     rows_ends
     rows_structure
+    rows_tail
     rows_not_yet
     rows_words
 }
@@ -232,17 +233,76 @@ rows_structure() {
     refuses 'a missing line before a variable defined twice' 'aag 2 2 0 1 0\n2\n2\n' 'line 4: file ends too early'
 }
 
+rows_tail() {
+    same 'symbols in their order, and a comment without LF' 'aag 1 1 0 1 0\n2\n2\no0 b\ni0 a\nc\nx'
+    same 'a symbol of each kind' 'aag 3 1 1 2 0\n6\n2 7\n2\n0\ni0 in\nl0 latch\no1 second\no0 first\n'
+    same 'symbols that share a name' 'aag 2 2 0 0 0\n2\n4\ni1 a\ni0 a\n'
+    same 'an empty name' 'aag 1 1 0 0 0\n2\ni0 \n'
+    same 'a name of spaces' 'aag 1 1 0 0 0\n2\ni0   \n'
+    same 'a name that begins with a space' 'aag 1 1 0 0 0\n2\ni0  a\n'
+    same 'a name whose last byte is CR' 'aag 1 1 0 0 0\n2\ni0 a\r\n'
+    same 'a name of any bytes' 'aag 1 1 0 0 0\n2\ni0 \0000\0001\t\0200\0377c\n'
+    accepts 'a symbol without LF' 'aag 1 1 0 0 0\n2\ni0 a' 'aag 1 1 0 0 0\n2\ni0 a\n'
+    accepts 'an empty name without LF' 'aag 1 1 0 0 0\n2\ni0 ' 'aag 1 1 0 0 0\n2\ni0 \n'
+    accepts 'a CR that ends the file, in a name' 'aag 1 1 0 0 0\n2\ni0 a\r' 'aag 1 1 0 0 0\n2\ni0 a\r\n'
+    accepts 'leading zeros of a position' 'aag 1 1 0 0 0\n2\ni000 a\n' 'aag 1 1 0 0 0\n2\ni0 a\n'
+    accepts 'four hundred leading zeros of a position' "aag 0 0 0 2 0\n0\n1\no$(digits 400 0)1 a\n" 'aag 0 0 0 2 0\n0\n1\no1 a\n'
+    same 'an empty comment' 'aag 0 0 0 0 0\nc\n'
+    same 'a comment' 'aag 0 0 0 0 0\nc\nhello\n'
+    same 'a comment that looks like a tail' 'aag 1 1 0 0 0\n2\nc\ni0 a\ni0 a\nc\n\n'
+    same 'a comment of any bytes' 'aag 0 0 0 0 0\nc\n\0000\r\n\r\n\n\0377\0000'
+    accepts 'the line c without LF' 'aag 0 0 0 0 0\nc' 'aag 0 0 0 0 0\nc\n'
+    accepts 'the line c with CR LF' 'aag 0 0 0 0 0\nc\r\nx\r\n' 'aag 0 0 0 0 0\nc\nx\r\n'
+    accepts 'the line c with spaces' 'aag 0 0 0 0 0\nc  \r\nx' 'aag 0 0 0 0 0\nc\nx'
+    accepts 'the line c with spaces and without LF' 'aag 0 0 0 0 0\nc  ' 'aag 0 0 0 0 0\nc\n'
+
+    refuses 'an empty line at the end' 'aag 0 0 0 0 0\n\n' 'line 2: bad symbol line'
+    refuses 'an empty line between symbols' 'aag 1 1 0 0 0\n2\n\ni0 a\n' 'line 3: bad symbol line'
+    refuses 'a line CR LF at the end' 'aag 0 0 0 0 0\n\r\n' 'line 2: bad symbol line'
+    refuses 'another letter' 'aag 1 1 0 0 0\n2\nx\n' 'line 3: bad symbol line'
+    refuses 'a letter of a later version' 'aag 1 1 0 1 0\n2\n2\nb0 a\n' 'line 4: bad symbol line'
+    refuses 'a capital letter' 'aag 1 1 0 0 0\n2\nI0 a\n' 'line 3: bad symbol line'
+    refuses 'a number too many' 'aag 1 1 0 0 0\n2\n2\n' 'line 3: bad symbol line'
+    refuses 'a letter alone' 'aag 1 1 0 0 0\n2\ni\n' 'line 3: bad symbol line'
+    refuses 'no position' 'aag 1 1 0 0 0\n2\ni a\n' 'line 3: bad symbol line'
+    refuses 'no space after the position' 'aag 1 1 0 0 0\n2\ni0\n' 'line 3: bad symbol line'
+    refuses 'no space after the position, nor LF' 'aag 1 1 0 0 0\n2\ni0' 'line 3: bad symbol line'
+    refuses 'a CR after the position' 'aag 1 1 0 0 0\n2\ni0\r\n' 'line 3: bad symbol line'
+    refuses 'a TAB after the position' 'aag 1 1 0 0 0\n2\ni0\ta\n' 'line 3: bad symbol line'
+    refuses 'a letter after the position' 'aag 1 1 0 0 0\n2\ni0a b\n' 'line 3: bad symbol line'
+    refuses 'a space before the letter' 'aag 1 1 0 0 0\n2\n i0 a\n' 'line 3: bad symbol line'
+    refuses 'a space before the position' 'aag 1 1 0 0 0\n2\ni 0 a\n' 'line 3: bad symbol line'
+    refuses 'a sign in a position' 'aag 1 1 0 0 0\n2\ni-0 a\n' 'line 3: bad symbol line'
+    refuses 'a line that begins with c' 'aag 1 1 0 0 0\n2\nc0 a\n' 'line 3: bad symbol line'
+    refuses 'a word after c' 'aag 0 0 0 0 0\nc x\n' 'line 2: bad symbol line'
+    refuses 'a TAB after c' 'aag 0 0 0 0 0\nc\t\n' 'line 2: bad symbol line'
+    refuses 'c, CR and the end of the file' 'aag 0 0 0 0 0\nc\r' 'line 2: bad symbol line'
+    refuses 'c, CR, space, LF' 'aag 0 0 0 0 0\nc\r \n' 'line 2: bad symbol line'
+    refuses 'c, CR, CR, LF' 'aag 0 0 0 0 0\nc\r\r\n' 'line 2: bad symbol line'
+    refuses 'a position that no input has' 'aag 1 1 0 0 0\n2\ni1 a\n' 'line 3: symbol position out of range'
+    refuses 'a position that no latch has' 'aag 2 1 1 0 0\n2\n4 2\nl1 a\n' 'line 4: symbol position out of range'
+    refuses 'a position that no output has' 'aag 2 2 0 1 0\n2\n4\n2\no1 a\n' 'line 5: symbol position out of range'
+    refuses 'a symbol of an empty section' 'aag 1 1 0 0 0\n2\no0 a\n' 'line 3: symbol position out of range'
+    refuses 'a position of 2^32' 'aag 1 1 0 0 0\n2\ni4294967296 a\n' 'line 3: symbol position out of range'
+    refuses 'a position of 2^64' 'aag 1 1 0 0 0\n2\ni18446744073709551616 a\n' 'line 3: symbol position out of range'
+    refuses 'a position of 400 digits' "aag 1 1 0 0 0\n2\ni$(digits 400 9) a\n" 'line 3: symbol position out of range'
+    refuses 'an input named twice' 'aag 1 1 0 0 0\n2\ni0 a\ni0 a\n' 'line 4: symbol given twice'
+    refuses 'an output named twice, with leading zeros' 'aag 0 0 0 2 0\n0\n1\no1 a\no0 b\no01 c\n' 'line 6: symbol given twice'
+    refuses 'a latch named twice' 'aag 1 0 1 0 0\n2 3\nl0 a\nl0 b\n' 'line 4: symbol given twice'
+    same 'one position in each kind' 'aag 2 1 1 1 0\n2\n4 2\n4\ni0 a\nl0 a\no0 a\n'
+    refuses 'the form of a symbol before its position' 'aag 1 1 0 0 0\n2\ni9\n' 'line 3: bad symbol line'
+    refuses 'the first of two bad lines' 'aag 1 1 0 0 0\n2\ni1 a\nx\n' 'line 3: symbol position out of range'
+    refuses 'a bad symbol line before a literal not defined' 'aag 2 1 0 1 0\n2\n4\nx\n' 'line 4: bad symbol line'
+    refuses 'a symbol given twice before a variable defined twice' 'aag 2 2 0 0 0\n2\n2\ni0 a\ni0 a\n' 'line 5: symbol given twice'
+    refuses 'a literal not defined, with a comment' 'aag 2 1 0 1 0\n2\n4\nc\n' 'literal 4 not defined'
+    refuses 'a variable defined twice, with a symbol' 'aag 2 2 0 0 0\n2\n2\ni0 a\n' 'variable 1 defined twice'
+    refuses 'a bad line before the tail' 'aag 1 1 0 0 0\n3\nc\n' 'line 2: not a variable'
+}
+
 rows_not_yet() {
     refuses 'gates' 'aag 1 0 0 0 1\n2 0 0\n' 'line 1: not supported yet'
     refuses 'gates, whose lines are missing' 'aag 2 1 0 1 1\n2\n4\n' 'line 1: not supported yet'
-    refuses 'a line after the numbered ones' 'aag 1 1 0 0 0\n2\nx\n' 'line 3: not supported yet'
-    refuses 'a symbol' 'aag 1 1 0 0 0\n2\ni0 a\n' 'line 3: not supported yet'
-    refuses 'a comment' 'aag 0 0 0 0 0\nc\nhello\n' 'line 2: not supported yet'
-    refuses 'a comment without LF' 'aag 0 0 0 0 0\nc' 'line 2: not supported yet'
-    refuses 'an empty line at the end' 'aag 0 0 0 0 0\n\n' 'line 2: not supported yet'
-    refuses 'a further line before a literal not defined' 'aag 2 1 0 1 0\n2\n4\nc\n' 'line 4: not supported yet'
-    refuses 'a further line before a variable defined twice' 'aag 2 2 0 0 0\n2\n2\nc\n' 'line 4: not supported yet'
-    refuses 'a bad line before a further line' 'aag 1 1 0 0 0\n3\nc\n' 'line 2: not a variable'
+    refuses 'gates before a bad symbol line' 'aag 1 0 0 0 1\n2 0 0\nx\n' 'line 1: not supported yet'
 }
 
 rows_words() {
