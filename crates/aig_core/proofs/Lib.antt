@@ -1,3 +1,5 @@
+pub mod Counted
+pub mod Gates
 pub mod Sets
 pub mod Members
 pub mod Told

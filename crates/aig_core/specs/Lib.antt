@@ -5,6 +5,10 @@ pub mod SymbolOrder
 pub mod Fault
 pub mod Laws
 pub mod Marks
+pub mod Order
+pub mod GateIndex
+pub mod Operands
+pub mod Progress
 pub mod Transfer
 pub mod Failures
 pub mod Memory

@@ -14,6 +14,7 @@ pub mod laws;
 pub mod listing;
 pub mod literal;
 pub mod memory;
+pub mod order;
 pub mod streams;
 pub mod transfer;
 mod var_set;
