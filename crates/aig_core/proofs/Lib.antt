@@ -1,5 +1,7 @@
 pub mod Counted
 pub mod Gates
+pub mod LeastReady
+pub mod Ranked
 pub mod Sets
 pub mod Members
 pub mod Told
