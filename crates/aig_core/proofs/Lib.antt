@@ -2,6 +2,7 @@ pub mod Counted
 pub mod Gates
 pub mod LeastReady
 pub mod Ranked
+pub mod Chains
 pub mod Sets
 pub mod Members
 pub mod Told

@@ -75,10 +75,10 @@ told_by_either p (Some x) None among = ⊎_elim (λ (e : p ≡ x). inl (ap Some 
 told_by_either p (Some x) (Some y) among =
     ⊎_elim (λ (e : p ≡ x). inl (ap Some (sym e))) (λ (later : IsAmong p (y ∷ [])). ⊎_elim (λ (e : p ≡ y). inr (ap Some (sym e))) (λ (n : ⊥). absurd n) later) among
 
-told_by_left : (p : ℕ) (b : Option ℕ) → IsAmong p (option_to_list (Some p) ++ option_to_list b)
+pub told_by_left : (p : ℕ) (b : Option ℕ) → IsAmong p (option_to_list (Some p) ++ option_to_list b)
 told_by_left p b = inl refl
 
-told_by_right : (p : ℕ) (a : Option ℕ) → IsAmong p (option_to_list a ++ option_to_list (Some p))
+pub told_by_right : (p : ℕ) (a : Option ℕ) → IsAmong p (option_to_list a ++ option_to_list (Some p))
 told_by_right p None = inl refl
 told_by_right p (Some x) = inr (inl refl)
 

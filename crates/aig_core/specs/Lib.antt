@@ -8,6 +8,7 @@ pub mod Marks
 pub mod Order
 pub mod GateIndex
 pub mod Operands
+pub mod Users
 pub mod Progress
 pub mod Transfer
 pub mod Failures

@@ -11,6 +11,7 @@ use std::marker::Model;
 
 mod gate_index;
 mod operands;
+mod users;
 
 /// An order of gates that is being made: the positions of the gates that are taken, how many operands each gate still
 /// waits for, and how many steps were made.
