@@ -16,7 +16,7 @@ use Rattle.aig_core.proofs.Ranked.{told_by_left, told_by_right}
 use Rattle.aig_core.specs.Users.{users_up_to, users_from, uses, LinksFall}
 
 -- a chain has ended, or goes on
-ended : (most : ℕ) (links : List ℕ) → users_up_to most links 0 ≡ []
+pub ended : (most : ℕ) (links : List ℕ) → users_up_to most links 0 ≡ []
 unfolding users_up_to
 ended zero links = refl
 ended (suc most) links = refl

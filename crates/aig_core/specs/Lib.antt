@@ -9,6 +9,7 @@ pub mod Order
 pub mod GateIndex
 pub mod Operands
 pub mod Users
+pub mod Ready
 pub mod Progress
 pub mod Transfer
 pub mod Failures

@@ -11,6 +11,8 @@ use std::marker::Model;
 
 mod gate_index;
 mod operands;
+mod ready;
+mod serve;
 mod users;
 
 /// An order of gates that is being made: the positions of the gates that are taken, how many operands each gate still

@@ -3,7 +3,7 @@ ghost use Rattle.std.specs.Prelude.{◌≡◌, ◌==◌, ◌+◌, ◌*◌, ◌/�
 ghost use Rattle.std.specs.List.{count_by};
 ghost use Rattle.std.specs.Option.{option_to_list};
 ghost use Rattle.aig_core.specs.Operands.{operands_at, AreOverGates};
-ghost use Rattle.aig_core.specs.Users.{uses, LinksFall};
+ghost use Rattle.aig_core.specs.Users.{uses, followed, LinksFall};
 
 use crate::circuit::LARGEST;
 use crate::order::operands::Operands;
@@ -56,5 +56,21 @@ impl Users {
             users.chain(2 * gate + 1, over.right);
         }
         Ok(users)
+    }
+
+    /// The first link to a user of the gate.
+    pub(super) fn first(&self, gate: u32) -> u32
+        ensures { result ≡ slice_index self.now.heads.items gate }
+    {
+        self.heads.get(gate as usize).copied().unwrap_or(0)
+    }
+
+    /// The user that a link leads to, and the link after it; none at the end.
+    pub(super) fn follow(&self, link: u32) -> Option<(u32, u32)>
+        ensures { result ≡ followed self.now.links.items link }
+    {
+        let operand = link.checked_sub(1)?;
+        let next = self.links.get(operand as usize).copied().unwrap_or(0);
+        Some((operand / 2, next))
     }
 }
