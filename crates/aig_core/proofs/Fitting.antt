@@ -42,13 +42,16 @@ unfolding IsDistinct
 distinct_by_test [] d = tt
 distinct_by_test (x ∷ xs) d = IsDistinct-cons eqb x xs (differs x xs d.0) (distinct_by_test xs d.1)
 
+-- distinct numbers below n are at most n
+pub at_most_below : (n : ℕ) (xs : List ℕ) → AreDistinct xs → AllByRecursion (λ x. x < n) xs → length xs ≤ n
+at_most_below n xs d all = length-le_from_distinct_below xs n (distinct_by_test xs d) (λ q h. each (λ x. x < n) xs all q (among_from_test q xs h))
+
 -- distinct numbers from 1 to n are at most n
 pub at_most : (n : ℕ) (xs : List ℕ) → AreDistinct xs → AllByRecursion (IsVariableUpTo n) xs → length xs ≤ n
 at_most n xs d all =
     let no_zero : ¬ IsAmong 0 xs = λ a. let r : IsVariableUpTo n 0 = each (IsVariableUpTo n) xs all 0 a in omega (arith, r.0) in
-    let below : (q : ℕ) → list_any (eqb q) (0 ∷ xs) ≡ true → q < n + 1 =
-    λ q h. ⊎_elim (λ (e : q ≡ 0). omega arith) (λ (a : IsAmong q xs). let r : IsVariableUpTo n q = each (IsVariableUpTo n) xs all q a in omega (arith, r.1)) (among_from_test q (0 ∷ xs) h) in
-    let longer : length (0 ∷ xs) ≤ n + 1 = length-le_from_distinct_below (0 ∷ xs) (n + 1) (IsDistinct-cons eqb 0 xs (differs 0 xs no_zero) (distinct_by_test xs d)) below in
+    let longer : length (0 ∷ xs) ≤ n + 1 =
+    at_most_below (n + 1) (0 ∷ xs) (no_zero, d) (omega arith, all_weaker (IsVariableUpTo n) (λ x. x < n + 1) (λ x r. omega (arith, r.1)) xs all) in
     omega (arith, longer)
 
 defined_length : (c : Circuit) → length (defined_variables c) ≡ length c.inputs + length c.latches + length c.gates

@@ -1,3 +1,9 @@
+pub mod Counted
+pub mod Gates
+pub mod LeastReady
+pub mod Ranked
+pub mod Chains
+pub mod Served
 pub mod Sets
 pub mod Members
 pub mod Told

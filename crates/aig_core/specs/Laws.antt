@@ -1,9 +1,10 @@
 -- What the definitions of this crate say of one another.
-use Rattle.std.specs.Prelude.{◌≡◌, ◌≤◌, ◌+◌, ◌↔◌, [], None, length}
+use Rattle.std.specs.Prelude.{ℕ, List, ◌≡◌, ◌<◌, ◌≤◌, ◌+◌, ◌↔◌, [], None, length}
 use Rattle.aig_core.specs.declared.circuit.Circuit.{Circuit}
-use Rattle.aig_core.specs.Wellformed.{IsWellFormed}
+use Rattle.aig_core.specs.Wellformed.{IsWellFormed, IsAmong, AreDistinct, HasRank, defined_variables}
 use Rattle.aig_core.specs.Form.{IsInForm}
 use Rattle.aig_core.specs.Fault.{first_fault}
+use Rattle.aig_core.specs.Order.{IsLeastReadyOrder}
 
 -- a circuit in form, without gates, is well formed exactly where it has no fault
 abbrev pub FaultlessIsWellFormed : Type 0
@@ -16,3 +17,16 @@ DefinitionsFit = (c : Circuit) → IsWellFormed c → length c.inputs + length c
 -- a well-formed circuit is in form
 abbrev pub WellFormedIsInForm : Type 0
 WellFormedIsInForm = (c : Circuit) → IsWellFormed c → IsInForm c
+
+-- the gates of a circuit have a least ready order
+abbrev pub GatesHaveAnOrder : Type 0
+GatesHaveAnOrder = (c : Circuit) → (list : List ℕ) × IsLeastReadyOrder c list
+
+-- and no two
+abbrev pub GatesHaveOneOrder : Type 0
+GatesHaveOneOrder = (c : Circuit) (list other : List ℕ) → IsLeastReadyOrder c list → IsLeastReadyOrder c other → list ≡ other
+
+-- where each variable is defined once, the gates have a rank exactly where their order has all of them
+abbrev pub RankExactlyWhereAllAreOrdered : Type 0
+RankExactlyWhereAllAreOrdered = (c : Circuit) (list : List ℕ) → AreDistinct (defined_variables c) → IsLeastReadyOrder c list
+    → HasRank c.gates ↔ ((gate : ℕ) → gate < length c.gates → IsAmong gate list)

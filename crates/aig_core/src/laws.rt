@@ -1,5 +1,6 @@
 //! Laws: facts about the definitions alone, each the contract of a function with an empty body.
 ghost use Rattle.aig_core.specs.Laws.{FaultlessIsWellFormed, DefinitionsFit, WellFormedIsInForm};
+ghost use Rattle.aig_core.specs.Laws.{GatesHaveAnOrder, GatesHaveOneOrder, RankExactlyWhereAllAreOrdered};
 
 /// A circuit in form, without gates, is well formed exactly where the check finds no fault.
 pub fn faultless_is_well_formed()
@@ -14,4 +15,15 @@ pub fn definitions_fit()
 /// A well-formed circuit keeps to its form, so each of its literals is in range.
 pub fn well_formed_is_in_form()
     ensures { WellFormedIsInForm }
+{}
+
+/// The gates of a circuit have exactly one least ready order.
+pub fn gates_have_one_order()
+    ensures an_order { GatesHaveAnOrder }
+    ensures one { GatesHaveOneOrder }
+{}
+
+/// No gate depends on itself exactly where the least ready order has every gate.
+pub fn rank_exactly_where_all_are_ordered()
+    ensures { RankExactlyWhereAllAreOrdered }
 {}

@@ -1,0 +1,16 @@
+use Rattle.std.proofs.Common.{◌≡◌, ◌∙◌, ap, map, length, ℕ, List, []}
+use Rattle.std.proofs.lemmas.Result.{IfOk-weaker}
+use Rattle.std.proofs.lemmas.Simd.{map-map}
+use Rattle.aig_core.specs.declared.circuit.Gate.{Gate}
+use Rattle.aig_core.specs.declared.order.operands.Operands.{Operands}
+use Rattle.aig_core.specs.Operands.{over, operands_of}
+use Rattle.aig_core.proofs.order.Order.new.Goals as goal
+
+abbrev counts : List Operands → List ℕ
+counts = map (λ (o : Operands). length (over o))
+
+pub returns : goal.returns
+returns c =
+    let all : c.as_slice-2.result.now ≡ map (operands_of c.args.circuit.now.gates) c.args.circuit.now.gates =
+    c.as_slice-2.ensures.value ∙ c.in_ok-operands.ensures ∙ ap (λ (gs : List Gate). map (operands_of gs) gs) c.as_slice.ensures in
+    IfOk-weaker c.waiting_for.result _ _ (λ order is. is ∙ ap (λ waiting. record { list = []; waiting = waiting; steps = 0 }) (ap counts all ∙ map-map (λ (o : Operands). length (over o)) (operands_of c.args.circuit.now.gates) c.args.circuit.now.gates)) c.waiting_for.ensures

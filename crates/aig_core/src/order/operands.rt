@@ -1,0 +1,51 @@
+//! Which gates the operands of gates are over.
+ghost use Rattle.std.specs.Prelude.{◌≡◌, ◌≤◌, ℕ, length, map, IfOk};
+ghost use Rattle.aig_core.specs.Literal.{variable_of};
+ghost use Rattle.aig_core.specs.GateIndex.{found_at};
+ghost use Rattle.aig_core.specs.Operands.{operands_of, over};
+
+use crate::circuit::{Gate, LARGEST};
+use crate::order::gate_index::GateIndex;
+use std::alloc::{AllocError, Global};
+
+/// The positions of the gates that a gate's operands are over, where they are over gates.
+#[derive(Clone, Copy)]
+pub(super) struct Operands {
+    pub(super) left: Option<u32>,
+    pub(super) right: Option<u32>,
+}
+
+impl Operands {
+    /// How many operands are over gates, 0 to 2.
+    pub(super) fn count(self) -> u32
+        ensures { result ≡ length (over self) }
+    {
+        u32::from(self.left.is_some()) + u32::from(self.right.is_some())
+    }
+}
+
+/// The operands of one gate.
+fn look_up(index: &GateIndex, gate: &Gate) -> Operands
+    ensures { result ≡ record {
+      left = found_at index.now.places.items index.now.others (variable_of gate.now.left);
+      right = found_at index.now.places.items index.now.others (variable_of gate.now.right);
+    } }
+{
+    Operands {
+        left: index.find(gate.left.var()),
+        right: index.find(gate.right.var()),
+    }
+}
+
+/// The operands of all gates.
+pub(super) fn all_operands(alloc: Global, gates: &[Gate]) -> Result<Vec<Operands>, AllocError>
+    requires { length gates.now ≤ LARGEST }
+    ensures { IfOk result (λ all. all.items ≡ map (operands_of gates.now) gates.now) }
+{
+    let index = GateIndex::new(alloc, gates)?;
+    let mut all = Vec::with_capacity(alloc, gates.len())?;
+    for gate in gates {
+        all.push(look_up(&index, gate))?;
+    }
+    Ok(all)
+}

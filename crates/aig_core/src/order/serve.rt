@@ -1,0 +1,36 @@
+//! What follows where a gate is taken.
+ghost use Rattle.std.specs.Prelude.{◌≡◌, ◌==◌, ◌||◌, ◌&&◌, ◌+◌, ◌≤◌, ℕ, length, slice_index, nat_lt, OnOk};
+ghost use Rattle.std.specs.List.{sum};
+ghost use Rattle.aig_core.specs.Users.{uses, LinksFall};
+ghost use Rattle.aig_core.specs.Ready.{has};
+
+use crate::order::Order;
+use crate::order::ready::Ready;
+use crate::order::users::Users;
+use std::alloc::AllocError;
+
+/// Counts down the users of a gate, and adds those to the ready ones that wait for nothing then.
+pub(super) fn serve(
+    users: &Users,
+    gate: u32,
+    order: &mut Order,
+    ready: &mut Ready,
+) -> Result<(), AllocError>
+    requires links { LinksFall users.now.links.items }
+    requires waiting { (u : ℕ) → uses users.now.heads.items users.now.links.items gate u ≤ slice_index order.old.waiting u }
+    ensures list { OnOk result (order.new.list ≡ order.old.list) }
+    ensures as_many { OnOk result (length order.new.waiting ≡ length order.old.waiting) }
+    ensures waiting { OnOk result ((u : ℕ) → slice_index order.new.waiting u + uses users.now.heads.items users.now.links.items gate u ≡ slice_index order.old.waiting u) }
+    ensures steps { OnOk result (order.new.steps + sum order.new.waiting ≡ order.old.steps + sum order.old.waiting) }
+    ensures ready { OnOk result ((u : ℕ) → has ready.new u ≡ (has ready.old u || (nat_lt 0 (slice_index order.old.waiting u) && (slice_index order.new.waiting u == 0)))) }
+{
+    let mut link = users.first(gate);
+    while let Some((user, next)) = users.follow(link) {
+        order.count_down(user);
+        if order.waiting(user) == 0 {
+            ready.insert(user)?;
+        }
+        link = next;
+    }
+    Ok(())
+}
