@@ -18,6 +18,10 @@ use Rattle.aig_core.specs.Form.{IsInForm}
 use Rattle.aig_core.specs.declared.fault.CheckFault.TheVariants.{OutOfMemory, Redefined, Undefined}
 use Rattle.aig_core.specs.Fault.{IsFault, first_repeat, first_unknown, with_all, is_known, first_fault}
 use Rattle.std.specs.Option.{option_map, option_or}
+use Rattle.aig_core.specs.Order.{first_cyclic}
+use Rattle.aig_core.proofs.LeastReady.{a_least_ready_order}
+use Rattle.aig_core.proofs.Ranked.{rank_exactly_where_all_are_ordered}
+use Rattle.aig_core.proofs.Cyclic.{none_cyclic, all_listed_where_none}
 
 same_is_equal : (x : ℕ) → eq_by_cmp nat_cmp x x ≡ true
 same_is_equal x = (eq_by_cmp_equiv nat_cmp_total).refl x
@@ -121,39 +125,44 @@ none_unknown vars [] h = refl
 none_unknown vars (x ∷ xs) h =
     ap (λ b. cond b (first_unknown (with_all set.empty vars) xs) (Some x)) (known_told vars x h.0) ∙ none_unknown vars xs h.1
 
-nothing_told : (repeat unknown : Option ℕ) → option_or (option_map Redefined repeat) (option_map Undefined unknown) ≡ None → (repeat ≡ None) × (unknown ≡ None)
-nothing_told None None h = (refl, refl)
-nothing_told None (Some x) h = cc
-nothing_told (Some x) unknown h = cc
+nothing_told : (repeat unknown cyclic : Option ℕ) → option_or (option_map Redefined repeat) (option_or (option_map Undefined unknown) (option_map Cyclic cyclic)) ≡ None
+    → (repeat ≡ None) × (unknown ≡ None) × (cyclic ≡ None)
+nothing_told None None None h = (refl, refl, refl)
+nothing_told None None (Some x) h = cc
+nothing_told None (Some x) cyclic h = cc
+nothing_told (Some x) unknown cyclic h = cc
 
--- a circuit in form, without a fault and with a rank of its gates, is well formed
-pub well_formed_with_rank : (c : Circuit) → IsInForm c → HasRank c.gates → first_fault c ≡ None → IsWellFormed c
-well_formed_with_rank c form rank h =
-    let n = nothing_told (first_repeat set.empty (defined_variables c)) (first_unknown (with_all set.empty (defined_variables c)) (used_literals c)) h in
+-- where each variable is defined once and no gate depends on a cycle, the gates have a rank
+ranked_where_none_cyclic : (c : Circuit) → AreDistinct (defined_variables c) → first_cyclic c.gates ≡ None → HasRank c.gates
+ranked_where_none_cyclic c once none =
+    let order = a_least_ready_order c in
+    (rank_exactly_where_all_are_ordered c order.0 once order.1).1 (all_listed_where_none c.gates order.0 order.1.full order.1.in_turn none)
+
+-- a circuit in form without a fault is well formed
+pub well_formed : (c : Circuit) → IsInForm c → first_fault c ≡ None → IsWellFormed c
+well_formed c form h =
+    let n = nothing_told (first_repeat set.empty (defined_variables c)) (first_unknown (with_all set.empty (defined_variables c)) (used_literals c)) (first_cyclic c.gates) h in
+    let once : AreDistinct (defined_variables c) = distinct set.empty (defined_variables c) n.0 in
     record {
       limits = form.limits;
       in_range = form.variables;
-      once = distinct set.empty (defined_variables c) n.0;
-      known = all_known (defined_variables c) (used_literals c) n.1;
+      once = once;
+      known = all_known (defined_variables c) (used_literals c) n.1.0;
       symbols = form.symbols;
-      ranked = rank;
+      ranked = ranked_where_none_cyclic c once n.1.1;
     }
-
-pub rank_of_none : (gates : List Gate) → gates ≡ [] → HasRank gates
-rank_of_none gates no_gates = ((λ _. 0), λ g h g_in h_in e. let q : Contains [] g = subst (λ (gs : List Gate). Contains gs g) no_gates g_in in absurd (omega arith))
-
-pub well_formed : (c : Circuit) → IsInForm c → c.gates ≡ [] → first_fault c ≡ None → IsWellFormed c
-well_formed c form no_gates h = well_formed_with_rank c form (rank_of_none c.gates no_gates) h
 
 -- a well-formed circuit has no fault
 pub faultless : (c : Circuit) → IsWellFormed c → first_fault c ≡ None
 faultless c w =
     let once : first_repeat set.empty (defined_variables c) ≡ None = nothing_repeats set.empty (defined_variables c) w.once (λ y _ h. none_in_empty y h) in
     let known : first_unknown (with_all set.empty (defined_variables c)) (used_literals c) ≡ None = none_unknown (defined_variables c) (used_literals c) w.known in
-    rw (once, known) refl
+    let order = a_least_ready_order c in
+    let acyclic : first_cyclic c.gates ≡ None = none_cyclic c.gates order.0 order.1.full order.1.in_turn ((rank_exactly_where_all_are_ordered c order.0 w.once order.1).0 w.ranked) in
+    rw (once, known, acyclic) refl
 
-pub faultless_is_well_formed : (c : Circuit) → IsInForm c → c.gates ≡ [] → (first_fault c ≡ None) ↔ IsWellFormed c
-faultless_is_well_formed c form no_gates = (well_formed c form no_gates, faultless c)
+pub faultless_is_well_formed : (c : Circuit) → IsInForm c → (first_fault c ≡ None) ↔ IsWellFormed c
+faultless_is_well_formed c form = (well_formed c form, faultless c)
 
 -- a well-formed circuit is told nothing but want of memory
 told_of_none : (e : CheckFault) → e ≢ OutOfMemory → IsFault e None → ⊥

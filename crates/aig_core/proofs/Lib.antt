@@ -2,6 +2,7 @@ pub mod Counted
 pub mod Gates
 pub mod LeastReady
 pub mod Ranked
+pub mod Cyclic
 pub mod Chains
 pub mod Served
 pub mod Sets

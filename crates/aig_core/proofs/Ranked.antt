@@ -21,7 +21,7 @@ abbrev Ranks : ℕ → (ℕ → List ℕ) → (ℕ → ℕ) → Type 0
 Ranks count needs rank = (g h : ℕ) → g < count → IsAmong h (needs g) → rank h < rank g
 
 module _ (count : ℕ) (needs : ℕ → List ℕ) (list : List ℕ) where
-  all_served : (xs : List ℕ) → ((h : ℕ) → IsAmong h xs → IsAmong h list) → AllByRecursion (λ h. IsAmong h list) xs
+  pub all_served : (xs : List ℕ) → ((h : ℕ) → IsAmong h xs → IsAmong h list) → AllByRecursion (λ h. IsAmong h list) xs
   all_served [] serve = tt
   all_served (x ∷ xs) serve = (serve x (inl refl), all_served xs (λ h a. serve h (inr a)))
 
@@ -64,7 +64,7 @@ after_needs count needs at taken (x ∷ xs) k in_turn past here g h left listed 
     g h (λ a. ⊎_elim f.1 left a) later used)
     (eqb_tells g x)
 
-no_gate : Gate
+pub no_gate : Gate
 no_gate = record { var = 0; left = 0; right = 0 }
 
 -- the positions that two operands tell
@@ -90,7 +90,7 @@ distinct_back (x ∷ xs) ys d = distinct_back xs ys d.1
 abbrev variables : List Gate → List ℕ
 variables gates = map (λ (g : Gate). g.var) gates
 
-stands_there : (gates : List Gate) (i : ℕ) → i < length gates → IsAmong (get_or gates i no_gate).var (variables gates)
+pub stands_there : (gates : List Gate) (i : ℕ) → i < length gates → IsAmong (get_or gates i no_gate).var (variables gates)
 stands_there [] i below = absurd (omega arith)
 stands_there (g ∷ gs) zero below = inl refl
 stands_there (g ∷ gs) (suc i) below = inr (stands_there gs i (omega arith))
@@ -103,10 +103,10 @@ differ (g ∷ gs) once (suc k) zero before below e = absurd (omega arith)
 differ (g ∷ gs) once (suc k) (suc i) before below e = differ gs once.1 k i (omega arith) (omega arith) e
 
 module _ (gates : List Gate) where
-  abbrev at : ℕ → Gate
+  abbrev pub at : ℕ → Gate
   at i = get_or gates i no_gate
 
-  needed : (g : ℕ) → g < length gates → gate_operands gates g ≡ gates_under gates (at g)
+  pub needed : (g : ℕ) → g < length gates → gate_operands gates g ≡ gates_under gates (at g)
   needed g there = get_or-map (gates_under gates) gates g no_gate [] there
 
   found : (v p : ℕ) → gate_of gates v ≡ Some p → (p < length gates) × ((at p).var ≡ v)
@@ -124,7 +124,7 @@ module _ (gates : List Gate) where
   contained i there = (i, there, get_or_default gates i (at i) no_gate there)
 
   -- a gate that is needed is one of an operand's variable
-  over_one : (g h : ℕ) → g < length gates → IsAmong h (gate_operands gates g) → (h < length gates) × IsAmong (at h).var (map variable_of (operands (at g)))
+  pub over_one : (g h : ℕ) → g < length gates → IsAmong h (gate_operands gates g) → (h < length gates) × IsAmong (at h).var (map variable_of (operands (at g)))
   over_one g h there used =
       ⊎_elim (λ (e : gate_of gates (variable_of (at g).left) ≡ Some h). let f = found _ h e in (f.0, inl f.1))
       (λ (e : gate_of gates (variable_of (at g).right) ≡ Some h). let f = found _ h e in (f.0, inr (inl f.1)))

@@ -1,13 +1,15 @@
--- The first structural fault of a circuit: a redefinition before an undefined literal (this project's profile).
+-- The first structural fault of a circuit: a redefinition before an undefined literal, and that before a cycle (this
+-- project's profile).
 use Rattle.std.specs.Prelude.{◌≡◌, ◌==◌, ◌||◌, ◌⊎◌, ℕ, List, [], ◌∷◌, Bool, Option, None, Some, if◌then◌else◌}
 use Rattle.std.specs.Option.{option_map, option_or}
 use Rattle.std.specs.Ordering.{nat_cmp}
 use Rattle.std.specs.FinSet as set
 use Rattle.aig_core.specs.declared.circuit.Circuit.{Circuit}
 use Rattle.aig_core.specs.declared.fault.CheckFault.{CheckFault}
-use Rattle.aig_core.specs.declared.fault.CheckFault.TheVariants.{Redefined, Undefined, OutOfMemory}
+use Rattle.aig_core.specs.declared.fault.CheckFault.TheVariants.{Redefined, Undefined, Cyclic, OutOfMemory}
 use Rattle.aig_core.specs.Literal.{variable_of}
 use Rattle.aig_core.specs.Wellformed.{defined_variables, used_literals}
+use Rattle.aig_core.specs.Order.{first_cyclic}
 
 -- the first number that the set has, or that stands before in the list
 abbrev pub first_repeat : set.FinSet nat_cmp → List ℕ → Option ℕ
@@ -32,11 +34,15 @@ first_unknown variables (x ∷ xs) = if is_known variables x then first_unknown 
 abbrev pub first_redefinition : set.FinSet nat_cmp → List ℕ → Option CheckFault
 first_redefinition seen variables = option_map Redefined (first_repeat seen variables)
 
--- the first redefinition, or else the first undefined literal
+-- the first undefined literal, where these variables are defined
+abbrev pub first_undefined : set.FinSet nat_cmp → List ℕ → Option CheckFault
+first_undefined variables literals = option_map Undefined (first_unknown variables literals)
+
+-- the first redefinition, or else the first undefined literal, or else the first gate that depends on a cycle
 abbrev pub first_fault : Circuit → Option CheckFault
 first_fault c =
     option_or (first_redefinition set.empty (defined_variables c))
-    (option_map Undefined (first_unknown (with_all set.empty (defined_variables c)) (used_literals c)))
+    (option_or (first_undefined (with_all set.empty (defined_variables c)) (used_literals c)) (option_map Cyclic (first_cyclic c.gates)))
 
 -- a fault that is told is this one, unless memory was refused
 abbrev pub IsFault : CheckFault → Option CheckFault → Type 0

@@ -1,14 +1,14 @@
 -- What the definitions of this crate say of one another.
-use Rattle.std.specs.Prelude.{ℕ, List, ◌≡◌, ◌<◌, ◌≤◌, ◌+◌, ◌↔◌, [], None, length}
+use Rattle.std.specs.Prelude.{ℕ, List, ◌≡◌, ◌<◌, ◌≤◌, ◌+◌, ◌↔◌, None, length, true}
 use Rattle.aig_core.specs.declared.circuit.Circuit.{Circuit}
 use Rattle.aig_core.specs.Wellformed.{IsWellFormed, IsAmong, AreDistinct, HasRank, defined_variables}
 use Rattle.aig_core.specs.Form.{IsInForm}
 use Rattle.aig_core.specs.Fault.{first_fault}
-use Rattle.aig_core.specs.Order.{IsLeastReadyOrder}
+use Rattle.aig_core.specs.Order.{IsLeastReadyOrder, ends_within}
 
--- a circuit in form, without gates, is well formed exactly where it has no fault
+-- a circuit in form is well formed exactly where it has no fault
 abbrev pub FaultlessIsWellFormed : Type 0
-FaultlessIsWellFormed = (c : Circuit) → IsInForm c → c.gates ≡ [] → (first_fault c ≡ None) ↔ IsWellFormed c
+FaultlessIsWellFormed = (c : Circuit) → IsInForm c → (first_fault c ≡ None) ↔ IsWellFormed c
 
 -- a well-formed circuit has at most as many definitions as its largest index
 abbrev pub DefinitionsFit : Type 0
@@ -30,3 +30,8 @@ GatesHaveOneOrder = (c : Circuit) (list other : List ℕ) → IsLeastReadyOrder 
 abbrev pub RankExactlyWhereAllAreOrdered : Type 0
 RankExactlyWhereAllAreOrdered = (c : Circuit) (list : List ℕ) → AreDistinct (defined_variables c) → IsLeastReadyOrder c list
     → HasRank c.gates ↔ ((gate : ℕ) → gate < length c.gates → IsAmong gate list)
+
+-- a gate does not depend on a cycle exactly where the order has it
+abbrev pub OrderedExactlyWhereItEnds : Type 0
+OrderedExactlyWhereItEnds = (c : Circuit) (list : List ℕ) → IsLeastReadyOrder c list
+    → (gate : ℕ) → gate < length c.gates → IsAmong gate list ↔ (ends_within (length c.gates) c.gates gate ≡ true)

@@ -1,7 +1,7 @@
 -- The order in which gates are taken: each time the least gate whose operands are all taken.
-use Rattle.std.specs.Prelude.{ℕ, ◌==◌, ◌<◌, ◌≤◌, List, [], ◌∷◌, ◌++◌, Option, map, length, slice_index_or}
-use Rattle.std.specs.List.{AllByRecursion, position, flat_map, count_by, list_any}
-use Rattle.std.specs.Option.{option_to_list}
+use Rattle.std.specs.Prelude.{ℕ, zero, suc, ◌==◌, ◌*◌, ◌<◌, ◌≤◌, List, [], ◌∷◌, ◌++◌, Bool, false, not, Option, map, length, slice_index_or}
+use Rattle.std.specs.List.{AllByRecursion, position, flat_map, count_by, list_any, list_all, find}
+use Rattle.std.specs.Option.{option_to_list, option_map}
 use Rattle.aig_core.specs.declared.circuit.Gate.{Gate}
 use Rattle.aig_core.specs.declared.circuit.Circuit.{Circuit}
 use Rattle.aig_core.specs.Literal.{variable_of}
@@ -41,3 +41,21 @@ pub record IsLeastReadyOrder (c : Circuit) (list : List ℕ) : Type 0 where
 -- how many operands, left and right of every gate, are over the variable of a listed gate
 abbrev pub operands_over : Circuit → List ℕ → ℕ
 operands_over c list = count_by (λ h. list_any (λ g. g == h) list) (flat_map (gates_under c.gates) c.gates)
+
+-- how many of the gates that a gate needs are not listed
+abbrev pub left_over : List ℕ → List ℕ → ℕ
+left_over list needs = count_by (λ h. not (list_any (λ g. g == h) list)) needs
+
+-- following operands from gate to gate comes to an end within so many gates
+unfoldable pub ends_within : ℕ → List Gate → ℕ → Bool
+ends_within zero gates gate = false
+ends_within (suc n) gates gate = list_all (ends_within n gates) (gate_operands gates gate)
+
+-- A gate depends on a cycle where following its operands comes to no end. What ends at all ends within as many gates as
+-- there are.
+abbrev pub depends_on_cycle : List Gate → Gate → Bool
+depends_on_cycle gates g = not (list_all (ends_within (length gates) gates) (gates_under gates g))
+
+-- the literal of the first such gate, in the order of the file
+abbrev pub first_cyclic : List Gate → Option ℕ
+first_cyclic gates = option_map (λ (g : Gate). 2 * g.var) (find (depends_on_cycle gates) gates)

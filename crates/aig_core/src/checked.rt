@@ -1,5 +1,5 @@
 //! Circuits that are well formed, and the check that tells them from the others.
-ghost use Rattle.std.specs.Prelude.{◌≡◌, ◌≢◌, [], IfOk, IfErr, OnOk, None};
+ghost use Rattle.std.specs.Prelude.{◌≡◌, ◌≢◌, IfOk, IfErr, OnOk, None};
 ghost use Rattle.aig_core.specs.declared.fault.CheckFault.TheVariants.{OutOfMemory};
 ghost use Rattle.aig_core.specs.Wellformed.{IsWellFormed};
 ghost use Rattle.aig_core.specs.Form.{IsInForm};
@@ -48,11 +48,10 @@ impl Checked {
     }
 }
 
-/// Checks a circuit in form, so far without gates. Where it is not well formed, it is handed back with its first fault;
+/// Checks a circuit in form. Where it is not well formed, it is handed back with its first fault;
 /// where memory is refused, with that.
 pub fn check(alloc: Global, circuit: Circuit) -> Result<Checked, (Circuit, CheckFault)>
     requires in_form { IsInForm circuit }
-    requires no_gates { circuit.gates ≡ [] }
     ensures ok { IfOk result (λ checked. checked ≡ circuit) }
     ensures well_formed { OnOk result (IsWellFormed circuit) }
     ensures ok_faultless { OnOk result (first_fault circuit ≡ None) }

@@ -15,6 +15,10 @@ pub enum CheckFault {
     /// The literal is used, and nothing defines its variable.
     #[error("literal {0} not defined")]
     Undefined(Lit),
+    /// No variable is defined twice and every used one is defined, but this gate, told by its own literal, depends on a
+    /// cycle of gates: it lies on one, or uses a gate that does.
+    #[error("gate {0} depends on a cycle")]
+    Cyclic(Lit),
     /// A growth of memory was refused; nothing is known of the circuit.
     #[error("out of memory")]
     OutOfMemory,

@@ -1,8 +1,9 @@
 //! Laws: facts about the definitions alone, each the contract of a function with an empty body.
 ghost use Rattle.aig_core.specs.Laws.{FaultlessIsWellFormed, DefinitionsFit, WellFormedIsInForm};
-ghost use Rattle.aig_core.specs.Laws.{GatesHaveAnOrder, GatesHaveOneOrder, RankExactlyWhereAllAreOrdered};
+ghost use Rattle.aig_core.specs.Laws.{GatesHaveAnOrder, GatesHaveOneOrder};
+ghost use Rattle.aig_core.specs.Laws.{RankExactlyWhereAllAreOrdered, OrderedExactlyWhereItEnds};
 
-/// A circuit in form, without gates, is well formed exactly where the check finds no fault.
+/// A circuit in form is well formed exactly where the check finds no fault.
 pub fn faultless_is_well_formed()
     ensures { FaultlessIsWellFormed }
 {}
@@ -26,4 +27,9 @@ pub fn gates_have_one_order()
 /// No gate depends on itself exactly where the least ready order has every gate.
 pub fn rank_exactly_where_all_are_ordered()
     ensures { RankExactlyWhereAllAreOrdered }
+{}
+
+/// A gate is in the least ready order exactly where it does not depend on a cycle.
+pub fn ordered_exactly_where_it_ends()
+    ensures { OrderedExactlyWhereItEnds }
 {}
