@@ -4,6 +4,8 @@ pub mod LeastReady
 pub mod Ranked
 pub mod Chains
 pub mod Served
+pub mod Ordered
+pub mod Steps
 pub mod Sets
 pub mod Members
 pub mod Told

@@ -64,7 +64,7 @@ after_needs count needs at taken (x ∷ xs) k in_turn past here g h left listed 
     g h (λ a. ⊎_elim f.1 left a) later used)
     (eqb_tells g x)
 
-no_gate : Gate
+abbrev pub no_gate : Gate
 no_gate = record { var = 0; left = 0; right = 0 }
 
 -- the positions that two operands tell
@@ -103,10 +103,10 @@ differ (g ∷ gs) once (suc k) zero before below e = absurd (omega arith)
 differ (g ∷ gs) once (suc k) (suc i) before below e = differ gs once.1 k i (omega arith) (omega arith) e
 
 module _ (gates : List Gate) where
-  abbrev at : ℕ → Gate
+  abbrev pub at : ℕ → Gate
   at i = get_or gates i no_gate
 
-  needed : (g : ℕ) → g < length gates → gate_operands gates g ≡ gates_under gates (at g)
+  pub needed : (g : ℕ) → g < length gates → gate_operands gates g ≡ gates_under gates (at g)
   needed g there = get_or-map (gates_under gates) gates g no_gate [] there
 
   found : (v p : ℕ) → gate_of gates v ≡ Some p → (p < length gates) × ((at p).var ≡ v)
@@ -124,7 +124,7 @@ module _ (gates : List Gate) where
   contained i there = (i, there, get_or_default gates i (at i) no_gate there)
 
   -- a gate that is needed is one of an operand's variable
-  over_one : (g h : ℕ) → g < length gates → IsAmong h (gate_operands gates g) → (h < length gates) × IsAmong (at h).var (map variable_of (operands (at g)))
+  pub over_one : (g h : ℕ) → g < length gates → IsAmong h (gate_operands gates g) → (h < length gates) × IsAmong (at h).var (map variable_of (operands (at g)))
   over_one g h there used =
       ⊎_elim (λ (e : gate_of gates (variable_of (at g).left) ≡ Some h). let f = found _ h e in (f.0, inl f.1))
       (λ (e : gate_of gates (variable_of (at g).right) ≡ Some h). let f = found _ h e in (f.0, inr (inl f.1)))

@@ -10,6 +10,7 @@ use std::alloc::{AllocError, Global};
 use std::marker::Model;
 
 mod gate_index;
+pub mod least_ready;
 mod operands;
 mod ready;
 mod serve;
