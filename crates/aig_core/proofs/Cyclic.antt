@@ -1,18 +1,22 @@
 -- Which gates depend on a cycle: those that the least ready order does not have.
-use Rattle.std.proofs.Common.{◌≡◌, ◌≢◌, ◌<◌, ◌≤◌, ◌+◌, ◌-◌, ◌*◌, ℕ, zero, suc, List, [], ◌∷◌, ◌++◌, Bool, true, false, not, ◌&&◌, cond, eqb, ltb, Option, None, Some, length, map, get_or, refl, sym, ap, ap₂, subst, ◌∙◌, ◌⊎◌, ◌↔◌, inl, inr, ⊎_elim, arith}
-use Rattle.std.specs.List.{AllByRecursion, list_all, list_any, find, position}
+use Rattle.std.proofs.Common.{◌≡◌, ◌≢◌, ◌<◌, ◌≤◌, ◌+◌, ◌-◌, ◌*◌, ℕ, zero, suc, List, [], ◌∷◌, ◌++◌, Bool, true, false, not, ◌&&◌, cond, eqb, ltb, Option, None, Some, length, map, get_or, refl, sym, ap, ap₂, subst, ◌∙◌, ◌⊎◌, ◌↔◌, inl, inr, ⊎_elim, arith, true≢false}
+use Rattle.std.specs.List.{AllByRecursion, list_all, find, position, position_or_len, slice_get}
 use Rattle.std.specs.Option.{option_map}
 use Rattle.aig_core.specs.declared.circuit.Gate.{Gate}
 use Rattle.aig_core.specs.declared.circuit.Circuit.{Circuit}
-use Rattle.aig_core.specs.Wellformed.{IsAmong, AreDistinct}
+use Rattle.aig_core.specs.declared.circuit.Latch.{Latch}
+use Rattle.aig_core.specs.declared.circuit.TheConstants.{LARGEST}
+use Rattle.aig_core.specs.Form.{IsInForm}
+use Rattle.aig_core.specs.Wellformed.{IsAmong, AreDistinct, IsVariableUpTo, defined_variables}
 use Rattle.aig_core.specs.Order.{gates_under, gate_operands, IsReady, TakesLeast, IsFull, IsLeastReadyOrder, ends_within, depends_on_cycle, first_cyclic, left_over}
 use Rattle.aig_core.proofs.Fitting.{each, at_most_below}
 use Rattle.aig_core.proofs.Ranked.{over_one, all_served, no_gate, at, needed, stands_there}
-use Rattle.aig_core.proofs.InForm.{among_decides}
+use Rattle.aig_core.proofs.Ordered.{none_open, all_in, each_served}
 use Rattle.std.proofs.lemmas.List.Folds.{find_at}
-use Rattle.std.proofs.lemmas.List.Sums.{position_or_len_is}
+use Rattle.std.proofs.lemmas.Bool.{cases_lt, lt-ltb}
+use Rattle.std.proofs.lemmas.List.Sums.{position_or_len_is, fails_before_first}
 use Rattle.std.proofs.lemmas.List.Quantifiers.{position-Some}
-use Rattle.std.proofs.lemmas.Option.{slice_get_within}
+use Rattle.std.proofs.lemmas.Option.{slice_get-get_or}
 
 and_left : (a b : Bool) → (a && b) ≡ true → a ≡ true
 and_left true b h = refl
@@ -134,39 +138,51 @@ module _ (gates : List Gate) (list : List ℕ) (order_full : IsFull (length gate
   all_listed_where_none h i there =
       placed_where_free i there (none_found (depends_on_cycle gates) gates (none_mapped (find (depends_on_cycle gates) gates) h) i there)
 
-none_left : (list : List ℕ) (h : ℕ) → IsAmong h list → not (list_any (λ g. eqb g h) list) ≡ false
-none_left list h a = ap not ((among_decides h list).1 a)
+none_before : (ws : List ℕ) → position (λ n. ltb 0 n) ws ≡ None → (k : ℕ) → k < length ws → ltb 0 (get_or ws k 0) ≡ false
+none_before ws e k below =
+    ⊎_elim (λ (there : position_or_len (λ n. ltb 0 n) ws < length ws).
+    let some : position (λ n. ltb 0 n) ws ≡ Some (position_or_len (λ n. ltb 0 n) ws) = ap (λ b. cond b (Some (position_or_len (λ n. ltb 0 n) ws)) None) (lt-ltb (position_or_len (λ n. ltb 0 n) ws) (length ws) there) in cc)
+    (λ (past : length ws ≤ position_or_len (λ n. ltb 0 n) ws). fails_before_first (λ n. ltb 0 n) ws k 0 (omega (arith, past, below)))
+    (cases_lt (position_or_len (λ n. ltb 0 n) ws) (length ws))
 
--- where all are listed, none is left over
-nothing_left : (list xs : List ℕ) → ((x : ℕ) → IsAmong x xs → IsAmong x list) → left_over list xs ≡ 0
-nothing_left list [] all = refl
-nothing_left list (x ∷ xs) all = rw (none_left list x (all x (inl refl))) (nothing_left list xs (λ y a. all y (inr a)))
+some_below : (n : ℕ) → ¬ (n ≡ 0) → ltb 0 n ≡ true
+some_below zero h = absurd (h refl)
+some_below (suc n) h = lt-ltb 0 (suc n) (omega arith)
 
--- where none is left over, all are listed
-all_there : (list xs : List ℕ) → left_over list xs ≡ 0 → AllByRecursion (λ h. IsAmong h list) xs
-all_there list [] none = tt
-all_there list (x ∷ xs) none =
-    elim (list_any (λ g. eqb g x) list) as (λ b. list_any (λ g. eqb g x) list ≡ b → cond (not b) 1 0 + left_over list xs ≡ 0 → IsAmong x list × AllByRecursion (λ h. IsAmong h list) xs) [
-      | true ↦ λ e n. ((among_decides x list).0 e, all_there list xs (omega (arith, n)))
-      | false ↦ λ _ n. absurd (omega (arith, n))
-    ] refl none
+among_last : (xs ys : List ℕ) (x : ℕ) → IsAmong x ys → IsAmong x (xs ++ ys)
+among_last [] ys x a = a
+among_last (z ∷ xs) ys x a = inr (among_last xs ys x a)
 
-module _ (c : Circuit) (list waiting : List ℕ) (order : IsLeastReadyOrder c list) (as_many : length waiting ≡ length c.gates)
-(left : (u : ℕ) → get_or waiting u 0 ≡ left_over list (gate_operands c.gates u)) where
-  abbrev count_gates : ℕ
-  count_gates = length c.gates
-
-  -- a gate waits for an operand exactly where it depends on a cycle
-  waits_where : (i : ℕ) → i < length c.gates → ltb 0 (get_or waiting i 0) ≡ depends_on_cycle c.gates (at c.gates i)
+-- the first gate that waits is the first that depends on a cycle
+module _ (gates : List Gate) (list waiting : List ℕ) (full : IsFull (length gates) (gate_operands gates) list) (in_turn : TakesLeast (length gates) (gate_operands gates) [] list) (as_many : length waiting ≡ length gates)
+    (left : (u : ℕ) → u < length gates → get_or waiting u 0 ≡ left_over list (gate_operands gates u)) where
+  waits_where : (i : ℕ) → i < length gates → depends_on_cycle gates (at gates i) ≡ ltb 0 (get_or waiting i 0)
   waits_where i there =
-      elim (depends_on_cycle c.gates (at c.gates i)) as (λ b. depends_on_cycle c.gates (at c.gates i) ≡ b → ltb 0 (get_or waiting i 0) ≡ b) [
-        | true ↦ λ e. waits e
-        | false ↦ λ e. waits_not e
+      elim (depends_on_cycle gates (at gates i)) as (λ b. depends_on_cycle gates (at gates i) ≡ b → b ≡ ltb 0 (get_or waiting i 0)) [
+        | true ↦ λ e. sym (some_below (get_or waiting i 0) (λ z.
+            let listed : IsAmong i list = full i there (none_open list (gate_operands gates i) (sym (left i there) ∙ z)) in
+            true≢false (sym e ∙ free gates list full in_turn i there listed)))
+        | false ↦ λ e.
+            let listed : IsAmong i list = placed_where_free gates list full in_turn i there e in
+            let nothing : get_or waiting i 0 ≡ 0 = left i there ∙ all_in list (gate_operands gates i) (each_served (length gates) (gate_operands gates) [] list in_turn list (λ h n. absurd n) (λ h a. a) i listed) in
+            ap (ltb 0) (sym nothing)
       ] refl
-    where
-      waits_not : depends_on_cycle c.gates (at c.gates i) ≡ false → ltb 0 (get_or waiting i 0) ≡ false
-      waits_not e =
-          let none : left_over list (gate_operands c.gates i) ≡ 0 = nothing_left list (gate_operands c.gates i) (λ x a. needs_listed c list order i there e x a) in
-          rw (left i, none) refl
-      waits : depends_on_cycle c.gates (at c.gates i) ≡ true → ltb 0 (get_or waiting i 0) ≡ true
-      waits e = some_waits (get_or waiting i 0) (λ (z : get_or waiting i 0 ≡ 0). cyclic_not_ready c list order i there e (all_there list (gate_operands c.gates i) (sym (left i) ∙ z)))
+
+  pub cyclic_at : (p : ℕ) → position (λ n. ltb 0 n) waiting ≡ Some p → (p < length gates) × (first_cyclic gates ≡ Some (2 * (at gates p).var))
+  cyclic_at p e =
+      let told = position-Some (λ n. ltb 0 n) waiting p 0 e in
+      let there : p < length gates = omega (arith, told.0, as_many) in
+      let place : position_or_len (depends_on_cycle gates) gates ≡ p =
+      position_or_len_is (depends_on_cycle gates) gates p no_gate (omega arith) (λ k before. waits_where k (omega (arith, before, there)) ∙ told.2 k before) (λ _. waits_where p there ∙ told.1) in
+      (there, ap (option_map (λ (g : Gate). 2 * g.var)) (find_at (depends_on_cycle gates) gates ∙ ap (slice_get gates) place ∙ slice_get-get_or gates p no_gate there))
+
+  pub cyclic_nowhere : position (λ n. ltb 0 n) waiting ≡ None → first_cyclic gates ≡ None
+  cyclic_nowhere e =
+      ap (option_map (λ (g : Gate). 2 * g.var)) (find_none (depends_on_cycle gates) gates (λ i there. waits_where i there ∙ none_before waiting e i (omega (arith, there, as_many))))
+
+-- a gate's variable is one that a circuit in form may define
+pub in_bounds : (c : Circuit) → IsInForm c → (p : ℕ) → p < length c.gates → (at c.gates p).var ≤ LARGEST
+in_bounds c form p there =
+    let defined : IsAmong (at c.gates p).var (defined_variables c) = among_last (c.inputs ++ map (λ (l : Latch). l.var) c.latches) (map (λ (g : Gate). g.var) c.gates) (at c.gates p).var (stands_there c.gates p there) in
+    let range : IsVariableUpTo c.max_var (at c.gates p).var = each (IsVariableUpTo c.max_var) (defined_variables c) form.variables (at c.gates p).var defined in
+    omega (arith, range.1, form.limits.max_var)

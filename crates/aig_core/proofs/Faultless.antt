@@ -15,7 +15,7 @@ use Rattle.aig_core.specs.declared.circuit.Gate.{Gate}
 use Rattle.aig_core.specs.Literal.{variable_of}
 use Rattle.aig_core.specs.Wellformed.{IsAmong, AreDistinct, IsKnown, HasRank, IsWellFormed, defined_variables, used_literals}
 use Rattle.aig_core.specs.Form.{IsInForm}
-use Rattle.aig_core.specs.declared.fault.CheckFault.TheVariants.{OutOfMemory, Redefined, Undefined}
+use Rattle.aig_core.specs.declared.fault.CheckFault.TheVariants.{OutOfMemory, Redefined, Undefined, Cyclic}
 use Rattle.aig_core.specs.Fault.{IsFault, first_repeat, first_unknown, with_all, is_known, first_fault}
 use Rattle.std.specs.Option.{option_map, option_or}
 use Rattle.aig_core.specs.Order.{first_cyclic}
@@ -147,9 +147,9 @@ well_formed c form h =
       limits = form.limits;
       in_range = form.variables;
       once = once;
-      known = all_known (defined_variables c) (used_literals c) n.1.0;
+      known = all_known (defined_variables c) (used_literals c) n.1;
       symbols = form.symbols;
-      ranked = ranked_where_none_cyclic c once n.1.1;
+      ranked = ranked_where_none_cyclic c once n.2;
     }
 
 -- a well-formed circuit has no fault

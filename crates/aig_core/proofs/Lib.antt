@@ -2,9 +2,11 @@ pub mod Counted
 pub mod Gates
 pub mod LeastReady
 pub mod Ranked
-pub mod Cyclic
 pub mod Chains
 pub mod Served
+pub mod Ordered
+pub mod Cyclic
+pub mod Steps
 pub mod Sets
 pub mod Members
 pub mod Told

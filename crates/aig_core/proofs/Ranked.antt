@@ -64,7 +64,7 @@ after_needs count needs at taken (x ∷ xs) k in_turn past here g h left listed 
     g h (λ a. ⊎_elim f.1 left a) later used)
     (eqb_tells g x)
 
-pub no_gate : Gate
+abbrev pub no_gate : Gate
 no_gate = record { var = 0; left = 0; right = 0 }
 
 -- the positions that two operands tell

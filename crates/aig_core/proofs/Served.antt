@@ -1,5 +1,5 @@
 -- A user of a gate is counted down.
-use Rattle.std.proofs.Common.{◌≡◌, ◌≢◌, ◌<◌, ◌≤◌, ◌+◌, ◌-◌, ◌/◌, ℕ, List, [], ◌∷◌, length, get_or, Bool, cond, eqb, ltb, true, false, Option, None, Some, refl, sym, ap, ap₂, ◌∙◌, ◌⊎◌, ⊎_elim, arith}
+use Rattle.std.proofs.Common.{◌≡◌, ◌≢◌, ◌<◌, ◌≤◌, ◌+◌, ◌-◌, ◌/◌, ℕ, List, length, get_or, Bool, cond, eqb, ltb, true, false, Option, None, Some, refl, sym, ap, ap₂, ◌∙◌, ⊎_elim, arith}
 use mathlib.Core.Bool.{◌||◌, ◌&&◌}
 use Rattle.std.specs.List.{count_by, sum}
 use Rattle.std.proofs.Math.ListN.{set as put}
@@ -7,7 +7,7 @@ use Rattle.std.proofs.lemmas.Bool.{ne_eqb, cases_lt}
 use Rattle.std.proofs.lemmas.Bool.Decides.{Decides-eqb, eqb_tells}
 use Rattle.std.proofs.lemmas.List.{get_or-set_same, get_or-set_other, get_or_past}
 use Rattle.std.proofs.lemmas.List.Sums.{sum_by-cons, sum_by-set}
-use Rattle.aig_core.specs.Users.{users_from, uses, followed, LinksFall}
+use Rattle.aig_core.specs.Users.{users_from, followed, LinksFall}
 use Rattle.aig_core.proofs.Chains.{first_user, ended}
 
 abbrev pub found : ℕ → ℕ → Option (ℕ × ℕ)

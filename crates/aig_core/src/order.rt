@@ -1,8 +1,9 @@
 //! The order of gates.
-ghost use Rattle.std.specs.Prelude.{◌≡◌, ◌+◌, ◌-◌, ◌<◌, ◌≤◌, [], ◌∷◌, ◌++◌, length, map, slice_index, slice_set, IfOk};
+ghost use Rattle.std.specs.Prelude.{◌≡◌, ◌+◌, ◌-◌, ◌<◌, ◌≤◌, [], ◌∷◌, ◌++◌, length, map, nat_lt, slice_index, slice_set, IfOk};
 ghost use Rattle.aig_core.specs.Wellformed.{IsAmong};
 ghost use Rattle.aig_core.specs.Order.{gates_under};
 ghost use Rattle.aig_core.specs.Operands.{over};
+ghost use Rattle.std.specs.List.{position};
 
 use crate::circuit::{Circuit, LARGEST};
 use crate::order::operands::{Operands, all_operands};
@@ -10,6 +11,7 @@ use std::alloc::{AllocError, Global};
 use std::marker::Model;
 
 mod gate_index;
+pub mod least_ready;
 mod operands;
 mod ready;
 mod serve;
@@ -89,6 +91,13 @@ impl Order {
         ensures { result ≡ slice_index self.now.waiting gate }
     {
         self.waiting[gate as usize]
+    }
+
+    /// The first gate that still waits for an operand.
+    pub(crate) fn first_waiting(&self) -> Option<usize>
+        ensures { result ≡ position (λ n. nat_lt 0 n) self.now.waiting }
+    {
+        self.waiting.iter().position(|operands| *operands > 0)
     }
 
     /// Takes a gate that waits for nothing, as one step.

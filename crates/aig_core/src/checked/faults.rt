@@ -1,20 +1,24 @@
 //! What is wrong with a circuit: the first variable that is defined twice, or else the first literal that is used and
-//! not defined.
-ghost use Rattle.std.specs.Prelude.{◌≡◌, IfOk, IfErr, OnOk, None};
+//! not defined, or else the first gate that depends on a cycle.
+ghost use Rattle.std.specs.Prelude.{◌≡◌, ◌≤◌, ◌*◌, IfOk, IfErr, OnOk, None};
 ghost use Rattle.std.specs.List.{flat_map};
 ghost use Rattle.std.specs.Option.{option_to_list};
 ghost use Rattle.std.specs.FinSet as set;
 ghost use Rattle.aig_core.specs.Wellformed.{defined_variables, used_literals};
 ghost use Rattle.aig_core.specs.Fault.{first_fault, first_repeat, first_redefinition, first_unknown, with_all};
 ghost use Rattle.aig_core.specs.Fault.{is_known, IsFault};
+ghost use Rattle.aig_core.specs.Form.{IsInForm};
+ghost use Rattle.aig_core.specs.Order.{first_cyclic};
+ghost use Rattle.aig_core.specs.declared.circuit.TheConstants.{LARGEST as largest};
 
-use crate::circuit::Circuit;
+use crate::circuit::{Circuit, Gate, LARGEST};
 use crate::entry::Entry;
 use crate::fault::CheckFault;
 use crate::listing::Listing;
 use crate::literal::Lit;
+use crate::order::least_ready::gate_order;
 use crate::var_set::VarSet;
-use std::alloc::Global;
+use std::alloc::{AllocError, Global};
 
 /// Adds the variable that an entry defines to those that were seen, unless it was seen before.
 fn define<T: Entry>(seen: &mut VarSet, entry: &T) -> Result<(), CheckFault>
@@ -110,14 +114,39 @@ fn first_undefined(variables: &VarSet, circuit: &Circuit) -> Option<Lit>
         .or_else(|| first_unknown_use(variables, &circuit.gates))
 }
 
-/// The first fault of a circuit, which tells nothing of the order of its gates.
+/// The literal of a gate.
+fn own_literal(gate: &Gate) -> Lit
+    requires { gate.now.var ≤ largest }
+    ensures { result ≡ 2 * gate.now.var }
+{
+    Lit(2 * gate.var.0)
+}
+
+/// The literal of the first gate that depends on a cycle.
+fn first_cyclic(alloc: Global, circuit: &Circuit) -> Result<Option<Lit>, AllocError>
+    requires { IsInForm circuit.now }
+    ensures { IfOk result (λ literal. literal ≡ first_cyclic circuit.now.gates) }
+{
+    let order = gate_order(alloc, circuit)?;
+    match order.first_waiting() {
+        Some(gate) => Ok(Some(own_literal(&circuit.gates.as_slice()[gate]))),
+        None => Ok(None),
+    }
+}
+
+/// The first fault of a circuit.
 pub(crate) fn find_fault(alloc: Global, circuit: &Circuit) -> Result<(), CheckFault>
+    requires { IsInForm circuit.now }
     ensures ok { OnOk result (first_fault circuit.now ≡ None) }
     ensures err { IfErr result (λ e. IsFault e (first_fault circuit.now)) }
 {
     let variables = definitions(alloc, circuit)?;
-    match first_undefined(&variables, circuit) {
-        Some(literal) => Err(CheckFault::Undefined(literal)),
+    if let Some(literal) = first_undefined(&variables, circuit) {
+        return Err(CheckFault::Undefined(literal));
+    }
+    drop(variables);
+    match first_cyclic(alloc, circuit)? {
+        Some(literal) => Err(CheckFault::Cyclic(literal)),
         None => Ok(()),
     }
 }

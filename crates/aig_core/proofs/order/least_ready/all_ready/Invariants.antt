@@ -1,0 +1,8 @@
+use Rattle.std.proofs.Common.{◌≡◌, ℕ, eqb, ltb}
+use mathlib.Core.Bool.{◌&&◌}
+use Rattle.std.specs.List.{slice_index}
+use Rattle.aig_core.specs.Ready.{has}
+use Rattle.aig_core.proofs.order.least_ready.all_ready.Given as goal
+
+abbrev pub invariant-loop-gate : goal.invariant-loop-gate
+invariant-loop-gate l = (g : ℕ) → has l.ready g ≡ (ltb g l.gate && (eqb (slice_index l.order.waiting g) 0))

@@ -1,0 +1,47 @@
+//! The least ready order.
+ghost use Rattle.std.specs.Prelude.{◌≡◌, ◌==◌, ◌+◌, ◌&&◌, ◌<◌, ◌≤◌, ℕ, length, slice_index, nat_lt, IfOk};
+ghost use Rattle.aig_core.specs.Order.{IsLeastReadyOrder, gate_operands, left_over, operands_over};
+ghost use Rattle.aig_core.specs.Ready.{has};
+
+use crate::circuit::{Circuit, LARGEST};
+use crate::order::Order;
+use crate::order::operands::all_operands;
+use crate::order::ready::Ready;
+use crate::order::serve::serve;
+use crate::order::users::Users;
+use std::alloc::{AllocError, Global};
+
+/// The first so many gates that wait for nothing.
+fn all_ready(alloc: Global, order: &Order, gates: u32) -> Result<Ready, AllocError>
+    requires { gates ≡ length order.now.waiting }
+    ensures { IfOk result (λ ready. (g : ℕ) → has ready g ≡ (nat_lt g gates && (slice_index order.now.waiting g == 0))) }
+{
+    let mut ready = Ready::new(alloc);
+    for gate in 0..gates {
+        if order.waiting(gate) == 0 {
+            ready.insert(gate)?;
+        }
+    }
+    Ok(ready)
+}
+
+/// The least ready order of a circuit's gates. Each listed gate is one step, and so is each operand over its variable;
+/// every gate still waits for its operands over gates that are not listed.
+pub fn gate_order(alloc: Global, circuit: &Circuit) -> Result<Order, AllocError>
+    requires { length circuit.now.gates ≤ LARGEST }
+    ensures least { IfOk result (λ order. IsLeastReadyOrder circuit.now order.list) }
+    ensures as_many { IfOk result (λ order. length order.waiting ≡ length circuit.now.gates) }
+    ensures waiting { IfOk result (λ order. (gate : ℕ) → gate < length circuit.now.gates
+        → slice_index order.waiting gate ≡ left_over order.list (gate_operands circuit.now.gates gate)) }
+    ensures steps { IfOk result (λ order. order.steps ≡ length order.list + operands_over circuit.now order.list) }
+{
+    let operands = all_operands(alloc, circuit.gates.as_slice())?;
+    let users = Users::new(alloc, operands.as_slice())?;
+    let mut order = Order::waiting_for(alloc, operands.as_slice())?;
+    let mut ready = all_ready(alloc, &order, circuit.gates.len() as u32)?;
+    while let Some(gate) = ready.pop_first() {
+        order.take(gate);
+        serve(&users, gate, &mut order, &mut ready)?;
+    }
+    Ok(order)
+}
