@@ -14,6 +14,10 @@ operands_of gates g = record { left = gate_of gates (variable_of g.left); right 
 abbrev pub over : Operands → List ℕ
 over o = option_to_list o.left ++ option_to_list o.right
 
+-- how many operands are over gates
+abbrev pub how_many : Operands → ℕ
+how_many o = length (over o)
+
 -- the positions by the gate's own, none past the last gate
 abbrev pub operands_at : List Operands → ℕ → List ℕ
 operands_at operands gate = slice_index_or (map over operands) gate []

@@ -2,6 +2,7 @@
 -- a link is one more than an operand, or 0 at the end of a chain.
 use Rattle.std.specs.Prelude.{ℕ, zero, suc, ◌==◌, ◌-◌, ◌/◌, ◌≤◌, List, [], ◌∷◌, slice_index, Option, None, Some, if◌then◌else◌}
 use Rattle.std.specs.List.{count_by}
+use Rattle.aig_core.specs.declared.order.users.Users.{Users}
 
 -- the users along a chain, at most so many
 unfoldable pub users_up_to : ℕ → List ℕ → ℕ → List ℕ
@@ -23,3 +24,7 @@ uses heads links gate user = count_by (λ u. u == user) (users_from links (slice
 -- the user that a link leads to, and the link after it
 abbrev pub followed : List ℕ → ℕ → Option (ℕ × ℕ)
 followed links link = if link == 0 then None else Some ((link - 1) / 2, slice_index links (link - 1))
+
+-- how many operands of a user are over a gate, as these chains tell
+abbrev pub used_by : Users → ℕ → ℕ → ℕ
+used_by users gate user = uses users.heads.items users.links.items gate user

@@ -2,7 +2,7 @@
 ghost use Rattle.std.specs.Prelude.{◌≡◌, ◌+◌, ◌-◌, ◌<◌, ◌≤◌, [], ◌∷◌, ◌++◌, length, map, nat_lt, slice_index, slice_set, IfOk};
 ghost use Rattle.aig_core.specs.Wellformed.{IsAmong};
 ghost use Rattle.aig_core.specs.Order.{gates_under};
-ghost use Rattle.aig_core.specs.Operands.{over};
+ghost use Rattle.aig_core.specs.Operands.{how_many};
 ghost use Rattle.std.specs.List.{position};
 
 use crate::circuit::{Circuit, LARGEST};
@@ -44,7 +44,7 @@ impl Order {
     /// No gate taken, where the gates have these operands.
     fn waiting_for(alloc: Global, operands: &[Operands]) -> Result<Self, AllocError>
         requires { length operands.now ≤ LARGEST }
-        ensures { IfOk result (λ order. order ≡ record { list = []; waiting = map (λ o. length (over o)) operands.now; steps = 0 }) }
+        ensures { IfOk result (λ order. order ≡ record { list = []; waiting = map how_many operands.now; steps = 0 }) }
     {
         let mut waiting = Vec::with_capacity(alloc, operands.len())?;
         for gate in operands {
@@ -67,7 +67,7 @@ impl Order {
           steps = 0;
         }) }
     {
-        let operands = all_operands(alloc, circuit.gates.as_slice())?;
+        let operands = all_operands(alloc, circuit)?;
         Order::waiting_for(alloc, operands.as_slice())
     }
 

@@ -9,11 +9,11 @@ use crate::literal::Var;
 use std::alloc::{AllocError, Global};
 use std::collections::BTreeMap;
 
-/// How many places there are for each gate.
+/// How many places there are at most for each gate.
 const PLACES_PER_GATE: usize = 4;
 
-/// The positions of gates by the variables that they define: a table for those below a bound, which are most, and a tree
-/// for the others.
+/// The positions of gates by the variables that they define: a table for those below a bound, which are most, and a
+/// tree for the others.
 #[derive(Drop)]
 pub(super) struct GateIndex {
     /// One more than the position, or 0 where there is no gate.
@@ -22,12 +22,12 @@ pub(super) struct GateIndex {
 }
 
 impl GateIndex {
-    /// No positions, and places for so many gates.
-    fn empty(alloc: Global, gates: usize) -> Result<Self, AllocError>
+    /// No positions, and so many places in the table.
+    fn empty(alloc: Global, places: usize) -> Result<Self, AllocError>
         ensures { IfOk result (λ index. (v : ℕ) → found_at index.places.items index.others v ≡ None) }
     {
         Ok(GateIndex {
-            places: vec![in alloc; 0; gates.saturating_mul(PLACES_PER_GATE)]?,
+            places: vec![in alloc; 0; places]?,
             others: BTreeMap::new(alloc),
         })
     }
@@ -59,12 +59,13 @@ impl GateIndex {
         Ok(())
     }
 
-    /// The positions of the gates.
-    pub(super) fn new(alloc: Global, gates: &[Gate]) -> Result<Self, AllocError>
+    /// The positions of the gates, whose variables are mostly not above the largest one.
+    pub(super) fn new(alloc: Global, gates: &[Gate], max_var: u32) -> Result<Self, AllocError>
         requires { length gates.now ≤ LARGEST }
         ensures { IfOk result (λ index. (v : ℕ) → found_at index.places.items index.others v ≡ gate_of gates.now v) }
     {
-        let mut index = GateIndex::empty(alloc, gates.len())?;
+        let places = (max_var as usize + 1).min(gates.len().saturating_mul(PLACES_PER_GATE));
+        let mut index = GateIndex::empty(alloc, places)?;
         for position in 0..gates.len() {
             index.note(gates[position].var, position as u32)?;
         }

@@ -14,7 +14,7 @@ use std::alloc::{AllocError, Global};
 /// The first so many gates that wait for nothing.
 fn all_ready(alloc: Global, order: &Order, gates: u32) -> Result<Ready, AllocError>
     requires { gates ≡ length order.now.waiting }
-    ensures { IfOk result (λ ready. (g : ℕ) → has ready g ≡ (nat_lt g gates && (slice_index order.now.waiting g == 0))) }
+    ensures { IfOk result (λ r. (g : ℕ) → has r g ≡ (nat_lt g gates && (slice_index order.now.waiting g == 0))) }
 {
     let mut ready = Ready::new(alloc);
     for gate in 0..gates {
@@ -35,7 +35,7 @@ pub fn gate_order(alloc: Global, circuit: &Circuit) -> Result<Order, AllocError>
         → slice_index order.waiting gate ≡ left_over order.list (gate_operands circuit.now.gates gate)) }
     ensures steps { IfOk result (λ order. order.steps ≡ length order.list + operands_over circuit.now order.list) }
 {
-    let operands = all_operands(alloc, circuit.gates.as_slice())?;
+    let operands = all_operands(alloc, circuit)?;
     let users = Users::new(alloc, operands.as_slice())?;
     let mut order = Order::waiting_for(alloc, operands.as_slice())?;
     let mut ready = all_ready(alloc, &order, circuit.gates.len() as u32)?;

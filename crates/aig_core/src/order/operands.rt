@@ -2,9 +2,9 @@
 ghost use Rattle.std.specs.Prelude.{◌≡◌, ◌≤◌, ℕ, length, map, IfOk};
 ghost use Rattle.aig_core.specs.Literal.{variable_of};
 ghost use Rattle.aig_core.specs.GateIndex.{found_at};
-ghost use Rattle.aig_core.specs.Operands.{operands_of, over};
+ghost use Rattle.aig_core.specs.Operands.{operands_of, how_many};
 
-use crate::circuit::{Gate, LARGEST};
+use crate::circuit::{Circuit, Gate, LARGEST};
 use crate::order::gate_index::GateIndex;
 use std::alloc::{AllocError, Global};
 
@@ -18,7 +18,7 @@ pub(super) struct Operands {
 impl Operands {
     /// How many operands are over gates, 0 to 2.
     pub(super) fn count(self) -> u32
-        ensures { result ≡ length (over self) }
+        ensures { result ≡ how_many self }
     {
         u32::from(self.left.is_some()) + u32::from(self.right.is_some())
     }
@@ -38,11 +38,12 @@ fn look_up(index: &GateIndex, gate: &Gate) -> Operands
 }
 
 /// The operands of all gates.
-pub(super) fn all_operands(alloc: Global, gates: &[Gate]) -> Result<Vec<Operands>, AllocError>
-    requires { length gates.now ≤ LARGEST }
-    ensures { IfOk result (λ all. all.items ≡ map (operands_of gates.now) gates.now) }
+pub(super) fn all_operands(alloc: Global, circuit: &Circuit) -> Result<Vec<Operands>, AllocError>
+    requires { length circuit.now.gates ≤ LARGEST }
+    ensures { IfOk result (λ all. all.items ≡ map (operands_of circuit.now.gates) circuit.now.gates) }
 {
-    let index = GateIndex::new(alloc, gates)?;
+    let gates = circuit.gates.as_slice();
+    let index = GateIndex::new(alloc, gates, circuit.max_var)?;
     let mut all = Vec::with_capacity(alloc, gates.len())?;
     for gate in gates {
         all.push(look_up(&index, gate))?;

@@ -1,8 +1,8 @@
 //! What follows where a gate is taken.
-ghost use Rattle.std.specs.Prelude.{◌≡◌, ◌==◌, ◌||◌, ◌&&◌, ◌+◌, ◌≤◌, ℕ, length, slice_index, nat_lt, OnOk};
+ghost use Rattle.std.specs.Prelude.{◌≡◌, ◌||◌, ◌+◌, ◌≤◌, ℕ, length, slice_index, OnOk};
 ghost use Rattle.std.specs.List.{sum};
-ghost use Rattle.aig_core.specs.Users.{uses, LinksFall};
-ghost use Rattle.aig_core.specs.Ready.{has};
+ghost use Rattle.aig_core.specs.Users.{used_by, LinksFall};
+ghost use Rattle.aig_core.specs.Ready.{has, is_set_free};
 
 use crate::order::Order;
 use crate::order::ready::Ready;
@@ -17,12 +17,14 @@ pub(super) fn serve(
     ready: &mut Ready,
 ) -> Result<(), AllocError>
     requires links { LinksFall users.now.links.items }
-    requires waiting { (u : ℕ) → uses users.now.heads.items users.now.links.items gate u ≤ slice_index order.old.waiting u }
+    requires waiting { (u : ℕ) → used_by users.now gate u ≤ slice_index order.old.waiting u }
     ensures list { OnOk result (order.new.list ≡ order.old.list) }
     ensures as_many { OnOk result (length order.new.waiting ≡ length order.old.waiting) }
-    ensures waiting { OnOk result ((u : ℕ) → slice_index order.new.waiting u + uses users.now.heads.items users.now.links.items gate u ≡ slice_index order.old.waiting u) }
+    ensures waiting { OnOk result ((u : ℕ) → slice_index order.new.waiting u + used_by users.now gate u
+        ≡ slice_index order.old.waiting u) }
     ensures steps { OnOk result (order.new.steps + sum order.new.waiting ≡ order.old.steps + sum order.old.waiting) }
-    ensures ready { OnOk result ((u : ℕ) → has ready.new u ≡ (has ready.old u || (nat_lt 0 (slice_index order.old.waiting u) && (slice_index order.new.waiting u == 0)))) }
+    ensures ready { OnOk result ((u : ℕ) → has ready.new u
+        ≡ (has ready.old u || is_set_free order.old.waiting order.new.waiting u)) }
 {
     let mut link = users.first(gate);
     while let Some((user, next)) = users.follow(link) {

@@ -11,6 +11,6 @@ counts = map (λ (o : Operands). length (over o))
 
 pub returns : goal.returns
 returns c =
-    let all : c.as_slice-2.result.now ≡ map (operands_of c.args.circuit.now.gates) c.args.circuit.now.gates =
-    c.as_slice-2.ensures.value ∙ c.in_ok-operands.ensures ∙ ap (λ (gs : List Gate). map (operands_of gs) gs) c.as_slice.ensures in
+    let all : c.as_slice.result.now ≡ map (operands_of c.args.circuit.now.gates) c.args.circuit.now.gates =
+    c.as_slice.ensures.value ∙ c.in_ok-operands.ensures in
     IfOk-weaker c.waiting_for.result _ _ (λ order is. is ∙ ap (λ waiting. record { list = []; waiting = waiting; steps = 0 }) (ap counts all ∙ map-map (λ (o : Operands). length (over o)) (operands_of c.args.circuit.now.gates) c.args.circuit.now.gates)) c.waiting_for.ensures

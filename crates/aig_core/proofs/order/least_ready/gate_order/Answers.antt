@@ -14,15 +14,15 @@ use Rattle.aig_core.proofs.order.least_ready.gate_order.Goals as goal
 
 pub new-requires-clause-gates : goal.new-requires-clause-gates
 new-requires-clause-gates c =
-    over_gates c.args.circuit.now.gates c.as_slice-2.result.now (c.as_slice-2.ensures.value ∙ c.in_ok-operands.ensures ∙ ap (λ (gs : List Gate). map (operands_of gs) gs) c.as_slice.ensures)
+    over_gates c.args.circuit.now.gates c.as_slice.result.now (c.as_slice.ensures.value ∙ c.in_ok-operands.ensures)
 
 pub loop-gate-init : goal.loop-gate-init
 loop-gate-init c =
     let gates : List Gate = c.args.circuit.now.gates in
     let total : ℕ = sum (map (λ (g : Gate). length (gates_under gates g)) gates) in
-    let ops_are : c.as_slice-3.result.now ≡ map (operands_of gates) gates = c.as_slice-3.ensures.value ∙ c.in_ok-operands.ensures ∙ ap (λ (gs : List Gate). map (operands_of gs) gs) c.as_slice.ensures in
+    let ops_are : c.as_slice-2.result.now ≡ map (operands_of gates) gates = c.as_slice-2.ensures.value ∙ c.in_ok-operands.ensures in
     subst (λ (p : Progress). Stands (length gates) (gate_operands gates) p.list c.in_ok-order.order.waiting (has c.in_ok-ready.ready) p.steps total) (sym c.in_ok-order.ensures)
-    (begins gates c.as_slice-3.result.now ops_are c.in_ok-order.order.waiting (has c.in_ok-ready.ready) c.len.result c.len.ensures (ap (λ (p : Progress). p.waiting) c.in_ok-order.ensures) c.in_ok-ready.ensures)
+    (begins gates c.as_slice-2.result.now ops_are c.in_ok-order.order.waiting (has c.in_ok-ready.ready) c.len.result c.len.ensures (ap (λ (p : Progress). p.waiting) c.in_ok-order.ensures) c.in_ok-ready.ensures)
 
 pub take-requires-clause-left : goal.take-requires-clause-left
 take-requires-clause-left c = (is_ready _ _ _ _ _ _ _ c.loop-gate.invariant c.in-Some.gate c.in-Some.ensures.first).0.left
@@ -31,9 +31,9 @@ pub serve-requires-clause-waiting : goal.serve-requires-clause-waiting
 serve-requires-clause-waiting c = λ u.
     let gates : List Gate = c.args.circuit.now.gates in
     let gate : ℕ = c.in-Some.gate in
-    let ops_are : c.as_slice-2.result.now ≡ map (operands_of gates) gates = c.as_slice-2.ensures.value ∙ c.in_ok-operands.ensures ∙ ap (λ (gs : List Gate). map (operands_of gs) gs) c.as_slice.ensures in
+    let ops_are : c.as_slice.result.now ≡ map (operands_of gates) gates = c.as_slice.ensures.value ∙ c.in_ok-operands.ensures in
     let used : uses c.in_ok-users.users.heads.items c.in_ok-users.users.links.items gate u ≡ count_by (λ h. eqb h gate) (gate_operands gates u) =
-    c.in_ok-users.ensures.uses gate u ∙ ap (count_by (λ h. eqb h gate)) (same_operands gates c.as_slice-2.result.now ops_are u) in
+    c.in_ok-users.ensures.uses gate u ∙ ap (count_by (λ h. eqb h gate)) (same_operands gates c.as_slice.result.now ops_are u) in
     let left : ¬ IsAmong gate c.loop-gate.order.list = (is_ready _ _ _ _ _ _ _ c.loop-gate.invariant gate c.in-Some.ensures.first).0.left in
     omega (arith, used, enough gates c.loop-gate.order.list c.loop-gate.order.waiting (has c.loop-gate.ready) c.loop-gate.order.steps _ gate c.loop-gate.invariant left u, ap (λ (p : Progress). get_or p.waiting u 0) c.take.ensures)
 
@@ -43,14 +43,14 @@ loop-gate-preserved c =
     let gate : ℕ = c.in-Some.gate in
     let order : Progress = c.loop-gate.order in
     let total : ℕ = sum (map (λ (g : Gate). length (gates_under gates g)) gates) in
-    let ops_are : c.as_slice-2.result.now ≡ map (operands_of gates) gates = c.as_slice-2.ensures.value ∙ c.in_ok-operands.ensures ∙ ap (λ (gs : List Gate). map (operands_of gs) gs) c.as_slice.ensures in
+    let ops_are : c.as_slice.result.now ≡ map (operands_of gates) gates = c.as_slice.ensures.value ∙ c.in_ok-operands.ensures in
     let same : c.take.new.self.waiting ≡ order.waiting = ap (λ (p : Progress). p.waiting) c.take.ensures in
     let list : c.serve.new.order.list ≡ order.list ++ gate ∷ [] = c.in_ok-serve.ensures.list ∙ ap (λ (p : Progress). p.list) c.take.ensures in
     let steps : c.take.new.self.steps ≡ order.steps + 1 = ap (λ (p : Progress). p.steps) c.take.ensures in
     subst (λ l. Stands (length gates) (gate_operands gates) l c.serve.new.order.waiting (has c.serve.new.ready) c.serve.new.order.steps total) (sym list) (
     goes_on (length gates) (gate_operands gates) order.list order.waiting (has c.loop-gate.ready) order.steps total c.loop-gate.invariant gate c.in-Some.ensures.first c.in-Some.ensures.least (has c.pop_first.new.self)
     c.in-Some.ensures.rest c.serve.new.order.waiting (has c.serve.new.ready) (uses c.in_ok-users.users.heads.items c.in_ok-users.users.links.items gate)
-    (λ u. c.in_ok-users.ensures.uses gate u ∙ ap (count_by (λ h. eqb h gate)) (same_operands gates c.as_slice-2.result.now ops_are u))
+    (λ u. c.in_ok-users.ensures.uses gate u ∙ ap (count_by (λ h. eqb h gate)) (same_operands gates c.as_slice.result.now ops_are u))
     (λ u. c.in_ok-serve.ensures.waiting u ∙ ap (λ w. get_or w u 0) same)
     (λ u. c.in_ok-serve.ensures.ready u ∙ ap (λ w. has c.pop_first.new.self u || (ltb 0 (get_or w u 0) && eqb (get_or c.serve.new.order.waiting u 0) 0)) same)
     c.serve.new.order.steps (c.in_ok-serve.ensures.steps ∙ ap₂ (λ n w. n + sum w) steps same) (c.in_ok-serve.ensures.as_many ∙ ap length same)
