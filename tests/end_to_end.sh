@@ -95,6 +95,28 @@ check 'a bad line after 100,000 lines' convert < "$work/in"
 wants 'aag 1 0 0 1 0\n0\n' '' 0
 check 'a line of 3,000,000 digits' convert < "$work/in"
 
+# --- large tails ---
+# a comment of NULs, CRs and LFs, which ends with CR and no LF
+{ printf 'aag 0 0 0 0 0\nc\n'; yes 'comment@~' 2> /dev/null | head -c 999999 | tr '@~' '\0\r'; } > "$work/in"
+wants '' '' 0
+cp "$work/in" "$work/want_out"
+check 'a comment of 1 MB comes back' convert < "$work/in"
+
+# all_named NAME NUMBER..: 100,000 inputs, with symbols for the positions that `seq NUMBER..` gives
+all_named() {
+    local name=$1
+    shift
+    { printf 'aag 100000 100000 0 0 0\n'; seq 2 2 200000; seq -f 'i%.0f a name' "$@"; } > "$work/in"
+    wants '' '' 0
+    cp "$work/in" "$work/want_out"
+    check "100,000 symbols come back: $name" convert < "$work/in"
+    printf 'i0 again\n' >> "$work/in"
+    wants '' 'aiger: -: line 200002: symbol given twice\n' 1
+    check "a symbol given again after 100,000: $name" convert < "$work/in"
+}
+all_named 'in order' 0 99999
+all_named 'in reverse order' 99999 -1 0
+
 # --- little memory: what a header asks for is not taken before its lines are there ---
 # within KILOBYTES WORD..: the words with so much memory, for ten seconds at most
 within() { ( ulimit -v "$1" && shift && exec timeout 10 "$@" ); }

@@ -1,6 +1,8 @@
 //! Calls that are given what they need.
 use crate::forms::{numbers_of, symbols_of};
-use aig_core::{Block, Circuit, Listing, Lit, MemorySink, MemorySource, Var, check, read_all};
+use aig_core::{
+    Block, Circuit, Listing, Lit, MemorySink, MemorySource, Names, Var, check, read_all,
+};
 use aig_text::{Limits, read_ascii, write_ascii};
 use std::alloc::Global;
 use std::test::Fail;
@@ -18,8 +20,12 @@ const LITERALS: &str = "\
 const LIMITED: &str = "\
 aag 4 0 0 0 0\n:yes;\
 aag 4 0 0 4 0\n0\n0\n0\n0\n:yes;\
+aag 4 1 0 0 0\n2\ni0 5\nc\n5\n:yes;\
 aag 5 0 0 0 0\n:no;\
 aag 4 0 0 5 0\n0\n0\n0\n0\n0\n:no";
+
+/// What is named in turn, and whether it had no name before.
+const NAMED: &str = "i0 new,l0 new,o0 new,i0 old,l0 old,o0 old,i9 new,i9 old";
 
 /// The circuit of a text.
 pub(crate) fn circuit_of(alloc: Global, text: &str) -> Result<Circuit, Fail> {
@@ -62,14 +68,24 @@ fn listings_are_copied(rt: HostRuntime) -> Result<(), Fail> {
 
 #[test]
 fn circuits_are_copied(rt: HostRuntime) -> Result<(), Fail> {
-    let circuit = circuit_of(rt.alloc(), "aag 2 1 1 1 0\n2\n4 3\n5\n")?;
+    let circuit = circuit_of(rt.alloc(), "aag 2 1 1 1 0\n2\n4 3\n5\no0 b\ni0 a\nc\nx")?;
     assert!(rt; circuit.clone()? == circuit);
     Ok(())
 }
 
-/// What the reader does not accept yet is written all the same.
 #[test]
-fn symbols_and_comments_are_written(rt: HostRuntime) -> Result<(), Fail> {
+fn names(rt: HostRuntime) -> Result<(), Fail> {
+    let mut names = Names::new(rt.alloc(), 1, 1, 1)?;
+    for symbol in symbols_of(rt.alloc(), NAMED)?.as_slice() {
+        let is_new = names.insert(symbol.kind, symbol.position)?;
+        assert!(rt; is_new == (symbol.name.as_slice() == b"new".as_slice()));
+    }
+    Ok(())
+}
+
+/// Symbols and a comment that were put in by hand come back from what is written.
+#[test]
+fn symbols_and_comments_come_back(rt: HostRuntime) -> Result<(), Fail> {
     let alloc = rt.alloc();
     let mut circuit = circuit_of(alloc, "aag 7 1 1 2 0\n2\n4 3\n5\n0\n")?;
     circuit.symbols = symbols_of(alloc, "o1 a b\r,l0 ,i0 c")?;
@@ -81,6 +97,7 @@ fn symbols_and_comments_are_written(rt: HostRuntime) -> Result<(), Fail> {
     write_ascii(&checked, &mut sink)?;
     let wanted = "aag 7 1 1 2 0\n2\n4 3\n5\n0\no1 a b\r\nl0 \ni0 c\nc\nmade by hand\n\n";
     assert!(rt; sink.taken() == wanted.as_bytes());
+    assert!(rt; circuit_of(alloc, wanted)? == *checked.circuit());
     Ok(())
 }
 

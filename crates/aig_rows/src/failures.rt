@@ -14,7 +14,16 @@ aag 3 1 1 2 0
 #aag 2147483647 1 0 1 0
 4294967294
 4294967295
-";
+#aag 2 1 1 1 0
+2
+4 3
+5
+o0 out
+i0 a name
+l0 \r
+c
+\r
+without a line feed at its end";
 
 /// A canonical text of 20,001 bytes, which are more than two blocks.
 fn long_text(alloc: Global) -> Result<String, AllocError> {
