@@ -158,7 +158,8 @@ hold() {
     edit
     echo low > "$work/slow"
     : | tee "$work/held" "$work/calls" > "$work/pid"
-    RT=$work/rt "$tree/aiger" aigtoaig --ascii < "$work/small" > "$work/out" 2> "$work/err" &
+    env --default-signal=INT,TERM,HUP RT="$work/rt" "$tree/aiger" aigtoaig --ascii \
+        < "$work/small" > "$work/out" 2> "$work/err" &   # whoever runs this may ignore them, as nohup does
     held=$!
     wait_for test -s "$work/pid"
 }
@@ -169,13 +170,14 @@ set -m   # without it what is in the background ignores SIGINT
 for signal in INT TERM HUP; do
     hold
     kill -s "$signal" "$held"
-    wait "$held" 2> /dev/null
-    ended=$?
     wait_for is_gone
-    is_gone || ended="$ended, and left a process"
+    left=
+    is_gone || left=', and left a process'
+    let_go   # so that what goes on proving ends too
+    wait "$held" 2> /dev/null
+    ended=$?$left
     wants '' "$begins" $((128 + $(kill -l "$signal")))
     judge "SIG$signal while it proves" "$ended"
-    let_go
 done
 set +m
 

@@ -32,7 +32,7 @@ RT = os.environ.get("RT", "rt")
 FUNCTION = re.compile(r"^( *)(pub )?(?:pub\(\w+\) )?(?:const )?fn (\w+)", re.M)
 BLOCK = re.compile(r"^(?:impl\b|(?:pub(?:\(\w+\))? )?trait\b)[^{]*", re.M)
 # What the check says of a function with goals of its own that are open, and not of one that waits for another.
-OPEN = re.compile(r"not proved$|not proved; it stands on|no proof: expected|.* did not prove ")
+OPEN = re.compile(r"not proved$|no proof: expected answers")
 
 
 class Unfit(Exception):
@@ -146,8 +146,10 @@ class Said:
         self.functions = dict(re.findall(r"^fn (\S+): (.*)$", text, re.M))
 
     def of(self, function):
-        found = [said for name, said in self.functions.items() if name == function or function[0] == ":" and name.endswith(function)]
-        return found[0] if len(found) == 1 else "proved"
+        """Of the function whose name ends so; "proved" where that is not one function, so that it is tried alone."""
+        is_method = function.startswith("::")
+        named = [it for it in self.functions if it == function or is_method and it.endswith(function)]
+        return self.functions[named[0]] if len(named) == 1 else "proved"
 
     def start(self):
         lines = self.text.splitlines()
@@ -271,6 +273,8 @@ def try_crate(crate):
 def main(names):
     known = crates()
     passed, failed = 0, [f"crates.txt lists no crate {it}" for it in names if it not in known]
+    if not shutil.which(RT):
+        known, failed = {}, [f"there is no command {RT}"]
     for crate in [it for it in names or known if it in known]:
         refused, told = try_crate(crate)
         passed, failed = passed + refused, failed + told
