@@ -26,5 +26,3 @@ pub record IsAsciiText (text : List ℕ) (limit : ℕ) (c : Circuit) : Type 0 wh
   pub limited : AllByRecursion (λ n. n ≤ limit) (header_row c)
   pub counted : length c.inputs + length c.latches + length c.gates ≤ c.max_var
   pub well_formed : IsWellFormed c
-  -- Gates are not accepted yet.
-  pub no_gates : c.gates ≡ []

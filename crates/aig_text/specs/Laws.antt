@@ -40,6 +40,6 @@ FaultyOrAccepted = (text : List ℕ) (limit : ℕ) → (first_fault limit text �
 abbrev pub TextsAreUnambiguous : Type 0
 TextsAreUnambiguous = (text : List ℕ) (limit : ℕ) (c d : Circuit) → IsAsciiText text limit c → IsAsciiText text limit d → c ≡ d
 
--- the canonical text of a well-formed circuit is its file (so far: one without gates)
+-- the canonical text of a well-formed circuit is its file
 abbrev pub CanonicalTextIsAccepted : Type 0
-CanonicalTextIsAccepted = (c : Circuit) → IsWellFormed c → c.gates ≡ [] → IsAsciiText (ascii_text c) LARGEST c
+CanonicalTextIsAccepted = (c : Circuit) → IsWellFormed c → IsAsciiText (ascii_text c) LARGEST c

@@ -144,10 +144,6 @@ empty_circuit max_var = record {
   comment = None;
 }
 
--- Gates are not read yet.
-abbrev pub gates_not_yet : Header → Result Header ReadKind
-gates_not_yet h = if h.gates == 0 then Ok h else Err kinds.NotYet
-
 -- how many things of a kind a symbol may name
 abbrev pub count_named : Header → Kind → ℕ
 count_named h named.Input = h.inputs
@@ -184,7 +180,7 @@ tail_at h before c n (l ∷ ls) =
 abbrev pub header_at : List ℕ → ℕ → ℕ → List Line → Told Header
 header_at word limit n [] = Err (fault_at n kinds.NotAiger)
 header_at word limit n (l ∷ ls) = do
-  told ← at_line n (header_of word limit l >>= gates_not_yet)
+  told ← at_line n (header_of word limit l)
   Ok (told, n + 1, ls)
 
 -- the circuit that the lines of a text tell, judged line by line
@@ -198,6 +194,7 @@ circuit_at limit ls = do
 abbrev pub kind_of : CheckFault → ReadKind
 kind_of (checks.Redefined v) = kinds.Redefined v
 kind_of (checks.Undefined l) = kinds.Undefined l
+kind_of (checks.Cyclic l) = kinds.Cyclic l
 kind_of checks.OutOfMemory = kinds.OutOfMemory
 
 abbrev pub whole_fault : ReadKind → ReadFault

@@ -61,15 +61,15 @@ pub enum ReadKind {
     /// What a symbol names has a name already.
     #[error("symbol given twice")]
     SymbolTwice,
-    /// Gates, which are not read yet.
-    #[error("not supported yet")]
-    NotYet,
-    /// The variable is defined by a second input or latch.
+    /// The variable is defined by a second input, latch or gate.
     #[error("variable {0} defined twice")]
     Redefined(Var),
     /// The literal is used, and nothing defines its variable.
     #[error("literal {0} not defined")]
     Undefined(Lit),
+    /// The gate, told by its own literal, depends on a cycle of gates: it lies on one, or uses a gate that does.
+    #[error("gate {0} depends on a cycle")]
+    Cyclic(Lit),
     /// A growth of memory was refused; nothing is known of the text.
     #[error("out of memory")]
     OutOfMemory,

@@ -22,7 +22,7 @@ pub fn texts_are_unambiguous()
     ensures { TextsAreUnambiguous }
 {}
 
-/// The canonical text of a well-formed circuit is its file, so far where it has no gates.
+/// The canonical text of a well-formed circuit is its file.
 pub fn canonical_text_is_accepted()
     ensures { CanonicalTextIsAccepted }
 {}

@@ -18,7 +18,7 @@ use crate::tail::read_tail;
 use aig_core::{CheckFault, Checked, Circuit, Listing, check};
 use std::alloc::Global;
 
-/// What the header line tells. Goes behind that line, unless it is not right. Gates are not read yet.
+/// What the header line tells. Goes behind that line, unless it is not right.
 fn header_line(word: &[u8], at: &mut Cursor, limits: Limits) -> Result<Header, ReadFault>
     ensures header { GivesOrFails (λ header. (header, at.new.number, lines_of at.new.rest.now)) result
         (header_at word.now limits.max_var at.old.number (lines_of at.old.rest.now)) }
@@ -33,12 +33,6 @@ fn header_line(word: &[u8], at: &mut Cursor, limits: Limits) -> Result<Header, R
     };
     match read_header(word, line, limits) {
         Ok(header) => {
-            if header.gates != 0 {
-                return Err(ReadFault {
-                    place,
-                    kind: ReadKind::NotYet,
-                });
-            }
             let number = at.number + 1;
             *at = Cursor { rest, number };
             Ok(header)
@@ -81,6 +75,7 @@ fn kind_of_fault(fault: CheckFault) -> ReadKind
     match fault {
         CheckFault::Redefined(var) => ReadKind::Redefined(var),
         CheckFault::Undefined(lit) => ReadKind::Undefined(lit),
+        CheckFault::Cyclic(lit) => ReadKind::Cyclic(lit),
         CheckFault::OutOfMemory => ReadKind::OutOfMemory,
     }
 }

@@ -139,8 +139,8 @@ canonical_lines c form =
     ∙ ap (λ (ls : List Line). symbol_lines c.symbols ++ ls) (comment_is_first c.comment)))
 
 -- Where the definitions fit below the largest index, and the circuit is in form, its canonical text is its file.
-pub canonical_text : (c : Circuit) → IsWellFormed c → IsInForm c → length c.inputs + length c.latches + length c.gates ≤ c.max_var → c.gates ≡ [] → IsAsciiText (ascii_text c) LARGEST c
-canonical_text c good form fits none = record {
+pub canonical_text : (c : Circuit) → IsWellFormed c → IsInForm c → length c.inputs + length c.latches + length c.gates ≤ c.max_var → IsAsciiText (ascii_text c) LARGEST c
+canonical_text c good form fits = record {
   header = header_line ascii_word (header_row c);
   numbered = row_lines (rows_of c);
   tail = symbol_lines c.symbols ++ comment_lines c.comment;
@@ -157,5 +157,4 @@ canonical_text c good form fits none = record {
   limited = (form.limits.max_var, (form.limits.inputs, (form.limits.latches, (form.limits.outputs, (form.limits.gates, tt)))));
   counted = fits;
   well_formed = good;
-  no_gates = none;
 }

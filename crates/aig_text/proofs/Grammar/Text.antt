@@ -26,7 +26,7 @@ use Rattle.aig_text.specs.Rows.{ascii_word, Header, header_row, rows_of, section
 use Rattle.aig_text.specs.Laws.{IsOneLine}
 use Rattle.aig_text.specs.Tail.{IsSymbolLine, IsComment}
 use Rattle.aig_text.specs.AsciiGrammar.{IsRowLine, IsAsciiText}
-use Rattle.aig_text.specs.Reading.{◌>>=◌, at_line, ends_word, header_of_row, header_within, header_of, gates_not_yet, tail_at, count_named, header_at, sections_at, empty_circuit, circuit_at, unless_faulty, reading}
+use Rattle.aig_text.specs.Reading.{◌>>=◌, at_line, ends_word, header_of_row, header_within, header_of, tail_at, count_named, header_at, sections_at, empty_circuit, circuit_at, unless_faulty, reading}
 use Rattle.aig_text.proofs.Steps.{both_ok, ok_at_line, ok_same, passed, let_through}
 use Rattle.aig_text.proofs.Grammar.NumberLines.{header_reads, header_is_read}
 use Rattle.aig_text.proofs.Grammar.Sections.{FourSections, four_told, rows_read, counts_read, row_of_header, in_form, sections_are_read, bare}
@@ -93,16 +93,10 @@ record TellCircuit (limit : ℕ) (ls : List Line) (c : Circuit) : Type 0 where
   pub are : ls ≡ first ∷ others
   pub header : Header
   pub heads : TellsHeader ascii_word limit first header
-  pub no_gates : header.gates ≡ 0
   pub numbered : Circuit
   pub rest : List Line
   pub sections : FourSections header numbered others rest
   pub tail : TellsTail header nothing_named numbered c rest
-
-no_gates_told : (h g : Header) → gates_not_yet h ≡ Ok g → (h.gates ≡ 0) × (h ≡ g)
-no_gates_told h g is =
-    let p = let_through (eqb h.gates 0) kinds.NotYet (Ok h) g is in
-    (eqb-true h.gates 0 p.0, ok_same {E = ReadKind} h g p.1)
 
 abbrev then_tail : Header → Circuit × ℕ × List Line → Result Circuit ReadFault
 then_tail h numbered = tail_at h nothing_named numbered.0 numbered.1 numbered.2
@@ -118,9 +112,8 @@ unfolding circuit_at
 circuit_told limit [] c is = cc
 circuit_told limit (l ∷ ls) c is =
     let a = both_ok (header_at ascii_word limit 1 (l ∷ ls)) then_sections c is in
-    let f = both_ok (at_line 1 (header_of ascii_word limit l >>= gates_not_yet)) (λ (h : Header). Ok (h, 2, ls)) a.0 a.1 in
-    let g = both_ok (header_of ascii_word limit l) gates_not_yet f.0 (ok_at_line 1 (header_of ascii_word limit l >>= gates_not_yet) f.0 f.1) in
-    let n = no_gates_told g.0 f.0 g.2 in
+    let f = both_ok (at_line 1 (header_of ascii_word limit l)) (λ (h : Header). Ok (h, 2, ls)) a.0 a.1 in
+    let g : header_of ascii_word limit l ≡ Ok f.0 = ok_at_line 1 (header_of ascii_word limit l) f.0 f.1 in
     let e : (f.0, 2, ls) ≡ a.0 = ok_same {E = ReadFault} _ _ f.2 in
     let b = both_ok (sections_at a.0.0 sections (empty_circuit a.0.0.max_var) a.0.1 a.0.2) (then_tail a.0.0) c a.2 in
     let s : FourSections a.0.0 b.0.0 a.0.2 b.0.2 = four_told a.0.0 a.0.1 a.0.2 b.0 b.1 in
@@ -130,8 +123,7 @@ circuit_told limit (l ∷ ls) c is =
       others = ls;
       are = refl;
       header = f.0;
-      heads = subst (λ (h : Header). TellsHeader ascii_word limit l h) n.1 (header_tells ascii_word limit l g.0 g.1);
-      no_gates = subst (λ (h : Header). h.gates ≡ 0) n.1 n.0;
+      heads = header_tells ascii_word limit l f.0 g;
       numbered = b.0.0;
       rest = b.0.2;
       sections = subst (λ (q : Header × ℕ × List Line). FourSections q.0 b.0.0 q.2 b.0.2) (sym e) s;
@@ -173,15 +165,6 @@ within_limits limit ls c t =
     let are : AreLimits t.heads.numbers = (omega (arith, at 0, low), omega (arith, at 1, low), omega (arith, at 2, low), omega (arith, at 3, low), omega (arith, at 4, low)) in
     let own : AreLimits (header_row c) = subst AreLimits (sym (header_holds limit ls c t).0) are in
     record { max_var = own.0; inputs = own.1; latches = own.2; outputs = own.3; gates = own.4 }
-
-none_left : {X : Type 0} (xs : List X) → length xs ≡ 0 → xs ≡ []
-none_left [] h = refl
-none_left (x ∷ xs) h = absurd (omega arith)
-
-no_gates : (limit : ℕ) (ls : List Line) (c : Circuit) → TellCircuit limit ls c → c.gates ≡ []
-no_gates limit ls c t =
-    let row : get_or (header_row c) 4 0 ≡ get_or (row_of_header t.header) 4 0 = ap (λ (ns : List ℕ). get_or ns 4 0) (counts_kept limit ls c t) in
-    none_left c.gates (row ∙ t.no_gates)
 
 -- as many things as the header tells may be named
 abbrev HasCounts : Header → Circuit → Type 0
@@ -239,12 +222,12 @@ limits_back c d ss comment is limits =
     record { max_var = w.max_var; inputs = w.inputs; latches = w.latches; outputs = w.outputs; gates = w.gates }
 
 -- what the lines of a text tell is in form
-pub circuit_in_form : (limit : ℕ) (ls : List Line) (c : Circuit) → AllByRecursion IsOneLine ls → circuit_at limit ls ≡ Ok c → IsInForm c × (c.gates ≡ [])
+pub circuit_in_form : (limit : ℕ) (ls : List Line) (c : Circuit) → AllByRecursion IsOneLine ls → circuit_at limit ls ≡ Ok c → IsInForm c
 circuit_in_form limit ls c one is =
     let t : TellCircuit limit ls c = circuit_told limit ls c is in
     let limits = within_limits limit ls c t in
     let numbered : IsInForm t.numbered = in_form t.header t.numbered t.others t.rest (limits_back t.numbered c t.tail.symbols t.tail.comment t.tail.circuit limits) t.sections in
-    (stays_in_form t.numbered c t.tail.symbols t.tail.comment t.tail.circuit limits numbered (good_symbols limit ls c one t), no_gates limit ls c t)
+    stays_in_form t.numbered c t.tail.symbols t.tail.comment t.tail.circuit limits numbered (good_symbols limit ls c one t)
 
 -- a well-formed circuit that the lines of a text tell has the text as its file
 told_is_accepted : (limit : ℕ) (text : List ℕ) (c : Circuit) → TellCircuit limit (lines_of text) c → IsWellFormed c → IsAsciiText text limit c
@@ -268,7 +251,6 @@ told_is_accepted limit text c t w =
       limited = subst (λ (ns : List ℕ). AllByRecursion (λ n. n ≤ limit) ns) (sym holds.0) (all_weaker (λ n. n ≤ min limit LARGEST) (λ n. n ≤ limit) (λ n h. omega arith) t.heads.numbers t.heads.within);
       counted = subst (λ (ns : List ℕ). get_or ns 1 0 + get_or ns 2 0 + get_or ns 4 0 ≤ get_or ns 0 0) (sym holds.0) t.heads.counted;
       well_formed = w;
-      no_gates = no_gates limit (lines_of text) c t;
     }
 
 no_fault : (c d : Circuit) (o : Option CheckFault) → unless_faulty c o ≡ Ok d → (o ≡ None) × (c ≡ d)
@@ -281,9 +263,9 @@ unfolding reading
 reading_is_accepted limit text c h =
     let r = both_ok (circuit_at limit (lines_of text)) (λ (d : Circuit). unless_faulty d (first_fault d)) c h in
     let n = no_fault r.0 c (first_fault r.0) r.2 in
-    let form : IsInForm r.0 × (r.0.gates ≡ []) = circuit_in_form limit (lines_of text) r.0 (pieces text).one_each r.1 in
+    let form : IsInForm r.0 = circuit_in_form limit (lines_of text) r.0 (pieces text).one_each r.1 in
     subst (λ (d : Circuit). IsAsciiText text limit d) n.1
-    (told_is_accepted limit text r.0 (circuit_told limit (lines_of text) r.0 r.1) (well_formed r.0 form.0 form.1 n.0))
+    (told_is_accepted limit text r.0 (circuit_told limit (lines_of text) r.0 r.1) (well_formed r.0 form n.0))
 
 -- the numbers of a header within both limits
 both_limits : (limit : ℕ) (c : Circuit) → AllByRecursion (λ n. n ≤ limit) (header_row c) → IsWithinLimits c → AllByRecursion (λ n. n ≤ min limit LARGEST) (header_row c)
@@ -304,10 +286,10 @@ accepted_header limit text c a =
     }
 
 -- the lines of a circuit's file are read as the circuit
-steps : (limit k : ℕ) (l : Line) (others rest : List Line) (c : Circuit) → header_of ascii_word limit l ≡ Ok (header_of_row (header_row c)) → length c.gates ≡ 0
+steps : (limit k : ℕ) (l : Line) (others rest : List Line) (c : Circuit) → header_of ascii_word limit l ≡ Ok (header_of_row (header_row c))
     → sections_at (header_of_row (header_row c)) sections (empty_circuit c.max_var) 2 others ≡ Ok (bare c, k, rest) → tail_at (header_of_row (header_row c)) nothing_named (bare c) k rest ≡ Ok c → circuit_at limit (l ∷ others) ≡ Ok c
 unfolding circuit_at
-steps limit k l others rest c h none s t = rw (h, eq-eqb (length c.gates) 0 none, s) t
+steps limit k l others rest c h s t = rw (h, s) t
 
 own_count : (c : Circuit) (k : Kind) → count_of c k ≡ count_named (header_of_row (header_row c)) k
 own_count c Input = refl
@@ -326,7 +308,7 @@ accepted_lines limit text c a =
     let t : tail_at (header_of_row (header_row c)) nothing_named (bare c) s.0 a.tail ≡ Ok c =
     ap (tail_at (header_of_row (header_row c)) nothing_named (bare c) s.0) a.is_tail.are
     ∙ tail_is_told (header_of_row (header_row c)) nothing_named (bare c) s.0 a.is_tail.named a.is_tail.rest c.symbols c.comment refl a.is_tail.symbols new a.is_tail.comment in
-    rw a.lines (steps limit s.0 a.header (a.numbered ++ a.tail) a.tail c (told_header ascii_word limit a.header (header_of_row (header_row c)) (accepted_header limit text c a)) (ap length a.no_gates) s.1 t)
+    rw a.lines (steps limit s.0 a.header (a.numbered ++ a.tail) a.tail c (told_header ascii_word limit a.header (header_of_row (header_row c)) (accepted_header limit text c a)) s.1 t)
 
 -- a circuit's file is read as the circuit
 pub accepted_is_read : (limit : ℕ) (text : List ℕ) (c : Circuit) → IsAsciiText text limit c → reading limit text ≡ Ok c

@@ -14,11 +14,8 @@ pub returns-in_err-circuit-clause-fault : goal.returns-in_err-circuit-clause-fau
 returns-in_err-circuit-clause-fault c = let h = err_from_is_err_and c.from_residual.result c.from_residual.ensures.1 in
     rw (h.1, h.2) (line_fault c.args.limits.max_var c.args.bytes.now c.in_err-circuit.field-0.0 c.in_err-circuit.ensures)
 
-pub check-requires-clause-in_form : goal.check-requires-clause-in_form
-check-requires-clause-in_form c = (circuit_in_form c.args.limits.max_var (lines_of c.args.bytes.now) c.in_ok-circuit.circuit (pieces c.args.bytes.now).one_each c.in_ok-circuit.ensures).0
-
-pub check-requires-clause-no_gates : goal.check-requires-clause-no_gates
-check-requires-clause-no_gates c = (circuit_in_form c.args.limits.max_var (lines_of c.args.bytes.now) c.in_ok-circuit.circuit (pieces c.args.bytes.now).one_each c.in_ok-circuit.ensures).1
+pub check-requires : goal.check-requires
+check-requires c = record { in_form = circuit_in_form c.args.limits.max_var (lines_of c.args.bytes.now) c.in_ok-circuit.circuit (pieces c.args.bytes.now).one_each c.in_ok-circuit.ensures }
 
 pub returns-in-Ok-clause-ok : goal.returns-in-Ok-clause-ok
 returns-in-Ok-clause-ok c =
