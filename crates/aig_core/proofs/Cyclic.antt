@@ -1,5 +1,5 @@
 -- Which gates depend on a cycle: those that the least ready order does not have.
-use Rattle.std.proofs.Common.{◌≡◌, ◌≢◌, ◌<◌, ◌≤◌, ◌+◌, ◌-◌, ◌*◌, ℕ, zero, suc, List, [], ◌∷◌, ◌++◌, Bool, true, false, not, ◌&&◌, cond, eqb, ltb, Option, None, Some, length, map, get_or, refl, sym, ap, ap₂, subst, ◌∙◌, ◌⊎◌, ◌↔◌, inl, inr, ⊎_elim, arith, true≢false}
+use Rattle.std.proofs.Common.{◌≡◌, ◌<◌, ◌≤◌, ◌+◌, ◌-◌, ◌*◌, ℕ, zero, suc, List, [], ◌∷◌, ◌++◌, Bool, true, false, not, ◌&&◌, cond, ltb, Option, None, Some, length, map, get_or, refl, sym, ap, subst, ◌∙◌, ◌⊎◌, ◌↔◌, inl, inr, ⊎_elim, arith, true≢false}
 use Rattle.std.specs.List.{AllByRecursion, list_all, find, position, position_or_len, slice_get}
 use Rattle.std.specs.Option.{option_map}
 use Rattle.aig_core.specs.declared.circuit.Gate.{Gate}
@@ -8,7 +8,7 @@ use Rattle.aig_core.specs.declared.circuit.Latch.{Latch}
 use Rattle.aig_core.specs.declared.circuit.TheConstants.{LARGEST}
 use Rattle.aig_core.specs.Form.{IsInForm}
 use Rattle.aig_core.specs.Wellformed.{IsAmong, AreDistinct, IsVariableUpTo, defined_variables}
-use Rattle.aig_core.specs.Order.{gates_under, gate_operands, IsReady, TakesLeast, IsFull, IsLeastReadyOrder, ends_within, depends_on_cycle, first_cyclic, left_over}
+use Rattle.aig_core.specs.Order.{gate_operands, IsReady, TakesLeast, IsFull, IsLeastReadyOrder, ends_within, depends_on_cycle, first_cyclic, left_over}
 use Rattle.aig_core.proofs.Fitting.{each, at_most_below}
 use Rattle.aig_core.proofs.Ranked.{over_one, all_served, no_gate, at, needed, stands_there}
 use Rattle.aig_core.proofs.Ordered.{none_open, all_in, each_served}
