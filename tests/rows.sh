@@ -56,7 +56,7 @@ rows() {
     rows_ends
     rows_structure
     rows_tail
-    rows_not_yet
+    rows_gates
     rows_words
 }
 
@@ -299,10 +299,46 @@ rows_tail() {
     refuses 'a bad line before the tail' 'aag 1 1 0 0 0\n3\nc\n' 'line 2: not a variable'
 }
 
-rows_not_yet() {
-    refuses 'gates' 'aag 1 0 0 0 1\n2 0 0\n' 'line 1: not supported yet'
-    refuses 'gates, whose lines are missing' 'aag 2 1 0 1 1\n2\n4\n' 'line 1: not supported yet'
-    refuses 'gates before a bad symbol line' 'aag 1 0 0 0 1\n2 0 0\nx\n' 'line 1: not supported yet'
+rows_gates() {
+    same 'a gate' 'aag 3 2 0 1 1\n2\n4\n6\n6 2 4\n'
+    same 'gates that name later gates' 'aag 5 2 0 2 3\n2\n4\n10\n6\n6 4 2\n8 5 3\n10 9 7\n'
+    same 'gates in any order, operands in any order' 'aag 5 2 0 1 3\n2\n4\n10\n10 7 8\n8 3 5\n6 2 4\n'
+    same 'a gate before the one that it names' 'aag 3 1 0 0 2\n2\n6 4 2\n4 2 3\n'
+    same 'equal operands and constants' 'aag 4 1 0 0 3\n2\n4 2 2\n6 0 1\n8 4 5\n'
+    same 'a cycle through a latch' 'aag 2 0 1 1 1\n2 4\n4\n4 2 3\n'
+    same 'gates, symbols and a comment' 'aag 3 2 0 1 1\n2\n4\n7\n6 4 2\no0 nand\ni1 b\nc\nx'
+    same 'gates of large variables' 'aag 2147483647 1 0 1 2\n2\n4294967294\n4294967294 4294967293 3\n4294967292 2 2\n'
+    same 'a gate that nothing uses' 'aag 9 1 0 0 1\n2\n18 2 1\n'
+    accepts 'lenient gates' 'aag 3 1 0 1 1\n2\n6\n06  2   3 \r\n' 'aag 3 1 0 1 1\n2\n6\n6 2 3\n'
+    accepts 'a last gate without LF' 'aag 3 1 0 0 1\n2\n6 2 3' 'aag 3 1 0 0 1\n2\n6 2 3\n'
+    refuses 'a missing gate' 'aag 2 1 0 0 1\n2\n' 'line 3: file ends too early'
+    refuses 'the second of two gates missing' 'aag 3 1 0 0 2\n2\n4 2 2\n' 'line 4: file ends too early'
+    refuses 'a header alone that asks for all gates' 'aag 2147483647 0 0 0 2147483647\n' 'line 2: file ends too early'
+    refuses 'two numbers for a gate' 'aag 2 1 0 0 1\n2\n4 2\n' 'line 3: bad line'
+    refuses 'four numbers for a gate' 'aag 2 1 0 0 1\n2\n4 2 2 2\n' 'line 3: bad line'
+    refuses 'a letter in a gate' 'aag 2 1 0 0 1\n2\n4 2 x\n' 'line 3: bad line'
+    refuses 'an odd gate' 'aag 2 1 0 0 1\n2\n5 2 2\n' 'line 3: not a variable'
+    refuses 'the gate 0' 'aag 2 1 0 0 1\n2\n0 2 2\n' 'line 3: not a variable'
+    refuses 'a gate out of range' 'aag 2 1 0 0 1\n2\n6 2 2\n' 'line 3: literal out of range'
+    refuses 'a left operand out of range' 'aag 2 1 0 0 1\n2\n4 6 2\n' 'line 3: literal out of range'
+    refuses 'a right operand out of range' 'aag 2 1 0 0 1\n2\n4 2 7\n' 'line 3: literal out of range'
+    refuses 'an odd gate before operands out of range' 'aag 2 1 0 0 1\n2\n5 9 9\n' 'line 3: not a variable'
+    refuses 'a gate given twice' 'aag 3 1 0 0 2\n2\n4 2 2\n4 2 3\n' 'variable 2 defined twice'
+    refuses 'a gate that is an input too' 'aag 2 1 0 0 1\n2\n2 2 2\n' 'variable 1 defined twice'
+    refuses 'a gate that is a latch too' 'aag 3 1 1 0 1\n2\n4 2\n4 2 2\n' 'variable 2 defined twice'
+    refuses 'a left operand that is not defined' 'aag 4 1 0 0 1\n2\n4 6 8\n' 'literal 6 not defined'
+    refuses 'a right operand that is not defined' 'aag 4 1 0 0 1\n2\n4 2 9\n' 'literal 9 not defined'
+    refuses 'an output before an operand' 'aag 5 1 0 1 1\n2\n10\n4 6 8\n' 'literal 10 not defined'
+    refuses 'a gate of itself' 'aag 1 0 0 0 1\n2 2 2\n' 'gate 2 depends on a cycle'
+    refuses 'a gate of its own negation' 'aag 2 1 0 0 1\n2\n4 2 5\n' 'gate 4 depends on a cycle'
+    refuses 'two gates of one another' 'aag 3 1 0 0 2\n2\n4 6 2\n6 4 2\n' 'gate 4 depends on a cycle'
+    refuses 'a gate that only depends on a cycle' 'aag 4 1 0 0 3\n2\n4 6 2\n6 8 2\n8 6 2\n' 'gate 4 depends on a cycle'
+    refuses 'the first in the file, not the least' 'aag 4 1 0 0 3\n2\n8 6 2\n6 8 2\n4 2 2\n' 'gate 8 depends on a cycle'
+    refuses 'a cycle behind a gate that is right' 'aag 4 1 0 0 3\n2\n4 2 2\n6 8 4\n8 6 4\n' 'gate 6 depends on a cycle'
+    refuses 'a cycle of large variables' 'aag 2147483647 0 0 0 2\n4294967294 4294967292 1\n4294967292 4294967294 1\n' 'gate 4294967294 depends on a cycle'
+    refuses 'a variable defined twice before a cycle' 'aag 3 1 0 0 2\n2\n4 4 2\n4 2 2\n' 'variable 2 defined twice'
+    refuses 'a literal not defined before a cycle' 'aag 3 0 0 0 2\n4 4 4\n2 6 6\n' 'literal 6 not defined'
+    refuses 'a bad symbol line before a cycle' 'aag 1 0 0 0 1\n2 2 2\nx\n' 'line 3: bad symbol line'
 }
 
 rows_words() {

@@ -29,6 +29,6 @@ pub use crate::listing::Listing;
 pub use crate::literal::{Lit, Var};
 pub use crate::memory::{MemorySink, MemorySource};
 pub use crate::names::Names;
-pub use crate::order::Order;
+pub use crate::order::{Order, gate_order};
 pub use crate::streams::{ReadSource, WriteSink};
 pub use crate::transfer::{ReadError, read_all};

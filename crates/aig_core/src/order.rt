@@ -11,11 +11,13 @@ use std::alloc::{AllocError, Global};
 use std::marker::Model;
 
 mod gate_index;
-pub mod least_ready;
+mod least_ready;
 mod operands;
 mod ready;
 mod serve;
 mod users;
+
+pub use crate::order::least_ready::gate_order;
 
 /// An order of gates that is being made: the positions of the gates that are taken, how many operands each gate still
 /// waits for, and how many steps were made.

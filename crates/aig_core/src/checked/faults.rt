@@ -16,7 +16,7 @@ use crate::entry::Entry;
 use crate::fault::CheckFault;
 use crate::listing::Listing;
 use crate::literal::Lit;
-use crate::order::least_ready::gate_order;
+use crate::order::gate_order;
 use crate::var_set::VarSet;
 use std::alloc::{AllocError, Global};
 
