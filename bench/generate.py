@@ -90,8 +90,7 @@ KINDS = {
     "gates-sparse": lambda count: gates(count, is_sparse=True),
     "gates-chain": lambda count: gates(count, is_chain=True),
 }
-# what the program takes today: no gates
-DEFAULT = [f"{kind}-{count}" for kind in ("latches", "spread", "outputs") for count in (10_000, 100_000, 1_000_000)]
+DEFAULT = [f"{kind}-{count}" for kind in KINDS for count in (100_000, 1_000_000)]
 
 
 def file_name(text):
@@ -114,7 +113,7 @@ def write(name, folder=OUT):
 
 def main():
     asked = argparse.ArgumentParser(description=__doc__, formatter_class=argparse.RawDescriptionHelpFormatter)
-    sizes = "by default latches, spread and outputs, each with 10000, 100000 and 1000000"
+    sizes = "by default each kind with 100000 and 1000000"
     asked.add_argument("names", metavar="KIND-N", nargs="*", type=file_name, help=sizes)
     asked.add_argument("--folder", default=OUT, help="where the files go, NAME.aag each (bench/out)")
     given = asked.parse_args()
