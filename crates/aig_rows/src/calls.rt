@@ -1,7 +1,7 @@
 //! Calls that are given what they need.
 use crate::forms::{numbers_of, symbols_of};
 use aig_core::{
-    Block, Circuit, Listing, Lit, MemorySink, MemorySource, Names, Var, check, read_all,
+    Block, Circuit, Listing, Lit, MemorySink, MemorySource, Names, Order, Var, check, read_all,
 };
 use aig_text::{Limits, read_ascii, write_ascii};
 use std::alloc::Global;
@@ -83,6 +83,21 @@ fn names(rt: HostRuntime) -> Result<(), Fail> {
     Ok(())
 }
 
+/// The first gate is over the second one twice, so the second one is taken first.
+#[test]
+fn orders(rt: HostRuntime) -> Result<(), Fail> {
+    let circuit = circuit_of(rt.alloc(), "aag 3 1 0 0 2\n2\n6 4 5\n4 2 2\n")?;
+    let mut order = Order::new(rt.alloc(), &circuit)?;
+    assert!(rt; order.waiting(0) == 2 && order.waiting(1) == 0);
+    order.take(1);
+    order.count_down(0);
+    order.count_down(0);
+    order.take(0);
+    assert!(rt; order.list() == [1, 0].as_slice());
+    assert!(rt; order.steps() == 4 && order.waiting(0) == 0);
+    Ok(())
+}
+
 /// Symbols and a comment that were put in by hand come back from what is written.
 #[test]
 fn symbols_and_comments_come_back(rt: HostRuntime) -> Result<(), Fail> {
@@ -90,7 +105,6 @@ fn symbols_and_comments_come_back(rt: HostRuntime) -> Result<(), Fail> {
     let mut circuit = circuit_of(alloc, "aag 7 1 1 2 0\n2\n4 3\n5\n0\n")?;
     circuit.symbols = symbols_of(alloc, "o1 a b\r,l0 ,i0 c")?;
     circuit.comment = Some(Listing::from_vec(Vec::from_slice(alloc, b"made by hand\n\n")?));
-    circuit.gates = Listing::new(alloc);
     assert!(rt; circuit.in_form());
     let checked = check(alloc, circuit).ok().ok_or("it is well formed")?;
     let mut sink = MemorySink::new(alloc, 100, 7, 0)?;
