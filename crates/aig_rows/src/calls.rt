@@ -1,7 +1,7 @@
 //! Calls that are given what they need.
 use crate::forms::{numbers_of, symbols_of};
 use aig_core::{
-    Block, Circuit, Listing, Lit, MemorySink, MemorySource, Names, Order, Var, check, read_all,
+    Block, Circuit, Listing, Lit, MemorySink, MemorySource, Names, Var, check, read_all,
 };
 use aig_text::{Limits, read_ascii, write_ascii};
 use std::alloc::Global;
@@ -80,21 +80,6 @@ fn names(rt: HostRuntime) -> Result<(), Fail> {
         let is_new = names.insert(symbol.kind, symbol.position)?;
         assert!(rt; is_new == (symbol.name.as_slice() == b"new".as_slice()));
     }
-    Ok(())
-}
-
-/// The first gate is over the second one twice, so the second one is taken first.
-#[test]
-fn orders(rt: HostRuntime) -> Result<(), Fail> {
-    let circuit = circuit_of(rt.alloc(), "aag 3 1 0 0 2\n2\n6 4 5\n4 2 2\n")?;
-    let mut order = Order::new(rt.alloc(), &circuit)?;
-    assert!(rt; order.waiting(0) == 2 && order.waiting(1) == 0);
-    order.take(1);
-    order.count_down(0);
-    order.count_down(0);
-    order.take(0);
-    assert!(rt; order.list() == [1, 0].as_slice());
-    assert!(rt; order.steps() == 4 && order.waiting(0) == 0);
     Ok(())
 }
 
