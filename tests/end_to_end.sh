@@ -95,6 +95,31 @@ check 'a bad line after 100,000 lines' convert < "$work/in"
 wants 'aag 1 0 0 1 0\n0\n' '' 0
 check 'a line of 3,000,000 digits' convert < "$work/in"
 
+# --- chains of 200,000 gates: gate k has the literal 2k + 2, and is over gate k - 1 and the input (gate 1 over it twice)
+# chain CLOSED NUMBER..: the gates in the order of `seq NUMBER..`; gate CLOSED is over the last one, not the one before
+chain() {
+    printf 'aag 200001 1 0 1 200000\n2\n400002\n'
+    seq "${@:2}" | awk -v closed="$1" '{ print 2 * $1 + 2, ($1 == closed ? 400002 : 2 * $1), 2 }'
+}
+chain_comes_back() {
+    chain 0 "${@:2}" > "$work/in"
+    wants '' '' 0
+    cp "$work/in" "$work/want_out"
+    check "200,000 gates come back: $1" convert < "$work/in"
+}
+chain_comes_back 'in the order of the chain' 1 200000
+chain_comes_back 'each before the gate that it is over' 200000 -1 1
+
+# chain_is_cyclic NAME LITERAL CLOSED NUMBER..
+chain_is_cyclic() {
+    chain "${@:3}" > "$work/in"
+    wants '' "aiger: -: gate $2 depends on a cycle\n" 1
+    check "a cycle of gates: $1" convert < "$work/in"
+}
+chain_is_cyclic 'all 200,000' 4 1 1 200000
+chain_is_cyclic 'all 200,000, the last one first' 400002 1 200000 -1 1
+chain_is_cyclic 'from gate 100,000 on' 200002 100000 1 200000
+
 # --- large tails ---
 # a comment of NULs, CRs and LFs, which ends with CR and no LF
 { printf 'aag 0 0 0 0 0\nc\n'; yes 'comment@~' 2> /dev/null | head -c 999999 | tr '@~' '\0\r'; } > "$work/in"
