@@ -24,7 +24,7 @@ pub fn gates_have_one_order()
     ensures one { GatesHaveOneOrder }
 {}
 
-/// No gate depends on itself exactly where the least ready order has every gate.
+/// Where each variable is defined once, gates have a rank exactly where the least ready order has every gate.
 pub fn rank_exactly_where_all_are_ordered()
     ensures { RankExactlyWhereAllAreOrdered }
 {}
