@@ -95,7 +95,7 @@ check 'a bad line after 100,000 lines' convert < "$work/in"
 wants 'aag 1 0 0 1 0\n0\n' '' 0
 check 'a line of 3,000,000 digits' convert < "$work/in"
 
-# --- chains of 200,000 gates: gate k has the literal 2k + 2, and is over gate k - 1 (gate 1: the input) and the input ---
+# --- chains of 200,000 gates: gate k has the literal 2k + 2, and is over gate k - 1 and the input (gate 1 over it twice)
 # chain CLOSED NUMBER..: the gates in the order of `seq NUMBER..`; gate CLOSED is over the last one, not the one before
 chain() {
     printf 'aag 200001 1 0 1 200000\n2\n400002\n'

@@ -90,7 +90,6 @@ fn symbols_and_comments_come_back(rt: HostRuntime) -> Result<(), Fail> {
     let mut circuit = circuit_of(alloc, "aag 7 1 1 2 0\n2\n4 3\n5\n0\n")?;
     circuit.symbols = symbols_of(alloc, "o1 a b\r,l0 ,i0 c")?;
     circuit.comment = Some(Listing::from_vec(Vec::from_slice(alloc, b"made by hand\n\n")?));
-    circuit.gates = Listing::new(alloc);
     assert!(rt; circuit.in_form());
     let checked = check(alloc, circuit).ok().ok_or("it is well formed")?;
     let mut sink = MemorySink::new(alloc, 100, 7, 0)?;

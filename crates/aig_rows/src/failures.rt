@@ -14,6 +14,17 @@ aag 3 1 1 2 0
 #aag 2147483647 1 0 1 0
 4294967294
 4294967295
+#aag 5 2 0 1 3
+2
+4
+11
+10 8 7
+8 6 2
+6 4 2
+i1 b
+o0 nand
+c
+gates that name later gates
 #aag 2 1 1 1 0
 2
 4 3
