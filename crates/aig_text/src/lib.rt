@@ -10,4 +10,5 @@ pub mod number;
 pub mod reader;
 pub mod row;
 pub mod section;
+mod word;
 pub mod writer;

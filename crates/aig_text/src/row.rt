@@ -8,7 +8,7 @@ ghost use Rattle.aig_text.specs.Reading.{misdefines, exceeds, any_number, fault_
 
 use crate::fault::{Place, ReadFault, ReadKind};
 use crate::line::{Cursor, Line, split_line};
-use crate::number::{numbers, plain_number, plain_numbers};
+use crate::number::{numbers, plain_number, plain_numbers, short_number, short_numbers, stop};
 use aig_core::circuit::{Gate, Latch};
 use aig_core::literal::{Lit, Var};
 
@@ -187,9 +187,38 @@ fn plain_row<const N: usize>(
     }
 }
 
-/// The numbers of the row that the next line holds. Most rows are in plain spelling, and are read at once.
+/// The numbers of a good row in plain spelling at the front, where all are short, and what follows it.
 #[inline(always)]
-fn next_row<const N: usize>(
+fn short_row<const N: usize>(
+    role: Role,
+    others: [Role; N],
+    bytes: &[u8],
+    max_var: u32,
+) -> Option<((u64, [u64; N]), &[u8])>
+    requires max_var { max_var ≤ largest_index }
+    requires others { length others ≡ N }
+    ensures row { (least number : ℕ) → least ≤ N → IfSome result (λ x.
+        row_at (record { first = role; others = others.entry; least = least }) max_var number (lines_of bytes.now)
+        ≡ Ok (x.0.0 ∷ x.0.1, number + 1, lines_of x.1.now)) }
+    ensures shorter { IfSome result (λ x. length x.1.now < length bytes.now) }
+    ensures first { IfSome result (λ x. x.0.0 ≤ 2 * max_var + 1) }
+    ensures others { IfSome result (λ x. (k : ℕ) → slice_index x.0.1 k ≤ 2 * max_var + 1) }
+{
+    let (first, rest) = short_number(bytes, stop(N))?;
+    let Some(found) = short_numbers::<N>(rest) else {
+        return None;
+    };
+    let more = found.0;
+    let rest = found.1;
+    match row_fault(max_var, role, &others, first, &more) {
+        Some(_) => None,
+        None => Some(((first, more), rest)),
+    }
+}
+
+/// The numbers of the row that the next line holds. Most of them are in plain spelling.
+#[inline(never)]
+fn longer_row<const N: usize>(
     role: Role,
     others: [Role; N],
     least: usize,
@@ -212,6 +241,60 @@ fn next_row<const N: usize>(
             Ok(found)
         }
         None => lenient_row::<N>(role, others, least, at, max_var),
+    }
+}
+
+/// The numbers of the row that the next line holds, read from a copy of the place: so the place itself, which the way
+/// of most rows uses, can be kept in registers.
+#[inline(always)]
+fn row_apart<const N: usize>(
+    role: Role,
+    others: [Role; N],
+    least: usize,
+    at: &mut Cursor,
+    max_var: u32,
+) -> Result<(u64, [u64; N]), ReadFault>
+    requires max_var { max_var ≤ largest_index }
+    requires least { least ≤ N }
+    requires others { length others ≡ N }
+    ensures row { GivesOrFails (λ x. (x.0 ∷ x.1, at.new.number, lines_of at.new.rest.now)) result
+        (row_at (record { first = role; others = others.entry; least = least }) max_var at.old.number
+        (lines_of at.old.rest.now)) }
+    ensures first { IfOk result (λ x. x.0 ≤ 2 * max_var + 1) }
+    ensures others { IfOk result (λ x. (k : ℕ) → slice_index x.1 k ≤ 2 * max_var + 1) }
+{
+    let mut from = *at;
+    let found = longer_row::<N>(role, others, least, &mut from, max_var);
+    *at = from;
+    found
+}
+
+/// The numbers of the row that the next line holds. Most rows have short numbers in plain spelling, and are
+/// read at once.
+#[inline(always)]
+fn next_row<const N: usize>(
+    role: Role,
+    others: [Role; N],
+    least: usize,
+    at: &mut Cursor,
+    max_var: u32,
+) -> Result<(u64, [u64; N]), ReadFault>
+    requires max_var { max_var ≤ largest_index }
+    requires least { least ≤ N }
+    requires others { length others ≡ N }
+    ensures row { GivesOrFails (λ x. (x.0 ∷ x.1, at.new.number, lines_of at.new.rest.now)) result
+        (row_at (record { first = role; others = others.entry; least = least }) max_var at.old.number
+        (lines_of at.old.rest.now)) }
+    ensures first { IfOk result (λ x. x.0 ≤ 2 * max_var + 1) }
+    ensures others { IfOk result (λ x. (k : ℕ) → slice_index x.1 k ≤ 2 * max_var + 1) }
+{
+    match short_row::<N>(role, others, at.rest, max_var) {
+        Some((found, rest)) => {
+            let number = at.number + 1;
+            *at = Cursor { rest, number };
+            Ok(found)
+        }
+        None => row_apart::<N>(role, others, least, at, max_var),
     }
 }
 

@@ -31,6 +31,7 @@ const SECTIONS: [Section; 4] = [
 ];
 
 /// Adds what so many lines tell, and goes behind them.
+#[inline(never)]
 fn read_rows<T: Row>(
     found: &mut Listing<T>,
     count: u32,
@@ -41,10 +42,12 @@ fn read_rows<T: Row>(
     ensures { GivesOrMemory (λ _. (found.new, at.new.number, lines_of at.new.rest.now)) result
         (rows_told T.told_by found.old (rows_at T.form max_var count at.old.number (lines_of at.old.rest.now))) }
 {
+    let mut place = *at;
     for _ in 0..count {
-        let row = T::read_row(at, max_var)?;
+        let row = T::read_row(&mut place, max_var)?;
         found.push(row)?;
     }
+    *at = place;
     Ok(())
 }
 
