@@ -1,6 +1,6 @@
 -- What a text is read as, or its first fault (this project's profile): the first line that is not right for its place, with
 -- the first kind that applies; only where every line is right, the first structural fault of the circuit.
-use Rattle.std.specs.Prelude.{◌≡◌, ◌+◌, ◌*◌, ◌%◌, ◌==◌, ◌||◌, ◌⊎◌, ℕ, zero, suc, List, [], ◌∷◌, min, drop, length, slice_index, Bool, true, false, nat_lt, Option, None, Some, Result, Ok, Err, if◌then◌else◌}
+use Rattle.std.specs.Prelude.{◌≡◌, ◌+◌, ◌*◌, ◌%◌, ◌==◌, ◌||◌, ◌⊎◌, ℕ, zero, suc, List, [], ◌∷◌, min, drop, length, slice_index, Bool, false, nat_lt, Option, None, Some, Result, Ok, Err, if◌then◌else◌}
 use Rattle.std.specs.List.{list_any, before_first, zip}
 use Rattle.std.specs.Str.{bytes_eq}
 use Rattle.aig_core.specs.declared.circuit.Circuit.{Circuit}

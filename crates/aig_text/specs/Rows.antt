@@ -1,6 +1,6 @@
 -- What the numbered lines of a file hold (AIGER report): a section for the inputs, the latches, the outputs and the gates,
 -- and a row of numbers for each of them.
-use Rattle.std.specs.Prelude.{◌++◌, ◌/◌, ℕ, List, [], ◌∷◌, map, length, slice_index, codes}
+use Rattle.std.specs.Prelude.{◌++◌, ℕ, List, [], ◌∷◌, map, length, slice_index, codes}
 use Rattle.std.specs.List.{flat_map}
 use Rattle.aig_core.specs.declared.circuit.Latch.{Latch}
 use Rattle.aig_core.specs.declared.circuit.Gate.{Gate}

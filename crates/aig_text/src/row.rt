@@ -29,6 +29,14 @@ pub trait Row: Copy {
     /// What its numbers tell.
     ghost told_by: { List ℕ → Self };
 
+    /// What the next line tells, and what follows it, where it is a good row of short numbers in plain spelling. So most
+    /// rows are read.
+    fn read_short(bytes: &[u8], max_var: u32) -> Option<(Self, &[u8])>
+        requires { max_var ≤ largest_index }
+        ensures row { (number : ℕ) → IfSome result (λ x.
+            row_told told_by (row_at form max_var number (lines_of bytes.now)) ≡ Ok (x.0, number + 1, lines_of x.1.now)) }
+        ensures shorter { IfSome result (λ x. length x.1.now < length bytes.now) };
+
     /// What the next line tells. Goes behind that line, unless it is not right.
     fn read_row(at: &mut Cursor, max_var: u32) -> Result<Self, ReadFault>
         requires { max_var ≤ largest_index }
@@ -217,8 +225,8 @@ fn short_row<const N: usize>(
 }
 
 /// The numbers of the row that the next line holds. Most of them are in plain spelling.
-#[inline(never)]
-fn longer_row<const N: usize>(
+#[inline(always)]
+fn next_row<const N: usize>(
     role: Role,
     others: [Role; N],
     least: usize,
@@ -244,66 +252,18 @@ fn longer_row<const N: usize>(
     }
 }
 
-/// The numbers of the row that the next line holds, read from a copy of the place: so the place itself, which the way
-/// of most rows uses, can be kept in registers.
-#[inline(always)]
-fn row_apart<const N: usize>(
-    role: Role,
-    others: [Role; N],
-    least: usize,
-    at: &mut Cursor,
-    max_var: u32,
-) -> Result<(u64, [u64; N]), ReadFault>
-    requires max_var { max_var ≤ largest_index }
-    requires least { least ≤ N }
-    requires others { length others ≡ N }
-    ensures row { GivesOrFails (λ x. (x.0 ∷ x.1, at.new.number, lines_of at.new.rest.now)) result
-        (row_at (record { first = role; others = others.entry; least = least }) max_var at.old.number
-        (lines_of at.old.rest.now)) }
-    ensures first { IfOk result (λ x. x.0 ≤ 2 * max_var + 1) }
-    ensures others { IfOk result (λ x. (k : ℕ) → slice_index x.1 k ≤ 2 * max_var + 1) }
-{
-    let mut from = *at;
-    let found = longer_row::<N>(role, others, least, &mut from, max_var);
-    *at = from;
-    found
-}
-
-/// The numbers of the row that the next line holds. Most rows have short numbers in plain spelling, and are
-/// read at once.
-#[inline(always)]
-fn next_row<const N: usize>(
-    role: Role,
-    others: [Role; N],
-    least: usize,
-    at: &mut Cursor,
-    max_var: u32,
-) -> Result<(u64, [u64; N]), ReadFault>
-    requires max_var { max_var ≤ largest_index }
-    requires least { least ≤ N }
-    requires others { length others ≡ N }
-    ensures row { GivesOrFails (λ x. (x.0 ∷ x.1, at.new.number, lines_of at.new.rest.now)) result
-        (row_at (record { first = role; others = others.entry; least = least }) max_var at.old.number
-        (lines_of at.old.rest.now)) }
-    ensures first { IfOk result (λ x. x.0 ≤ 2 * max_var + 1) }
-    ensures others { IfOk result (λ x. (k : ℕ) → slice_index x.1 k ≤ 2 * max_var + 1) }
-{
-    match short_row::<N>(role, others, at.rest, max_var) {
-        Some((found, rest)) => {
-            let number = at.number + 1;
-            *at = Cursor { rest, number };
-            Ok(found)
-        }
-        None => row_apart::<N>(role, others, least, at, max_var),
-    }
-}
-
 impl Row for Var {
     ghost form = { input_form };
 
     ghost told_by = { input_of };
 
     #[inline(always)]
+    fn read_short(bytes: &[u8], max_var: u32) -> Option<(Var, &[u8])> {
+        let (found, rest) = short_row::<0>(Role::Definition, [], bytes, max_var)?;
+        Some((Var((found.0 / 2) as u32), rest))
+    }
+
+    #[inline(never)]
     fn read_row(at: &mut Cursor, max_var: u32) -> Result<Var, ReadFault> {
         match next_row::<0>(Role::Definition, [], 0, at, max_var) {
             Ok(found) => Ok(Var((found.0 / 2) as u32)),
@@ -318,6 +278,17 @@ impl Row for Latch {
     ghost told_by = { latch_of };
 
     #[inline(always)]
+    fn read_short(bytes: &[u8], max_var: u32) -> Option<(Latch, &[u8])> {
+        let (found, rest) = short_row::<1>(Role::Definition, [Role::Literal], bytes, max_var)?;
+        let [next] = found.1;
+        let latch = Latch {
+            var: Var((found.0 / 2) as u32),
+            next: Lit(next as u32),
+        };
+        Some((latch, rest))
+    }
+
+    #[inline(never)]
     fn read_row(at: &mut Cursor, max_var: u32) -> Result<Latch, ReadFault> {
         match next_row::<1>(Role::Definition, [Role::Literal], 1, at, max_var) {
             Ok(found) => {
@@ -338,6 +309,12 @@ impl Row for Lit {
     ghost told_by = { output_of };
 
     #[inline(always)]
+    fn read_short(bytes: &[u8], max_var: u32) -> Option<(Lit, &[u8])> {
+        let (found, rest) = short_row::<0>(Role::Literal, [], bytes, max_var)?;
+        Some((Lit(found.0 as u32), rest))
+    }
+
+    #[inline(never)]
     fn read_row(at: &mut Cursor, max_var: u32) -> Result<Lit, ReadFault> {
         match next_row::<0>(Role::Literal, [], 0, at, max_var) {
             Ok(found) => Ok(Lit(found.0 as u32)),
@@ -352,6 +329,19 @@ impl Row for Gate {
     ghost told_by = { gate_of };
 
     #[inline(always)]
+    fn read_short(bytes: &[u8], max_var: u32) -> Option<(Gate, &[u8])> {
+        let operands = [Role::Literal, Role::Literal];
+        let (found, rest) = short_row::<2>(Role::Definition, operands, bytes, max_var)?;
+        let [left, right] = found.1;
+        let gate = Gate {
+            var: Var((found.0 / 2) as u32),
+            left: Lit(left as u32),
+            right: Lit(right as u32),
+        };
+        Some((gate, rest))
+    }
+
+    #[inline(never)]
     fn read_row(at: &mut Cursor, max_var: u32) -> Result<Gate, ReadFault> {
         let operands = [Role::Literal, Role::Literal];
         match next_row::<2>(Role::Definition, operands, 2, at, max_var) {

@@ -7,7 +7,7 @@ use Rattle.std.proofs.lemmas.Fmt.{digits_decimal, digits_value-decimal, decimal_
 use Rattle.std.proofs.lemmas.List.{append_assoc, append-nil}
 use Rattle.aig_text.specs.Lines.{Line, line, lines_of}
 use Rattle.aig_text.specs.Spelling.{is_digit, value_of, IsNumber, AreMoreNumbers, IsLineEnd, EndInNumbers, IsNumberLine, IsHeaderLine}
-use Rattle.aig_text.specs.Rows.{Form, Row, row}
+use Rattle.aig_text.specs.Rows.{Row}
 use Rattle.aig_text.specs.AsciiGrammar.{IsRowLine}
 use Rattle.aig_text.specs.AsciiText.{more_numbers_text, numbers_text, line_text, header_text}
 

@@ -11,7 +11,7 @@ use Rattle.aig_text.specs.declared.section.Section.TheVariants.{Inputs, Latches,
 use Rattle.aig_text.specs.Lines.{Line, lines_of}
 use Rattle.aig_text.specs.AsciiGrammar.{IsAsciiText}
 use Rattle.aig_text.specs.AsciiText.{ascii_text, line_text, tail_text}
-use Rattle.aig_text.specs.Rows.{ascii_word, header_row, rows_of, Role, Form, roles_of, Section, sections, form_of, rows_in, Row, row}
+use Rattle.aig_text.specs.Rows.{ascii_word, header_row, rows_of, Role, roles_of, Section, sections, form_of, rows_in, row}
 use Rattle.aig_text.proofs.Grammar.Entries.{MayStand, IsGoodRow, all_mapped}
 use Rattle.aig_text.proofs.Grammar.Sections.{rows_good}
 use Rattle.aig_text.proofs.Canonical.Lines.{all_joined, AreSmall, IsFullRow, header_line, row_lines, header_is_first, header_line_is_good, rows_are_first, rows_are_good}

@@ -1,5 +1,5 @@
 -- The first fault of a text: of its lines, and then of the structure of its circuit.
-use Rattle.std.proofs.Common.{◌≡◌, ℕ, List, None, Some, Ok, Err, refl, ap, ◌∙◌, sym, ◌⊎◌, inl, inr}
+use Rattle.std.proofs.Common.{◌≡◌, ℕ, List, None, Ok, Err, refl, ap, ◌∙◌, ◌⊎◌, inl, inr}
 use Rattle.aig_core.specs.declared.circuit.Circuit.{Circuit}
 use Rattle.aig_core.specs.declared.fault.CheckFault.{CheckFault}
 use Rattle.aig_core.specs.Fault as structure

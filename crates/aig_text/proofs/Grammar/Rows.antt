@@ -1,5 +1,5 @@
 -- Rows that are read spell the grammar's, and the other way round.
-use Rattle.std.proofs.Common.{◌≡◌, ℕ, zero, suc, ◌+◌, ◌*◌, ◌≤◌, ◌%◌, ◌||◌, Bool, true, false, cond, List, [], ◌∷◌, ◌++◌, map, length, Option, None, Some, Result, Ok, Err, refl, ap, subst, ◌∙◌, sym, arith}
+use Rattle.std.proofs.Common.{◌≡◌, ℕ, zero, suc, ◌+◌, ◌*◌, ◌≤◌, ◌%◌, false, List, [], ◌∷◌, ◌++◌, map, length, Option, None, Some, Ok, refl, ap, subst, sym, arith}
 use Rattle.std.specs.List.{AllByRecursion, AllZip}
 use Rattle.std.proofs.lemmas.Slice.Zip.{AllZip-long}
 use Rattle.std.proofs.lemmas.Bool.{ltb-false, le-ltb, eqb-false, ne_eqb, or_parts, or_from}
@@ -7,15 +7,14 @@ use Rattle.std.proofs.Math.Dec.{ltb, eqb}
 use Rattle.aig_text.specs.declared.fault.ReadFault.{ReadFault}
 use Rattle.aig_text.specs.declared.row.Role.TheVariants as roles
 use Rattle.aig_text.specs.Lines.{Line}
-use Rattle.aig_text.specs.Spelling.{IsNumberLine}
 use Rattle.aig_text.specs.Scanning.{numbers_at}
-use Rattle.aig_text.specs.Rows.{Role, Form, roles_of, Row, row}
+use Rattle.aig_text.specs.Rows.{Role, Form, roles_of, row}
 use Rattle.aig_text.specs.AsciiGrammar.{IsRowLine}
 use Rattle.aig_text.specs.Reading.{◌>>=◌, Told, at_line, is_no_variable, misdefines, exceeds, any_number, fault_in_row, unless_wrong, checked_row, row_of, row_at, rows_at}
 use Rattle.aig_text.proofs.Steps.{both_ok, ok_at_line, ok_same}
 use Rattle.aig_text.proofs.Kept.Checks.{right_parts}
 use Rattle.aig_text.proofs.Grammar.NumberLines.{row_reads, row_is_read}
-use Rattle.aig_text.proofs.Grammar.Entries.{IsDefinition, MayStand, IsGoodRow}
+use Rattle.aig_text.proofs.Grammar.Entries.{MayStand, IsGoodRow}
 
 -- one number
 variable_is : (n : ℕ) → is_no_variable n ≡ false → (n % 2 ≡ 0) × (2 ≤ n)

@@ -1,5 +1,5 @@
 -- Sections that are read hold the rows of the circuit, and the other way round.
-use Rattle.std.proofs.Common.{◌≡◌, ℕ, ◌+◌, ◌*◌, ◌≤◌, List, [], ◌∷◌, ◌++◌, map, length, Option, None, Ok, refl, ap, subst, ◌∙◌, sym, arith, append_assoc}
+use Rattle.std.proofs.Common.{◌≡◌, ℕ, List, [], ◌∷◌, ◌++◌, map, length, Option, None, Ok, refl, ap, subst, ◌∙◌, sym, arith, append_assoc}
 use Rattle.std.specs.List.{AllByRecursion, AllZip, flat_map}
 use Rattle.std.proofs.lemmas.List.{length-map}
 use Rattle.aig_core.specs.declared.circuit.Circuit.{Circuit}
@@ -13,9 +13,9 @@ use Rattle.aig_text.specs.declared.section.Section.TheVariants.{Inputs, Latches,
 use Rattle.aig_text.specs.Lines.{Line}
 use Rattle.aig_text.specs.Rows.{Header, Section, sections, form_of, count_in, rows_in, with_rows, Row, row, rows_of, header_row, input_row, latch_row, output_row, gate_row, input_of, latch_of, output_of, gate_of, input_form, latch_form, output_form, gate_form}
 use Rattle.aig_text.specs.AsciiGrammar.{IsRowLine}
-use Rattle.aig_text.specs.Reading.{◌>>=◌, Told, rows_at, section_at, sections_at, header_of_row, empty_circuit}
+use Rattle.aig_text.specs.Reading.{Told, rows_at, section_at, sections_at, header_of_row, empty_circuit}
 use Rattle.aig_text.proofs.Steps.{both_ok, ok_same}
-use Rattle.aig_text.proofs.Grammar.Entries.{IsGoodRow, IsEntry, IsLiteralUpTo, IsLatchUpTo, IsGateUpTo, input_entry, latch_entry, output_entry, gate_entry, all_again, rows_again, all_mapped}
+use Rattle.aig_text.proofs.Grammar.Entries.{IsGoodRow, IsLiteralUpTo, IsLatchUpTo, IsGateUpTo, input_entry, latch_entry, output_entry, gate_entry, all_again, rows_again, all_mapped}
 use Rattle.aig_text.proofs.Grammar.Rows.{IsSound, AreRows, rows_told, rows_are_told}
 
 -- the rows of these sections, and the circuit with them

@@ -1,5 +1,5 @@
 -- A text that is read is the text of its circuit, and the other way round.
-use Rattle.std.proofs.Common.{◌≡◌, ℕ, zero, suc, ◌+◌, ◌≤◌, min, true, false, cond, List, [], ◌∷◌, ◌++◌, drop, length, get_or, Option, None, Some, Result, Ok, Err, refl, ap, subst, ◌∙◌, sym, arith, append-nil}
+use Rattle.std.proofs.Common.{◌≡◌, ℕ, zero, suc, ◌+◌, ◌≤◌, min, true, false, cond, List, [], ◌∷◌, ◌++◌, drop, length, get_or, Option, None, Some, Result, Ok, Err, refl, ap, subst, ◌∙◌, sym, arith}
 use Rattle.std.specs.List.{AllByRecursion, AllZip, list_any, before_first}
 use Rattle.std.specs.Str.{bytes_eq}
 use Rattle.std.proofs.lemmas.Bool.{ltb-false, le-ltb, eqb-true, eq-eqb, or_parts, or_from}
@@ -18,9 +18,9 @@ use Rattle.aig_text.specs.declared.fault.ReadKind.TheVariants as kinds
 use Rattle.aig_text.specs.Lines.{Line, lines_of}
 use Rattle.aig_text.specs.Spelling.{IsHeaderLine}
 use Rattle.aig_text.specs.Scanning.{more_numbers_at}
-use Rattle.aig_text.specs.Rows.{ascii_word, Header, header_row, rows_of, sections}
+use Rattle.aig_text.specs.Rows.{ascii_word, Header, header_row, sections}
 use Rattle.aig_text.specs.AsciiGrammar.{IsRowLine, IsAsciiText}
-use Rattle.aig_text.specs.Reading.{◌>>=◌, Told, at_line, ends_word, header_of_row, header_within, header_of, gates_not_yet, tail_not_yet, header_at, sections_at, empty_circuit, circuit_at, unless_faulty, reading}
+use Rattle.aig_text.specs.Reading.{◌>>=◌, at_line, ends_word, header_of_row, header_within, header_of, gates_not_yet, tail_not_yet, header_at, sections_at, empty_circuit, circuit_at, unless_faulty, reading}
 use Rattle.aig_text.proofs.Steps.{both_ok, ok_at_line, ok_same, passed, let_through}
 use Rattle.aig_text.proofs.Grammar.NumberLines.{header_reads, header_is_read}
 use Rattle.aig_text.proofs.Grammar.Sections.{FourSections, four_told, rows_read, counts_read, row_of_header, in_form, sections_are_read}

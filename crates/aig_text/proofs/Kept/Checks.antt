@@ -1,6 +1,6 @@
 -- Lines are judged by what is kept of their numbers as by the numbers.
 use Rattle.std.proofs.Common.{◌≡◌, ◌<◌, ◌≤◌, ◌+◌, ◌*◌, ◌%◌, ◌^◌, ℕ, List, [], ◌∷◌, Bool, true, false, cond, ◌||◌, map, min, length, drop, get_or, zero, subst, Ok, refl, sym, ap, ap₂, ◌∙◌, arith, eqb, ltb, inl, inr, Option, Some, None, Err, suc}
-use Rattle.std.specs.List.{list_any, before_first, zip}
+use Rattle.std.specs.List.{list_any, before_first}
 use Rattle.std.specs.Str.{bytes_eq}
 use Rattle.std.proofs.lemmas.Bool.{lt-ltb, le-ltb, ltb-false, cases_lt, cases_Bool}
 use Rattle.aig_core.specs.declared.circuit.TheConstants.{LARGEST}

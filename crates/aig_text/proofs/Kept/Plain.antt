@@ -1,7 +1,7 @@
 -- Rows in plain spelling are rows.
-use Rattle.std.proofs.Common.{◌≡◌, ◌≢◌, ◌+◌, ◌*◌, ◌-◌, ◌%◌, ◌^◌, ◌<◌, ◌≤◌, ◌==◌, ℕ, zero, suc, List, [], ◌∷◌, ◌++◌, take, drop, length, map, Bool, get_or, true, false, cond, refl, sym, ap, ap₂, subst, ◌∙◌, arith, rules, eqb, append_assoc, append-nil, Ok}
-use Rattle.std.specs.Prelude.{slice_range, decimal, fold}
-use Rattle.std.specs.List.{AllByRecursion, prefix_len}
+use Rattle.std.proofs.Common.{◌≡◌, ◌≢◌, ◌+◌, ◌*◌, ◌-◌, ◌%◌, ◌^◌, ◌<◌, ◌≤◌, ◌==◌, ℕ, zero, suc, List, [], ◌∷◌, ◌++◌, take, drop, length, Bool, get_or, true, false, cond, refl, sym, ap, ap₂, subst, ◌∙◌, arith, rules, append_assoc, append-nil, Ok}
+use Rattle.std.specs.Prelude.{slice_range, fold}
+use Rattle.std.specs.List.{AllByRecursion}
 use Rattle.std.specs.Float.Numeral.{digits_len}
 use Rattle.std.specs.Str.Parse.{digits_value}
 use Rattle.std.proofs.lemmas.Str.Parse.{IsNumeralModel, numerals_by_fold, digits_value_short}

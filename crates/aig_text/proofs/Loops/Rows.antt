@@ -1,11 +1,11 @@
 -- Reading rows one after another, and sections one after another.
-use Rattle.std.proofs.Common.{◌≡◌, ◌+◌, ◌-◌, ◌<◌, ◌≤◌, ℕ, zero, suc, List, [], ◌∷◌, ◌++◌, map, drop, length, get_or, Result, Ok, Err, refl, sym, ap, subst, ◌∙◌, ◌⊎◌, inl, inr, append_assoc, append-nil, arith, add-one}
+use Rattle.std.proofs.Common.{◌≡◌, ◌+◌, ◌-◌, ◌<◌, ◌≤◌, ℕ, zero, suc, List, [], ◌∷◌, ◌++◌, map, drop, length, get_or, Ok, Err, refl, sym, ap, subst, ◌∙◌, ◌⊎◌, inl, inr, append_assoc, append-nil, arith, add-one}
 use Rattle.std.proofs.Math.Seq.{drop-cons, drop-nil}
 use Rattle.aig_core.specs.declared.circuit.Circuit.{Circuit}
 use Rattle.aig_text.specs.declared.fault.ReadFault.{ReadFault}
 use Rattle.aig_text.specs.Lines.{Line}
 use Rattle.aig_text.specs.Rows.{Header, Form, Section, sections}
-use Rattle.aig_text.specs.Kept.{row_told, rows_told, GivesOrMemory}
+use Rattle.aig_text.specs.Kept.{row_told, rows_told}
 use Rattle.aig_text.specs.Reading.{◌>>=◌, Told, row_at, rows_at, section_at, sections_at, want_of_memory}
 
 -- what comes behind a row that is right

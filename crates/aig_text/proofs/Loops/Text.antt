@@ -5,7 +5,7 @@ use Rattle.aig_text.specs.declared.fault.ReadFault.{ReadFault}
 use Rattle.aig_text.specs.Lines.{Line}
 use Rattle.aig_text.specs.Rows.{ascii_word, Header, sections}
 use Rattle.aig_text.specs.Kept.{GivesOrMemory}
-use Rattle.aig_text.specs.Reading.{◌>>=◌, Told, header_at, sections_at, empty_circuit, tail_not_yet, circuit_at, want_of_memory}
+use Rattle.aig_text.specs.Reading.{header_at, sections_at, empty_circuit, tail_not_yet, circuit_at, want_of_memory}
 
 pub no_header : (limit : ℕ) (ls : List Line) (e : ReadFault) → header_at ascii_word limit 1 ls ≡ Err e → circuit_at limit ls ≡ Err e
 unfolding circuit_at

@@ -1,4 +1,4 @@
-use Rattle.std.proofs.Common.{◌≡◌, ◌-◌, ◌&&◌, eqb, true, false, sym, ap, ◌∙◌}
+use Rattle.std.proofs.Common.{◌≡◌, ◌-◌, ◌&&◌, eqb, sym, ap, ◌∙◌}
 use Rattle.aig_text.specs.Scanning.{is_line_end}
 use Rattle.aig_text.proofs.Kept.Numbers.{stored_more, stored_all}
 use Rattle.aig_text.proofs.number.more_numbers.Goals as goal

@@ -1,4 +1,4 @@
-use Rattle.std.proofs.Common.{◌≡◌, ◌∙◌, arith, zero-add}
+use Rattle.std.proofs.Common.{◌≡◌, ◌∙◌, zero-add}
 use Rattle.std.specs.Float.Numeral.{digits_len}
 use Rattle.aig_text.proofs.Kept.Plain.{plain_number_is, read_value}
 use Rattle.aig_text.proofs.number.plain_number.Goals as goal

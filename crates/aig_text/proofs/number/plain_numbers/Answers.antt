@@ -1,6 +1,6 @@
 use Rattle.std.proofs.Common.{◌∙◌}
 use Rattle.std.proofs.Math.ListN.{length-set}
-use Rattle.aig_text.proofs.Kept.Plain.{stored_plainly, all_stored}
+use Rattle.aig_text.proofs.Kept.Plain.{stored_plainly}
 use Rattle.aig_text.proofs.number.plain_numbers.Goals as goal
 
 pub loop-at-preserved : goal.loop-at-preserved

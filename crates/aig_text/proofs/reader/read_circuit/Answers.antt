@@ -1,8 +1,6 @@
-use Rattle.std.proofs.Common.{◌≡◌, Ok, inr, sym, ap, ◌∙◌}
+use Rattle.std.proofs.Common.{inr}
 use Rattle.std.proofs.lemmas.Result.{err_from_is_err_and}
 use Rattle.aig_text.specs.Lines.{lines_of}
-use Rattle.aig_text.specs.Rows.{ascii_word, sections}
-use Rattle.aig_text.specs.Reading.{header_at, sections_at}
 use Rattle.aig_text.proofs.Loops.Text.{no_header, no_sections, all_read}
 use Rattle.aig_text.proofs.reader.read_circuit.Goals as goal
 

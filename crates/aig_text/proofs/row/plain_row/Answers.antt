@@ -1,4 +1,4 @@
-use Rattle.std.proofs.Common.{◌≡◌, ◌≤◌, ◌∷◌, length, suc, sym, ap, subst, ◌∙◌}
+use Rattle.std.proofs.Common.{◌≤◌, ◌∷◌, suc, sym, ap, subst, ◌∙◌}
 use Rattle.aig_text.specs.Rows.{Form}
 use Rattle.aig_text.proofs.Kept.Checks.{right_parts, all_below}
 use Rattle.aig_text.proofs.Kept.Plain.{plain_row_is, shorter}

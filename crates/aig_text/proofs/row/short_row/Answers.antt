@@ -1,5 +1,5 @@
-use Rattle.std.proofs.Common.{◌≡◌, ◌≤◌, ◌∷◌, length, suc, sym, ap, subst, ◌∙◌}
-use Rattle.aig_text.specs.Plain.{BeginsWithNumber, EndsPlainly, stop}
+use Rattle.std.proofs.Common.{◌≤◌, ◌∷◌, suc, sym, ap, subst, ◌∙◌}
+use Rattle.aig_text.specs.Plain.{stop}
 use Rattle.aig_text.specs.Rows.{Form}
 use Rattle.aig_text.proofs.Kept.Checks.{right_parts, all_below}
 use Rattle.aig_text.proofs.Kept.Plain.{plain_row_is, shorter}
