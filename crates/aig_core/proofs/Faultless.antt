@@ -1,5 +1,5 @@
 -- A circuit without a fault is well formed, and a well-formed circuit has no fault.
-use Rattle.std.proofs.Common.{◌≡◌, ℕ, List, [], ◌∷◌, eqb, Bool, true, false, cond, Option, None, Some, refl, sym, ap, subst, ◌∙◌, inl, inr, ⊎_elim, arith}
+use Rattle.std.proofs.Common.{◌≡◌, ◌+◌, ◌*◌, ◌≤◌, ℕ, List, [], ◌∷◌, length, eqb, Bool, true, false, cond, Option, None, Some, refl, sym, ap, subst, ◌∙◌, inl, inr, ⊎_elim, arith}
 use Rattle.std.specs.Prelude.{◌⊎◌, ◌↔◌, ◌≢◌}
 use mathlib.Core.Bool.{◌||◌}
 use Rattle.std.specs.List.{AllByRecursion, Contains}
@@ -13,11 +13,12 @@ use Rattle.aig_core.specs.declared.fault.CheckFault.{CheckFault}
 use Rattle.aig_core.specs.declared.circuit.Circuit.{Circuit}
 use Rattle.aig_core.specs.declared.circuit.Gate.{Gate}
 use Rattle.aig_core.specs.Literal.{variable_of}
-use Rattle.aig_core.specs.Wellformed.{IsAmong, AreDistinct, IsKnown, HasRank, IsWellFormed, defined_variables, used_literals}
-use Rattle.aig_core.specs.Form.{IsInForm}
+use Rattle.aig_core.specs.Wellformed.{IsAmong, AreDistinct, IsKnown, IsVariableUpTo, HasRank, IsWellFormed, defined_variables, used_literals}
+use Rattle.aig_core.specs.Form.{IsInForm, IsLiteralUpTo}
 use Rattle.aig_core.specs.declared.fault.CheckFault.TheVariants.{OutOfMemory, Redefined, Undefined}
 use Rattle.aig_core.specs.Fault.{IsFault, first_repeat, first_unknown, with_all, is_known, first_fault}
 use Rattle.std.specs.Option.{option_map, option_or}
+use Rattle.aig_core.proofs.Fitting.{at_most}
 
 same_is_equal : (x : ℕ) → eq_by_cmp nat_cmp x x ≡ true
 same_is_equal x = (eq_by_cmp_equiv nat_cmp_total).refl x
@@ -161,3 +162,31 @@ told_of_none e ne h = ⊎_elim ne (λ none. cc) h
 
 pub refuted : (e : CheckFault) (c : Circuit) → IsWellFormed c → e ≢ OutOfMemory → IsFault e (first_fault c) → ⊥
 refuted e c good ne h = told_of_none e ne (subst (IsFault e) (faultless c good) h)
+
+-- where as many variables are defined as there are indices, each literal in range is known
+known_of_all : (n : ℕ) (vars : List ℕ) → AreDistinct vars → AllByRecursion (IsVariableUpTo n) vars → n ≤ length vars → (lit : ℕ) → lit ≤ 2 * n + 1 → is_known (with_all set.empty vars) lit ≡ true
+known_of_all n vars once range many lit low =
+    let v = variable_of lit in
+    elim (eqb v 0) as (λ b. eqb v 0 ≡ b → (b || set.contains (with_all set.empty vars) v) ≡ true) [
+      | true ↦ λ _. refl
+      | false ↦ λ some.
+          elim (set.contains (with_all set.empty vars) v) as (λ b. set.contains (with_all set.empty vars) v ≡ b → b ≡ true) [
+            | true ↦ λ _. refl
+            | false ↦ λ out.
+                let apart : ¬ IsAmong v vars = λ a. let has : set.contains (with_all set.empty vars) v ≡ true = taken set.empty vars v a in cc in
+                let variable : v ≢ 0 = λ e. let t : eqb v 0 ≡ true = (Decides-eqb v 0).1 e in cc in
+                absurd (omega (arith, at_most n (v ∷ vars) (apart, once) ((omega (arith, variable), omega arith), range)))
+          ] refl
+    ] refl
+
+pub all_known_of_all : (n : ℕ) (vars : List ℕ) → AreDistinct vars → AllByRecursion (IsVariableUpTo n) vars → n ≤ length vars → (lits : List ℕ) → AllByRecursion (IsLiteralUpTo n) lits
+    → first_unknown (with_all set.empty vars) lits ≡ None
+all_known_of_all n vars once range many [] low = refl
+all_known_of_all n vars once range many (x ∷ xs) low =
+    ap (λ b. cond b (first_unknown (with_all set.empty vars) xs) (Some x)) (known_of_all n vars once range many x low.0) ∙ all_known_of_all n vars once range many xs low.1
+
+-- a circuit in form that defines each index once has no fault
+pub faultless_of_all : (c : Circuit) → IsInForm c → c.max_var ≤ length (defined_variables c) → first_repeat set.empty (defined_variables c) ≡ None → first_fault c ≡ None
+faultless_of_all c form many none =
+    let known = all_known_of_all c.max_var (defined_variables c) (distinct set.empty (defined_variables c) none) form.variables many (used_literals c) form.literals in
+    rw (none, known) refl

@@ -51,7 +51,7 @@ at_most n xs d all =
     let longer : length (0 ∷ xs) ≤ n + 1 = length-le_from_distinct_below (0 ∷ xs) (n + 1) (IsDistinct-cons eqb 0 xs (differs 0 xs no_zero) (distinct_by_test xs d)) below in
     omega (arith, longer)
 
-defined_length : (c : Circuit) → length (defined_variables c) ≡ length c.inputs + length c.latches + length c.gates
+pub defined_length : (c : Circuit) → length (defined_variables c) ≡ length c.inputs + length c.latches + length c.gates
 defined_length c = simp (length-append, length-map)
 
 -- there are at most as many definitions as the largest index

@@ -1,10 +1,11 @@
 //! What is wrong with a circuit: the first variable that is defined twice, or else the first literal that is used and
 //! not defined.
-ghost use Rattle.std.specs.Prelude.{◌≡◌, IfOk, IfErr, OnOk, None};
+ghost use Rattle.std.specs.Prelude.{◌≡◌, ◌≤◌, length, IfOk, IfErr, OnOk, None};
 ghost use Rattle.std.specs.List.{flat_map};
 ghost use Rattle.std.specs.Option.{option_to_list};
 ghost use Rattle.std.specs.FinSet as set;
 ghost use Rattle.aig_core.specs.Wellformed.{defined_variables, used_literals};
+ghost use Rattle.aig_core.specs.Form.{IsInForm};
 ghost use Rattle.aig_core.specs.Fault.{first_fault, first_repeat, first_redefinition, first_unknown, with_all};
 ghost use Rattle.aig_core.specs.Fault.{is_known, IsFault};
 
@@ -80,7 +81,9 @@ fn first_unknown_use<T: Entry>(variables: &VarSet, entries: &Listing<T>) -> Opti
 }
 
 /// How many definitions a circuit has.
-fn definition_count(circuit: &Circuit) -> usize {
+fn definition_count(circuit: &Circuit) -> usize
+    ensures { result ≤ length (defined_variables circuit.now) }
+{
     circuit
         .inputs
         .len()
@@ -112,10 +115,15 @@ fn first_undefined(variables: &VarSet, circuit: &Circuit) -> Option<Lit>
 
 /// The first fault of a circuit, which tells nothing of the order of its gates.
 pub(crate) fn find_fault(alloc: Global, circuit: &Circuit) -> Result<(), CheckFault>
+    requires { IsInForm circuit.now }
     ensures ok { OnOk result (first_fault circuit.now ≡ None) }
     ensures err { IfErr result (λ e. IsFault e (first_fault circuit.now)) }
 {
     let variables = definitions(alloc, circuit)?;
+    // as many definitions as indices: none is left out, so each literal is known
+    if definition_count(circuit) >= circuit.max_var as usize {
+        return Ok(());
+    }
     match first_undefined(&variables, circuit) {
         Some(literal) => Err(CheckFault::Undefined(literal)),
         None => Ok(()),
