@@ -179,20 +179,17 @@ pub fn stop(due: usize) -> u8
     if due == 0 { b'\n' } else { b' ' }
 }
 
-/// A number of one to seven digits at the front with the byte behind it, and what follows, where eight bytes stand there.
+/// A number of one to eight digits at the front with the byte behind it, and what follows, where nine bytes stand there.
 #[inline(always)]
 pub fn short_number(bytes: &[u8], stop: u8) -> Option<(u64, &[u8])>
     ensures { IfSome result (λ x. BeginsWithNumber bytes.now x.0 (stop ∷ x.1.now)) }
 {
-    if bytes.len() < 8 {
+    if bytes.len() < 9 {
         return None;
     }
     let word = first_word(bytes);
     // digits have this bit, and neither spaces nor line feeds have it
     let stops = !word & 0x1010_1010_1010_1010;
-    if stops == 0 {
-        return None;
-    }
     let end = stops.trailing_zeros() / 8;
     if end == 0 || bytes[end as usize] != stop {
         return None;

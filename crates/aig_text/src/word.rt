@@ -41,17 +41,18 @@ fn flags_from_ten(word: u64) -> u64
 /// The word with its first bytes, so many, moved up to the end.
 #[inline(always)]
 fn keep_first(word: u64, count: u32) -> u64
-    requires { count < 8 }
+    requires some { 0 < count }
+    requires fits { count ≤ 8 }
     ensures { result ≡ word * 256 ^ (8 - count) % 2 ^ 64 }
 {
-    // two shifts, since a word cannot be shifted by 64
-    word << (56 - 8 * count) << 8
+    word << (64 - 8 * count)
 }
 
 /// The number that the first bytes of a word spell, so many, if they all are digits.
 #[inline(always)]
 pub fn digits_of_word(word: u64, count: u32) -> Option<u64>
-    requires { count < 8 }
+    requires some { 0 < count }
+    requires fits { count ≤ 8 }
     ensures { (bytes : List ℕ) → IsEightBytes bytes → word ≡ number_l 256 bytes
         → IfSome result (λ value. (count ≤ digits_len bytes) × (value ≡ digits_value 10 (take count bytes))) }
 {

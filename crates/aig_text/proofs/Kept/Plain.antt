@@ -61,7 +61,7 @@ first_digits (suc n) (b ∷ bytes) h =
     ] refl h
 
 -- digits of the first eight bytes, and the byte behind them
-pub short_number_is : (bytes rest : List ℕ) (end value stop : ℕ) → end ≢ 0 → end < 8 → 8 ≤ length bytes
+pub short_number_is : (bytes rest : List ℕ) (end value stop : ℕ) → end ≢ 0 → end ≤ 8 → 8 < length bytes
     → (end ≤ digits_len (take 8 bytes)) × (value ≡ digits_value 10 (take end (take 8 bytes))) → stop ≡ get_or bytes end 0 → rest ≡ drop (end + 1) bytes
     → BeginsWithNumber bytes value (stop ∷ rest)
 short_number_is bytes rest end value stop some few long read behind after =
