@@ -97,7 +97,7 @@ fn eight_digits(number: u32) -> u64
 fn zeros_before(digits: u64) -> u32
     ensures { (n : ℕ) → n < 10 ^ 8 → digits ≡ number_l 256 (last_digits 8 n) → result + length (decimal n) ≡ 8 }
 {
-    // the last digit is marked, since it is written where it is 0 too
+    // the last digit is marked, since it is written even where it is 0
     (digits | 1 << 60).trailing_zeros() / 8
 }
 

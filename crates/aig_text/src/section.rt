@@ -61,7 +61,7 @@ fn read_rows<T: Row>(
                 found.0
             }
             None => {
-                // apart, so that the place itself can be kept in registers
+                // a copy is lent, so that the place itself can stay in registers
                 let mut from = place;
                 let row = T::read_row(&mut from, max_var)?;
                 place = from;
