@@ -11,6 +11,7 @@ mod reader;
 mod row;
 mod section;
 mod tail;
+mod word;
 mod writer;
 
 pub use crate::fault::{Place, ReadFault, ReadKind};

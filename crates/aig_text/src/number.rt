@@ -3,10 +3,11 @@ ghost use Rattle.std.specs.Prelude.{◌≡◌, ◌==◌, ◌&&◌, ◌+◌, ◌-
 ghost use Rattle.std.specs.List.{list_any, prefix_len};
 ghost use Rattle.aig_text.specs.Spelling.{is_digit, is_space, value_of};
 ghost use Rattle.aig_text.specs.Scanning.{number_at, after_gap, is_line_end, more_numbers_at, numbers_at};
-ghost use Rattle.aig_text.specs.Parts.Plain.{BeginsWithNumber, EndsPlainly};
+ghost use Rattle.aig_text.specs.Parts.Plain.{BeginsWithNumber, EndsPlainly, stop};
 ghost use Rattle.aig_text.specs.Parts.Kept.{kept, kept_numbers, kept_first, Gives};
 
 use crate::line::Line;
+use crate::word::{digits_of_word, first_word};
 use core::dec2flt::read_digits;
 
 /// Numbers from here on are all above each limit, and only whether they are odd is kept of them.
@@ -171,6 +172,50 @@ pub(crate) fn plain_numbers<const N: usize>(bytes: &[u8]) -> Option<([u64; N], &
         rest = after;
     }
     let rest = after_byte(rest, b'\n')?;
+    Some((numbers, rest))
+}
+
+/// The byte behind a number where so many more are due in its line.
+#[inline(always)]
+pub fn stop(due: usize) -> u8
+    ensures { result ≡ stop due }
+{
+    if due == 0 { b'\n' } else { b' ' }
+}
+
+/// A number of one to eight digits at the front with the byte behind it, and what follows, where nine bytes stand there.
+#[inline(always)]
+pub fn short_number(bytes: &[u8], stop: u8) -> Option<(u64, &[u8])>
+    ensures { IfSome result (λ x. BeginsWithNumber bytes.now x.0 (stop ∷ x.1.now)) }
+{
+    if bytes.len() < 9 {
+        return None;
+    }
+    let word = first_word(bytes);
+    // digits have this bit, and neither spaces nor line feeds have it
+    let stops = !word & 0x1010_1010_1010_1010;
+    let end = stops.trailing_zeros() / 8;
+    if end == 0 || bytes[end as usize] != stop {
+        return None;
+    }
+    let value = digits_of_word(word, end)?;
+    let (_, rest) = bytes.split_at(end as usize + 1);
+    Some((value, rest))
+}
+
+/// Short numbers at the front, each with the byte behind it, and what follows the last.
+#[inline(always)]
+pub fn short_numbers<const N: usize>(bytes: &[u8]) -> Option<([u64; N], &[u8])>
+    ensures are { IfSome result (λ x. EndsPlainly (stop N ∷ bytes.now) x.0 x.1.now) }
+    ensures long { IfSome result (λ x. length x.0 ≡ N) }
+{
+    let mut numbers = [0; N];
+    let mut rest = bytes;
+    for at in 0..N {
+        let (number, after) = short_number(rest, stop(N - 1 - at))?;
+        numbers[at] = number;
+        rest = after;
+    }
     Some((numbers, rest))
 }
 

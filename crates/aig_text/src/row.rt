@@ -9,7 +9,7 @@ ghost use Rattle.aig_text.specs.Reading.{misdefines, exceeds, any_number, fault_
 
 use crate::fault::{Place, ReadFault, ReadKind};
 use crate::line::{Cursor, Line, split_line};
-use crate::number::{numbers, plain_number, plain_numbers};
+use crate::number::{numbers, plain_number, plain_numbers, short_number, short_numbers, stop};
 use aig_core::{Gate, Latch, Lit, Var};
 
 /// What a number of a row is.
@@ -28,6 +28,14 @@ pub(crate) trait Row: Copy {
 
     /// What its numbers tell.
     ghost told_by: { List ℕ → Self };
+
+    /// What the next line tells, and what follows it, where it is a good row of short numbers in plain spelling. So most
+    /// rows are read.
+    fn read_short(bytes: &[u8], max_var: u32) -> Option<(Self, &[u8])>
+        requires { max_var ≤ largest_index }
+        ensures row { (number : ℕ) → IfSome result (λ x.
+            row_told told_by (row_at form max_var number (lines_of bytes.now)) ≡ Ok (x.0, number + 1, lines_of x.1.now)) }
+        ensures shorter { IfSome result (λ x. length x.1.now < length bytes.now) };
 
     /// What the next line tells. Goes behind that line, unless it is not right.
     fn read_row(at: &mut Cursor, max_var: u32) -> Result<Self, ReadFault>
@@ -187,7 +195,36 @@ fn plain_row<const N: usize>(
     }
 }
 
-/// The numbers of the row that the next line holds. Most rows are in plain spelling, and are read at once.
+/// The numbers of a good row in plain spelling at the front, where all are short, and what follows it.
+#[inline(always)]
+fn short_row<const N: usize>(
+    role: Role,
+    others: [Role; N],
+    bytes: &[u8],
+    max_var: u32,
+) -> Option<((u64, [u64; N]), &[u8])>
+    requires max_var { max_var ≤ largest_index }
+    requires others { length others ≡ N }
+    ensures row { (least number : ℕ) → least ≤ N → IfSome result (λ x.
+        row_at (record { first = role; others = others.entry; least = least }) max_var number (lines_of bytes.now)
+        ≡ Ok (x.0.0 ∷ x.0.1, number + 1, lines_of x.1.now)) }
+    ensures shorter { IfSome result (λ x. length x.1.now < length bytes.now) }
+    ensures first { IfSome result (λ x. x.0.0 ≤ 2 * max_var + 1) }
+    ensures others { IfSome result (λ x. (k : ℕ) → slice_index x.0.1 k ≤ 2 * max_var + 1) }
+{
+    let (first, rest) = short_number(bytes, stop(N))?;
+    let Some(found) = short_numbers::<N>(rest) else {
+        return None;
+    };
+    let more = found.0;
+    let rest = found.1;
+    match row_fault(max_var, role, &others, first, &more) {
+        Some(_) => None,
+        None => Some(((first, more), rest)),
+    }
+}
+
+/// The numbers of the row that the next line holds. Most of them are in plain spelling.
 #[inline(always)]
 fn next_row<const N: usize>(
     role: Role,
@@ -221,6 +258,12 @@ impl Row for Var {
     ghost told_by = { input_of };
 
     #[inline(always)]
+    fn read_short(bytes: &[u8], max_var: u32) -> Option<(Var, &[u8])> {
+        let (found, rest) = short_row::<0>(Role::Definition, [], bytes, max_var)?;
+        Some((Var((found.0 / 2) as u32), rest))
+    }
+
+    #[inline(never)]
     fn read_row(at: &mut Cursor, max_var: u32) -> Result<Var, ReadFault> {
         // For a `?` here, and in the rows below, the kit's borrow checker makes no proof.
         match next_row::<0>(Role::Definition, [], 0, at, max_var) {
@@ -236,6 +279,17 @@ impl Row for Latch {
     ghost told_by = { latch_of };
 
     #[inline(always)]
+    fn read_short(bytes: &[u8], max_var: u32) -> Option<(Latch, &[u8])> {
+        let (found, rest) = short_row::<1>(Role::Definition, [Role::Literal], bytes, max_var)?;
+        let [next] = found.1;
+        let latch = Latch {
+            var: Var((found.0 / 2) as u32),
+            next: Lit(next as u32),
+        };
+        Some((latch, rest))
+    }
+
+    #[inline(never)]
     fn read_row(at: &mut Cursor, max_var: u32) -> Result<Latch, ReadFault> {
         match next_row::<1>(Role::Definition, [Role::Literal], 1, at, max_var) {
             Ok(found) => {
@@ -256,6 +310,12 @@ impl Row for Lit {
     ghost told_by = { output_of };
 
     #[inline(always)]
+    fn read_short(bytes: &[u8], max_var: u32) -> Option<(Lit, &[u8])> {
+        let (found, rest) = short_row::<0>(Role::Literal, [], bytes, max_var)?;
+        Some((Lit(found.0 as u32), rest))
+    }
+
+    #[inline(never)]
     fn read_row(at: &mut Cursor, max_var: u32) -> Result<Lit, ReadFault> {
         match next_row::<0>(Role::Literal, [], 0, at, max_var) {
             Ok(found) => Ok(Lit(found.0 as u32)),
@@ -270,6 +330,19 @@ impl Row for Gate {
     ghost told_by = { gate_of };
 
     #[inline(always)]
+    fn read_short(bytes: &[u8], max_var: u32) -> Option<(Gate, &[u8])> {
+        let operands = [Role::Literal, Role::Literal];
+        let (found, rest) = short_row::<2>(Role::Definition, operands, bytes, max_var)?;
+        let [left, right] = found.1;
+        let gate = Gate {
+            var: Var((found.0 / 2) as u32),
+            left: Lit(left as u32),
+            right: Lit(right as u32),
+        };
+        Some((gate, rest))
+    }
+
+    #[inline(never)]
     fn read_row(at: &mut Cursor, max_var: u32) -> Result<Gate, ReadFault> {
         let operands = [Role::Literal, Role::Literal];
         match next_row::<2>(Role::Definition, operands, 2, at, max_var) {

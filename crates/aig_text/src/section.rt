@@ -1,5 +1,5 @@
 //! Sections: rows of one kind, one to a line.
-ghost use Rattle.std.specs.Prelude.{◌≡◌, ◌≤◌};
+ghost use Rattle.std.specs.Prelude.{◌≡◌, ◌+◌, ◌<◌, ◌≤◌, length};
 ghost use Rattle.aig_core.specs.declared.circuit.TheConstants.{LARGEST as largest_index};
 ghost use Rattle.aig_text.specs.Lines.{lines_of};
 ghost use Rattle.aig_text.specs.Rows.{sections};
@@ -33,7 +33,19 @@ const SECTIONS: [Section; 4] = [
     Section::Gates,
 ];
 
+/// The place behind a line, where this is left of the text.
+#[inline(always)]
+fn behind<'a>(line: Cursor<'a>, rest: &'a [u8]) -> Cursor<'a>
+    requires { length rest.now < length line.rest.now }
+    ensures rest { result.rest.now ≡ rest.now }
+    ensures number { result.number ≡ line.entry.number + 1 }
+{
+    let number = line.number + 1;
+    Cursor { rest, number }
+}
+
 /// Adds what so many lines tell, and goes behind them.
+#[inline(never)]
 fn read_rows<T: Row>(
     found: &mut Listing<T>,
     count: u32,
@@ -44,10 +56,24 @@ fn read_rows<T: Row>(
     ensures { GivesOrMemory (λ _. (found.new, at.new.number, lines_of at.new.rest.now)) result
         (rows_told T.told_by found.old (rows_at T.form max_var count at.old.number (lines_of at.old.rest.now))) }
 {
+    let mut place = *at;
     for _ in 0..count {
-        let row = T::read_row(at, max_var)?;
+        let row = match T::read_short(place.rest, max_var) {
+            Some(found) => {
+                place = behind(place, found.1);
+                found.0
+            }
+            None => {
+                // a copy is lent, so that the place itself can stay in registers
+                let mut from = place;
+                let row = T::read_row(&mut from, max_var)?;
+                place = from;
+                row
+            }
+        };
         found.push(row)?;
     }
+    *at = place;
     Ok(())
 }
 

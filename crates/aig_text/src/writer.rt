@@ -169,6 +169,7 @@ impl NumberedLine for Gate {
 }
 
 /// The numbered lines of a section.
+#[inline(never)]
 fn put_lines<T: NumberedLine, W: Sink>(block: &mut Block, sink: &mut W, items: &[T])
     requires { CanFail (out (W.taken sink.old) (W.longest sink.old) (W.failed sink.old) block.old) }
     ensures { Put (out (W.taken sink.old) (W.longest sink.old) (W.failed sink.old) block.old)

@@ -1,12 +1,13 @@
 -- Rows in plain spelling are rows.
-use Rattle.std.proofs.Common.{◌≡◌, ◌≢◌, ◌+◌, ◌*◌, ◌-◌, ◌%◌, ◌^◌, ◌<◌, ◌≤◌, ◌==◌, ℕ, suc, List, [], ◌∷◌, ◌++◌, take, drop, length, true, false, refl, sym, ap, subst, ◌∙◌, arith, rules, append_assoc, append-nil, Ok}
+use Rattle.std.proofs.Common.{◌≡◌, ◌≢◌, ◌+◌, ◌*◌, ◌-◌, ◌%◌, ◌^◌, ◌<◌, ◌≤◌, ◌==◌, ℕ, zero, suc, List, [], ◌∷◌, ◌++◌, take, drop, length, Bool, get_or, true, false, cond, refl, sym, ap, ap₂, subst, ◌∙◌, arith, rules, append_assoc, append-nil, Ok}
 use Rattle.std.specs.Prelude.{slice_range, fold}
 use Rattle.std.specs.List.{AllByRecursion}
 use Rattle.std.specs.Float.Numeral.{digits_len}
 use Rattle.std.specs.Str.Parse.{digits_value}
 use Rattle.std.proofs.lemmas.Str.Parse.{IsNumeralModel, numerals_by_fold, digits_value_short}
-use Rattle.std.proofs.lemmas.List.{take-append-drop}
-use Rattle.std.proofs.lemmas.List.{length-append, length-take-le, take_all, take_more_set}
+use Rattle.std.proofs.lemmas.List.{take-append-drop, drop_more}
+use Rattle.std.proofs.lemmas.Bool.{ne_eqb}
+use Rattle.std.proofs.lemmas.List.{length-append, length-take-le, take_all, take_more_set, take-take}
 use Rattle.std.proofs.Math.ListN.{set}
 use Rattle.std.proofs.Common.{inl, None}
 use Rattle.aig_text.specs.Lines.{line, lines_of}
@@ -17,7 +18,7 @@ use Rattle.aig_text.proofs.Kept.Checks.{right_parts}
 use Rattle.aig_text.proofs.Grammar.Entries.{IsGoodRow}
 use Rattle.aig_text.proofs.Grammar.Rows.{all_may_stand, row_is_told}
 use Rattle.aig_text.specs.Spelling.{is_digit, value_of, IsNumber, AreMoreNumbers}
-use Rattle.aig_text.specs.Parts.Plain.{HasNoLineFeed, BeginsWithNumber, BeginsWithMore, EndsPlainly}
+use Rattle.aig_text.specs.Parts.Plain.{HasNoLineFeed, BeginsWithNumber, BeginsWithMore, EndsPlainly, stop}
 use Rattle.aig_text.proofs.Grammar.Spellings.{front_passes}
 
 -- bytes that are all decimal digits
@@ -31,22 +32,43 @@ decimal_model = numerals_by_fold AreDigits (search rules) (λ n digits. fold (λ
 small_mod : (n : ℕ) → n < 10 ^ 18 → n % 2 ^ 64 ≡ n
 small_mod n h = omega arith
 
+-- digits at the front, and what follows them
+digits_are_number : (bytes rest : List ℕ) (end value : ℕ) → end ≢ 0 → end ≤ length bytes → AreDigits (take end bytes) → value_of (take end bytes) ≡ value → rest ≡ drop end bytes → BeginsWithNumber bytes value rest
+digits_are_number bytes rest end value some within are told after = record {
+  digits = take end bytes;
+  are = sym (take-append-drop end bytes) ∙ ap (λ (r : List ℕ). take end bytes ++ r) (sym after);
+  spelled = record { some = omega (arith, length-take-le end bytes within); digits = are; value = told };
+}
+
+same_value : (digits : List ℕ) → AreDigits digits → value_of digits ≡ digits_value 10 digits
+same_value digits are = decimal_model.same digits (decimal_model.to digits are)
+
 -- the digits at the front, where there are at most 18 of them
 pub plain_number_is : (bytes rest : List ℕ) (end value : ℕ) → end ≢ 0 → end ≤ 18 → end ≤ length bytes → end ≡ digits_len bytes → value ≡ digits_value 10 (take end bytes) % 2 ^ 64 → rest ≡ drop end bytes → BeginsWithNumber bytes value rest
 plain_number_is bytes rest end value some few within is told after =
-    let long : length (take end bytes) ≡ end = length-take-le end bytes within in
     let are : AreDigits (take end bytes) = subst (λ k. AreDigits (take k bytes)) (sym is) (front_passes is_digit bytes) in
-    let short : value_of (take end bytes) < 10 ^ 18 = digits_value_short decimal_model (take end bytes) 18 are (omega arith) in
-    let same : value_of (take end bytes) ≡ digits_value 10 (take end bytes) = decimal_model.same (take end bytes) (decimal_model.to (take end bytes) are) in
-    record {
-      digits = take end bytes;
-      are = sym (take-append-drop end bytes) ∙ ap (λ (r : List ℕ). take end bytes ++ r) (sym after);
-      spelled = record {
-        some = omega arith;
-        digits = are;
-        value = sym (told ∙ ap (λ n. n % 2 ^ 64) (sym same) ∙ small_mod (value_of (take end bytes)) short);
-      };
-    }
+    let short : value_of (take end bytes) < 10 ^ 18 = digits_value_short decimal_model (take end bytes) 18 are (omega (arith, length-take-le end bytes within)) in
+    digits_are_number bytes rest end value some within are
+    (sym (told ∙ ap (λ n. n % 2 ^ 64) (sym (same_value (take end bytes) are)) ∙ small_mod (value_of (take end bytes)) short)) after
+
+first_digits : (n : ℕ) (bytes : List ℕ) → n ≤ digits_len bytes → AreDigits (take n bytes)
+first_digits zero bytes h = tt
+first_digits (suc n) [] h = tt
+first_digits (suc n) (b ∷ bytes) h =
+    elim (is_digit b) as (λ d. is_digit b ≡ d → suc n ≤ cond d (1 + digits_len bytes) 0 → AreDigits (b ∷ take n bytes)) [
+      | true ↦ λ is more. (is, first_digits n bytes (omega arith))
+      | false ↦ λ is more. absurd (omega arith)
+    ] refl h
+
+-- digits of the first eight bytes, and the byte behind them
+pub short_number_is : (bytes rest : List ℕ) (end value stop : ℕ) → end ≢ 0 → end ≤ 8 → 8 < length bytes
+    → (end ≤ digits_len (take 8 bytes)) × (value ≡ digits_value 10 (take end (take 8 bytes))) → stop ≡ get_or bytes end 0 → rest ≡ drop (end + 1) bytes
+    → BeginsWithNumber bytes value (stop ∷ rest)
+short_number_is bytes rest end value stop some few long read behind after =
+    let same : take end (take 8 bytes) ≡ take end bytes = take-take end 8 bytes (omega arith) in
+    let are : AreDigits (take end bytes) = subst AreDigits same (first_digits end (take 8 bytes) read.0) in
+    digits_are_number bytes (stop ∷ rest) end value some (omega arith) are (same_value (take end bytes) are ∙ ap (digits_value 10) (sym same) ∙ sym read.1)
+    (ap₂ (λ (b : ℕ) (bs : List ℕ). b ∷ bs) behind after ∙ sym (drop_more bytes end 0 (omega arith)))
 
 -- the digits that are read from the beginning of the bytes, with no number before them
 pub read_value : (bytes : List ℕ) (end : ℕ) → (0 * 10 ^ (end - 0) + digits_value 10 (slice_range bytes 0 end)) % 2 ^ 64 ≡ digits_value 10 (take end bytes) % 2 ^ 64
@@ -94,6 +116,23 @@ pub all_stored : (n i : ℕ) (bytes rest after items : List ℕ) → n ≤ i →
 all_stored n i bytes rest after items l long b feed =
     let all : take i items ≡ items = take_all i items (omega arith) in
     subst (λ (ns : List ℕ). BeginsWithMore bytes ns (10 ∷ after)) all (subst (λ (r : List ℕ). BeginsWithMore bytes (take i items) r) feed b)
+
+-- no number is read yet
+pub none_stored : (bytes : List ℕ) → BeginsWithMore bytes [] bytes
+none_stored bytes = record { text = []; are = refl; spelled = refl; one_line = tt }
+
+pub stored_shortly : (n i : ℕ) (bytes rest after items : List ℕ) (value : ℕ) → i < n → length items ≡ n → BeginsWithMore bytes (take i items) (stop (n - i) ∷ rest)
+    → BeginsWithNumber rest value (stop (n - 1 - i) ∷ after) → BeginsWithMore bytes (take (i + 1) (set items i value)) (stop (n - (i + 1)) ∷ after)
+stored_shortly n i bytes rest after items value l long b m =
+    let space : stop (n - i) ≡ 32 = ap (λ (d : Bool). cond d 10 32) (ne_eqb (n - i) 0 (λ e. absurd (omega arith))) in
+    let due : n - 1 - i ≡ n - (i + 1) = omega arith in
+    stored_plainly n i bytes (stop (n - i) ∷ rest) rest (stop (n - (i + 1)) ∷ after) items value l long b (ap (λ (c : ℕ). c ∷ rest) space)
+    (subst (λ k. BeginsWithNumber rest value (stop k ∷ after)) due m)
+
+pub all_stored_shortly : (n i : ℕ) (bytes rest items : List ℕ) → n ≤ i → length items ≡ n → BeginsWithMore bytes (take i items) (stop (n - i) ∷ rest) → EndsPlainly bytes items rest
+all_stored_shortly n i bytes rest items l long b =
+    let none : n - i ≡ 0 = omega arith in
+    all_stored n i bytes (stop (n - i) ∷ rest) rest items l long b (ap (λ k. stop k ∷ rest) none)
 
 -- up to its first line feed a text is one line
 pub first_line : (text rest : List ℕ) → HasNoLineFeed text → lines_of (text ++ 10 ∷ rest) ≡ line text true ∷ lines_of rest

@@ -1,5 +1,5 @@
 -- Rows in plain spelling: digits, one space between numbers, and a line feed behind the last.
-use Rattle.std.specs.Prelude.{◌≡◌, ◌==◌, ◌++◌, ℕ, List, ◌∷◌, false}
+use Rattle.std.specs.Prelude.{◌≡◌, ◌==◌, ◌++◌, ℕ, List, ◌∷◌, false, if◌then◌else◌}
 use Rattle.std.specs.List.{AllByRecursion}
 use Rattle.aig_text.specs.Spelling.{IsNumber, AreMoreNumbers}
 
@@ -23,3 +23,7 @@ pub record BeginsWithMore (bytes : List ℕ) (ns : List ℕ) (rest : List ℕ) :
 -- the bytes begin with numbers, each after a space, and a line feed
 abbrev pub EndsPlainly : List ℕ → List ℕ → List ℕ → Type 0
 EndsPlainly bytes ns rest = BeginsWithMore bytes ns (10 ∷ rest)
+
+-- the byte behind a number where so many more are due in its line
+abbrev pub stop : ℕ → ℕ
+stop due = if due == 0 then 10 else 32
