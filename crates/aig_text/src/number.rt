@@ -177,7 +177,7 @@ pub(crate) fn plain_numbers<const N: usize>(bytes: &[u8]) -> Option<([u64; N], &
 
 /// The byte behind a number where so many more are due in its line.
 #[inline(always)]
-pub fn stop(due: usize) -> u8
+pub(crate) fn stop(due: usize) -> u8
     ensures { result ≡ stop due }
 {
     if due == 0 { b'\n' } else { b' ' }
@@ -185,7 +185,7 @@ pub fn stop(due: usize) -> u8
 
 /// A number of one to eight digits at the front with the byte behind it, and what follows, where nine bytes stand there.
 #[inline(always)]
-pub fn short_number(bytes: &[u8], stop: u8) -> Option<(u64, &[u8])>
+pub(crate) fn short_number(bytes: &[u8], stop: u8) -> Option<(u64, &[u8])>
     ensures { IfSome result (λ x. BeginsWithNumber bytes.now x.0 (stop ∷ x.1.now)) }
 {
     if bytes.len() < 9 {
@@ -205,7 +205,7 @@ pub fn short_number(bytes: &[u8], stop: u8) -> Option<(u64, &[u8])>
 
 /// Short numbers at the front, each with the byte behind it, and what follows the last.
 #[inline(always)]
-pub fn short_numbers<const N: usize>(bytes: &[u8]) -> Option<([u64; N], &[u8])>
+pub(crate) fn short_numbers<const N: usize>(bytes: &[u8]) -> Option<([u64; N], &[u8])>
     ensures are { IfSome result (λ x. EndsPlainly (stop N ∷ bytes.now) x.0 x.1.now) }
     ensures long { IfSome result (λ x. length x.0 ≡ N) }
 {

@@ -9,7 +9,7 @@ ghost use Rattle.core.specs.Dec2flt.Digits.{IsEightBytes, IsEightDigits};
 
 /// The first eight bytes, the first in the lowest byte of the word.
 #[inline(always)]
-pub fn first_word(bytes: &[u8]) -> u64
+pub(crate) fn first_word(bytes: &[u8]) -> u64
     requires { 8 ≤ length bytes.now }
     ensures { result ≡ little_endian bytes.now 0 }
 {
@@ -50,7 +50,7 @@ fn keep_first(word: u64, count: u32) -> u64
 
 /// The number that the first bytes of a word spell, so many, if they all are digits.
 #[inline(always)]
-pub fn digits_of_word(word: u64, count: u32) -> Option<u64>
+pub(crate) fn digits_of_word(word: u64, count: u32) -> Option<u64>
     requires some { 0 < count }
     requires fits { count ≤ 8 }
     ensures { (bytes : List ℕ) → IsEightBytes bytes → word ≡ number_l 256 bytes
