@@ -64,6 +64,12 @@ judge 'into a pipe' "${PIPESTATUS[0]}"
 then_read() { errors_closed "$program"; cat; }
 check 'nothing is read for words not supported' then_read < "$work/small"
 
+# the program's own path is no word of the command line, and may be no text
+mkdir "$work/"$'d\377'
+cp "$program" "$work/"$'d\377/aiger'
+wants "$small" '' 0
+check 'a path of the program that is no text' "$work/"$'d\377/aiger' aigtoaig --ascii < "$work/small"
+
 # --- large files: 100,000 lines after the header, canonical, so that they come back as they are ---
 large() {
     awk -v inputs="$1" -v latches="$2" -v outputs="$3" 'BEGIN {
