@@ -6,5 +6,6 @@ pub mod AsciiGrammar
 pub mod AsciiText
 pub mod Scanning
 pub mod Reading
+pub mod Outcomes
 pub mod Laws
 pub mod Parts

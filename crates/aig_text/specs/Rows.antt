@@ -6,7 +6,7 @@ use Rattle.aig_core.specs.declared.circuit.Latch.{Latch}
 use Rattle.aig_core.specs.declared.circuit.Gate.{Gate}
 use Rattle.aig_core.specs.declared.circuit.Circuit.{Circuit}
 use Rattle.aig_core.specs.Literal.{literal_of, variable_of}
-pub use Rattle.aig_text.specs.declared.header.Header.{Header}
+pub use Rattle.aig_text.specs.declared.header_line.Header.{Header}
 pub use Rattle.aig_text.specs.declared.row.Role.{Role}
 use Rattle.aig_text.specs.declared.row.Role.TheVariants as roles
 pub use Rattle.aig_text.specs.declared.section.Section.{Section}

@@ -49,9 +49,13 @@ pub enum ReadKind {
     /// A literal above the largest index.
     #[error("literal out of range")]
     LiteralRange,
-    /// The text ends where a line is due.
+    /// The text ends where a line or a byte of a gate is due.
     #[error("file ends too early")]
     Truncated,
+    /// A delta of a binary gate that has no end within five bytes, or a value of 2^32 or more; a first delta that is 0; or
+    /// a delta above what it is taken from.
+    #[error("bad delta")]
+    BadDelta,
     /// A line of the tail that is neither a symbol line nor the line `c`.
     #[error("bad symbol line")]
     BadSymbol,

@@ -2,20 +2,24 @@
 #![tactic(auto)]
 
 mod fault;
-mod header;
+mod header_line;
 pub mod laws;
 mod limits;
 mod line;
 mod number;
+mod parts;
 mod reader;
 mod row;
 mod section;
-mod tail;
+mod tail_lines;
 mod word;
 mod writer;
 
 pub use crate::fault::{Place, ReadFault, ReadKind};
-pub use crate::header::Header;
+pub use crate::header_line::Header;
 pub use crate::limits::Limits;
+pub use crate::line::Cursor;
+pub use crate::parts::{header, literals, numbers, tail};
 pub use crate::reader::read_ascii;
+pub use crate::row::Role;
 pub use crate::writer::{WriteFault, put_header, put_numbers, put_tail, write_ascii};

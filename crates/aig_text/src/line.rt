@@ -15,7 +15,7 @@ pub(crate) struct Line<'a> {
 
 /// A place in a text where a line begins.
 #[derive(Clone, Copy)]
-pub(crate) struct Cursor<'a> {
+pub struct Cursor<'a> {
     /// What is left of the text.
     pub rest: &'a [u8],
     /// The number of the line that begins here, counted from 1.
@@ -30,10 +30,16 @@ impl<'a> Cursor<'a> {
         ensures rest { result.rest.now ≡ text.now }
         ensures number { result.number ≡ 1 }
     {
-        Cursor {
-            rest: text,
-            number: 1,
-        }
+        Cursor::at_line(1, text)
+    }
+
+    /// A place behind which this is left of the text, and where this line begins.
+    pub fn at_line(number: u64, rest: &'a [u8]) -> Self
+        requires { number + length rest.now < 2 ^ 64 }
+        ensures rest { result.rest.now ≡ rest.now }
+        ensures number { result.number ≡ number }
+    {
+        Cursor { rest, number }
     }
 }
 

@@ -4,7 +4,8 @@ ghost use Rattle.std.specs.List.{list_any, prefix_len};
 ghost use Rattle.aig_text.specs.Spelling.{is_digit, is_space, value_of};
 ghost use Rattle.aig_text.specs.Scanning.{number_at, after_gap, is_line_end, more_numbers_at, numbers_at};
 ghost use Rattle.aig_text.specs.Parts.Plain.{BeginsWithNumber, EndsPlainly, stop};
-ghost use Rattle.aig_text.specs.Parts.Kept.{kept, kept_numbers, kept_first, Gives};
+ghost use Rattle.aig_text.specs.Parts.Kept.{kept, kept_numbers, kept_first};
+ghost use Rattle.aig_text.specs.Outcomes.{Gives};
 
 use crate::line::Line;
 use crate::word::{digits_of_word, first_word};

@@ -1,10 +1,10 @@
 //! Rows: what one numbered line tells.
-ghost use Rattle.std.specs.Prelude.{◌≡◌, ◌+◌, ◌*◌, ◌<◌, ◌≤◌, ℕ, List, ◌∷◌, Ok, IfOk, IfSome, length, slice_index};
+ghost use Rattle.std.specs.Prelude.{◌≡◌, ◌+◌, ◌*◌, ◌<◌, ◌≤◌, ℕ, List, ◌∷◌, Ok, IfOk, IfSome, OnErr, length, slice_index};
 ghost use Rattle.aig_core.specs.declared.circuit.TheConstants.{LARGEST as largest_index};
 ghost use Rattle.aig_text.specs.Lines.{line as line_of, lines_of};
 ghost use Rattle.aig_text.specs.Rows.{Form, input_form, latch_form, output_form, gate_form, input_of, latch_of};
 ghost use Rattle.aig_text.specs.Rows.{output_of, gate_of};
-ghost use Rattle.aig_text.specs.Parts.Kept.{GivesOrFails, row_told};
+ghost use Rattle.aig_text.specs.Outcomes.{GivesOrFails, row_told};
 ghost use Rattle.aig_text.specs.Reading.{misdefines, exceeds, any_number, fault_in_row, row_of, row_at};
 
 use crate::fault::{Place, ReadFault, ReadKind};
@@ -14,7 +14,7 @@ use aig_core::{Gate, Latch, Lit, Var};
 
 /// What a number of a row is.
 #[derive(Clone, Copy)]
-pub(crate) enum Role {
+pub enum Role {
     /// The literal of a variable that is defined here: even, and no constant.
     Definition,
     /// A literal.
@@ -148,6 +148,7 @@ fn lenient_row<const N: usize>(
         (lines_of at.old.rest.now)) }
     ensures first { IfOk result (λ x. x.0 ≤ 2 * max_var + 1) }
     ensures others { IfOk result (λ x. (k : ℕ) → slice_index x.1 k ≤ 2 * max_var + 1) }
+    ensures err { OnErr result (at.new ≡ at.old) }
 {
     let place = Place::Line(at.number);
     let Some((line, rest)) = split_line(at.rest) else {
@@ -226,7 +227,7 @@ fn short_row<const N: usize>(
 
 /// The numbers of the row that the next line holds. Most of them are in plain spelling.
 #[inline(always)]
-fn next_row<const N: usize>(
+pub(crate) fn next_row<const N: usize>(
     role: Role,
     others: [Role; N],
     least: usize,
@@ -241,6 +242,7 @@ fn next_row<const N: usize>(
         (lines_of at.old.rest.now)) }
     ensures first { IfOk result (λ x. x.0 ≤ 2 * max_var + 1) }
     ensures others { IfOk result (λ x. (k : ℕ) → slice_index x.1 k ≤ 2 * max_var + 1) }
+    ensures err { OnErr result (at.new ≡ at.old) }
 {
     match plain_row::<N>(role, others, at.rest, max_var) {
         Some((found, rest)) => {

@@ -1,13 +1,13 @@
 //! Sections: rows of one kind, one to a line.
-ghost use Rattle.std.specs.Prelude.{◌≡◌, ◌+◌, ◌<◌, ◌≤◌, length};
+ghost use Rattle.std.specs.Prelude.{◌≡◌, ◌+◌, ◌<◌, ◌≤◌, OnErr, length};
 ghost use Rattle.aig_core.specs.declared.circuit.TheConstants.{LARGEST as largest_index};
 ghost use Rattle.aig_text.specs.Lines.{lines_of};
 ghost use Rattle.aig_text.specs.Rows.{sections};
-ghost use Rattle.aig_text.specs.Parts.Kept.{GivesOrMemory, rows_told};
+ghost use Rattle.aig_text.specs.Outcomes.{GivesOrMemory, rows_told};
 ghost use Rattle.aig_text.specs.Reading.{rows_at, section_at, sections_at};
 
 use crate::fault::ReadFault;
-use crate::header::Header;
+use crate::header_line::Header;
 use crate::line::Cursor;
 use crate::row::Row;
 use aig_core::{Circuit, Listing};
@@ -46,15 +46,16 @@ fn behind<'a>(line: Cursor<'a>, rest: &'a [u8]) -> Cursor<'a>
 
 /// Adds what so many lines tell, and goes behind them.
 #[inline(never)]
-fn read_rows<T: Row>(
+pub(crate) fn read_rows<T: Row>(
     found: &mut Listing<T>,
     count: u32,
     max_var: u32,
     at: &mut Cursor,
 ) -> Result<(), ReadFault>
     requires { max_var ≤ largest_index }
-    ensures { GivesOrMemory (λ _. (found.new, at.new.number, lines_of at.new.rest.now)) result
+    ensures rows { GivesOrMemory (λ _. (found.new, at.new.number, lines_of at.new.rest.now)) result
         (rows_told T.told_by found.old (rows_at T.form max_var count at.old.number (lines_of at.old.rest.now))) }
+    ensures err { OnErr result (at.new ≡ at.old) }
 {
     let mut place = *at;
     for _ in 0..count {

@@ -13,7 +13,7 @@ ghost use Rattle.aig_text.specs.Rows.{ascii_word, gate_row, header_row, input_ro
 ghost use Rattle.aig_text.specs.declared.writer.TheConstants.{FEW};
 ghost use Rattle.aig_text.specs.declared.writer.WriteFault.TheVariants.{Device};
 
-use crate::header::ASCII_WORD;
+use crate::header_line::ASCII_WORD;
 use aig_core::{
     Block, Checked, Circuit, DeviceFault, Gate, Kind, Latch, Listing, Lit, MOST_DIGITS, Sink,
     Symbol, Var,

@@ -5,7 +5,7 @@ use Rattle.aig_core.specs.declared.circuit.Circuit.{Circuit}
 use Rattle.aig_text.specs.declared.fault.ReadFault.{ReadFault}
 use Rattle.aig_text.specs.Lines.{Line}
 use Rattle.aig_text.specs.Rows.{Header, Form, Section, sections}
-use Rattle.aig_text.specs.Parts.Kept.{row_told, rows_told}
+use Rattle.aig_text.specs.Outcomes.{row_told, rows_told}
 use Rattle.aig_text.specs.Reading.{◌>>=◌, Told, row_at, rows_at, section_at, sections_at, want_of_memory}
 
 -- what comes behind a row that is right

@@ -10,7 +10,7 @@ use Rattle.aig_text.specs.Lines.{Line, lines_of}
 use Rattle.aig_text.specs.Rows.{Header}
 use Rattle.aig_text.specs.Scanning.{symbol_at, is_comment_line}
 use Rattle.aig_text.specs.Reading.{at_line, checked_symbol, with_comment, with_symbol, tail_at, want_of_memory}
-use Rattle.aig_text.specs.Parts.Kept.{GivesOrMemory}
+use Rattle.aig_text.specs.Outcomes.{GivesOrMemory}
 use Rattle.aig_text.proofs.Loops.Cutting.{no_lines, pieces}
 
 module _ (h : Header) (before : Names) (c : Circuit) (n : ℕ) where

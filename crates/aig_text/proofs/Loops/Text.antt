@@ -17,13 +17,7 @@ unfolding circuit_at
 no_sections limit n ls rest h e is (inl m) = inl m
 no_sections limit n ls rest h e is (inr r) = inr (rw (is, r) refl)
 
-pub no_tail : (limit n k : ℕ) (ls rest after : List Line) (h : Header) (c : Circuit) (e : ReadFault) → header_at ascii_word limit 1 ls ≡ Ok (h, n, rest)
-    → sections_at h sections (empty_circuit h.max_var) n rest ≡ Ok (c, k, after) → (e ≡ want_of_memory) ⊎ (tail_at h nothing_named c k after ≡ Err e) → (e ≡ want_of_memory) ⊎ (circuit_at limit ls ≡ Err e)
+pub then_tail : (limit n k : ℕ) (ls rest after : List Line) (h : Header) (c : Circuit) → header_at ascii_word limit 1 ls ≡ Ok (h, n, rest)
+    → sections_at h sections (empty_circuit h.max_var) n rest ≡ Ok (c, k, after) → circuit_at limit ls ≡ tail_at h nothing_named c k after
 unfolding circuit_at
-no_tail limit n k ls rest after h c e is s (inl m) = inl m
-no_tail limit n k ls rest after h c e is s (inr t) = inr (rw (is, s, t) refl)
-
-pub all_read : (limit n k : ℕ) (ls rest after : List Line) (h : Header) (c d : Circuit) → header_at ascii_word limit 1 ls ≡ Ok (h, n, rest)
-    → sections_at h sections (empty_circuit h.max_var) n rest ≡ Ok (c, k, after) → tail_at h nothing_named c k after ≡ Ok d → circuit_at limit ls ≡ Ok d
-unfolding circuit_at
-all_read limit n k ls rest after h c d is s t = rw (is, s, t) refl
+then_tail limit n k ls rest after h c is s = rw (is, s) refl

@@ -1,9 +1,6 @@
--- How what a function of the reader returned is compared with what is read: numbers of any length as a machine word keeps
--- them, and outcomes seen by a view.
-use Rattle.std.specs.Prelude.{◌≡◌, ◌+◌, ◌%◌, ◌^◌, ◌++◌, ◌⊎◌, ℕ, List, map, nat_lt, Option, None, Some, Result, Ok, Err, if◌then◌else◌}
+-- Numbers of any length as a machine word keeps them.
+use Rattle.std.specs.Prelude.{◌+◌, ◌%◌, ◌^◌, ℕ, List, map, nat_lt, Option, None, Some, if◌then◌else◌}
 use Rattle.aig_core.specs.declared.circuit.Symbol.{Symbol}
-use Rattle.aig_text.specs.declared.fault.ReadFault.{ReadFault}
-use Rattle.aig_text.specs.Reading.{want_of_memory, Told}
 
 -- what is kept of a number: the number itself below 2^33, and of any other that it is that large and whether it is odd
 abbrev pub kept : ℕ → ℕ
@@ -18,31 +15,6 @@ kept_numbers (Some ns) = Some (map kept ns)
 abbrev pub kept_first : Option (ℕ × List ℕ) → Option (ℕ × List ℕ)
 kept_first None = None
 kept_first (Some x) = Some (kept x.0, x.1)
-
--- What a function returned, seen by view, is what reading gives.
-abbrev pub Gives : {X Y : Type 0} → (X → Y) → Option X → Option Y → Type 0
-Gives view None read = read ≡ None
-Gives view (Some x) read = read ≡ Some (view x)
-
--- The same, where reading may fail.
-abbrev pub GivesOrFails : {X Y E : Type 0} → (X → Y) → Result X E → Result Y E → Type 0
-GivesOrFails view (Ok x) read = read ≡ Ok (view x)
-GivesOrFails view (Err e) read = read ≡ Err e
-
--- The same, unless memory was refused.
-abbrev pub GivesOrMemory : {X Y : Type 0} → (X → Y) → Result X ReadFault → Result Y ReadFault → Type 0
-GivesOrMemory view (Ok x) read = read ≡ Ok (view x)
-GivesOrMemory view (Err e) read = (e ≡ want_of_memory) ⊎ (read ≡ Err e)
-
--- what the next row tells, and where the line after it is
-abbrev pub row_told : {A : Type 0} → (List ℕ → A) → Told (List ℕ) → Told A
-row_told tell (Ok x) = Ok (tell x.0, x.1, x.2)
-row_told tell (Err e) = Err e
-
--- what rows tell behind what was found before, and where the line after them is
-abbrev pub rows_told : {A : Type 0} → (List ℕ → A) → List A → Told (List (List ℕ)) → Told (List A)
-rows_told tell found (Ok x) = Ok (found ++ map tell x.0, x.1, x.2)
-rows_told tell found (Err e) = Err e
 
 -- what is kept of a symbol
 abbrev pub kept_symbol : Option Symbol → Option Symbol

@@ -1,7 +1,10 @@
 use Rattle.std.proofs.Common.{inr}
 use Rattle.std.proofs.lemmas.Result.{err_from_is_err_and}
 use Rattle.aig_text.specs.Lines.{lines_of}
-use Rattle.aig_text.proofs.Loops.Text.{no_header, no_sections, no_tail, all_read}
+use Rattle.std.proofs.Common.{◌≡◌}
+use Rattle.aig_core.specs.Names.{nothing_named}
+use Rattle.aig_text.specs.Reading.{circuit_at, tail_at}
+use Rattle.aig_text.proofs.Loops.Text.{no_header, no_sections, then_tail}
 use Rattle.aig_text.proofs.reader.read_circuit.Goals as goal
 
 pub returns-in_err-header : goal.returns-in_err-header
@@ -12,25 +15,16 @@ returns-in_err-header c = let h = err_from_is_err_and c.from_residual.result c.f
 pub returns-in_err-read_sections : goal.returns-in_err-read_sections
 returns-in_err-read_sections c = let h = err_from_is_err_and c.from_residual-in_err-read_sections.result c.from_residual-in_err-read_sections.ensures.1 in
     rw (h.1, h.2) (
-    no_sections c.args.limits.max_var c.header_line.new.at.number (lines_of c.args.bytes.now) (lines_of c.header_line.new.at.rest.now) c.in_ok-header.header c.in_err-read_sections.field-0.0
+    no_sections c.args.limits.max_var c.header.new.at.number (lines_of c.args.bytes.now) (lines_of c.header.new.at.rest.now) c.in_ok-header.header c.in_err-read_sections.field-0.0
     (rw (c.new-at.ensures.rest, c.new-at.ensures.number) at c.in_ok-header.ensures.header)
     (rw c.empty_circuit-circuit.ensures at c.in_err-read_sections.ensures)
     )
 
-pub returns-in_err-read_tail : goal.returns-in_err-read_tail
-returns-in_err-read_tail c = let h = err_from_is_err_and c.from_residual-in_err-read_tail.result c.from_residual-in_err-read_tail.ensures.1 in
-    rw (h.1, h.2) (
-    no_tail c.args.limits.max_var c.header_line.new.at.number c.read_sections.new.at.number (lines_of c.args.bytes.now) (lines_of c.header_line.new.at.rest.now) (lines_of c.read_sections.new.at.rest.now)
-    c.in_ok-header.header c.read_sections.new.circuit c.in_err-read_tail.field-0.0
-    (rw (c.new-at.ensures.rest, c.new-at.ensures.number) at c.in_ok-header.ensures.header)
-    (rw c.empty_circuit-circuit.ensures at c.in_ok-read_sections.ensures)
-    c.in_err-read_tail.ensures
-    )
-
 pub returns : goal.returns
 returns c =
-    all_read c.args.limits.max_var c.header_line.new.at.number c.read_sections.new.at.number (lines_of c.args.bytes.now) (lines_of c.header_line.new.at.rest.now) (lines_of c.read_sections.new.at.rest.now)
-    c.in_ok-header.header c.read_sections.new.circuit c.read_tail.new.circuit
-    (rw (c.new-at.ensures.rest, c.new-at.ensures.number) at c.in_ok-header.ensures.header)
-    (rw c.empty_circuit-circuit.ensures at c.in_ok-read_sections.ensures)
-    c.in_ok-read_tail.ensures
+    let same : circuit_at c.args.limits.max_var (lines_of c.args.bytes.now) ≡ tail_at c.in_ok-header.header nothing_named c.read_sections.new.circuit c.read_sections.new.at.number (lines_of c.read_sections.new.at.rest.now) =
+        then_tail c.args.limits.max_var c.header.new.at.number c.read_sections.new.at.number (lines_of c.args.bytes.now) (lines_of c.header.new.at.rest.now) (lines_of c.read_sections.new.at.rest.now)
+        c.in_ok-header.header c.read_sections.new.circuit
+        (rw (c.new-at.ensures.rest, c.new-at.ensures.number) at c.in_ok-header.ensures.header)
+        (rw c.empty_circuit-circuit.ensures at c.in_ok-read_sections.ensures) in
+    rw same c.tail.ensures

@@ -1,8 +1,8 @@
 use Rattle.std.proofs.Common.{◌∙◌, inr}
 use Rattle.std.proofs.lemmas.Result.{err_from_is_err_and}
-use Rattle.std.proofs.Common.{◌≡◌, Ok}
+use Rattle.std.proofs.Common.{◌≡◌, Ok, refl}
 use Rattle.aig_text.specs.Lines.{lines_of}
-use Rattle.aig_text.specs.Parts.Kept.{row_told}
+use Rattle.aig_text.specs.Outcomes.{row_told}
 use Rattle.aig_text.specs.Reading.{row_at}
 use Rattle.aig_text.proofs.section.read_rows.Goals.{in-Some, in-None+in_ok-row-in-None}
 use Rattle.aig_text.proofs.Loops.Rows.{rows_more, rows_wrong, rows_done}
@@ -10,10 +10,10 @@ use Rattle.aig_text.proofs.section.read_rows.Goals as goal
 
 pub returns-in_err-row-in-None : goal.returns-in_err-row-in-None
 returns-in_err-row-in-None g c = let h = err_from_is_err_and c.from_residual.result c.from_residual.ensures.1 in
-    rw (h.1, h.2) (inr (
+    rw (h.1, h.2) (record { rows = inr (
     rows_wrong g.T.Row.told_by g.T.Row.form c.args.max_var c.loop.counter c.args.count c.loop.place.number (lines_of c.loop.place.rest.now) c.loop.found
     c.in_err-row-in-None.field-0.0 _ c.loop-test.true c.in_err-row-in-None.ensures c.loop.invariant
-    ))
+    ); err = refl })
 
 pub loop-preserved : goal.loop-preserved
 loop-preserved g c =
@@ -31,5 +31,7 @@ loop-preserved g c =
     )
 
 pub returns : goal.returns
-returns g c =
-    rows_done g.T.Row.told_by g.T.Row.form c.args.max_var c.loop.counter c.args.count c.loop.place.number (lines_of c.loop.place.rest.now) c.loop.found _ c.loop-test.false c.loop.invariant
+returns g c = record {
+  rows = rows_done g.T.Row.told_by g.T.Row.form c.args.max_var c.loop.counter c.args.count c.loop.place.number (lines_of c.loop.place.rest.now) c.loop.found _ c.loop-test.false c.loop.invariant;
+  err = tt;
+}

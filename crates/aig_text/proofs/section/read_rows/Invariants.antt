@@ -1,6 +1,6 @@
 use Rattle.std.proofs.Common.{◌≡◌, ◌-◌}
 use Rattle.aig_text.specs.Lines.{lines_of}
-use Rattle.aig_text.specs.Parts.Kept.{rows_told}
+use Rattle.aig_text.specs.Outcomes.{rows_told}
 use Rattle.aig_text.specs.Reading.{rows_at}
 use Rattle.aig_text.proofs.section.read_rows.Given as goal
 

@@ -2,7 +2,7 @@ use Rattle.std.proofs.Common.{◌≡◌, ◌<◌, ◌≤◌, ◌^◌, ap, sym, �
 use Rattle.aig_text.specs.Scanning.{symbol_at}
 use Rattle.aig_text.specs.Reading.{at_line, count_named}
 use Rattle.aig_text.proofs.Kept.Symbols.{no_symbol, symbol_far, symbol_twice, symbol_right, not_true, not_false}
-use Rattle.aig_text.proofs.tail.read_symbol.Goals as goal
+use Rattle.aig_text.proofs.tail_lines.read_symbol.Goals as goal
 
 pub returns-in_default-clause-symbol : goal.returns-in_default-clause-symbol
 returns-in_default-clause-symbol c = inr (ap (at_line c.args.number) (no_symbol c.args.header.now c.args.names.now (symbol_at c.args.line.text.now) c.in_default.ensures))

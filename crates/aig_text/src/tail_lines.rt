@@ -2,12 +2,13 @@
 ghost use Rattle.std.specs.Prelude.{◌≡◌, IfErr, IfOk, OnOk};
 ghost use Rattle.aig_core.specs.Names.{nothing_named, with_name};
 ghost use Rattle.aig_text.specs.Lines.{line as line_of, lines_of};
-ghost use Rattle.aig_text.specs.Parts.Kept.{kept_symbol, Gives, GivesOrMemory};
+ghost use Rattle.aig_text.specs.Parts.Kept.{kept_symbol};
+ghost use Rattle.aig_text.specs.Outcomes.{Gives, GivesOrMemory};
 ghost use Rattle.aig_text.specs.Scanning.{is_comment_line, kind_at, symbol, symbol_at};
 ghost use Rattle.aig_text.specs.Reading.{at_line, checked_symbol, count_named, tail_at, want_of_memory, with_comment, with_symbol};
 
 use crate::fault::{Place, ReadFault, ReadKind};
-use crate::header::Header;
+use crate::header_line::Header;
 use crate::line::{Cursor, Line, split_line};
 use crate::number::{ends_line, number};
 use aig_core::{Circuit, Kind, Listing, Names, Symbol};

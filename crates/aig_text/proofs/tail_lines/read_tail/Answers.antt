@@ -3,7 +3,7 @@ use Rattle.std.proofs.lemmas.Result.{err_from_is_err_and}
 use Rattle.std.proofs.lemmas.Bool.{eqb-true}
 use Rattle.aig_text.specs.Lines.{line}
 use Rattle.aig_text.proofs.Loops.Tail.{no_tail, empty_tail, comment_tail, wrong_symbol, one_symbol, done_or_memory}
-use Rattle.aig_text.proofs.tail.read_tail.Goals as goal
+use Rattle.aig_text.proofs.tail_lines.read_tail.Goals as goal
 
 pub returns-then-is_empty : goal.returns-then-is_empty
 returns-then-is_empty c = empty_tail _ _ _ _ c.args.at.now.rest.now (eqb-true _ _ (sym c.is_empty.ensures ∙ c.if-is_empty.true))

@@ -2,7 +2,7 @@ use Rattle.std.proofs.Common.{◌≡◌, length}
 use Rattle.aig_text.specs.Lines.{lines_of}
 use Rattle.aig_text.specs.Reading.{tail_at}
 use Rattle.aig_core.specs.Names.{nothing_named}
-use Rattle.aig_text.proofs.tail.read_tail.Given as goal
+use Rattle.aig_text.proofs.tail_lines.read_tail.Given as goal
 
 abbrev pub invariant-loop-line : goal.invariant-loop-line
 invariant-loop-line l =

@@ -1,7 +1,7 @@
 use Rattle.std.proofs.Common.{sym, ◌∙◌, Some, ap}
 use Rattle.aig_text.specs.Reading.{header_within}
 use Rattle.aig_text.proofs.Kept.Checks.{header_told, no_header_told}
-use Rattle.aig_text.proofs.header.read_header.Goals as goal
+use Rattle.aig_text.proofs.header_line.read_header.Goals as goal
 
 pub returns-in-Some-clause-value : goal.returns-in-Some-clause-value
 returns-in-Some-clause-value c =

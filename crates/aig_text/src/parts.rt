@@ -1,0 +1,90 @@
+//! The parts that ASCII and binary files have in common: the header, numbered lines, and the tail.
+ghost use Rattle.std.specs.Prelude.{◌≡◌, ◌+◌, ◌*◌, ◌≤◌, ℕ, ◌∷◌, [], IfOk, OnErr, length, slice_index};
+ghost use Rattle.aig_core.specs.declared.circuit.TheConstants.{LARGEST as largest_index};
+ghost use Rattle.aig_core.specs.Names.{nothing_named};
+ghost use Rattle.aig_text.specs.Lines.{lines_of};
+ghost use Rattle.aig_text.specs.Rows.{output_form, output_of};
+ghost use Rattle.aig_text.specs.Outcomes.{GivesOrFails, GivesOrMemory, rows_told};
+ghost use Rattle.aig_text.specs.Reading.{header_at, row_at, rows_at, tail_at};
+
+use crate::fault::{Place, ReadFault, ReadKind};
+use crate::header_line::{Header, read_header};
+use crate::limits::Limits;
+use crate::line::{Cursor, split_line};
+use crate::row::{Role, next_row};
+use crate::section::read_rows;
+use crate::tail_lines::read_tail;
+use aig_core::{Circuit, Listing, Lit};
+use std::alloc::Global;
+
+/// What the header line tells, which begins with this word. Goes behind that line, unless it is not right.
+pub fn header(word: &[u8], at: &mut Cursor, limits: Limits) -> Result<Header, ReadFault>
+    ensures header { GivesOrFails (λ header. (header, at.new.number, lines_of at.new.rest.now)) result
+        (header_at word.now limits.max_var at.old.number (lines_of at.old.rest.now)) }
+    ensures limited { IfOk result (λ header. header.max_var ≤ largest_index) }
+    ensures err { OnErr result (at.new ≡ at.old) }
+{
+    let place = Place::Line(at.number);
+    let Some((line, rest)) = split_line(at.rest) else {
+        return Err(ReadFault {
+            place,
+            kind: ReadKind::NotAiger,
+        });
+    };
+    match read_header(word, line, limits) {
+        Ok(header) => {
+            let number = at.number + 1;
+            *at = Cursor { rest, number };
+            Ok(header)
+        }
+        Err(kind) => Err(ReadFault { place, kind }),
+    }
+}
+
+/// The numbers of the row that the next line holds: one of the first role, and then `least` or more of the others, with 0
+/// for each that is left out. Goes behind that line, unless it is not right.
+pub fn numbers<const N: usize>(
+    role: Role,
+    others: [Role; N],
+    least: usize,
+    at: &mut Cursor,
+    max_var: u32,
+) -> Result<(u64, [u64; N]), ReadFault>
+    requires max_var { max_var ≤ largest_index }
+    requires least { least ≤ N }
+    requires others { length others ≡ N }
+    ensures row { GivesOrFails (λ x. (x.0 ∷ x.1, at.new.number, lines_of at.new.rest.now)) result
+        (row_at (record { first = role; others = others.entry; least = least }) max_var at.old.number
+        (lines_of at.old.rest.now)) }
+    ensures first { IfOk result (λ x. x.0 ≤ 2 * max_var + 1) }
+    ensures others { IfOk result (λ x. (k : ℕ) → slice_index x.1 k ≤ 2 * max_var + 1) }
+    ensures err { OnErr result (at.new ≡ at.old) }
+{
+    next_row::<N>(role, others, least, at, max_var)
+}
+
+/// The literals that so many lines hold, one on each. Goes behind them, unless one is not right.
+pub fn literals(alloc: Global, count: u32, at: &mut Cursor, max_var: u32) -> Result<Listing<Lit>, ReadFault>
+    requires { max_var ≤ largest_index }
+    ensures literals { GivesOrMemory (λ found. (found, at.new.number, lines_of at.new.rest.now)) result
+        (rows_told output_of [] (rows_at output_form max_var count at.old.number (lines_of at.old.rest.now))) }
+    ensures err { OnErr result (at.new ≡ at.old) }
+{
+    let mut found = Listing::new(alloc);
+    match read_rows::<Lit>(&mut found, count, max_var, at) {
+        Ok(()) => Ok(found),
+        Err(fault) => Err(fault),
+    }
+}
+
+/// The circuit with the symbols and the comment that the lines from here on tell. Where there are none, it takes no
+/// memory.
+pub fn tail(alloc: Global, header: &Header, circuit: Circuit, at: Cursor) -> Result<Circuit, ReadFault>
+    ensures { GivesOrMemory (λ c. c) result
+        (tail_at header.now nothing_named circuit at.entry.number (lines_of at.entry.rest.now)) }
+{
+    let mut circuit = circuit;
+    let mut at = at;
+    read_tail(alloc, header, &mut circuit, &mut at)?;
+    Ok(circuit)
+}
