@@ -1,0 +1,63 @@
+-- Which texts are binary AIGER files of which circuits (AIGER report, with the lenient spellings and the limits of this
+-- project's profile). A relation that knows of no reading from left to right.
+use Rattle.std.specs.Prelude.{◌≡◌, ◌≤◌, ◌-◌, ◌⊎◌, ℕ, List, [], ◌∷◌, ◌++◌, map, true, codes}
+use Rattle.std.specs.List.{AllByRecursion, AllZip}
+use Rattle.aig_core.specs.declared.circuit.Latch.{Latch}
+use Rattle.aig_core.specs.declared.circuit.Gate.{Gate}
+use Rattle.aig_core.specs.declared.circuit.Circuit.{Circuit}
+use Rattle.aig_core.specs.Literal.{literal_of}
+use Rattle.aig_core.specs.Wellformed.{IsWellFormed}
+use Rattle.aig_text.specs.Lines.{Line, lines_of}
+use Rattle.aig_text.specs.Spelling.{IsHeaderLine}
+use Rattle.aig_text.specs.Tail.{AreTailLines}
+use Rattle.aig_text.specs.Rows.{Row, row, output_form, output_row, header_row}
+use Rattle.aig_text.specs.AsciiGrammar.{IsRowLine}
+use Rattle.aig_binary.specs.BinaryOrder.{IsInBinaryOrder}
+use Rattle.aig_binary.specs.Delta.{IsDelta}
+
+-- the first word of a binary file
+abbrev pub binary_word : List ℕ
+binary_word = codes "aig"
+
+-- the numbered lines: the next literal of each latch, and then the outputs
+abbrev pub numbered_literals : Circuit → List ℕ
+numbered_literals c = map (λ (l : Latch). l.next) c.latches ++ c.outputs
+
+abbrev pub binary_rows_of : Circuit → List Row
+binary_rows_of c = map (row output_form) (map output_row (numbered_literals c))
+
+-- a gate is spelled as how much its first operand is below its own literal, and the second one below the first
+pub record SpellsGate (bytes : List ℕ) (g : Gate) : Type 0 where
+  pub first : List ℕ
+  pub second : List ℕ
+  pub are : bytes ≡ first ++ second
+  pub left : IsDelta first (literal_of g.var - g.left)
+  pub right : IsDelta second (g.left - g.right)
+
+-- gates, one after the other
+abbrev pub SpellsGates : List ℕ → List Gate → Type 0
+SpellsGates bytes [] = bytes ≡ []
+SpellsGates bytes (g ∷ gs) = (first : List ℕ) × (rest : List ℕ) × (bytes ≡ first ++ rest) × SpellsGate first g × SpellsGates rest gs
+
+-- where something follows, each line before it has its line feed
+abbrev pub EndsBefore : List Line → List ℕ → Type 0
+EndsBefore ls following = (following ≡ []) ⊎ AllByRecursion (λ (l : Line). l.ended ≡ true) ls
+
+pub record IsBinaryText (text : List ℕ) (limit : ℕ) (c : Circuit) : Type 0 where
+  pub front : List ℕ
+  pub gates : List ℕ
+  pub rest : List ℕ
+  pub header : Line
+  pub numbered : List Line
+  -- Lines stand in front, then the gates, and then the lines of the tail.
+  pub text_is : text ≡ front ++ (gates ++ rest)
+  pub lines : lines_of front ≡ header ∷ numbered
+  pub cut : EndsBefore (header ∷ numbered) (gates ++ rest)
+  pub is_header : IsHeaderLine binary_word 5 header (header_row c)
+  pub are_rows : AllZip IsRowLine numbered (binary_rows_of c)
+  pub are_gates : SpellsGates gates c.gates
+  pub is_tail : AreTailLines (lines_of rest) c
+  -- The largest index and the counts are within the limit.
+  pub limited : AllByRecursion (λ n. n ≤ limit) (header_row c)
+  pub ordered : IsInBinaryOrder c
+  pub well_formed : IsWellFormed c

@@ -1,0 +1,20 @@
+-- Circuits in binary order (AIGER report): inputs are the first variables, latches the next ones, and gates the others,
+-- each over lower ones, with the larger operand first.
+use Rattle.std.specs.Prelude.{◌≡◌, ◌+◌, ◌<◌, ◌≤◌, ℕ, suc, List, [], ◌∷◌, map, length}
+use Rattle.std.specs.List.{range_with_len}
+use Rattle.aig_core.specs.declared.circuit.Latch.{Latch}
+use Rattle.aig_core.specs.declared.circuit.Gate.{Gate}
+use Rattle.aig_core.specs.declared.circuit.Circuit.{Circuit}
+use Rattle.aig_core.specs.Literal.{literal_of}
+
+-- each gate defines the next variable, is over a lower literal, and its second operand is not above the first
+abbrev pub AreOrderedGates : ℕ → List Gate → Type 0
+AreOrderedGates variable [] = Unit {0}
+AreOrderedGates variable (g ∷ gs) =
+    (g.var ≡ variable) × (g.left < literal_of g.var) × (g.right ≤ g.left) × AreOrderedGates (suc variable) gs
+
+pub record IsInBinaryOrder (c : Circuit) : Type 0 where
+  pub inputs : c.inputs ≡ range_with_len 1 (length c.inputs)
+  pub latches : map (λ (l : Latch). l.var) c.latches ≡ range_with_len (1 + length c.inputs) (length c.latches)
+  pub gates : AreOrderedGates (1 + length c.inputs + length c.latches) c.gates
+  pub all : c.max_var ≡ length c.inputs + length c.latches + length c.gates

@@ -1,0 +1,7 @@
+pub mod Delta
+pub mod BinaryOrder
+pub mod BinaryGrammar
+pub mod BinaryText
+pub mod BinaryReading
+pub mod Laws
+pub mod FileLaws

@@ -1,0 +1,2 @@
+//! Binary AIGER files: deltas, binary order, the reader and the writer.
+#![tactic(auto)]
