@@ -39,6 +39,14 @@ at_line n (Err kind) = Err (fault_at n kind)
 abbrev pub ends_word : ℕ → Bool
 ends_word b = (b == 32) || (b == 13)
 
+abbrev pub begins_with_word : List ℕ → List ℕ → Bool
+begins_with_word word text = bytes_eq (before_first ends_word text) word
+
+-- the first word of the first line is this one
+abbrev pub first_word_is : List ℕ → List Line → Bool
+first_word_is word [] = false
+first_word_is word (l ∷ ls) = begins_with_word word l.text
+
 abbrev pub header_of_row : List ℕ → Header
 header_of_row ns = record {
   max_var = slice_index ns 0;
@@ -59,7 +67,7 @@ header_within limit (Some ns) =
 -- the header that a line tells: the word, then its numbers
 unfoldable pub header_of : List ℕ → ℕ → Line → Result Header ReadKind
 header_of word limit l =
-    if bytes_eq (before_first ends_word l.text) word
+    if begins_with_word word l.text
     then header_within (min limit LARGEST) (more_numbers_at l.ended 5 5 (drop (length word) l.text))
     else Err kinds.NotAiger
 

@@ -1,10 +1,9 @@
 //! The header line of a file.
 ghost use Rattle.std.specs.Prelude.{◌≡◌, ◌≤◌, Some, IfOk, length};
-ghost use Rattle.std.specs.List.{before_first, position_or_len};
-ghost use Rattle.std.specs.Str.{bytes_eq};
+ghost use Rattle.std.specs.List.{position_or_len};
 ghost use Rattle.aig_core.specs.declared.circuit.TheConstants.{LARGEST as largest_index};
 ghost use Rattle.aig_text.specs.Lines.{line as line_of};
-ghost use Rattle.aig_text.specs.Reading.{ends_word, header_within, header_of};
+ghost use Rattle.aig_text.specs.Reading.{begins_with_word, ends_word, header_within, header_of};
 
 use crate::fault::ReadKind;
 use crate::limits::Limits;
@@ -41,8 +40,8 @@ fn first_word_len(text: &[u8]) -> usize
 }
 
 /// Whether the word at the front of a line is this one.
-fn begins_with_word(text: &[u8], word: &[u8]) -> bool
-    ensures { result ≡ bytes_eq (before_first ends_word text.now) word.now }
+pub(crate) fn begins_with_word(text: &[u8], word: &[u8]) -> bool
+    ensures { result ≡ begins_with_word word.now text.now }
 {
     let (first, _) = text.split_at(first_word_len(text));
     first == word

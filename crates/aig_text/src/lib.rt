@@ -19,7 +19,7 @@ pub use crate::fault::{Place, ReadFault, ReadKind};
 pub use crate::header_line::Header;
 pub use crate::limits::Limits;
 pub use crate::line::Cursor;
-pub use crate::parts::{header, literals, numbers, tail};
+pub use crate::parts::{first_word_is, header, literals, numbers, tail};
 pub use crate::reader::read_ascii;
 pub use crate::row::Role;
 pub use crate::writer::{WriteFault, put_header, put_numbers, put_tail, write_ascii};

@@ -5,10 +5,10 @@ ghost use Rattle.aig_core.specs.Names.{nothing_named};
 ghost use Rattle.aig_text.specs.Lines.{lines_of};
 ghost use Rattle.aig_text.specs.Rows.{output_form, output_of};
 ghost use Rattle.aig_text.specs.Outcomes.{GivesOrFails, GivesOrMemory, rows_told};
-ghost use Rattle.aig_text.specs.Reading.{header_at, row_at, rows_at, tail_at};
+ghost use Rattle.aig_text.specs.Reading.{first_word_is, header_at, row_at, rows_at, tail_at};
 
 use crate::fault::{Place, ReadFault, ReadKind};
-use crate::header_line::{Header, read_header};
+use crate::header_line::{Header, begins_with_word, read_header};
 use crate::limits::Limits;
 use crate::line::{Cursor, split_line};
 use crate::row::{Role, next_row};
@@ -16,6 +16,16 @@ use crate::section::read_rows;
 use crate::tail_lines::read_tail;
 use aig_core::{Circuit, Listing, Lit};
 use std::alloc::Global;
+
+/// Whether the first word of a text is this one. A word ends at a space, a carriage return or a line feed, or with the text.
+pub fn first_word_is(bytes: &[u8], word: &[u8]) -> bool
+    ensures { result ≡ first_word_is word.now (lines_of bytes.now) }
+{
+    match split_line(bytes) {
+        Some((line, _)) => begins_with_word(line.text, word),
+        None => false,
+    }
+}
 
 /// What the header line tells, which begins with this word. Goes behind that line, unless it is not right.
 pub fn header(word: &[u8], at: &mut Cursor, limits: Limits) -> Result<Header, ReadFault>
