@@ -1,4 +1,5 @@
 pub mod Words
+pub mod File
 pub mod Conversion
 pub mod Blame
 pub mod Outcome

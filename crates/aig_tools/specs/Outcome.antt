@@ -4,12 +4,13 @@ use Rattle.std.specs.Prelude.{◌≡◌, ◌+◌, ◌⊎◌, ℕ, List, Option, 
 use Rattle.std.specs.Io.KnownBytes.{Appends}
 use Rattle.aig_core.specs.Transfer.{GaveAll, GaveSome, TookBeginning}
 use Rattle.aig_text.specs.declared.fault.ReadFault.{ReadFault}
-use Rattle.aig_text.specs.Reading.{first_fault, IsFirstFault}
+use Rattle.aig_text.specs.Reading.{IsFirstFault}
 use Rattle.aig_tools.specs.declared.fault.ToolFault.{ToolFault}
 use Rattle.aig_tools.specs.declared.request.ToAig.{ToAig}
 use Rattle.aig_tools.specs.declared.request.Request.{Request}
 use Rattle.aig_tools.specs.declared.request.Request.TheVariants as requests
 use Rattle.aig_tools.specs.Blame.{at_fault, sink_failures, source_failures, text_fault, TheSink}
+use Rattle.aig_tools.specs.File.{first_fault}
 use Rattle.aig_tools.specs.Conversion.{IsConversionText}
 
 -- the source gave all its bytes, the sink took the conversion text of them, and neither failed

@@ -3,9 +3,10 @@ ghost use Rattle.std.specs.Prelude.{◌≡◌, ◌-◌, ◌^◌, ◌<◌, false,
 ghost use Rattle.aig_tools.specs.Outcome.{Converted, NotConverted};
 
 use crate::fault::ToolFault;
+use crate::file::read_file;
 use crate::request::ToAig;
 use aig_core::{Sink, Source, read_all};
-use aig_text::{Limits, read_ascii, write_ascii};
+use aig_text::{Limits, write_ascii};
 use std::alloc::Global;
 
 /// Reads the source to its end, and writes what the request asks for. Nothing is sent before the whole source was
@@ -34,7 +35,7 @@ pub fn run_toaig<R: Source, W: Sink>(
     let limits = Limits {
         max_var: request.max_var,
     };
-    let circuit = read_ascii(alloc, bytes.as_slice(), limits)?;
+    let circuit = read_file(alloc, bytes.as_slice(), limits)?;
     // The text is not needed from here on, and may be larger than the circuit.
     drop(bytes);
     write_ascii(&circuit, sink)?;

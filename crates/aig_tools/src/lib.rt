@@ -3,10 +3,12 @@
 
 mod conversion;
 mod fault;
+mod file;
 pub mod laws;
 mod message;
 mod program;
 mod request;
+mod stub;
 mod words;
 
 pub use crate::conversion::run_toaig;

@@ -1,0 +1,26 @@
+//! Files of either kind.
+ghost use Rattle.std.specs.Prelude.{◌≡◌, IfOk, IfErr, MatchResult};
+ghost use Rattle.aig_core.specs.declared.circuit.Circuit.{Circuit as CircuitRecord};
+ghost use Rattle.aig_text.specs.Reading.{IsFirstFault, want_of_memory};
+ghost use Rattle.aig_tools.specs.File.{IsFileOf, first_fault};
+
+use crate::stub::{BINARY_WORD, read_binary};
+use aig_core::Checked;
+use aig_text::{Limits, ReadFault, first_word_is, read_ascii};
+use std::alloc::Global;
+
+/// The circuit whose file a text is, within these limits, or the first fault of the text. A text that begins with the word
+/// of binary files is read as one, and any other text as an ASCII file. Where memory is refused, that is told in place of
+/// either.
+pub(crate) fn read_file(alloc: Global, bytes: &[u8], limits: Limits) -> Result<Checked, ReadFault>
+    ensures ok { IfOk result (λ c. IsFileOf bytes.now limits.max_var c) }
+    ensures only { (c : CircuitRecord) → IsFileOf bytes.now limits.max_var c
+        → MatchResult result (λ d. d ≡ c) (λ e. e ≡ want_of_memory) }
+    ensures fault { IfErr result (λ e. IsFirstFault e (first_fault limits.max_var bytes.now)) }
+{
+    if first_word_is(bytes, BINARY_WORD) {
+        read_binary(alloc, bytes, limits)
+    } else {
+        read_ascii(alloc, bytes, limits)
+    }
+}
