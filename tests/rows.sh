@@ -57,6 +57,10 @@ rows() {
     rows_structure
     rows_tail
     rows_gates
+    rows_binary
+    rows_deltas
+    rows_binary_lines
+    rows_cuts
     rows_words
 }
 
@@ -100,7 +104,6 @@ rows_header() {
     refuses 'a short first word' 'aa' 'line 1: not an AIGER file'
     refuses 'a long first word' 'aagg 0 0 0 0 0\n' 'line 1: not an AIGER file'
     refuses 'capital letters' 'AAG 0 0 0 0 0\n' 'line 1: not an AIGER file'
-    refuses 'a binary file' 'aig 0 0 0 0 0\n' 'line 1: not an AIGER file'
     refuses 'bytes of a compressed file' '\0037\0213\0010\0000' 'line 1: not an AIGER file'
     refuses 'the first word alone' 'aag' 'line 1: bad header'
     refuses 'the first word and LF' 'aag\n' 'line 1: bad header'
@@ -339,6 +342,109 @@ rows_gates() {
     refuses 'a variable defined twice before a cycle' 'aag 3 1 0 0 2\n2\n4 4 2\n4 2 2\n' 'variable 2 defined twice'
     refuses 'a literal not defined before a cycle' 'aag 3 0 0 0 2\n4 4 4\n2 6 6\n' 'literal 6 not defined'
     refuses 'a bad symbol line before a cycle' 'aag 1 0 0 0 1\n2 2 2\nx\n' 'line 3: bad symbol line'
+}
+
+# Binary files. Each gate has two deltas: how much its first operand is below its own literal, and the second one below the
+# first.
+rows_binary() {
+    accepts 'the empty circuit in binary' 'aig 0 0 0 0 0\n' 'aag 0 0 0 0 0\n'
+    accepts 'a half adder in binary' \
+        'aig 5 2 0 2 3\n10\n6\n\x02\x02\x03\x02\x01\x02i0 x\ni1 y\no0 s\no1 c\nc\nhalf adder\n' \
+        'aag 5 2 0 2 3\n2\n4\n10\n6\n6 4 2\n8 5 3\n10 9 7\ni0 x\ni1 y\no0 s\no1 c\nc\nhalf adder\n'
+    accepts 'inputs that are not listed' 'aig 3 3 0 0 0\n' 'aag 3 3 0 0 0\n2\n4\n6\n'
+    accepts 'a toggle in binary' 'aig 1 0 1 2 0\n3\n2\n3\n' 'aag 1 0 1 2 0\n2 3\n2\n3\n'
+    accepts 'latches after inputs' 'aig 3 1 2 0 0\n6\n4\n' 'aag 3 1 2 0 0\n2\n4 6\n6 4\n'
+    accepts 'a gate of a constant' 'aig 1 0 0 0 1\n\x02\x00' 'aag 1 0 0 0 1\n2 0 0\n'
+    accepts 'a gate of both constants' 'aig 1 0 0 0 1\n\x01\x01' 'aag 1 0 0 0 1\n2 1 0\n'
+    accepts 'a gate with the byte of a line feed' 'aig 6 5 0 1 1\n12\n\x0a\x00' \
+        'aag 6 5 0 1 1\n2\n4\n6\n8\n10\n12\n12 2 2\n'
+    accepts 'a gate that looks like the line c' 'aig 60 59 0 1 1\n120\nc\nc\nx' \
+        "aag 60 59 0 1 1\n$(printf '%s\\n' $(seq 2 2 118))120\n120 21 11\nc\nx"
+    accepts 'lenient lines in binary' 'aig 01  1 0 1 0 \r\n03 \r\ni00 a\r\nc \r\nx' 'aag 1 1 0 1 0\n2\n3\ni0 a\r\nc\nx'
+    accepts 'a last line without LF and no gates' 'aig 1 1 0 1 0\n3' 'aag 1 1 0 1 0\n2\n3\n'
+    refuses 'the word alone' 'aig' 'line 1: bad header'
+    refuses 'the word and LF' 'aig\n' 'line 1: bad header'
+    refuses 'another word' 'aigs 0 0 0 0 0\n' 'line 1: not an AIGER file'
+    refuses 'a space before the word' ' aig 0 0 0 0 0\n' 'line 1: not an AIGER file'
+    refuses 'a variable that is not used' 'aig 1 0 0 0 0\n' 'line 1: bad header'
+    refuses 'fewer variables than definitions' 'aig 1 1 1 0 0\n2\n' 'line 1: bad header'
+    refuses 'a binary count above the limit' 'aig 2147483648 0 0 0 0\n' 'line 1: number above the limit'
+    refuses 'a limit before the counts' 'aig 1 2147483648 0 0 0\n' 'line 1: number above the limit'
+}
+
+rows_deltas() {
+    accepts 'padded deltas' 'aig 1 0 0 0 1\n\x81\x00\x01' 'aag 1 0 0 0 1\n2 1 0\n'
+    accepts 'deltas of five bytes' 'aig 1 0 0 0 1\n\x81\x80\x80\x80\x00\x80\x80\x80\x80\x00' 'aag 1 0 0 0 1\n2 1 1\n'
+    accepts 'a delta of two bytes' "aig 65 64 0 0 1\n\x80\x01\x02" \
+        "aag 65 64 0 0 1\n$(printf '%s\\n' $(seq 2 2 128))130 2 0\n"
+    refuses 'a first delta of 0' 'aig 1 0 0 0 1\n\x00\x00' 'gate 1: bad delta'
+    refuses 'a first delta of 0 at the end' 'aig 1 0 0 0 1\n\x00' 'gate 1: bad delta'
+    refuses 'a padded first delta of 0' 'aig 1 0 0 0 1\n\x80\x00\x00' 'gate 1: bad delta'
+    refuses 'a first delta above its gate' 'aig 1 0 0 0 1\n\x03\x00' 'gate 1: bad delta'
+    refuses 'a second delta above the first operand' 'aig 1 0 0 0 1\n\x02\x01' 'gate 1: bad delta'
+    refuses 'a wrong delta of the second gate' 'aig 2 0 0 0 2\n\x01\x00\x04\x01' 'gate 2: bad delta'
+    refuses 'a missing second delta' 'aig 1 0 0 0 1\n\x01' 'gate 1: file ends too early'
+    refuses 'a missing second gate' 'aig 2 0 0 0 2\n\x01\x00' 'gate 2: file ends too early'
+    refuses 'a first delta without its end' 'aig 1 0 0 0 1\n\x80' 'gate 1: file ends too early'
+    refuses 'four bytes and no end' 'aig 1 0 0 0 1\n\x80\x80\x80\x80' 'gate 1: file ends too early'
+    refuses 'five bytes and no end' 'aig 1 0 0 0 1\n\x80\x80\x80\x80\x80' 'gate 1: bad delta'
+    refuses 'a delta of six bytes' 'aig 1 0 0 0 1\n\x81\x80\x80\x80\x80\x00\x00' 'gate 1: bad delta'
+    refuses 'a second delta of six bytes' 'aig 1 0 0 0 1\n\x01\x80\x80\x80\x80\x80\x00' 'gate 1: bad delta'
+    refuses 'a delta of 2^32' 'aig 1 0 0 0 1\n\x80\x80\x80\x80\x10\x00' 'gate 1: bad delta'
+    refuses 'a header alone that asks for all binary gates' 'aig 2147483647 0 0 0 2147483647\n' 'gate 1: file ends too early'
+}
+
+rows_binary_lines() {
+    refuses 'a next literal out of range' 'aig 1 0 1 0 0\n4\n' 'line 2: literal out of range'
+    refuses 'two numbers for a latch in binary' 'aig 1 0 1 0 0\n2 3\n' 'line 2: bad line'
+    refuses 'an output out of range in binary' 'aig 1 1 0 1 0\n4\n' 'line 2: literal out of range'
+    refuses 'a missing latch line' 'aig 1 0 1 0 0' 'line 2: file ends too early'
+    refuses 'a missing output line' 'aig 1 0 1 1 0\n2\n' 'line 3: file ends too early'
+    refuses 'a last line without LF before the gates' 'aig 2 1 0 1 1\n4' 'gate 1: file ends too early'
+    refuses 'a last line with CR alone before the gates' 'aig 2 1 0 1 1\n4\r' 'line 2: bad line'
+    refuses 'many inputs and a line that is missing' 'aig 2147483647 2147483647 0 1 0\n' 'line 2: file ends too early'
+    refuses 'many inputs and a gate that is missing' 'aig 2147483647 2147483646 0 0 1\n' 'gate 1: file ends too early'
+    refuses 'a symbol out of range in binary' 'aig 1 1 0 0 0\ni1 a\n' 'line 2: symbol position out of range'
+    refuses 'the second line behind gates' 'aig 2 1 0 1 1\n4\n\x02\x00i0 a\nx\n' 'line 4: bad symbol line'
+    refuses 'a line behind gates with line feeds' 'aig 6 5 0 1 1\n12\n\x0a\x00x\n' 'line 3: bad symbol line'
+    refuses 'a symbol given twice in binary' 'aig 1 1 0 0 0\ni0 a\ni0 b\n' 'line 3: symbol given twice'
+    refuses 'a wrong gate before a wrong tail' 'aig 1 0 0 0 1\n\x03\x00x\n' 'gate 1: bad delta'
+}
+
+# the first of the characters, as many as wanted
+first_of() { local IFS='' count=$1; shift; printf '%s' "${*:1:count}"; }
+
+# two binary files, cut after each of their bytes
+rows_cuts() {
+    local -a gate=(a i g ' ' 2 ' ' 1 ' ' 0 ' ' 1 ' ' 1 '\n' 4 '\n' '\x02' '\x00')
+    local -a tail=(a i g ' ' 1 ' ' 1 ' ' 0 ' ' 0 ' ' 0 '\n' i 0 ' ' a '\n' c '\n' x)
+    local head='aag 1 1 0 0 0\n2\n' count
+    for count in 0 1 2; do
+        refuses "a file cut after $count" "$(first_of $count "${gate[@]}")" 'line 1: not an AIGER file'
+    done
+    for count in {3..12}; do
+        refuses "a file cut after $count" "$(first_of "$count" "${gate[@]}")" 'line 1: bad header'
+        refuses "a file with a tail cut after $count" "$(first_of "$count" "${tail[@]}")" 'line 1: bad header'
+    done
+    for count in 13 14; do
+        refuses "a file cut after $count" "$(first_of $count "${gate[@]}")" 'line 2: file ends too early'
+        accepts "a file with a tail cut after $count" "$(first_of $count "${tail[@]}")" "$head"
+    done
+    for count in 15 16 17; do
+        refuses "a file cut after $count" "$(first_of $count "${gate[@]}")" 'gate 1: file ends too early'
+    done
+    accepts 'the whole file' "$(first_of 18 "${gate[@]}")" 'aag 2 1 0 1 1\n2\n4\n4 2 2\n'
+    for count in 15 16; do
+        refuses "a file with a tail cut after $count" "$(first_of $count "${tail[@]}")" 'line 2: bad symbol line'
+    done
+    accepts 'a file with a tail cut after 17' "$(first_of 17 "${tail[@]}")" "${head}i0 \n"
+    for count in 18 19; do
+        accepts "a file with a tail cut after $count" "$(first_of $count "${tail[@]}")" "${head}i0 a\n"
+    done
+    for count in 20 21; do
+        accepts "a file with a tail cut after $count" "$(first_of $count "${tail[@]}")" "${head}i0 a\nc\n"
+    done
+    accepts 'the whole file with a tail' "$(first_of 22 "${tail[@]}")" "${head}i0 a\nc\nx"
 }
 
 rows_words() {
