@@ -1,0 +1,2 @@
+pub mod Delta
+pub mod Laws
