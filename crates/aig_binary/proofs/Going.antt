@@ -1,7 +1,7 @@
 -- Groups that are read one after another.
 use Rattle.std.proofs.Common.{◌≡◌, ◌+◌, ◌*◌, ◌%◌, ◌^◌, ◌<◌, ◌≤◌, ℕ, zero, suc, List, [], ◌∷◌, ◌++◌, length, take, drop, get_or, None, Some, refl, sym, ap, subst, ◌∙◌, arith, add-one}
 use Rattle.std.specs.List.{AllByRecursion}
-use Rattle.std.proofs.Math.Nat.{pow-suc, pow-succ', pow-le-pow_right, mul_left_comm}
+use Rattle.std.proofs.Math.Nat.{pow-suc, pow-succ', mul_left_comm}
 use Rattle.std.proofs.lemmas.List.{take_all, take_more, take-append-drop, length-take-le}
 use Rattle.aig_binary.specs.Delta.{value_of, AreGroups, groups_at}
 use Rattle.aig_binary.proofs.Groups.{put_first, put_low, groups_read, read_more, read_nothing, read_no_more}
@@ -26,10 +26,6 @@ value_behind (x ∷ front) b =
     ap (λ n. b % 128 * n) (pow-succ' 128 (length front)) ∙ mul_left_comm (b % 128) 128 (128 ^ length front) in
     omega arith
 
-pub value_low : (front : List ℕ) → value_of front < 128 ^ length front
-value_low [] = omega arith
-value_low (x ∷ front) = let h = value_low front in rw (pow-succ' 128 (length front)) (omega arith)
-
 pub no_end : (most : ℕ) (bytes : List ℕ) → AllByRecursion GoesOn bytes → groups_at most bytes ≡ None
 no_end most [] h = read_nothing most
 no_end zero (b ∷ bytes) h = read_no_more b bytes
@@ -49,16 +45,6 @@ pub record AreRead (bytes : List ℕ) (at value weight : ℕ) : Type 0 where
 
 pub read_first : (bytes : List ℕ) → AreRead bytes 0 0 1
 read_first bytes = record { within = omega arith; going = tt; spells = refl; weighs = refl }
-
-pub weight_low : (bytes : List ℕ) (at value weight : ℕ) → at < 5 → AreRead bytes at value weight → (weight ≤ 2 ^ 28) × (value < 2 ^ 28)
-weight_low bytes at value weight here h =
-    let p : 128 ^ at ≤ 2 ^ 28 = pow-le-pow_right {n = 128} (omega arith) {i = at} {j = 4} (omega arith) in
-    let low = value_low (take at bytes) in
-    let long = length-take-le at bytes h.within in
-    let w = h.weighs in
-    let v = h.spells in
-    let low : value_of (take at bytes) < 128 ^ at = subst (λ n. value_of (take at bytes) < 128 ^ n) long low in
-    (omega arith, omega arith)
 
 value_more : (bytes : List ℕ) (at : ℕ) → at < length bytes → value_of (take (at + 1) bytes) ≡ value_of (take at bytes) + get_or bytes at 0 % 128 * 128 ^ at
 value_more bytes at h =

@@ -17,14 +17,14 @@ pub struct Delta {
 }
 
 impl Model for Delta {
-    ghost use Rattle.std.specs.Prelude.{List, ℕ, take, ◌≤◌};
+    ghost use Rattle.std.specs.Prelude.{List, ℕ, take, ◌<◌, ◌≤◌};
     ghost use Rattle.aig_binary.specs.declared.delta.TheConstants.{LONGEST};
 
     ghost Value = { List ℕ };
 
     ghost view = { λ d. take d.len d.bytes };
 
-    ghost invariant = { λ d. d.len ≤ LONGEST };
+    ghost invariant = { λ d. (0 < d.len) × (d.len ≤ LONGEST) };
 }
 
 impl Delta {
@@ -32,6 +32,7 @@ impl Delta {
     #[inline]
     pub fn bytes(&self) -> &[u8]
         ensures value { result.now ≡ self.now }
+        ensures some { 0 < length self.now }
         ensures short { length self.now ≤ 5 }
     {
         &self.bytes[..self.len]
