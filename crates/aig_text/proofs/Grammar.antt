@@ -6,5 +6,7 @@ pub mod Tail
 pub mod Entries
 pub mod Rows
 pub mod Sections
+pub mod Headers
+pub mod WholeTail
 pub mod Text
 pub mod Faults
