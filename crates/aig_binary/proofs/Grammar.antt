@@ -3,3 +3,6 @@ pub mod Ranges
 pub mod Sound
 pub mod Numbered
 pub mod Told
+pub mod Accepted
+pub mod Read
+pub mod Faults
