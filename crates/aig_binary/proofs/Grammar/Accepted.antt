@@ -1,5 +1,5 @@
 -- A text that is read as a binary file is the file of the circuit, which is well formed and in binary order.
-use Rattle.std.proofs.Common.{◌≡◌, ◌+◌, ◌≤◌, ℕ, List, [], ◌∷◌, ◌++◌, map, Option, Ok, refl, sym, ap, subst, ◌∙◌, append_assoc}
+use Rattle.std.proofs.Common.{◌≡◌, ℕ, List, ◌∷◌, ◌++◌, map, Option, Ok, refl, sym, ap, subst, ◌∙◌, append_assoc}
 use Rattle.std.specs.List.{AllByRecursion, AllZip}
 use Rattle.aig_core.specs.declared.circuit.Symbol.{Symbol}
 use Rattle.aig_core.specs.declared.circuit.Gate.{Gate}
@@ -21,7 +21,7 @@ use Rattle.aig_binary.specs.BinaryGrammar.{binary_word, binary_rows_of, SpellsGa
 use Rattle.aig_binary.specs.BinaryReading.{numbered_circuit, binary_at, binary_reading}
 use Rattle.aig_binary.proofs.Grammar.Sound.{HasLiteralsUpTo, well_formed}
 use Rattle.aig_binary.proofs.Grammar.Numbered.{rows_are, literals_are, counts_are, order_is}
-use Rattle.aig_binary.proofs.Grammar.Told.{TellsNumbers, TellsBinary, binary_told}
+use Rattle.aig_binary.proofs.Grammar.Told.{TellsBinary, binary_told}
 
 -- what the tail adds changes no order
 order_kept : (c : Circuit) (ss : List Symbol) (comment : Option (List ℕ)) → IsInBinaryOrder c → IsInBinaryOrder (with_tail c ss comment)

@@ -1,12 +1,12 @@
 -- The numbered lines of a binary file: latches by their next literals, outputs, and what they make of a circuit.
-use Rattle.std.proofs.Common.{◌≡◌, ◌+◌, ◌≤◌, ℕ, suc, List, [], ◌∷◌, ◌++◌, length, map, refl, sym, ap, ap₂, subst, ◌∙◌, add-one}
+use Rattle.std.proofs.Common.{◌≡◌, ◌+◌, ℕ, suc, List, [], ◌∷◌, ◌++◌, length, map, refl, sym, ap, ap₂, subst, ◌∙◌, add-one}
 use Rattle.std.specs.List.{AllByRecursion, range_with_len}
 use Rattle.std.proofs.lemmas.List.{length-map, map-append}
 use Rattle.std.proofs.lemmas.List.FromFn.{length-range_with_len}
 use Rattle.aig_core.specs.declared.circuit.Latch.{Latch}
 use Rattle.aig_core.specs.declared.circuit.Gate.{Gate}
 use Rattle.aig_text.specs.declared.header_line.Header.{Header}
-use Rattle.aig_text.specs.Rows.{Row, row, output_form, output_row, output_of}
+use Rattle.aig_text.specs.Rows.{row, output_form, output_row, output_of}
 use Rattle.aig_text.proofs.Grammar.Entries.{IsGoodRow, IsLiteralUpTo, output_entry, rows_again, all_mapped}
 use Rattle.aig_text.proofs.Grammar.Headers.{HasCounts}
 use Rattle.aig_binary.specs.BinaryOrder.{AreOrderedGates, IsInBinaryOrder}
@@ -49,7 +49,7 @@ module _ (h : Header) (nexts outputs : List (List ℕ)) (gates : List Gate) wher
   pub rows_are : AllByRecursion (IsGoodRow output_form h.max_var) nexts → AllByRecursion (IsGoodRow output_form h.max_var) outputs → map (row output_form) nexts ++ map (row output_form) outputs ≡ binary_rows_of (numbered_circuit h nexts outputs gates)
   rows_are n o =
       let again : (rows : List (List ℕ)) → AllByRecursion (IsGoodRow output_form h.max_var) rows → map output_row (map output_of rows) ≡ rows =
-          rows_again (IsGoodRow output_form h.max_var) output_row output_of (output_entry.row_again h.max_var) in
+      rows_again (IsGoodRow output_form h.max_var) output_row output_of (output_entry.row_again h.max_var) in
       sym (ap (λ (ms : List ℕ). map (row output_form) (map output_row (ms ++ map output_of outputs))) (nexts_are (1 + h.inputs) nexts)
       ∙ rows_apart (map output_of nexts) (map output_of outputs)
       ∙ ap₂ (λ (xs ys : List (List ℕ)). map (row output_form) xs ++ map (row output_form) ys) (again nexts n) (again outputs o))
@@ -57,7 +57,7 @@ module _ (h : Header) (nexts outputs : List (List ℕ)) (gates : List Gate) wher
   pub literals_are : AllByRecursion (IsGoodRow output_form h.max_var) nexts → AllByRecursion (IsGoodRow output_form h.max_var) outputs → HasLiteralsUpTo (numbered_circuit h nexts outputs gates)
   literals_are n o =
       let up_to : (rows : List (List ℕ)) → AllByRecursion (IsGoodRow output_form h.max_var) rows → AllByRecursion (IsLiteralUpTo h.max_var) (map output_of rows) =
-          all_mapped (IsGoodRow output_form h.max_var) (IsLiteralUpTo h.max_var) output_of (output_entry.up_to h.max_var) in
+      all_mapped (IsGoodRow output_form h.max_var) (IsLiteralUpTo h.max_var) output_of (output_entry.up_to h.max_var) in
       (subst (λ (ms : List ℕ). AllByRecursion (IsLiteralUpTo h.max_var) ms) (sym (nexts_are (1 + h.inputs) nexts)) (up_to nexts n), up_to outputs o)
 
   pub counts_are : length nexts ≡ h.latches → length outputs ≡ h.outputs → length gates ≡ h.gates → HasCounts h (numbered_circuit h nexts outputs gates)

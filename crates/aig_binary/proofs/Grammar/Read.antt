@@ -1,10 +1,9 @@
 -- The binary file of a circuit is read as the circuit.
-use Rattle.std.proofs.Common.{◌≡◌, ◌+◌, ◌*◌, ◌≤◌, ℕ, List, [], ◌∷◌, ◌++◌, length, map, Ok, Err, refl, sym, ap, subst, ◌∙◌, arith, append_assoc, eqb, cond, None}
+use Rattle.std.proofs.Common.{◌≡◌, ◌+◌, ◌≤◌, ℕ, List, [], ◌∷◌, ◌++◌, length, map, Ok, Err, refl, sym, ap, subst, ◌∙◌, arith, append_assoc, cond, None}
 use Rattle.std.specs.List.{AllByRecursion, AllZip, range_with_len, flat_map}
 use Rattle.std.proofs.lemmas.Bool.{eq-eqb}
 use Rattle.std.proofs.lemmas.List.{length-map}
 use Rattle.aig_core.specs.declared.circuit.Latch.{Latch}
-use Rattle.aig_core.specs.declared.circuit.Gate.{Gate}
 use Rattle.aig_core.specs.declared.circuit.Circuit.{Circuit}
 use Rattle.aig_core.specs.Names.{nothing_named}
 use Rattle.aig_core.specs.Wellformed.{operands}
@@ -24,7 +23,7 @@ use Rattle.aig_text.proofs.Grammar.Rows.{ReadsRows, rows_are_told}
 use Rattle.aig_text.proofs.Grammar.Sections.{ZipsTwo, zips_split, bare}
 use Rattle.aig_text.proofs.Grammar.WholeTail.{left_of, right_of, own_tail}
 use Rattle.aig_binary.specs.BinaryOrder.{IsInBinaryOrder}
-use Rattle.aig_binary.specs.BinaryGrammar.{binary_word, binary_rows_of, EndsBefore, IsBinaryText}
+use Rattle.aig_binary.specs.BinaryGrammar.{binary_word, EndsBefore, IsBinaryText}
 use Rattle.aig_binary.specs.BinaryReading.{filled, latches_from, gates_at, numbered_circuit, binary_at, binary_reading}
 use Rattle.aig_binary.proofs.Grammar.Gates.{gates_told}
 use Rattle.aig_binary.proofs.Grammar.Numbered.{latches_again, rows_apart}

@@ -49,9 +49,9 @@ well_formed c o literals limits symbols =
     let vars = variables_are c o in
     let all : m ≡ length c.inputs + length c.latches + length c.gates = o.all in
     let used : AllByRecursion (IsLiteralUpTo m) (used_literals c) =
-        all_append (IsLiteralUpTo m) (map (λ (l : Latch). l.next) c.latches ++ c.outputs) (flat_map operands c.gates)
-        (all_append (IsLiteralUpTo m) (map (λ (l : Latch). l.next) c.latches) c.outputs literals.0 literals.1)
-        (operands_up_to (1 + length c.inputs + length c.latches) m c.gates o.gates (omega arith)) in
+    all_append (IsLiteralUpTo m) (map (λ (l : Latch). l.next) c.latches ++ c.outputs) (flat_map operands c.gates)
+    (all_append (IsLiteralUpTo m) (map (λ (l : Latch). l.next) c.latches) c.outputs literals.0 literals.1)
+    (operands_up_to (1 + length c.inputs + length c.latches) m c.gates o.gates (omega arith)) in
     record {
       limits = limits;
       in_range = subst (λ (vs : List ℕ). AllByRecursion (IsVariableUpTo m) vs) (sym vars) (each_in_range (IsVariableUpTo m) 1 m (λ x low high. (low, omega arith)));
