@@ -1,0 +1,5 @@
+pub mod Groups
+pub mod Shortest
+pub mod Reading
+pub mod Going
+pub mod Grammar
