@@ -1,2 +1,9 @@
 //! Binary AIGER files: deltas, binary order, the reader and the writer.
 #![tactic(auto)]
+
+mod delta;
+mod gates;
+pub mod laws;
+mod reader;
+
+pub use crate::delta::{Delta, get_delta, put_delta};
