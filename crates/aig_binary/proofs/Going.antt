@@ -3,7 +3,7 @@ use Rattle.std.proofs.Common.{◌≡◌, ◌+◌, ◌*◌, ◌%◌, ◌^◌, ◌
 use Rattle.std.specs.List.{AllByRecursion}
 use Rattle.std.proofs.Math.Nat.{pow-suc, pow-succ', mul_left_comm}
 use Rattle.std.proofs.lemmas.List.{take_all, take_more, take-append-drop, length-take-le}
-use Rattle.aig_binary.specs.Delta.{value_of, AreGroups, groups_at}
+use Rattle.aig_binary.specs.Delta.{value_of_groups, AreGroups, groups_at}
 use Rattle.aig_binary.proofs.Groups.{put_first, put_low, groups_read, read_more, read_nothing, read_no_more}
 
 -- a byte with the top bit set
@@ -18,7 +18,7 @@ pub last_stops : (front : List ℕ) (b : ℕ) → AllByRecursion GoesOn front �
 last_stops [] b h low = low
 last_stops (x ∷ front) b h low = put_first x (front ++ b ∷ []) h.0.0 h.0.1 (last_stops front b h.1 low)
 
-pub value_behind : (front : List ℕ) (b : ℕ) → value_of (front ++ b ∷ []) ≡ value_of front + b % 128 * 128 ^ length front
+pub value_behind : (front : List ℕ) (b : ℕ) → value_of_groups (front ++ b ∷ []) ≡ value_of_groups front + b % 128 * 128 ^ length front
 value_behind [] b = omega arith
 value_behind (x ∷ front) b =
     let e = value_behind front b in
@@ -40,22 +40,22 @@ no_end_within (b ∷ front) rest h = read_more (length front) b (front ++ rest) 
 pub record AreRead (bytes : List ℕ) (at value weight : ℕ) : Type 0 where
   pub within : at ≤ length bytes
   pub going : AllByRecursion GoesOn (take at bytes)
-  pub spells : value ≡ value_of (take at bytes)
+  pub spells : value ≡ value_of_groups (take at bytes)
   pub weighs : weight ≡ 128 ^ at
 
 pub read_first : (bytes : List ℕ) → AreRead bytes 0 0 1
 read_first bytes = record { within = omega arith; going = tt; spells = refl; weighs = refl }
 
-value_more : (bytes : List ℕ) (at : ℕ) → at < length bytes → value_of (take (at + 1) bytes) ≡ value_of (take at bytes) + get_or bytes at 0 % 128 * 128 ^ at
+value_more : (bytes : List ℕ) (at : ℕ) → at < length bytes → value_of_groups (take (at + 1) bytes) ≡ value_of_groups (take at bytes) + get_or bytes at 0 % 128 * 128 ^ at
 value_more bytes at h =
-    ap value_of (take_more bytes at 0 h)
+    ap value_of_groups (take_more bytes at 0 h)
     ∙ value_behind (take at bytes) (get_or bytes at 0)
-    ∙ ap (λ n. value_of (take at bytes) + get_or bytes at 0 % 128 * 128 ^ n) (length-take-le at bytes (omega arith))
+    ∙ ap (λ n. value_of_groups (take at bytes) + get_or bytes at 0 % 128 * 128 ^ n) (length-take-le at bytes (omega arith))
 
-value_with : (bytes : List ℕ) (at value weight : ℕ) → at < length bytes → AreRead bytes at value weight → value + get_or bytes at 0 % 128 * weight ≡ value_of (take (at + 1) bytes)
+value_with : (bytes : List ℕ) (at value weight : ℕ) → at < length bytes → AreRead bytes at value weight → value + get_or bytes at 0 % 128 * weight ≡ value_of_groups (take (at + 1) bytes)
 value_with bytes at value weight here h =
     ap (λ n. n + get_or bytes at 0 % 128 * weight) h.spells
-    ∙ ap (λ n. value_of (take at bytes) + get_or bytes at 0 % 128 * n) h.weighs
+    ∙ ap (λ n. value_of_groups (take at bytes) + get_or bytes at 0 % 128 * n) h.weighs
     ∙ sym (value_more bytes at here)
 
 pub read_on : (bytes : List ℕ) (at value weight : ℕ) → at < length bytes → GoesOn (get_or bytes at 0) → AreRead bytes at value weight → AreRead bytes (at + 1) (value + get_or bytes at 0 % 128 * weight) (weight * 128)

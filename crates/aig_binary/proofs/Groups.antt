@@ -2,7 +2,7 @@
 use Rattle.std.proofs.Common.{◌≡◌, ◌+◌, ◌*◌, ◌%◌, ◌<◌, ◌≤◌, ℕ, zero, suc, List, [], ◌∷◌, ◌++◌, length, Option, None, Some, refl, sym, ap, ◌∙◌, arith, inl, inr}
 use Rattle.std.proofs.lemmas.Bool.{lt-ltb, le-ltb, cases_lt}
 use Rattle.aig_text.specs.Scanning.{◌>>=◌}
-use Rattle.aig_binary.specs.Delta.{value_of, AreGroups, groups_at}
+use Rattle.aig_binary.specs.Delta.{value_of_groups, AreGroups, groups_at}
 
 -- groups at the front that spell the number, at most so many, and what follows them
 pub record BeginsWithGroups (most : ℕ) (bytes : List ℕ) (value : ℕ) (rest : List ℕ) : Type 0 where
@@ -10,13 +10,13 @@ pub record BeginsWithGroups (most : ℕ) (bytes : List ℕ) (value : ℕ) (rest 
   pub are : bytes ≡ spelling ++ rest
   pub groups : AreGroups spelling
   pub short : length spelling ≤ most
-  pub spells : value_of spelling ≡ value
+  pub spells : value_of_groups spelling ≡ value
 
 pub put_first : (b : ℕ) (d : List ℕ) → 128 ≤ b → b < 256 → AreGroups d → AreGroups (b ∷ d)
 put_first b [] high byte h = absurd h
 put_first b (c ∷ d) high byte h = (high, byte, h)
 
-pub one_value : (b : ℕ) → b < 128 → value_of (b ∷ []) ≡ b
+pub one_value : (b : ℕ) → b < 128 → value_of_groups (b ∷ []) ≡ b
 one_value b h = omega arith
 
 -- what is behind a group with its top bit set
@@ -85,7 +85,7 @@ groups_are (suc most) (b ∷ bytes) rest value h = elim (cases_lt b 128) [
 ]
 
 -- what is spelled is read
-pub groups_read : (most : ℕ) (d rest : List ℕ) → AreGroups d → length d ≤ most → groups_at most (d ++ rest) ≡ Some (value_of d, rest)
+pub groups_read : (most : ℕ) (d rest : List ℕ) → AreGroups d → length d ≤ most → groups_at most (d ++ rest) ≡ Some (value_of_groups d, rest)
 groups_read most [] rest h short = absurd h
 groups_read zero (b ∷ d) rest h short = absurd (omega arith)
 groups_read (suc most) (b ∷ []) rest h short = read_last most b rest h ∙ ap (λ n. Some (n, rest)) (sym (one_value b h))

@@ -4,7 +4,7 @@ use Rattle.std.proofs.lemmas.Bool.{lt-ltb, le-ltb, cases_lt}
 use Rattle.std.proofs.lemmas.List.{take_more_set}
 use Rattle.std.proofs.Math.ListN.{set, length-set}
 use Rattle.std.proofs.Math.Nat.{div-lt_iff_lt-mul, pow-suc}
-use Rattle.aig_binary.specs.Delta.{value_of, AreGroups, IsDelta, IsShortest, last_byte, shortest_groups, shortest_delta}
+use Rattle.aig_binary.specs.Delta.{value_of_groups, AreGroups, IsDelta, IsShortest, last_byte, shortest_groups, shortest_delta}
 use Rattle.aig_binary.proofs.Groups.{put_first, one_value}
 
 pub shortest_last : (more value : ℕ) → value < 128 → shortest_groups more value ≡ value ∷ []
@@ -32,7 +32,7 @@ record Spell (most value : ℕ) (bytes : List ℕ) : Type 0 where
   pub groups : AreGroups bytes
   pub some : 0 < length bytes
   pub short : length bytes ≤ most
-  pub spells : value_of bytes ≡ value
+  pub spells : value_of_groups bytes ≡ value
   pub ends : 0 < value → 0 < last_byte bytes
 
 one_spells : (more value : ℕ) → value < 128 → Spell (suc more) value (value ∷ [])
@@ -74,7 +74,7 @@ shortest_is_shortest value h = elim (cases_lt value 128) [
 ]
 
 -- a number whose last group is not 0 is not 0
-positive : (bytes : List ℕ) → AreGroups bytes → 0 < last_byte bytes → 0 < value_of bytes
+positive : (bytes : List ℕ) → AreGroups bytes → 0 < last_byte bytes → 0 < value_of_groups bytes
 positive [] h last = absurd h
 positive (b ∷ []) h last = let e = one_value b h in omega arith
 positive (b ∷ c ∷ bytes) h last = let others = positive (c ∷ bytes) h.2 last in omega arith
@@ -83,15 +83,15 @@ several : (b c : ℕ) (bytes : List ℕ) → IsShortest (b ∷ c ∷ bytes) → 
 several b c bytes (inl one) = absurd (omega arith)
 several b c bytes (inr last) = last
 
-shortest_is : (more : ℕ) (bytes : List ℕ) → AreGroups bytes → IsShortest bytes → length bytes ≤ suc more → bytes ≡ shortest_groups more (value_of bytes)
+shortest_is : (more : ℕ) (bytes : List ℕ) → AreGroups bytes → IsShortest bytes → length bytes ≤ suc more → bytes ≡ shortest_groups more (value_of_groups bytes)
 shortest_is more [] h none short = absurd h
 shortest_is more (b ∷ []) h none short =
     let e = one_value b h in
-    ap (λ (n : ℕ). n ∷ []) (sym e) ∙ sym (shortest_last more (value_of (b ∷ [])) (omega arith))
+    ap (λ (n : ℕ). n ∷ []) (sym e) ∙ sym (shortest_last more (value_of_groups (b ∷ [])) (omega arith))
 shortest_is zero (b ∷ c ∷ bytes) h none short = absurd (omega arith)
 shortest_is (suc more) (b ∷ c ∷ bytes) h none short =
     let last = several b c bytes none in
-    let n = value_of (c ∷ bytes) in
+    let n = value_of_groups (c ∷ bytes) in
     let some : 0 < n = positive (c ∷ bytes) h.2 last in
     let high : 128 ≤ b = h.0 in
     let byte : b < 256 = h.1 in

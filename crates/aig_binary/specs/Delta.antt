@@ -4,10 +4,10 @@
 use Rattle.std.specs.Prelude.{◌≡◌, ◌+◌, ◌*◌, ◌/◌, ◌%◌, ◌^◌, ◌<◌, ◌≤◌, ◌⊎◌, ℕ, zero, suc, List, [], ◌∷◌, length, take, nat_lt, Option, None, Some, if◌then◌else◌}
 use Rattle.aig_text.specs.Scanning.{◌>>=◌}
 
--- the number of groups of seven bits, the lowest first
-abbrev pub value_of : List ℕ → ℕ
-value_of [] = 0
-value_of (b ∷ bytes) = b % 128 + 128 * value_of bytes
+-- the number that groups of seven bits spell, the lowest first
+abbrev pub value_of_groups : List ℕ → ℕ
+value_of_groups [] = 0
+value_of_groups (b ∷ bytes) = b % 128 + 128 * value_of_groups bytes
 
 -- one or more bytes, the top bit set in each but the last
 abbrev pub AreGroups : List ℕ → Type 0
@@ -19,7 +19,7 @@ AreGroups (b ∷ c ∷ bytes) = (128 ≤ b) × (b < 256) × AreGroups (c ∷ byt
 pub record IsDelta (bytes : List ℕ) (value : ℕ) : Type 0 where
   pub groups : AreGroups bytes
   pub short : length bytes ≤ 5
-  pub spells : value_of bytes ≡ value
+  pub spells : value_of_groups bytes ≡ value
   pub fits : value < 2 ^ 32
 
 -- so many bytes at the front spell the number
