@@ -1,0 +1,4 @@
+pub mod Groups
+pub mod Shortest
+pub mod Reading
+pub mod Going

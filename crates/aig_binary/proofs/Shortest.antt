@@ -1,0 +1,147 @@
+-- The shortest spelling of a number: it is one, and there is no other.
+use Rattle.std.proofs.Common.{◌≡◌, ◌+◌, ◌*◌, ◌/◌, ◌%◌, ◌^◌, ◌-◌, ◌<◌, ◌≤◌, ℕ, zero, suc, List, [], ◌∷◌, ◌++◌, length, take, refl, sym, ap, subst, ◌∙◌, arith, inl, inr, append_assoc}
+use Rattle.std.proofs.lemmas.Bool.{lt-ltb, le-ltb, cases_lt}
+use Rattle.std.proofs.lemmas.List.{take_more_set}
+use Rattle.std.proofs.Math.ListN.{set, length-set}
+use Rattle.std.proofs.Math.Nat.{div-lt_iff_lt-mul, pow-suc}
+use Rattle.aig_binary.specs.Delta.{value_of, AreGroups, IsDelta, IsShortest, last_byte, shortest_groups, shortest_delta}
+use Rattle.aig_binary.proofs.Groups.{put_first, one_value}
+
+pub shortest_last : (more value : ℕ) → value < 128 → shortest_groups more value ≡ value ∷ []
+unfolding shortest_groups
+shortest_last zero value h = refl
+shortest_last (suc more) value h = rw (lt-ltb value 128 h) refl
+
+pub shortest_more : (more value : ℕ) → 128 ≤ value → shortest_groups (suc more) value ≡ (128 + value % 128) ∷ shortest_groups more (value / 128)
+unfolding shortest_groups
+shortest_more more value h = rw (le-ltb value 128 h) refl
+
+pub shortest_final : (value : ℕ) → shortest_groups zero value ≡ value ∷ []
+unfolding shortest_groups
+shortest_final value = refl
+
+pub one_group_less : (more value : ℕ) → value < 128 ^ suc more → value / 128 < 128 ^ more
+one_group_less more value h = (div-lt_iff_lt-mul {k = 128} {x = value} {y = 128 ^ more} (omega arith)).1 (subst (λ n. value < n) (pow-suc 128 more) h)
+
+last_behind : (b : ℕ) (d : List ℕ) → 0 < length d → last_byte (b ∷ d) ≡ last_byte d
+last_behind b [] h = absurd (omega arith)
+last_behind b (c ∷ d) h = refl
+
+-- groups that spell the number, at most so many, with no zeros at the end of a number that is not 0
+record Spell (most value : ℕ) (bytes : List ℕ) : Type 0 where
+  pub groups : AreGroups bytes
+  pub some : 0 < length bytes
+  pub short : length bytes ≤ most
+  pub spells : value_of bytes ≡ value
+  pub ends : 0 < value → 0 < last_byte bytes
+
+one_spells : (more value : ℕ) → value < 128 → Spell (suc more) value (value ∷ [])
+one_spells more value h = record { groups = h; some = omega arith; short = omega arith; spells = one_value value h; ends = λ p. p }
+
+more_spell : (most value : ℕ) (d : List ℕ) → 128 ≤ value → Spell most (value / 128) d → Spell (suc most) value ((128 + value % 128) ∷ d)
+more_spell most value d high h = record {
+  groups = put_first (128 + value % 128) d (omega arith) (omega arith) h.groups;
+  some = omega arith;
+  short = let s = h.short in omega arith;
+  spells = ap (λ n. (128 + value % 128) % 128 + 128 * n) h.spells ∙ omega arith;
+  ends = λ p. subst (λ n. 0 < n) (sym (last_behind (128 + value % 128) d h.some)) (h.ends (omega arith));
+}
+
+shortest_spell : (more value : ℕ) → value < 128 ^ suc more → Spell (suc more) value (shortest_groups more value)
+shortest_spell zero value h = subst (Spell 1 value) (sym (shortest_final value)) (one_spells 0 value h)
+shortest_spell (suc more) value h = elim (cases_lt value 128) [
+  | inl low ↦ subst (Spell (suc (suc more)) value) (sym (shortest_last (suc more) value low)) (one_spells (suc more) value low)
+  | inr high ↦
+      subst (Spell (suc (suc more)) value) (sym (shortest_more more value high))
+      (more_spell (suc more) value (shortest_groups more (value / 128)) high (shortest_spell more (value / 128) (one_group_less (suc more) value h)))
+]
+
+spell_shortest : (value : ℕ) → value < 2 ^ 32 → Spell 5 value (shortest_delta value)
+unfolding shortest_delta
+spell_shortest value h = shortest_spell 4 value (omega arith)
+
+pub shortest_is_delta : (value : ℕ) → value < 2 ^ 32 → IsDelta (shortest_delta value) value
+shortest_is_delta value h = let s = spell_shortest value h in record { groups = s.groups; short = s.short; spells = s.spells; fits = h }
+
+one_byte : (value : ℕ) → value < 128 → length (shortest_delta value) ≡ 1
+unfolding shortest_delta
+one_byte value h = ap length (shortest_last 4 value h)
+
+pub shortest_is_shortest : (value : ℕ) → value < 2 ^ 32 → IsShortest (shortest_delta value)
+shortest_is_shortest value h = elim (cases_lt value 128) [
+  | inl low ↦ inl (one_byte value low)
+  | inr high ↦ inr ((spell_shortest value h).ends (omega arith))
+]
+
+-- a number whose last group is not 0 is not 0
+positive : (bytes : List ℕ) → AreGroups bytes → 0 < last_byte bytes → 0 < value_of bytes
+positive [] h last = absurd h
+positive (b ∷ []) h last = let e = one_value b h in omega arith
+positive (b ∷ c ∷ bytes) h last = let others = positive (c ∷ bytes) h.2 last in omega arith
+
+several : (b c : ℕ) (bytes : List ℕ) → IsShortest (b ∷ c ∷ bytes) → 0 < last_byte (c ∷ bytes)
+several b c bytes (inl one) = absurd (omega arith)
+several b c bytes (inr last) = last
+
+shortest_is : (more : ℕ) (bytes : List ℕ) → AreGroups bytes → IsShortest bytes → length bytes ≤ suc more → bytes ≡ shortest_groups more (value_of bytes)
+shortest_is more [] h none short = absurd h
+shortest_is more (b ∷ []) h none short =
+    let e = one_value b h in
+    ap (λ (n : ℕ). n ∷ []) (sym e) ∙ sym (shortest_last more (value_of (b ∷ [])) (omega arith))
+shortest_is zero (b ∷ c ∷ bytes) h none short = absurd (omega arith)
+shortest_is (suc more) (b ∷ c ∷ bytes) h none short =
+    let last = several b c bytes none in
+    let n = value_of (c ∷ bytes) in
+    let some : 0 < n = positive (c ∷ bytes) h.2 last in
+    let high : 128 ≤ b = h.0 in
+    let byte : b < 256 = h.1 in
+    let first : b ≡ 128 + (b % 128 + 128 * n) % 128 = omega arith in
+    let others : n ≡ (b % 128 + 128 * n) / 128 = omega arith in
+    ap (λ (x : ℕ). x ∷ c ∷ bytes) first
+    ∙ ap (λ (xs : List ℕ). (128 + (b % 128 + 128 * n) % 128) ∷ xs) (shortest_is more (c ∷ bytes) h.2 (inr last) (omega arith) ∙ ap (shortest_groups more) others)
+    ∙ sym (shortest_more more (b % 128 + 128 * n) (omega arith))
+
+pub shortest_is_one : (bytes : List ℕ) (value : ℕ) → IsDelta bytes value → IsShortest bytes → bytes ≡ shortest_delta value
+unfolding shortest_delta
+shortest_is_one bytes value h none = shortest_is 4 bytes h.groups none h.short ∙ ap (shortest_groups 4) h.spells
+
+-- the groups of a number that are stored so far, and the rest of the number
+pub record AreStored (value at : ℕ) (bytes : List ℕ) (rest : ℕ) : Type 0 where
+  pub long : length bytes ≡ 5
+  pub spelled : shortest_groups 4 value ≡ take at bytes ++ shortest_groups (4 - at) rest
+  pub left : rest < 128 ^ (5 - at)
+
+pub stored_first : (value : ℕ) (bytes : List ℕ) → length bytes ≡ 5 → value < 2 ^ 32 → AreStored value 0 bytes value
+stored_first value bytes long h = record { long = long; spelled = refl; left = omega arith }
+
+pub stored_more : (value at : ℕ) (bytes : List ℕ) (rest : ℕ) → at < 4 → 128 ≤ rest → AreStored value at bytes rest → AreStored value (at + 1) (set bytes at (128 + rest % 128)) (rest / 128)
+stored_more value at bytes rest here high h =
+    let long : length bytes ≡ 5 = h.long in
+    let one : 4 - at ≡ suc (4 - (at + 1)) = omega arith in
+    let less : 5 - at ≡ suc (5 - (at + 1)) = omega arith in
+    record {
+      long = length-set bytes at (128 + rest % 128) ∙ long;
+      spelled =
+          h.spelled
+          ∙ ap (λ (xs : List ℕ). take at bytes ++ xs) (ap (λ k. shortest_groups k rest) one ∙ shortest_more (4 - (at + 1)) rest high)
+          ∙ sym (append_assoc (take at bytes) ((128 + rest % 128) ∷ []) (shortest_groups (4 - (at + 1)) (rest / 128)))
+          ∙ ap (λ (xs : List ℕ). xs ++ shortest_groups (4 - (at + 1)) (rest / 128)) (sym (take_more_set bytes at (128 + rest % 128) (omega arith)));
+      left = one_group_less (5 - (at + 1)) rest (subst (λ k. rest < 128 ^ k) less h.left);
+    }
+
+pub stored_last : (value at : ℕ) (bytes : List ℕ) (rest : ℕ) → at < 4 → rest < 128 → AreStored value at bytes rest → take (at + 1) (set bytes at rest) ≡ shortest_delta value
+unfolding shortest_delta
+stored_last value at bytes rest here low h =
+    let long : length bytes ≡ 5 = h.long in
+    take_more_set bytes at rest (omega arith) ∙ ap (λ (xs : List ℕ). take at bytes ++ xs) (sym (shortest_last (4 - at) rest low)) ∙ sym h.spelled
+
+pub stored_all : (value at : ℕ) (bytes : List ℕ) (rest : ℕ) → at ≡ 4 → AreStored value at bytes rest → take 5 (set bytes 4 rest) ≡ shortest_delta value
+unfolding shortest_delta
+stored_all value at bytes rest e h =
+    let long : length bytes ≡ 5 = h.long in
+    let spelled = subst (λ k. shortest_groups 4 value ≡ take k bytes ++ shortest_groups (4 - k) rest) e h.spelled in
+    take_more_set bytes 4 rest (omega arith) ∙ ap (λ (xs : List ℕ). take 4 bytes ++ xs) (sym (shortest_final rest)) ∙ sym spelled
+
+pub one_stored : (value : ℕ) → value < 128 → value ∷ [] ≡ shortest_delta value
+unfolding shortest_delta
+one_stored value h = sym (shortest_last 4 value h)

@@ -1,0 +1,5 @@
+use Rattle.aig_binary.proofs.Shortest.{shortest_is_one}
+use Rattle.aig_binary.proofs.laws.shortest_is_one.Goals as goal
+
+pub returns : goal.returns
+returns c = shortest_is_one

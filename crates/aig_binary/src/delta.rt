@@ -1,0 +1,120 @@
+//! Deltas: the numbers of gates in a binary file, in groups of seven bits, the lowest group first.
+ghost use Rattle.std.specs.Prelude.{◌≡◌, ◌^◌, ◌<◌, ◌≤◌, ◌↔◌, ℕ, length, drop, None, Some, IfSome};
+ghost use Rattle.aig_text.specs.Parts.Kept.{Gives};
+ghost use Rattle.aig_binary.specs.Delta.{BeginsWithDelta, delta_at, shortest_delta};
+ghost use Rattle.aig_binary.specs.declared.delta.TheConstants.{LONGEST};
+
+use std::marker::Model;
+
+/// How many bytes spell a number at most.
+const LONGEST: usize = 5;
+
+/// The bytes that spell a number, one to five.
+#[derive(Drop)]
+pub struct Delta {
+    bytes: [u8; LONGEST],
+    len: usize,
+}
+
+impl Model for Delta {
+    ghost use Rattle.std.specs.Prelude.{List, ℕ, take, ◌<◌, ◌≤◌};
+    ghost use Rattle.aig_binary.specs.declared.delta.TheConstants.{LONGEST};
+
+    ghost Value = { List ℕ };
+
+    ghost view = { λ d. take d.len d.bytes };
+
+    ghost invariant = { λ d. (0 < d.len) × (d.len ≤ LONGEST) };
+}
+
+impl Delta {
+    /// The bytes.
+    #[inline]
+    pub fn bytes(&self) -> &[u8]
+        ensures value { result.now ≡ self.now }
+        ensures some { 0 < length self.now }
+        ensures short { length self.now ≤ 5 }
+    {
+        &self.bytes[..self.len]
+    }
+}
+
+/// The shortest spelling of a number of any size.
+fn put_groups(value: u32) -> Delta
+    ensures { result ≡ shortest_delta value }
+{
+    let mut bytes = [0; LONGEST];
+    let mut rest = value;
+    for at in 0..LONGEST - 1 {
+        if rest < 128 {
+            bytes[at] = rest as u8;
+            return Delta { bytes, len: at + 1 };
+        }
+        bytes[at] = 128 + (rest % 128) as u8;
+        rest /= 128;
+    }
+    bytes[LONGEST - 1] = rest as u8;
+    Delta {
+        bytes,
+        len: LONGEST,
+    }
+}
+
+/// The shortest spelling of a number.
+#[inline]
+pub fn put_delta(value: u32) -> Delta
+    ensures { result ≡ shortest_delta value }
+{
+    if value < 128 {
+        return Delta {
+            bytes: [value as u8, 0, 0, 0, 0],
+            len: 1,
+        };
+    }
+    put_groups(value)
+}
+
+/// A number below 2^32 alone, and how many bytes spell it.
+fn small_only(value: u64, count: usize) -> Option<(u32, usize)>
+    ensures small { value < 2 ^ 32 → result ≡ Some (value, count) }
+    ensures large { 2 ^ 32 ≤ value → result ≡ None }
+{
+    let Ok(value) = u32::try_from(value) else {
+        return None;
+    };
+    Some((value, count))
+}
+
+/// The number at the front, in any count of bytes, and how many they are.
+fn get_groups(bytes: &[u8]) -> Option<(u32, usize)>
+    ensures delta { Gives (λ x. (x.0, drop x.1 bytes.now)) result (delta_at bytes.now) }
+    ensures within { IfSome result (λ x. x.1 ≤ length bytes.now) }
+{
+    let mut value = 0;
+    let mut weight = 1;
+    for at in 0..LONGEST {
+        if at >= bytes.len() {
+            return None;
+        }
+        let byte = bytes[at];
+        value += u64::from(byte % 128) * weight;
+        if byte < 128 {
+            return small_only(value, at + 1);
+        }
+        weight *= 128;
+    }
+    None
+}
+
+/// The number at the front, and how many bytes spell it. There is none where no front of the bytes spells a number below
+/// 2^32 in one to five bytes.
+#[inline]
+pub fn get_delta(bytes: &[u8]) -> Option<(u32, usize)>
+    ensures delta { Gives (λ x. (x.0, drop x.1 bytes.now)) result (delta_at bytes.now) }
+    ensures spelled { (value count : ℕ) → (result ≡ Some (value, count)) ↔ BeginsWithDelta bytes.now value count }
+{
+    match bytes.first() {
+        Some(first) if *first < 128 => Some((u32::from(*first), 1)),
+        _ => get_groups(bytes),
+    }
+}

@@ -1,0 +1,22 @@
+//! Laws: facts about the definitions alone, each the contract of a function with an empty body.
+ghost use Rattle.aig_binary.specs.Laws.{ShortestIsDelta, ShortestIsOne, DeltasAreUnambiguous, ReadExactly};
+
+/// The shortest spelling of a number below 2^32 is one of its spellings, and none could be shorter.
+pub fn shortest_is_delta()
+    ensures { ShortestIsDelta }
+{}
+
+/// A number has no other shortest spelling.
+pub fn shortest_is_one()
+    ensures { ShortestIsOne }
+{}
+
+/// One front of bytes spells a number at most, and it spells one number.
+pub fn deltas_are_unambiguous()
+    ensures { DeltasAreUnambiguous }
+{}
+
+/// What is read at the front of bytes is exactly the number that is spelled there.
+pub fn read_exactly()
+    ensures { ReadExactly }
+{}
