@@ -2,7 +2,7 @@
 use Rattle.std.proofs.Common.{◌≡◌, ◌^◌, ◌<◌, ◌≤◌, ◌↔◌, ℕ, List, [], ◌∷◌, ◌++◌, length, length-drop, get_or, subst, IfSome, take, drop, nat_lt, Option, None, Some, if◌then◌else◌, refl, sym, ap, ◌∙◌, arith, inl, inr}
 use Rattle.std.proofs.lemmas.Bool.{lt-ltb, le-ltb, cases_lt}
 use Rattle.std.proofs.lemmas.List.{append_cancel_right, take-append-drop}
-use Rattle.aig_text.specs.Parts.Kept.{Gives}
+use Rattle.aig_text.specs.Outcomes.{Gives}
 use Rattle.aig_text.specs.Scanning.{◌>>=◌}
 use Rattle.aig_binary.specs.Delta.{IsDelta, BeginsWithDelta, groups_at, delta_at}
 use Rattle.aig_binary.proofs.Groups.{groups_are, groups_read, read_last}

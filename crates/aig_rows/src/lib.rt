@@ -5,6 +5,8 @@
 #[cfg(test)]
 mod calls;
 #[cfg(test)]
+mod deltas;
+#[cfg(test)]
 mod failures;
 #[cfg(test)]
 mod forms;
