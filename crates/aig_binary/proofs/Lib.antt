@@ -2,3 +2,4 @@ pub mod Groups
 pub mod Shortest
 pub mod Reading
 pub mod Going
+pub mod InOrder

@@ -3,5 +3,7 @@
 
 mod delta;
 pub mod laws;
+mod ordered;
 
 pub use crate::delta::{Delta, get_delta, put_delta};
+pub use crate::ordered::Ordered;

@@ -18,8 +18,8 @@ returns-then-byte-lt128-clause-delta c =
     let weight = c.loop-at.weight in
     let group : c.from.result ≡ get_or bytes at 0 % 128 = c.from.ensures in
     (told bytes (value + get_or bytes at 0 % 128 * weight) (value + c.from.result * weight) (at + 1) c.small_only.result (ap (λ n. value + n * weight) group)
-      (read_end bytes at value weight c.loop-at-test.true c.if-at-bytes.false c.if-byte-lt128.true c.loop-at.invariant)
-      c.small_only.ensures.small c.small_only.ensures.large (omega arith)).0
+    (read_end bytes at value weight c.loop-at-test.true c.if-at-bytes.false c.if-byte-lt128.true c.loop-at.invariant)
+    c.small_only.ensures.small c.small_only.ensures.large (omega arith)).0
 
 pub loop-at-preserved : goal.loop-at-preserved
 loop-at-preserved c =
