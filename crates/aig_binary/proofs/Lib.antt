@@ -5,3 +5,5 @@ pub mod Going
 pub mod OneByOne
 pub mod Defined
 pub mod Stages
+pub mod InOrder
+pub mod Accepted

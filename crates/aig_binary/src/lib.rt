@@ -4,6 +4,8 @@
 mod delta;
 mod gates;
 pub mod laws;
+mod ordered;
 mod reader;
 
 pub use crate::delta::{Delta, get_delta, put_delta};
+pub use crate::ordered::Ordered;
