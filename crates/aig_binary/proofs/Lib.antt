@@ -6,4 +6,4 @@ pub mod OneByOne
 pub mod Defined
 pub mod Stages
 pub mod InOrder
-pub mod Accepted
+pub mod Grammar

@@ -1,5 +1,6 @@
 //! Laws: facts about the definitions alone, each the contract of a function with an empty body.
 ghost use Rattle.aig_binary.specs.Laws.{ShortestIsDelta, ShortestIsOne, DeltasAreUnambiguous, ReadExactly};
+ghost use Rattle.aig_binary.specs.FileLaws.{BinaryReadExactly, BinaryFaultyOrAccepted, BinaryTextsAreUnambiguous};
 
 /// The shortest spelling of a number below 2^32 is one of its spellings, and none could be shorter.
 pub fn shortest_is_delta()
@@ -19,4 +20,19 @@ pub fn deltas_are_unambiguous()
 /// What is read at the front of bytes is exactly the number that is spelled there.
 pub fn read_exactly()
     ensures { ReadExactly }
+{}
+
+/// What is read of a text is a circuit exactly where the text is the binary file of that circuit.
+pub fn binary_read_exactly()
+    ensures { BinaryReadExactly }
+{}
+
+/// A text is the binary file of a circuit exactly where it has no fault.
+pub fn binary_faulty_or_accepted()
+    ensures { BinaryFaultyOrAccepted }
+{}
+
+/// A text is the binary file of one circuit at most.
+pub fn binary_texts_are_unambiguous()
+    ensures { BinaryTextsAreUnambiguous }
 {}

@@ -1,10 +1,13 @@
 pub mod Spellings
 pub mod NumberLines
+pub mod Pieces
 pub mod Symbols
 pub mod Named
 pub mod Tail
 pub mod Entries
 pub mod Rows
 pub mod Sections
+pub mod Headers
+pub mod WholeTail
 pub mod Text
 pub mod Faults

@@ -49,7 +49,7 @@ sound Latches = omega arith
 sound Outputs = omega arith
 sound Gates = omega arith
 
-zips_joined : {A B : Type 0} (R : A → B → Type 0) (us vs : List A) (ys zs : List B) → AllZip R us ys → AllZip R vs zs → AllZip R (us ++ vs) (ys ++ zs)
+pub zips_joined : {A B : Type 0} (R : A → B → Type 0) (us vs : List A) (ys zs : List B) → AllZip R us ys → AllZip R vs zs → AllZip R (us ++ vs) (ys ++ zs)
 zips_joined R [] vs [] zs g h = h
 zips_joined R [] vs (y ∷ ys) zs g h = absurd g
 zips_joined R (u ∷ us) vs [] zs g h = absurd g
@@ -161,11 +161,11 @@ counts_read h c ls rest f =
     let g : length (map gate_of f.gates) ≡ h.gates = length-map f.gates gate_of ∙ f.fit_gates.counted in
     subst (λ (d : Circuit). header_row d ≡ row_of_header h) f.circuit (rw (i, l, o, g) refl)
 
-all_append : {X : Type 0} (P : X → Type 0) (xs ys : List X) → AllByRecursion P xs → AllByRecursion P ys → AllByRecursion P (xs ++ ys)
+pub all_append : {X : Type 0} (P : X → Type 0) (xs ys : List X) → AllByRecursion P xs → AllByRecursion P ys → AllByRecursion P (xs ++ ys)
 all_append P [] ys h g = g
 all_append P (x ∷ xs) ys h g = (h.0, all_append P xs ys h.1 g)
 
-all_flat : {X Y : Type 0} (P : X → Type 0) (Q : Y → Type 0) (f : X → List Y) → ((x : X) → P x → AllByRecursion Q (f x)) → (xs : List X) → AllByRecursion P xs → AllByRecursion Q (flat_map f xs)
+pub all_flat : {X Y : Type 0} (P : X → Type 0) (Q : Y → Type 0) (f : X → List Y) → ((x : X) → P x → AllByRecursion Q (f x)) → (xs : List X) → AllByRecursion P xs → AllByRecursion Q (flat_map f xs)
 all_flat P Q f h [] all = tt
 all_flat P Q f h (x ∷ xs) all = all_append Q (f x) (flat_map f xs) (h x all.0) (all_flat P Q f h xs all.1)
 
@@ -236,14 +236,14 @@ counted c Outputs = length-map c.outputs output_row
 counted c Gates = length-map c.gates gate_row
 
 -- two lists that go together, split where one is joined of two
-record ZipsTwo {A B : Type 0} (R : A → B → Type 0) (xs : List A) (ys zs : List B) : Type 0 where
+pub record ZipsTwo {A B : Type 0} (R : A → B → Type 0) (xs : List A) (ys zs : List B) : Type 0 where
   pub first : List A
   pub second : List A
   pub are : xs ≡ first ++ second
   pub first_zips : AllZip R first ys
   pub second_zips : AllZip R second zs
 
-zips_split : {A B : Type 0} (R : A → B → Type 0) (xs : List A) (ys zs : List B) → AllZip R xs (ys ++ zs) → ZipsTwo R xs ys zs
+pub zips_split : {A B : Type 0} (R : A → B → Type 0) (xs : List A) (ys zs : List B) → AllZip R xs (ys ++ zs) → ZipsTwo R xs ys zs
 zips_split R xs [] zs h = record { first = []; second = xs; are = refl; first_zips = tt; second_zips = h }
 zips_split R [] (y ∷ ys) zs h = absurd h
 zips_split R (x ∷ xs) (y ∷ ys) zs h =

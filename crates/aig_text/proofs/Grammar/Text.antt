@@ -1,90 +1,27 @@
 -- A text that is read is the text of its circuit, and the other way round.
-use Rattle.std.proofs.Common.{◌≡◌, ℕ, zero, suc, ◌+◌, ◌*◌, ◌<◌, ◌≤◌, min, true, false, cond, List, [], ◌∷◌, ◌++◌, drop, length, get_or, Option, None, Some, Result, Ok, Err, refl, ap, subst, ◌∙◌, sym, arith}
-use Rattle.std.specs.List.{AllByRecursion, AllZip, list_any, before_first}
-use Rattle.std.specs.Str.{bytes_eq}
-use Rattle.std.proofs.lemmas.Bool.{ltb-false, le-ltb, or_parts, or_from}
-use Rattle.std.proofs.Math.Dec.{ltb}
+use Rattle.std.proofs.Common.{◌≡◌, ℕ, ◌+◌, ◌*◌, ◌≤◌, List, [], ◌∷◌, ◌++◌, Option, None, Some, Result, Ok, refl, ap, subst, ◌∙◌, sym}
+use Rattle.std.specs.List.{AllByRecursion, AllZip}
 use Rattle.aig_core.specs.declared.circuit.Circuit.{Circuit}
-use Rattle.aig_core.specs.declared.circuit.TheConstants.{LARGEST}
 use Rattle.aig_core.specs.declared.fault.CheckFault.{CheckFault}
 use Rattle.aig_core.specs.Fault.{first_fault}
 use Rattle.aig_core.proofs.Faultless.{well_formed, faultless}
-use Rattle.aig_core.proofs.Fitting.{all_weaker, well_formed_in_form}
-use Rattle.aig_core.specs.declared.circuit.Kind.{Kind}
-use Rattle.aig_core.specs.declared.circuit.Kind.TheVariants.{Input, Latch, Output}
+use Rattle.aig_core.proofs.Fitting.{well_formed_in_form}
 use Rattle.aig_core.specs.declared.circuit.Symbol.{Symbol}
 use Rattle.aig_core.specs.Names.{nothing_named}
-use Rattle.aig_core.specs.Wellformed.{IsWellFormed, IsWithinLimits, IsVariableUpTo, HasGoodSymbols, NameApart, IsAmong, count_of, defined_variables, used_literals}
+use Rattle.aig_core.specs.Wellformed.{IsWellFormed, IsWithinLimits, IsVariableUpTo, HasGoodSymbols, defined_variables, used_literals}
 use Rattle.aig_core.specs.Form.{IsInForm}
 use Rattle.aig_text.specs.declared.fault.ReadFault.{ReadFault}
-use Rattle.aig_text.specs.declared.fault.ReadKind.{ReadKind}
-use Rattle.aig_text.specs.declared.fault.ReadKind.TheVariants as kinds
 use Rattle.aig_text.specs.Lines.{Line, lines_of}
-use Rattle.aig_text.specs.Spelling.{IsHeaderLine}
-use Rattle.aig_text.specs.Scanning.{more_numbers_at}
 use Rattle.aig_text.specs.Rows.{ascii_word, Header, header_row, rows_of, sections}
 use Rattle.aig_text.specs.Laws.{IsOneLine}
-use Rattle.aig_text.specs.Tail.{IsSymbolLine, IsComment}
 use Rattle.aig_text.specs.AsciiGrammar.{IsRowLine, IsAsciiText}
-use Rattle.aig_text.specs.Reading.{◌>>=◌, at_line, ends_word, header_of_row, header_within, header_of, tail_at, count_named, header_at, sections_at, empty_circuit, circuit_at, unless_faulty, reading}
-use Rattle.aig_text.proofs.Steps.{both_ok, ok_at_line, ok_same, passed, let_through}
-use Rattle.aig_text.proofs.Grammar.NumberLines.{header_reads, header_is_read}
-use Rattle.aig_text.proofs.Grammar.Sections.{FourSections, four_told, rows_read, counts_read, row_of_header, in_form, sections_are_read, bare}
-use Rattle.aig_text.proofs.Grammar.Named.{IsPlaced, new_apart, new_placed, apart_new}
-use Rattle.aig_text.proofs.Grammar.Tail.{TellsTail, with_tail, tail_tells, tail_is_told, names_in_lines}
+use Rattle.aig_text.specs.Reading.{◌>>=◌, at_line, header_of, tail_at, header_at, sections_at, empty_circuit, circuit_at, unless_faulty, reading}
+use Rattle.aig_text.proofs.Steps.{both_ok, ok_at_line, ok_same}
+use Rattle.aig_text.proofs.Grammar.Sections.{FourSections, four_told, rows_read, counts_read, in_form, sections_are_read, bare}
+use Rattle.aig_text.proofs.Grammar.Headers.{TellsHeader, HasCounts, own_header, header_tells, header_is_told, heads, limited, definitions_counted, within_limits}
+use Rattle.aig_text.proofs.Grammar.WholeTail.{right_of, tail_holds, good_symbols, own_tail}
+use Rattle.aig_text.proofs.Grammar.Tail.{TellsTail, with_tail, tail_tells}
 use Rattle.aig_text.proofs.Loops.Cutting.{pieces}
-
-none_larger : (m : ℕ) (ns : List ℕ) → list_any (λ n. ltb m n) ns ≡ false → AllByRecursion (λ n. n ≤ m) ns
-none_larger m [] h = tt
-none_larger m (n ∷ ns) h = let p = or_parts (ltb m n) (list_any (λ n. ltb m n) ns) h in (ltb-false m n p.0, none_larger m ns p.1)
-
-all_within : (m : ℕ) (ns : List ℕ) → AllByRecursion (λ n. n ≤ m) ns → list_any (λ n. ltb m n) ns ≡ false
-all_within m [] h = refl
-all_within m (n ∷ ns) h = or_from (ltb m n) (list_any (λ n. ltb m n) ns) (le-ltb m n h.0) (all_within m ns h.1)
-
--- no number of a row is above the bound on all, also where there is none
-within_at : (b : ℕ) (ns : List ℕ) (k : ℕ) → AllByRecursion (λ n. n ≤ b) ns → get_or ns k 0 ≤ b
-within_at b [] k h = omega arith
-within_at b (n ∷ ns) zero h = h.0
-within_at b (n ∷ ns) (suc k) h = within_at b ns k h.1
-
--- a line that is a header with this word
-record TellsHeader (word : List ℕ) (limit : ℕ) (l : Line) (h : Header) : Type 0 where
-  pub numbers : List ℕ
-  pub begins : bytes_eq (before_first ends_word l.text) word ≡ true
-  pub read : more_numbers_at l.ended 5 5 (drop (length word) l.text) ≡ Some numbers
-  pub is : header_of_row numbers ≡ h
-  pub within : AllByRecursion (λ n. n ≤ min limit LARGEST) numbers
-  pub counted : get_or numbers 1 0 + get_or numbers 2 0 + get_or numbers 4 0 ≤ get_or numbers 0 0
-
-abbrev counts_fit : List ℕ → Result Header ReadKind
-counts_fit ns = cond (ltb (get_or ns 0 0) (get_or ns 1 0 + get_or ns 2 0 + get_or ns 4 0)) (Err kinds.BadHeader) (Ok (header_of_row ns))
-
-within_tells : (word : List ℕ) (limit : ℕ) (l : Line) (h : Header) (o : Option (List ℕ)) → bytes_eq (before_first ends_word l.text) word ≡ true → more_numbers_at l.ended 5 5 (drop (length word) l.text) ≡ o → header_within (min limit LARGEST) o ≡ Ok h → TellsHeader word limit l h
-unfolding header_within
-within_tells word limit l h None begins read is = cc
-within_tells word limit l h (Some ns) begins read is =
-    let p = passed (list_any (λ n. ltb (min limit LARGEST) n) ns) kinds.TooLarge (counts_fit ns) h is in
-    let q = passed (ltb (get_or ns 0 0) (get_or ns 1 0 + get_or ns 2 0 + get_or ns 4 0)) kinds.BadHeader (Ok (header_of_row ns)) h p.1 in
-    record {
-      numbers = ns;
-      begins = begins;
-      read = read;
-      is = ok_same {E = ReadKind} (header_of_row ns) h q.1;
-      within = none_larger (min limit LARGEST) ns p.0;
-      counted = ltb-false (get_or ns 0 0) (get_or ns 1 0 + get_or ns 2 0 + get_or ns 4 0) q.0;
-    }
-
-header_tells : (word : List ℕ) (limit : ℕ) (l : Line) (h : Header) → header_of word limit l ≡ Ok h → TellsHeader word limit l h
-unfolding header_of
-header_tells word limit l h is =
-    let p = let_through (bytes_eq (before_first ends_word l.text) word) kinds.NotAiger (header_within (min limit LARGEST) (more_numbers_at l.ended 5 5 (drop (length word) l.text))) h is in
-    within_tells word limit l h (more_numbers_at l.ended 5 5 (drop (length word) l.text)) p.0 refl p.1
-
-told_header : (word : List ℕ) (limit : ℕ) (l : Line) (h : Header) → TellsHeader word limit l h → header_of word limit l ≡ Ok h
-unfolding header_of header_within
-told_header word limit l h t =
-    rw (t.begins, t.read, all_within (min limit LARGEST) t.numbers t.within, le-ltb (get_or t.numbers 0 0) (get_or t.numbers 1 0 + get_or t.numbers 2 0 + get_or t.numbers 4 0) t.counted, t.is) refl
 
 -- what the lines of a text tell
 record TellCircuit (limit : ℕ) (ls : List Line) (c : Circuit) : Type 0 where
@@ -130,81 +67,15 @@ circuit_told limit (l ∷ ls) c is =
       tail = subst (λ (q : Header × ℕ × List Line). TellsTail q.0 nothing_named b.0.0 c b.0.2) (sym e) t;
     }
 
--- the header's row, and its limits
-five : (ns : List ℕ) → length ns ≡ 5 → row_of_header (header_of_row ns) ≡ ns
-five [] h = absurd (omega arith)
-five (a ∷ []) h = absurd (omega arith)
-five (a ∷ b ∷ []) h = absurd (omega arith)
-five (a ∷ b ∷ d ∷ []) h = absurd (omega arith)
-five (a ∷ b ∷ d ∷ e ∷ []) h = absurd (omega arith)
-five (a ∷ b ∷ d ∷ e ∷ f ∷ []) h = refl
-five (a ∷ b ∷ d ∷ e ∷ f ∷ g ∷ ns) h = absurd (omega arith)
-
 -- what the tail adds changes no row and no count
 rows_kept : (limit : ℕ) (ls : List Line) (c : Circuit) (t : TellCircuit limit ls c) → rows_of t.numbered ≡ rows_of c
 rows_kept limit ls c t = ap rows_of t.tail.circuit
 
-counts_kept : (limit : ℕ) (ls : List Line) (c : Circuit) (t : TellCircuit limit ls c) → header_row c ≡ row_of_header t.header
+counts_kept : (limit : ℕ) (ls : List Line) (c : Circuit) (t : TellCircuit limit ls c) → HasCounts t.header c
 counts_kept limit ls c t = sym (ap header_row t.tail.circuit) ∙ counts_read t.header t.numbered t.others t.rest t.sections
 
-abbrev IsHeaderOf : ℕ → Line → Circuit → List ℕ → Type 0
-IsHeaderOf limit l c ns = (header_row c ≡ ns) × IsHeaderLine ascii_word 5 l ns
-
-header_holds : (limit : ℕ) (ls : List Line) (c : Circuit) (t : TellCircuit limit ls c) → IsHeaderOf limit t.first c t.heads.numbers
-header_holds limit ls c t =
-    let s = header_reads ascii_word t.first 5 5 t.heads.numbers (omega arith) t.heads.begins t.heads.read in
-    (counts_kept limit ls c t ∙ ap row_of_header (sym t.heads.is) ∙ five t.heads.numbers s.1, s.0)
-
-abbrev AreLimits : List ℕ → Type 0
-AreLimits ns = (get_or ns 0 0 ≤ LARGEST) × (get_or ns 1 0 ≤ LARGEST) × (get_or ns 2 0 ≤ LARGEST) × (get_or ns 3 0 ≤ LARGEST) × (get_or ns 4 0 ≤ LARGEST)
-
-within_limits : (limit : ℕ) (ls : List Line) (c : Circuit) → TellCircuit limit ls c → IsWithinLimits c
-within_limits limit ls c t =
-    let at : (k : ℕ) → get_or t.heads.numbers k 0 ≤ min limit LARGEST = λ k. within_at (min limit LARGEST) t.heads.numbers k t.heads.within in
-    let low : min limit LARGEST ≤ LARGEST = omega arith in
-    let are : AreLimits t.heads.numbers = (omega (arith, at 0, low), omega (arith, at 1, low), omega (arith, at 2, low), omega (arith, at 3, low), omega (arith, at 4, low)) in
-    let own : AreLimits (header_row c) = subst AreLimits (sym (header_holds limit ls c t).0) are in
-    record { max_var = own.0; inputs = own.1; latches = own.2; outputs = own.3; gates = own.4 }
-
--- as many things as the header tells may be named
-abbrev HasCounts : Header → Circuit → Type 0
-HasCounts h c = header_row c ≡ row_of_header h
-
-count_is : (h : Header) (c : Circuit) → HasCounts h c → (k : Kind) → count_named h k ≡ count_of c k
-count_is h c e Input = sym (ap (λ (ns : List ℕ). get_or ns 1 0) e)
-count_is h c e Latch = sym (ap (λ (ns : List ℕ). get_or ns 2 0) e)
-count_is h c e Output = sym (ap (λ (ns : List ℕ). get_or ns 3 0) e)
-
-placed : (h : Header) (c : Circuit) → HasCounts h c → (ss : List Symbol) → AllByRecursion (IsPlaced h) ss → AllByRecursion (λ (s : Symbol). s.position < count_of c s.kind) ss
-placed h c e [] p = tt
-placed h c e (s ∷ ss) p = (subst (λ n. s.position < n) (count_is h c e s.kind) p.0, placed h c e ss p.1)
-
-left_of : {X : Type 0} (P : X → Type 0) (xs ys : List X) → AllByRecursion P (xs ++ ys) → AllByRecursion P xs
-left_of P [] ys h = tt
-left_of P (x ∷ xs) ys h = (h.0, left_of P xs ys h.1)
-
-right_of : {X : Type 0} (P : X → Type 0) (xs ys : List X) → AllByRecursion P (xs ++ ys) → AllByRecursion P ys
-right_of P [] ys h = h
-right_of P (x ∷ xs) ys h = right_of P xs ys h.1
-
--- the symbols that lines tell are those of the circuit
-symbols_told : (limit : ℕ) (ls : List Line) (c : Circuit) (t : TellCircuit limit ls c) → t.tail.symbols ≡ c.symbols
-symbols_told limit ls c t =
-    let none : t.numbered.symbols ≡ [] = subst (λ (d : Circuit). d.symbols ≡ []) t.sections.circuit refl in
-    ap (λ (ss : List Symbol). ss ++ t.tail.symbols) (sym none) ∙ ap (λ (d : Circuit). d.symbols) t.tail.circuit
-
--- and are good
-good_symbols : (limit : ℕ) (ls : List Line) (c : Circuit) → AllByRecursion IsOneLine ls → TellCircuit limit ls c → HasGoodSymbols c
-good_symbols limit ls c one t =
-    let lines : ls ≡ (t.first ∷ t.sections.front) ++ (t.tail.named ++ t.tail.rest) = t.are ∙ ap (λ (ks : List Line). t.first ∷ ks) (t.sections.lines ∙ ap (λ (ks : List Line). t.sections.front ++ ks) t.tail.are) in
-    let named : AllByRecursion IsOneLine t.tail.named =
-    left_of IsOneLine t.tail.named t.tail.rest (right_of IsOneLine (t.first ∷ t.sections.front) (t.tail.named ++ t.tail.rest) (subst (λ (ks : List Line). AllByRecursion IsOneLine ks) lines one)) in
-    let symbols : t.tail.symbols ≡ c.symbols = symbols_told limit ls c t in
-    record {
-      positions = subst (λ (ss : List Symbol). AllByRecursion (λ (s : Symbol). s.position < count_of c s.kind) ss) symbols (placed t.header c (counts_kept limit ls c t) t.tail.symbols (new_placed t.header nothing_named t.tail.symbols t.tail.new));
-      apart = subst NameApart symbols (new_apart t.header t.tail.symbols t.tail.new);
-      lines = subst (λ (ss : List Symbol). AllByRecursion (λ (s : Symbol). ¬ IsAmong 10 s.name) ss) symbols (names_in_lines t.tail.named t.tail.symbols t.tail.spelled named);
-    }
+no_symbols : (h : Header) (c : Circuit) (ls rest : List Line) → FourSections h c ls rest → c.symbols ≡ []
+no_symbols h c ls rest f = subst (λ (d : Circuit). d.symbols ≡ []) f.circuit refl
 
 -- a circuit in form stays so with good symbols
 stays_in_form : (c d : Circuit) (ss : List Symbol) (comment : Option (List ℕ)) → with_tail c ss comment ≡ d → IsWithinLimits d → IsInForm c → HasGoodSymbols d → IsInForm d
@@ -225,31 +96,28 @@ limits_back c d ss comment is limits =
 pub circuit_in_form : (limit : ℕ) (ls : List Line) (c : Circuit) → AllByRecursion IsOneLine ls → circuit_at limit ls ≡ Ok c → IsInForm c
 circuit_in_form limit ls c one is =
     let t : TellCircuit limit ls c = circuit_told limit ls c is in
-    let limits = within_limits limit ls c t in
+    let counts = counts_kept limit ls c t in
+    let limits = within_limits ascii_word limit t.first t.header c t.heads counts in
     let numbered : IsInForm t.numbered = in_form t.header t.numbered t.others t.rest (limits_back t.numbered c t.tail.symbols t.tail.comment t.tail.circuit limits) t.sections in
-    stays_in_form t.numbered c t.tail.symbols t.tail.comment t.tail.circuit limits numbered (good_symbols limit ls c one t)
+    let lines : ls ≡ (t.first ∷ t.sections.front) ++ t.rest = t.are ∙ ap (λ (ks : List Line). t.first ∷ ks) t.sections.lines in
+    let behind : AllByRecursion IsOneLine t.rest = right_of IsOneLine (t.first ∷ t.sections.front) t.rest (subst (λ (ks : List Line). AllByRecursion IsOneLine ks) lines one) in
+    stays_in_form t.numbered c t.tail.symbols t.tail.comment t.tail.circuit limits numbered
+    (good_symbols t.header t.numbered c t.rest t.tail (no_symbols t.header t.numbered t.others t.rest t.sections) counts behind)
 
 -- a well-formed circuit that the lines of a text tell has the text as its file
 told_is_accepted : (limit : ℕ) (text : List ℕ) (c : Circuit) → TellCircuit limit (lines_of text) c → IsWellFormed c → IsAsciiText text limit c
 told_is_accepted limit text c t w =
-    let holds = header_holds limit (lines_of text) c t in
-    let comment : t.tail.comment ≡ c.comment = ap (λ (d : Circuit). d.comment) t.tail.circuit in
+    let counts = counts_kept limit (lines_of text) c t in
     record {
       header = t.first;
       numbered = t.sections.front;
       tail = t.rest;
       lines = t.are ∙ ap (λ (ms : List Line). t.first ∷ ms) t.sections.lines;
-      is_header = subst (λ (ns : List ℕ). IsHeaderLine ascii_word 5 t.first ns) (sym holds.0) holds.1;
+      is_header = heads ascii_word limit t.first t.header c t.heads counts;
       are_rows = subst (λ (rows : List _). AllZip IsRowLine t.sections.front rows) (rows_read t.header t.numbered t.others t.rest t.sections ∙ rows_kept limit (lines_of text) c t) t.sections.spelled;
-      is_tail = record {
-        named = t.tail.named;
-        rest = t.tail.rest;
-        are = t.tail.are;
-        symbols = subst (λ (ss : List Symbol). AllZip IsSymbolLine t.tail.named ss) (symbols_told limit (lines_of text) c t) t.tail.spelled;
-        comment = subst (λ (o : Option (List ℕ)). IsComment t.tail.rest o) comment t.tail.is_comment;
-      };
-      limited = subst (λ (ns : List ℕ). AllByRecursion (λ n. n ≤ limit) ns) (sym holds.0) (all_weaker (λ n. n ≤ min limit LARGEST) (λ n. n ≤ limit) (λ n h. omega arith) t.heads.numbers t.heads.within);
-      counted = subst (λ (ns : List ℕ). get_or ns 1 0 + get_or ns 2 0 + get_or ns 4 0 ≤ get_or ns 0 0) (sym holds.0) t.heads.counted;
+      is_tail = tail_holds t.header nothing_named t.numbered c t.rest t.tail (no_symbols t.header t.numbered t.others t.rest t.sections);
+      limited = limited ascii_word limit t.first t.header c t.heads counts;
+      counted = definitions_counted ascii_word limit t.first t.header c t.heads counts;
       well_formed = w;
     }
 
@@ -267,48 +135,17 @@ reading_is_accepted limit text c h =
     subst (λ (d : Circuit). IsAsciiText text limit d) n.1
     (told_is_accepted limit text r.0 (circuit_told limit (lines_of text) r.0 r.1) (well_formed r.0 form n.0))
 
--- the numbers of a header within both limits
-both_limits : (limit : ℕ) (c : Circuit) → AllByRecursion (λ n. n ≤ limit) (header_row c) → IsWithinLimits c → AllByRecursion (λ n. n ≤ min limit LARGEST) (header_row c)
-both_limits limit c h w =
-    let least : (n : ℕ) → n ≤ limit → n ≤ LARGEST → n ≤ min limit LARGEST = λ n a b. omega arith in
-    (least c.max_var h.0 w.max_var, (least (length c.inputs) h.1.0 w.inputs, (least (length c.latches) h.1.1.0 w.latches, (least (length c.outputs) h.1.1.1.0 w.outputs, (least (length c.gates) h.1.1.1.1.0 w.gates, tt)))))
-
-accepted_header : (limit : ℕ) (text : List ℕ) (c : Circuit) (a : IsAsciiText text limit c) → TellsHeader ascii_word limit a.header (header_of_row (header_row c))
-accepted_header limit text c a =
-    let s = header_is_read ascii_word a.header 5 5 (header_row c) (omega arith) (refl, (refl, (refl, tt))) a.is_header refl in
-    record {
-      numbers = header_row c;
-      begins = s.0;
-      read = s.1;
-      is = refl;
-      within = both_limits limit c a.limited a.well_formed.limits;
-      counted = a.counted;
-    }
-
 -- the lines of a circuit's file are read as the circuit
-steps : (limit k : ℕ) (l : Line) (others rest : List Line) (c : Circuit) → header_of ascii_word limit l ≡ Ok (header_of_row (header_row c))
-    → sections_at (header_of_row (header_row c)) sections (empty_circuit c.max_var) 2 others ≡ Ok (bare c, k, rest) → tail_at (header_of_row (header_row c)) nothing_named (bare c) k rest ≡ Ok c → circuit_at limit (l ∷ others) ≡ Ok c
+steps : (limit k : ℕ) (l : Line) (others rest : List Line) (c : Circuit) → header_of ascii_word limit l ≡ Ok (own_header c)
+    → sections_at (own_header c) sections (empty_circuit c.max_var) 2 others ≡ Ok (bare c, k, rest) → tail_at (own_header c) nothing_named (bare c) k rest ≡ Ok c → circuit_at limit (l ∷ others) ≡ Ok c
 unfolding circuit_at
 steps limit k l others rest c h s t = rw (h, s) t
 
-own_count : (c : Circuit) (k : Kind) → count_of c k ≡ count_named (header_of_row (header_row c)) k
-own_count c Input = refl
-own_count c Latch = refl
-own_count c Output = refl
-
-own_placed : (c : Circuit) (ss : List Symbol) → AllByRecursion (λ (s : Symbol). s.position < count_of c s.kind) ss → AllByRecursion (IsPlaced (header_of_row (header_row c))) ss
-own_placed c [] p = tt
-own_placed c (s ∷ ss) p = (subst (λ n. s.position < n) (own_count c s.kind) p.0, own_placed c ss p.1)
-
 accepted_lines : (limit : ℕ) (text : List ℕ) (c : Circuit) → IsAsciiText text limit c → circuit_at limit (lines_of text) ≡ Ok c
 accepted_lines limit text c a =
+    let h = header_is_told ascii_word limit a.header c (refl, (refl, (refl, tt))) a.is_header a.limited a.well_formed.limits a.counted in
     let s = sections_are_read c (well_formed_in_form c a.well_formed) 2 a.numbered a.tail a.are_rows in
-    let good : HasGoodSymbols c = a.well_formed.symbols in
-    let new = apart_new (header_of_row (header_row c)) c.symbols (own_placed c c.symbols good.positions) good.apart in
-    let t : tail_at (header_of_row (header_row c)) nothing_named (bare c) s.0 a.tail ≡ Ok c =
-    ap (tail_at (header_of_row (header_row c)) nothing_named (bare c) s.0) a.is_tail.are
-    ∙ tail_is_told (header_of_row (header_row c)) nothing_named (bare c) s.0 a.is_tail.named a.is_tail.rest c.symbols c.comment refl a.is_tail.symbols new a.is_tail.comment in
-    rw a.lines (steps limit s.0 a.header (a.numbered ++ a.tail) a.tail c (told_header ascii_word limit a.header (header_of_row (header_row c)) (accepted_header limit text c a)) s.1 t)
+    rw a.lines (steps limit s.0 a.header (a.numbered ++ a.tail) a.tail c h s.1 (own_tail c s.0 a.tail a.well_formed.symbols a.is_tail))
 
 -- a circuit's file is read as the circuit
 pub accepted_is_read : (limit : ℕ) (text : List ℕ) (c : Circuit) → IsAsciiText text limit c → reading limit text ≡ Ok c

@@ -1,0 +1,107 @@
+-- A text that is read as a binary file is the file of the circuit, which is well formed and in binary order.
+use Rattle.std.proofs.Common.{◌≡◌, ℕ, List, ◌∷◌, ◌++◌, map, Option, Ok, refl, sym, ap, subst, ◌∙◌, append_assoc}
+use Rattle.std.specs.List.{AllByRecursion, AllZip}
+use Rattle.aig_core.specs.declared.circuit.Symbol.{Symbol}
+use Rattle.aig_core.specs.declared.circuit.Gate.{Gate}
+use Rattle.aig_core.specs.declared.circuit.Circuit.{Circuit}
+use Rattle.aig_core.specs.Names.{nothing_named}
+use Rattle.aig_core.specs.Wellformed.{IsWellFormed}
+use Rattle.aig_text.specs.Lines.{Line, lines_of, bytes_of}
+use Rattle.aig_text.specs.Laws.{IsOneLine, EndInLineFeeds}
+use Rattle.aig_text.specs.Rows.{Row, row, output_form, header_row}
+use Rattle.aig_text.specs.AsciiGrammar.{IsRowLine}
+use Rattle.aig_text.proofs.Loops.Cutting.{pieces}
+use Rattle.aig_text.proofs.Grammar.Headers.{HasCounts, heads, limited, within_limits}
+use Rattle.aig_text.proofs.Grammar.Pieces.{lines_again, first_ended, ended_before, bytes_joined}
+use Rattle.aig_text.proofs.Grammar.Sections.{zips_joined}
+use Rattle.aig_text.proofs.Grammar.Tail.{with_tail}
+use Rattle.aig_text.proofs.Grammar.WholeTail.{left_of, tail_holds, good_symbols}
+use Rattle.aig_binary.specs.BinaryOrder.{IsInBinaryOrder}
+use Rattle.aig_binary.specs.BinaryGrammar.{binary_word, binary_rows_of, SpellsGates, EndsBefore, IsBinaryText}
+use Rattle.aig_binary.specs.BinaryReading.{numbered_circuit, binary_at, binary_reading}
+use Rattle.aig_binary.proofs.Grammar.Sound.{HasLiteralsUpTo, well_formed}
+use Rattle.aig_binary.proofs.Grammar.Numbered.{rows_are, literals_are, counts_are, order_is}
+use Rattle.aig_binary.proofs.Grammar.Told.{TellsBinary, binary_told}
+
+-- what the tail adds changes no order
+order_kept : (c : Circuit) (ss : List Symbol) (comment : Option (List ℕ)) → IsInBinaryOrder c → IsInBinaryOrder (with_tail c ss comment)
+order_kept c ss comment o = record { inputs = o.inputs; latches = o.latches; gates = o.gates; all = o.all }
+
+module _ (limit : ℕ) (ls : List Line) (c : Circuit) (t : TellsBinary limit ls c) where
+  abbrev numbered : Circuit
+  numbered = numbered_circuit t.header t.numbers.nexts t.numbers.outputs t.numbers.gates
+
+  counts : HasCounts t.header c
+  counts =
+      sym (ap header_row t.numbers.tail.circuit)
+      ∙ counts_are t.header t.numbers.nexts t.numbers.outputs t.numbers.gates t.numbers.next_rows.counted t.numbers.output_rows.counted t.numbers.are_gates.counted
+
+  pub ordered : IsInBinaryOrder c
+  ordered =
+      subst IsInBinaryOrder t.numbers.tail.circuit (order_kept numbered t.numbers.tail.symbols t.numbers.tail.comment
+      (order_is t.header t.numbers.nexts t.numbers.outputs t.numbers.gates t.numbers.next_rows.counted t.numbers.are_gates.counted t.full t.numbers.are_gates.ordered))
+
+  literals : HasLiteralsUpTo c
+  literals = subst HasLiteralsUpTo t.numbers.tail.circuit (literals_are t.header t.numbers.nexts t.numbers.outputs t.numbers.gates t.numbers.next_rows.good t.numbers.output_rows.good)
+
+  pub sound : IsWellFormed c
+  sound =
+      well_formed c ordered literals (within_limits binary_word limit t.first t.header c t.heads counts)
+      (good_symbols t.header numbered c (lines_of t.numbers.rest) t.numbers.tail refl counts (pieces t.numbers.rest).one_each)
+
+  -- the lines in front of the gates
+  abbrev rows : List Line
+  rows = t.numbers.next_rows.front ++ t.numbers.output_rows.front
+
+  abbrev front : List Line
+  front = t.first ∷ rows
+
+  lines : ls ≡ front ++ t.numbers.last
+  lines =
+      t.are ∙ ap (λ (ks : List Line). t.first ∷ ks) (t.numbers.next_rows.lines
+      ∙ ap (λ (ks : List Line). t.numbers.next_rows.front ++ ks) t.numbers.output_rows.lines
+      ∙ sym (append_assoc t.numbers.next_rows.front t.numbers.output_rows.front t.numbers.last))
+
+  rows_spelled : AllZip IsRowLine rows (binary_rows_of c)
+  rows_spelled =
+      subst (λ (rs : List Row). AllZip IsRowLine rows rs)
+      (rows_are t.header t.numbers.nexts t.numbers.outputs t.numbers.gates t.numbers.next_rows.good t.numbers.output_rows.good ∙ ap binary_rows_of t.numbers.tail.circuit)
+      (zips_joined IsRowLine t.numbers.next_rows.front t.numbers.output_rows.front (map (row output_form) t.numbers.nexts) (map (row output_form) t.numbers.outputs) t.numbers.next_rows.spelled t.numbers.output_rows.spelled)
+
+-- a text whose lines tell a circuit is its file
+told_is_accepted : (limit : ℕ) (text : List ℕ) (c : Circuit) → TellsBinary limit (lines_of text) c → IsBinaryText text limit c
+told_is_accepted limit text c t =
+    let ls : List Line = lines_of text in
+    let cut : ls ≡ front limit ls c t ++ t.numbers.last = lines limit ls c t in
+    let one : AllByRecursion IsOneLine (front limit ls c t ++ t.numbers.last) = subst (λ (ks : List Line). AllByRecursion IsOneLine ks) cut (pieces text).one_each in
+    let ended : EndInLineFeeds (front limit ls c t ++ t.numbers.last) = subst EndInLineFeeds cut (pieces text).ended in
+    record {
+      front = bytes_of (front limit ls c t);
+      gates = t.numbers.are_gates.spelling;
+      rest = t.numbers.rest;
+      header = t.first;
+      numbered = rows limit ls c t;
+      text_is =
+          sym (pieces text).joined ∙ ap bytes_of cut ∙ bytes_joined (front limit ls c t) t.numbers.last
+          ∙ ap (λ (bytes : List ℕ). bytes_of (front limit ls c t) ++ bytes) t.numbers.are_gates.are;
+      lines = lines_again (front limit ls c t) (left_of IsOneLine (front limit ls c t) t.numbers.last one) (first_ended (front limit ls c t) t.numbers.last ended);
+      cut = subst (EndsBefore (front limit ls c t)) t.numbers.are_gates.are (ended_before (front limit ls c t) t.numbers.last ended);
+      is_header = heads binary_word limit t.first t.header c t.heads (counts limit ls c t);
+      are_rows = rows_spelled limit ls c t;
+      are_gates = subst (λ (gs : List Gate). SpellsGates t.numbers.are_gates.spelling gs) (ap (λ (d : Circuit). d.gates) t.numbers.tail.circuit) t.numbers.are_gates.spelled;
+      is_tail = tail_holds t.header nothing_named (numbered limit ls c t) c (lines_of t.numbers.rest) t.numbers.tail refl;
+      limited = limited binary_word limit t.first t.header c t.heads (counts limit ls c t);
+      ordered = ordered limit ls c t;
+      well_formed = sound limit ls c t;
+    }
+
+-- what is read as a binary file is in binary order, and well formed
+pub read_is_ordered : (limit : ℕ) (ls : List Line) (c : Circuit) → binary_at limit ls ≡ Ok c → IsInBinaryOrder c
+read_is_ordered limit ls c is = ordered limit ls c (binary_told limit ls c is)
+
+pub read_is_well_formed : (limit : ℕ) (ls : List Line) (c : Circuit) → binary_at limit ls ≡ Ok c → IsWellFormed c
+read_is_well_formed limit ls c is = sound limit ls c (binary_told limit ls c is)
+
+-- a text that is read is the file of the circuit
+pub reading_is_accepted : (limit : ℕ) (text : List ℕ) (c : Circuit) → binary_reading limit text ≡ Ok c → IsBinaryText text limit c
+reading_is_accepted limit text c is = told_is_accepted limit text c (binary_told limit (lines_of text) c is)

@@ -1,0 +1,61 @@
+-- Numbers one after another: the variables that a circuit in binary order defines.
+use Rattle.std.proofs.Common.{◌≡◌, ◌+◌, ◌*◌, ◌/◌, ◌<◌, ◌≤◌, ℕ, zero, suc, List, [], ◌∷◌, ◌++◌, length, map, refl, sym, ap, ap₂, ◌∙◌, arith, inl, inr, ⊎_elim, add-one}
+use Rattle.std.specs.List.{AllByRecursion, range_with_len}
+use Rattle.std.proofs.lemmas.Bool.{cases_lt}
+use Rattle.aig_core.specs.declared.circuit.Gate.{Gate}
+use Rattle.aig_core.specs.declared.circuit.Circuit.{Circuit}
+use Rattle.aig_core.specs.Wellformed.{IsAmong, AreDistinct, IsKnown, defined_variables}
+use Rattle.aig_binary.specs.BinaryOrder.{AreOrderedGates, IsInBinaryOrder}
+
+-- numbers, and the next ones behind them
+ranges_joined : (a m n : ℕ) → range_with_len a m ++ range_with_len (a + m) n ≡ range_with_len a (m + n)
+ranges_joined a zero n = ap₂ range_with_len (omega arith) (omega arith)
+ranges_joined a (suc m) n =
+    let next : a + suc m ≡ a + 1 + m = omega arith in
+    let all : suc (m + n) ≡ suc m + n = omega arith in
+    ap (λ (k : ℕ). a ∷ (range_with_len (a + 1) m ++ range_with_len k n)) next
+    ∙ ap (λ (ns : List ℕ). a ∷ ns) (ranges_joined (a + 1) m n)
+    ∙ ap (range_with_len a) all
+
+-- what holds of each of them
+pub each_in_range : (P : ℕ → Type 0) (a n : ℕ) → ((x : ℕ) → a ≤ x → x < a + n → P x) → AllByRecursion P (range_with_len a n)
+each_in_range P a zero p = tt
+each_in_range P a (suc n) p = (p a (omega arith) (omega arith), each_in_range P (a + 1) n (λ x low high. p x (omega arith) (omega arith)))
+
+among : (x a n : ℕ) → a ≤ x → x < a + n → IsAmong x (range_with_len a n)
+among x a zero low high = absurd (omega arith)
+among x a (suc n) low high = elim (cases_lt a x) [
+  | inl above ↦ inr (among x (a + 1) n (omega arith) (omega arith))
+  | inr here ↦ inl (omega arith)
+]
+
+not_below : (x a n : ℕ) → IsAmong x (range_with_len a n) → a ≤ x
+not_below x a zero h = absurd h
+not_below x a (suc n) h = ⊎_elim (λ (e : x ≡ a). omega arith) (λ (i : IsAmong x (range_with_len (a + 1) n)). let low : a + 1 ≤ x = not_below x (a + 1) n i in omega arith) h
+
+pub distinct : (a n : ℕ) → AreDistinct (range_with_len a n)
+distinct a zero = tt
+distinct a (suc n) = (λ h. let low : a + 1 ≤ a = not_below a (a + 1) n h in omega arith, distinct (a + 1) n)
+
+-- each literal up to the largest is over one of all variables, or constant
+pub known : (m n : ℕ) → n ≤ 2 * m + 1 → IsKnown (range_with_len 1 m) n
+known m n h = elim (cases_lt 0 (n / 2)) [
+  | inl some ↦ inr (among (n / 2) 1 m (omega arith) (omega arith))
+  | inr none ↦ inl (omega arith)
+]
+
+gates_define : (variable : ℕ) (gs : List Gate) → AreOrderedGates variable gs → map (λ (g : Gate). g.var) gs ≡ range_with_len variable (length gs)
+gates_define variable [] o = refl
+gates_define variable (g ∷ gs) o =
+    ap₂ (λ (v : ℕ) (vs : List ℕ). v ∷ vs) o.0 (gates_define (suc variable) gs o.3 ∙ ap (λ (k : ℕ). range_with_len k (length gs)) (sym (add-one variable)))
+
+-- a circuit in binary order defines all variables
+pub variables_are : (c : Circuit) → IsInBinaryOrder c → defined_variables c ≡ range_with_len 1 c.max_var
+variables_are c o =
+    let i = length c.inputs in
+    let l = length c.latches in
+    let next : 1 + i + l ≡ 1 + (i + l) = omega arith in
+    ap₂ (λ (xs ys : List ℕ). xs ++ ys) (ap₂ (λ (xs ys : List ℕ). xs ++ ys) o.inputs o.latches ∙ ranges_joined 1 i l)
+    (gates_define (1 + i + l) c.gates o.gates ∙ ap (λ (k : ℕ). range_with_len k (length c.gates)) next)
+    ∙ ranges_joined 1 (i + l) (length c.gates)
+    ∙ ap (range_with_len 1) (sym o.all)
