@@ -9,3 +9,4 @@ mod reader;
 
 pub use crate::delta::{Delta, get_delta, put_delta};
 pub use crate::ordered::Ordered;
+pub use crate::reader::read_binary;

@@ -1,14 +1,17 @@
 //! The reader of binary files.
-ghost use Rattle.std.specs.Prelude.{◌≡◌, ◌+◌, ◌^◌, ◌<◌, ◌≤◌, IfOk, IfErr, map, length};
+ghost use Rattle.std.specs.Prelude.{◌≡◌, ◌+◌, ◌^◌, ◌<◌, ◌≤◌, IfOk, IfErr, MatchResult, map, length};
 ghost use Rattle.std.specs.List.{range_with_len};
 ghost use Rattle.aig_text.specs.Lines.{lines_of};
 ghost use Rattle.aig_text.specs.Rows.{output_row};
 ghost use Rattle.aig_text.specs.Outcomes.{GivesOrMemory};
-ghost use Rattle.aig_text.specs.Reading.{at_line, want_of_memory};
-ghost use Rattle.aig_binary.specs.BinaryReading.{filled, latches_from, numbered_circuit, binary_at};
+ghost use Rattle.aig_core.specs.declared.circuit.Circuit.{Circuit as CircuitRecord};
+ghost use Rattle.aig_text.specs.Reading.{IsFirstFault, at_line, want_of_memory};
+ghost use Rattle.aig_binary.specs.BinaryOrder.{IsInBinaryOrder};
+ghost use Rattle.aig_binary.specs.BinaryGrammar.{IsBinaryText};
+ghost use Rattle.aig_binary.specs.BinaryReading.{filled, latches_from, numbered_circuit, binary_at, first_binary_fault};
 
 use crate::gates::read_gates;
-use aig_core::{Circuit, Gate, Latch, Listing, Lit, Var};
+use aig_core::{Checked, Circuit, Gate, Latch, Listing, Lit, Var};
 use aig_text::{Cursor, Header, Limits, Place, ReadFault, ReadKind, header, literals, tail};
 use std::alloc::Global;
 
@@ -102,4 +105,18 @@ fn read_circuit(alloc: Global, bytes: &[u8], limits: Limits) -> Result<Circuit, 
     // The inputs that a header promises take memory only where all that is due of lines and gates was there.
     let circuit = numbered_circuit(alloc, header, &nexts, outputs, gates)?;
     tail(alloc, &header, circuit, Cursor::at_line(at.number, rest))
+}
+
+/// The circuit whose file a text is, within these limits, or the first fault of the text. Where memory is refused, that
+/// is told in place of either.
+pub fn read_binary(alloc: Global, bytes: &[u8], limits: Limits) -> Result<Checked, ReadFault>
+    ensures ok { IfOk result (λ c. IsBinaryText bytes.now limits.max_var c) }
+    ensures ordered { IfOk result (λ c. IsInBinaryOrder c) }
+    ensures only { (c : CircuitRecord) → IsBinaryText bytes.now limits.max_var c
+        → MatchResult result (λ d. d ≡ c) (λ e. e ≡ want_of_memory) }
+    ensures fault { IfErr result (λ e. IsFirstFault e (first_binary_fault limits.max_var bytes.now)) }
+{
+    // What is read of a binary file is well formed already: its gates are in order, and define all that is used.
+    let circuit = read_circuit(alloc, bytes, limits)?;
+    Ok(Checked::from_well_formed(circuit))
 }
