@@ -1,5 +1,5 @@
 -- Reading gates one after another.
-use Rattle.std.proofs.Common.{◌≡◌, ◌+◌, ◌-◌, ◌<◌, ◌≤◌, ℕ, zero, suc, List, [], ◌∷◌, ◌++◌, Result, Ok, Err, refl, sym, ap, ◌∙◌, append_assoc, append-nil, arith}
+use Rattle.std.proofs.Common.{◌≡◌, ◌+◌, ◌-◌, ◌<◌, ◌≤◌, ℕ, suc, List, [], ◌∷◌, ◌++◌, Result, Ok, Err, refl, sym, ap, ◌∙◌, append_assoc, append-nil, arith}
 use Rattle.aig_core.specs.declared.circuit.Gate.{Gate}
 use Rattle.aig_text.specs.declared.fault.Place.TheVariants as places
 use Rattle.aig_text.specs.declared.fault.ReadKind.{ReadKind}

@@ -2,14 +2,13 @@
 use Rattle.std.proofs.lemmas.List.{length-map}
 use Rattle.std.proofs.Common.{◌≡◌, ◌+◌, ℕ, zero, suc, List, [], ◌∷◌, map, length, Ok, Err, refl, sym, ap, ◌∙◌, ◌⊎◌, inl, inr}
 use Rattle.aig_core.specs.declared.circuit.Gate.{Gate}
-use Rattle.aig_core.specs.declared.circuit.Circuit.{Circuit}
 use Rattle.aig_core.specs.Names.{nothing_named}
 use Rattle.aig_text.specs.declared.fault.ReadFault.{ReadFault}
-use Rattle.aig_text.specs.Lines.{Line, lines_of, bytes_of}
+use Rattle.aig_text.specs.Lines.{Line, lines_of}
 use Rattle.aig_text.specs.declared.header_line.Header.{Header}
 use Rattle.aig_text.specs.Rows.{Form, output_form, output_of}
 use Rattle.aig_text.specs.Outcomes.{rows_told}
-use Rattle.aig_text.specs.Reading.{◌>>=◌, Told, at_line, header_at, row_at, rows_at, tail_at, want_of_memory}
+use Rattle.aig_text.specs.Reading.{Told, at_line, header_at, row_at, rows_at, tail_at, want_of_memory}
 use Rattle.aig_text.proofs.Loops.Cutting.{pieces}
 use Rattle.aig_text.proofs.Steps.{both_ok}
 use Rattle.aig_binary.specs.BinaryGrammar.{binary_word}
