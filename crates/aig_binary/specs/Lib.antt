@@ -5,3 +5,4 @@ pub mod BinaryText
 pub mod BinaryReading
 pub mod Laws
 pub mod FileLaws
+pub mod Parts

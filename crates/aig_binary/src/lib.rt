@@ -2,6 +2,11 @@
 #![tactic(auto)]
 
 mod delta;
+mod gates;
 pub mod laws;
+mod ordered;
+mod reader;
 
 pub use crate::delta::{Delta, get_delta, put_delta};
+pub use crate::ordered::Ordered;
+pub use crate::reader::read_binary;

@@ -13,7 +13,7 @@ use std::marker::Model;
 
 mod faults;
 
-/// A circuit that is well formed. Only `check` makes one.
+/// A circuit that is well formed. `check` makes one of any circuit that is, `from_well_formed` of one that is known to be.
 #[derive(Drop)]
 pub struct Checked {
     circuit: Circuit,
@@ -31,6 +31,14 @@ impl Model for Checked {
 }
 
 impl Checked {
+    /// A circuit that its maker knows to be well formed: nothing is checked again, and no memory is taken.
+    pub fn from_well_formed(circuit: Circuit) -> Checked
+        requires { IsWellFormed circuit }
+        ensures { result ≡ circuit }
+    {
+        Checked { circuit }
+    }
+
     /// The circuit.
     pub fn circuit(&self) -> &Circuit
         ensures value { result.now ≡ self.now }

@@ -3,6 +3,8 @@
 #![tactic(auto)]
 
 #[cfg(test)]
+mod binaries;
+#[cfg(test)]
 mod calls;
 #[cfg(test)]
 mod deltas;

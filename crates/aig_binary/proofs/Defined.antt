@@ -1,0 +1,53 @@
+-- The definitions that a binary file does not spell: its inputs and its latches, by their places.
+use Rattle.std.proofs.Common.{◌≡◌, ◌+◌, ◌<◌, ℕ, zero, suc, List, [], ◌∷◌, ◌++◌, map, take, length, get_or, refl, ap, ◌∙◌, arith, add-one}
+use Rattle.std.specs.List.{range_with_len}
+use Rattle.std.proofs.lemmas.List.{take_more, length-take-le}
+use Rattle.aig_core.specs.declared.circuit.Latch.{Latch}
+use Rattle.aig_core.specs.declared.circuit.Gate.{Gate}
+use Rattle.aig_text.specs.declared.header_line.Header.{Header}
+use Rattle.aig_text.specs.Rows.{output_row, output_of}
+use Rattle.aig_binary.specs.BinaryReading.{latches_from, numbered_circuit}
+
+range_last : (a n : ℕ) → range_with_len a (suc n) ≡ range_with_len a n ++ (a + n) ∷ []
+range_last a zero = let e : a + 0 ≡ a = omega arith in rw e refl
+range_last a (suc n) =
+    let one : a + 1 + n ≡ a + suc n = omega arith in
+    ap (λ (ns : List ℕ). a ∷ ns) (rw one at (range_last (a + 1) n))
+
+pub range_more : (a n : ℕ) → range_with_len a (n + 1) ≡ range_with_len a n ++ (a + n) ∷ []
+range_more a n = ap (range_with_len a) (add-one n) ∙ range_last a n
+
+abbrev pub latch : ℕ → ℕ → Latch
+latch variable next = record { var = variable; next = next }
+
+pub no_latches : (v : ℕ) → latches_from v [] ≡ []
+unfolding latches_from
+no_latches v = refl
+
+latches_behind : (v x : ℕ) (xs : List ℕ) → latches_from v (map output_row (xs ++ x ∷ [])) ≡ latches_from v (map output_row xs) ++ latch (v + length xs) x ∷ []
+unfolding latches_from
+latches_behind v x [] = let e : v + 0 ≡ v = omega arith in rw e refl
+latches_behind v x (y ∷ xs) =
+    let place : suc v + length xs ≡ v + length (y ∷ xs) = omega arith in
+    ap (λ (ls : List Latch). latch v y ∷ ls) (rw place at (latches_behind (suc v) x xs))
+
+pub latches_more : (v i d : ℕ) (xs : List ℕ) → i < length xs
+    → latches_from v (map output_row (take (i + 1) xs)) ≡ latches_from v (map output_row (take i xs)) ++ latch (v + i) (get_or xs i d) ∷ []
+latches_more v i d xs h =
+    let long : length (take i xs) ≡ i = length-take-le i xs (omega arith) in
+    ap (λ (ys : List ℕ). latches_from v (map output_row ys)) (take_more xs i d h)
+    ∙ rw long at (latches_behind v (get_or xs i d) (take i xs))
+
+-- the literal of a row, as a row, tells the same latches
+pub latches_of_rows : (v : ℕ) (rows : List (List ℕ)) → latches_from v (map output_row (map output_of rows)) ≡ latches_from v rows
+unfolding latches_from
+latches_of_rows v [] = refl
+latches_of_rows v (r ∷ rows) = ap (λ (ls : List Latch). latch v (output_of r) ∷ ls) (latches_of_rows (suc v) rows)
+
+pub literals_of_rows : (ns : List ℕ) → map output_of (map output_row ns) ≡ ns
+literals_of_rows [] = refl
+literals_of_rows (n ∷ ns) = ap (λ (ms : List ℕ). n ∷ ms) (literals_of_rows ns)
+
+pub circuit_of_rows : (h : Header) (nexts outputs : List (List ℕ)) (gates : List Gate)
+    → numbered_circuit h (map output_row (map output_of nexts)) (map output_row (map output_of outputs)) gates ≡ numbered_circuit h nexts outputs gates
+circuit_of_rows h nexts outputs gates = rw (latches_of_rows (1 + h.inputs) nexts, literals_of_rows (map output_of outputs)) refl

@@ -1,0 +1,126 @@
+//! Circuits in binary order, and the test that tells them from the others.
+ghost use Rattle.std.specs.Prelude.{◌≡◌, ◌↔◌, ◌+◌, ◌^◌, ◌<◌, ◌≤◌, ℕ, length, IsTrue, IsOk, IfOk, IfErr};
+ghost use Rattle.aig_core.specs.Wellformed.{IsWithinLimits};
+ghost use Rattle.aig_binary.specs.BinaryOrder.{IsInBinaryOrder};
+ghost use Rattle.aig_binary.specs.Parts.Numbered.{AreNumbered, AreSectionsInOrder, IsGateOf, IsInputOf, IsLatchOf};
+
+use aig_core::{Checked, Circuit, Gate, Latch, Var};
+use std::marker::Model;
+
+/// A circuit that is well formed and in binary order. Only `try_from_checked` makes one.
+#[derive(Drop)]
+pub struct Ordered {
+    checked: Checked,
+}
+
+impl Model for Ordered {
+    ghost use Rattle.aig_core.specs.declared.circuit.Circuit.{Circuit as CircuitRecord};
+    ghost use Rattle.aig_core.specs.Wellformed.{IsWellFormed as IsGood};
+    ghost use Rattle.aig_binary.specs.BinaryOrder.{IsInBinaryOrder as IsInOrder};
+
+    ghost Value = { CircuitRecord };
+
+    ghost view = { λ o. o.checked };
+
+    ghost invariant = { λ o. IsGood o.checked × IsInOrder o.checked };
+}
+
+/// What stands in a section whose variables are numbered on and on.
+trait Numbered {
+    /// Whether it is right for this variable.
+    ghost is_right: { ℕ → Self → Type 0 };
+
+    /// Whether it is right for this variable.
+    fn is_right_for(&self, variable: u64) -> bool
+        ensures { IsTrue result ↔ is_right variable self.now };
+}
+
+impl Numbered for Var {
+    ghost is_right = { IsInputOf };
+
+    #[inline(always)]
+    fn is_right_for(&self, variable: u64) -> bool {
+        u64::from(self.0) == variable
+    }
+}
+
+impl Numbered for Latch {
+    ghost is_right = { IsLatchOf };
+
+    #[inline(always)]
+    fn is_right_for(&self, variable: u64) -> bool {
+        u64::from(self.var.0) == variable
+    }
+}
+
+/// A gate is also over lower literals, with the larger operand first.
+impl Numbered for Gate {
+    ghost is_right = { IsGateOf };
+
+    #[inline(always)]
+    fn is_right_for(&self, variable: u64) -> bool {
+        u64::from(self.var.0) == variable
+            && u64::from(self.left.0) < 2 * variable
+            && self.right.0 <= self.left.0
+    }
+}
+
+/// Whether the entries of a section are numbered on from this variable.
+fn are_in_order<T: Numbered>(first: u64, items: &[T]) -> bool
+    requires { first + length items.now < 2 ^ 64 }
+    ensures { IsTrue result ↔ AreNumbered T.is_right first items.now }
+{
+    let mut variable = first;
+    for item in items {
+        if !item.is_right_for(variable) {
+            return false;
+        }
+        variable += 1;
+    }
+    true
+}
+
+/// Whether a circuit is in binary order.
+fn is_in_binary_order(circuit: &Circuit) -> bool
+    requires { IsWithinLimits circuit.now }
+    ensures { IsTrue result ↔ AreSectionsInOrder circuit.now }
+{
+    let first_latch = 1 + circuit.inputs.len() as u64;
+    let first_gate = first_latch + circuit.latches.len() as u64;
+    u64::from(circuit.max_var) + 1 == first_gate + circuit.gates.len() as u64
+        && are_in_order(1, circuit.inputs.as_slice())
+        && are_in_order(first_latch, circuit.latches.as_slice())
+        && are_in_order(first_gate, circuit.gates.as_slice())
+}
+
+impl Ordered {
+    /// The circuit as one in binary order, or else as it came. It is gone over once, and no memory is taken.
+    #[tactic(auto, using(crate::proofs::InOrder::by_sections, crate::proofs::InOrder::all_sections))]
+    pub fn try_from_checked(checked: Checked) -> Result<Ordered, Checked>
+        ensures ordered { IsOk result ↔ IsInBinaryOrder checked }
+        ensures ok { IfOk result (λ ordered. ordered ≡ checked) }
+        ensures handed_back { IfErr result (λ same. same ≡ checked) }
+    {
+        if is_in_binary_order(checked.circuit()) {
+            Ok(Ordered { checked })
+        } else {
+            Err(checked)
+        }
+    }
+
+    /// The circuit.
+    pub fn checked(&self) -> &Checked
+        ensures value { result.now ≡ self.now }
+        ensures ordered { IsInBinaryOrder self.now }
+    {
+        &self.checked
+    }
+
+    /// The circuit, of which the type no longer says that it is in binary order.
+    pub fn into_checked(self) -> Checked
+        ensures value { result ≡ self }
+        ensures ordered { IsInBinaryOrder self }
+    {
+        self.checked
+    }
+}

@@ -1,0 +1,122 @@
+//! The reader of binary files.
+ghost use Rattle.std.specs.Prelude.{◌≡◌, ◌+◌, ◌^◌, ◌<◌, ◌≤◌, IfOk, IfErr, MatchResult, map, length};
+ghost use Rattle.std.specs.List.{range_with_len};
+ghost use Rattle.aig_text.specs.Lines.{lines_of};
+ghost use Rattle.aig_text.specs.Rows.{output_row};
+ghost use Rattle.aig_text.specs.Outcomes.{GivesOrMemory};
+ghost use Rattle.aig_core.specs.declared.circuit.Circuit.{Circuit as CircuitRecord};
+ghost use Rattle.aig_text.specs.Reading.{IsFirstFault, at_line, want_of_memory};
+ghost use Rattle.aig_binary.specs.BinaryOrder.{IsInBinaryOrder};
+ghost use Rattle.aig_binary.specs.BinaryGrammar.{IsBinaryText};
+ghost use Rattle.aig_binary.specs.BinaryReading.{filled, latches_from, numbered_circuit, binary_at, first_binary_fault};
+
+use crate::gates::read_gates;
+use aig_core::{Checked, Circuit, Gate, Latch, Listing, Lit, Var};
+use aig_text::{Cursor, Header, Limits, Place, ReadFault, ReadKind, header, literals, tail};
+use std::alloc::Global;
+
+/// The first word of a binary file.
+pub(crate) const BINARY_WORD: &[u8] = b"aig";
+
+/// The header, where its definitions are all the variables.
+fn filled(header: Header) -> Result<Header, ReadFault>
+    ensures value { result ≡ at_line 1 (filled header) }
+    ensures same { IfOk result (λ h. h ≡ header) }
+    ensures all { IfOk result (λ h. h.inputs + h.latches + h.gates ≡ header.max_var) }
+{
+    let all = u64::from(header.inputs) + u64::from(header.latches) + u64::from(header.gates);
+    if u64::from(header.max_var) == all {
+        return Ok(header);
+    }
+    Err(ReadFault {
+        place: Place::Line(1),
+        kind: ReadKind::BadHeader,
+    })
+}
+
+/// So many inputs, of the first variables.
+fn inputs(alloc: Global, count: u32) -> Result<Listing<Var>, ReadFault>
+    requires { count < 2 ^ 31 }
+    ensures ok { IfOk result (λ found. found ≡ range_with_len 1 count) }
+    ensures err { IfErr result (λ e. e ≡ want_of_memory) }
+{
+    let mut found = Listing::from_vec(Vec::with_capacity(alloc, count as usize)?);
+    for at in 0..count {
+        found.push(Var(at + 1))?;
+    }
+    Ok(found)
+}
+
+/// The latches of this variable and the next ones, which become these literals.
+fn latches(alloc: Global, variable: u32, nexts: &Listing<Lit>) -> Result<Listing<Latch>, ReadFault>
+    requires { variable + length nexts.now < 2 ^ 32 }
+    ensures ok { IfOk result (λ found. found ≡ latches_from variable (map output_row nexts.now)) }
+    ensures err { IfErr result (λ e. e ≡ want_of_memory) }
+{
+    let mut found = Listing::from_vec(Vec::with_capacity(alloc, nexts.len())?);
+    let mut var = variable;
+    for next in nexts.as_slice() {
+        found.push(Latch {
+            var: Var(var),
+            next: *next,
+        })?;
+        var += 1;
+    }
+    Ok(found)
+}
+
+/// The circuit that has no tail.
+fn numbered_circuit(
+    alloc: Global,
+    header: Header,
+    nexts: &Listing<Lit>,
+    outputs: Listing<Lit>,
+    gates: Listing<Gate>,
+) -> Result<Circuit, ReadFault>
+    requires inputs { header.inputs < 2 ^ 31 }
+    requires nexts { 1 + header.inputs + length nexts.now < 2 ^ 32 }
+    ensures ok { IfOk result (λ c. c ≡ numbered_circuit header (map output_row nexts.now) (map output_row outputs) gates) }
+    ensures err { IfErr result (λ e. e ≡ want_of_memory) }
+{
+    let inputs = inputs(alloc, header.inputs)?;
+    let latches = latches(alloc, 1 + header.inputs, nexts)?;
+    Ok(Circuit {
+        max_var: header.max_var,
+        inputs,
+        latches,
+        outputs,
+        gates,
+        symbols: Listing::new(alloc),
+        comment: None,
+    })
+}
+
+/// The circuit that the lines and the gates of a text tell. Whether it is well formed is not looked at here.
+fn read_circuit(alloc: Global, bytes: &[u8], limits: Limits) -> Result<Circuit, ReadFault>
+    ensures { GivesOrMemory (λ c. c) result (binary_at limits.max_var (lines_of bytes.now)) }
+{
+    let mut at = Cursor::new(bytes);
+    let promised = header(BINARY_WORD, &mut at, limits)?;
+    let header = filled(promised)?;
+    let nexts = literals(alloc, header.latches, &mut at, header.max_var)?;
+    let outputs = literals(alloc, header.outputs, &mut at, header.max_var)?;
+    let first = 1 + header.inputs + header.latches;
+    let (gates, rest) = read_gates(alloc, first, header.gates, at.rest)?;
+    // The inputs that a header promises take memory only where all that is due of lines and gates was there.
+    let circuit = numbered_circuit(alloc, header, &nexts, outputs, gates)?;
+    tail(alloc, &header, circuit, Cursor::at_line(at.number, rest))
+}
+
+/// The circuit whose file a text is, within these limits, or the first fault of the text. Where memory is refused, that
+/// is told in place of either.
+pub fn read_binary(alloc: Global, bytes: &[u8], limits: Limits) -> Result<Checked, ReadFault>
+    ensures ok { IfOk result (λ c. IsBinaryText bytes.now limits.max_var c) }
+    ensures ordered { IfOk result (λ c. IsInBinaryOrder c) }
+    ensures only { (c : CircuitRecord) → IsBinaryText bytes.now limits.max_var c
+        → MatchResult result (λ d. d ≡ c) (λ e. e ≡ want_of_memory) }
+    ensures fault { IfErr result (λ e. IsFirstFault e (first_binary_fault limits.max_var bytes.now)) }
+{
+    // What is read of a binary file is well formed already: its gates are in order, and define all that is used.
+    let circuit = read_circuit(alloc, bytes, limits)?;
+    Ok(Checked::from_well_formed(circuit))
+}
