@@ -3,3 +3,4 @@ pub mod Shortest
 pub mod Reading
 pub mod Going
 pub mod InOrder
+pub mod Written
