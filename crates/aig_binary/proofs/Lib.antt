@@ -4,3 +4,4 @@ pub mod Reading
 pub mod Going
 pub mod InOrder
 pub mod Written
+pub mod Canonical

@@ -53,8 +53,11 @@ deltas_from n (g ∷ gs) h top =
     (record { small = omega arith; first = h.1; second = h.2 }, deltas_from (suc n) gs h.3 (omega arith))
 
 -- in binary order each gate has its deltas
-pub has_deltas : (c : Circuit) → IsWithinLimits c → IsInBinaryOrder c → All HasDeltas c.gates
-has_deltas c limits ordered =
+pub gates_have_deltas : (c : Circuit) → IsWithinLimits c → IsInBinaryOrder c → AllByRecursion HasDeltas c.gates
+gates_have_deltas c limits ordered =
     let top : c.max_var ≤ LARGEST = limits.max_var in
     let all = ordered.all in
-    All-from_recursion HasDeltas c.gates (deltas_from (1 + length c.inputs + length c.latches) c.gates ordered.gates (omega arith))
+    deltas_from (1 + length c.inputs + length c.latches) c.gates ordered.gates (omega arith)
+
+pub has_deltas : (c : Circuit) → IsWithinLimits c → IsInBinaryOrder c → All HasDeltas c.gates
+has_deltas c limits ordered = All-from_recursion HasDeltas c.gates (gates_have_deltas c limits ordered)

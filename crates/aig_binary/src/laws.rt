@@ -1,5 +1,6 @@
 //! Laws: facts about the definitions alone, each the contract of a function with an empty body.
 ghost use Rattle.aig_binary.specs.Laws.{ShortestIsDelta, ShortestIsOne, DeltasAreUnambiguous, ReadExactly};
+ghost use Rattle.aig_binary.specs.FileLaws.{CanonicalBinaryIsAccepted};
 
 /// The shortest spelling of a number below 2^32 is one of its spellings, and none could be shorter.
 pub fn shortest_is_delta()
@@ -19,4 +20,9 @@ pub fn deltas_are_unambiguous()
 /// What is read at the front of bytes is exactly the number that is spelled there.
 pub fn read_exactly()
     ensures { ReadExactly }
+{}
+
+/// The canonical binary text of a well-formed circuit in binary order is its file.
+pub fn canonical_binary_is_accepted()
+    ensures { CanonicalBinaryIsAccepted }
 {}
