@@ -7,3 +7,5 @@ pub mod Defined
 pub mod Stages
 pub mod InOrder
 pub mod Grammar
+pub mod Written
+pub mod Canonical

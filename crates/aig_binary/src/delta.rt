@@ -1,13 +1,15 @@
 //! Deltas: the numbers of gates in a binary file, in groups of seven bits, the lowest group first.
-ghost use Rattle.std.specs.Prelude.{◌≡◌, ◌^◌, ◌<◌, ◌≤◌, ◌↔◌, ℕ, length, drop, None, Some, IfSome};
+ghost use Rattle.std.specs.Prelude.{◌≡◌, ◌+◌, ◌++◌, ◌^◌, ◌<◌, ◌≤◌, ◌↔◌, ℕ, length, drop, None, Some, IfSome};
+ghost use Rattle.aig_core.specs.declared.block.TheConstants.{ROOM};
 ghost use Rattle.aig_text.specs.Outcomes.{Gives};
 ghost use Rattle.aig_binary.specs.Delta.{BeginsWithDelta, delta_at, shortest_delta};
 ghost use Rattle.aig_binary.specs.declared.delta.TheConstants.{LONGEST};
 
+use aig_core::Block;
 use std::marker::Model;
 
 /// How many bytes spell a number at most.
-const LONGEST: usize = 5;
+pub(crate) const LONGEST: usize = 5;
 
 /// The bytes that spell a number, one to five.
 #[derive(Drop)]
@@ -36,6 +38,15 @@ impl Delta {
         ensures short { length self.now ≤ 5 }
     {
         &self.bytes[..self.len]
+    }
+
+    /// Adds the bytes to a block that has room for the longest spelling.
+    #[inline(always)]
+    pub(crate) fn fill(&self, block: &mut Block)
+        requires { length block.old.bytes + LONGEST ≤ ROOM }
+        ensures { block.new ≡ record block.old { bytes = block.old.bytes ++ self.now } }
+    {
+        block.fill_first(&self.bytes, self.len);
     }
 }
 

@@ -1,6 +1,7 @@
 //! Laws: facts about the definitions alone, each the contract of a function with an empty body.
 ghost use Rattle.aig_binary.specs.Laws.{ShortestIsDelta, ShortestIsOne, DeltasAreUnambiguous, ReadExactly};
 ghost use Rattle.aig_binary.specs.FileLaws.{BinaryReadExactly, BinaryFaultyOrAccepted, BinaryTextsAreUnambiguous};
+ghost use Rattle.aig_binary.specs.FileLaws.{CanonicalBinaryIsAccepted};
 
 /// The shortest spelling of a number below 2^32 is one of its spellings, and none could be shorter.
 pub fn shortest_is_delta()
@@ -35,4 +36,9 @@ pub fn binary_faulty_or_accepted()
 /// A text is the binary file of one circuit at most.
 pub fn binary_texts_are_unambiguous()
     ensures { BinaryTextsAreUnambiguous }
+{}
+
+/// The canonical binary text of a well-formed circuit in binary order is its file.
+pub fn canonical_binary_is_accepted()
+    ensures { CanonicalBinaryIsAccepted }
 {}

@@ -6,7 +6,9 @@ mod gates;
 pub mod laws;
 mod ordered;
 mod reader;
+mod writer;
 
 pub use crate::delta::{Delta, get_delta, put_delta};
 pub use crate::ordered::Ordered;
-pub use crate::reader::read_binary;
+pub use crate::reader::{BINARY_WORD, read_binary};
+pub use crate::writer::write_binary;

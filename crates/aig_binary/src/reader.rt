@@ -16,7 +16,7 @@ use aig_text::{Cursor, Header, Limits, Place, ReadFault, ReadKind, header, liter
 use std::alloc::Global;
 
 /// The first word of a binary file.
-pub(crate) const BINARY_WORD: &[u8] = b"aig";
+pub const BINARY_WORD: &[u8] = b"aig";
 
 /// The header, where its definitions are all the variables.
 fn filled(header: Header) -> Result<Header, ReadFault>

@@ -265,8 +265,8 @@ fn put_sections<W: Sink>(block: &mut Block, sink: &mut W, circuit: &Circuit)
     put_lines(block, sink, circuit.gates.as_slice());
 }
 
-/// The numbers of the header.
-fn header_numbers(circuit: &Circuit) -> [u64; 5]
+/// The numbers of the header: the largest index, and the counts.
+pub fn header_numbers(circuit: &Circuit) -> [u64; 5]
     ensures { result ≡ header_row circuit.now }
 {
     [

@@ -13,6 +13,7 @@ use Rattle.aig_text.proofs.Steps.{both_ok, ok_at_line, ok_same, let_through}
 use Rattle.aig_text.proofs.Grammar.Text.{accepted_is_read, reading_is_accepted}
 use Rattle.aig_binary.specs.BinaryGrammar.{binary_word, IsBinaryText}
 use Rattle.aig_binary.specs.BinaryReading.{binary_at, binary_reading}
+use Rattle.aig_binary.proofs.Grammar.Read.{accepted_is_read as binary_accepted}
 use Rattle.aig_tools.specs.File.{IsFileOf, file_reading}
 
 -- a header that is read begins with its word
@@ -30,16 +31,10 @@ ascii_begins text limit c is =
     let head = both_ok (header_at ascii_word limit 1 (lines_of text)) _ whole.0 whole.1 in
     header_begins ascii_word limit 1 (lines_of text) head.0 head.1
 
-pub binary_accepted : (limit : ℕ) (text : List ℕ) (c : Circuit) → IsBinaryText text limit c → binary_reading limit text ≡ Ok c
-binary_accepted limit text c is = ?
-
-pub binary_is_accepted : (limit : ℕ) (text : List ℕ) (c : Circuit) → binary_reading limit text ≡ Ok c → IsBinaryText text limit c
-binary_is_accepted limit text c is = ?
-
 binary_begins : (text : List ℕ) (limit : ℕ) (c : Circuit) → IsBinaryText text limit c → first_word_is binary_word (lines_of text) ≡ true
 unfolding binary_at
 binary_begins text limit c is =
-    let head = both_ok (header_at binary_word limit 1 (lines_of text)) _ c (binary_accepted limit text c is) in
+    let head = both_ok (header_at binary_word limit 1 (lines_of text)) _ c (binary_accepted text limit c is) in
     header_begins binary_word limit 1 (lines_of text) head.0 head.1
 
 -- one word
@@ -61,7 +56,7 @@ no_binary_file text limit c first is = true≢false (sym (binary_begins text lim
 -- a text is the file of one circuit at most
 pub one_circuit : (text : List ℕ) (limit : ℕ) (c d : Circuit) → IsFileOf text limit c → IsFileOf text limit d → c ≡ d
 one_circuit text limit c d (inl a) (inl b) = ok_same {E = ReadFault} c d (sym (accepted_is_read limit text c a) ∙ accepted_is_read limit text d b)
-one_circuit text limit c d (inr a) (inr b) = ok_same {E = ReadFault} c d (sym (binary_accepted limit text c a) ∙ binary_accepted limit text d b)
+one_circuit text limit c d (inr a) (inr b) = ok_same {E = ReadFault} c d (sym (binary_accepted text limit c a) ∙ binary_accepted text limit d b)
 one_circuit text limit c d (inl a) (inr b) = absurd (words_apart (lines_of text) (ascii_begins text limit c a) (binary_begins text limit d b))
 one_circuit text limit c d (inr a) (inl b) = absurd (words_apart (lines_of text) (ascii_begins text limit d b) (binary_begins text limit c a))
 
@@ -72,4 +67,4 @@ file_is_read limit text c (inl a) =
       | true ↦ λ e. absurd (no_ascii_file text limit c e a)
       | false ↦ λ e. accepted_is_read limit text c a
     ] refl
-file_is_read limit text c (inr a) = rw (binary_begins text limit c a) (binary_accepted limit text c a)
+file_is_read limit text c (inr a) = rw (binary_begins text limit c a) (binary_accepted text limit c a)

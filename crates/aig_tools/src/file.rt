@@ -4,7 +4,7 @@ ghost use Rattle.aig_core.specs.declared.circuit.Circuit.{Circuit as CircuitReco
 ghost use Rattle.aig_text.specs.Reading.{IsFirstFault, want_of_memory};
 ghost use Rattle.aig_tools.specs.File.{IsFileOf, first_fault};
 
-use crate::stub::{BINARY_WORD, read_binary};
+use aig_binary::{BINARY_WORD, read_binary};
 use aig_core::Checked;
 use aig_text::{Limits, ReadFault, first_word_is, read_ascii};
 use std::alloc::Global;

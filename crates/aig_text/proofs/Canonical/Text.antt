@@ -11,7 +11,7 @@ use Rattle.aig_text.specs.declared.section.Section.TheVariants.{Inputs, Latches,
 use Rattle.aig_text.specs.Lines.{Line, line, lines_of}
 use Rattle.aig_text.specs.AsciiGrammar.{IsAsciiText}
 use Rattle.aig_text.specs.AsciiText.{ascii_text, line_text, tail_text, symbol_text, comment_text}
-use Rattle.aig_text.specs.Tail.{kind_letter, IsSymbolLine, IsComment}
+use Rattle.aig_text.specs.Tail.{kind_letter, IsSymbolLine, IsComment, AreTailLines}
 use Rattle.aig_text.specs.Parts.Plain.{HasNoLineFeed}
 use Rattle.aig_core.specs.declared.circuit.Kind.{Kind}
 use Rattle.aig_core.specs.declared.circuit.Kind.TheVariants.{Input, Latch, Output}
@@ -52,7 +52,7 @@ sections_full c form (s ∷ ss) =
     (all_mapped (IsGoodRow (form_of s) c.max_var) IsFullRow (row (form_of s)) (full_row c.max_var form.limits.max_var s) (rows_in c s) (rows_good c form s))
     (sections_full c form ss)
 
-header_is_small : (c : Circuit) → IsWithinLimits c → AreSmall (header_row c)
+pub header_is_small : (c : Circuit) → IsWithinLimits c → AreSmall (header_row c)
 header_is_small c limits =
     let max_var : c.max_var ≤ LARGEST = limits.max_var in
     let inputs : length c.inputs ≤ LARGEST = limits.inputs in
@@ -128,32 +128,38 @@ all_told c limits (s ∷ ss) p l =
     let low : s.position < count_of c s.kind = p.0 in
     ((omega arith, l.0), all_told c limits ss p.1 l.1)
 
-canonical_lines : (c : Circuit) → IsInForm c → lines_of (ascii_text c) ≡ header_line ascii_word (header_row c) ∷ (row_lines (rows_of c) ++ (symbol_lines c.symbols ++ comment_lines c.comment))
+-- the lines of the canonical tail
+tail_lines : (c : Circuit) → IsInForm c → lines_of (tail_text c) ≡ symbol_lines c.symbols ++ comment_lines c.comment
+tail_lines c form =
+    symbols_are_first c.symbols (comment_text c.comment) (all_told c form.limits c.symbols form.symbols.positions form.symbols.lines)
+    ∙ ap (λ (ls : List Line). symbol_lines c.symbols ++ ls) (comment_is_first c.comment)
+
+pub tail_is_good : (c : Circuit) → IsInForm c → AreTailLines (lines_of (tail_text c)) c
+tail_is_good c form = record {
+  named = symbol_lines c.symbols;
+  rest = comment_lines c.comment;
+  are = tail_lines c form;
+  symbols = symbols_are_good c.symbols (all_told c form.limits c.symbols form.symbols.positions form.symbols.lines);
+  comment = comment_is_good c.comment;
+}
+
+canonical_lines : (c : Circuit) → IsInForm c → lines_of (ascii_text c) ≡ header_line ascii_word (header_row c) ∷ (row_lines (rows_of c) ++ lines_of (tail_text c))
 unfolding ascii_text
 canonical_lines c form =
     header_is_first ascii_word (header_row c) (flat_map line_text (rows_of c) ++ tail_text c) (refl, (refl, (refl, tt))) (header_is_small c form.limits)
     ∙ ap (λ (ls : List Line). header_line ascii_word (header_row c) ∷ ls)
-    (rows_are_first (rows_of c) (tail_text c) (sections_full c form sections)
-    ∙ ap (λ (ls : List Line). row_lines (rows_of c) ++ ls)
-    (symbols_are_first c.symbols (comment_text c.comment) (all_told c form.limits c.symbols form.symbols.positions form.symbols.lines)
-    ∙ ap (λ (ls : List Line). symbol_lines c.symbols ++ ls) (comment_is_first c.comment)))
+    (rows_are_first (rows_of c) (tail_text c) (sections_full c form sections))
 
 -- Where the definitions fit below the largest index, and the circuit is in form, its canonical text is its file.
 pub canonical_text : (c : Circuit) → IsWellFormed c → IsInForm c → length c.inputs + length c.latches + length c.gates ≤ c.max_var → IsAsciiText (ascii_text c) LARGEST c
 canonical_text c good form fits = record {
   header = header_line ascii_word (header_row c);
   numbered = row_lines (rows_of c);
-  tail = symbol_lines c.symbols ++ comment_lines c.comment;
+  tail = lines_of (tail_text c);
   lines = canonical_lines c form;
   is_header = header_line_is_good ascii_word 5 (header_row c) (omega arith) (header_is_small c form.limits);
   are_rows = rows_are_good (rows_of c) (sections_full c form sections);
-  is_tail = record {
-    named = symbol_lines c.symbols;
-    rest = comment_lines c.comment;
-    are = refl;
-    symbols = symbols_are_good c.symbols (all_told c form.limits c.symbols form.symbols.positions form.symbols.lines);
-    comment = comment_is_good c.comment;
-  };
+  is_tail = tail_is_good c form;
   limited = (form.limits.max_var, (form.limits.inputs, (form.limits.latches, (form.limits.outputs, (form.limits.gates, tt)))));
   counted = fits;
   well_formed = good;

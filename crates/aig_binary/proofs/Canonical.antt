@@ -1,0 +1,86 @@
+-- The canonical binary text of a well-formed circuit in binary order is its file.
+use Rattle.std.proofs.Common.{◌≡◌, ◌+◌, ◌-◌, ◌*◌, ◌<◌, ◌≤◌, ◌^◌, ℕ, List, [], ◌∷◌, ◌++◌, length, map, true, refl, sym, ap, ◌∙◌, inr, append_assoc, append-nil, arith}
+use Rattle.std.specs.List.{AllByRecursion, flat_map}
+use Rattle.aig_core.specs.declared.circuit.TheConstants.{LARGEST}
+use Rattle.aig_core.specs.declared.circuit.Gate.{Gate}
+use Rattle.aig_core.specs.declared.circuit.Circuit.{Circuit}
+use Rattle.aig_core.specs.Literal.{literal_of}
+use Rattle.aig_core.specs.Wellformed.{IsWellFormed, operands}
+use Rattle.aig_core.specs.Form.{IsInForm, IsLiteralUpTo}
+use Rattle.aig_core.proofs.InForm.{front}
+use Rattle.aig_text.specs.Lines.{Line, lines_of}
+use Rattle.aig_text.specs.AsciiText.{header_text, line_text, tail_text}
+use Rattle.aig_text.specs.Rows.{Row, row, output_form, output_row, header_row}
+use Rattle.aig_text.proofs.Canonical.Lines.{IsFullRow, header_line, row_lines, header_is_first, header_line_is_good, rows_are_first, rows_are_good}
+use Rattle.aig_text.proofs.Canonical.Text.{header_is_small, tail_is_good}
+use Rattle.aig_binary.specs.BinaryOrder.{IsInBinaryOrder}
+use Rattle.aig_binary.specs.BinaryGrammar.{IsBinaryText, SpellsGates, binary_word, binary_rows_of, numbered_literals}
+use Rattle.aig_binary.specs.BinaryText.{binary_text, gate_text}
+use Rattle.aig_binary.specs.Delta.{shortest_delta}
+use Rattle.aig_binary.specs.Parts.Numbered.{HasDeltas}
+use Rattle.aig_binary.proofs.Shortest.{shortest_is_delta}
+use Rattle.aig_binary.proofs.Written.{gates_have_deltas}
+
+-- the lines of the canonical front
+front_lines : (ns : List ℕ) (rows : List Row) → AllByRecursion (λ n. n < 2 ^ 64) ns → AllByRecursion IsFullRow rows
+    → lines_of (header_text binary_word ns ++ flat_map line_text rows) ≡ header_line binary_word ns ∷ row_lines rows
+unfolding lines_of
+front_lines ns rows small full =
+    header_is_first binary_word ns (flat_map line_text rows) (refl, (refl, (refl, tt))) small
+    ∙ ap (λ (ls : List Line). header_line binary_word ns ∷ ls)
+    (ap lines_of (sym (append-nil (flat_map line_text rows))) ∙ rows_are_first rows [] full ∙ append-nil (row_lines rows))
+
+all_ended : (rows : List Row) → AllByRecursion (λ (l : Line). l.ended ≡ true) (row_lines rows)
+all_ended [] = tt
+all_ended (r ∷ rows) = (refl, all_ended rows)
+
+literals_full : (m : ℕ) → m ≤ LARGEST → (ls : List ℕ) → AllByRecursion (IsLiteralUpTo m) ls → AllByRecursion IsFullRow (map (row output_form) (map output_row ls))
+literals_full m top [] h = tt
+literals_full m top (l ∷ ls) h =
+    let low : l ≤ 2 * m + 1 = h.0 in
+    (record { some = omega arith; small = (omega arith, tt) }, literals_full m top ls h.1)
+
+rows_full : (c : Circuit) → IsInForm c → AllByRecursion IsFullRow (binary_rows_of c)
+rows_full c form = literals_full c.max_var form.limits.max_var (numbered_literals c) (front (IsLiteralUpTo c.max_var) (numbered_literals c) (flat_map operands c.gates) form.literals)
+
+gates_spelled : (gs : List Gate) → AllByRecursion HasDeltas gs → SpellsGates (flat_map gate_text gs) gs
+gates_spelled [] h = refl
+gates_spelled (g ∷ gs) h =
+    let top : g.var ≤ LARGEST = h.0.small in
+    let high = h.0.first in
+    let low = h.0.second in (
+      gate_text g,
+      flat_map gate_text gs,
+      refl,
+      record {
+        first = shortest_delta (literal_of g.var - g.left);
+        second = shortest_delta (g.left - g.right);
+        are = refl;
+        left = shortest_is_delta (literal_of g.var - g.left) (omega arith);
+        right = shortest_is_delta (g.left - g.right) (omega arith);
+      },
+      gates_spelled gs h.1,
+    )
+
+parts : (c : Circuit) → binary_text c ≡ (header_text binary_word (header_row c) ++ flat_map line_text (binary_rows_of c)) ++ (flat_map gate_text c.gates ++ tail_text c)
+unfolding binary_text
+parts c = sym (append_assoc (header_text binary_word (header_row c)) (flat_map line_text (binary_rows_of c)) (flat_map gate_text c.gates ++ tail_text c))
+
+pub canonical_binary : (c : Circuit) → IsWellFormed c → IsInForm c → IsInBinaryOrder c → IsBinaryText (binary_text c) LARGEST c
+canonical_binary c good form ordered = record {
+  front = header_text binary_word (header_row c) ++ flat_map line_text (binary_rows_of c);
+  gates = flat_map gate_text c.gates;
+  rest = tail_text c;
+  header = header_line binary_word (header_row c);
+  numbered = row_lines (binary_rows_of c);
+  text_is = parts c;
+  lines = front_lines (header_row c) (binary_rows_of c) (header_is_small c form.limits) (rows_full c form);
+  cut = inr (refl, all_ended (binary_rows_of c));
+  is_header = header_line_is_good binary_word 5 (header_row c) (omega arith) (header_is_small c form.limits);
+  are_rows = rows_are_good (binary_rows_of c) (rows_full c form);
+  are_gates = gates_spelled c.gates (gates_have_deltas c form.limits ordered);
+  is_tail = tail_is_good c form;
+  limited = (form.limits.max_var, (form.limits.inputs, (form.limits.latches, (form.limits.outputs, (form.limits.gates, tt)))));
+  ordered = ordered;
+  well_formed = good;
+}

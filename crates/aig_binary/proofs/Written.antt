@@ -1,0 +1,63 @@
+-- What the binary writer has put, part by part.
+use Rattle.std.proofs.Common.{◌≡◌, ◌+◌, ◌-◌, ◌≤◌, ℕ, suc, List, [], ◌∷◌, ◌++◌, length, map, sym, ap, ap₂, ◌∙◌, append_assoc, arith}
+use Rattle.std.specs.List.{All, AllByRecursion, flat_map}
+use Rattle.std.proofs.lemmas.List.Concat.{flat_map-append}
+use Rattle.std.proofs.lemmas.List.Folds.{flat_map-map}
+use Rattle.std.proofs.lemmas.List.Elements.{All-from_recursion}
+use Rattle.aig_core.specs.Literal.{literal_of}
+use Rattle.aig_core.specs.Output.{Held}
+use Rattle.aig_core.specs.Wellformed.{IsWithinLimits}
+use Rattle.aig_core.specs.declared.circuit.TheConstants.{LARGEST}
+use Rattle.aig_core.specs.declared.circuit.Latch.{Latch}
+use Rattle.aig_core.specs.declared.circuit.Gate.{Gate}
+use Rattle.aig_core.specs.declared.circuit.Circuit.{Circuit}
+use Rattle.aig_text.specs.AsciiText.{line_text, numbers_text}
+use Rattle.aig_text.specs.Rows.{Row, row, output_form, output_row}
+use Rattle.aig_binary.specs.BinaryGrammar.{binary_rows_of, numbered_literals}
+use Rattle.aig_binary.specs.BinaryOrder.{AreOrderedGates, IsInBinaryOrder}
+use Rattle.aig_binary.specs.BinaryText.{gate_text}
+use Rattle.aig_binary.specs.Delta.{shortest_delta}
+use Rattle.aig_binary.specs.Parts.Numbered.{HasDeltas}
+
+-- two texts, one behind the other, put into the block alone
+filled_twice : (a b c : Held) (t u : List ℕ) → b ≡ record a { bytes = a.bytes ++ t } → c ≡ record b { bytes = b.bytes ++ u } → c ≡ record a { bytes = a.bytes ++ (t ++ u) }
+filled_twice a b c t u p q =
+    q ∙ ap (λ (h : Held). record h { bytes = h.bytes ++ u }) p ∙ ap (λ (bytes : List ℕ). record a { bytes = bytes }) (append_assoc a.bytes t u)
+
+-- the deltas of a gate, put into the block alone
+pub filled_gate : (a b c : Held) (t u : List ℕ) (g h : Gate) → g ≡ h → t ≡ shortest_delta (literal_of g.var - g.left) → u ≡ shortest_delta (g.left - g.right) → b ≡ record a { bytes = a.bytes ++ t } → c ≡ record b { bytes = b.bytes ++ u } → c ≡ record a { bytes = a.bytes ++ gate_text h }
+filled_gate a b c t u g h e first second p q =
+    filled_twice a b c t u p q ∙ ap (λ (text : List ℕ). record a { bytes = a.bytes ++ text }) (ap₂ (λ (x y : List ℕ). x ++ y) first second ∙ ap gate_text e)
+
+-- the line of a literal
+abbrev text_of_literal : ℕ → List ℕ
+text_of_literal literal = numbers_text (literal ∷ [])
+
+literals_text : (ls : List ℕ) → flat_map text_of_literal ls ≡ flat_map line_text (map (row output_form) (map output_row ls))
+literals_text ls = simp (flat_map-map)
+
+nexts_text : (ls : List Latch) → flat_map (λ (l : Latch). text_of_literal l.next) ls ≡ flat_map text_of_literal (map (λ (l : Latch). l.next) ls)
+nexts_text ls = simp (flat_map-map)
+
+-- the lines of latches and outputs
+pub lines_text : (c : Circuit) → flat_map (λ (l : Latch). numbers_text (l.next ∷ [])) c.latches ++ flat_map (λ (l : ℕ). numbers_text (l ∷ [])) c.outputs ≡ flat_map line_text (binary_rows_of c)
+lines_text c =
+    ap (λ (text : List ℕ). text ++ flat_map text_of_literal c.outputs) (nexts_text c.latches)
+    ∙ sym (flat_map-append text_of_literal (map (λ (l : Latch). l.next) c.latches) c.outputs)
+    ∙ literals_text (numbered_literals c)
+
+deltas_from : (n : ℕ) (gs : List Gate) → AreOrderedGates n gs → n + length gs ≤ LARGEST + 1 → AllByRecursion HasDeltas gs
+deltas_from n [] h top = tt
+deltas_from n (g ∷ gs) h top =
+    let var = h.0 in
+    (record { small = omega arith; first = h.1; second = h.2 }, deltas_from (suc n) gs h.3 (omega arith))
+
+-- in binary order each gate has its deltas
+pub gates_have_deltas : (c : Circuit) → IsWithinLimits c → IsInBinaryOrder c → AllByRecursion HasDeltas c.gates
+gates_have_deltas c limits ordered =
+    let top : c.max_var ≤ LARGEST = limits.max_var in
+    let all = ordered.all in
+    deltas_from (1 + length c.inputs + length c.latches) c.gates ordered.gates (omega arith)
+
+pub has_deltas : (c : Circuit) → IsWithinLimits c → IsInBinaryOrder c → All HasDeltas c.gates
+has_deltas c limits ordered = All-from_recursion HasDeltas c.gates (gates_have_deltas c limits ordered)

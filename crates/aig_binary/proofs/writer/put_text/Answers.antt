@@ -1,0 +1,11 @@
+use Rattle.aig_core.proofs.Puts.{put_twice}
+use Rattle.aig_binary.specs.BinaryText.{binary_text}
+use Rattle.aig_binary.proofs.Written.{has_deltas}
+use Rattle.aig_binary.proofs.writer.put_text.Goals as goal
+
+pub put_gates-requires-clause-deltas : goal.put_gates-requires-clause-deltas
+put_gates-requires-clause-deltas g c = rw c.as_slice.ensures (has_deltas c.args.circuit.now c.requires.within c.requires.ordered)
+
+pub returns : goal.returns
+unfolding binary_text
+returns g c = put_twice _ _ _ _ _ (rw c.header_numbers.ensures at c.put_header.ensures) (put_twice _ _ _ _ _ c.put_lines.ensures (put_twice _ _ _ _ _ (rw c.as_slice.ensures at c.put_gates.ensures) c.put_tail.ensures))
