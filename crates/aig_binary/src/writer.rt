@@ -16,11 +16,9 @@ ghost use Rattle.aig_binary.specs.Parts.Numbered.{HasDeltas};
 
 use crate::delta::{LONGEST, put_delta};
 use crate::ordered::Ordered;
+use crate::reader::BINARY_WORD;
 use aig_core::{Block, Circuit, Gate, Latch, Lit, Sink};
 use aig_text::{WriteFault, header_numbers, put_header, put_numbers, put_tail};
-
-/// The first word of a binary file.
-const BINARY_WORD: &[u8] = b"aig";
 
 /// The line of each latch: its next literal.
 fn put_nexts<W: Sink>(block: &mut Block, sink: &mut W, latches: &[Latch])
