@@ -5,7 +5,7 @@ ghost use Rattle.aig_core.specs.Wellformed.{IsWellFormed};
 ghost use Rattle.aig_core.specs.Form.{IsInForm};
 ghost use Rattle.aig_core.specs.Fault.{first_fault, IsFault};
 
-use crate::checked::copies::{copy_circuit, have_same_parts};
+use crate::checked::copies::copy_circuit;
 use crate::checked::faults::find_fault;
 use crate::circuit::Circuit;
 use crate::fault::{CheckFault, OutOfMemory};
@@ -81,5 +81,12 @@ pub fn check(alloc: Global, circuit: Circuit) -> Result<Checked, (Circuit, Check
 pub fn same(first: &Checked, second: &Checked) -> bool
     ensures { IsTrue result ↔ (first.now ≡ second.now) }
 {
-    have_same_parts(first.circuit(), second.circuit())
+    let (first, second) = (first.circuit(), second.circuit());
+    first.max_var == second.max_var
+        && first.inputs == second.inputs
+        && first.latches == second.latches
+        && first.outputs == second.outputs
+        && first.gates == second.gates
+        && first.symbols == second.symbols
+        && first.comment == second.comment
 }

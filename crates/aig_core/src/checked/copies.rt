@@ -1,6 +1,5 @@
-//! Copies of circuits, and whether two circuits are the same.
+//! Copies of circuits.
 ghost use Rattle.std.specs.Prelude.{◌≡◌, IfOk};
-ghost use Rattle.aig_core.specs.Parts.SameParts.{same_parts};
 
 use crate::circuit::{Circuit, Symbol};
 use crate::fault::OutOfMemory;
@@ -48,17 +47,4 @@ pub(crate) fn copy_circuit(alloc: Global, circuit: &Circuit) -> Result<Circuit, 
         symbols: copy_symbols(alloc, &circuit.symbols)?,
         comment: copy_comment(alloc, &circuit.comment)?,
     })
-}
-
-/// Whether two circuits are the same part by part.
-pub(crate) fn have_same_parts(first: &Circuit, second: &Circuit) -> bool
-    ensures { result ≡ same_parts first.now second.now }
-{
-    first.max_var == second.max_var
-        && first.inputs == second.inputs
-        && first.latches == second.latches
-        && first.outputs == second.outputs
-        && first.gates == second.gates
-        && first.symbols == second.symbols
-        && first.comment == second.comment
 }

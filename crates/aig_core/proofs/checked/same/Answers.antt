@@ -1,11 +1,11 @@
-use Rattle.std.proofs.Common.{◌≡◌, subst}
-use Rattle.std.proofs.lemmas.Bool.Decides.{Decides-at}
-use Rattle.std.specs.Bool.{Decides}
-use Rattle.aig_core.proofs.Alike.{same_circuit}
+use Rattle.std.proofs.Common.{rules}
+use Rattle.aig_core.proofs.Alike.{told}
 use Rattle.aig_core.proofs.checked.same.Goals as goal
 
-pub returns : goal.returns
-returns c =
-    subst (λ a. Decides c.have_same_parts.result (a ≡ c.args.second.now)) c.circuit.ensures.value
-    (subst (λ b. Decides c.have_same_parts.result (c.circuit.result.now ≡ b)) c.circuit-2.ensures.value
-    (Decides-at _ _ c.have_same_parts.ensures (same_circuit c.circuit.result.now c.circuit-2.result.now)))
+pub returns-then-eq-5 : goal.returns-then-eq-5
+returns-then-eq-5 c =
+    told c.eq-then-eq-5.result c.circuit-first.result.now c.circuit-second.result.now _ _ c.circuit-first.ensures.value c.circuit-second.ensures.value (search rules)
+
+pub returns-else-eq-5 : goal.returns-else-eq-5
+returns-else-eq-5 c =
+    told c.if-eq-4.value c.circuit-first.result.now c.circuit-second.result.now _ _ c.circuit-first.ensures.value c.circuit-second.ensures.value (search rules)
