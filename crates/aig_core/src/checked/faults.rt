@@ -13,12 +13,12 @@ ghost use Rattle.aig_core.specs.declared.circuit.TheConstants.{LARGEST as larges
 
 use crate::circuit::{Circuit, Gate, LARGEST};
 use crate::entry::Entry;
-use crate::fault::CheckFault;
+use crate::fault::{CheckFault, OutOfMemory};
 use crate::listing::Listing;
 use crate::literal::Lit;
 use crate::order::gate_order;
 use crate::var_set::VarSet;
-use std::alloc::{AllocError, Global};
+use std::alloc::Global;
 
 /// Adds the variable that an entry defines to those that were seen, unless it was seen before.
 fn define<T: Entry>(seen: &mut VarSet, entry: &T) -> Result<(), CheckFault>
@@ -123,7 +123,7 @@ fn own_literal(gate: &Gate) -> Lit
 }
 
 /// The literal of the first gate that depends on a cycle.
-fn first_cyclic(alloc: Global, circuit: &Circuit) -> Result<Option<Lit>, AllocError>
+fn first_cyclic(alloc: Global, circuit: &Circuit) -> Result<Option<Lit>, OutOfMemory>
     requires { IsInForm circuit.now }
     ensures { IfOk result (λ literal. literal ≡ first_cyclic circuit.now.gates) }
 {

@@ -4,6 +4,7 @@ ghost use Rattle.aig_core.specs.Order.{IsLeastReadyOrder, gate_operands, left_ov
 ghost use Rattle.aig_core.specs.Ready.{has};
 
 use crate::circuit::{Circuit, LARGEST};
+use crate::fault::OutOfMemory;
 use crate::order::Order;
 use crate::order::operands::all_operands;
 use crate::order::ready::Ready;
@@ -27,7 +28,7 @@ fn all_ready(alloc: Global, order: &Order, gates: u32) -> Result<Ready, AllocErr
 
 /// The least ready order of a circuit's gates. Each listed gate is one step, and so is each operand over its variable;
 /// every gate still waits for its operands over gates that are not listed.
-pub fn gate_order(alloc: Global, circuit: &Circuit) -> Result<Order, AllocError>
+pub fn gate_order(alloc: Global, circuit: &Circuit) -> Result<Order, OutOfMemory>
     requires { length circuit.now.gates ≤ LARGEST }
     ensures least { IfOk result (λ order. IsLeastReadyOrder circuit.now order.list) }
     ensures as_many { IfOk result (λ order. length order.waiting ≡ length circuit.now.gates) }
