@@ -19,3 +19,4 @@ pub mod Puts
 pub mod Sections
 pub mod Faultless
 pub mod Fitting
+pub mod InOrder
