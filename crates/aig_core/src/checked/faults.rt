@@ -129,10 +129,8 @@ fn definitions(alloc: Global, circuit: &Circuit) -> Result<(VarSet, bool), Check
 fn first_undefined_end(variables: &VarSet, circuit: &Circuit) -> Option<Lit>
     ensures { result ≡ first_unknown variables.now (map (λ l. l.next) circuit.now.latches ++ circuit.now.outputs) }
 {
-    first_unknown_use(variables, &circuit.latches).or_else(|| first_unknown_use(
-        variables,
-        &circuit.outputs,
-    ))
+    let next = first_unknown_use(variables, &circuit.latches);
+    next.or_else(|| first_unknown_use(variables, &circuit.outputs))
 }
 
 /// The first literal that a circuit uses, of those that are no constants and over none of the variables.
