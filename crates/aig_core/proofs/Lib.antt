@@ -20,3 +20,4 @@ pub mod Sections
 pub mod Faultless
 pub mod Fitting
 pub mod Alike
+pub mod InOrder
