@@ -1,7 +1,7 @@
 //! The least ready order.
 ghost use Rattle.std.specs.Prelude.{◌≡◌, ◌==◌, ◌+◌, ◌&&◌, ◌<◌, ◌≤◌, ℕ, length, slice_index, nat_lt, IfOk};
 ghost use Rattle.aig_core.specs.Order.{IsLeastReadyOrder, gate_operands, left_over, operands_over};
-ghost use Rattle.aig_core.specs.Ready.{has};
+ghost use Rattle.aig_core.specs.Ready.{has, room};
 
 use crate::circuit::{Circuit, LARGEST};
 use crate::fault::OutOfMemory;
@@ -14,14 +14,17 @@ use std::alloc::{AllocError, Global};
 
 /// The first so many gates that wait for nothing.
 fn all_ready(alloc: Global, order: &Order, gates: u32) -> Result<Ready, AllocError>
-    requires { gates ≡ length order.now.waiting }
-    ensures { IfOk result (λ r. (g : ℕ) → has r g ≡ (nat_lt g gates && (slice_index order.now.waiting g == 0))) }
+    requires count { gates ≡ length order.now.waiting }
+    requires few { gates ≤ LARGEST }
+    ensures room { IfOk result (λ r. gates ≤ room r) }
+    ensures ready { IfOk result (λ r. (g : ℕ) → has r g ≡ (nat_lt g gates && (slice_index order.now.waiting g == 0))) }
 {
-    let mut ready = Ready::new(alloc);
+    let mut ready = Ready::new(alloc, gates)?;
     for gate in 0..gates {
-        if order.waiting(gate) == 0 {
-            ready.insert(gate)?;
+        if order.waiting(gate) > 0 {
+            continue;
         }
+        ready.insert(gate);
     }
     Ok(ready)
 }
@@ -42,7 +45,7 @@ pub fn gate_order(alloc: Global, circuit: &Circuit) -> Result<Order, OutOfMemory
     let mut ready = all_ready(alloc, &order, circuit.gates.len() as u32)?;
     while let Some(gate) = ready.pop_first() {
         order.take(gate);
-        serve(&users, gate, &mut order, &mut ready)?;
+        serve(&users, gate, &mut order, &mut ready);
     }
     Ok(order)
 }
