@@ -18,11 +18,11 @@ use Rattle.std.proofs.lemmas.List.Sums.{position_or_len_is, fails_before_first}
 use Rattle.std.proofs.lemmas.List.Quantifiers.{position-Some}
 use Rattle.std.proofs.lemmas.Option.{slice_get-get_or}
 
-and_left : (a b : Bool) → (a && b) ≡ true → a ≡ true
+pub and_left : (a b : Bool) → (a && b) ≡ true → a ≡ true
 and_left true b h = refl
 and_left false b h = cc
 
-and_right : (a b : Bool) → (a && b) ≡ true → b ≡ true
+pub and_right : (a b : Bool) → (a && b) ≡ true → b ≡ true
 and_right true b h = h
 and_right false b h = cc
 
@@ -30,7 +30,7 @@ and_both : (a b : Bool) → a ≡ true → b ≡ true → (a && b) ≡ true
 and_both true b h k = k
 and_both false b h k = cc
 
-all_true : (p : ℕ → Bool) (xs : List ℕ) → ((x : ℕ) → IsAmong x xs → p x ≡ true) → list_all p xs ≡ true
+pub all_true : (p : ℕ → Bool) (xs : List ℕ) → ((x : ℕ) → IsAmong x xs → p x ≡ true) → list_all p xs ≡ true
 all_true p [] h = refl
 all_true p (x ∷ xs) h = and_both (p x) (list_all p xs) (h x (inl refl)) (all_true p xs (λ y a. h y (inr a)))
 
@@ -89,7 +89,7 @@ ordered_exactly_where_it_ends c list order gate there = (
 )
 
 -- how a list is looked through
-find_none : (p : Gate → Bool) (gs : List Gate) → ((i : ℕ) → i < length gs → p (get_or gs i no_gate) ≡ false) → find p gs ≡ None
+pub find_none : (p : Gate → Bool) (gs : List Gate) → ((i : ℕ) → i < length gs → p (get_or gs i no_gate) ≡ false) → find p gs ≡ None
 find_none p [] h = refl
 find_none p (g ∷ gs) h =
     ap (λ b. cond b (Some g) (find p gs)) (h 0 (omega arith)) ∙ find_none p gs (λ i l. h (suc i) (omega arith))
@@ -149,7 +149,7 @@ some_below : (n : ℕ) → ¬ (n ≡ 0) → ltb 0 n ≡ true
 some_below zero h = absurd (h refl)
 some_below (suc n) h = lt-ltb 0 (suc n) (omega arith)
 
-among_last : (xs ys : List ℕ) (x : ℕ) → IsAmong x ys → IsAmong x (xs ++ ys)
+pub among_last : (xs ys : List ℕ) (x : ℕ) → IsAmong x ys → IsAmong x (xs ++ ys)
 among_last [] ys x a = a
 among_last (z ∷ xs) ys x a = inr (among_last xs ys x a)
 

@@ -44,14 +44,14 @@ was_there s x y h =
     ] refl (sym (contains-insert nat_cmp_total s x y ∙ ap (λ b. b || set.contains s y) (unsigned_tied y x)) ∙ h)
 
 -- the first of no repeat is new, and no other is a repeat
-no_repeat : (s : FinSet nat_cmp) (x : ℕ) (xs : List ℕ) → first_repeat s (x ∷ xs) ≡ None → (set.contains s x ≡ false) × (first_repeat (set.insert s x) xs ≡ None)
+pub no_repeat : (s : FinSet nat_cmp) (x : ℕ) (xs : List ℕ) → first_repeat s (x ∷ xs) ≡ None → (set.contains s x ≡ false) × (first_repeat (set.insert s x) xs ≡ None)
 no_repeat s x xs h =
     elim (set.contains s x) as (λ b. cond b (Some x) (first_repeat (set.insert s x) xs) ≡ None → (b ≡ false) × (first_repeat (set.insert s x) xs ≡ None)) [
       | true ↦ λ e. cc
       | false ↦ λ e. (refl, e)
     ] h
 
-apart : (s : FinSet nat_cmp) (xs : List ℕ) → first_repeat s xs ≡ None → (y : ℕ) → set.contains s y ≡ true → ¬ IsAmong y xs
+pub apart : (s : FinSet nat_cmp) (xs : List ℕ) → first_repeat s xs ≡ None → (y : ℕ) → set.contains s y ≡ true → ¬ IsAmong y xs
 apart s [] none y has a = a
 apart s (x ∷ xs) none y has a =
     let n : (set.contains s x ≡ false) × (first_repeat (set.insert s x) xs ≡ None) = no_repeat s x xs none in
@@ -85,7 +85,7 @@ found s (x ∷ xs) y h =
     ⊎_elim (λ (e : set.contains (set.insert s x) y ≡ true). ⊎_elim (λ (i : y ≡ x). inr (inl i)) (λ (t : set.contains s y ≡ true). inl t) (was_there s x y e))
     (λ (a : IsAmong y xs). inr (inr a)) (found (set.insert s x) xs y h)
 
-kept : (s : FinSet nat_cmp) (xs : List ℕ) (y : ℕ) → set.contains s y ≡ true → set.contains (with_all s xs) y ≡ true
+pub kept : (s : FinSet nat_cmp) (xs : List ℕ) (y : ℕ) → set.contains s y ≡ true → set.contains (with_all s xs) y ≡ true
 kept s [] y h = h
 kept s (x ∷ xs) y h = kept (set.insert s x) xs y (has_old s x y h)
 

@@ -10,6 +10,7 @@ pub mod Steps
 pub mod Sets
 pub mod Members
 pub mod Told
+pub mod Trees
 pub mod InForm
 pub mod DigitCounts
 pub mod DigitWords
@@ -19,3 +20,5 @@ pub mod Puts
 pub mod Sections
 pub mod Faultless
 pub mod Fitting
+pub mod Alike
+pub mod InOrder

@@ -1,5 +1,5 @@
 -- Definitions and uses over sections end to end, as the loops over each section tell them.
-use Rattle.std.proofs.Common.{◌≡◌, ℕ, List, [], ◌∷◌, ◌++◌, true, false, cond, Option, None, Some, refl, sym, ◌∙◌, inl, ⊎_elim}
+use Rattle.std.proofs.Common.{◌≡◌, ℕ, List, [], ◌∷◌, ◌++◌, true, false, cond, Option, None, Some, refl, sym, ◌∙◌, inl, ⊎_elim, map}
 use Rattle.std.specs.List.{flat_map}
 use Rattle.std.specs.Option.{option_map, option_or}
 use Rattle.std.specs.Ordering.{nat_cmp}
@@ -87,6 +87,10 @@ module _ (c : Circuit) where
       all_before : u ≡ with_all set.empty (defined_inputs c.inputs ++ defined_latches c.latches)
       all_before = u_is ∙ rw t_is (sym (with_all_append set.empty (defined_inputs c.inputs) (defined_latches c.latches)))
 
+      -- all that is defined before the gates
+      pub before_gates : u ≡ with_all set.empty (c.inputs ++ map (λ (l : Latch). l.var) c.latches)
+      before_gates = all_before ∙ rw (flat_map_single (λ (v : ℕ). v) c.inputs, map-id c.inputs, flat_map_single (λ (l : Latch). l.var) c.latches) refl
+
       pub gates_repeat : first_repeat set.empty (defined_variables c) ≡ first_repeat u (defined_gates c.gates)
       gates_repeat = rw (← defined_is c) (goes_on _ _ _ _ all_before (sym latches_repeat ∙ none_later))
 
@@ -96,5 +100,8 @@ module _ (c : Circuit) where
       pub all_seen : with_all u (defined_gates c.gates) ≡ with_all set.empty (defined_variables c)
       all_seen = rw (all_before, ← defined_is c) (sym (with_all_append set.empty (defined_inputs c.inputs ++ defined_latches c.latches) (defined_gates c.gates)))
 
-pub unknowns : (s : FinSet nat_cmp) (c : Circuit) → option_or (option_or (first_unknown s (used_nexts c.latches)) (first_unknown s (used_outputs c.outputs))) (first_unknown s (flat_map operands c.gates)) ≡ first_unknown s (used_literals c)
-unknowns s c = rw (← used_is c, unknown_append s (used_nexts c.latches ++ used_outputs c.outputs) (flat_map operands c.gates), unknown_append s (used_nexts c.latches) (used_outputs c.outputs)) refl
+pub unknown_ends : (s : FinSet nat_cmp) (c : Circuit) → option_or (first_unknown s (used_nexts c.latches)) (first_unknown s (used_outputs c.outputs)) ≡ first_unknown s (map (λ (l : Latch). l.next) c.latches ++ c.outputs)
+unknown_ends s c = rw (flat_map_single (λ (l : ℕ). l) c.outputs, map-id c.outputs, flat_map_single (λ (l : Latch). l.next) c.latches) (sym (unknown_append s (map (λ (l : Latch). l.next) c.latches) c.outputs))
+
+pub unknowns : (s : FinSet nat_cmp) (c : Circuit) → option_or (first_unknown s (map (λ (l : Latch). l.next) c.latches ++ c.outputs)) (first_unknown s (flat_map operands c.gates)) ≡ first_unknown s (used_literals c)
+unknowns s c = sym (unknown_append s (map (λ (l : Latch). l.next) c.latches ++ c.outputs) (flat_map operands c.gates))

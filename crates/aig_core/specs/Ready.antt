@@ -1,12 +1,42 @@
--- The set of the gates that may be taken.
-use Rattle.std.specs.Prelude.{ℕ, List, Bool, ◌==◌, ◌&&◌, nat_lt, slice_index}
-use Rattle.std.specs.Ordering.{nat_cmp}
-use Rattle.std.specs.BTreeSet.{contains}
-use Rattle.aig_core.specs.declared.order.ready.Ready.{Ready}
+-- The set of the gates that may be taken: a tree of words, 64 bits each. Below bit b stands word b + 1, so the levels follow
+-- each other from the top, and the bits of the lowest level are the gates.
+use Rattle.std.specs.Prelude.{ℕ, zero, suc, ◌≡◌, ◌+◌, ◌-◌, ◌*◌, ◌<◌, ◌≤◌, ◌^◌, List, Bool, ◌==◌, ◌&&◌, length, nat_lt, slice_index, refl}
+use Rattle.std.specs.Coded.{Coded, code_by, coded×, coded_ℕ, coded_list}
+use Rattle.aig_core.specs.Parts.Marks.{is_marked}
+
+-- the words of a tree, and the bit of its first gate
+pub record Tree : Type 0 where
+  pub words : List ℕ
+  pub first : ℕ
+
+abbrev pub tree_code : Coded Tree
+tree_code = code_by (List ℕ × ℕ) (coded× (coded_list coded_ℕ) coded_ℕ) (λ t. (t.words, t.first)) (λ p. record { words = p.0; first = p.1 }) (λ _. refl)
+
+-- the first bit below so many levels
+unfoldable pub first_bit : ℕ → ℕ
+first_bit zero = 0
+first_bit (suc levels) = 64 * first_bit levels + 64
+
+-- a bit tells whether the word below it has any
+abbrev pub Tells : List ℕ → ℕ → Type 0
+Tells words bit = is_marked words bit ≡ nat_lt 0 (slice_index words (bit + 1))
+
+-- each bit above the gates tells of the word below it
+pub record IsTree (words : List ℕ) (first : ℕ) (levels : ℕ) : Type 0 where
+  pub first_is : first ≡ first_bit levels
+  pub some : 0 < length words
+  pub within : length words ≤ first + 1
+  pub few : first + 64 * length words ≤ 2 ^ 40
+  pub fit : 64 * length words ≤ first + 2 ^ 32
+  pub told : (bit : ℕ) → bit < first → Tells words bit
 
 -- whether the set has the gate
-abbrev pub has : Ready → ℕ → Bool
-has ready gate = contains nat_cmp ready.gates gate
+abbrev pub has : Tree → ℕ → Bool
+has ready gate = is_marked ready.words (ready.first + gate)
+
+-- how many gates there are bits for
+abbrev pub room : Tree → ℕ
+room ready = 64 * length ready.words - ready.first
 
 -- whether the gate waited for an operand and waits for none any more
 abbrev pub is_set_free : List ℕ → List ℕ → ℕ → Bool

@@ -1,16 +1,18 @@
 //! Circuits that are well formed, and the check that tells them from the others.
-ghost use Rattle.std.specs.Prelude.{◌≡◌, ◌≢◌, IfOk, IfErr, OnOk, None};
-ghost use Rattle.aig_core.specs.declared.fault.CheckFault.TheVariants.{OutOfMemory};
+ghost use Rattle.std.specs.Prelude.{◌≡◌, ◌≢◌, ◌↔◌, IsTrue, IfOk, IfErr, OnOk, None};
+ghost use Rattle.aig_core.specs.declared.fault.CheckFault.TheVariants.{OutOfMemory as WantOfMemory};
 ghost use Rattle.aig_core.specs.Wellformed.{IsWellFormed};
 ghost use Rattle.aig_core.specs.Form.{IsInForm};
 ghost use Rattle.aig_core.specs.Fault.{first_fault, IsFault};
 
+use crate::checked::copies::copy_circuit;
 use crate::checked::faults::find_fault;
 use crate::circuit::Circuit;
-use crate::fault::CheckFault;
+use crate::fault::{CheckFault, OutOfMemory};
 use std::alloc::Global;
 use std::marker::Model;
 
+mod copies;
 mod faults;
 
 /// A circuit that is well formed. `check` makes one of any circuit that is, `from_well_formed` of one that is known to be.
@@ -54,6 +56,16 @@ impl Checked {
     {
         self.circuit
     }
+
+    /// The same circuit in memory of its own, unless memory is refused.
+    pub fn copy(&self, alloc: Global) -> Result<Checked, OutOfMemory>
+        ensures value { IfOk result (λ copy. copy ≡ self.now) }
+        ensures well_formed { OnOk result (IsWellFormed self.now) }
+    {
+        Ok(Checked {
+            circuit: copy_circuit(alloc, &self.circuit)?,
+        })
+    }
 }
 
 /// Checks a circuit in form. Where it is not well formed, it is handed back with its first fault;
@@ -65,10 +77,24 @@ pub fn check(alloc: Global, circuit: Circuit) -> Result<Checked, (Circuit, Check
     ensures ok_faultless { OnOk result (first_fault circuit ≡ None) }
     ensures handed_back { IfErr result (λ e. e.0 ≡ circuit) }
     ensures fault { IfErr result (λ e. IsFault e.1 (first_fault circuit)) }
-    ensures refused { IfErr result (λ e. e.1 ≢ OutOfMemory → ¬ IsWellFormed circuit) }
+    ensures refused { IfErr result (λ e. e.1 ≢ WantOfMemory → ¬ IsWellFormed circuit) }
 {
     match find_fault(alloc, &circuit) {
         Ok(()) => Ok(Checked { circuit }),
         Err(fault) => Err((circuit, fault)),
     }
+}
+
+/// Whether the two hold the same circuit: the order of entries and of symbols, the names and the comment too.
+pub fn same(first: &Checked, second: &Checked) -> bool
+    ensures { IsTrue result ↔ (first.now ≡ second.now) }
+{
+    let (first, second) = (first.circuit(), second.circuit());
+    first.max_var == second.max_var
+        && first.inputs == second.inputs
+        && first.latches == second.latches
+        && first.outputs == second.outputs
+        && first.gates == second.gates
+        && first.symbols == second.symbols
+        && first.comment == second.comment
 }

@@ -1,10 +1,15 @@
-//! Why a circuit is refused.
+//! Why a circuit is refused, and want of memory.
 ghost use Rattle.std.specs.Prelude.{◌≡◌};
 ghost use Rattle.aig_core.specs.declared.fault.CheckFault.TheVariants.{OutOfMemory};
 
 use crate::literal::{Lit, Var};
-use std::alloc::AllocError;
+use std::alloc::{AllocError, AllocFailed};
 use thiserror::Error;
+
+/// A growth of memory was refused, where nothing else can go wrong.
+#[derive(Debug, Drop, Error)]
+#[error("out of memory")]
+pub struct OutOfMemory;
 
 /// Why a circuit is not well formed.
 #[derive(Clone, Copy, Debug, PartialEq, Error)]
@@ -29,5 +34,25 @@ impl From<AllocError> for CheckFault {
 
     fn from(_refused: AllocError) -> CheckFault {
         CheckFault::OutOfMemory
+    }
+}
+
+impl From<OutOfMemory> for CheckFault {
+    ghost from_gives = { λ _ e. e ≡ OutOfMemory };
+
+    fn from(_refused: OutOfMemory) -> CheckFault {
+        CheckFault::OutOfMemory
+    }
+}
+
+impl From<AllocError> for OutOfMemory {
+    fn from(_refused: AllocError) -> OutOfMemory {
+        OutOfMemory
+    }
+}
+
+impl<T: Drop> From<AllocFailed<T>> for OutOfMemory {
+    fn from(_refused: AllocFailed<T>) -> OutOfMemory {
+        OutOfMemory
     }
 }

@@ -20,11 +20,11 @@ mod transfer;
 mod var_set;
 
 pub use crate::block::{Block, ROOM};
-pub use crate::checked::{Checked, check};
+pub use crate::checked::{Checked, check, same};
 pub use crate::circuit::{Circuit, Gate, Kind, LARGEST, Latch, Symbol};
 pub use crate::device::{DeviceFault, Sink, Source};
 pub use crate::digits::MOST_DIGITS;
-pub use crate::fault::CheckFault;
+pub use crate::fault::{CheckFault, OutOfMemory};
 pub use crate::listing::Listing;
 pub use crate::literal::{Lit, Var};
 pub use crate::memory::{MemorySink, MemorySource};

@@ -6,6 +6,7 @@ ghost use Rattle.aig_core.specs.Operands.{how_many};
 ghost use Rattle.std.specs.List.{position};
 
 use crate::circuit::{Circuit, LARGEST};
+use crate::fault::OutOfMemory;
 use crate::order::operands::{Operands, all_operands};
 use std::alloc::{AllocError, Global};
 use std::marker::Model;
@@ -25,7 +26,8 @@ pub use crate::order::least_ready::gate_order;
 pub struct Order {
     positions: Vec<u32>,
     taken: usize,
-    waiting: Vec<u32>,
+    /// At most 2 each, so a byte does: they stay in the processor's cache longer.
+    waiting: Vec<u8>,
     steps: u64,
 }
 
@@ -61,7 +63,7 @@ impl Order {
     }
 
     /// No gate taken: each gate waits for its operands that are over gates, left and right counted apart.
-    pub fn new(alloc: Global, circuit: &Circuit) -> Result<Self, AllocError>
+    pub fn new(alloc: Global, circuit: &Circuit) -> Result<Self, OutOfMemory>
         requires { length circuit.now.gates ≤ LARGEST }
         ensures { IfOk result (λ order. order ≡ record {
           list = [];
@@ -70,7 +72,7 @@ impl Order {
         }) }
     {
         let operands = all_operands(alloc, circuit)?;
-        Order::waiting_for(alloc, operands.as_slice())
+        Ok(Order::waiting_for(alloc, operands.as_slice())?)
     }
 
     /// The positions of the gates, in the order in which they were taken.
@@ -92,7 +94,7 @@ impl Order {
         requires { gate < length self.now.waiting }
         ensures { result ≡ slice_index self.now.waiting gate }
     {
-        self.waiting[gate as usize]
+        u32::from(self.waiting[gate as usize])
     }
 
     /// The first gate that still waits for an operand.

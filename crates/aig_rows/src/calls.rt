@@ -1,7 +1,7 @@
 //! Calls that are given what they need.
 use crate::forms::{numbers_of, symbols_of};
 use aig_core::{
-    Block, Circuit, Listing, Lit, MemorySink, MemorySource, Names, Var, check, read_all,
+    Block, Circuit, Listing, Lit, MemorySink, MemorySource, Names, Var, check, read_all, same,
 };
 use aig_text::{Limits, read_ascii, write_ascii};
 use std::alloc::Global;
@@ -26,6 +26,17 @@ aag 4 0 0 5 0\n0\n0\n0\n0\n0\n:no";
 
 /// What is named in turn, and whether it had no name before.
 const NAMED: &str = "i0 new,l0 new,o0 new,i0 old,l0 old,o0 old,i9 new,i9 old";
+
+/// A half adder, then others that differ from it in the comment alone, in the order of two symbols, in a name, in the
+/// order of a gate's operands, in the order of two gates, and in having no comment; with a `#` between them.
+const HALF_ADDERS: &str = "\
+aag 7 2 0 2 3\n2\n4\n6\n12\n6 13 15\n12 2 4\n14 3 5\ni0 x\ni1 y\no0 s\no1 c\nc\nhalf adder\n#\
+aag 7 2 0 2 3\n2\n4\n6\n12\n6 13 15\n12 2 4\n14 3 5\ni0 x\ni1 y\no0 s\no1 c\nc\nhalf adder#\
+aag 7 2 0 2 3\n2\n4\n6\n12\n6 13 15\n12 2 4\n14 3 5\ni0 x\ni1 y\no1 c\no0 s\nc\nhalf adder\n#\
+aag 7 2 0 2 3\n2\n4\n6\n12\n6 13 15\n12 2 4\n14 3 5\ni0 x\ni1 y\no0 s\no1 d\nc\nhalf adder\n#\
+aag 7 2 0 2 3\n2\n4\n6\n12\n6 13 15\n12 4 2\n14 3 5\ni0 x\ni1 y\no0 s\no1 c\nc\nhalf adder\n#\
+aag 7 2 0 2 3\n2\n4\n6\n12\n6 13 15\n14 3 5\n12 2 4\ni0 x\ni1 y\no0 s\no1 c\nc\nhalf adder\n#\
+aag 7 2 0 2 3\n2\n4\n6\n12\n6 13 15\n12 2 4\n14 3 5\ni0 x\ni1 y\no0 s\no1 c\n";
 
 /// The circuit of a text.
 pub(crate) fn circuit_of(alloc: Global, text: &str) -> Result<Circuit, Fail> {
@@ -70,6 +81,20 @@ fn listings_are_copied(rt: HostRuntime) -> Result<(), Fail> {
 fn circuits_are_copied(rt: HostRuntime) -> Result<(), Fail> {
     let circuit = circuit_of(rt.alloc(), "aag 2 1 1 1 0\n2\n4 3\n5\no0 b\ni0 a\nc\nx")?;
     assert!(rt; circuit.clone()? == circuit);
+    Ok(())
+}
+
+/// A copy is the same as what it was made of, and as no other.
+#[test]
+fn copies_and_others(rt: HostRuntime) -> Result<(), Fail> {
+    for text in HALF_ADDERS.split('#') {
+        for other in HALF_ADDERS.split('#') {
+            let first = read_ascii(rt.alloc(), text.as_bytes(), Limits::default())?;
+            let second = read_ascii(rt.alloc(), other.as_bytes(), Limits::default())?;
+            let copy = second.copy(rt.alloc())?;
+            assert!(rt; same(&first, &copy) == (text == other), "{text}{other}");
+        }
+    }
     Ok(())
 }
 

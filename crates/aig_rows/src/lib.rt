@@ -15,6 +15,8 @@ mod forms;
 #[cfg(test)]
 mod messages;
 #[cfg(test)]
+mod orders;
+#[cfg(test)]
 mod run;
 #[cfg(test)]
 mod streams;

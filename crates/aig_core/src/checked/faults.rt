@@ -1,6 +1,6 @@
 //! What is wrong with a circuit: the first variable that is defined twice, or else the first literal that is used and
 //! not defined, or else the first gate that depends on a cycle.
-ghost use Rattle.std.specs.Prelude.{◌≡◌, ◌≤◌, ◌*◌, IfOk, IfErr, OnOk, None};
+ghost use Rattle.std.specs.Prelude.{◌≡◌, ◌≤◌, ◌*◌, ◌++◌, IfOk, IfErr, OnOk, None, map};
 ghost use Rattle.std.specs.List.{flat_map};
 ghost use Rattle.std.specs.Option.{option_to_list};
 ghost use Rattle.std.specs.FinSet as set;
@@ -9,16 +9,17 @@ ghost use Rattle.aig_core.specs.Fault.{first_fault, first_repeat, first_redefini
 ghost use Rattle.aig_core.specs.Fault.{is_known, IsFault};
 ghost use Rattle.aig_core.specs.Form.{IsInForm};
 ghost use Rattle.aig_core.specs.Order.{first_cyclic};
+ghost use Rattle.aig_core.specs.Parts.InOrder.{are_in_order, has_gates_in_order};
 ghost use Rattle.aig_core.specs.declared.circuit.TheConstants.{LARGEST as largest};
 
 use crate::circuit::{Circuit, Gate, LARGEST};
 use crate::entry::Entry;
-use crate::fault::CheckFault;
+use crate::fault::{CheckFault, OutOfMemory};
 use crate::listing::Listing;
 use crate::literal::Lit;
 use crate::order::gate_order;
 use crate::var_set::VarSet;
-use std::alloc::{AllocError, Global};
+use std::alloc::Global;
 
 /// Adds the variable that an entry defines to those that were seen, unless it was seen before.
 fn define<T: Entry>(seen: &mut VarSet, entry: &T) -> Result<(), CheckFault>
@@ -83,6 +84,23 @@ fn first_unknown_use<T: Entry>(variables: &VarSet, entries: &Listing<T>) -> Opti
     None
 }
 
+/// Adds the variables of a section to those that were seen, unless one of them was seen before. Answers whether each
+/// entry uses nothing but constants and what was seen before it.
+#[tactic(auto, using(crate::proofs::Sections::joined_lists))]
+fn define_in_order<T: Entry>(seen: &mut VarSet, entries: &Listing<T>) -> Result<bool, CheckFault>
+    ensures seen { OnOk result (seen.new ≡ with_all seen.old (flat_map T.defined entries.now)) }
+    ensures ok { OnOk result (first_repeat seen.old (flat_map T.defined entries.now) ≡ None) }
+    ensures in_order { IfOk result (λ in_order. in_order ≡ are_in_order T.defined T.used seen.old entries.now) }
+    ensures err { IfErr result (λ e. IsFault e (first_redefinition seen.old (flat_map T.defined entries.now))) }
+{
+    let mut in_order = true;
+    for entry in entries.as_slice() {
+        in_order = in_order && unknown_use(seen, entry).is_none();
+        define(seen, entry)?;
+    }
+    Ok(in_order)
+}
+
 /// How many definitions a circuit has.
 fn definition_count(circuit: &Circuit) -> usize {
     circuit
@@ -92,26 +110,34 @@ fn definition_count(circuit: &Circuit) -> usize {
         .saturating_add(circuit.gates.len())
 }
 
-/// The variables that a circuit defines, unless one of them is defined twice.
-fn definitions(alloc: Global, circuit: &Circuit) -> Result<VarSet, CheckFault>
-    ensures variables { IfOk result (λ variables. variables ≡ with_all set.empty (defined_variables circuit.now)) }
+/// The variables that a circuit defines, unless one of them is defined twice, and whether its gates stand after those
+/// that they use.
+fn definitions(alloc: Global, circuit: &Circuit) -> Result<(VarSet, bool), CheckFault>
+    ensures variables { IfOk result (λ told. told.0 ≡ with_all set.empty (defined_variables circuit.now)) }
+    ensures in_order { IfOk result (λ told. told.1 ≡ has_gates_in_order circuit.now) }
     ensures ok { OnOk result (first_repeat set.empty (defined_variables circuit.now) ≡ None) }
     ensures err { IfErr result (λ e. IsFault e (first_redefinition set.empty (defined_variables circuit.now))) }
 {
     let mut variables = VarSet::new(alloc, definition_count(circuit), circuit.max_var)?;
     define_all(&mut variables, &circuit.inputs)?;
     define_all(&mut variables, &circuit.latches)?;
-    define_all(&mut variables, &circuit.gates)?;
-    Ok(variables)
+    let in_order = define_in_order(&mut variables, &circuit.gates)?;
+    Ok((variables, in_order))
+}
+
+/// The first next literal or output of a circuit, of those that are no constants and over none of the variables.
+fn first_undefined_end(variables: &VarSet, circuit: &Circuit) -> Option<Lit>
+    ensures { result ≡ first_unknown variables.now (map (λ l. l.next) circuit.now.latches ++ circuit.now.outputs) }
+{
+    let next = first_unknown_use(variables, &circuit.latches);
+    next.or_else(|| first_unknown_use(variables, &circuit.outputs))
 }
 
 /// The first literal that a circuit uses, of those that are no constants and over none of the variables.
 fn first_undefined(variables: &VarSet, circuit: &Circuit) -> Option<Lit>
     ensures { result ≡ first_unknown variables.now (used_literals circuit.now) }
 {
-    first_unknown_use(variables, &circuit.latches)
-        .or_else(|| first_unknown_use(variables, &circuit.outputs))
-        .or_else(|| first_unknown_use(variables, &circuit.gates))
+    first_undefined_end(variables, circuit).or_else(|| first_unknown_use(variables, &circuit.gates))
 }
 
 /// The literal of a gate.
@@ -123,7 +149,7 @@ fn own_literal(gate: &Gate) -> Lit
 }
 
 /// The literal of the first gate that depends on a cycle.
-fn first_cyclic(alloc: Global, circuit: &Circuit) -> Result<Option<Lit>, AllocError>
+fn first_cyclic(alloc: Global, circuit: &Circuit) -> Result<Option<Lit>, OutOfMemory>
     requires { IsInForm circuit.now }
     ensures { IfOk result (λ literal. literal ≡ first_cyclic circuit.now.gates) }
 {
@@ -140,7 +166,10 @@ pub(crate) fn find_fault(alloc: Global, circuit: &Circuit) -> Result<(), CheckFa
     ensures ok { OnOk result (first_fault circuit.now ≡ None) }
     ensures err { IfErr result (λ e. IsFault e (first_fault circuit.now)) }
 {
-    let variables = definitions(alloc, circuit)?;
+    let (variables, in_order) = definitions(alloc, circuit)?;
+    if in_order && first_undefined_end(&variables, circuit).is_none() {
+        return Ok(());
+    }
     if let Some(literal) = first_undefined(&variables, circuit) {
         return Err(CheckFault::Undefined(literal));
     }

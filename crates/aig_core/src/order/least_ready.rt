@@ -1,9 +1,10 @@
 //! The least ready order.
 ghost use Rattle.std.specs.Prelude.{◌≡◌, ◌==◌, ◌+◌, ◌&&◌, ◌<◌, ◌≤◌, ℕ, length, slice_index, nat_lt, IfOk};
 ghost use Rattle.aig_core.specs.Order.{IsLeastReadyOrder, gate_operands, left_over, operands_over};
-ghost use Rattle.aig_core.specs.Ready.{has};
+ghost use Rattle.aig_core.specs.Ready.{has, room};
 
 use crate::circuit::{Circuit, LARGEST};
+use crate::fault::OutOfMemory;
 use crate::order::Order;
 use crate::order::operands::all_operands;
 use crate::order::ready::Ready;
@@ -13,21 +14,24 @@ use std::alloc::{AllocError, Global};
 
 /// The first so many gates that wait for nothing.
 fn all_ready(alloc: Global, order: &Order, gates: u32) -> Result<Ready, AllocError>
-    requires { gates ≡ length order.now.waiting }
-    ensures { IfOk result (λ r. (g : ℕ) → has r g ≡ (nat_lt g gates && (slice_index order.now.waiting g == 0))) }
+    requires count { gates ≡ length order.now.waiting }
+    requires few { gates ≤ LARGEST }
+    ensures room { IfOk result (λ r. gates ≤ room r) }
+    ensures ready { IfOk result (λ r. (g : ℕ) → has r g ≡ (nat_lt g gates && (slice_index order.now.waiting g == 0))) }
 {
-    let mut ready = Ready::new(alloc);
+    let mut ready = Ready::new(alloc, gates)?;
     for gate in 0..gates {
-        if order.waiting(gate) == 0 {
-            ready.insert(gate)?;
+        if order.waiting(gate) > 0 {
+            continue;
         }
+        ready.insert(gate);
     }
     Ok(ready)
 }
 
 /// The least ready order of a circuit's gates. Each listed gate is one step, and so is each operand over its variable;
 /// every gate still waits for its operands over gates that are not listed.
-pub fn gate_order(alloc: Global, circuit: &Circuit) -> Result<Order, AllocError>
+pub fn gate_order(alloc: Global, circuit: &Circuit) -> Result<Order, OutOfMemory>
     requires { length circuit.now.gates ≤ LARGEST }
     ensures least { IfOk result (λ order. IsLeastReadyOrder circuit.now order.list) }
     ensures as_many { IfOk result (λ order. length order.waiting ≡ length circuit.now.gates) }
@@ -41,7 +45,7 @@ pub fn gate_order(alloc: Global, circuit: &Circuit) -> Result<Order, AllocError>
     let mut ready = all_ready(alloc, &order, circuit.gates.len() as u32)?;
     while let Some(gate) = ready.pop_first() {
         order.take(gate);
-        serve(&users, gate, &mut order, &mut ready)?;
+        serve(&users, gate, &mut order, &mut ready);
     }
     Ok(order)
 }

@@ -17,10 +17,10 @@ pub(super) struct Operands {
 
 impl Operands {
     /// How many operands are over gates, 0 to 2.
-    pub(super) fn count(self) -> u32
+    pub(super) fn count(self) -> u8
         ensures { result ≡ how_many self }
     {
-        u32::from(self.left.is_some()) + u32::from(self.right.is_some())
+        u8::from(self.left.is_some()) + u8::from(self.right.is_some())
     }
 }
 

@@ -1,31 +1,113 @@
 //! The gates that may be taken.
-ghost use Rattle.std.specs.Prelude.{◌≡◌, ◌==◌, ◌||◌, ◌&&◌, ◌≤◌, ℕ, true, false, not, OnOk};
+ghost use Rattle.std.specs.Prelude.{◌≡◌, ◌≢◌, ◌==◌, ◌||◌, ◌&&◌, ◌+◌, ◌/◌, ◌<◌, ◌≤◌, ℕ, true, false, not, length, nat_lt, slice_index, if◌then◌else◌, IfOk};
+ghost use Rattle.std.specs.Int.{bit_at};
 ghost use Rattle.std.specs.Option.{IfSome, IfNone};
-ghost use Rattle.aig_core.specs.Ready.{has};
+ghost use Rattle.aig_core.specs.Parts.Marks.{is_marked};
+ghost use Rattle.aig_core.specs.Ready.{has, room, first_bit, Tells, IsTree};
 
+use crate::circuit::LARGEST;
 use std::alloc::{AllocError, Global};
-use std::collections::BTreeSet;
+use std::marker::Model;
 
-/// A set of gates, by their positions, that gives the least one first.
+/// A set of gates, by their positions, that gives the least one first: a tree of words, where below bit b stands word
+/// b + 1. Each bit of the lowest level is a gate, and each above tells whether the word below it has any.
 #[derive(Drop)]
 pub(super) struct Ready {
-    gates: BTreeSet<u32>,
+    words: Vec<u64>,
+    /// The bit of the first gate.
+    first: usize,
+    /// How many levels are above the lowest.
+    levels: u32,
+}
+
+impl Model for Ready {
+    ghost use Rattle.aig_core.specs.Ready.{Tree, tree_code, IsTree};
+
+    ghost Value = { Tree };
+
+    ghost coded = { tree_code };
+
+    ghost view = { λ r. record { words = r.words.items; first = r.first } };
+
+    ghost invariant = { λ r. IsTree r.words.items r.first r.levels };
+}
+
+/// The word with a bit set or cleared.
+#[inline(always)]
+fn with_bit(word: u64, place: usize, on: bool) -> u64
+    requires { place < 64 }
+    ensures { (i : ℕ) → i < 64 → (bit_at result i == 1) ≡ (if i == place then on else (bit_at word i == 1)) }
+{
+    let mask = 1 << place;
+    if on { word | mask } else { word & !mask }
+}
+
+/// Sets or clears a bit. Where its word has any for the first time, or none any more, this is told to the bit above.
+fn tell(words: &mut [u64], bit: usize, on: bool)
+    requires there { bit / 64 < length words.old }
+    requires told { (b : ℕ) → b + 1 < length words.old → b ≢ bit → Tells words.old b }
+    requires below { bit + 1 < length words.old → on ≡ nat_lt 0 (slice_index words.old (bit + 1)) }
+    ensures told { (b : ℕ) → b + 1 < length words.old → Tells words.new b }
+    ensures lowest { (b : ℕ) → length words.old ≤ b + 1
+        → is_marked words.new b ≡ (if b == bit then on else is_marked words.old b) }
+{
+    let at = bit / 64;
+    let before = words[at];
+    let after = with_bit(before, bit % 64, on);
+    words[at] = after;
+    if at == 0 {
+        return;
+    }
+    if (before == 0) == (after == 0) {
+        return;
+    }
+    tell(words, at - 1, after != 0);
+}
+
+/// The least bit that is set, of the lowest level.
+fn least(words: &[u64], levels: u32) -> usize
+    requires tree { IsTree words.now (first_bit levels) levels }
+    requires some { 0 < slice_index words.now 0 }
+    ensures there { first_bit levels ≤ result }
+    ensures set { is_marked words.now result ≡ true }
+    ensures least { (b : ℕ) → first_bit levels ≤ b → is_marked words.now b ≡ true → result ≤ b }
+{
+    let mut bit = words[0].trailing_zeros() as usize;
+    for _ in 0..levels {
+        let below = bit + 1;
+        bit = 64 * below + words[below].trailing_zeros() as usize;
+    }
+    bit
 }
 
 impl Ready {
-    pub(super) fn new(alloc: Global) -> Self
-        ensures { (g : ℕ) → has result g ≡ false }
+    /// No gate, with bits for so many.
+    pub(super) fn new(alloc: Global, gates: u32) -> Result<Self, AllocError>
+        requires { gates ≤ LARGEST }
+        ensures empty { IfOk result (λ ready. (g : ℕ) → has ready g ≡ false) }
+        ensures room { IfOk result (λ ready. gates ≤ room ready) }
     {
-        Ready {
-            gates: BTreeSet::new(alloc),
+        let gates = gates as usize;
+        let mut first = 0;
+        let mut levels = 0;
+        while 63 * first + 64 <= gates {
+            first = 64 * first + 64;
+            levels += 1;
         }
+        Ok(Ready {
+            words: vec![in alloc; 0; (first + gates) / 64 + 1]?,
+            first,
+            levels,
+        })
     }
 
-    pub(super) fn insert(&mut self, gate: u32) -> Result<(), AllocError>
-        ensures { OnOk result ((g : ℕ) → has self.new g ≡ ((g == gate) || has self.old g)) }
+    /// Puts a gate there.
+    pub(super) fn insert(&mut self, gate: u32)
+        requires { gate < room self.old }
+        ensures ready { (g : ℕ) → has self.new g ≡ ((g == gate) || has self.old g) }
+        ensures room { room self.new ≡ room self.old }
     {
-        self.gates.insert(gate)?;
-        Ok(())
+        tell(&mut self.words, self.first + gate as usize, true);
     }
 
     /// Takes the least gate out.
@@ -34,7 +116,13 @@ impl Ready {
         ensures first { IfSome result (λ gate. has self.old gate ≡ true) }
         ensures least { IfSome result (λ gate. (g : ℕ) → has self.old g ≡ true → gate ≤ g) }
         ensures rest { IfSome result (λ gate. (g : ℕ) → has self.new g ≡ (not (g == gate) && has self.old g)) }
+        ensures room { room self.new ≡ room self.old }
     {
-        self.gates.pop_first()
+        if self.words[0] == 0 {
+            return None;
+        }
+        let bit = least(self.words.as_slice(), self.levels);
+        tell(self.words.as_mut_slice(), bit, false);
+        Some((bit - self.first) as u32)
     }
 }

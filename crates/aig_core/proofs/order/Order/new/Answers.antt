@@ -1,5 +1,4 @@
 use Rattle.std.proofs.Common.{◌≡◌, ◌∙◌, ap, map, length, ℕ, List, []}
-use Rattle.std.proofs.lemmas.Result.{IfOk-weaker}
 use Rattle.std.proofs.lemmas.Simd.{map-map}
 use Rattle.aig_core.specs.declared.order.operands.Operands.{Operands}
 use Rattle.aig_core.specs.Operands.{over, operands_of}
@@ -12,4 +11,4 @@ pub returns : goal.returns
 returns c =
     let all : c.as_slice.result.now ≡ map (operands_of c.args.circuit.now.gates) c.args.circuit.now.gates =
     c.as_slice.ensures.value ∙ c.in_ok-operands.ensures in
-    IfOk-weaker c.waiting_for.result _ _ (λ order is. is ∙ ap (λ waiting. record { list = []; waiting = waiting; steps = 0 }) (ap counts all ∙ map-map (λ (o : Operands). length (over o)) (operands_of c.args.circuit.now.gates) c.args.circuit.now.gates)) c.waiting_for.ensures
+    c.in_ok-waiting_for.ensures ∙ ap (λ waiting. record { list = []; waiting = waiting; steps = 0 }) (ap counts all ∙ map-map (λ (o : Operands). length (over o)) (operands_of c.args.circuit.now.gates) c.args.circuit.now.gates)

@@ -31,8 +31,15 @@ waiting-requires c =
     let some : 0 < get_or now user 0 = waits _ _ _ _ user (c.requires.waiting user) (before user) in
     omega (arith, there c.args.order.now.waiting now user some, ap length c.count_down.ensures.waiting, length-set now user (get_or now user 0 - 1))
 
-pub loop-user-preserved-in_ok-insert : goal.loop-user-preserved-in_ok-insert
-loop-user-preserved-in_ok-insert c =
+pub insert-requires : goal.insert-requires
+insert-requires c =
+    let uses_left = one_use c.args.users.now.links.items c.loop-user.link c.in-Some.user c.in-Some.next c.in-Some.ensures c.requires.links c.in-Some.user in
+    let some : 0 < get_or c.loop-user.order.waiting c.in-Some.user 0 =
+    waits _ _ _ _ c.in-Some.user (c.requires.waiting c.in-Some.user) (c.loop-user.invariant.waiting c.in-Some.user ∙ ap (λ n. get_or c.args.order.now.waiting c.in-Some.user 0 + n) uses_left) in
+    omega (arith, there c.args.order.now.waiting c.loop-user.order.waiting c.in-Some.user some, c.loop-user.invariant.as_many, c.loop-user.invariant.room, c.requires.room)
+
+pub loop-user-preserved-then-waiting-eq0 : goal.loop-user-preserved-then-waiting-eq0
+loop-user-preserved-then-waiting-eq0 c =
     let first : List ℕ = c.args.order.now.waiting in
     let now : List ℕ = c.loop-user.order.waiting in
     let user : ℕ = c.in-Some.user in
@@ -49,7 +56,8 @@ loop-user-preserved-in_ok-insert c =
       waiting = λ u. ap (λ w. get_or w u 0 + used u) less ∙ still_waits first now user some used rest before u;
       less = λ u. subst (λ w. get_or w u 0 ≤ get_or first u 0) (sym less) (never_more first now user some c.loop-user.invariant.less u);
       steps = omega (arith, c.count_down.ensures.steps, ap sum less, one_step first now user some, c.loop-user.invariant.steps);
-      ready = λ u. ready_now first now user some had (c.loop-user.invariant.less user) (has c.loop-user.ready) (has c.insert.new.self) c.loop-user.invariant.ready (sym left ∙ sym c.waiting.ensures ∙ c.if-waiting-eq0.true) c.in_ok-insert.ensures u ∙ ap (λ w. had u || (ltb 0 (get_or first u 0) && eqb (get_or w u 0) 0)) (sym less);
+      ready = λ u. ready_now first now user some had (c.loop-user.invariant.less user) (has c.loop-user.ready) (has c.insert.new.self) c.loop-user.invariant.ready (sym left ∙ sym c.waiting.ensures ∙ c.if-waiting-eq0.true) c.insert.ensures.ready u ∙ ap (λ w. had u || (ltb 0 (get_or first u 0) && eqb (get_or w u 0) 0)) (sym less);
+      room = c.insert.ensures.room ∙ c.loop-user.invariant.room;
     }
 
 pub loop-user-preserved : goal.loop-user-preserved
@@ -71,6 +79,7 @@ loop-user-preserved c =
       less = λ u. subst (λ w. get_or w u 0 ≤ get_or first u 0) (sym less) (never_more first now user some c.loop-user.invariant.less u);
       steps = omega (arith, c.count_down.ensures.steps, ap sum less, one_step first now user some, c.loop-user.invariant.steps);
       ready = λ u. not_yet_ready first now user some had (c.loop-user.invariant.less user) (has c.loop-user.ready) c.loop-user.invariant.ready (λ e. c.if-waiting-eq0.false (c.waiting.ensures ∙ left ∙ e)) u ∙ ap (λ w. had u || (ltb 0 (get_or first u 0) && eqb (get_or w u 0) 0)) (sym less);
+      room = c.loop-user.invariant.room;
     }
 
 pub returns-clause-waiting : goal.returns-clause-waiting

@@ -3,7 +3,7 @@ use mathlib.Core.Bool.{◌||◌, ◌&&◌}
 use Rattle.std.specs.Prelude.{nat_lt}
 use Rattle.std.specs.List.{count_by, slice_index, sum}
 use Rattle.aig_core.specs.Users.{users_from, uses}
-use Rattle.aig_core.specs.Ready.{has}
+use Rattle.aig_core.specs.Ready.{has, room}
 use Rattle.aig_core.proofs.order.serve.serve.Given as goal
 
 abbrev pub invariant-loop-user : goal.invariant-loop-user
@@ -14,6 +14,7 @@ invariant-loop-user l = record {
   less : (u : ℕ) → slice_index l.order.waiting u ≤ slice_index l.fn.order.waiting u;
   steps : l.order.steps + sum l.order.waiting ≡ l.fn.order.steps + sum l.fn.order.waiting;
   ready : (u : ℕ) → has l.ready u ≡ (has l.fn.ready u || (nat_lt 0 (slice_index l.fn.order.waiting u) && (eqb (slice_index l.order.waiting u) 0)));
+  room : room l.ready ≡ room l.fn.ready;
 }
 
 abbrev pub decreases-loop-user : goal.decreases-loop-user

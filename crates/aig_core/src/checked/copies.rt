@@ -1,0 +1,50 @@
+//! Copies of circuits.
+ghost use Rattle.std.specs.Prelude.{◌≡◌, IfOk};
+
+use crate::circuit::{Circuit, Symbol};
+use crate::fault::OutOfMemory;
+use crate::listing::Listing;
+use std::alloc::Global;
+
+/// The same symbols in memory of their own.
+fn copy_symbols(alloc: Global, symbols: &Listing<Symbol>) -> Result<Listing<Symbol>, OutOfMemory>
+    ensures { IfOk result (λ copies. copies ≡ symbols.now) }
+{
+    let mut copies = Listing::new(alloc);
+    for symbol in symbols.as_slice() {
+        copies.push(Symbol {
+            kind: symbol.kind,
+            position: symbol.position,
+            name: symbol.name.copy(alloc)?,
+        })?;
+    }
+    Ok(copies)
+}
+
+/// The same comment in memory of its own, if there is one.
+fn copy_comment(
+    alloc: Global,
+    comment: &Option<Listing<u8>>,
+) -> Result<Option<Listing<u8>>, OutOfMemory>
+    ensures { IfOk result (λ copy. copy ≡ comment.now) }
+{
+    match comment {
+        Some(bytes) => Ok(Some(bytes.copy(alloc)?)),
+        None => Ok(None),
+    }
+}
+
+/// The same circuit in memory of its own.
+pub(crate) fn copy_circuit(alloc: Global, circuit: &Circuit) -> Result<Circuit, OutOfMemory>
+    ensures { IfOk result (λ copy. copy ≡ circuit.now) }
+{
+    Ok(Circuit {
+        max_var: circuit.max_var,
+        inputs: circuit.inputs.copy(alloc)?,
+        latches: circuit.latches.copy(alloc)?,
+        outputs: circuit.outputs.copy(alloc)?,
+        gates: circuit.gates.copy(alloc)?,
+        symbols: copy_symbols(alloc, &circuit.symbols)?,
+        comment: copy_comment(alloc, &circuit.comment)?,
+    })
+}
