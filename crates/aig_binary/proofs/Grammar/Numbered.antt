@@ -44,21 +44,24 @@ latches_again variable (l ∷ ls) e =
 pub rows_apart : (ns os : List ℕ) → map (row output_form) (map output_row (ns ++ os)) ≡ map (row output_form) (map output_row ns) ++ map (row output_form) (map output_row os)
 rows_apart ns os = ap (map (row output_form)) (map-append output_row ns os) ∙ map-append (row output_form) (map output_row ns) (map output_row os)
 
+-- rows of one literal
+literals_again : (m : ℕ) (rows : List (List ℕ)) → AllByRecursion (IsGoodRow output_form m) rows → map output_row (map output_of rows) ≡ rows
+literals_again m rows good = rows_again (IsGoodRow output_form m) output_row output_of (output_entry.row_again m) rows good
+
+up_to : (m : ℕ) (rows : List (List ℕ)) → AllByRecursion (IsGoodRow output_form m) rows → AllByRecursion (IsLiteralUpTo m) (map output_of rows)
+up_to m rows good = all_mapped (IsGoodRow output_form m) (IsLiteralUpTo m) output_of (output_entry.up_to m) rows good
+
 -- what a header, rows and gates make of a circuit
 module _ (h : Header) (nexts outputs : List (List ℕ)) (gates : List Gate) where
   pub rows_are : AllByRecursion (IsGoodRow output_form h.max_var) nexts → AllByRecursion (IsGoodRow output_form h.max_var) outputs → map (row output_form) nexts ++ map (row output_form) outputs ≡ binary_rows_of (numbered_circuit h nexts outputs gates)
   rows_are n o =
-      let again : (rows : List (List ℕ)) → AllByRecursion (IsGoodRow output_form h.max_var) rows → map output_row (map output_of rows) ≡ rows =
-      rows_again (IsGoodRow output_form h.max_var) output_row output_of (output_entry.row_again h.max_var) in
       sym (ap (λ (ms : List ℕ). map (row output_form) (map output_row (ms ++ map output_of outputs))) (nexts_are (1 + h.inputs) nexts)
       ∙ rows_apart (map output_of nexts) (map output_of outputs)
-      ∙ ap₂ (λ (xs ys : List (List ℕ)). map (row output_form) xs ++ map (row output_form) ys) (again nexts n) (again outputs o))
+      ∙ ap₂ (λ (xs ys : List (List ℕ)). map (row output_form) xs ++ map (row output_form) ys) (literals_again h.max_var nexts n) (literals_again h.max_var outputs o))
 
   pub literals_are : AllByRecursion (IsGoodRow output_form h.max_var) nexts → AllByRecursion (IsGoodRow output_form h.max_var) outputs → HasLiteralsUpTo (numbered_circuit h nexts outputs gates)
   literals_are n o =
-      let up_to : (rows : List (List ℕ)) → AllByRecursion (IsGoodRow output_form h.max_var) rows → AllByRecursion (IsLiteralUpTo h.max_var) (map output_of rows) =
-      all_mapped (IsGoodRow output_form h.max_var) (IsLiteralUpTo h.max_var) output_of (output_entry.up_to h.max_var) in
-      (subst (λ (ms : List ℕ). AllByRecursion (IsLiteralUpTo h.max_var) ms) (sym (nexts_are (1 + h.inputs) nexts)) (up_to nexts n), up_to outputs o)
+      (subst (λ (ms : List ℕ). AllByRecursion (IsLiteralUpTo h.max_var) ms) (sym (nexts_are (1 + h.inputs) nexts)) (up_to h.max_var nexts n), up_to h.max_var outputs o)
 
   pub counts_are : length nexts ≡ h.latches → length outputs ≡ h.outputs → length gates ≡ h.gates → HasCounts h (numbered_circuit h nexts outputs gates)
   counts_are l o g =

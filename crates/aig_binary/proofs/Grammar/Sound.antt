@@ -43,20 +43,22 @@ operands_up_to variable m (g ∷ gs) o fits =
 abbrev pub HasLiteralsUpTo : Circuit → Type 0
 HasLiteralsUpTo c = AllByRecursion (IsLiteralUpTo c.max_var) (map (λ (l : Latch). l.next) c.latches) × AllByRecursion (IsLiteralUpTo c.max_var) c.outputs
 
+all_up_to : (c : Circuit) → IsInBinaryOrder c → HasLiteralsUpTo c → AllByRecursion (IsLiteralUpTo c.max_var) (used_literals c)
+all_up_to c o literals =
+    let all : c.max_var ≡ length c.inputs + length c.latches + length c.gates = o.all in
+    all_append (IsLiteralUpTo c.max_var) (map (λ (l : Latch). l.next) c.latches ++ c.outputs) (flat_map operands c.gates)
+    (all_append (IsLiteralUpTo c.max_var) (map (λ (l : Latch). l.next) c.latches) c.outputs literals.0 literals.1)
+    (operands_up_to (1 + length c.inputs + length c.latches) c.max_var c.gates o.gates (omega arith))
+
 pub well_formed : (c : Circuit) → IsInBinaryOrder c → HasLiteralsUpTo c → IsWithinLimits c → HasGoodSymbols c → IsWellFormed c
 well_formed c o literals limits symbols =
     let m : ℕ = c.max_var in
     let vars = variables_are c o in
-    let all : m ≡ length c.inputs + length c.latches + length c.gates = o.all in
-    let used : AllByRecursion (IsLiteralUpTo m) (used_literals c) =
-    all_append (IsLiteralUpTo m) (map (λ (l : Latch). l.next) c.latches ++ c.outputs) (flat_map operands c.gates)
-    (all_append (IsLiteralUpTo m) (map (λ (l : Latch). l.next) c.latches) c.outputs literals.0 literals.1)
-    (operands_up_to (1 + length c.inputs + length c.latches) m c.gates o.gates (omega arith)) in
     record {
       limits = limits;
       in_range = subst (λ (vs : List ℕ). AllByRecursion (IsVariableUpTo m) vs) (sym vars) (each_in_range (IsVariableUpTo m) 1 m (λ x low high. (low, omega arith)));
       once = subst AreDistinct (sym vars) (distinct 1 m);
-      known = subst (λ (vs : List ℕ). AllByRecursion (IsKnown vs) (used_literals c)) (sym vars) (all_weaker (IsLiteralUpTo m) (IsKnown (range_with_len 1 m)) (known m) (used_literals c) used);
+      known = subst (λ (vs : List ℕ). AllByRecursion (IsKnown vs) (used_literals c)) (sym vars) (all_weaker (IsLiteralUpTo m) (IsKnown (range_with_len 1 m)) (known m) (used_literals c) (all_up_to c o literals));
       symbols = symbols;
       ranked = (λ v. v, variable_ranks (1 + length c.inputs + length c.latches) c.gates o.gates);
     }

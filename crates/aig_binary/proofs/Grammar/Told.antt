@@ -62,6 +62,9 @@ then_numbers header h = numbers_at h header.1 header.2
 abbrev then_filled : Header × ℕ × List Line → Result Circuit ReadFault
 then_filled header = at_line 1 (filled header.0) >>= then_numbers header
 
+tail_told : (h : Header) (nexts outputs : List (List ℕ)) (gates : List Gate) (n : ℕ) (ls : List Line) (c : Circuit) → tail_at h nothing_named (numbered_circuit h nexts outputs gates) n ls ≡ Ok c → TellsTail h nothing_named (numbered_circuit h nexts outputs gates) c ls
+tail_told h nexts outputs gates n ls c is = tail_tells h nothing_named (numbered_circuit h nexts outputs gates) n ls c refl is
+
 numbers_told : (h : Header) (n : ℕ) (ls : List Line) (c : Circuit) → numbers_at h n ls ≡ Ok c → TellsNumbers h ls c
 numbers_told h n ls c is =
     let a = both_ok (rows_at output_form h.max_var h.latches n ls) (then_outputs h) c is in
@@ -77,7 +80,7 @@ numbers_told h n ls c is =
       next_rows = rows_told output_form h.max_var h.latches n ls a.0 (omega arith) a.1;
       output_rows = rows_told output_form h.max_var h.outputs a.0.1 a.0.2 b.0 (omega arith) b.1;
       are_gates = gates_are (1 + h.inputs + h.latches) 1 h.gates (bytes_of b.0.2) d.0 d.1;
-      tail = tail_tells h nothing_named (numbered_circuit h a.0.0 b.0.0 d.0.0) b.0.1 (lines_of d.0.1) c refl d.2;
+      tail = tail_told h a.0.0 b.0.0 d.0.0 b.0.1 (lines_of d.0.1) c d.2;
     }
 
 -- a header whose definitions are all the variables
