@@ -1,65 +1,60 @@
-//! Texts of binary files. In a row the gates stand in hexadecimal digits, between two bars.
-use crate::calls::circuit_of;
-use aig_binary::read_binary;
+//! Canonical binary files that are read and written again.
+use aig_binary::{Ordered, read_binary, write_binary};
+use aig_core::MemorySink;
 use aig_text::Limits;
 use std::alloc::Global;
 use std::test::Fail;
 
-/// Texts, and ASCII texts of the same circuits.
-const READ: &str = "\
-aig 0 0 0 0 0\n||=aag 0 0 0 0 0\n;\
-aig 3 2 0 1 1\n6\n|0202|=aag 3 2 0 1 1\n2\n4\n6\n6 4 2\n;\
-aig 4 1 1 1 2\n9\n8\n|0181000600|o0 q\nc\n|=aag 4 1 1 1 2\n2\n4 9\n8\n6 5 4\n8 2 2\no0 q\nc\n|;\
-aig 1 0 1 0 0\n3||=aag 1 0 1 0 0\n2 3\n";
+/// Canonical texts, with a `#` between them. All bytes of their gates are below 128.
+const TEXTS: &str = "\
+aig 0 0 0 0 0
+#aig 1 0 1 2 0
+3
+2
+3
+#aig 5 2 0 2 3
+10
+6
+\u{2}\u{2}\u{3}\u{2}\u{1}\u{2}i0 x
+i1 y
+o0 s
+o1 c
+c
+half adder
+#aig 6 5 0 1 1
+12
+\n\0c
+";
 
-/// Texts, and their faults.
-const FAULTY: &str = "\
-aag 0 0 0 0 0\n||:line 1: not an AIGER file;\
-aig 4 2 0 1 1\n6\n|0202|:line 1: bad header;\
-aig 4 2 0 0 3\n|020202020202|:line 1: bad header;\
-aig 5 0 5 0 0\n||:line 1: number above the limit;\
-aig 1 0 1 0 0\n||:line 2: file ends too early;\
-aig 3 2 0 1 1\n8\n|0202|:line 2: literal out of range;\
-aig 3 2 0 1 1\n6\n|02|:gate 1: file ends too early;\
-aig 3 2 0 1 1\n6\n|02808080|:gate 1: file ends too early;\
-aig 3 2 0 1 1\n6\n|0280808080|:gate 1: file ends too early;\
-aig 3 2 0 1 1\n6\n|028080808080|:gate 1: bad delta;\
-aig 3 2 0 1 1\n6\n|0002|:gate 1: bad delta;\
-aig 3 2 0 1 1\n6\n|0700|:gate 1: bad delta;\
-aig 3 2 0 1 1\n6\n|0205|:gate 1: bad delta;\
-aig 4 2 0 0 2\n|02020900|:gate 2: bad delta;\
-aig 3 2 0 1 1\n6\n|0202|i2 a\n:line 3: symbol position out of range;\
-aig 3 2 0 1 1\n6\n|0202|i1 a\nx:line 4: bad symbol line";
-
-/// The text of a row.
-fn text_of(alloc: Global, row: &str) -> Result<Vec<u8>, Fail> {
-    let (front, rest) = row.split_once('|').ok_or("a row has gates")?;
-    let (gates, tail) = rest.split_once('|').ok_or("a row has a tail")?;
-    let mut text = Vec::from_slice(alloc, front.as_bytes())?;
-    text.extend_from_slice(&hex::decode(alloc, gates)?)?;
-    text.extend_from_slice(tail.as_bytes())?;
-    Ok(text)
+/// The circuit of a text, in binary order.
+fn ordered_of(alloc: Global, text: &str) -> Result<Ordered, Fail> {
+    let checked = read_binary(alloc, text.as_bytes(), Limits::default())?;
+    Ok(Ordered::try_from_checked(checked).ok().ok_or("the circuit is in binary order")?)
 }
 
 #[test]
-fn circuits_of_binary_texts(rt: HostRuntime) -> Result<(), Fail> {
-    for row in READ.split(';') {
-        let (binary, ascii) = row.split_once('=').ok_or("a row has two texts")?;
-        let text = text_of(rt.alloc(), binary)?;
-        let circuit = read_binary(rt.alloc(), &text, Limits::default())?.into_circuit();
-        assert!(rt; circuit == circuit_of(rt.alloc(), ascii)?, "{row}");
+fn binary_texts_come_back(rt: HostRuntime) -> Result<(), Fail> {
+    for text in TEXTS.split('#') {
+        let ordered = ordered_of(rt.alloc(), text)?;
+        for piece in [1, 7, 8192] {
+            let mut sink = MemorySink::new(rt.alloc(), 200, piece, 0)?;
+            write_binary(&ordered, &mut sink)?;
+            assert!(rt; sink.taken() == text.as_bytes(), "in pieces of {piece}");
+        }
     }
     Ok(())
 }
 
+/// Each call of the sink fails in turn: it took a beginning.
 #[test]
-fn faults_of_binary_texts(rt: HostRuntime) -> Result<(), Fail> {
-    for row in FAULTY.split(';') {
-        let (text, answer) = row.split_once(':').ok_or("a row has an answer")?;
-        let text = text_of(rt.alloc(), text)?;
-        let fault = read_binary(rt.alloc(), &text, Limits { max_var: 4 }).err();
-        let told = format!(in rt.alloc(); "{}", fault.ok_or("there is a fault")?)?;
-        assert!(rt; told.as_str() == answer, "{row}");
+fn failed_sends_of_binary_texts(rt: HostRuntime) -> Result<(), Fail> {
+    for text in TEXTS.split('#') {
+        let ordered = ordered_of(rt.alloc(), text)?;
+        for call in 0..5 {
+            let mut sink = MemorySink::new(rt.alloc(), 200, 3, call as u64 + 1)?;
+            assert!(rt; write_binary(&ordered, &mut sink).is_err(), "call {call}");
+            assert!(rt; sink.taken() == &text.as_bytes()[..3 * call], "call {call}");
+        }
     }
     Ok(())
 }

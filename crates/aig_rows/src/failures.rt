@@ -3,8 +3,22 @@ use crate::run::{Behaviour, convert};
 use std::alloc::{AllocError, Global};
 use std::test::Fail;
 
-/// Canonical texts, with a `#` between them.
+/// Texts, with a `#` between them. What is written is the text itself, or stands behind `=`.
 const TEXTS: &str = "\
+aig 4 1 1 1 2
+9
+8
+\u{2}\u{1}\u{6}\0o0 q
+c
+=aag 4 1 1 1 2
+2
+4 9
+8
+6 4 3
+8 2 2
+o0 q
+c
+#\
 aag 3 1 1 2 0
 6
 2 7
@@ -53,14 +67,21 @@ fn texts(alloc: Global) -> Result<String, AllocError> {
     Ok(texts)
 }
 
+/// The two texts of a row: what is read, and what is written.
+fn both(row: &str) -> (&[u8], &[u8]) {
+    let (read, written) = row.split_once('=').unwrap_or((row, row));
+    (read.as_bytes(), written.as_bytes())
+}
+
 /// Each read fails in turn: no byte was written, and no read came after it.
 #[test]
 fn failed_reads(rt: HostRuntime) -> Result<(), Fail> {
-    for text in texts(rt.alloc())?.as_str().split('#') {
+    for row in texts(rt.alloc())?.as_str().split('#') {
+        let (text, _) = both(row);
         let mut behaviour = Behaviour::pieces_of(text.len() / 12 + 1);
-        for call in 0..convert(&rt, text.as_bytes(), behaviour)?.reads {
+        for call in 0..convert(&rt, text, behaviour)?.reads {
             behaviour.failing_read = call;
-            let outcome = convert(&rt, text.as_bytes(), behaviour)?;
+            let outcome = convert(&rt, text, behaviour)?;
             assert!(rt; outcome.told(1, "aiger: -: cannot read\n"), "read {call}");
             assert_eq!(rt; outcome.reads, call + 1);
             assert_eq!(rt; outcome.output.calls, 0);
@@ -72,16 +93,14 @@ fn failed_reads(rt: HostRuntime) -> Result<(), Fail> {
 /// Each write fails in turn: a beginning was written, and no write came after it.
 #[test]
 fn failed_writes(rt: HostRuntime) -> Result<(), Fail> {
-    for text in texts(rt.alloc())?.as_str().split('#') {
+    for row in texts(rt.alloc())?.as_str().split('#') {
+        let (text, written) = both(row);
         let mut behaviour = Behaviour::pieces_of(text.len() / 12 + 1);
-        for call in 0..convert(&rt, text.as_bytes(), behaviour)?.output.calls {
+        for call in 0..convert(&rt, text, behaviour)?.output.calls {
             behaviour.failing_write = call;
-            let outcome = convert(&rt, text.as_bytes(), behaviour)?;
+            let outcome = convert(&rt, text, behaviour)?;
             assert!(rt; outcome.told(1, "aiger: -: cannot write\n"), "write {call}");
-            assert!(rt;
-                text.as_bytes().starts_with(outcome.output.taken.as_slice()),
-                "write {call}"
-            );
+            assert!(rt; written.starts_with(outcome.output.taken.as_slice()), "write {call}");
             assert_eq!(rt; outcome.output.calls, call + 1);
         }
     }
@@ -91,14 +110,12 @@ fn failed_writes(rt: HostRuntime) -> Result<(), Fail> {
 /// Few bytes in a call change nothing, and no slice is longer than a block.
 #[test]
 fn pieces(rt: HostRuntime) -> Result<(), Fail> {
-    for text in texts(rt.alloc())?.as_str().split('#') {
+    for row in texts(rt.alloc())?.as_str().split('#') {
+        let (text, written) = both(row);
         for piece in [1, 7, 30_000] {
-            let outcome = convert(&rt, text.as_bytes(), Behaviour::pieces_of(piece))?;
+            let outcome = convert(&rt, text, Behaviour::pieces_of(piece))?;
             assert!(rt; outcome.told(0, ""), "in pieces of {piece}");
-            assert!(rt;
-                outcome.output.taken.as_slice() == text.as_bytes(),
-                "in pieces of {piece}"
-            );
+            assert!(rt; outcome.output.taken.as_slice() == written, "in pieces of {piece}");
             assert!(rt; outcome.output.longest <= 8192, "in pieces of {piece}");
         }
     }
