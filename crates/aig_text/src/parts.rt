@@ -64,7 +64,12 @@ pub fn numbers<const N: usize>(
 }
 
 /// The literals that so many lines hold, one on each. Goes behind them, unless one is not right.
-pub fn literals(alloc: Global, count: u32, at: &mut Cursor, max_var: u32) -> Result<Listing<Lit>, ReadFault>
+pub fn literals(
+    alloc: Global,
+    count: u32,
+    at: &mut Cursor,
+    max_var: u32,
+) -> Result<Listing<Lit>, ReadFault>
     requires { max_var ≤ largest_index }
     ensures literals { GivesOrMemory (λ found. (found, at.new.number, lines_of at.new.rest.now)) result
         (rows_told output_of [] (rows_at output_form max_var count at.old.number (lines_of at.old.rest.now))) }
@@ -79,7 +84,12 @@ pub fn literals(alloc: Global, count: u32, at: &mut Cursor, max_var: u32) -> Res
 
 /// The circuit with the symbols and the comment that the lines from here on tell. Where there are none, it takes no
 /// memory.
-pub fn tail(alloc: Global, header: &Header, circuit: Circuit, at: Cursor) -> Result<Circuit, ReadFault>
+pub fn tail(
+    alloc: Global,
+    header: &Header,
+    circuit: Circuit,
+    at: Cursor,
+) -> Result<Circuit, ReadFault>
     ensures { GivesOrMemory (λ c. c) result
         (tail_at header.now nothing_named circuit at.entry.number (lines_of at.entry.rest.now)) }
 {

@@ -23,8 +23,8 @@ returns-in_err-read_sections c = let h = err_from_is_err_and c.from_residual-in_
 pub returns : goal.returns
 returns c =
     let same : circuit_at c.args.limits.max_var (lines_of c.args.bytes.now) ≡ tail_at c.in_ok-header.header nothing_named c.read_sections.new.circuit c.read_sections.new.at.number (lines_of c.read_sections.new.at.rest.now) =
-        then_tail c.args.limits.max_var c.header.new.at.number c.read_sections.new.at.number (lines_of c.args.bytes.now) (lines_of c.header.new.at.rest.now) (lines_of c.read_sections.new.at.rest.now)
-        c.in_ok-header.header c.read_sections.new.circuit
-        (rw (c.new-at.ensures.rest, c.new-at.ensures.number) at c.in_ok-header.ensures.header)
-        (rw c.empty_circuit-circuit.ensures at c.in_ok-read_sections.ensures) in
+    then_tail c.args.limits.max_var c.header.new.at.number c.read_sections.new.at.number (lines_of c.args.bytes.now) (lines_of c.header.new.at.rest.now) (lines_of c.read_sections.new.at.rest.now)
+    c.in_ok-header.header c.read_sections.new.circuit
+    (rw (c.new-at.ensures.rest, c.new-at.ensures.number) at c.in_ok-header.ensures.header)
+    (rw c.empty_circuit-circuit.ensures at c.in_ok-read_sections.ensures) in
     rw same c.tail.ensures

@@ -10,10 +10,13 @@ use Rattle.aig_text.proofs.section.read_rows.Goals as goal
 
 pub returns-in_err-row-in-None : goal.returns-in_err-row-in-None
 returns-in_err-row-in-None g c = let h = err_from_is_err_and c.from_residual.result c.from_residual.ensures.1 in
-    rw (h.1, h.2) (record { rows = inr (
-    rows_wrong g.T.Row.told_by g.T.Row.form c.args.max_var c.loop.counter c.args.count c.loop.place.number (lines_of c.loop.place.rest.now) c.loop.found
-    c.in_err-row-in-None.field-0.0 _ c.loop-test.true c.in_err-row-in-None.ensures c.loop.invariant
-    ); err = refl })
+    rw (h.1, h.2) (record {
+      rows = inr (
+          rows_wrong g.T.Row.told_by g.T.Row.form c.args.max_var c.loop.counter c.args.count c.loop.place.number (lines_of c.loop.place.rest.now) c.loop.found
+          c.in_err-row-in-None.field-0.0 _ c.loop-test.true c.in_err-row-in-None.ensures c.loop.invariant
+          );
+      err = refl;
+    })
 
 pub loop-preserved : goal.loop-preserved
 loop-preserved g c =
