@@ -1,5 +1,5 @@
 -- The canonical binary text of a well-formed circuit in binary order is its file.
-use Rattle.std.proofs.Common.{◌≡◌, ◌+◌, ◌-◌, ◌*◌, ◌<◌, ◌≤◌, ◌^◌, ℕ, List, [], ◌∷◌, ◌++◌, length, map, true, refl, sym, ap, ◌∙◌, inr, append_assoc, append-nil, arith}
+use Rattle.std.proofs.Common.{◌≡◌, ◌+◌, ◌-◌, ◌*◌, ◌<◌, ◌≤◌, ◌^◌, ℕ, List, [], ◌∷◌, ◌++◌, map, true, refl, sym, ap, ◌∙◌, inr, append_assoc, append-nil, arith}
 use Rattle.std.specs.List.{AllByRecursion, flat_map}
 use Rattle.aig_core.specs.declared.circuit.TheConstants.{LARGEST}
 use Rattle.aig_core.specs.declared.circuit.Gate.{Gate}

@@ -1,8 +1,6 @@
 -- The shortest spelling of a number: it is one, and there is no other.
-use Rattle.std.proofs.Common.{◌≡◌, ◌+◌, ◌*◌, ◌/◌, ◌%◌, ◌^◌, ◌-◌, ◌<◌, ◌≤◌, ℕ, zero, suc, List, [], ◌∷◌, ◌++◌, length, take, refl, sym, ap, subst, ◌∙◌, arith, inl, inr, append_assoc}
+use Rattle.std.proofs.Common.{◌≡◌, ◌+◌, ◌*◌, ◌/◌, ◌%◌, ◌^◌, ◌<◌, ◌≤◌, ℕ, zero, suc, List, [], ◌∷◌, length, take, min, refl, sym, ap, ap₂, subst, ◌∙◌, arith, inl, inr}
 use Rattle.std.proofs.lemmas.Bool.{lt-ltb, le-ltb, cases_lt}
-use Rattle.std.proofs.lemmas.List.{take_more_set}
-use Rattle.std.proofs.Math.ListN.{set, length-set}
 use Rattle.std.proofs.Math.Nat.{div-lt_iff_lt-mul, pow-suc}
 use Rattle.aig_binary.specs.Delta.{value_of_groups, AreGroups, IsDelta, IsShortest, last_byte, shortest_groups, shortest_delta}
 use Rattle.aig_binary.proofs.Groups.{put_first, one_value}
@@ -105,43 +103,77 @@ pub shortest_is_one : (bytes : List ℕ) (value : ℕ) → IsDelta bytes value �
 unfolding shortest_delta
 shortest_is_one bytes value h none = shortest_is 4 bytes h.groups none h.short ∙ ap (shortest_groups 4) h.spells
 
--- the groups of a number that are stored so far, and the rest of the number
-pub record AreStored (value at : ℕ) (bytes : List ℕ) (rest : ℕ) : Type 0 where
-  pub long : length bytes ≡ 5
-  pub spelled : shortest_groups 4 value ≡ take at bytes ++ shortest_groups (4 - at) rest
-  pub left : rest < 128 ^ (5 - at)
+-- the byte of a group, with the top bit where a number is left
+abbrev pub byte_of : ℕ → ℕ → ℕ
+byte_of group left = group % 128 + 128 * min left 1
 
-pub stored_first : (value : ℕ) (bytes : List ℕ) → length bytes ≡ 5 → value < 2 ^ 32 → AreStored value 0 bytes value
-stored_first value bytes long h = record { long = long; spelled = refl; left = omega arith }
+-- all five groups of a number
+abbrev pub all_groups : ℕ → List ℕ
+all_groups v =
+    byte_of v (v / 128) ∷ byte_of (v / 128) (v / 128 / 128) ∷ byte_of (v / 128 / 128) (v / 128 / 128 / 128)
+    ∷ byte_of (v / 128 / 128 / 128) (v / 128 / 128 / 128 / 128) ∷ byte_of (v / 128 / 128 / 128 / 128) 0 ∷ []
 
-pub stored_more : (value at : ℕ) (bytes : List ℕ) (rest : ℕ) → at < 4 → 128 ≤ rest → AreStored value at bytes rest → AreStored value (at + 1) (set bytes at (128 + rest % 128)) (rest / 128)
-stored_more value at bytes rest here high h =
-    let long : length bytes ≡ 5 = h.long in
-    let one : 4 - at ≡ suc (4 - (at + 1)) = omega arith in
-    let less : 5 - at ≡ suc (5 - (at + 1)) = omega arith in
-    record {
-      long = length-set bytes at (128 + rest % 128) ∙ long;
-      spelled =
-          h.spelled
-          ∙ ap (λ (xs : List ℕ). take at bytes ++ xs) (ap (λ k. shortest_groups k rest) one ∙ shortest_more (4 - (at + 1)) rest high)
-          ∙ sym (append_assoc (take at bytes) ((128 + rest % 128) ∷ []) (shortest_groups (4 - (at + 1)) (rest / 128)))
-          ∙ ap (λ (xs : List ℕ). xs ++ shortest_groups (4 - (at + 1)) (rest / 128)) (sym (take_more_set bytes at (128 + rest % 128) (omega arith)));
-      left = one_group_less (5 - (at + 1)) rest (subst (λ k. rest < 128 ^ k) less h.left);
-    }
+-- how many groups follow the first
+abbrev pub more_groups : ℕ → ℕ
+more_groups v = min (v / 128) 1 + min (v / 128 / 128) 1 + min (v / 128 / 128 / 128) 1 + min (v / 128 / 128 / 128 / 128) 1
 
-pub stored_last : (value at : ℕ) (bytes : List ℕ) (rest : ℕ) → at < 4 → rest < 128 → AreStored value at bytes rest → take (at + 1) (set bytes at rest) ≡ shortest_delta value
+last_stored : (more v : ℕ) → v < 128 → shortest_groups more v ≡ byte_of v (v / 128) ∷ []
+last_stored more v h =
+    let byte : v ≡ byte_of v (v / 128) = omega arith in
+    shortest_last more v h ∙ ap (λ (b : ℕ). b ∷ []) byte
+
+more_stored : (more v : ℕ) (rest : List ℕ) → 128 ≤ v → shortest_groups more (v / 128) ≡ rest → shortest_groups (suc more) v ≡ byte_of v (v / 128) ∷ rest
+more_stored more v rest h e =
+    let byte : 128 + v % 128 ≡ byte_of v (v / 128) = omega arith in
+    shortest_more more v h ∙ ap₂ (λ (b : ℕ) (bs : List ℕ). b ∷ bs) byte e
+
+final_stored : (v : ℕ) → v < 128 → shortest_groups 0 v ≡ byte_of v 0 ∷ []
+final_stored v h =
+    let byte : v ≡ byte_of v 0 = omega arith in
+    shortest_final v ∙ ap (λ (b : ℕ). b ∷ []) byte
+
+-- as many of the groups as the number wants
+pub groups_stored : (v : ℕ) → v < 2 ^ 32 → take (1 + more_groups v) (all_groups v) ≡ shortest_delta v
 unfolding shortest_delta
-stored_last value at bytes rest here low h =
-    let long : length bytes ≡ 5 = h.long in
-    take_more_set bytes at rest (omega arith) ∙ ap (λ (xs : List ℕ). take at bytes ++ xs) (sym (shortest_last (4 - at) rest low)) ∙ sym h.spelled
+groups_stored v fits = elim (cases_lt v 128) [
+  | inl low ↦
+      let none : more_groups v ≡ 0 = omega arith in
+      ap (λ n. take (1 + n) (all_groups v)) none ∙ sym (last_stored 4 v low)
+  | inr first ↦
+      elim (cases_lt (v / 128) 128) [
+        | inl low ↦
+            let one : more_groups v ≡ 1 = omega arith in
+            ap (λ n. take (1 + n) (all_groups v)) one ∙ sym (more_stored 3 v _ first (last_stored 3 (v / 128) low))
+        | inr second ↦
+            elim (cases_lt (v / 128 / 128) 128) [
+              | inl low ↦
+                  let two : more_groups v ≡ 2 = omega arith in
+                  ap (λ n. take (1 + n) (all_groups v)) two
+                  ∙ sym (more_stored 3 v _ first (more_stored 2 (v / 128) _ second (last_stored 2 (v / 128 / 128) low)))
+              | inr third ↦
+                  elim (cases_lt (v / 128 / 128 / 128) 128) [
+                    | inl low ↦
+                        let three : more_groups v ≡ 3 = omega arith in
+                        ap (λ n. take (1 + n) (all_groups v)) three
+                        ∙ sym (more_stored 3 v _ first (more_stored 2 (v / 128) _ second (more_stored 1 (v / 128 / 128) _ third (last_stored 1 (v / 128 / 128 / 128) low))))
+                    | inr fourth ↦
+                        let four : more_groups v ≡ 4 = omega arith in
+                        let fifth : v / 128 / 128 / 128 / 128 < 128 = omega arith in
+                        ap (λ n. take (1 + n) (all_groups v)) four
+                        ∙ sym (more_stored 3 v _ first (more_stored 2 (v / 128) _ second (more_stored 1 (v / 128 / 128) _ third (more_stored 0 (v / 128 / 128 / 128) _ fourth (final_stored (v / 128 / 128 / 128 / 128) fifth)))))
+                  ]
+            ]
+      ]
+]
 
-pub stored_all : (value at : ℕ) (bytes : List ℕ) (rest : ℕ) → at ≡ 4 → AreStored value at bytes rest → take 5 (set bytes 4 rest) ≡ shortest_delta value
+-- the same of one or two groups
+pub two_stored : (v : ℕ) → v / 128 < 128 → take (1 + min (v / 128) 1) (byte_of v (v / 128) ∷ v / 128 ∷ 0 ∷ 0 ∷ 0 ∷ []) ≡ shortest_delta v
 unfolding shortest_delta
-stored_all value at bytes rest e h =
-    let long : length bytes ≡ 5 = h.long in
-    let spelled = subst (λ k. shortest_groups 4 value ≡ take k bytes ++ shortest_groups (4 - k) rest) e h.spelled in
-    take_more_set bytes 4 rest (omega arith) ∙ ap (λ (xs : List ℕ). take 4 bytes ++ xs) (sym (shortest_final rest)) ∙ sym spelled
-
-pub one_stored : (value : ℕ) → value < 128 → value ∷ [] ≡ shortest_delta value
-unfolding shortest_delta
-one_stored value h = sym (shortest_last 4 value h)
+two_stored v few = elim (cases_lt v 128) [
+  | inl low ↦
+      let none : min (v / 128) 1 ≡ 0 = omega arith in
+      ap (λ n. take (1 + n) (byte_of v (v / 128) ∷ v / 128 ∷ 0 ∷ 0 ∷ 0 ∷ [])) none ∙ sym (last_stored 4 v low)
+  | inr high ↦
+      let one : min (v / 128) 1 ≡ 1 = omega arith in
+      ap (λ n. take (1 + n) (byte_of v (v / 128) ∷ v / 128 ∷ 0 ∷ 0 ∷ 0 ∷ [])) one ∙ sym (more_stored 3 v _ high (shortest_last 3 (v / 128) few))
+]

@@ -12,7 +12,7 @@ use Rattle.aig_core.specs.declared.circuit.Latch.{Latch}
 use Rattle.aig_core.specs.declared.circuit.Gate.{Gate}
 use Rattle.aig_core.specs.declared.circuit.Circuit.{Circuit}
 use Rattle.aig_text.specs.AsciiText.{line_text, numbers_text}
-use Rattle.aig_text.specs.Rows.{Row, row, output_form, output_row}
+use Rattle.aig_text.specs.Rows.{row, output_form, output_row}
 use Rattle.aig_binary.specs.BinaryGrammar.{binary_rows_of, numbered_literals}
 use Rattle.aig_binary.specs.BinaryOrder.{AreOrderedGates, IsInBinaryOrder}
 use Rattle.aig_binary.specs.BinaryText.{gate_text}

@@ -1,5 +1,5 @@
 //! Deltas: the numbers of gates in a binary file, in groups of seven bits, the lowest group first.
-ghost use Rattle.std.specs.Prelude.{◌≡◌, ◌+◌, ◌++◌, ◌^◌, ◌<◌, ◌≤◌, ◌↔◌, ℕ, length, drop, None, Some, IfSome};
+ghost use Rattle.std.specs.Prelude.{◌≡◌, ◌+◌, ◌*◌, ◌%◌, ◌++◌, ◌^◌, ◌<◌, ◌≤◌, ◌↔◌, ℕ, length, drop, min, None, Some, IfSome};
 ghost use Rattle.aig_core.specs.declared.block.TheConstants.{ROOM};
 ghost use Rattle.aig_text.specs.Outcomes.{Gives};
 ghost use Rattle.aig_binary.specs.Delta.{BeginsWithDelta, delta_at, shortest_delta};
@@ -50,39 +50,50 @@ impl Delta {
     }
 }
 
-/// The shortest spelling of a number of any size.
-fn put_groups(value: u32) -> Delta
+/// The byte of a group: its lowest seven bits, and the top bit where a number is left for other groups.
+#[inline(always)]
+fn byte_of(group: u32, left: u32) -> u8
+    ensures { result ≡ group % 128 + 128 * min left 1 }
+{
+    (group % 128 + 128 * left.min(1)) as u8
+}
+
+/// The shortest spelling of a number of any size, by the same steps for each.
+#[inline(always)]
+fn put_long(value: u32) -> Delta
     ensures { result ≡ shortest_delta value }
 {
-    let mut bytes = [0; LONGEST];
-    let mut rest = value;
-    for at in 0..LONGEST - 1 {
-        if rest < 128 {
-            bytes[at] = rest as u8;
-            return Delta { bytes, len: at + 1 };
-        }
-        bytes[at] = 128 + (rest % 128) as u8;
-        rest /= 128;
-    }
-    bytes[LONGEST - 1] = rest as u8;
+    let second = value / 128;
+    let third = second / 128;
+    let fourth = third / 128;
+    let fifth = fourth / 128;
+    let more = second.min(1) + third.min(1) + fourth.min(1) + fifth.min(1);
     Delta {
-        bytes,
-        len: LONGEST,
+        bytes: [
+            byte_of(value, second),
+            byte_of(second, third),
+            byte_of(third, fourth),
+            byte_of(fourth, fifth),
+            byte_of(fifth, 0),
+        ],
+        len: 1 + more as usize,
     }
 }
 
-/// The shortest spelling of a number.
-#[inline]
+/// The shortest spelling of a number. One and two bytes, which most gates have, are told apart without a branch: in a file
+/// they follow one another without a rule.
+#[inline(always)]
 pub fn put_delta(value: u32) -> Delta
     ensures { result ≡ shortest_delta value }
 {
-    if value < 128 {
+    let second = value / 128;
+    if second < 128 {
         return Delta {
-            bytes: [value as u8, 0, 0, 0, 0],
-            len: 1,
+            bytes: [byte_of(value, second), second as u8, 0, 0, 0],
+            len: 1 + second.min(1) as usize,
         };
     }
-    put_groups(value)
+    put_long(value)
 }
 
 /// A number below 2^32 alone, and how many bytes spell it.

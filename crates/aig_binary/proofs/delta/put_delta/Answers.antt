@@ -1,5 +1,5 @@
-use Rattle.aig_binary.proofs.Shortest.{one_stored}
+use Rattle.aig_binary.proofs.Shortest.{two_stored}
 use Rattle.aig_binary.proofs.delta.put_delta.Goals as goal
 
-pub returns-then-value-lt128 : goal.returns-then-value-lt128
-returns-then-value-lt128 c = one_stored c.args.value c.if-value-lt128.true
+pub returns-then-second-lt128 : goal.returns-then-second-lt128
+returns-then-second-lt128 c = rw (c.min.ensures, c.byte_of.ensures) (two_stored c.args.value c.if-second-lt128.true)
