@@ -14,6 +14,7 @@ use Rattle.aig_text.proofs.Grammar.Text.{accepted_is_read, reading_is_accepted}
 use Rattle.aig_binary.specs.BinaryGrammar.{binary_word, IsBinaryText}
 use Rattle.aig_binary.specs.BinaryReading.{binary_at, binary_reading}
 use Rattle.aig_binary.proofs.Grammar.Read.{accepted_is_read as binary_accepted}
+use Rattle.aig_binary.proofs.Grammar.Accepted.{reading_is_accepted as binary_is_accepted}
 use Rattle.aig_tools.specs.File.{IsFileOf, file_reading}
 
 -- a header that is read begins with its word
@@ -68,3 +69,10 @@ file_is_read limit text c (inl a) =
       | false ↦ λ e. accepted_is_read limit text c a
     ] refl
 file_is_read limit text c (inr a) = rw (binary_begins text limit c a) (binary_accepted text limit c a)
+
+pub read_is_file : (limit : ℕ) (text : List ℕ) (c : Circuit) → file_reading limit text ≡ Ok c → IsFileOf text limit c
+read_is_file limit text c =
+    elim (first_word_is binary_word (lines_of text)) as (λ b. cond b (binary_reading limit text) (reading limit text) ≡ Ok c → IsFileOf text limit c) [
+      | true ↦ λ h. inr (binary_is_accepted limit text c h)
+      | false ↦ λ h. inl (reading_is_accepted limit text c h)
+    ]
