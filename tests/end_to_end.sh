@@ -165,8 +165,9 @@ wants '' 'aiger: out of memory\n' 1
 check 'a file larger than the 20 MB of memory' within 20480 "$program" aigtoaig --ascii < "$work/in"
 
 # --- the examples ---
-for file in "$top"/examples/*.aag; do
-    canonical=$top/examples/canonical/${file##*/}
+for file in "$top"/examples/*.aag "$top"/examples/*.aig; do
+    canonical=${file##*/}
+    canonical=$top/examples/canonical/${canonical%.*}.aag
     wants '' '' 0
     cp "$canonical" "$work/want_out"
     check "the example ${file##*/}" convert < "$file"
