@@ -29,7 +29,11 @@ half adder
 /// The circuit of a text, in binary order.
 fn ordered_of(alloc: Global, text: &str) -> Result<Ordered, Fail> {
     let checked = read_binary(alloc, text.as_bytes(), Limits::default())?;
-    Ok(Ordered::try_from_checked(checked).ok().ok_or("the circuit is in binary order")?)
+    Ok(
+        Ordered::try_from_checked(checked)
+            .ok()
+            .ok_or("the circuit is in binary order")?,
+    )
 }
 
 #[test]

@@ -100,7 +100,10 @@ fn failed_writes(rt: HostRuntime) -> Result<(), Fail> {
             behaviour.failing_write = call;
             let outcome = convert(&rt, text, behaviour)?;
             assert!(rt; outcome.told(1, "aiger: -: cannot write\n"), "write {call}");
-            assert!(rt; written.starts_with(outcome.output.taken.as_slice()), "write {call}");
+            assert!(rt;
+                written.starts_with(outcome.output.taken.as_slice()),
+                "write {call}"
+            );
             assert_eq!(rt; outcome.output.calls, call + 1);
         }
     }
@@ -115,7 +118,10 @@ fn pieces(rt: HostRuntime) -> Result<(), Fail> {
         for piece in [1, 7, 30_000] {
             let outcome = convert(&rt, text, Behaviour::pieces_of(piece))?;
             assert!(rt; outcome.told(0, ""), "in pieces of {piece}");
-            assert!(rt; outcome.output.taken.as_slice() == written, "in pieces of {piece}");
+            assert!(rt;
+                outcome.output.taken.as_slice() == written,
+                "in pieces of {piece}"
+            );
             assert!(rt; outcome.output.longest <= 8192, "in pieces of {piece}");
         }
     }
