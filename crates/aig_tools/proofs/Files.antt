@@ -1,5 +1,5 @@
 -- The first word of a file tells its kind, so no text is the file of two circuits.
-use Rattle.std.proofs.Common.{◌≡◌, ◌∙◌, sym, refl, ap, ℕ, ◌+◌, cond, get_or, List, [], ◌∷◌, Bool, true, false, Result, Ok, Err, ◌⊎◌, inl, inr, arith, true≢false}
+use Rattle.std.proofs.Common.{◌≡◌, ◌∙◌, sym, refl, ap, ℕ, ◌+◌, cond, get_or, List, [], ◌∷◌, true, false, Ok, inl, inr, arith, true≢false}
 use Rattle.std.proofs.lemmas.Slice.Eq.{bytes_eq-Decides}
 use Rattle.std.specs.List.{before_first}
 use Rattle.aig_core.specs.declared.circuit.Circuit.{Circuit}
@@ -7,7 +7,7 @@ use Rattle.aig_text.specs.declared.header_line.Header.{Header}
 use Rattle.aig_text.specs.declared.fault.ReadFault.{ReadFault}
 use Rattle.aig_text.specs.Lines.{Line, lines_of}
 use Rattle.aig_text.specs.Rows.{ascii_word}
-use Rattle.aig_text.specs.Reading.{◌>>=◌, Told, at_line, ends_word, begins_with_word, first_word_is, header_of, header_within, header_at, circuit_at, reading}
+use Rattle.aig_text.specs.Reading.{at_line, ends_word, begins_with_word, first_word_is, header_of, header_at, circuit_at, reading}
 use Rattle.aig_text.specs.AsciiGrammar.{IsAsciiText}
 use Rattle.aig_text.proofs.Steps.{both_ok, ok_at_line, ok_same, let_through}
 use Rattle.aig_text.proofs.Grammar.Text.{accepted_is_read, reading_is_accepted}
