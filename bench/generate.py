@@ -9,8 +9,11 @@ kinds:
   gates-shuffled  the same circuit with its gates in any order
   gates-sparse    the same circuit, variables spread up to 2147483647 and shuffled
   gates-chain     N gates, each over the one before it and an input: as deep as a circuit can be
+  binary-far      N gates in a binary file, over any places before them: most deltas have three bytes
+  binary-near     the same, over the 60 places before them: each delta has one byte
 
-Each file is canonical, so a conversion to ASCII gives it back byte for byte, and it is the same on every machine.
+Each file is canonical and the same on every machine. A conversion to ASCII gives an ASCII file back byte for byte; what it
+gives of a binary file stands beside that, in NAME.aig.ascii.
 """
 import argparse
 import os
@@ -81,6 +84,39 @@ def gates(count, is_sparse=False, is_shuffled=False, is_chain=False):
     yield from lines
 
 
+def spelled(delta):
+    """The delta in groups of seven bits, the lowest first."""
+    groups = bytearray()
+    while delta > 127:
+        groups.append(delta % 128 + 128)
+        delta //= 128
+    groups.append(delta)
+    return bytes(groups)
+
+
+def binary(count, most):
+    """A circuit whose gates are over at most so many places before them: its binary text and its ASCII text."""
+    chance = random.Random(6)
+    first = 2 * ENDS
+    total = first + count
+    nexts = "".join(f"{chance.randrange(2 * total + 2)}\n" for _ in range(2 * ENDS))
+    text = bytearray(f"aig {total} {ENDS} {ENDS} {ENDS} {count}\n{nexts}", "ascii")
+    lines = [f"aag {total} {ENDS} {ENDS} {ENDS} {count}\n"]
+    lines += [f"{2 * place}\n" for place in range(1, ENDS + 1)]
+    for place, literal in enumerate(nexts.splitlines(True), ENDS + 1):
+        lines.append(f"{2 * place} {literal}" if place <= first else literal)
+    for place in range(first + 1, total + 1):
+        lowest = max(2, 2 * (place - most))
+        right, left = sorted(chance.randrange(lowest, 2 * place) for _ in range(2))
+        text += spelled(2 * place - left) + spelled(left - right)
+        lines.append(f"{2 * place} {left} {right}\n")
+    return text, lines
+
+
+BINARY_KINDS = {
+    "binary-far": lambda count: binary(count, count),
+    "binary-near": lambda count: binary(count, 60),
+}
 KINDS = {
     "latches": latches,
     "spread": spread,
@@ -90,24 +126,35 @@ KINDS = {
     "gates-sparse": lambda count: gates(count, is_sparse=True),
     "gates-chain": lambda count: gates(count, is_chain=True),
 }
-DEFAULT = [f"{kind}-{count}" for kind in KINDS for count in (100_000, 1_000_000)]
+DEFAULT = [f"{kind}-{count}" for kind in (*KINDS, *BINARY_KINDS) for count in (100_000, 1_000_000)]
 
 
 def file_name(text):
     """A name of the form KIND-N, for argparse."""
     form = re.fullmatch(r"(.+)-(\d+)", text)
-    if not form or form[1] not in KINDS or not 0 < int(form[2]) <= 10_000_000:
+    if not form or form[1] not in (*KINDS, *BINARY_KINDS) or not 0 < int(form[2]) <= 10_000_000:
         raise argparse.ArgumentTypeError(f"{text} is no KIND-N, with a kind that --help lists and N from 1 to 10000000")
     return text
+
+
+def path_of(name, folder=OUT):
+    """Where the file of that name goes."""
+    return os.path.join(folder, f"{name}.aig" if name.startswith("binary-") else f"{name}.aag")
 
 
 def write(name, folder=OUT):
     """Writes the file of that name, and returns its path."""
     kind, count = name.rsplit("-", 1)
     os.makedirs(folder, exist_ok=True)
-    path = os.path.join(folder, f"{name}.aag")
-    with open(path, "w", encoding="ascii") as file:
-        file.writelines(KINDS[kind](int(count)))
+    path = path_of(name, folder)
+    if kind in BINARY_KINDS:
+        text, lines = BINARY_KINDS[kind](int(count))
+        with open(path, "wb") as file:
+            file.write(text)
+    else:
+        lines = KINDS[kind](int(count))
+    with open(f"{path}.ascii" if kind in BINARY_KINDS else path, "w", encoding="ascii") as file:
+        file.writelines(lines)
     return path
 
 
@@ -115,7 +162,7 @@ def main():
     asked = argparse.ArgumentParser(description=__doc__, formatter_class=argparse.RawDescriptionHelpFormatter)
     sizes = "by default each kind with 100000 and 1000000"
     asked.add_argument("names", metavar="KIND-N", nargs="*", type=file_name, help=sizes)
-    asked.add_argument("--folder", default=OUT, help="where the files go, NAME.aag each (bench/out)")
+    asked.add_argument("--folder", default=OUT, help="where the files go, NAME.aag or NAME.aig each (bench/out)")
     given = asked.parse_args()
     for name in given.names or DEFAULT:
         print(write(name, given.folder))

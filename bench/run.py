@@ -49,10 +49,15 @@ def peak_bytes(command, source):
     return 1024 * int(ran.stderr.split()[-1])
 
 
-def gives_back(command, source, scratch):
-    """Whether the command gives the file back as it is: a wrong answer has no speed."""
+def ascii_of(file):
+    """The ASCII text that a conversion gives: the file itself, or what stands beside a binary one."""
+    return f"{file}.ascii" if file.endswith(".aig") else file
+
+
+def is_right(command, source, scratch):
+    """Whether the command gives the file's ASCII text: a wrong answer has no speed."""
     status = spawned(command, source, scratch)[2]
-    with open(source, "rb") as one, open(scratch, "rb") as other:
+    with open(ascii_of(source), "rb") as one, open(scratch, "rb") as other:
         return status == 0 and one.read() == other.read()
 
 
@@ -82,9 +87,9 @@ def measure(programs, files, runs):
     quotients = []
     for file in files:
         for name, command in programs.items():
-            if not gives_back(command, file, scratch):
-                sys.exit(f"bench/run.py: {name} did not give {file} back")
-        lines = lines_of(file)
+            if not is_right(command, file, scratch):
+                sys.exit(f"bench/run.py: {name} did not give the ASCII text of {file}")
+        lines = lines_of(ascii_of(file))
         times = best_seconds(commands, file, runs)
         memory = [max(peak_bytes(it, file) - floor, 0) for it, floor in zip(commands, floors)]
         quotients += [times[0] / it for it in times[1:]]
@@ -120,9 +125,9 @@ def main():
             sys.exit(f"bench/run.py: no such file: {file}")
     if given.runs < 1:
         sys.exit("bench/run.py: --runs takes a number from 1")
-    files = given.files or [f"{generate.OUT}/{it}.aag" for it in generate.DEFAULT]
+    files = given.files or [generate.path_of(it) for it in generate.DEFAULT]
     for name in generate.DEFAULT:
-        if not given.files and not os.path.isfile(f"{generate.OUT}/{name}.aag"):
+        if not given.files and not os.path.isfile(generate.path_of(name)):
             generate.write(name)
     commands = {name: [os.path.abspath(path), *WORDS] for name, path in programs.items()}
     measure(commands, files, given.runs)
