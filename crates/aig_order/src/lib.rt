@@ -1,0 +1,2 @@
+//! Conversion of circuits to binary order.
+#![tactic(auto)]
