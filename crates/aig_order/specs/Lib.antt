@@ -1,3 +1,5 @@
 pub mod Renumbering
+pub mod Numbers
+pub mod NewParts
 pub mod Image
 pub mod Laws

@@ -1,2 +1,5 @@
 //! Conversion of circuits to binary order.
 #![tactic(auto)]
+
+mod image;
+mod numbers;

@@ -1,0 +1,19 @@
+-- What stands in a circuit, by new numbers of variables.
+use Rattle.std.specs.Prelude.{◌+◌, ◌*◌, ◌%◌, ℕ, max, min}
+use Rattle.aig_core.specs.declared.circuit.Latch.{Latch}
+use Rattle.aig_core.specs.declared.circuit.Gate.{Gate}
+use Rattle.aig_core.specs.Literal.{variable_of}
+
+abbrev pub new_literal : (ℕ → ℕ) → ℕ → ℕ
+new_literal number literal = 2 * number (variable_of literal) + literal % 2
+
+abbrev pub new_latch : (ℕ → ℕ) → Latch → Latch
+new_latch number l = record { var = number l.var; next = new_literal number l.next }
+
+-- the larger operand first
+abbrev pub new_gate : (ℕ → ℕ) → Gate → Gate
+new_gate number g = record {
+  var = number g.var;
+  left = max (new_literal number g.left) (new_literal number g.right);
+  right = min (new_literal number g.left) (new_literal number g.right);
+}
