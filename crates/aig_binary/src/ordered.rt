@@ -1,13 +1,14 @@
 //! Circuits in binary order, and the test that tells them from the others.
 ghost use Rattle.std.specs.Prelude.{◌≡◌, ◌↔◌, ◌+◌, ◌^◌, ◌<◌, ◌≤◌, ℕ, length, IsTrue, IsOk, IfOk, IfErr};
-ghost use Rattle.aig_core.specs.Wellformed.{IsWithinLimits};
+ghost use Rattle.aig_core.specs.Wellformed.{IsWellFormed, IsWithinLimits};
 ghost use Rattle.aig_binary.specs.BinaryOrder.{IsInBinaryOrder};
 ghost use Rattle.aig_binary.specs.Parts.Numbered.{AreNumbered, AreSectionsInOrder, IsGateOf, IsInputOf, IsLatchOf};
 
 use aig_core::{Checked, Circuit, Gate, Latch, Var};
 use std::marker::Model;
 
-/// A circuit that is well formed and in binary order. Only `try_from_checked` makes one.
+/// A circuit that is well formed and in binary order. `try_from_checked` makes one of any circuit that is,
+/// `from_well_ordered` of one that is known to be.
 #[derive(Drop)]
 pub struct Ordered {
     checked: Checked,
@@ -94,6 +95,18 @@ fn is_in_binary_order(circuit: &Circuit) -> bool
 }
 
 impl Ordered {
+    /// A circuit that its maker knows to be well formed and in binary order: nothing is checked again, and no memory is
+    /// taken.
+    pub fn from_well_ordered(circuit: Circuit) -> Ordered
+        requires well_formed { IsWellFormed circuit }
+        requires in_order { IsInBinaryOrder circuit }
+        ensures { result ≡ circuit }
+    {
+        Ordered {
+            checked: Checked::from_well_formed(circuit),
+        }
+    }
+
     /// The circuit as one in binary order, or else as it came. It is gone over once, and no memory is taken.
     #[tactic(auto, using(crate::proofs::InOrder::by_sections, crate::proofs::InOrder::all_sections))]
     pub fn try_from_checked(checked: Checked) -> Result<Ordered, Checked>

@@ -7,7 +7,7 @@ use crate::listing::Listing;
 use std::alloc::Global;
 
 /// The same symbols in memory of their own.
-fn copy_symbols(alloc: Global, symbols: &Listing<Symbol>) -> Result<Listing<Symbol>, OutOfMemory>
+pub fn copy_symbols(alloc: Global, symbols: &Listing<Symbol>) -> Result<Listing<Symbol>, OutOfMemory>
     ensures { IfOk result (λ copies. copies ≡ symbols.now) }
 {
     let mut copies = Listing::new(alloc);
@@ -22,7 +22,7 @@ fn copy_symbols(alloc: Global, symbols: &Listing<Symbol>) -> Result<Listing<Symb
 }
 
 /// The same comment in memory of its own, if there is one.
-fn copy_comment(
+pub fn copy_comment(
     alloc: Global,
     comment: &Option<Listing<u8>>,
 ) -> Result<Option<Listing<u8>>, OutOfMemory>
