@@ -2,4 +2,5 @@
 #![tactic(auto)]
 
 mod image;
+pub mod laws;
 mod numbers;
