@@ -11,7 +11,9 @@ use Rattle.aig_tools.specs.declared.request.Request.{Request}
 use Rattle.aig_tools.specs.declared.request.Request.TheVariants as requests
 use Rattle.aig_tools.specs.Blame.{at_fault, sink_failures, source_failures, text_fault, TheSink}
 use Rattle.aig_tools.specs.File.{first_fault}
-use Rattle.aig_tools.specs.Conversion.{IsConversionText}
+use Rattle.aig_tools.specs.declared.fault.ToolFault.TheVariants as faults
+use Rattle.aig_core.specs.declared.circuit.Circuit.{Circuit}
+use Rattle.aig_tools.specs.Conversion.{IsConversionText, IsTextAs}
 
 -- the source gave all its bytes, the sink took the conversion text of them, and neither failed
 pub record Converted {R W : Type 0} (request : ToAig)
@@ -38,6 +40,13 @@ pub record Refused (request : ToAig) (coming left : Option (List ℕ)) (fault : 
   pub bytes : List ℕ
   pub gave : GaveAll coming left bytes
   pub is_first : IsFirstFault fault (first_fault request.max_var bytes)
+
+-- A circuit is not written: memory was refused and nothing was sent, or the sink failed and took a beginning of the text.
+abbrev pub NotWritten : {W : Type 0} → ToAig → Circuit → ToolFault → (W → Option (List ℕ)) → (W → ℕ) → W → W → Type 0
+NotWritten request written error taken sink_failed sink filled =
+    ((error ≡ faults.OutOfMemory) × (filled ≡ sink))
+    ⊎ ((error ≡ faults.Sink) × (sink_failed filled ≡ sink_failed sink + 1)
+    × ((text : List ℕ) × IsTextAs request.ascii written text × TookBeginning (taken sink) (taken filled) text))
 
 -- what an error of a conversion says of its source and its sink
 pub record NotConverted {R W : Type 0} (request : ToAig) (error : ToolFault)

@@ -1,5 +1,5 @@
 -- Which words ask for what (this project's profile).
-use Rattle.std.specs.Prelude.{ℕ, List, [], ◌∷◌, map, Option, None, Some, true, false, if◌then◌else◌}
+use Rattle.std.specs.Prelude.{ℕ, List, [], ◌∷◌, map, Bool, Option, None, Some, true, false, if◌then◌else◌}
 use Rattle.std.specs.Prelude.{codes, String, string_bytes}
 use Rattle.std.specs.Global.{Global}
 use Rattle.std.specs.Str.{bytes_eq}
@@ -12,10 +12,10 @@ use Rattle.aig_tools.specs.declared.request.Request.TheVariants as requests
 abbrev pub texts : List (String Global) → List (List ℕ)
 texts words = map (λ word. string_bytes word) words
 
--- ASCII from the standard input to the standard output
-abbrev pub ascii_conversion : ToAig
-ascii_conversion = record {
-  ascii = true;
+-- a conversion from the standard input to the standard output, to ASCII or to binary
+abbrev pub plain_conversion : Bool → ToAig
+plain_conversion ascii = record {
+  ascii = ascii;
   strip = false;
   keep_map = false;
   undo_map = false;
@@ -26,7 +26,8 @@ ascii_conversion = record {
 
 -- what the words after `aigtoaig` ask for
 abbrev pub conversion_of : List (List ℕ) → Option Request
-conversion_of (option ∷ []) = if bytes_eq option (codes "--ascii") then Some (requests.ToAig ascii_conversion) else None
+conversion_of [] = Some (requests.ToAig (plain_conversion false))
+conversion_of (option ∷ []) = if bytes_eq option (codes "--ascii") then Some (requests.ToAig (plain_conversion true)) else None
 conversion_of _ = None
 
 -- What the words ask for, where the program knows it. The first is the program's name, which is not looked at.

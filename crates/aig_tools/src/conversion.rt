@@ -1,13 +1,55 @@
 //! `aigtoaig`: conversion of AIGER files.
-ghost use Rattle.std.specs.Prelude.{◌≡◌, ◌-◌, ◌^◌, ◌<◌, false, IfErr, OnOk, true};
-ghost use Rattle.aig_tools.specs.Outcome.{Converted, NotConverted};
+ghost use Rattle.std.specs.Io.KnownBytes.{Appends};
+ghost use Rattle.std.specs.Prelude.{◌≡◌, ◌+◌, ◌-◌, ◌^◌, ◌<◌, ◌⊎◌, ℕ, List, false, IfErr, OnOk};
+ghost use Rattle.aig_tools.specs.Conversion.{IsTextAs, changed};
+ghost use Rattle.aig_tools.specs.Outcome.{Converted, NotConverted, NotWritten};
 
 use crate::fault::ToolFault;
 use crate::file::read_file;
 use crate::request::ToAig;
-use aig_core::{Sink, Source, read_all};
+use aig_binary::write_binary;
+use aig_core::{Checked, Circuit, Listing, Sink, Source, read_all};
+use aig_order::to_binary;
 use aig_text::{Limits, write_ascii};
 use std::alloc::Global;
+
+/// The circuit without its symbols and its comment, where the request asks for that.
+fn changed(alloc: Global, request: &ToAig, circuit: Checked) -> Checked
+    ensures { result ≡ changed request.now circuit }
+{
+    if !request.strip {
+        return circuit;
+    }
+    let found = circuit.into_circuit();
+    Checked::from_well_formed(Circuit {
+        symbols: Listing::new(alloc),
+        comment: None,
+        ..found
+    })
+}
+
+/// Writes the circuit in the form that the request asks for. Nothing is sent before its whole image was made.
+fn write<W: Sink>(
+    alloc: Global,
+    request: &ToAig,
+    circuit: Checked,
+    sink: &mut W,
+) -> Result<(), ToolFault>
+    requires { W.failed sink.old < 2 ^ 64 - 1 }
+    ensures ok { OnOk result ((text : List ℕ) × IsTextAs request.now.ascii circuit text
+        × Appends (W.taken sink.old) (W.taken sink.new) text × (W.failed sink.new ≡ W.failed sink.old)) }
+    ensures err { IfErr result (λ error. NotWritten request.now circuit error W.taken W.failed sink.old sink.new) }
+{
+    if request.ascii {
+        write_ascii(&circuit, sink)?;
+    } else {
+        let image = to_binary(alloc, &circuit)?;
+        // What was read is not needed from here on.
+        drop(circuit);
+        write_binary(&image, sink)?;
+    }
+    Ok(())
+}
 
 /// Reads the source to its end, and writes what the request asks for. Nothing is sent before the whole source was
 /// read and found right. It fails where a device fails, where the bytes are no file of a circuit, and where memory is
@@ -20,9 +62,7 @@ pub fn run_toaig<R: Source, W: Sink>(
 ) -> Result<(), ToolFault>
     requires source { R.failed source.old < 2 ^ 64 - 1 }
     requires sink { W.failed sink.old < 2 ^ 64 - 1 }
-    // So far ASCII is written, and nothing else is asked for.
-    requires ascii { request.now.ascii ≡ true }
-    requires strip { request.now.strip ≡ false }
+    // So far no record of a renumbering is kept or undone.
     requires keep_map { request.now.keep_map ≡ false }
     requires undo_map { request.now.undo_map ≡ false }
 
@@ -38,6 +78,6 @@ pub fn run_toaig<R: Source, W: Sink>(
     let circuit = read_file(alloc, bytes.as_slice(), limits)?;
     // The text is not needed from here on, and may be larger than the circuit.
     drop(bytes);
-    write_ascii(&circuit, sink)?;
-    Ok(())
+    let circuit = changed(alloc, request, circuit);
+    write(alloc, request, circuit, sink)
 }

@@ -26,7 +26,7 @@ pub enum ToolFault {
     /// The sink failed.
     #[error("{text}", text = CANNOT_WRITE)]
     Sink,
-    /// A growth of memory was refused while the source was gathered.
+    /// A growth of memory was refused, but while a file was judged: that is told as a fault of the file.
     #[error("{text}", text = OUT_OF_MEMORY)]
     OutOfMemory,
 }
@@ -52,6 +52,14 @@ impl From<ReadError> for ToolFault {
             ReadError::Source => ToolFault::Source,
             ReadError::OutOfMemory => ToolFault::OutOfMemory,
         }
+    }
+}
+
+impl From<aig_core::OutOfMemory> for ToolFault {
+    ghost from_gives = { λ _ told. told ≡ OutOfMemory };
+
+    fn from(_refused: aig_core::OutOfMemory) -> ToolFault {
+        ToolFault::OutOfMemory
     }
 }
 

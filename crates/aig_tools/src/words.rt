@@ -1,17 +1,17 @@
 //! What the words of the command line ask for.
 ghost use Rattle.std.specs.Prelude.{◌≡◌, IfSome};
 ghost use Rattle.aig_tools.specs.SoFar.{CanDo};
-ghost use Rattle.aig_tools.specs.Words.{ascii_conversion, conversion_of, request_of, texts};
+ghost use Rattle.aig_tools.specs.Words.{plain_conversion, conversion_of, request_of, texts};
 
 use crate::request::{Request, ToAig};
 use aig_text::Limits;
 
-/// The conversion that `aigtoaig --ascii` asks for.
-fn ascii_request() -> ToAig
-    ensures { result ≡ ascii_conversion }
+/// The conversion that `aigtoaig` asks for, or with `--ascii` to ASCII.
+fn plain_request(ascii: bool) -> ToAig
+    ensures { result ≡ plain_conversion ascii }
 {
     ToAig {
-        ascii: true,
+        ascii,
         strip: false,
         keep_map: false,
         undo_map: false,
@@ -27,7 +27,8 @@ fn conversion_of(options: &[String]) -> Option<Request>
     ensures can_do { IfSome result CanDo }
 {
     match options {
-        [option] if option.as_str() == "--ascii" => Some(Request::ToAig(ascii_request())),
+        [] => Some(Request::ToAig(plain_request(false))),
+        [option] if option.as_str() == "--ascii" => Some(Request::ToAig(plain_request(true))),
         _ => None,
     }
 }
