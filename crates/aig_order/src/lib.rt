@@ -1,2 +1,4 @@
 //! Conversion of circuits to binary order.
 #![tactic(auto)]
+
+pub mod laws;
