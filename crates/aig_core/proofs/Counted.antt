@@ -15,7 +15,7 @@ use Rattle.aig_core.proofs.Fitting.{at_most_below}
 use Rattle.aig_core.proofs.InForm.{joined}
 
 -- a number in two lists joined is in one of them
-among_either : (x : ℕ) (xs ys : List ℕ) → IsAmong x (xs ++ ys) → IsAmong x xs ⊎ IsAmong x ys
+pub among_either : (x : ℕ) (xs ys : List ℕ) → IsAmong x (xs ++ ys) → IsAmong x xs ⊎ IsAmong x ys
 among_either x [] ys a = inr a
 among_either x (z ∷ xs) ys a = ⊎_elim (λ e. inl (inl e)) (λ (b : IsAmong x (xs ++ ys)). ⊎_elim (λ i. inl (inr i)) (λ i. inr i) (among_either x xs ys b)) a
 

@@ -83,11 +83,11 @@ told_by_right p None = inl refl
 told_by_right p (Some x) = inr (inl refl)
 
 -- what follows distinct numbers is distinct
-distinct_back : (xs ys : List ℕ) → AreDistinct (xs ++ ys) → AreDistinct ys
+pub distinct_back : (xs ys : List ℕ) → AreDistinct (xs ++ ys) → AreDistinct ys
 distinct_back [] ys d = d
 distinct_back (x ∷ xs) ys d = distinct_back xs ys d.1
 
-abbrev variables : List Gate → List ℕ
+abbrev pub variables : List Gate → List ℕ
 variables gates = map (λ (g : Gate). g.var) gates
 
 pub stands_there : (gates : List Gate) (i : ℕ) → i < length gates → IsAmong (get_or gates i no_gate).var (variables gates)
@@ -114,7 +114,7 @@ module _ (gates : List Gate) where
       let told = position-Some (λ (g : Gate). eqb g.var v) gates p no_gate e in
       (told.0, (Decides-eqb (at p).var v).0 told.1)
 
-  gate_here : AreDistinct (variables gates) → (i : ℕ) → i < length gates → gate_of gates (at i).var ≡ Some i
+  pub gate_here : AreDistinct (variables gates) → (i : ℕ) → i < length gates → gate_of gates (at i).var ≡ Some i
   gate_here once i there =
       let place_is : position_or_len (λ (g : Gate). eqb g.var (at i).var) gates ≡ i =
       position_or_len_is (λ (g : Gate). eqb g.var (at i).var) gates i no_gate (omega arith) (λ k before. ne_eqb (at k).var (at i).var (differ gates once k i before there)) (λ _. (Decides-eqb (at i).var (at i).var).1 refl) in
@@ -131,7 +131,7 @@ module _ (gates : List Gate) where
       (told_by_either h _ _ (subst (λ xs. IsAmong h xs) (needed g there) used))
 
   -- and the other way round
-  needed_by : AreDistinct (variables gates) → (g h : ℕ) → g < length gates → h < length gates → IsAmong (at h).var (map variable_of (operands (at g))) → IsAmong h (gate_operands gates g)
+  pub needed_by : AreDistinct (variables gates) → (g h : ℕ) → g < length gates → h < length gates → IsAmong (at h).var (map variable_of (operands (at g))) → IsAmong h (gate_operands gates g)
   needed_by once g h there there_too among =
       let here : gate_of gates (at h).var ≡ Some h = gate_here once h there_too in
       subst (λ xs. IsAmong h xs) (sym (needed g there)) (

@@ -1,16 +1,12 @@
 -- Lists without repeats, joined.
 use Rattle.std.proofs.Common.{◌≡◌, ℕ, List, [], ◌∷◌, ◌++◌, refl, subst, ◌⊎◌, inl, inr, ⊎_elim}
 use Rattle.aig_core.specs.Wellformed.{IsAmong, AreDistinct}
+use Rattle.aig_core.proofs.Counted.{among_either}
 use Rattle.aig_core.proofs.Cyclic.{among_last}
 
 pub among_first : (xs ys : List ℕ) (x : ℕ) → IsAmong x xs → IsAmong x (xs ++ ys)
 among_first [] ys x a = absurd a
 among_first (z ∷ xs) ys x a = ⊎_elim (λ e. inl e) (λ (i : IsAmong x xs). inr (among_first xs ys x i)) a
-
--- a number in two lists joined is in one of them
-pub among_either : (xs ys : List ℕ) (x : ℕ) → IsAmong x (xs ++ ys) → IsAmong x xs ⊎ IsAmong x ys
-among_either [] ys x a = inr a
-among_either (z ∷ xs) ys x a = ⊎_elim (λ e. inl (inl e)) (λ (b : IsAmong x (xs ++ ys)). ⊎_elim (λ i. inl (inr i)) (λ i. inr i) (among_either xs ys x b)) a
 
 -- none of the front stands behind it
 pub apart : (xs ys : List ℕ) → AreDistinct (xs ++ ys) → (x : ℕ) → IsAmong x xs → ¬ IsAmong x ys
@@ -21,14 +17,10 @@ pub front : (xs ys : List ℕ) → AreDistinct (xs ++ ys) → AreDistinct xs
 front [] ys once = tt
 front (z ∷ xs) ys once = (λ a. once.0 (among_first xs ys z a), front xs ys once.1)
 
-pub back : (xs ys : List ℕ) → AreDistinct (xs ++ ys) → AreDistinct ys
-back [] ys once = once
-back (z ∷ xs) ys once = back xs ys once.1
-
 pub joined : (xs ys : List ℕ) → AreDistinct xs → AreDistinct ys → ((x : ℕ) → IsAmong x xs → ¬ IsAmong x ys) → AreDistinct (xs ++ ys)
 joined [] ys first last differ = last
 joined (z ∷ xs) ys first last differ =
-    (λ a. ⊎_elim first.0 (λ (b : IsAmong z ys). differ z (inl refl) b) (among_either xs ys z a), joined xs ys first.1 last (λ x i. differ x (inr i)))
+    (λ a. ⊎_elim first.0 (λ (b : IsAmong z ys). differ z (inl refl) b) (among_either z xs ys a), joined xs ys first.1 last (λ x i. differ x (inr i)))
 
 pub once_apart : (pre : List ℕ) (v : ℕ) (post : List ℕ) → AreDistinct (pre ++ v ∷ post) → ¬ IsAmong v pre
 once_apart pre v post once a = apart pre (v ∷ post) once v a (inl refl)

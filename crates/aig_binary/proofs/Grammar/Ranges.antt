@@ -8,7 +8,7 @@ use Rattle.aig_core.specs.Wellformed.{IsAmong, AreDistinct, IsKnown, defined_var
 use Rattle.aig_binary.specs.BinaryOrder.{AreOrderedGates, IsInBinaryOrder}
 
 -- numbers, and the next ones behind them
-ranges_joined : (a m n : ℕ) → range_with_len a m ++ range_with_len (a + m) n ≡ range_with_len a (m + n)
+pub ranges_joined : (a m n : ℕ) → range_with_len a m ++ range_with_len (a + m) n ≡ range_with_len a (m + n)
 ranges_joined a zero n = ap₂ range_with_len (omega arith) (omega arith)
 ranges_joined a (suc m) n =
     let next : a + suc m ≡ a + 1 + m = omega arith in
@@ -22,14 +22,14 @@ pub each_in_range : (P : ℕ → Type 0) (a n : ℕ) → ((x : ℕ) → a ≤ x 
 each_in_range P a zero p = tt
 each_in_range P a (suc n) p = (p a (omega arith) (omega arith), each_in_range P (a + 1) n (λ x low high. p x (omega arith) (omega arith)))
 
-among : (x a n : ℕ) → a ≤ x → x < a + n → IsAmong x (range_with_len a n)
+pub among : (x a n : ℕ) → a ≤ x → x < a + n → IsAmong x (range_with_len a n)
 among x a zero low high = absurd (omega arith)
 among x a (suc n) low high = elim (cases_lt a x) [
   | inl above ↦ inr (among x (a + 1) n (omega arith) (omega arith))
   | inr here ↦ inl (omega arith)
 ]
 
-not_below : (x a n : ℕ) → IsAmong x (range_with_len a n) → a ≤ x
+pub not_below : (x a n : ℕ) → IsAmong x (range_with_len a n) → a ≤ x
 not_below x a zero h = absurd h
 not_below x a (suc n) h = ⊎_elim (λ (e : x ≡ a). omega arith) (λ (i : IsAmong x (range_with_len (a + 1) n)). let low : a + 1 ≤ x = not_below x (a + 1) n i in omega arith) h
 
