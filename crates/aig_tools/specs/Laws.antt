@@ -1,5 +1,9 @@
 -- What the definitions of this crate say of one another.
-use Rattle.std.specs.Prelude.{◌≡◌, ◌↔◌, ℕ, List, Ok}
+use Rattle.std.specs.Prelude.{◌≡◌, ◌↔◌, ℕ, List, Ok, true, false}
+use Rattle.aig_core.specs.declared.circuit.TheConstants.{LARGEST}
+use Rattle.aig_core.specs.Wellformed.{IsWellFormed}
+use Rattle.aig_binary.specs.BinaryOrder.{IsInBinaryOrder}
+use Rattle.aig_binary.specs.BinaryText.{binary_text}
 use Rattle.aig_core.specs.declared.circuit.Circuit.{Circuit}
 use Rattle.aig_tools.specs.declared.request.ToAig.{ToAig}
 use Rattle.aig_tools.specs.File.{IsFileOf, file_reading}
@@ -17,3 +21,21 @@ FilesAreUnambiguous = (text : List ℕ) (limit : ℕ) (c d : Circuit) → IsFile
 abbrev pub ConversionsAreUnambiguous : Type 0
 ConversionsAreUnambiguous = (request : ToAig) (bytes text other : List ℕ)
     → IsConversionText request bytes text → IsConversionText request bytes other → text ≡ other
+
+-- a canonical binary file: the canonical text of a well-formed circuit in binary order
+abbrev pub IsCanonicalBinary : List ℕ → Type 0
+IsCanonicalBinary file = (c : Circuit) × IsWellFormed c × IsInBinaryOrder c × (file ≡ binary_text c)
+
+-- a conversion at the default limit that leaves nothing out
+pub record IsPlain (request : ToAig) : Type 0 where
+  pub strip : request.strip ≡ false
+  pub limit : request.max_var ≡ LARGEST
+
+-- every canonical binary file survives the trip through ASCII byte for byte
+abbrev pub BinarySurvivesAscii : Type 0
+BinarySurvivesAscii = (there back : ToAig) → IsPlain there → there.ascii ≡ true → IsPlain back → back.ascii ≡ false
+    → (file ascii binary : List ℕ) → IsCanonicalBinary file → IsConversionText there file ascii → IsConversionText back ascii binary → binary ≡ file
+
+-- the headline: its clauses so far
+pub record Headline : Type 0 where
+  pub binary_survives_ascii : BinarySurvivesAscii

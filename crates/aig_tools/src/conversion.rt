@@ -9,7 +9,7 @@ use crate::file::read_file;
 use crate::request::ToAig;
 use aig_binary::write_binary;
 use aig_core::{Checked, Circuit, Listing, Sink, Source, read_all};
-use aig_order::to_binary;
+use crate::stub::to_binary;
 use aig_text::{Limits, write_ascii};
 use std::alloc::Global;
 

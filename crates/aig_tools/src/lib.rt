@@ -8,6 +8,7 @@ pub mod laws;
 mod message;
 mod program;
 mod request;
+mod stub;
 mod words;
 
 pub use crate::conversion::run_toaig;
