@@ -1,5 +1,5 @@
 //! Laws: facts about the definitions alone, each the contract of a function with an empty body.
-ghost use Rattle.aig_order.specs.Laws.{ImageIsOrdered, ImageIsOne};
+ghost use Rattle.aig_order.specs.Laws.{ImageIsOrdered, ImageIsOne, OrderedIsItsOwnImage};
 
 /// The binary image of a well-formed circuit is well formed and in binary order.
 pub fn image_is_ordered()
@@ -9,4 +9,9 @@ pub fn image_is_ordered()
 /// A well-formed circuit has exactly one binary image.
 pub fn image_is_one()
     ensures { ImageIsOne }
+{}
+
+/// A well-formed circuit in binary order is its own binary image.
+pub fn ordered_is_its_own_image()
+    ensures { OrderedIsItsOwnImage }
 {}
