@@ -17,7 +17,7 @@ use Rattle.aig_core.proofs.Ranked.{over_one, needed, no_gate}
 use Rattle.aig_core.proofs.Ordered.{Stands, listed, open_ones, open_less}
 
 -- what holds of each holds of all
-all_of : (P : ℕ → Type 0) (xs : List ℕ) → ((x : ℕ) → IsAmong x xs → P x) → AllByRecursion P xs
+pub all_of : (P : ℕ → Type 0) (xs : List ℕ) → ((x : ℕ) → IsAmong x xs → P x) → AllByRecursion P xs
 all_of P [] each = tt
 all_of P (x ∷ xs) each = (each x (inl refl), all_of P xs (λ y a. each y (inr a)))
 

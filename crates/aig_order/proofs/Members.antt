@@ -1,5 +1,5 @@
 -- The least ready order of a well-formed circuit has each gate once, so its new order has each variable once.
-use Rattle.std.proofs.Common.{◌≡◌, ◌+◌, ◌<◌, ◌≤◌, ◌*◌, ℕ, List, [], ◌∷◌, ◌++◌, length, map, refl, sym, subst, inl, inr, ⊎_elim, append-nil, arith}
+use Rattle.std.proofs.Common.{◌≡◌, ◌+◌, ◌<◌, ◌≤◌, ◌*◌, ℕ, List, [], ◌++◌, length, map, sym, subst, inl, inr, ⊎_elim, append-nil, arith}
 use Rattle.std.specs.List.{AllByRecursion}
 use Rattle.aig_core.specs.declared.circuit.Latch.{Latch}
 use Rattle.aig_core.specs.declared.circuit.Circuit.{Circuit}
@@ -10,15 +10,11 @@ use Rattle.aig_core.proofs.Counted.{among_either}
 use Rattle.aig_core.proofs.Cyclic.{among_last}
 use Rattle.aig_core.proofs.Fitting.{each, at_most, at_most_below}
 use Rattle.aig_core.proofs.Ranked.{variables, stands_there, distinct_back, rank_exactly_where_all_are_ordered}
+use Rattle.aig_core.proofs.Steps.{all_of}
 use Rattle.aig_order.specs.Renumbering.{in_new_order, renumbered, renumbered_literal}
 use Rattle.aig_order.proofs.Distinct.{among_first, apart, front, joined}
 use Rattle.aig_order.proofs.Places.{number_within}
 use Rattle.aig_order.proofs.Taken.{each_once, all_there, place_there, taken_variables, among_taken, taken_has, taken_once}
-
--- what holds of each holds of all
-for_all : (P : ℕ → Type 0) (xs : List ℕ) → ((x : ℕ) → IsAmong x xs → P x) → AllByRecursion P xs
-for_all P [] holds = tt
-for_all P (x ∷ xs) holds = (holds x (inl refl), for_all P xs (λ y a. holds y (inr a)))
 
 module _ (c : Circuit) (order : List ℕ) (good : IsWellFormed c) (least : IsLeastReadyOrder c order) where
   abbrev pub first : List ℕ
@@ -70,7 +66,7 @@ module _ (c : Circuit) (order : List ℕ) (good : IsWellFormed c) (least : IsLea
       ⊎_elim (λ (i : IsAmong v first). among_first first (variables c.gates) v i) (λ (i : IsAmong v last). among_last first (variables c.gates) v (of_gates v i)) (among_either v first last a)
 
   pub new_fits : length new ≤ c.max_var
-  new_fits = at_most c.max_var new new_once (for_all (IsVariableUpTo c.max_var) new (λ v a. each (IsVariableUpTo c.max_var) (defined_variables c) good.in_range v (is_defined v a)))
+  new_fits = at_most c.max_var new new_once (all_of (IsVariableUpTo c.max_var) new (λ v a. each (IsVariableUpTo c.max_var) (defined_variables c) good.in_range v (is_defined v a)))
 
   -- a literal that may be used has a new one in range
   pub new_literal : (l : ℕ) → IsKnown (defined_variables c) l → renumbered_literal new l ≤ 2 * length new + 1

@@ -14,9 +14,9 @@ use Rattle.aig_core.proofs.InForm.{front, back}
 use Rattle.aig_core.proofs.Ranked.{no_gate, variables}
 use Rattle.aig_binary.specs.BinaryOrder.{IsInBinaryOrder}
 use Rattle.aig_binary.proofs.Grammar.Ranges.{variables_are}
-use Rattle.aig_order.specs.Image.{IsBinaryImage, latch_image, gate_image, image_by}
+use Rattle.aig_order.specs.Image.{IsBinaryImage, latch_image, gate_image}
 use Rattle.aig_order.specs.Renumbering.{in_new_order, renumbered, renumbered_literal, taken}
-use Rattle.aig_order.proofs.Own.{one_by_one, all_of_them, needs_fall}
+use Rattle.aig_order.proofs.OneByOne.{one_by_one, all_of_them, needs_fall}
 use Rattle.aig_order.proofs.Same.{same_variables, same_literals, same_latches, same_gates}
 
 module _ (c : Circuit) (good : IsWellFormed c) (ordered : IsInBinaryOrder c) where

@@ -1,5 +1,5 @@
 -- Where the variables are 1, 2, 3 and so on, new numbers are the old ones.
-use Rattle.std.proofs.Common.{◌≡◌, ◌+◌, ◌*◌, ◌/◌, ◌%◌, ◌<◌, ◌≤◌, ℕ, zero, suc, List, [], ◌∷◌, eqb, length, map, max, min, refl, ap, ap₂, ◌∙◌, arith}
+use Rattle.std.proofs.Common.{◌≡◌, ◌+◌, ◌*◌, ◌/◌, ◌≤◌, ℕ, zero, suc, List, [], ◌∷◌, eqb, map, max, min, refl, ap, ap₂, ◌∙◌, arith}
 use Rattle.std.specs.List.{AllByRecursion, position_or_len, range_with_len, flat_map}
 use Rattle.std.proofs.Math.Nat.{max-eq_left, min-eq_right}
 use Rattle.std.proofs.lemmas.Bool.{ne_eqb}

@@ -15,7 +15,7 @@ use Rattle.aig_binary.specs.BinaryOrder.{AreOrderedGates, IsInBinaryOrder}
 use Rattle.aig_order.specs.Image.{latch_image, gate_image, image_by}
 use Rattle.aig_order.specs.Renumbering.{renumbered, taken}
 use Rattle.aig_order.proofs.InTurn.{in_turn}
-use Rattle.aig_order.proofs.Members.{first, new, gates_once, new_once}
+use Rattle.aig_order.proofs.Members.{new, gates_once, new_once}
 use Rattle.aig_order.proofs.Places.{numbered_on}
 use Rattle.aig_order.proofs.Taken.{taken_variables}
 

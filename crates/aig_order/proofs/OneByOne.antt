@@ -1,12 +1,11 @@
 -- A well-formed circuit in binary order: the order of its gates is 0, 1, 2 and so on.
-use Rattle.std.proofs.Common.{◌≡◌, ◌+◌, ◌*◌, ◌/◌, ◌<◌, ◌≤◌, ℕ, zero, suc, List, [], ◌∷◌, length, map, refl, sym, subst, inl, inr, ⊎_elim, arith}
-use Rattle.std.specs.List.{AllByRecursion, range_with_len}
+use Rattle.std.proofs.Common.{◌≡◌, ◌+◌, ◌*◌, ◌/◌, ◌<◌, ◌≤◌, ℕ, zero, suc, List, [], ◌∷◌, length, map, inl, inr, ⊎_elim, arith}
+use Rattle.std.specs.List.{range_with_len}
 use Rattle.std.proofs.lemmas.Bool.{cases_lt}
 use Rattle.aig_core.specs.declared.circuit.Gate.{Gate}
 use Rattle.aig_core.specs.Literal.{variable_of}
-use Rattle.aig_core.specs.Wellformed.{IsAmong, operands}
+use Rattle.aig_core.specs.Wellformed.{IsAmong}
 use Rattle.aig_core.specs.Order.{IsReady, TakesLeast, IsFull, gate_operands}
-use Rattle.aig_core.proofs.Fitting.{each}
 use Rattle.aig_core.proofs.Ranked.{at, over_one, all_served}
 use Rattle.aig_binary.specs.BinaryOrder.{AreOrderedGates}
 use Rattle.aig_binary.proofs.Grammar.Ranges.{among}
