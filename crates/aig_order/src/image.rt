@@ -1,12 +1,19 @@
 //! The binary image of a circuit.
-ghost use Rattle.std.specs.Prelude.{◌≡◌, ◌+◌, ◌*◌, ◌%◌, ◌≤◌, ◌<◌, ℕ, length, map, IfOk};
+ghost use Rattle.std.specs.Prelude.{◌≡◌, ◌+◌, ◌≤◌, ◌<◌, ℕ, List, length, map, IfOk};
 ghost use Rattle.std.specs.List.{AllByRecursion};
-ghost use Rattle.aig_order.specs.Numbers.{number_at, AreSmall};
-ghost use Rattle.aig_order.specs.NewParts.{new_literal, new_latch, new_gate};
-ghost use Rattle.aig_order.specs.Renumbering.{taken};
+ghost use Rattle.aig_core.specs.Wellformed.{IsWellFormed};
+ghost use Rattle.aig_core.specs.Order.{IsLeastReadyOrder};
+ghost use Rattle.aig_order.specs.Numbers.{number_at, AreNumbered, AreSmall};
+ghost use Rattle.aig_order.specs.NewParts.{new_literal, new_latch, new_gate, new_circuit};
+ghost use Rattle.aig_order.specs.Renumbering.{taken, in_new_order};
+ghost use Rattle.aig_order.specs.Image.{IsBinaryImage};
 
 use crate::numbers::Numbers;
-use aig_core::{Gate, Latch, Listing, Lit, OutOfMemory, Var};
+use aig_binary::Ordered;
+use aig_core::{
+    Checked, Circuit, Gate, Latch, Listing, Lit, OutOfMemory, Var, copy_comment, copy_symbols,
+    gate_order,
+};
 use std::alloc::Global;
 
 /// The gates at these positions.
@@ -91,4 +98,57 @@ fn new_gates(alloc: Global, numbers: &Numbers, gates: &[Gate]) -> Result<Listing
         found.push(new_gate(numbers, gate))?;
     }
     Ok(Listing::from_vec(found))
+}
+
+/// The gates in their order, and the new numbers of all variables.
+fn in_order(alloc: Global, circuit: &Circuit) -> Result<(Vec<Gate>, Numbers), OutOfMemory>
+    requires { IsWellFormed circuit.now }
+    ensures { IfOk result (λ r. (order : List ℕ) × IsLeastReadyOrder circuit.now order
+        × (r.0.items ≡ taken circuit.now.gates order)
+        × AreNumbered r.1.noted r.1.places.items r.1.others (in_new_order circuit.now order)
+        × AreSmall r.1.places.items r.1.others) }
+{
+    let order = gate_order(alloc, circuit)?;
+    let gates = take_gates(alloc, circuit.gates.as_slice(), order.list())?;
+    let numbers = Numbers::new(alloc, circuit, gates.as_slice())?;
+    Ok((gates, numbers))
+}
+
+/// The circuit by new numbers, with these gates.
+fn by_numbers(
+    alloc: Global,
+    circuit: &Circuit,
+    gates: &[Gate],
+    numbers: &Numbers,
+) -> Result<Circuit, OutOfMemory>
+    requires small { AreSmall numbers.now.places.items numbers.now.others }
+    ensures { IfOk result (λ r. r ≡ new_circuit (number_at numbers.now.places.items numbers.now.others) numbers.now.noted circuit.now gates.now) }
+{
+    Ok(Circuit {
+        max_var: numbers.count(),
+        inputs: new_inputs(alloc, numbers, circuit.inputs.as_slice())?,
+        latches: new_latches(alloc, numbers, circuit.latches.as_slice())?,
+        outputs: new_outputs(alloc, numbers, circuit.outputs.as_slice())?,
+        gates: new_gates(alloc, numbers, gates)?,
+        symbols: copy_symbols(alloc, &circuit.symbols)?,
+        comment: copy_comment(alloc, &circuit.comment)?,
+    })
+}
+
+/// The binary image of a circuit.
+fn image(alloc: Global, circuit: &Circuit) -> Result<Circuit, OutOfMemory>
+    requires { IsWellFormed circuit.now }
+    ensures { IfOk result (λ r. IsBinaryImage circuit.now r) }
+{
+    let (gates, numbers) = in_order(alloc, circuit)?;
+    by_numbers(alloc, circuit, gates.as_slice(), &numbers)
+}
+
+/// The binary image of a circuit: the same circuit with its variables numbered anew, inputs first, then latches, then gates
+/// in the least ready order; the larger operand of each gate comes first. It fails for want of memory alone.
+pub fn to_binary(alloc: Global, checked: &Checked) -> Result<Ordered, OutOfMemory>
+    ensures { IfOk result (λ o. IsBinaryImage checked.now o) }
+{
+    let image = image(alloc, checked.circuit())?;
+    Ok(Ordered::from_well_ordered(image))
 }

@@ -4,3 +4,5 @@
 mod image;
 pub mod laws;
 mod numbers;
+
+pub use crate::image::to_binary;

@@ -72,6 +72,13 @@ impl Numbers {
         })
     }
 
+    /// How many variables have numbers.
+    pub(crate) fn count(&self) -> u32
+        ensures { result ≡ self.now.noted }
+    {
+        self.noted
+    }
+
     /// The number of a variable, 0 where it has none.
     pub(crate) fn number(&self, var: Var) -> u32
         ensures { result ≡ number_at self.now.places.items self.now.others var }
