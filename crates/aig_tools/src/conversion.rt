@@ -9,7 +9,7 @@ use crate::file::read_file;
 use crate::request::ToAig;
 use aig_binary::write_binary;
 use aig_core::{Checked, Circuit, Listing, Sink, Source, read_all};
-use crate::stub::to_binary;
+use aig_order::to_binary;
 use aig_text::{Limits, write_ascii};
 use std::alloc::Global;
 
@@ -42,12 +42,12 @@ fn write<W: Sink>(
 {
     if request.ascii {
         write_ascii(&circuit, sink)?;
-    } else {
-        let image = to_binary(alloc, &circuit)?;
-        // What was read is not needed from here on.
-        drop(circuit);
-        write_binary(&image, sink)?;
+        return Ok(());
     }
+    let image = to_binary(alloc, &circuit)?;
+    // What was read is not needed from here on.
+    drop(circuit);
+    write_binary(&image, sink)?;
     Ok(())
 }
 

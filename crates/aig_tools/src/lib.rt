@@ -8,7 +8,6 @@ pub mod laws;
 mod message;
 mod program;
 mod request;
-mod stub;
 mod words;
 
 pub use crate::conversion::run_toaig;
