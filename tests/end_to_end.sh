@@ -114,6 +114,8 @@ chain_comes_back() {
     check "200,000 gates come back: $1" convert < "$work/in"
 }
 chain_comes_back 'in the order of the chain' 1 200000
+through_binary() { "$program" aigtoaig < "$1" | convert; }
+check '200,000 gates in order come back through binary' through_binary "$work/in"
 chain_comes_back 'each before the gate that it is over' 200000 -1 1
 
 # chain_is_cyclic NAME LITERAL CLOSED NUMBER..

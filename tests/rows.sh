@@ -44,6 +44,7 @@ digits() { printf "%$1s" '' | tr ' ' "$2"; }
 
 accepts() { row "$1" "$2" "$3" '' 0 aigtoaig --ascii; }
 same() { accepts "$1" "$2" "$2"; }
+images() { row "$1" "$2" "$3" '' 0 aigtoaig; }
 refuses() { row "$1" "$2" '' "aiger: -: $3\n" 1 aigtoaig --ascii; }
 unknown() { local name=$1; shift; row "$name" 'aag 0 0 0 0 0\n' '' 'aiger: words not supported\n' 2 "$@"; }
 
@@ -61,6 +62,7 @@ rows() {
     rows_deltas
     rows_binary_lines
     rows_cuts
+    rows_images
     rows_words
 }
 
@@ -447,9 +449,34 @@ rows_cuts() {
     accepts 'the whole file with a tail' "$(first_of 22 "${tail[@]}")" "${head}i0 a\nc\nx"
 }
 
+# Conversion to binary: inputs and latches are numbered in the order of the file, and then gates, the next one always the
+# first in the file that is over nothing but what is numbered.
+rows_images() {
+    images 'the empty circuit to binary' 'aag 0 0 0 0 0\n' 'aig 0 0 0 0 0\n'
+    images 'a constant is not renumbered' 'aag 0 0 0 1 0\n1\n' 'aig 0 0 0 1 0\n1\n'
+    images 'a half adder to binary' \
+        'aag 7 2 0 2 3\n2\n4\n6\n12\n6 13 15\n12 2 4\n14 3 5\ni0 x\ni1 y\no0 s\no1 c\nc\nhalf adder\n' \
+        'aig 5 2 0 2 3\n10\n6\n\x02\x02\x03\x02\x01\x02i0 x\ni1 y\no0 s\no1 c\nc\nhalf adder\n'
+    images 'a gate that waits for the last one' 'aag 5 2 0 1 3\n2\n4\n6\n6 10 2\n8 2 4\n10 4 2\n' \
+        'aig 5 2 0 1 3\n10\n\x02\x02\x04\x02\x02\x06'
+    images 'a gate that is taken before a later one' 'aag 5 2 0 0 3\n2\n4\n6 8 2\n8 4 2\n10 4 2\n' \
+        'aig 5 2 0 0 3\n\x02\x02\x02\x04\x06\x02'
+    images 'equal operands' 'aag 2 1 0 1 1\n2\n4\n4 2 2\n' 'aig 2 1 0 1 1\n4\n\x02\x00'
+    images 'a gate of constants, the larger one first' 'aag 1 0 0 0 1\n2 0 1\n' 'aig 1 0 0 0 1\n\x01\x01'
+    images 'an input, a latch and a gate' 'aag 3 1 1 1 1\n2\n4 6\n6\n6 2 5\n' 'aig 3 1 1 1 1\n6\n6\n\x01\x03'
+    images 'unused variables go' 'aag 9 1 0 1 0\n18\n19\n' 'aig 1 1 0 1 0\n3\n'
+    images 'variables far apart' 'aag 2147483647 1 0 1 1\n4294967294\n4\n4 4294967295 1\n' 'aig 2 1 0 1 1\n4\n\x01\x02'
+    images 'gates that nothing uses, and equal ones' 'aag 3 1 0 0 2\n2\n4 2 2\n6 2 2\n' 'aig 3 1 0 0 2\n\x02\x00\x04\x00'
+    images 'latches after inputs, in the order of the file' 'aag 3 1 2 0 0\n6\n4 2\n2 7\n' 'aig 3 1 2 0 0\n6\n3\n'
+    images 'a binary file stays as it is' 'aig 2 1 0 1 1\n4\n\x02\x00i0 a\nc\nx' 'aig 2 1 0 1 1\n4\n\x02\x00i0 a\nc\nx'
+    images 'padded deltas to binary' 'aig 1 0 0 0 1\n\x81\x00\x01' 'aig 1 0 0 0 1\n\x01\x01'
+    row 'a cycle to binary' 'aag 3 1 0 0 2\n2\n4 6 2\n6 4 2\n' '' 'aiger: -: gate 4 depends on a cycle\n' 1 aigtoaig
+    row 'a bad line to binary' 'aag 1 1 0 0 0\nx\n' '' 'aiger: -: line 2: bad line\n' 1 aigtoaig
+}
+
 rows_words() {
     unknown 'no words'
-    unknown 'a subcommand alone' aigtoaig
+    unknown 'a word after the subcommand' aigtoaig x
     unknown 'a word too many' aigtoaig --ascii x
     unknown 'an empty word too many' aigtoaig --ascii ''
     unknown 'the option twice' aigtoaig --ascii --ascii
