@@ -1,7 +1,5 @@
 -- The numbers of variables that are noted one after the other.
-use Rattle.std.proofs.Common.{◌≡◌, ◌≢◌, ◌<◌, ◌≤◌, ◌+◌, ℕ, List, [], ◌∷◌, ◌++◌, Bool, true, false, cond, eqb, length, get_or, take, map, Option, None, Some, refl, sym, ap, ap₂, subst, ◌∙◌, ⊎_elim, length-append, arith}
-use Rattle.std.specs.List.{position_or_len}
-use Rattle.std.specs.Option.{unwrap_or}
+use Rattle.std.proofs.Common.{◌≡◌, ◌≢◌, ◌<◌, ◌≤◌, ◌+◌, ℕ, List, [], ◌∷◌, ◌++◌, true, false, cond, eqb, length, get_or, take, map, Some, sym, ap, ap₂, subst, ◌∙◌, ⊎_elim, length-append, arith}
 use Rattle.std.specs.Ordering.{nat_cmp}
 use Rattle.std.specs.Cmp.{eq_by_cmp_equiv, unsigned_tied}
 use Rattle.std.specs.BTreeMap.{BTreeMap, get, Updates}
@@ -11,7 +9,7 @@ use Rattle.std.proofs.lemmas.Grind.{common_steps}
 use Rattle.std.proofs.lemmas.List.{take_more, map-append, map-id, append_assoc, length-map}
 use Rattle.std.proofs.lemmas.List.Folds.{position_or_len_push}
 use Rattle.std.proofs.lemmas.List.Sums.{prefix_len-le-length}
-use Rattle.aig_order.specs.Numbers.{number_at, number_in, AreNumbered}
+use Rattle.aig_order.specs.Parts.Numbers.{number_at, number_in, AreNumbered}
 
 -- a tree that notes one more variable
 pub in_tree : (places : List ℕ) (old new : BTreeMap ℕ ℕ) (var n : ℕ) → length places ≤ var → Updates nat_cmp old new var (Some n) → number_at places old var ≡ 0

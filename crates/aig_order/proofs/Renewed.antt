@@ -1,8 +1,8 @@
 -- The circuit by the numbers that were noted is the image.
-use Rattle.std.proofs.Common.{◌≡◌, ◌≢◌, ◌+◌, ◌*◌, ◌/◌, ◌%◌, ◌<◌, ◌≤◌, ℕ, zero, suc, List, [], ◌∷◌, ◌++◌, true, false, cond, eqb, ltb, length, map, max, min, refl, sym, ap, ap₂, subst, ◌∙◌, ◌⊎◌, inl, inr, ⊎_elim, arith}
+use Rattle.std.proofs.Common.{◌≡◌, ◌≢◌, ◌+◌, ◌*◌, ◌%◌, ◌<◌, ◌≤◌, ℕ, zero, suc, List, [], ◌∷◌, ◌++◌, true, false, eqb, length, map, refl, sym, ap, ap₂, subst, ◌∙◌, inl, inr, ⊎_elim, arith}
 use Rattle.std.specs.List.{AllByRecursion, position_or_len, flat_map}
 use Rattle.std.specs.BTreeMap.{BTreeMap}
-use Rattle.std.proofs.lemmas.Bool.{ne_eqb, lt-ltb}
+use Rattle.std.proofs.lemmas.Bool.{ne_eqb}
 use Rattle.std.proofs.lemmas.Bool.Decides.{eqb_tells}
 use Rattle.std.proofs.lemmas.Grind.{common_steps}
 use Rattle.std.proofs.lemmas.List.{length-map}
@@ -19,8 +19,8 @@ use Rattle.aig_core.proofs.Fitting.{each, definitions_fit}
 use Rattle.aig_core.proofs.InForm.{front, back}
 use Rattle.aig_core.proofs.Ranked.{at, variables, stands_there}
 use Rattle.aig_order.specs.Image.{latch_image, gate_image, image_by, IsBinaryImage}
-use Rattle.aig_order.specs.NewParts.{new_literal, new_latch, new_gate, new_circuit}
-use Rattle.aig_order.specs.Numbers.{number_at, number_in, AreNumbered, AreSmall}
+use Rattle.aig_order.specs.Parts.Renewed.{new_literal, new_latch, new_gate, new_circuit}
+use Rattle.aig_order.specs.Parts.Numbers.{number_at, number_in, AreNumbered, AreSmall}
 use Rattle.aig_order.specs.Renumbering.{in_new_order, renumbered, renumbered_literal, taken}
 use Rattle.aig_order.proofs.Distinct.{among_first}
 use Rattle.aig_order.proofs.Members.{new_literal as known_fits, not_more}

@@ -1,5 +1,4 @@
 pub mod Renumbering
-pub mod Numbers
-pub mod NewParts
 pub mod Image
 pub mod Laws
+pub mod Parts

@@ -3,8 +3,8 @@ ghost use Rattle.std.specs.Prelude.{◌≡◌, ◌+◌, ◌≤◌, ◌<◌, ℕ,
 ghost use Rattle.std.specs.List.{AllByRecursion};
 ghost use Rattle.aig_core.specs.Wellformed.{IsWellFormed};
 ghost use Rattle.aig_core.specs.Order.{IsLeastReadyOrder};
-ghost use Rattle.aig_order.specs.Numbers.{number_at, AreNumbered, AreSmall};
-ghost use Rattle.aig_order.specs.NewParts.{new_literal, new_latch, new_gate, new_circuit};
+ghost use Rattle.aig_order.specs.Parts.Numbers.{number_at, AreNumbered, AreSmall};
+ghost use Rattle.aig_order.specs.Parts.Renewed.{new_literal, new_latch, new_gate, new_circuit};
 ghost use Rattle.aig_order.specs.Renumbering.{taken, in_new_order};
 ghost use Rattle.aig_order.specs.Image.{IsBinaryImage};
 

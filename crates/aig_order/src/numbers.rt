@@ -2,8 +2,8 @@
 ghost use Rattle.std.specs.Prelude.{◌≡◌, ◌+◌, ◌*◌, ◌%◌, ◌==◌, ◌≤◌, ◌<◌, ◌++◌, ℕ, List, [], ◌∷◌, length, map, IfOk, OnOk, if◌then◌else◌};
 ghost use Rattle.aig_core.specs.declared.circuit.Latch.{Latch as LatchRecord};
 ghost use Rattle.aig_core.specs.declared.circuit.Gate.{Gate as GateRecord};
-ghost use Rattle.aig_order.specs.NewParts.{new_literal};
-ghost use Rattle.aig_order.specs.Numbers.{number_at, AreNumbered, AreSmall};
+ghost use Rattle.aig_order.specs.Parts.Renewed.{new_literal};
+ghost use Rattle.aig_order.specs.Parts.Numbers.{number_at, AreNumbered, AreSmall};
 
 use aig_core::{Circuit, Gate, LARGEST, Latch, Lit, Var};
 use std::alloc::{AllocError, Global};

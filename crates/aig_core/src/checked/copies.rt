@@ -7,7 +7,10 @@ use crate::listing::Listing;
 use std::alloc::Global;
 
 /// The same symbols in memory of their own.
-pub fn copy_symbols(alloc: Global, symbols: &Listing<Symbol>) -> Result<Listing<Symbol>, OutOfMemory>
+pub fn copy_symbols(
+    alloc: Global,
+    symbols: &Listing<Symbol>,
+) -> Result<Listing<Symbol>, OutOfMemory>
     ensures { IfOk result (λ copies. copies ≡ symbols.now) }
 {
     let mut copies = Listing::new(alloc);

@@ -1,8 +1,8 @@
 use Rattle.std.proofs.Common.{◌≡◌, ◌∙◌, ap}
 use Rattle.std.proofs.lemmas.Result.{IfOk-weaker}
 use Rattle.aig_order.specs.Image.{IsBinaryImage}
-use Rattle.aig_order.specs.NewParts.{new_circuit}
-use Rattle.aig_order.specs.Numbers.{number_at}
+use Rattle.aig_order.specs.Parts.Renewed.{new_circuit}
+use Rattle.aig_order.specs.Parts.Numbers.{number_at}
 use Rattle.aig_order.proofs.Renewed.{is_image}
 use Rattle.aig_order.proofs.image.image.Goals as goal
 

@@ -1,7 +1,7 @@
-use Rattle.std.proofs.Common.{◌≡◌, ◌∙◌, ◌++◌, ap₂, map, subst}
+use Rattle.std.proofs.Common.{◌∙◌, ◌++◌, ap₂, map, subst}
 use Rattle.aig_core.specs.declared.circuit.Latch.{Latch}
 use Rattle.aig_core.specs.declared.circuit.Gate.{Gate}
-use Rattle.aig_order.specs.Numbers.{AreNumbered}
+use Rattle.aig_order.specs.Parts.Numbers.{AreNumbered}
 use Rattle.aig_order.specs.Renumbering.{taken}
 use Rattle.aig_order.proofs.Renewed.{fits}
 use Rattle.aig_order.proofs.image.in_order.Goals as goal

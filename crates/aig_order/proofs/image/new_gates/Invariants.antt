@@ -1,6 +1,6 @@
 use Rattle.std.proofs.Common.{◌≡◌, map, take}
-use Rattle.aig_order.specs.Numbers.{number_at}
-use Rattle.aig_order.specs.NewParts.{new_gate}
+use Rattle.aig_order.specs.Parts.Numbers.{number_at}
+use Rattle.aig_order.specs.Parts.Renewed.{new_gate}
 use Rattle.aig_order.proofs.image.new_gates.Given as goal
 
 abbrev pub invariant-loop-gate : goal.invariant-loop-gate

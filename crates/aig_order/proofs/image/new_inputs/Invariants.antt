@@ -1,5 +1,5 @@
 use Rattle.std.proofs.Common.{◌≡◌, map, take}
-use Rattle.aig_order.specs.Numbers.{number_at}
+use Rattle.aig_order.specs.Parts.Numbers.{number_at}
 use Rattle.aig_order.proofs.image.new_inputs.Given as goal
 
 abbrev pub invariant-loop-input : goal.invariant-loop-input

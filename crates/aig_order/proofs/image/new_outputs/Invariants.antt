@@ -1,6 +1,6 @@
 use Rattle.std.proofs.Common.{◌≡◌, map, take}
-use Rattle.aig_order.specs.Numbers.{number_at}
-use Rattle.aig_order.specs.NewParts.{new_literal}
+use Rattle.aig_order.specs.Parts.Numbers.{number_at}
+use Rattle.aig_order.specs.Parts.Renewed.{new_literal}
 use Rattle.aig_order.proofs.image.new_outputs.Given as goal
 
 abbrev pub invariant-loop-output : goal.invariant-loop-output

@@ -1,5 +1,5 @@
 use Rattle.std.proofs.Common.{◌++◌, [], ◌∷◌, ap, ◌∙◌, arith, subst, take, map}
-use Rattle.aig_order.specs.Numbers.{AreNumbered}
+use Rattle.aig_order.specs.Parts.Numbers.{AreNumbered}
 use Rattle.aig_order.proofs.Noted.{one_more, variables_more}
 use Rattle.aig_order.proofs.numbers.Numbers.note_all.Goals as goal
 

@@ -1,5 +1,5 @@
 use Rattle.std.proofs.Common.{◌≡◌, ◌+◌, ◌++◌, ℕ, List, map, take}
-use Rattle.aig_order.specs.Numbers.{AreNumbered}
+use Rattle.aig_order.specs.Parts.Numbers.{AreNumbered}
 use Rattle.aig_order.proofs.numbers.Numbers.note_all.Given as goal
 
 abbrev pub invariant-loop-item : goal.invariant-loop-item
