@@ -1,12 +1,11 @@
 -- What is written for bytes is one text, and a canonical binary file comes back through ASCII.
-use Rattle.std.proofs.Common.{◌≡◌, ◌∙◌, sym, refl, ap, subst, ℕ, List, Bool, true, false, cond, inl, inr}
+use Rattle.std.proofs.Common.{◌≡◌, ◌∙◌, sym, refl, ap, subst, ℕ, List, Bool, true, false, inl, inr}
 use Rattle.aig_core.specs.declared.circuit.Circuit.{Circuit}
 use Rattle.aig_core.specs.declared.circuit.TheConstants.{LARGEST}
 use Rattle.aig_core.specs.Wellformed.{IsWellFormed}
 use Rattle.aig_core.proofs.Fitting.{definitions_fit, well_formed_in_form}
 use Rattle.aig_text.specs.AsciiText.{ascii_text}
 use Rattle.aig_text.proofs.Canonical.Text.{canonical_text}
-use Rattle.aig_binary.specs.BinaryOrder.{IsInBinaryOrder}
 use Rattle.aig_binary.specs.BinaryText.{binary_text}
 use Rattle.aig_binary.proofs.Canonical.{canonical_binary}
 use Rattle.aig_order.specs.Image.{IsBinaryImage}
@@ -14,7 +13,7 @@ use Rattle.aig_order.proofs.One.{image_is_one}
 use Rattle.aig_order.proofs.OwnImage.{own_image}
 use Rattle.aig_tools.specs.declared.request.ToAig.{ToAig}
 use Rattle.aig_tools.specs.File.{IsFileOf}
-use Rattle.aig_tools.specs.Conversion.{IsTextAs, IsConversionText, changed, stripped}
+use Rattle.aig_tools.specs.Conversion.{IsTextAs, IsConversionText, changed}
 use Rattle.aig_tools.specs.Laws.{IsPlain, IsCanonicalBinary}
 use Rattle.aig_tools.proofs.Files.{one_circuit}
 
