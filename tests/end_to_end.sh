@@ -115,6 +115,7 @@ chain_comes_back() {
 }
 chain_comes_back 'in the order of the chain' 1 200000
 through_binary() { "$program" aigtoaig < "$1" | convert; }
+through_ascii() { convert < "$1" | "$program" aigtoaig; }
 check '200,000 gates in order come back through binary' through_binary "$work/in"
 chain_comes_back 'each before the gate that it is over' 200000 -1 1
 
@@ -166,6 +167,10 @@ large 0 2000000 0 > "$work/in"
 wants '' 'aiger: out of memory\n' 1
 check 'a file larger than the 20 MB of memory' within 20480 "$program" aigtoaig --ascii < "$work/in"
 
+# --- binary images ---
+wants '' '' 0
+check 'binary images of circuits made by chance' "$top/tests/images.py" "$program"
+
 # --- the examples ---
 for file in "$top"/examples/*.aag "$top"/examples/*.aig; do
     canonical=${file##*/}
@@ -174,6 +179,9 @@ for file in "$top"/examples/*.aag "$top"/examples/*.aig; do
     cp "$canonical" "$work/want_out"
     check "the example ${file##*/}" convert < "$file"
     check "the example ${file##*/}, once more" convert < "$canonical"
+    "$program" aigtoaig < "$file" > "$work/want_out"
+    cp "$work/want_out" "$work/in"
+    check "the binary image of ${file##*/} comes back" through_ascii "$work/in"
 done
 
 . "$top/tests/launcher.sh"

@@ -26,9 +26,11 @@ ConversionsAreUnambiguous = (request : ToAig) (bytes text other : List ℕ)
 abbrev pub IsCanonicalBinary : List ℕ → Type 0
 IsCanonicalBinary file = (c : Circuit) × IsWellFormed c × IsInBinaryOrder c × (file ≡ binary_text c)
 
--- a conversion at the default limit that leaves nothing out
+-- a conversion at the default limit that leaves nothing out, and keeps and undoes no record
 pub record IsPlain (request : ToAig) : Type 0 where
   pub strip : request.strip ≡ false
+  pub keep_map : request.keep_map ≡ false
+  pub undo_map : request.undo_map ≡ false
   pub limit : request.max_var ≡ LARGEST
 
 -- every canonical binary file survives the trip through ASCII byte for byte

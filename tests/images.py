@@ -1,0 +1,98 @@
+#!/usr/bin/env python3
+"""Compares what the program writes in binary with the images that a plain search gives, on circuits made by chance.
+
+    tests/images.py PROGRAM
+
+Each circuit has shuffled gates, variables far apart, unused indices, symbols and perhaps a comment. Its gates are placed by
+looking at all of them again for each: the next one is the first in the file whose operands over gates are all placed. What
+the program writes must be that image's file, and its ASCII text must give the file again.
+"""
+import random
+import subprocess
+import sys
+
+CIRCUITS = 300
+
+
+def circuit(chance):
+    """The variables of inputs and latches, next literals, outputs, and gates of three literals in any order."""
+    inputs, latches, count = (chance.randrange(most) for most in (5, 4, 12))
+    total = inputs + latches + count
+    largest = chance.choice([total + 3, 1000, 2147483647])
+    variables = chance.sample(range(1, largest + 1), total)
+    first = inputs + latches
+
+    def literal(places):
+        place = chance.randrange(places + 1)
+        return chance.randrange(2) + (2 * variables[place - 1] if place else 0)
+
+    gates = [(2 * variables[place], literal(place), literal(place)) for place in range(first, total)]
+    chance.shuffle(gates)
+    nexts = [literal(total) for _ in range(latches)]
+    outputs = [literal(total) for _ in range(chance.randrange(4))]
+    tail = "".join(f"i{at} name {at}\n" for at in range(inputs) if chance.randrange(2))
+    tail += chance.choice(["", "c\n", "c\nmade by chance\n", "c\nno line feed"])
+    return largest, variables[:inputs], variables[inputs:first], nexts, outputs, gates, tail
+
+
+def ascii_text(largest, inputs, latches, nexts, outputs, gates, tail):
+    lines = [f"aag {largest} {len(inputs)} {len(latches)} {len(outputs)} {len(gates)}"]
+    lines += [str(2 * variable) for variable in inputs]
+    lines += [f"{2 * variable} {literal}" for variable, literal in zip(latches, nexts)]
+    lines += [str(literal) for literal in outputs]
+    lines += [f"{own} {left} {right}" for own, left, right in gates]
+    return ("\n".join(lines) + "\n" + tail).encode()
+
+
+def placed(gates):
+    """The gates in their order, each found by looking at all of them."""
+    own, order = {gate[0] // 2 for gate in gates}, []
+    while len(order) < len(gates):
+        done = {gate[0] // 2 for gate in order}
+        order.append(next(it for it in gates if it not in order and all(x // 2 not in own - done for x in it[1:])))
+    return order
+
+
+def spelled(delta):
+    groups = bytearray()
+    while delta > 127:
+        groups.append(delta % 128 + 128)
+        delta //= 128
+    return bytes(groups + bytes([delta]))
+
+
+def image(_largest, inputs, latches, nexts, outputs, gates, tail):
+    order = placed(gates)
+    new = {old: at for at, old in enumerate([0, *inputs, *latches, *(gate[0] // 2 for gate in order)])}
+
+    def literal(old):
+        return 2 * new[old // 2] + old % 2
+
+    total = len(inputs) + len(latches) + len(gates)
+    text = f"aig {total} {len(inputs)} {len(latches)} {len(outputs)} {len(gates)}\n"
+    text += "".join(f"{literal(it)}\n" for it in nexts + outputs)
+    deltas = b""
+    for own, *operands in order:
+        right, left = sorted(map(literal, operands))
+        deltas += spelled(literal(own) - left) + spelled(left - right)
+    return text.encode() + deltas + tail.encode()
+
+
+def converted(program, text, *words):
+    ran = subprocess.run([program, "aigtoaig", *words], input=text, capture_output=True, check=False)
+    return ran.stdout if (ran.returncode, ran.stderr) == (0, b"") else ran
+
+
+def main(program):
+    chance = random.Random(7)
+    for number in range(CIRCUITS):
+        made = circuit(chance)
+        text, wanted = ascii_text(*made), image(*made)
+        if converted(program, text) != wanted:
+            sys.exit(f"circuit {number} has another image: {text!r}")
+        if converted(program, converted(program, wanted, "--ascii")) != wanted:
+            sys.exit(f"the image of circuit {number} does not come back: {wanted!r}")
+
+
+if __name__ == "__main__":
+    main(*sys.argv[1:])
