@@ -4,6 +4,8 @@ use Rattle.aig_core.specs.declared.circuit.Circuit.{Circuit}
 use Rattle.aig_core.specs.Wellformed.{IsWellFormed}
 use Rattle.aig_binary.specs.BinaryOrder.{IsInBinaryOrder}
 use Rattle.aig_order.specs.Image.{IsBinaryImage}
+use Rattle.aig_order.specs.MapBlock.{IsMappedImage}
+use Rattle.aig_order.specs.Undone.{IsUndoneFrom}
 
 -- the image of a well-formed circuit is well formed and in binary order
 abbrev pub ImageIsOrdered : Type 0
@@ -16,3 +18,19 @@ ImageIsOne = (c : Circuit) → IsWellFormed c → (image : Circuit) × IsBinaryI
 -- a well-formed circuit in binary order is its own image
 abbrev pub OrderedIsItsOwnImage : Type 0
 OrderedIsItsOwnImage = (c : Circuit) → IsWellFormed c → IsInBinaryOrder c → IsBinaryImage c c
+
+-- a well-formed circuit has exactly one mapped image, which is well formed and in binary order
+abbrev pub MappedImageIsOne : Type 0
+MappedImageIsOne = (c : Circuit) → IsWellFormed c
+    → (image : Circuit) × IsMappedImage c image × IsWellFormed image × IsInBinaryOrder image × ((other : Circuit) → IsMappedImage c other → other ≡ image)
+
+-- of a mapped image, the circuit is undone, and no other
+abbrev pub UndoingRecovers : Type 0
+UndoingRecovers = (c image : Circuit) → IsWellFormed c → IsMappedImage c image
+    → IsUndoneFrom image c × ((other : Circuit) → IsUndoneFrom image other → other ≡ c)
+
+-- what a circuit is undone from is its mapped image, and no two well-formed circuits have one mapped image
+abbrev pub OnlyMappedImagesAreUndone : Type 0
+OnlyMappedImagesAreUndone = (image c d : Circuit)
+    → (IsUndoneFrom image c → IsWellFormed c × IsMappedImage c image)
+    × (IsWellFormed c → IsWellFormed d → IsMappedImage c image → IsMappedImage d image → c ≡ d)

@@ -1,3 +1,4 @@
 -- What only private functions cite. What the crate promises stands in the other files.
+pub mod MapOutcomes
 pub mod Numbers
 pub mod Renewed

@@ -1,5 +1,6 @@
 //! Laws: facts about the definitions alone, each the contract of a function with an empty body.
 ghost use Rattle.aig_order.specs.Laws.{ImageIsOrdered, ImageIsOne, OrderedIsItsOwnImage};
+ghost use Rattle.aig_order.specs.Laws.{MappedImageIsOne, UndoingRecovers, OnlyMappedImagesAreUndone};
 
 /// The binary image of a well-formed circuit is well formed and in binary order.
 pub fn image_is_ordered()
@@ -14,4 +15,19 @@ pub fn image_is_one()
 /// A well-formed circuit in binary order is its own binary image.
 pub fn ordered_is_its_own_image()
     ensures { OrderedIsItsOwnImage }
+{}
+
+/// A well-formed circuit has exactly one mapped image, which is well formed and in binary order.
+pub fn mapped_image_is_one()
+    ensures { MappedImageIsOne }
+{}
+
+/// Undoing a circuit's mapped image gives the circuit, and no other.
+pub fn undoing_recovers()
+    ensures { UndoingRecovers }
+{}
+
+/// What a circuit is undone from is its mapped image, and no two well-formed circuits have one mapped image.
+pub fn only_mapped_images_are_undone()
+    ensures { OnlyMappedImagesAreUndone }
 {}

@@ -1,8 +1,16 @@
-//! Conversion of circuits to binary order.
+//! Conversion of circuits to binary order, and back.
 #![tactic(auto)]
 
+mod fault;
 mod image;
 pub mod laws;
+mod map_block;
+mod map_reading;
+mod mapped;
 mod numbers;
+mod undo;
+mod undone;
 
+pub use crate::fault::MapFault;
 pub use crate::image::to_binary;
+pub use crate::mapped::to_binary_with_map;

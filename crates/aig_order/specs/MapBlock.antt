@@ -1,0 +1,73 @@
+-- The map block and the mapped image (this project's profile). Conversion to binary gives variables new numbers, gates a new
+-- order, and may exchange the operands of a gate. The block is a text that tells all of this, and the mapped image is the
+-- binary image with it at the front of its comment.
+use Rattle.std.specs.Prelude.{◌≡◌, ◌+◌, ◌-◌, ◌++◌, ℕ, List, [], ◌∷◌, length, map, Bool, Option, Some, nat_lt, codes, if◌then◌else◌}
+use Rattle.std.specs.List.{flat_map}
+use Rattle.std.specs.Option.{unwrap_or, is_some}
+use Rattle.aig_core.specs.declared.circuit.Latch.{Latch}
+use Rattle.aig_core.specs.declared.circuit.Gate.{Gate}
+use Rattle.aig_core.specs.declared.circuit.Circuit.{Circuit}
+use Rattle.aig_core.specs.Order.{IsLeastReadyOrder}
+use Rattle.aig_text.specs.AsciiText.{header_text, numbers_text}
+use Rattle.aig_order.specs.declared.map_block.MappedGate.{MappedGate}
+use Rattle.aig_order.specs.declared.map_block.MapBlock.{MapBlock}
+use Rattle.aig_order.specs.Renumbering.{in_new_order, renumbered, renumbered_literal}
+use Rattle.aig_order.specs.Image.{image_by}
+
+abbrev pub one_if : Bool → ℕ
+one_if b = if b then 1 else 0
+
+-- the numbers of the first line: the version, the largest index, the counts, and whether there is a comment section
+abbrev pub first_row : MapBlock → List ℕ
+first_row b = 1 ∷ b.max_var ∷ length b.inputs ∷ length b.latches ∷ length b.gates ∷ one_if b.has_comment ∷ []
+
+-- the line of an input or a latch: its variable
+abbrev pub variable_row : ℕ → List ℕ
+variable_row v = v ∷ []
+
+-- the line of a gate: its variable, its place, and whether its operands are exchanged
+abbrev pub gate_row : MappedGate → List ℕ
+gate_row g = g.var ∷ g.place ∷ one_if g.exchanged ∷ []
+
+abbrev pub rows_of : MapBlock → List (List ℕ)
+rows_of b = map variable_row b.inputs ++ map variable_row b.latches ++ map gate_row b.gates
+
+abbrev pub map_word : List ℕ
+map_word = codes "aigmap"
+
+abbrev pub last_line : List ℕ
+last_line = codes "aigmap end\n"
+
+-- the text of a block, in canonical numbers and single spaces
+unfoldable pub block_text : MapBlock → List ℕ
+block_text b = header_text map_word (first_row b) ++ (flat_map numbers_text (rows_of b) ++ last_line)
+
+-- The operands of a gate are exchanged where the image of the first is the smaller one.
+abbrev pub is_exchanged : List ℕ → Gate → Bool
+is_exchanged variables g = nat_lt (renumbered_literal variables g.left) (renumbered_literal variables g.right)
+
+-- What is told of a gate. Its place is how far its new number is from that of the first gate.
+abbrev pub mapped_gate : List ℕ → ℕ → Gate → MappedGate
+mapped_gate variables first g = record {
+  var = g.var;
+  place = renumbered variables g.var - first;
+  exchanged = is_exchanged variables g;
+}
+
+-- what is told of a circuit whose gates are taken in this order
+abbrev pub map_block : List ℕ → Circuit → MapBlock
+map_block order c = record {
+  max_var = c.max_var;
+  inputs = c.inputs;
+  latches = map (λ (l : Latch). l.var) c.latches;
+  gates = map (mapped_gate (in_new_order c order) (1 + length c.inputs + length c.latches)) c.gates;
+  has_comment = is_some c.comment;
+}
+
+-- the image, its comment being the block and then the comment of the circuit
+abbrev pub mapped_by : List ℕ → Circuit → Circuit
+mapped_by order c = record (image_by order c) { comment = Some (block_text (map_block order c) ++ unwrap_or c.comment []) }
+
+-- the one circuit that is this circuit's mapped image
+abbrev pub IsMappedImage : Circuit → Circuit → Type 0
+IsMappedImage c image = (order : List ℕ) × IsLeastReadyOrder c order × (image ≡ mapped_by order c)

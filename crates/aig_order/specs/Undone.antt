@@ -1,0 +1,87 @@
+-- The undone circuit (this project's profile): what a circuit in binary order was before its conversion, by the map block
+-- at the front of its comment.
+use Rattle.std.specs.Prelude.{◌≡◌, ◌+◌, ◌-◌, ◌*◌, ◌%◌, ◌==◌, ◌++◌, ℕ, List, length, map, Option, None, Some, Result, Ok, Err, if◌then◌else◌, slice_index_or, IsOk}
+use Rattle.std.specs.List.{range_with_len, find}
+use Rattle.std.specs.Option.{option_map, unwrap_or}
+use Rattle.aig_core.specs.declared.circuit.Latch.{Latch}
+use Rattle.aig_core.specs.declared.circuit.Gate.{Gate}
+use Rattle.aig_core.specs.declared.circuit.Circuit.{Circuit}
+use Rattle.aig_core.specs.Literal.{variable_of}
+use Rattle.aig_core.specs.Wellformed.{AreDistinct, IsWellFormed}
+use Rattle.aig_binary.specs.BinaryOrder.{IsInBinaryOrder}
+use Rattle.aig_order.specs.declared.fault.MapFault.{MapFault}
+use Rattle.aig_order.specs.declared.fault.MapFault.TheVariants.{NotOrdered, Missing, Malformed, Mismatch, Forged, OutOfMemory}
+use Rattle.aig_order.specs.declared.map_block.MappedGate.{MappedGate}
+use Rattle.aig_order.specs.declared.map_block.MapBlock.{MapBlock}
+use Rattle.aig_order.specs.MapBlock.{block_text, IsMappedImage}
+use Rattle.aig_order.specs.MapReading.{block_reading}
+
+-- the variable of the gate that has this place, 0 where none has it
+abbrev pub variable_at_place : List MappedGate → ℕ → ℕ
+variable_at_place gates place = unwrap_or (option_map (λ (g : MappedGate). g.var) (find (λ (g : MappedGate). g.place == place) gates)) 0
+
+-- the variables of the source in their new order: inputs, latches, and gates by their places
+abbrev pub source_variables : MapBlock → List ℕ
+source_variables b = b.inputs ++ b.latches ++ map (variable_at_place b.gates) (range_with_len 0 (length b.gates))
+
+-- the variable that had a number before, where the numbers follow on one another in this order; the constant stays
+abbrev pub source_variable : List ℕ → ℕ → ℕ
+source_variable variables number = if number == 0 then 0 else slice_index_or variables (number - 1) 0
+
+-- the literal with the sign that it has
+abbrev pub source_literal : List ℕ → ℕ → ℕ
+source_literal variables literal = 2 * source_variable variables (variable_of literal) + literal % 2
+
+abbrev pub source_latch : List ℕ → Latch → Latch
+source_latch variables l = record { var = source_variable variables l.var; next = source_literal variables l.next }
+
+-- the gate that stands at the place, with its operands in the order that they had
+abbrev pub source_gate : List ℕ → List Gate → MappedGate → Gate
+source_gate variables gates told =
+    let g = slice_index_or gates told.place (record { var = 0; left = 0; right = 0 }) in record {
+      var = told.var;
+      left = source_literal variables (if told.exchanged then g.right else g.left);
+      right = source_literal variables (if told.exchanged then g.left else g.right);
+    }
+
+-- the circuit by the variables, the order of gates and the order of operands that a block tells, with this comment
+abbrev pub undone : MapBlock → Option (List ℕ) → Circuit → Circuit
+undone b comment x = let variables = source_variables b in record {
+  max_var = b.max_var;
+  inputs = map (source_variable variables) x.inputs;
+  latches = map (source_latch variables) x.latches;
+  outputs = map (source_literal variables) x.outputs;
+  gates = map (source_gate variables x.gates) b.gates;
+  symbols = x.symbols;
+  comment = comment;
+}
+
+-- the comment behind a block, where there was a comment section
+abbrev pub comment_behind : MapBlock → List ℕ → Option (List ℕ)
+comment_behind b rest = if b.has_comment then Some rest else None
+
+-- the block tells of as many inputs, latches and gates as the circuit has
+pub record HasCountsOf (b : MapBlock) (x : Circuit) : Type 0 where
+  pub inputs : length b.inputs ≡ length x.inputs
+  pub latches : length b.latches ≡ length x.latches
+  pub gates : length b.gates ≡ length x.gates
+
+-- x has a block at the front of its comment; c is undone by it, is well formed, and x is its mapped image
+pub record IsUndoneFrom (x c : Circuit) : Type 0 where
+  pub block : MapBlock
+  pub rest : List ℕ
+  pub begins : x.comment ≡ Some (block_text block ++ rest)
+  pub counts : HasCountsOf block x
+  pub places : AreDistinct (map (λ (g : MappedGate). g.place) block.gates)
+  pub is : c ≡ undone block (comment_behind block rest) x
+  pub well_formed : IsWellFormed c
+  pub image : IsMappedImage c x
+
+-- Why there is no undone circuit: the first of these that holds, where memory was not refused.
+abbrev pub IsMapFault : Circuit → MapFault → Type 0
+IsMapFault x NotOrdered = ¬ IsInBinaryOrder x
+IsMapFault x Missing = IsInBinaryOrder x × (block_reading x ≡ Err Missing)
+IsMapFault x (Malformed line) = IsInBinaryOrder x × (block_reading x ≡ Err (Malformed line))
+IsMapFault x Mismatch = IsInBinaryOrder x × (block_reading x ≡ Err Mismatch)
+IsMapFault x Forged = IsInBinaryOrder x × IsOk (block_reading x) × ((c : Circuit) → ¬ IsUndoneFrom x c)
+IsMapFault x OutOfMemory = Unit {0}

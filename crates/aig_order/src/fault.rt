@@ -1,0 +1,27 @@
+//! Why a circuit has no undone one.
+use aig_core::OutOfMemory;
+use thiserror::Error;
+
+/// Why a conversion cannot be undone. The variants stand in the order in which they are looked for.
+#[derive(Debug, Drop, Error)]
+pub enum MapFault {
+    /// The circuit is not in binary order.
+    #[error("not in binary order")]
+    NotOrdered,
+    /// There is no comment, or it does not begin with the word of a map block and a space.
+    #[error("no map")]
+    Missing,
+    /// This line of the map block, counted from 1, is missing or not of its form. It is the first such line.
+    #[error("map line {0}: bad line")]
+    Malformed(u64),
+    /// The map block's counts are not those of the circuit, or its largest index is below their sum. This is told before
+    /// any line but the first is looked at.
+    #[error("map counts differ")]
+    Mismatch,
+    /// The map block is of its form, and the circuit is the mapped image of no circuit.
+    #[error("map does not belong to this circuit")]
+    Forged,
+    /// Memory was refused. This may come in place of any other.
+    #[error("out of memory")]
+    OutOfMemory,
+}
