@@ -1,10 +1,12 @@
 -- What the definitions of this crate say of one another.
-use Rattle.std.specs.Prelude.{◌≡◌}
+use Rattle.std.specs.Prelude.{◌≡◌, ◌↔◌, ◌++◌, ℕ, List, Some, Ok}
 use Rattle.aig_core.specs.declared.circuit.Circuit.{Circuit}
 use Rattle.aig_core.specs.Wellformed.{IsWellFormed}
 use Rattle.aig_binary.specs.BinaryOrder.{IsInBinaryOrder}
 use Rattle.aig_order.specs.Image.{IsBinaryImage}
-use Rattle.aig_order.specs.MapBlock.{IsMappedImage}
+use Rattle.aig_order.specs.declared.map_block.MapBlock.{MapBlock}
+use Rattle.aig_order.specs.MapBlock.{block_text, IsMappedImage}
+use Rattle.aig_order.specs.MapReading.{block_reading, HasCountsOf, IsWithinBounds}
 use Rattle.aig_order.specs.Undone.{IsUndoneFrom}
 
 -- the image of a well-formed circuit is well formed and in binary order
@@ -34,3 +36,8 @@ abbrev pub OnlyMappedImagesAreUndone : Type 0
 OnlyMappedImagesAreUndone = (image c d : Circuit)
     → (IsUndoneFrom image c → IsWellFormed c × IsMappedImage c image)
     × (IsWellFormed c → IsWellFormed d → IsMappedImage c image → IsMappedImage d image → c ≡ d)
+
+-- a block is read exactly where its text stands at the front of the comment, it is within bounds, and its counts match
+abbrev pub BlocksAreReadExactly : Type 0
+BlocksAreReadExactly = (x : Circuit) (b : MapBlock) (rest : List ℕ)
+    → (block_reading x ≡ Ok (b, rest)) ↔ ((x.comment ≡ Some (block_text b ++ rest)) × HasCountsOf b x × IsWithinBounds b)

@@ -1,9 +1,13 @@
 -- What is read of the map block of a circuit in binary order, or what is wrong with it first (this project's profile).
-use Rattle.std.specs.Prelude.{◌+◌, ◌==◌, ◌&&◌, ℕ, zero, suc, List, [], ◌∷◌, length, Bool, nat_le, Option, None, Some, Result, Ok, Err, codes, if◌then◌else◌}
+use Rattle.std.specs.Prelude.{◌≡◌, ◌≤◌, ◌<◌, ◌+◌, ◌==◌, ◌&&◌, ℕ, zero, suc, List, [], ◌∷◌, length, Bool, nat_le, Option, None, Some, Result, Ok, Err, codes, if◌then◌else◌}
 use Rattle.std.specs.Option.{unwrap_or}
+use Rattle.std.specs.List.{AllByRecursion}
+use Rattle.aig_core.specs.declared.circuit.TheConstants.{LARGEST}
+use Rattle.aig_core.specs.Wellformed.{IsVariableUpTo}
 use Rattle.aig_core.specs.declared.circuit.Circuit.{Circuit}
 use Rattle.aig_order.specs.declared.fault.MapFault.{MapFault}
 use Rattle.aig_order.specs.declared.fault.MapFault.TheVariants.{Missing, Malformed, Mismatch}
+use Rattle.aig_order.specs.declared.map_block.MappedGate.{MappedGate}
 use Rattle.aig_order.specs.declared.map_block.MapBlock.{MapBlock}
 use Rattle.aig_order.specs.MapBlock.{last_line}
 use Rattle.aig_order.specs.MapSpelling.{FirstLine, after_text, first_line_at, variable_at, gate_at}
@@ -59,3 +63,17 @@ unfoldable pub block_reading : Circuit → Result (MapBlock × List ℕ) MapFaul
 block_reading x = do
   first ← counted_line x
   rest_of_block x first.0 first.1
+
+-- the block tells of as many inputs, latches and gates as the circuit has
+pub record HasCountsOf (b : MapBlock) (x : Circuit) : Type 0 where
+  pub inputs : length b.inputs ≡ length x.inputs
+  pub latches : length b.latches ≡ length x.latches
+  pub gates : length b.gates ≡ length x.gates
+
+-- what a block tells is within bounds: variables up to its largest index, places below the count of gates
+pub record IsWithinBounds (b : MapBlock) : Type 0 where
+  pub max_var : b.max_var ≤ LARGEST
+  pub counts : length b.inputs + length b.latches + length b.gates ≤ b.max_var
+  pub inputs : AllByRecursion (IsVariableUpTo b.max_var) b.inputs
+  pub latches : AllByRecursion (IsVariableUpTo b.max_var) b.latches
+  pub gates : AllByRecursion (λ (g : MappedGate). IsVariableUpTo b.max_var g.var × (g.place < length b.gates)) b.gates

@@ -14,7 +14,7 @@ use Rattle.aig_order.specs.declared.fault.MapFault.TheVariants.{NotOrdered, Miss
 use Rattle.aig_order.specs.declared.map_block.MappedGate.{MappedGate}
 use Rattle.aig_order.specs.declared.map_block.MapBlock.{MapBlock}
 use Rattle.aig_order.specs.MapBlock.{block_text, IsMappedImage}
-use Rattle.aig_order.specs.MapReading.{block_reading}
+use Rattle.aig_order.specs.MapReading.{block_reading, HasCountsOf}
 
 -- the variable of the gate that has this place, 0 where none has it
 abbrev pub variable_at_place : List MappedGate → ℕ → ℕ
@@ -59,12 +59,6 @@ undone b comment x = let variables = source_variables b in record {
 -- the comment behind a block, where there was a comment section
 abbrev pub comment_behind : MapBlock → List ℕ → Option (List ℕ)
 comment_behind b rest = if b.has_comment then Some rest else None
-
--- the block tells of as many inputs, latches and gates as the circuit has
-pub record HasCountsOf (b : MapBlock) (x : Circuit) : Type 0 where
-  pub inputs : length b.inputs ≡ length x.inputs
-  pub latches : length b.latches ≡ length x.latches
-  pub gates : length b.gates ≡ length x.gates
 
 -- x has a block at the front of its comment; c is undone by it, is well formed, and x is its mapped image
 pub record IsUndoneFrom (x c : Circuit) : Type 0 where

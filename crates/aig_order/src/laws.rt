@@ -1,6 +1,6 @@
 //! Laws: facts about the definitions alone, each the contract of a function with an empty body.
 ghost use Rattle.aig_order.specs.Laws.{ImageIsOrdered, ImageIsOne, OrderedIsItsOwnImage};
-ghost use Rattle.aig_order.specs.Laws.{MappedImageIsOne, UndoingRecovers, OnlyMappedImagesAreUndone};
+ghost use Rattle.aig_order.specs.Laws.{BlocksAreReadExactly, MappedImageIsOne, UndoingRecovers, OnlyMappedImagesAreUndone};
 
 /// The binary image of a well-formed circuit is well formed and in binary order.
 pub fn image_is_ordered()
@@ -30,4 +30,10 @@ pub fn undoing_recovers()
 /// What a circuit is undone from is its mapped image, and no two well-formed circuits have one mapped image.
 pub fn only_mapped_images_are_undone()
     ensures { OnlyMappedImagesAreUndone }
+{}
+
+/// A map block is read of a circuit exactly where its text stands at the front of the circuit's comment, what it tells is
+/// within bounds, and its counts are those of the circuit.
+pub fn blocks_are_read_exactly()
+    ensures { BlocksAreReadExactly }
 {}

@@ -1,11 +1,10 @@
 //! The undone circuit: what a circuit was before its conversion, by a map block.
-ghost use Rattle.std.specs.Prelude.{◌≡◌, ◌≤◌, ◌<◌, ◌⊎◌, ℕ, length, map, IfOk, IfErr};
-ghost use Rattle.std.specs.List.{AllByRecursion};
-ghost use Rattle.aig_core.specs.declared.circuit.TheConstants.{LARGEST};
+ghost use Rattle.std.specs.Prelude.{◌≡◌, ◌⊎◌, map, IfOk, IfErr};
 ghost use Rattle.aig_core.specs.Wellformed.{AreDistinct};
 ghost use Rattle.aig_order.specs.declared.fault.MapFault.TheVariants.{Forged as IsForged, OutOfMemory as IsOutOfMemory};
 ghost use Rattle.aig_order.specs.declared.map_block.MappedGate.{MappedGate as MappedGateRecord};
-ghost use Rattle.aig_order.specs.Undone.{HasCountsOf, comment_behind, undone};
+ghost use Rattle.aig_order.specs.MapReading.{HasCountsOf, IsWithinBounds};
+ghost use Rattle.aig_order.specs.Undone.{comment_behind, undone};
 
 use crate::fault::MapFault;
 use crate::map_block::MapBlock;
@@ -21,10 +20,7 @@ pub(crate) fn make_undone(
     image: &Circuit,
 ) -> Result<Circuit, MapFault>
     requires counts { HasCountsOf block.now image.now }
-    requires places { AllByRecursion (λ (g : MappedGateRecord). g.place < length block.now.gates) block.now.gates }
-    requires variables { AllByRecursion (λ v. v ≤ LARGEST) block.now.inputs }
-    requires latches { AllByRecursion (λ v. v ≤ LARGEST) block.now.latches }
-    requires gates { AllByRecursion (λ (g : MappedGateRecord). g.var ≤ LARGEST) block.now.gates }
+    requires bounds { IsWithinBounds block.now }
     ensures ok { IfOk result (λ c. c ≡ undone block.now (comment_behind block.now comment.now) image.now) }
     ensures places { IfOk result (λ _. AreDistinct (map (λ (g : MappedGateRecord). g.place) block.now.gates)) }
     ensures err { IfErr result (λ e. (e ≡ IsOutOfMemory)
