@@ -1,4 +1,7 @@
 //! Why a circuit has no undone one.
+ghost use Rattle.std.specs.Prelude.{◌≡◌};
+ghost use Rattle.aig_order.specs.declared.fault.MapFault.TheVariants.{OutOfMemory as IsOutOfMemory};
+
 use aig_core::OutOfMemory;
 use thiserror::Error;
 
@@ -24,4 +27,12 @@ pub enum MapFault {
     /// Memory was refused. This may come in place of any other.
     #[error("out of memory")]
     OutOfMemory,
+}
+
+impl From<OutOfMemory> for MapFault {
+    ghost from_gives = { λ _ e. e ≡ IsOutOfMemory };
+
+    fn from(_refused: OutOfMemory) -> MapFault {
+        MapFault::OutOfMemory
+    }
 }
