@@ -59,18 +59,31 @@ canonical_some count first h = grind (arith, nat_tests)
 canonical_zero : (count first : ℕ) → is_canonical count first ≡ true → first ≡ 48 → count ≡ 1
 canonical_zero count first h lead = grind (arith, nat_tests)
 
+abbrev digits_of : List ℕ → List ℕ
+digits_of bytes = take (prefix_len is_digit bytes) bytes
+
+-- what stands there where a number is read
+canonical_parts : (n : ℕ) (bytes rest : List ℕ) → canonical_at bytes ≡ Some (n, rest)
+    → (is_canonical (prefix_len is_digit bytes) (get_or bytes 0 0) ≡ true) × (value_of (digits_of bytes) ≡ n) × (drop (prefix_len is_digit bytes) bytes ≡ rest)
+unfolding canonical_at
+canonical_parts n bytes rest h =
+    let k : ℕ = prefix_len is_digit bytes in
+    let g : (is_canonical k (get_or bytes 0 0) ≡ true) × ((value_of (digits_of bytes), drop k bytes) ≡ (n, rest)) =
+    cond_some (is_canonical k (get_or bytes 0 0)) (value_of (digits_of bytes), drop k bytes) (n, rest) h in
+    (g.0, ap (λ (p : ℕ × List ℕ). p.0) g.1, ap (λ (p : ℕ × List ℕ). p.1) g.1)
+
+digits_are_decimal : (n k : ℕ) (bytes : List ℕ) → n < 2 ^ 64 → k ≡ prefix_len is_digit bytes → is_canonical k (get_or bytes 0 0) ≡ true → value_of (take k bytes) ≡ n → decimal n ≡ take k bytes
+digits_are_decimal n k bytes small is good value =
+    let some : 0 < k = canonical_some k (get_or bytes 0 0) good in
+    let long : length (take k bytes) ≡ k = length-take-le k bytes (omega (arith, prefix_len-le-length is_digit bytes)) in
+    let lead : get_or (take k bytes) 0 0 ≡ 48 → length (take k bytes) ≡ 1 =
+    λ (z : get_or (take k bytes) 0 0 ≡ 48). long ∙ canonical_zero k (get_or bytes 0 0) good (sym (first_taken k bytes some) ∙ z) in
+    ap decimal (sym value)
+    ∙ decimal-digits_value decimal_model (take k bytes) (subst (λ (j : ℕ). AreDigits (take j bytes)) (sym is) (front_passes is_digit bytes)) (omega arith) lead (omega arith)
+
 -- what is read as a number is what `decimal` writes of it
 pub canonical_reads : (n : ℕ) (bytes rest : List ℕ) → n < 2 ^ 64 → canonical_at bytes ≡ Some (n, rest) → bytes ≡ decimal n ++ rest
-unfolding canonical_at
 canonical_reads n bytes rest small h =
     let k : ℕ = prefix_len is_digit bytes in
-    let g : (is_canonical k (get_or bytes 0 0) ≡ true) × ((value_of (take k bytes), drop k bytes) ≡ (n, rest)) = cond_some (is_canonical k (get_or bytes 0 0)) (value_of (take k bytes), drop k bytes) (n, rest) h in
-    let value : value_of (take k bytes) ≡ n = ap (λ (p : ℕ × List ℕ). p.0) g.1 in
-    let after : drop k bytes ≡ rest = ap (λ (p : ℕ × List ℕ). p.1) g.1 in
-    let some : 0 < k = canonical_some k (get_or bytes 0 0) g.0 in
-    let long : length (take k bytes) ≡ k = length-take-le k bytes (prefix_len-le-length is_digit bytes) in
-    let lead : get_or (take k bytes) 0 0 ≡ 48 → length (take k bytes) ≡ 1 =
-    λ (z : get_or (take k bytes) 0 0 ≡ 48). long ∙ canonical_zero k (get_or bytes 0 0) g.0 (sym (first_taken k bytes some) ∙ z) in
-    let is : decimal (value_of (take k bytes)) ≡ take k bytes =
-    decimal-digits_value decimal_model (take k bytes) (front_passes is_digit bytes) (omega arith) lead (omega arith) in
-    sym (take-append-drop k bytes) ∙ ap (λ (r : List ℕ). take k bytes ++ r) after ∙ ap (λ (t : List ℕ). t ++ rest) (sym is ∙ ap decimal value)
+    let g = canonical_parts n bytes rest h in
+    sym (take-append-drop k bytes) ∙ ap (λ (r : List ℕ). take k bytes ++ r) g.2 ∙ ap (λ (t : List ℕ). t ++ rest) (sym (digits_are_decimal n k bytes small refl g.0 g.1))
