@@ -1,5 +1,5 @@
 -- Rows of a map block: the text of numbers is read as these numbers, and what is read is their text.
-use Rattle.std.proofs.Common.{◌≡◌, ◌<◌, ◌^◌, ℕ, zero, suc, List, [], ◌∷◌, ◌++◌, length, Option, Some, None, cond, refl, sym, ap, ◌∙◌, arith, eqb, true, false, append_assoc}
+use Rattle.std.proofs.Common.{◌≡◌, ◌<◌, ◌^◌, ℕ, zero, suc, List, [], ◌∷◌, ◌++◌, length, Option, Some, None, cond, refl, sym, ap, subst, ◌∙◌, arith, eqb, true, false, append_assoc}
 use Rattle.std.specs.Prelude.{decimal}
 use Rattle.std.proofs.lemmas.Bool.{eqb-true, eq-eqb}
 use Rattle.std.proofs.lemmas.Option.{cond_some}
@@ -57,3 +57,34 @@ more_is_read (n ∷ ns) rest small =
 pub row_is_read : (n : ℕ) (ns rest : List ℕ) → AreSmall (n ∷ ns) → row_at (length ns) (numbers_text (n ∷ ns) ++ rest) ≡ Some (n ∷ ns, rest)
 unfolding row_at
 row_is_read n ns rest small = rw (first_is_read n ns rest small.0, more_is_read ns rest small.1) refl
+
+-- a row with what follows it stands in these bytes
+abbrev pub IsRowAt : (List ℕ → List ℕ) → List ℕ → List ℕ × List ℕ → Type 0
+IsRowAt text bytes r = AreSmall r.0 → bytes ≡ text r.0 ++ r.1
+
+one_more_read : (n : ℕ) (bytes next : List ℕ) (r : List ℕ × List ℕ) → canonical_at bytes ≡ Some (n, next) → IsRowAt more_numbers_text next r → IsRowAt numbers_text bytes (n ∷ r.0, r.1)
+one_more_read n bytes next r first others small =
+    canonical_reads n bytes next small.0 first ∙ ap (λ (t : List ℕ). decimal n ++ t) (others small.1) ∙ sym (joined n r.0 r.1)
+
+more_reads : (count : ℕ) (bytes : List ℕ) (r : List ℕ × List ℕ) → more_at count bytes ≡ Some r → IsRowAt more_numbers_text bytes r
+unfolding more_at
+more_reads zero bytes r h =
+    let a = some_then _ _ _ h in
+    let is : ([], a.0) ≡ r = cc in
+    subst (IsRowAt more_numbers_text bytes) is (λ _. byte_reads 10 bytes a.0 a.1)
+more_reads (suc count) bytes r h =
+    let a = some_then _ _ _ h in
+    let b = some_then _ _ _ a.2 in
+    let d = some_then _ _ _ b.2 in
+    let is : (b.0.0 ∷ d.0.0, d.0.1) ≡ r = cc in
+    let row = one_more_read b.0.0 a.0 b.0.1 d.0 b.1 (more_reads count b.0.1 d.0 d.1) in
+    subst (IsRowAt more_numbers_text bytes) is (λ small. byte_reads 32 bytes a.0 a.1 ∙ ap (λ (t : List ℕ). 32 ∷ t) (row small))
+
+-- what is read as a row is the text of its numbers, where these are small
+pub row_reads : (more : ℕ) (bytes : List ℕ) (r : List ℕ × List ℕ) → row_at more bytes ≡ Some r → IsRowAt numbers_text bytes r
+unfolding row_at
+row_reads more bytes r h =
+    let a = some_then _ _ _ h in
+    let b = some_then _ _ _ a.2 in
+    let is : (a.0.0 ∷ b.0.0, b.0.1) ≡ r = cc in
+    subst (IsRowAt numbers_text bytes) is (one_more_read a.0.0 bytes a.0.1 b.0 a.1 (more_reads more a.0.1 b.0 b.1))
