@@ -1,5 +1,5 @@
 -- What is read as a block is within bounds, counts what the circuit has, and its text stands at the front of the comment.
-use Rattle.std.proofs.Common.{◌≡◌, ◌<◌, ◌≤◌, ◌+◌, ◌^◌, ℕ, Bool, List, [], ◌∷◌, ◌++◌, length, map, Option, Some, None, Ok, refl, sym, ap, subst, ◌∙◌, arith}
+use Rattle.std.proofs.Common.{◌≡◌, ◌≤◌, ◌+◌, ℕ, List, [], ◌∷◌, ◌++◌, length, Option, Some, None, Ok, sym, ap, subst, ◌∙◌, arith}
 use Rattle.std.specs.Prelude.{codes}
 use Rattle.std.specs.Option.{unwrap_or}
 use Rattle.std.specs.List.{AllByRecursion}
@@ -7,11 +7,10 @@ use Rattle.aig_core.specs.declared.circuit.TheConstants.{LARGEST}
 use Rattle.aig_core.specs.declared.circuit.Circuit.{Circuit}
 use Rattle.aig_core.specs.Wellformed.{IsVariableUpTo}
 use Rattle.aig_text.specs.AsciiText.{numbers_text}
-use Rattle.aig_order.specs.declared.map_block.MappedGate.{MappedGate}
 use Rattle.aig_order.specs.declared.map_block.MapBlock.{MapBlock}
 use Rattle.aig_order.specs.MapBlock.{one_if, first_row, variable_row, gate_row, last_line, block_text}
 use Rattle.aig_order.specs.MapSpelling.{FirstLine, after_text, variable_at, gate_at}
-use Rattle.aig_order.specs.MapReading.{counted_line, rest_of_block, block_reading, HasCountsOf, IsWithinBounds}
+use Rattle.aig_order.specs.MapReading.{rest_of_block, block_reading, HasCountsOf, IsWithinBounds}
 use Rattle.aig_order.proofs.BlockText.{behind, variables_text, gates_text, text_by_parts}
 use Rattle.aig_order.proofs.FirstLineTold.{row_of, IsCounted, counted_is_told}
 use Rattle.aig_order.proofs.MapEntries.{IsGoodGate}
@@ -27,9 +26,11 @@ record IsRestOf (f : FirstLine) (bytes : List ℕ) (r : MapBlock × List ℕ) : 
   row : row_of f ≡ first_row r.0
   text : bytes ≡ behind r.0 r.1
 
+-- there are no more gates than the largest variable index allows
 gates_are_few : (f : FirstLine) → f.max_var ≤ LARGEST → f.inputs + f.latches + f.gates ≤ f.max_var → f.gates ≤ LARGEST
 gates_are_few f few all = omega arith
 
+-- where the lines behind a first line are read, they stand there
 rest_is_told : (x : Circuit) (f : FirstLine) → f.max_var ≤ LARGEST → f.inputs + f.latches + f.gates ≤ f.max_var → (bytes : List ℕ) (r : MapBlock × List ℕ) → rest_of_block x f bytes ≡ Ok r → IsRestOf f bytes r
 unfolding rest_of_block
 rest_is_told x f few all bytes r h =
@@ -60,6 +61,7 @@ record IsRead (x : Circuit) (r : MapBlock × List ℕ) : Type 0 where
   counted : IsCounted x first
   others : IsRestOf first.0 first.1 r
 
+-- where a block is read, its lines stand there
 block_is_told : (x : Circuit) (r : MapBlock × List ℕ) → block_reading x ≡ Ok r → IsRead x r
 unfolding block_reading
 block_is_told x r h =

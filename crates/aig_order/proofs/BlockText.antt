@@ -1,5 +1,5 @@
 -- The text of a block that is within bounds, and counts what the circuit has, is read as this block.
-use Rattle.std.proofs.Common.{◌≡◌, ◌<◌, ◌≤◌, ◌+◌, ◌^◌, ◌&&◌, ℕ, Bool, true, List, [], ◌∷◌, ◌++◌, length, map, Option, Some, Ok, refl, sym, ap, ◌∙◌, arith, eqb, append_assoc}
+use Rattle.std.proofs.Common.{◌≡◌, ◌≤◌, ◌+◌, ◌&&◌, ℕ, true, List, [], ◌∷◌, ◌++◌, length, map, Option, Some, Ok, refl, sym, ap, ◌∙◌, arith, eqb, append_assoc}
 use Rattle.std.specs.Prelude.{nat_le, codes}
 use Rattle.std.specs.Option.{unwrap_or}
 use Rattle.std.specs.List.{flat_map}
@@ -27,9 +27,11 @@ first_of b = record {
   has_comment = b.has_comment;
 }
 
+-- the lines of variables
 abbrev pub variables_text : List ℕ → List ℕ
 variables_text vs = flat_map numbers_text (map variable_row vs)
 
+-- the lines of gates
 abbrev pub gates_text : List MappedGate → List ℕ
 gates_text gs = flat_map numbers_text (map gate_row gs)
 
@@ -37,10 +39,12 @@ gates_text gs = flat_map numbers_text (map gate_row gs)
 abbrev pub behind : MapBlock → List ℕ → List ℕ
 behind b rest = variables_text b.inputs ++ (variables_text b.latches ++ (gates_text b.gates ++ (last_line ++ rest)))
 
+-- the text of rows that are joined
 rows_joined : (xs ys : List (List ℕ)) → flat_map numbers_text (xs ++ ys) ≡ flat_map numbers_text xs ++ flat_map numbers_text ys
 rows_joined [] ys = refl
 rows_joined (x ∷ xs) ys = ap (λ (t : List ℕ). numbers_text x ++ t) (rows_joined xs ys) ∙ sym (append_assoc (numbers_text x) (flat_map numbers_text xs) (flat_map numbers_text ys))
 
+-- the lines behind the first one, section by section
 rows_behind : (b : MapBlock) (rest : List ℕ) → (flat_map numbers_text (rows_of b) ++ last_line) ++ rest ≡ behind b rest
 rows_behind b rest =
     rw (rows_joined (map variable_row b.inputs ++ map variable_row b.latches) (map gate_row b.gates), rows_joined (map variable_row b.inputs) (map variable_row b.latches))
@@ -53,29 +57,39 @@ text_by_parts b rest =
     ap (λ (t : List ℕ). codes "aigmap " ++ t)
     (append_assoc (numbers_text (first_row b)) (flat_map numbers_text (rows_of b) ++ last_line) rest ∙ ap (λ (t : List ℕ). numbers_text (first_row b) ++ t) (rows_behind b rest))
 
+-- counts that are the same, with a sum that fits, pass the test
 counts_are_same : (m i j k p q r : ℕ) → i ≡ p → j ≡ q → k ≡ r → i + j + k ≤ m → (eqb i p && (eqb j q && (eqb k r && nat_le (p + q + r) m))) ≡ true
 counts_are_same m i j k p q r first second third fit = grind (arith, nat_tests)
 
 module _ (b : MapBlock) (within : IsWithinBounds b) where
+  -- there are no more entries than the largest variable index allows
   few : length b.inputs + length b.latches + length b.gates ≤ LARGEST
   few = omega (arith, within.counts, within.max_var)
 
+  -- the numbers of the first line are small
   first_is_small : AreSmall (first_row b)
   first_is_small = (omega arith, (omega (arith, within.max_var), (omega (arith, few), (omega (arith, few), (omega (arith, few), (omega (arith, one_if_small b.has_comment), tt))))))
 
+  -- the first line passes its test
   first_is_good : (m flag : ℕ) → m ≤ LARGEST → flag ≤ 1 → (eqb 1 1 && (nat_le m LARGEST && nat_le flag 1)) ≡ true
   first_is_good m flag low bit = grind (arith, nat_tests)
 
+  -- the first line is read
   first_is_read : (rest : List ℕ) → first_line_at (numbers_text (first_row b) ++ rest) ≡ Some (first_of b, rest)
   unfolding first_line_at
   first_is_read rest =
-      rw (row_is_read 1 (b.max_var ∷ length b.inputs ∷ length b.latches ∷ length b.gates ∷ one_if b.has_comment ∷ []) rest first_is_small,
-      first_is_good b.max_var (one_if b.has_comment) within.max_var (one_if_small b.has_comment), one_if_told b.has_comment) refl
+      rw (
+        row_is_read 1 (b.max_var ∷ length b.inputs ∷ length b.latches ∷ length b.gates ∷ one_if b.has_comment ∷ []) rest first_is_small,
+        first_is_good b.max_var (one_if b.has_comment) within.max_var (one_if_small b.has_comment),
+        one_if_told b.has_comment,
+      ) refl
 
+  -- the first line's counts are those of the circuit
   counts_are : (x : Circuit) → HasCountsOf b x → counts_match x (first_of b) ≡ true
   counts_are x counts =
       counts_are_same b.max_var (length b.inputs) (length b.latches) (length b.gates) (length x.inputs) (length x.latches) (length x.gates) counts.inputs counts.latches counts.gates within.counts
 
+  -- the lines behind the first one are read
   lines_are_read : (x : Circuit) (rest : List ℕ) → rest_of_block x (first_of b) (behind b rest) ≡ Ok (b, rest)
   unfolding rest_of_block
   lines_are_read x rest =
@@ -88,6 +102,7 @@ module _ (b : MapBlock) (within : IsWithinBounds b) where
         text_is_read last_line rest,
       ) refl
 
+  -- the first line is read of the circuit
   counted_is_read : (x : Circuit) (rest : List ℕ) → x.comment ≡ Some (block_text b ++ rest) → HasCountsOf b x → counted_line x ≡ Ok (first_of b, behind b rest)
   unfolding counted_line
   counted_is_read x rest comment counts =

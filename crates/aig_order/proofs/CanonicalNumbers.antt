@@ -1,7 +1,7 @@
 -- Canonical numbers: what `decimal` writes is read as its number, and what is read is what `decimal` writes.
-use Rattle.std.proofs.Common.{◌≡◌, ◌<◌, ◌^◌, ℕ, zero, suc, true, List, [], ◌∷◌, ◌++◌, length, take, drop, get_or, Some, refl, sym, ap, subst, ◌∙◌, arith, eqb}
+use Rattle.std.proofs.Common.{◌≡◌, ◌<◌, ◌^◌, ℕ, zero, suc, true, List, [], ◌∷◌, ◌++◌, length, take, drop, get_or, Some, refl, sym, ap, subst, ◌∙◌, arith}
 use Rattle.std.specs.Prelude.{decimal}
-use Rattle.std.specs.List.{AllByRecursion, prefix_len}
+use Rattle.std.specs.List.{prefix_len}
 use Rattle.std.proofs.lemmas.Bool.Decides.{nat_tests}
 use Rattle.std.proofs.lemmas.Fmt.{digits_decimal, digits_value-decimal, decimal_nonempty, first_decimal, decimal_digit, decimal-digits_value}
 use Rattle.std.proofs.lemmas.List.{take-append-drop, length-take-le}
@@ -17,18 +17,22 @@ use Rattle.aig_order.specs.MapSpelling.{is_canonical, canonical_at}
 no_zero : (count first : ℕ) → 0 < count → 48 < first → is_canonical count first ≡ true
 no_zero count first some high = grind (arith, nat_tests)
 
+-- one digit is canonical, whichever it is
 one_digit : (digits : List ℕ) (b : ℕ) → digits ≡ b ∷ [] → is_canonical (length digits) (get_or digits 0 0) ≡ true
 one_digit digits b is = rw is refl
 
+-- what `decimal` writes is canonical
 decimal_is_canonical : (n : ℕ) → n < 2 ^ 64 → is_canonical (length (decimal n)) (get_or (decimal n) 0 0) ≡ true
 decimal_is_canonical zero small = one_digit (decimal 0) 48 (decimal_digit 0 (omega arith))
 decimal_is_canonical (suc n) small =
     no_zero (length (decimal (suc n))) (get_or (decimal (suc n)) 0 0) (decimal_nonempty (suc n) small) (first_decimal (suc n) (omega arith) small)
 
+-- what is joined behind a text leaves its first byte
 first_joined : (xs ys : List ℕ) → 0 < length xs → get_or (xs ++ ys) 0 0 ≡ get_or xs 0 0
 first_joined [] ys some = absurd (omega arith)
 first_joined (x ∷ xs) ys some = refl
 
+-- what is taken from the front has its first byte
 first_taken : (k : ℕ) (xs : List ℕ) → 0 < k → get_or (take k xs) 0 0 ≡ get_or xs 0 0
 first_taken zero xs some = absurd (omega arith)
 first_taken (suc k) [] some = refl
@@ -40,6 +44,7 @@ digits_at_front [] [] are follows = refl
 digits_at_front [] (b ∷ bs) are follows = rw follows refl
 digits_at_front (b ∷ bs) rest are follows = rw are.0 (one_more (prefix_len is_digit (bs ++ rest)) ∙ ap suc (digits_at_front bs rest are.1 follows))
 
+-- canonical digits are read where no digit follows them
 digits_are_read : (digits rest : List ℕ) → AreDigits digits → 0 < length digits → is_canonical (length digits) (get_or digits 0 0) ≡ true → StopsAt is_digit rest
     → canonical_at (digits ++ rest) ≡ Some (value_of digits, rest)
 unfolding canonical_at
@@ -56,9 +61,11 @@ canonical_is_read n rest small follows =
 canonical_some : (count first : ℕ) → is_canonical count first ≡ true → 0 < count
 canonical_some count first h = grind (arith, nat_tests)
 
+-- a zero at the front stands alone
 canonical_zero : (count first : ℕ) → is_canonical count first ≡ true → first ≡ 48 → count ≡ 1
 canonical_zero count first h lead = grind (arith, nat_tests)
 
+-- the digits at the front
 abbrev digits_of : List ℕ → List ℕ
 digits_of bytes = take (prefix_len is_digit bytes) bytes
 
@@ -72,6 +79,7 @@ canonical_parts n bytes rest h =
     cond_some (is_canonical k (get_or bytes 0 0)) (value_of (digits_of bytes), drop k bytes) (n, rest) h in
     (g.0, ap (λ (p : ℕ × List ℕ). p.0) g.1, ap (λ (p : ℕ × List ℕ). p.1) g.1)
 
+-- canonical digits are what `decimal` writes of their value
 digits_are_decimal : (n k : ℕ) (bytes : List ℕ) → n < 2 ^ 64 → k ≡ prefix_len is_digit bytes → is_canonical k (get_or bytes 0 0) ≡ true → value_of (take k bytes) ≡ n → decimal n ≡ take k bytes
 digits_are_decimal n k bytes small is good value =
     let some : 0 < k = canonical_some k (get_or bytes 0 0) good in

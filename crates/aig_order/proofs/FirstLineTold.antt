@@ -1,5 +1,5 @@
 -- What is read from the first line of a map block: its bounds, and that the front of the comment is its text.
-use Rattle.std.proofs.Common.{◌≡◌, ◌<◌, ◌≤◌, ◌+◌, ◌^◌, ◌&&◌, ℕ, Bool, true, List, [], ◌∷◌, ◌++◌, length, Option, Some, None, Ok, refl, sym, ap, subst, ◌∙◌, arith, eqb}
+use Rattle.std.proofs.Common.{◌≡◌, ◌≤◌, ◌+◌, ◌&&◌, ℕ, true, List, [], ◌∷◌, ◌++◌, length, Some, Ok, sym, ap, subst, ◌∙◌, arith, eqb}
 use Rattle.std.specs.Prelude.{nat_le, codes}
 use Rattle.std.specs.Option.{unwrap_or}
 use Rattle.std.proofs.lemmas.Bool.{and_parts, leb-true, eqb-true}
@@ -11,7 +11,7 @@ use Rattle.aig_text.proofs.Canonical.Lines.{AreSmall}
 use Rattle.aig_text.proofs.Grammar.NumberLines.{some_then}
 use Rattle.aig_text.proofs.Steps.{let_through}
 use Rattle.aig_order.specs.MapBlock.{one_if}
-use Rattle.aig_order.specs.MapSpelling.{FirstLine, first_line_of, first_line_at, after_text, row_at}
+use Rattle.aig_order.specs.MapSpelling.{FirstLine, first_line_of, first_line_at, after_text}
 use Rattle.aig_order.specs.MapReading.{counts_match, counted_line}
 use Rattle.aig_order.proofs.MapEntries.{one_if_small}
 use Rattle.aig_order.proofs.MapRows.{IsRowAt, row_reads, text_reads}
@@ -21,12 +21,15 @@ use Rattle.aig_order.proofs.MapTold.{ok_then, there, bit_told}
 abbrev pub row_of : FirstLine → List ℕ
 row_of f = 1 ∷ f.max_var ∷ f.inputs ∷ f.latches ∷ f.gates ∷ one_if f.has_comment ∷ []
 
+-- a first line by its numbers
 abbrev made : ℕ → ℕ → ℕ → ℕ → ℕ → FirstLine
 made m i l a flag = record { max_var = m; inputs = i; latches = l; gates = a; has_comment = eqb flag 1 }
 
+-- numbers that are those of a first line within its bound
 abbrev IsRowOf : List ℕ → FirstLine → Type 0
 IsRowOf ns f = (ns ≡ row_of f) × (f.max_var ≤ LARGEST)
 
+-- numbers that tell a first line are its row
 row_of_first : (f : FirstLine) (ns : List ℕ) → first_line_of ns ≡ Some f → IsRowOf ns f
 row_of_first f [] h = cc
 row_of_first f (v ∷ []) h = cc
@@ -44,9 +47,11 @@ row_of_first f (v ∷ m ∷ i ∷ l ∷ a ∷ e ∷ []) h =
     subst (IsRowOf (v ∷ m ∷ i ∷ l ∷ a ∷ e ∷ [])) t.1 (same, leb-true m LARGEST last.0)
 row_of_first f (v ∷ m ∷ i ∷ l ∷ a ∷ e ∷ k ∷ ns) h = cc
 
+-- a first line with what follows it stands in these bytes, where its numbers are small
 abbrev IsFirstAt : List ℕ → FirstLine × List ℕ → Type 0
 IsFirstAt bytes r = (r.0.max_var ≤ LARGEST) × (AreSmall (row_of r.0) → bytes ≡ numbers_text (row_of r.0) ++ r.1)
 
+-- where a first line is read, it stands there
 first_is_told : (bytes : List ℕ) (r : FirstLine × List ℕ) → first_line_at bytes ≡ Some r → IsFirstAt bytes r
 unfolding first_line_at
 first_is_told bytes r h =
@@ -64,6 +69,7 @@ pub record CountsFit (x : Circuit) (f : FirstLine) : Type 0 where
   pub gates : f.gates ≡ length x.gates
   pub all : f.inputs + f.latches + f.gates ≤ f.max_var
 
+-- counts that pass the test are those of the circuit
 counts_fit : (x : Circuit) (f : FirstLine) → counts_match x f ≡ true → CountsFit x f
 counts_fit x f h =
     let sum : ℕ = length x.inputs + length x.latches + length x.gates in
@@ -76,6 +82,7 @@ counts_fit x f h =
     let low : sum ≤ f.max_var = leb-true sum f.max_var d.1 in
     record { inputs = inputs; latches = latches; gates = gates; all = omega arith }
 
+-- the numbers of such a first line are small
 row_is_small : (f : FirstLine) → f.max_var ≤ LARGEST → f.inputs + f.latches + f.gates ≤ f.max_var → AreSmall (row_of f)
 row_is_small f few all = (omega arith, (omega arith, (omega arith, (omega arith, (omega arith, (omega (arith, one_if_small f.has_comment), tt))))))
 
@@ -85,6 +92,7 @@ pub record IsCounted (x : Circuit) (r : FirstLine × List ℕ) : Type 0 where
   pub counts : CountsFit x r.0
   pub text : unwrap_or x.comment [] ≡ codes "aigmap " ++ (numbers_text (row_of r.0) ++ r.1)
 
+-- where a first line is read of a circuit, it stands at the front of the comment
 pub counted_is_told : (x : Circuit) (r : FirstLine × List ℕ) → counted_line x ≡ Ok r → IsCounted x r
 unfolding counted_line
 counted_is_told x r h =

@@ -1,27 +1,28 @@
 -- Rows of a map block: the text of numbers is read as these numbers, and what is read is their text.
-use Rattle.std.proofs.Common.{◌≡◌, ◌<◌, ◌^◌, ℕ, zero, suc, List, [], ◌∷◌, ◌++◌, length, Option, Some, None, cond, refl, sym, ap, subst, ◌∙◌, arith, eqb, true, false, append_assoc}
+use Rattle.std.proofs.Common.{◌≡◌, ◌<◌, ◌^◌, ℕ, zero, suc, List, [], ◌∷◌, ◌++◌, length, Some, refl, sym, ap, subst, ◌∙◌, eqb, true, append_assoc}
 use Rattle.std.specs.Prelude.{decimal}
 use Rattle.std.proofs.lemmas.Bool.{eqb-true, eq-eqb}
 use Rattle.std.proofs.lemmas.Option.{cond_some}
 use Rattle.aig_text.specs.AsciiText.{more_numbers_text, numbers_text}
 use Rattle.aig_text.specs.Spelling.{is_digit}
-use Rattle.aig_text.specs.Scanning.{◌>>=◌}
 use Rattle.aig_text.proofs.Canonical.Lines.{AreSmall}
 use Rattle.aig_text.proofs.Grammar.NumberLines.{some_then}
 use Rattle.aig_text.proofs.Grammar.Spellings.{StopsAt}
 use Rattle.aig_order.specs.MapSpelling.{after_byte, after_text, canonical_at, more_at, row_at}
 use Rattle.aig_order.proofs.CanonicalNumbers.{canonical_is_read, canonical_reads}
 
--- a byte and a text are read where they stand
+-- a byte is read where it stands
 byte_is_read : (b : ℕ) (rest : List ℕ) → after_byte b (b ∷ rest) ≡ Some rest
 unfolding after_byte
 byte_is_read b rest = rw (eq-eqb b b refl) refl
 
+-- a text is read where it stands
 pub text_is_read : (text rest : List ℕ) → after_text text (text ++ rest) ≡ Some rest
 unfolding after_text
 text_is_read [] rest = refl
 text_is_read (b ∷ text) rest = rw (byte_is_read b (text ++ rest)) (text_is_read text rest)
 
+-- where a byte is read, it stands there
 byte_reads : (b : ℕ) (bytes rest : List ℕ) → after_byte b bytes ≡ Some rest → bytes ≡ b ∷ rest
 unfolding after_byte
 byte_reads b [] rest h = cc
@@ -29,6 +30,7 @@ byte_reads b (a ∷ bytes) rest h =
     let g : (eqb a b ≡ true) × (bytes ≡ rest) = cond_some (eqb a b) bytes rest h in
     let e : a ≡ b = eqb-true a b g.0 in cc
 
+-- where a text is read, it stands there
 pub text_reads : (text bytes rest : List ℕ) → after_text text bytes ≡ Some rest → bytes ≡ text ++ rest
 unfolding after_text
 text_reads [] bytes rest h = cc
@@ -41,9 +43,11 @@ number_ends : (ns rest : List ℕ) → StopsAt is_digit (more_numbers_text ns ++
 number_ends [] rest = refl
 number_ends (n ∷ ns) rest = refl
 
+-- the first number of a line, and what follows it
 joined : (n : ℕ) (ns rest : List ℕ) → numbers_text (n ∷ ns) ++ rest ≡ decimal n ++ (more_numbers_text ns ++ rest)
 joined n ns rest = append_assoc (decimal n) (more_numbers_text ns) rest
 
+-- the first number of a line is read
 first_is_read : (n : ℕ) (ns rest : List ℕ) → n < 2 ^ 64 → canonical_at (numbers_text (n ∷ ns) ++ rest) ≡ Some (n, more_numbers_text ns ++ rest)
 first_is_read n ns rest small = ap canonical_at (joined n ns rest) ∙ canonical_is_read n (more_numbers_text ns ++ rest) small (number_ends ns rest)
 
@@ -54,6 +58,7 @@ more_is_read [] rest small = rw (byte_is_read 10 rest) refl
 more_is_read (n ∷ ns) rest small =
     rw (byte_is_read 32 (numbers_text (n ∷ ns) ++ rest), first_is_read n ns rest small.0, more_is_read ns rest small.1) refl
 
+-- the text of a line is read as its numbers
 pub row_is_read : (n : ℕ) (ns rest : List ℕ) → AreSmall (n ∷ ns) → row_at (length ns) (numbers_text (n ∷ ns) ++ rest) ≡ Some (n ∷ ns, rest)
 unfolding row_at
 row_is_read n ns rest small = rw (first_is_read n ns rest small.0, more_is_read ns rest small.1) refl
@@ -62,10 +67,12 @@ row_is_read n ns rest small = rw (first_is_read n ns rest small.0, more_is_read 
 abbrev pub IsRowAt : (List ℕ → List ℕ) → List ℕ → List ℕ × List ℕ → Type 0
 IsRowAt text bytes r = AreSmall r.0 → bytes ≡ text r.0 ++ r.1
 
+-- a number that is read before others stands before them
 one_more_read : (n : ℕ) (bytes next : List ℕ) (r : List ℕ × List ℕ) → canonical_at bytes ≡ Some (n, next) → IsRowAt more_numbers_text next r → IsRowAt numbers_text bytes (n ∷ r.0, r.1)
 one_more_read n bytes next r first others small =
     canonical_reads n bytes next small.0 first ∙ ap (λ (t : List ℕ). decimal n ++ t) (others small.1) ∙ sym (joined n r.0 r.1)
 
+-- numbers that are read, each after a space, are their text, where they are small
 more_reads : (count : ℕ) (bytes : List ℕ) (r : List ℕ × List ℕ) → more_at count bytes ≡ Some r → IsRowAt more_numbers_text bytes r
 unfolding more_at
 more_reads zero bytes r h =
