@@ -58,7 +58,3 @@ module _ (gates : List Gate) (first order : List ℕ) (once : AreDistinct (first
       let at_some = somewhere g order (listed g below) in
       let same : place g ≡ at_some.0 = ap place (sym at_some.2) ∙ place_taken at_some.0 at_some.1 in
       (subst (λ j. j < length order) (sym same) at_some.1, ap (λ j. get_or order j 0) same ∙ at_some.2)
-
-  -- so no two gates have one place
-  pub one_place : (g h : ℕ) → g < length gates → h < length gates → place g ≡ place h → g ≡ h
-  one_place g h below below_too same = sym (taken_in_place g below).1 ∙ ap (λ j. get_or order j 0) same ∙ (taken_in_place h below_too).1
