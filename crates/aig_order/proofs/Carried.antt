@@ -1,11 +1,10 @@
 -- What is undone of a circuit's mapped image, by the block of that image, is the circuit.
-use Rattle.std.proofs.Common.{◌≡◌, ◌+◌, ◌-◌, ◌<◌, ◌≤◌, ℕ, List, [], ◌++◌, length, length-append, get_or, map, Option, None, Some, refl, sym, ap, ◌∙◌, inl, inr, ⊎_elim, arith}
-use Rattle.std.specs.List.{AllByRecursion, range_with_len, flat_map}
+use Rattle.std.proofs.Common.{◌≡◌, ◌+◌, ◌-◌, ◌<◌, ℕ, List, [], ◌++◌, length, length-append, get_or, map, Option, None, Some, refl, ap, ◌∙◌, inl, inr, ⊎_elim, arith}
+use Rattle.std.specs.List.{AllByRecursion, flat_map}
 use Rattle.std.specs.Prelude.{is_some}
 use Rattle.std.specs.Option.{unwrap_or}
 use Rattle.std.proofs.lemmas.List.{length-map}
 use Rattle.aig_core.specs.declared.circuit.Latch.{Latch}
-use Rattle.aig_core.specs.declared.circuit.Gate.{Gate}
 use Rattle.aig_core.specs.declared.circuit.Circuit.{Circuit}
 use Rattle.aig_core.specs.Literal.{variable_of}
 use Rattle.aig_core.specs.Wellformed.{IsAmong, IsKnown, IsWellFormed, defined_variables, operands}
@@ -19,12 +18,12 @@ use Rattle.aig_order.specs.declared.map_block.MapBlock.{MapBlock}
 use Rattle.aig_order.specs.Image.{latch_image, gate_image}
 use Rattle.aig_order.specs.MapBlock.{map_block, mapped_by}
 use Rattle.aig_order.specs.Renumbering.{in_new_order, renumbered, renumbered_literal, taken}
-use Rattle.aig_order.specs.Undone.{variable_at_place, source_variables, source_variable, source_literal, source_latch, source_gate, undone, comment_behind}
+use Rattle.aig_order.specs.Undone.{source_variables, source_variable, source_literal, source_latch, source_gate, undone, comment_behind}
 use Rattle.aig_order.proofs.Back.{back_variables, back_literals, back_latches}
 use Rattle.aig_order.proofs.Distinct.{among_first}
 use Rattle.aig_order.proofs.GatesBack.{gates_back}
 use Rattle.aig_order.proofs.InPlace.{here, place_taken, taken_in_place}
-use Rattle.aig_order.proofs.Members.{first, new_once, not_more, there, listed, has_defined}
+use Rattle.aig_order.proofs.Members.{new_once, not_more, there, listed, has_defined}
 use Rattle.aig_order.proofs.Sections.{some_gate, known}
 use Rattle.aig_order.proofs.Taken.{taken_variables}
 use Rattle.aig_order.proofs.ToldGates.{variables_back, image_there}
@@ -50,6 +49,7 @@ module _ (c : Circuit) (order : List ℕ) (good : IsWellFormed c) (least : IsLea
   starts : start ≡ 1 + length (c.inputs ++ latches)
   starts = omega (arith, length-append c.inputs latches, length-map c.latches (λ (l : Latch). l.var))
 
+  -- the gate at a place of the order has this place, and each gate stands at its place
   pub by_order : (j : ℕ) → j < length order → (get_or order j 0 < length c.gates) × (place (get_or order j 0) ≡ j)
   by_order j below = (
     there c order good least (get_or order j 0) (here order j below),
@@ -67,6 +67,13 @@ module _ (c : Circuit) (order : List ℕ) (good : IsWellFormed c) (least : IsLea
   all_new : (ls : List ℕ) → AllByRecursion (IsKnown (defined_variables c)) ls → AllByRecursion (IsKnown vs) ls
   all_new ls all = all_weaker (IsKnown (defined_variables c)) (IsKnown vs) known_new ls all
 
+  operands_known : (g : ℕ) → g < length c.gates → IsKnown vs (at c.gates g).left × IsKnown vs (at c.gates g).right
+  operands_known g below = (
+    known_new (at c.gates g).left (known c order good least g (at c.gates g).left below (inl refl)),
+    known_new (at c.gates g).right (known c order good least g (at c.gates g).right below (inr (inl refl))),
+  )
+
+  -- the variables that the block tells are those in their new order
   source_variables_are : source_variables (map_block order c) ≡ vs
   source_variables_are =
       ap (λ (xs : List ℕ). (c.inputs ++ latches) ++ xs) (variables_back c.gates order vs start (not_more c order good least) by_order by_gate)
@@ -83,16 +90,19 @@ module _ (c : Circuit) (order : List ℕ) (good : IsWellFormed c) (least : IsLea
     comment = comment_behind (map_block order c) (unwrap_or c.comment []);
   }
 
+  -- inputs and latches are in the new order
+  first_there : (v : ℕ) → IsAmong v (c.inputs ++ latches) → IsAmong v vs
+  first_there v a = among_first (c.inputs ++ latches) (taken_variables c.gates order) v a
+
   same_circuit : by_variables vs ≡ c
   same_circuit =
       let Known : ℕ → Type 0 = IsKnown (defined_variables c) in
       let nexts : List ℕ = map (λ (l : Latch). l.next) c.latches in
       let known_first : AllByRecursion Known (nexts ++ c.outputs) = front Known (nexts ++ c.outputs) (flat_map operands c.gates) good.known in
-      let inputs = back_variables vs c.inputs (all_of (λ v. IsAmong v vs) c.inputs (λ v a. among_first (c.inputs ++ latches) (taken_variables c.gates order) v (among_first c.inputs latches v a))) in
-      let are_latches = back_latches vs c.latches (all_of (λ v. IsAmong v vs) latches (λ v a. among_first (c.inputs ++ latches) (taken_variables c.gates order) v (among_last c.inputs latches v a))) (all_new nexts (front Known nexts c.outputs known_first)) in
+      let inputs = back_variables vs c.inputs (all_of (λ v. IsAmong v vs) c.inputs (λ v a. first_there v (among_first c.inputs latches v a))) in
+      let are_latches = back_latches vs c.latches (all_of (λ v. IsAmong v vs) latches (λ v a. first_there v (among_last c.inputs latches v a))) (all_new nexts (front Known nexts c.outputs known_first)) in
       let outputs = back_literals vs c.outputs (all_new c.outputs (back Known nexts c.outputs known_first)) in
-      let gates = gates_back vs start (map (gate_image vs) (taken c.gates order)) c.gates (image_there c.gates order vs start (not_more c order good least) by_order by_gate)
-      (λ g below. (known_new (at c.gates g).left (known c order good least g (at c.gates g).left below (inl refl)), known_new (at c.gates g).right (known c order good least g (at c.gates g).right below (inr (inl refl))))) in
+      let gates = gates_back vs start (map (gate_image vs) (taken c.gates order)) c.gates (image_there c.gates order vs start (not_more c order good least) by_order by_gate) operands_known in
       let comment = comment_kept c.comment (map_block order c) refl in
       λ i. record { max_var = c.max_var; inputs = inputs i; latches = are_latches i; outputs = outputs i; gates = gates i; symbols = c.symbols; comment = comment i }
 

@@ -1,5 +1,5 @@
 -- What a map block tells of gates: each has a place of its own, and a place tells the gate's variable.
-use Rattle.std.proofs.Common.{◌≡◌, ◌≢◌, ◌+◌, ◌-◌, ◌<◌, ◌≤◌, ℕ, zero, suc, List, [], ◌∷◌, true, false, eqb, length, get_or, map, refl, sym, ap, subst, ◌∙◌, inl, inr, ⊎_elim, arith}
+use Rattle.std.proofs.Common.{◌≡◌, ◌≢◌, ◌-◌, ◌<◌, ◌≤◌, ℕ, zero, suc, List, [], ◌∷◌, true, false, eqb, length, get_or, map, refl, sym, ap, subst, ◌∙◌, inl, inr, ⊎_elim, arith}
 use Rattle.std.specs.List.{AllByRecursion, range_with_len}
 use Rattle.std.proofs.lemmas.Bool.Decides.{eqb_tells}
 use Rattle.std.proofs.lemmas.List.{length-map, get_or-map, ext_get_or}
@@ -86,7 +86,7 @@ module _ (gates : List Gate) (order vs : List ℕ) (start : ℕ) (not_more : len
   pub places_below : AllByRecursion (λ (m : MappedGate). m.place < length order) told
   places_below = all_told (λ (m : MappedGate). m.place < length order) (mapped_gate vs start) gates (λ g below. (by_gate g below).0)
 
-  as_many : length order ≡ length gates
+  pub as_many : length order ≡ length gates
   as_many =
       let few : length places ≤ length order = at_most_below (length order) places places_distinct (numbers_all (λ p. p < length order) told places_below) in
       omega (arith, few, places_many, not_more)

@@ -1,5 +1,5 @@
-use Rattle.aig_order.proofs.Carried.{carried_back}
+use Rattle.aig_order.proofs.OneSource.{undoing_recovers}
 use Rattle.aig_order.proofs.laws.undoing_recovers.Goals as goal
 
 pub returns : goal.returns
-returns c = ?
+returns c = undoing_recovers
