@@ -6,7 +6,7 @@ use Rattle.std.proofs.lemmas.List.{length-map}
 use Rattle.aig_core.specs.declared.circuit.Latch.{Latch}
 use Rattle.aig_core.specs.declared.circuit.Gate.{Gate}
 use Rattle.aig_core.specs.declared.circuit.Circuit.{Circuit}
-use Rattle.aig_core.specs.Wellformed.{IsVariableUpTo, IsWellFormed}
+use Rattle.aig_core.specs.Wellformed.{AreDistinct, IsVariableUpTo, IsWellFormed}
 use Rattle.aig_core.specs.Order.{IsLeastReadyOrder}
 use Rattle.aig_core.proofs.Fitting.{definitions_fit}
 use Rattle.aig_core.proofs.InForm.{front, back}
@@ -29,6 +29,14 @@ told_within : (max_var count : ℕ) (tell : Gate → MappedGate) → ((g : Gate)
     → AllByRecursion (λ (m : MappedGate). m.place < count) (map tell gates) → AllByRecursion (λ (m : MappedGate). IsVariableUpTo max_var m.var × (m.place < count)) (map tell gates)
 told_within max_var count tell same [] vars places = tt
 told_within max_var count tell same (g ∷ gs) vars places = ((subst (IsVariableUpTo max_var) (sym (same g)) vars.0, places.0), told_within max_var count tell same gs vars.1 places.1)
+
+-- the circuit is undone from x by the block that is read of it
+pub record IsRecovered (x c : Circuit) : Type 0 where
+  pub block : MapBlock
+  pub rest : List ℕ
+  pub read : block_reading x ≡ Ok (block, rest)
+  pub places : AreDistinct (map (λ (g : MappedGate). g.place) block.gates)
+  pub is : c ≡ undone block (comment_behind block rest) x
 
 module _ (c : Circuit) (order : List ℕ) (good : IsWellFormed c) (least : IsLeastReadyOrder c order) where
   abbrev vs : List ℕ
@@ -87,26 +95,31 @@ module _ (c : Circuit) (order : List ℕ) (good : IsWellFormed c) (least : IsLea
   }
 
   -- what is read of the mapped image undoes it
-  read_of_mapped : (b : MapBlock) × (rest : List ℕ) × (block_reading (mapped_by order c) ≡ Ok (b, rest)) × (c ≡ undone b (comment_behind b rest) (mapped_by order c))
-  read_of_mapped =
-      (map_block order c, unwrap_or c.comment [], block_is_read (mapped_by order c) (map_block order c) (unwrap_or c.comment []) refl counts within, sym (carried_back c order good least))
+  recovered_from_mapped : IsRecovered (mapped_by order c) c
+  unfolding undone_from_mapped
+  recovered_from_mapped = record {
+    block = map_block order c;
+    rest = unwrap_or c.comment [];
+    read = block_is_read (mapped_by order c) (map_block order c) (unwrap_or c.comment []) refl counts within;
+    places = undone_from_mapped.places;
+    is = undone_from_mapped.is;
+  }
 
 -- what is read of a mapped image, and what it undoes
-read_of_image : (c x : Circuit) → IsWellFormed c → IsMappedImage c x → (b : MapBlock) × (rest : List ℕ) × (block_reading x ≡ Ok (b, rest)) × (c ≡ undone b (comment_behind b rest) x)
-read_of_image c x good is =
-    subst (λ (y : Circuit). (b : MapBlock) × (rest : List ℕ) × (block_reading y ≡ Ok (b, rest)) × (c ≡ undone b (comment_behind b rest) y)) (sym is.2) (read_of_mapped c is.0 good is.1)
+pub recovered : (c x : Circuit) → IsWellFormed c → IsMappedImage c x → IsRecovered x c
+recovered c x good is = subst (λ (y : Circuit). IsRecovered y c) (sym is.2) (recovered_from_mapped c is.0 good is.1)
 
 -- one thing is read
-one_reading : (reading : Result (MapBlock × List ℕ) MapFault) (told other : MapBlock × List ℕ) → reading ≡ Ok told → reading ≡ Ok other → told ≡ other
+pub one_reading : (reading : Result (MapBlock × List ℕ) MapFault) (told other : MapBlock × List ℕ) → reading ≡ Ok told → reading ≡ Ok other → told ≡ other
 one_reading reading told other is is_too = cc
 
 -- no two well-formed circuits have one mapped image
 pub one_source : (c d x : Circuit) → IsWellFormed c → IsWellFormed d → IsMappedImage c x → IsMappedImage d x → c ≡ d
 one_source c d x good good_too is is_too =
-    let first = read_of_image c x good is in
-    let second = read_of_image d x good_too is_too in
-    let read : (first.0, first.1) ≡ (second.0, second.1) = one_reading (block_reading x) (first.0, first.1) (second.0, second.1) first.2 second.2 in
-    first.3 ∙ ap (λ (told : MapBlock × List ℕ). undone told.0 (comment_behind told.0 told.1) x) read ∙ sym second.3
+    let first = recovered c x good is in
+    let second = recovered d x good_too is_too in
+    let read : (first.block, first.rest) ≡ (second.block, second.rest) = one_reading (block_reading x) (first.block, first.rest) (second.block, second.rest) first.read second.read in
+    first.is ∙ ap (λ (told : MapBlock × List ℕ). undone told.0 (comment_behind told.0 told.1) x) read ∙ sym second.is
 
 pub undoing_recovers : (c image : Circuit) → IsWellFormed c → IsMappedImage c image → IsUndoneFrom image c × ((other : Circuit) → IsUndoneFrom image other → other ≡ c)
 undoing_recovers c image good is =

@@ -14,7 +14,8 @@ use Rattle.aig_order.specs.MapBlock.{IsMappedImage, mapped_by, last_line}
 use Rattle.aig_order.specs.MapSpelling.{FirstLine, after_text, first_line_at, variable_at, gate_at}
 use Rattle.aig_order.specs.MapReading.{◌>>=◌, or_else, entries_at, counts_match, counted_line, rest_of_block, block_reading}
 use Rattle.aig_order.specs.Undone.{IsMapFault, IsUndoneFrom, comment_behind, undone}
-use Rattle.aig_order.proofs.Recovered.{IsRecovered, ordered, recovered, one_undone}
+use Rattle.aig_order.proofs.OneSource.{IsRecovered, one_reading, one_source, recovered}
+use Rattle.aig_order.proofs.MappedOrder.{mapped_image_is_ordered}
 
 -- a circuit has one mapped image, since its gates have one order
 pub one_mapped : (c a b : Circuit) → IsMappedImage c a → IsMappedImage c b → a ≡ b
@@ -84,12 +85,7 @@ unread x OutOfMemory in_order told = tt
 unread x NotOrdered in_order told = ⊎_elim (λ e. absurd cc) (λ failed. absurd (of_reading x NotOrdered failed)) told
 unread x Forged in_order told = ⊎_elim (λ e. absurd cc) (λ failed. absurd (of_reading x Forged failed)) told
 
--- what is read is one block, and no fault
-one_reading : (first second : MapBlock) (left right : List ℕ) (read : Result (MapBlock × List ℕ) MapFault) → read ≡ Ok (first, left) → read ≡ Ok (second, right) → (first ≡ second) × (left ≡ right)
-one_reading first second left right read a b =
-    let pairs : (first, left) ≡ (second, right) = cc in
-    (ap (λ (p : MapBlock × List ℕ). p.0) pairs, ap (λ (p : MapBlock × List ℕ). p.1) pairs)
-
+-- what is read is no fault
 no_fault : (b : MapBlock) (rest : List ℕ) (e : MapFault) (read : Result (MapBlock × List ℕ) MapFault) → read ≡ Ok (b, rest) → ¬ (read ≡ Err e)
 no_fault b rest e read a failed = absurd cc
 
@@ -98,7 +94,7 @@ module _ (x : Circuit) (b : MapBlock) (rest : List ℕ) (in_order : IsInBinaryOr
   was_read : IsOk (block_reading x)
   was_read = rw read refl
 
-  pub forged : (e : MapFault) → ((c : Circuit) → ¬ IsUndoneFrom x c) → (e ≡ OutOfMemory) ⊎ (e ≡ Forged) → IsMapFault x e
+  forged : (e : MapFault) → ((c : Circuit) → ¬ IsUndoneFrom x c) → (e ≡ OutOfMemory) ⊎ (e ≡ Forged) → IsMapFault x e
   forged e never told =
       ⊎_elim (λ (memory : e ≡ OutOfMemory). subst (IsMapFault x) (sym memory) tt) (λ (is : e ≡ Forged). subst (IsMapFault x) (sym is) (in_order, was_read, never)) told
 
@@ -106,8 +102,9 @@ module _ (x : Circuit) (b : MapBlock) (rest : List ℕ) (in_order : IsInBinaryOr
   by_block : (c : Circuit) → IsUndoneFrom x c → AreDistinct (map (λ (g : MappedGate). g.place) b.gates) × (c ≡ undone b (comment_behind b rest) x)
   by_block c p =
       let r : IsRecovered x c = recovered c x p.well_formed p.image in
-      let same = one_reading r.block b r.rest rest (block_reading x) r.read read in
-      (subst (λ (d : MapBlock). AreDistinct (map (λ (g : MappedGate). g.place) d.gates)) same.0 r.places, r.is ∙ ap₂ (λ (d : MapBlock) (bytes : List ℕ). undone d (comment_behind d bytes) x) same.0 same.1)
+      let same : (r.block, r.rest) ≡ (b, rest) = one_reading (block_reading x) (r.block, r.rest) (b, rest) r.read read in
+      (subst (λ (told : MapBlock × List ℕ). AreDistinct (map (λ (g : MappedGate). g.place) told.0.gates)) same r.places,
+        r.is ∙ ap (λ (told : MapBlock × List ℕ). undone told.0 (comment_behind told.0 told.1) x) same)
 
   pub of_places : (e : MapFault) → (e ≡ OutOfMemory) ⊎ ((e ≡ Forged) × (¬ AreDistinct (map (λ (g : MappedGate). g.place) b.gates))) → IsMapFault x e
   of_places e (inl memory) = subst (IsMapFault x) (sym memory) tt
@@ -117,13 +114,18 @@ module _ (x : Circuit) (b : MapBlock) (rest : List ℕ) (in_order : IsInBinaryOr
   of_source source e is (inl memory) = subst (IsMapFault x) (sym memory) tt
   of_source source e is (inr ill) = forged e (λ c p. ill.1 (subst IsWellFormed ((by_block c p).1 ∙ sym is) p.well_formed)) (inr ill.0)
 
-  pub of_image : (source : Circuit) (e : MapFault) → source ≡ undone b (comment_behind b rest) x → (e ≡ OutOfMemory) ⊎ ((e ≡ Forged) × (¬ IsMappedImage source x)) → IsMapFault x e
+  of_image : (source : Circuit) (e : MapFault) → source ≡ undone b (comment_behind b rest) x → (e ≡ OutOfMemory) ⊎ ((e ≡ Forged) × (¬ IsMappedImage source x)) → IsMapFault x e
   of_image source e is (inl memory) = subst (IsMapFault x) (sym memory) tt
   of_image source e is (inr other) = forged e (λ c p. other.1 (subst (λ (d : Circuit). IsMappedImage d x) ((by_block c p).1 ∙ sym is) p.image)) (inr other.0)
 
+  -- so why the last step refuses
+  pub of_confirmed : (source : Circuit) (told : Result Circuit MapFault) → source ≡ undone b (comment_behind b rest) x → IfErr told (λ e. (e ≡ OutOfMemory) ⊎ ((e ≡ Forged) × (¬ IsMappedImage source x))) → IfErr told (IsMapFault x)
+  of_confirmed source (Ok c) is refused = tt
+  of_confirmed source (Err e) is refused = of_image source e is refused
+
 -- a circuit that has an undone one is refused for want of memory alone
 only : (x : Circuit) (e : MapFault) → IsMapFault x e → (c : Circuit) → IsUndoneFrom x c → e ≡ OutOfMemory
-only x NotOrdered fault c p = absurd (fault (ordered c x p.well_formed p.image))
+only x NotOrdered fault c p = absurd (fault (mapped_image_is_ordered c x p.well_formed p.image).1)
 only x Missing fault c p = let r = recovered c x p.well_formed p.image in absurd (no_fault r.block r.rest Missing (block_reading x) r.read fault.1)
 only x (Malformed line) fault c p = let r = recovered c x p.well_formed p.image in absurd (no_fault r.block r.rest (Malformed line) (block_reading x) r.read fault.1)
 only x Mismatch fault c p = let r = recovered c x p.well_formed p.image in absurd (no_fault r.block r.rest Mismatch (block_reading x) r.read fault.1)
@@ -133,5 +135,5 @@ only x OutOfMemory fault c p = refl
 -- so what undoing gives is told by what it may give
 pub only_undone : (x : Circuit) (told : Result Circuit MapFault) → IfOk told (IsUndoneFrom x) → IfErr told (IsMapFault x) → (c : Circuit) → IsUndoneFrom x c
     → MatchResult told (λ d. d ≡ c) (λ e. e ≡ OutOfMemory)
-only_undone x (Ok d) ok fault c p = one_undone x d c ok p
+only_undone x (Ok d) ok fault c p = one_source d c x ok.well_formed p.well_formed ok.image p.image
 only_undone x (Err e) ok fault c p = only x e fault c p

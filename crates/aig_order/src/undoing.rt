@@ -1,12 +1,15 @@
 //! Conversions undone by the map block of their image.
-ghost use Rattle.std.specs.Prelude.{◌≡◌, ◌⊎◌, IfOk, IfErr, MatchResult};
+ghost use Rattle.std.specs.Prelude.{◌≡◌, ◌⊎◌, IfOk, IfErr, MatchResult, Ok};
 ghost use Rattle.aig_core.specs.declared.circuit.Circuit.{Circuit as CircuitRecord};
 ghost use Rattle.aig_core.specs.Wellformed.{IsWellFormed};
 ghost use Rattle.aig_order.specs.declared.fault.MapFault.TheVariants.{Forged as IsForged, OutOfMemory as IsOutOfMemory};
+ghost use Rattle.aig_binary.specs.BinaryOrder.{IsInBinaryOrder};
 ghost use Rattle.aig_order.specs.MapBlock.{IsMappedImage};
+ghost use Rattle.aig_order.specs.MapReading.{block_reading};
 ghost use Rattle.aig_order.specs.Undone.{IsMapFault, IsUndoneFrom};
 
 use crate::fault::MapFault;
+use crate::map_block::MapBlock;
 use crate::map_reading::read_block;
 use crate::mapped::to_binary_with_map;
 use crate::undone::make_undone;
@@ -31,7 +34,7 @@ fn check_source(alloc: Global, source: Circuit) -> Result<Checked, MapFault>
 
 /// The source, which is forged where its mapped image is another circuit than this one.
 fn confirm(alloc: Global, source: Checked, image: &Checked) -> Result<Checked, MapFault>
-    ensures ok { IfOk result (λ c. (c ≡ source) × IsMappedImage source image.now) }
+    ensures ok { IfOk result (λ c. IsUndoneFrom image.now c) }
     ensures err { IfErr result (λ e. (e ≡ IsOutOfMemory) ⊎ ((e ≡ IsForged) × (¬ IsMappedImage source image.now))) }
 {
     let again = to_binary_with_map(alloc, &source)?;
@@ -42,6 +45,30 @@ fn confirm(alloc: Global, source: Checked, image: &Checked) -> Result<Checked, M
     }
 }
 
+/// The circuit that is undone by the block that was read, where there is one.
+fn undo_by_block(
+    alloc: Global,
+    image: &Checked,
+    block: MapBlock,
+    comment: &[u8],
+) -> Result<Checked, MapFault>
+    requires ordered { IsInBinaryOrder image.now }
+    requires read { block_reading image.now ≡ Ok (block, comment.now) }
+    ensures ok { IfOk result (λ c. IsUndoneFrom image.now c) }
+    ensures fault { IfErr result (λ e. IsMapFault image.now e) }
+{
+    let source = match make_undone(alloc, &block, comment, image.circuit()) {
+        Ok(source) => source,
+        Err(fault) => return Err(fault),
+    };
+    drop(block);
+    let source = match check_source(alloc, source) {
+        Ok(source) => source,
+        Err(fault) => return Err(fault),
+    };
+    confirm(alloc, source, image)
+}
+
 /// The circuit whose mapped image this is, or why there is none.
 fn recover(alloc: Global, image: &Checked) -> Result<Checked, MapFault>
     ensures ok { IfOk result (λ c. IsUndoneFrom image.now c) }
@@ -50,11 +77,10 @@ fn recover(alloc: Global, image: &Checked) -> Result<Checked, MapFault>
     if !is_in_binary_order(image) {
         return Err(MapFault::NotOrdered);
     }
-    let (block, comment) = read_block(alloc, image.circuit())?;
-    let source = make_undone(alloc, &block, comment, image.circuit())?;
-    drop(block);
-    let source = check_source(alloc, source)?;
-    confirm(alloc, source, image)
+    match read_block(alloc, image.circuit()) {
+        Ok((block, comment)) => undo_by_block(alloc, image, block, comment),
+        Err(fault) => Err(fault),
+    }
 }
 
 /// The circuit whose mapped image this is. It refuses a circuit that is not in binary order, one without a map block, one
