@@ -192,7 +192,12 @@ fn by_variables(
         inputs: source_inputs(alloc, variables, image.inputs.as_slice())?,
         latches: source_latches(alloc, variables, image.latches.as_slice())?,
         outputs: source_outputs(alloc, variables, image.outputs.as_slice())?,
-        gates: source_gates(alloc, variables, image.gates.as_slice(), block.gates.as_slice())?,
+        gates: source_gates(
+            alloc,
+            variables,
+            image.gates.as_slice(),
+            block.gates.as_slice(),
+        )?,
         symbols: copy_symbols(alloc, &image.symbols)?,
         comment: source_comment(alloc, block, comment)?,
     })

@@ -1,4 +1,4 @@
-use Rattle.std.proofs.Common.{◌≡◌, ◌∙◌, ◌++◌, Some, None, length, replicate, subst, sym, ap, ap₂, inl, inr, ⊎_elim}
+use Rattle.std.proofs.Common.{◌≡◌, ◌∙◌, ◌++◌, None, length, replicate, ap₂, inl, inr, ⊎_elim}
 use Rattle.std.proofs.lemmas.Result.{err_from_is_err_and}
 use Rattle.aig_order.specs.declared.fault.MapFault.TheVariants.{Forged, OutOfMemory}
 use Rattle.aig_order.specs.Parts.Placed.{with_gates}
@@ -20,7 +20,7 @@ returns-clause-ok c =
     let gates = table_is block.max_var block.gates c.requires.bounds.gates c.in_ok-placed.placed.items (rw c.as_slice.ensures at c.in_ok-placed.ensures.ok) in
     c.in_ok-extend_from_slice-3.ensures.items
     ∙ ap₂ (λ a b. a ++ b) (c.in_ok-extend_from_slice-2.ensures.items ∙ ap₂ (λ a b. a ++ b) (c.in_ok-extend_from_slice.ensures.items ∙ ap₂ (λ a b. a ++ b) c.in_ok-variables.ensures.items c.as_slice-2.ensures) c.as_slice-3.ensures)
-        (c.as_slice-4.ensures.value ∙ gates)
+    (c.as_slice-4.ensures.value ∙ gates)
 
 pub returns-clause-places : goal.returns-clause-places
 returns-clause-places c =
