@@ -1,24 +1,24 @@
 //! The undone circuit: what a circuit was before its conversion, by a map block.
-ghost use Rattle.std.specs.Prelude.{◌≡◌, ◌≢◌, ◌≤◌, ◌<◌, ◌⊎◌, Some, None, length, map, replicate, IfOk, IfErr};
+ghost use Rattle.std.specs.Prelude.{◌≡◌, ◌<◌, ◌⊎◌, Some, None, length, map, IfOk, IfErr};
 ghost use Rattle.std.specs.List.{AllByRecursion};
 ghost use Rattle.aig_core.specs.Wellformed.{AreDistinct};
 ghost use Rattle.aig_order.specs.declared.fault.MapFault.TheVariants.{Forged as IsForged, OutOfMemory as IsOutOfMemory};
 ghost use Rattle.aig_order.specs.declared.map_block.MappedGate.{MappedGate as MappedGateRecord};
 ghost use Rattle.aig_order.specs.MapReading.{HasCountsOf, IsWithinBounds};
-ghost use Rattle.aig_order.specs.Parts.Placed.{with_gates, FitIntoLiterals};
-ghost use Rattle.aig_order.specs.Undone.{comment_behind, source_gate, source_latch, source_literal, source_variable, source_variables, undone};
+ghost use Rattle.aig_order.specs.Parts.Placed.{table_of, FitIntoLiterals};
+ghost use Rattle.aig_order.specs.Undone.{comment_behind, source_gate, source_latch, source_literal, source_variable};
+ghost use Rattle.aig_order.specs.Undone.{source_variables, undone};
 
 use crate::fault::MapFault;
 use crate::map_block::{MapBlock, MappedGate};
 use aig_core::{Circuit, Gate, Latch, Listing, Lit, OutOfMemory, Var, copy_symbols};
-use std::alloc::{AllocError, Global};
+use std::alloc::Global;
 
 /// The variables of the gates by their places. No two gates may have one place.
 fn place_gates(alloc: Global, gates: &[MappedGate]) -> Result<Vec<Var>, MapFault>
     requires { AllByRecursion (λ (g : MappedGateRecord). g.place < length gates.now) gates.now }
-    ensures ok { IfOk result (λ r. with_gates (replicate (length gates.now) 0) gates.now ≡ Some r.items) }
-    ensures err { IfErr result (λ e. (e ≡ IsOutOfMemory)
-        ⊎ ((e ≡ IsForged) × (with_gates (replicate (length gates.now) 0) gates.now ≡ None))) }
+    ensures ok { IfOk result (λ r. table_of gates.now ≡ Some r.items) }
+    ensures err { IfErr result (λ e. (e ≡ IsOutOfMemory) ⊎ ((e ≡ IsForged) × (table_of gates.now ≡ None))) }
 {
     let mut placed = vec![in alloc; Var(0); gates.len()]?;
     for gate in gates {
@@ -203,8 +203,8 @@ fn by_variables(
     })
 }
 
-/// The circuit by the variables, the order of gates and the order of operands that a block tells, with this comment behind
-/// the block.
+/// The circuit by the variables, the order of gates and the order of operands that a block tells, with this comment
+/// behind the block.
 pub(crate) fn make_undone(
     alloc: Global,
     block: &MapBlock,

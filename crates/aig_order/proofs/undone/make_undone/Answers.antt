@@ -5,8 +5,10 @@ use Rattle.aig_order.proofs.undone.make_undone.Goals as goal
 
 pub by_variables-requires-clause-fit : goal.by_variables-requires-clause-fit
 by_variables-requires-clause-fit c =
-    subst FitIntoLiterals (sym (c.as_slice.ensures.value ∙ c.in_ok-variables.ensures.ok)) (they_fit c.args.block.now c.requires.bounds)
+    subst FitIntoLiterals (sym (c.as_slice.ensures.value ∙ c.in_ok-variables.ensures.ok))
+    (they_fit c.args.block.now c.requires.bounds)
 
 pub by_variables-requires-clause-there : goal.by_variables-requires-clause-there
 by_variables-requires-clause-there c =
-    places_there c.args.block.now.max_var _ c.args.block.now.gates c.requires.bounds.gates _ c.requires.counts.gates
+    let block = c.args.block.now in
+    places_there block.max_var _ block.gates c.requires.bounds.gates _ c.requires.counts.gates
