@@ -7,7 +7,7 @@ use std::alloc::AllocError;
 use thiserror::Error;
 
 /// Why a conversion cannot be undone. The variants stand in the order in which they are looked for.
-#[derive(Debug, Drop, Error)]
+#[derive(Debug, Drop, PartialEq, Error)]
 pub enum MapFault {
     /// The circuit is not in binary order.
     #[error("not in binary order")]

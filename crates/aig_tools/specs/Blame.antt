@@ -3,8 +3,10 @@ use Rattle.std.specs.Prelude.{ℕ, Option, None, Some}
 use Rattle.aig_text.specs.declared.fault.ReadFault.{ReadFault}
 use Rattle.aig_text.specs.declared.fault.ReadKind.{ReadKind}
 use Rattle.aig_text.specs.declared.fault.ReadKind.TheVariants as kinds
+use Rattle.aig_order.specs.declared.fault.MapFault.{MapFault}
+use Rattle.aig_order.specs.declared.fault.MapFault.TheVariants as map_faults
 use Rattle.aig_tools.specs.declared.fault.ToolFault.{ToolFault}
-use Rattle.aig_tools.specs.declared.fault.ToolFault.TheVariants.{Read, Source, Sink, OutOfMemory}
+use Rattle.aig_tools.specs.declared.fault.ToolFault.TheVariants.{Read, Map, Source, Sink, OutOfMemory}
 
 -- the device that failed, memory that was refused, or else what the source gave
 pub data Party : Type 0 where
@@ -18,9 +20,15 @@ abbrev pub blamed : ReadKind → Party
 blamed kinds.OutOfMemory = Memory
 blamed _ = TheInput
 
--- want of memory while a text is judged is told as a fault of the text
+-- where this is wrong with a map
+abbrev pub map_blamed : MapFault → Party
+map_blamed map_faults.OutOfMemory = Memory
+map_blamed _ = TheInput
+
+-- want of memory while a text or a map is judged is told as a fault of it
 abbrev pub at_fault : ToolFault → Party
 at_fault (Read fault) = blamed fault.kind
+at_fault (Map fault) = map_blamed fault
 at_fault Source = TheSource
 at_fault Sink = TheSink
 at_fault OutOfMemory = Memory
@@ -29,6 +37,11 @@ at_fault OutOfMemory = Memory
 abbrev pub text_fault : ToolFault → Option ReadFault
 text_fault (Read fault) = Some fault
 text_fault _ = None
+
+-- what is wrong with a map, where that is what is told
+abbrev pub map_fault : ToolFault → Option MapFault
+map_fault (Map fault) = Some fault
+map_fault _ = None
 
 -- how many failures of its source a run with this at fault has seen, and how many of its sink
 abbrev pub source_failures : Party → ℕ

@@ -2,6 +2,8 @@
 use Rattle.std.specs.Prelude.{◌≡◌, ◌↔◌, ℕ, List, Ok, true, false}
 use Rattle.aig_core.specs.declared.circuit.TheConstants.{LARGEST}
 use Rattle.aig_core.specs.Wellformed.{IsWellFormed}
+use Rattle.aig_text.specs.AsciiText.{ascii_text}
+use Rattle.aig_text.specs.AsciiGrammar.{IsAsciiText}
 use Rattle.aig_binary.specs.BinaryOrder.{IsInBinaryOrder}
 use Rattle.aig_binary.specs.BinaryText.{binary_text}
 use Rattle.aig_core.specs.declared.circuit.Circuit.{Circuit}
@@ -38,6 +40,30 @@ abbrev pub BinarySurvivesAscii : Type 0
 BinarySurvivesAscii = (there back : ToAig) → IsPlain there → there.ascii ≡ true → IsPlain back → back.ascii ≡ false
     → (file ascii binary : List ℕ) → IsCanonicalBinary file → IsConversionText there file ascii → IsConversionText back ascii binary → binary ≡ file
 
+-- a conversion to binary at the default limit that leaves nothing out and keeps the map
+pub record KeepsMap (request : ToAig) : Type 0 where
+  pub ascii : request.ascii ≡ false
+  pub strip : request.strip ≡ false
+  pub keep_map : request.keep_map ≡ true
+  pub undo_map : request.undo_map ≡ false
+  pub limit : request.max_var ≡ LARGEST
+
+-- a conversion to ASCII at the default limit that leaves nothing out and undoes the map
+pub record UndoesMap (request : ToAig) : Type 0 where
+  pub ascii : request.ascii ≡ true
+  pub strip : request.strip ≡ false
+  pub keep_map : request.keep_map ≡ false
+  pub undo_map : request.undo_map ≡ true
+  pub limit : request.max_var ≡ LARGEST
+
+-- Of every ASCII file of a circuit, converted to binary with the map and undone, there is the canonical text of that very
+-- circuit, which is a file of it, and the file itself where that is canonical.
+abbrev pub UndoingGivesAsciiBack : Type 0
+UndoingGivesAsciiBack = (there back : ToAig) → KeepsMap there → UndoesMap back
+    → (c : Circuit) (file binary ascii : List ℕ) → IsAsciiText file LARGEST c → IsConversionText there file binary → IsConversionText back binary ascii
+    → (ascii ≡ ascii_text c) × IsAsciiText ascii LARGEST c × (file ≡ ascii_text c → ascii ≡ file)
+
 -- the headline: its clauses so far
 pub record Headline : Type 0 where
+  pub undoing_gives_ascii_back : UndoingGivesAsciiBack
   pub binary_survives_ascii : BinarySurvivesAscii

@@ -6,4 +6,4 @@ pub mod Outcome
 pub mod Messages
 pub mod Reported
 pub mod Laws
-pub mod SoFar
+pub mod Possible

@@ -1,6 +1,6 @@
 -- What came of a request, for a source and what is left of it, and a sink and how it is filled then. Nothing is said of
 -- the bytes of a device that does not tell them.
-use Rattle.std.specs.Prelude.{◌≡◌, ◌+◌, ◌⊎◌, ℕ, List, Option, IfSome}
+use Rattle.std.specs.Prelude.{◌≡◌, ◌+◌, ◌⊎◌, ℕ, List, Option, IfSome, true}
 use Rattle.std.specs.Io.KnownBytes.{Appends}
 use Rattle.aig_core.specs.Transfer.{GaveAll, GaveSome, TookBeginning}
 use Rattle.aig_text.specs.declared.fault.ReadFault.{ReadFault}
@@ -9,8 +9,10 @@ use Rattle.aig_tools.specs.declared.fault.ToolFault.{ToolFault}
 use Rattle.aig_tools.specs.declared.request.ToAig.{ToAig}
 use Rattle.aig_tools.specs.declared.request.Request.{Request}
 use Rattle.aig_tools.specs.declared.request.Request.TheVariants as requests
-use Rattle.aig_tools.specs.Blame.{at_fault, sink_failures, source_failures, text_fault, TheSink}
-use Rattle.aig_tools.specs.File.{first_fault}
+use Rattle.aig_tools.specs.Blame.{at_fault, map_fault, sink_failures, source_failures, text_fault, TheSink}
+use Rattle.aig_order.specs.declared.fault.MapFault.{MapFault}
+use Rattle.aig_order.specs.Undone.{IsMapFault}
+use Rattle.aig_tools.specs.File.{first_fault, IsFileOf}
 use Rattle.aig_tools.specs.declared.fault.ToolFault.TheVariants as faults
 use Rattle.aig_core.specs.declared.circuit.Circuit.{Circuit}
 use Rattle.aig_tools.specs.Conversion.{IsConversionText, IsTextAs}
@@ -41,12 +43,22 @@ pub record Refused (request : ToAig) (coming left : Option (List ℕ)) (fault : 
   pub gave : GaveAll coming left bytes
   pub is_first : IsFirstFault fault (first_fault request.max_var bytes)
 
+-- The source gave all its bytes, which are the file of a circuit that was to be undone, and this is why it has no undone
+-- one, unless memory was refused.
+pub record MapRefused (request : ToAig) (coming left : Option (List ℕ)) (fault : MapFault) : Type 0 where
+  pub bytes : List ℕ
+  pub found : Circuit
+  pub gave : GaveAll coming left bytes
+  pub read : IsFileOf bytes request.max_var found
+  pub asked : request.undo_map ≡ true
+  pub is : IsMapFault found fault
+
 -- A circuit is not written: memory was refused and nothing was sent, or the sink failed and took a beginning of the text.
 abbrev pub NotWritten : {W : Type 0} → ToAig → Circuit → ToolFault → (W → Option (List ℕ)) → (W → ℕ) → W → W → Type 0
 NotWritten request written error taken sink_failed sink filled =
     ((error ≡ faults.OutOfMemory) × (filled ≡ sink))
     ⊎ ((error ≡ faults.Sink) × (sink_failed filled ≡ sink_failed sink + 1)
-    × ((text : List ℕ) × IsTextAs request.ascii written text × TookBeginning (taken sink) (taken filled) text))
+    × ((text : List ℕ) × IsTextAs request.ascii request.keep_map written text × TookBeginning (taken sink) (taken filled) text))
 
 -- what an error of a conversion says of its source and its sink
 pub record NotConverted {R W : Type 0} (request : ToAig) (error : ToolFault)
@@ -54,6 +66,7 @@ pub record NotConverted {R W : Type 0} (request : ToAig) (error : ToolFault)
     (taken : W → Option (List ℕ)) (sink_failed : W → ℕ) (sink filled : W) : Type 0 where
   pub gave : GaveSome (coming source) (coming left)
   pub refused : IfSome (text_fault error) (Refused request (coming source) (coming left))
+  pub map_refused : IfSome (map_fault error) (MapRefused request (coming source) (coming left))
   -- Nothing is sent before all is read and found right.
   pub unsent : (at_fault error ≡ TheSink) ⊎ (filled ≡ sink)
   pub in_part : at_fault error ≡ TheSink

@@ -1,15 +1,16 @@
 //! `aigtoaig`: conversion of AIGER files.
 ghost use Rattle.std.specs.Io.KnownBytes.{Appends};
-ghost use Rattle.std.specs.Prelude.{◌≡◌, ◌+◌, ◌-◌, ◌^◌, ◌<◌, ◌⊎◌, ℕ, List, false, IfErr, OnOk};
-ghost use Rattle.aig_tools.specs.Conversion.{IsTextAs, changed};
+ghost use Rattle.std.specs.Prelude.{◌≡◌, ◌+◌, ◌-◌, ◌^◌, ◌<◌, ◌⊎◌, ℕ, List, false, true, IfErr, IfOk, OnOk};
+ghost use Rattle.aig_order.specs.Undone.{IsMapFault};
+ghost use Rattle.aig_tools.specs.Conversion.{IsImageAs, IsSource, IsTextAs, changed};
 ghost use Rattle.aig_tools.specs.Outcome.{Converted, NotConverted, NotWritten};
 
 use crate::fault::ToolFault;
 use crate::file::read_file;
 use crate::request::ToAig;
-use aig_binary::write_binary;
-use aig_core::{Checked, Circuit, Listing, Sink, Source, read_all};
-use aig_order::to_binary;
+use aig_binary::{Ordered, write_binary};
+use aig_core::{Checked, Circuit, Listing, OutOfMemory, Sink, Source, read_all};
+use aig_order::{MapFault, to_binary, to_binary_with_map, undo};
 use aig_text::{Limits, write_ascii};
 use std::alloc::Global;
 
@@ -28,6 +29,31 @@ fn changed(alloc: Global, request: &ToAig, circuit: Checked) -> Checked
     })
 }
 
+/// The circuit whose mapped image was read, where the request asks to undo the map.
+fn undone(alloc: Global, request: &ToAig, found: Checked) -> Result<Checked, MapFault>
+    ensures ok { IfOk result (λ source. IsSource request.now.undo_map found source) }
+    ensures err { IfErr result (λ e. (request.now.undo_map ≡ true) × IsMapFault found e) }
+{
+    if request.undo_map {
+        undo(alloc, &found)
+    } else {
+        Ok(found)
+    }
+}
+
+/// The image of a circuit, with the map where the request asks for it. A circuit in binary order is its own image.
+fn image(alloc: Global, request: &ToAig, circuit: Checked) -> Result<Ordered, OutOfMemory>
+    ensures { IfOk result (λ image. IsImageAs request.now.keep_map circuit image) }
+{
+    if request.keep_map {
+        return to_binary_with_map(alloc, &circuit);
+    }
+    match Ordered::try_from_checked(circuit) {
+        Ok(ordered) => Ok(ordered),
+        Err(circuit) => to_binary(alloc, &circuit),
+    }
+}
+
 /// Writes the circuit in the form that the request asks for. Nothing is sent before its whole image was made.
 fn write<W: Sink>(
     alloc: Global,
@@ -36,7 +62,7 @@ fn write<W: Sink>(
     sink: &mut W,
 ) -> Result<(), ToolFault>
     requires { W.failed sink.old < 2 ^ 64 - 1 }
-    ensures ok { OnOk result ((text : List ℕ) × IsTextAs request.now.ascii circuit text
+    ensures ok { OnOk result ((text : List ℕ) × IsTextAs request.now.ascii request.now.keep_map circuit text
         × Appends (W.taken sink.old) (W.taken sink.new) text × (W.failed sink.new ≡ W.failed sink.old)) }
     ensures err { IfErr result (λ error. NotWritten request.now circuit error W.taken W.failed sink.old sink.new) }
 {
@@ -44,16 +70,15 @@ fn write<W: Sink>(
         write_ascii(&circuit, sink)?;
         return Ok(());
     }
-    let image = to_binary(alloc, &circuit)?;
-    // What was read is not needed from here on.
-    drop(circuit);
+    let image = image(alloc, request, circuit)?;
     write_binary(&image, sink)?;
     Ok(())
 }
 
 /// Reads the source to its end, and writes what the request asks for. Nothing is sent before the whole source was
-/// read and found right. It fails where a device fails, where the bytes are no file of a circuit, and where memory is
-/// refused; only a sink that fails may have taken a beginning of what is written.
+/// read and found right. It fails where a device fails, where the bytes are no file of a circuit, where that circuit is
+/// to be undone and has no undone one, and where memory is refused; only a sink that fails may have taken a beginning
+/// of what is written.
 pub fn run_toaig<R: Source, W: Sink>(
     alloc: Global,
     request: &ToAig,
@@ -62,9 +87,8 @@ pub fn run_toaig<R: Source, W: Sink>(
 ) -> Result<(), ToolFault>
     requires source { R.failed source.old < 2 ^ 64 - 1 }
     requires sink { W.failed sink.old < 2 ^ 64 - 1 }
-    // So far no record of a renumbering is kept or undone.
-    requires keep_map { request.now.keep_map ≡ false }
-    requires undo_map { request.now.undo_map ≡ false }
+    requires kept_alone { request.now.keep_map ≡ true
+        → (request.now.ascii ≡ false) × (request.now.strip ≡ false) × (request.now.undo_map ≡ false) }
 
     ensures ok { OnOk result (Converted request.now
         R.coming R.failed source.old source.new W.taken W.failed sink.old sink.new) }
@@ -78,6 +102,7 @@ pub fn run_toaig<R: Source, W: Sink>(
     let circuit = read_file(alloc, bytes.as_slice(), limits)?;
     // The text is not needed from here on, and may be larger than the circuit.
     drop(bytes);
-    let circuit = changed(alloc, request, circuit);
+    let source_circuit = undone(alloc, request, circuit)?;
+    let circuit = changed(alloc, request, source_circuit);
     write(alloc, request, circuit, sink)
 }

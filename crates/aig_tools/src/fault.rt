@@ -1,10 +1,11 @@
 //! Why a tool did not do what was asked.
 ghost use Rattle.std.specs.Prelude.{◌≡◌, ◌↔◌, IsTrue};
-ghost use Rattle.aig_tools.specs.declared.fault.ToolFault.TheVariants.{OutOfMemory, Read, Sink};
+ghost use Rattle.aig_tools.specs.declared.fault.ToolFault.TheVariants.{Map, OutOfMemory, Read, Sink};
 ghost use Rattle.aig_tools.specs.Blame.{at_fault, Memory};
 ghost use Rattle.aig_tools.specs.Reported.{tool_fault_of};
 
 use aig_core::ReadError;
+use aig_order::MapFault;
 use aig_text::{ReadFault, ReadKind, WriteFault};
 use thiserror::Error;
 
@@ -20,13 +21,16 @@ pub enum ToolFault {
     /// The source is not the file of a circuit.
     #[error("{0}")]
     Read(ReadFault),
+    /// The source is the file of a circuit that has no undone one.
+    #[error("{0}")]
+    Map(MapFault),
     /// The source failed.
     #[error("{text}", text = CANNOT_READ)]
     Source,
     /// The sink failed.
     #[error("{text}", text = CANNOT_WRITE)]
     Sink,
-    /// A growth of memory was refused, but while a file was judged: that is told as a fault of the file.
+    /// A growth of memory was refused, but while a file or a map was judged: that is told as a fault of it.
     #[error("{text}", text = OUT_OF_MEMORY)]
     OutOfMemory,
 }
@@ -39,6 +43,7 @@ impl ToolFault {
         match self {
             ToolFault::OutOfMemory => true,
             ToolFault::Read(fault) => matches!(fault.kind, ReadKind::OutOfMemory),
+            ToolFault::Map(fault) => matches!(fault, MapFault::OutOfMemory),
             ToolFault::Source | ToolFault::Sink => false,
         }
     }
@@ -68,6 +73,14 @@ impl From<ReadFault> for ToolFault {
 
     fn from(fault: ReadFault) -> ToolFault {
         ToolFault::Read(fault)
+    }
+}
+
+impl From<MapFault> for ToolFault {
+    ghost from_gives = { λ fault told. told ≡ Map fault };
+
+    fn from(fault: MapFault) -> ToolFault {
+        ToolFault::Map(fault)
     }
 }
 

@@ -53,7 +53,7 @@ pub(crate) fn tell_fault<E: Sink>(errors: &mut E, fault: &ToolFault)
     let told = match fault {
         ToolFault::Source => CANNOT_READ.as_bytes(),
         ToolFault::Sink => CANNOT_WRITE.as_bytes(),
-        ToolFault::Read(_) | ToolFault::OutOfMemory => {
+        ToolFault::Read(_) | ToolFault::Map(_) | ToolFault::OutOfMemory => {
             // What is wrong with an input is far shorter than a block, so this always fits.
             let _fits = write!(text, "{fault}");
             text.as_slice()

@@ -3,7 +3,7 @@ ghost use Rattle.std.specs.Prelude.{◌≡◌, ◌-◌, ◌^◌, ◌<◌, ◌≤
 ghost use Rattle.aig_tools.specs.Blame.{at_fault};
 ghost use Rattle.aig_tools.specs.Messages.{memory_line, Told, ToldFault, words_line};
 ghost use Rattle.aig_tools.specs.Outcome.{Done, NotDone};
-ghost use Rattle.aig_tools.specs.SoFar.{CanDo};
+ghost use Rattle.aig_tools.specs.Possible.{CanAsk};
 ghost use Rattle.aig_tools.specs.Words.{request_of, texts};
 ghost use Rattle.aig_tools.specs.declared.fault.ToolFault.{ToolFault as Error};
 
@@ -34,7 +34,7 @@ fn run<R: Source, W: Sink>(
 ) -> Result<(), ToolFault>
     requires input { R.failed input.old < 2 ^ 64 - 1 }
     requires output { W.failed output.old < 2 ^ 64 - 1 }
-    requires can_do { CanDo request.now }
+    requires can_ask { CanAsk request.now }
 
     ensures ok { OnOk result (Done request.now
         R.coming R.failed input.old input.new W.taken W.failed output.old output.new) }

@@ -7,9 +7,10 @@ pub struct ToAig {
     pub ascii: bool,
     /// Whether symbols and comment are left out.
     pub strip: bool,
-    /// Whether the comment records how the source was renumbered.
+    /// Whether the comment begins with a map block, by which the conversion can be undone. This stands without `ascii`,
+    /// `strip` and `undo_map`.
     pub keep_map: bool,
-    /// Whether such a record is undone.
+    /// Whether a conversion is undone by the map block of its image.
     pub undo_map: bool,
     /// The limit on the largest variable index and the counts of the source.
     pub max_var: u32,

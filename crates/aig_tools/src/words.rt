@@ -1,34 +1,50 @@
 //! What the words of the command line ask for.
 ghost use Rattle.std.specs.Prelude.{◌≡◌, IfSome};
-ghost use Rattle.aig_tools.specs.SoFar.{CanDo};
-ghost use Rattle.aig_tools.specs.Words.{plain_conversion, conversion_of, request_of, texts};
+ghost use Rattle.aig_tools.specs.Possible.{CanAsk};
+ghost use Rattle.aig_tools.specs.Words.{conversion, conversion_by, conversion_of, request_of, texts};
 
 use crate::request::{Request, ToAig};
 use aig_text::Limits;
 
-/// The conversion that `aigtoaig` asks for, or with `--ascii` to ASCII.
-fn plain_request(ascii: bool) -> ToAig
-    ensures { result ≡ plain_conversion ascii }
+/// A conversion over the standard streams, to ASCII or to binary, that keeps or undoes a map.
+fn conversion(ascii: bool, keep_map: bool, undo_map: bool) -> ToAig
+    ensures { result ≡ conversion ascii keep_map undo_map }
 {
     ToAig {
         ascii,
         strip: false,
-        keep_map: false,
-        undo_map: false,
+        keep_map,
+        undo_map,
         max_var: Limits::default().max_var,
         source: None,
         destination: None,
     }
 }
 
+/// What one word after `aigtoaig` asks for.
+fn conversion_by(option: &str) -> Option<Request>
+    ensures value { result ≡ conversion_by option.now }
+    ensures can_ask { IfSome result CanAsk }
+{
+    match option {
+        "--ascii" => Some(Request::ToAig(conversion(true, false, false))),
+        "--keep-map" => Some(Request::ToAig(conversion(false, true, false))),
+        "--undo-map" => Some(Request::ToAig(conversion(false, false, true))),
+        _ => None,
+    }
+}
+
 /// What the words after `aigtoaig` ask for.
 fn conversion_of(options: &[String]) -> Option<Request>
     ensures value { result ≡ conversion_of (texts options.now) }
-    ensures can_do { IfSome result CanDo }
+    ensures can_ask { IfSome result CanAsk }
 {
     match options {
-        [] => Some(Request::ToAig(plain_request(false))),
-        [option] if option.as_str() == "--ascii" => Some(Request::ToAig(plain_request(true))),
+        [] => Some(Request::ToAig(conversion(false, false, false))),
+        [option] => conversion_by(option.as_str()),
+        [first, second] if first.as_str() == "--undo-map" && second.as_str() == "--ascii" => {
+            Some(Request::ToAig(conversion(true, false, true)))
+        }
         _ => None,
     }
 }
@@ -36,7 +52,7 @@ fn conversion_of(options: &[String]) -> Option<Request>
 /// What the words ask for, the program's name first, where the program knows it.
 pub(crate) fn parse(words: &[String]) -> Option<Request>
     ensures value { result ≡ request_of (texts words.now) }
-    ensures can_do { IfSome result CanDo }
+    ensures can_ask { IfSome result CanAsk }
 {
     match words {
         [_, tool, options @ ..] if tool.as_str() == "aigtoaig" => conversion_of(options),
