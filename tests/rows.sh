@@ -45,6 +45,18 @@ digits() { printf "%$1s" '' | tr ' ' "$2"; }
 accepts() { row "$1" "$2" "$3" '' 0 aigtoaig --ascii; }
 same() { accepts "$1" "$2" "$2"; }
 images() { row "$1" "$2" "$3" '' 0 aigtoaig; }
+maps() { row "$1" "$2" "$3" '' 0 aigtoaig --keep-map; }
+undoes() { row "$1" "$2" "$3" '' 0 aigtoaig --undo-map --ascii; }
+no_undone() { row "$1" "$2" '' "aiger: -: $3\n" 1 aigtoaig --undo-map --ascii; }
+# a source with its mapped image, and back
+there_and_back() {
+    maps "$1, with the map" "$2" "$3"
+    undoes "$1, undone" "$3" "$2"
+}
+# a block that is not right, of a circuit with an input and an output
+bad_block() { no_undone "$1" "aig 1 1 0 1 0\n3\nc\n$2" "$3"; }
+# a block that is not right, of a circuit with an input, an output and a gate with equal operands
+bad_gate_block() { no_undone "$1" "aig 2 1 0 1 1\n4\n\x02\x00c\n$2" "$3"; }
 refuses() { row "$1" "$2" '' "aiger: -: $3\n" 1 aigtoaig --ascii; }
 unknown() { local name=$1; shift; row "$name" 'aag 0 0 0 0 0\n' '' 'aiger: words not supported\n' 2 "$@"; }
 
@@ -63,6 +75,10 @@ rows() {
     rows_binary_lines
     rows_cuts
     rows_images
+    rows_maps
+    rows_undone
+    rows_blocks
+    rows_forged
     rows_words
 }
 
@@ -474,6 +490,126 @@ rows_images() {
     row 'a bad line to binary' 'aag 1 1 0 0 0\nx\n' '' 'aiger: -: line 2: bad line\n' 1 aigtoaig
 }
 
+rows_maps() {
+    local half='aag 7 2 0 2 3\n2\n4\n6\n12\n6 13 15\n12 2 4\n14 3 5\ni0 x\ni1 y\no0 s\no1 c\nc\nhalf adder\n'
+    local half_image='aig 5 2 0 2 3\n10\n6\n\x02\x02\x03\x02\x01\x02i0 x\ni1 y\no0 s\no1 c\nc\n'
+    local half_block='aigmap 1 7 2 0 3 1\n1\n2\n3 2 1\n6 0 1\n7 1 1\naigmap end\n'
+    there_and_back 'a half adder' "$half" "$half_image${half_block}half adder\n"
+    there_and_back 'no comment section' 'aag 9 1 0 1 0\n18\n19\n' 'aig 1 1 0 1 0\n3\nc\naigmap 1 9 1 0 0 0\n9\naigmap end\n'
+    there_and_back 'an empty comment' 'aag 9 1 0 1 0\n18\n19\nc\n' 'aig 1 1 0 1 0\n3\nc\naigmap 1 9 1 0 0 1\n9\naigmap end\n'
+    there_and_back 'a comment that is a block' 'aag 9 1 0 1 0\n18\n19\nc\naigmap 1 9 1 0 0 0\n9\naigmap end\n' \
+        'aig 1 1 0 1 0\n3\nc\naigmap 1 9 1 0 0 1\n9\naigmap end\naigmap 1 9 1 0 0 0\n9\naigmap end\n'
+    there_and_back 'a comment without a line feed' 'aag 9 1 0 1 0\n18\n19\nc\nx' \
+        'aig 1 1 0 1 0\n3\nc\naigmap 1 9 1 0 0 1\n9\naigmap end\nx'
+    there_and_back 'equal operands' 'aag 2 1 0 1 1\n2\n4\n4 2 2\n' \
+        'aig 2 1 0 1 1\n4\n\x02\x00c\naigmap 1 2 1 0 1 0\n1\n2 0 0\naigmap end\n'
+    there_and_back 'a gate that waits for the last one' 'aag 5 2 0 1 3\n2\n4\n6\n6 10 2\n8 2 4\n10 4 2\n' \
+        'aig 5 2 0 1 3\n10\n\x02\x02\x04\x02\x02\x06c\naigmap 1 5 2 0 3 0\n1\n2\n3 2 0\n4 0 1\n5 1 0\naigmap end\n'
+    there_and_back 'a gate that is taken before a later one' 'aag 5 2 0 0 3\n2\n4\n6 8 2\n8 4 2\n10 4 2\n' \
+        'aig 5 2 0 0 3\n\x02\x02\x02\x04\x06\x02c\naigmap 1 5 2 0 3 0\n1\n2\n3 1 0\n4 0 0\n5 2 0\naigmap end\n'
+    there_and_back 'the empty circuit' 'aag 0 0 0 0 0\n' 'aig 0 0 0 0 0\nc\naigmap 1 0 0 0 0 0\naigmap end\n'
+    there_and_back 'a latch, far variables and a negated constant' 'aag 2147483647 0 1 1 0\n4294967294 1\n4294967295\n' \
+        'aig 1 0 1 1 0\n1\n3\nc\naigmap 1 2147483647 0 1 0 0\n2147483647\naigmap end\n'
+    there_and_back 'latches out of order beside inputs' 'aag 9 1 2 0 0\n6\n18 7\n4 18\n' \
+        'aig 3 1 2 0 0\n3\n4\nc\naigmap 1 9 1 2 0 0\n3\n9\n2\naigmap end\n'
+    there_and_back 'constants as operands' 'aag 4 0 0 0 2\n4 0 1\n8 1 0\n' \
+        'aig 2 0 0 0 2\n\x01\x01\x03\x01c\naigmap 1 4 0 0 2 0\n2 0 1\n4 1 0\naigmap end\n'
+    local mapped="$half_image${half_block}half adder\n"
+    accepts 'a map is comment text unless undo is asked for' "$mapped" \
+        "aag 5 2 0 2 3\n2\n4\n10\n6\n6 4 2\n8 5 3\n10 9 7\ni0 x\ni1 y\no0 s\no1 c\nc\n${half_block}half adder\n"
+    images 'a map is kept from binary to binary' "$mapped" "$mapped"
+    maps 'a map of a mapped image' 'aig 1 1 0 1 0\n3\nc\naigmap 1 9 1 0 0 0\n9\naigmap end\n' \
+        'aig 1 1 0 1 0\n3\nc\naigmap 1 1 1 0 0 1\n1\naigmap end\naigmap 1 9 1 0 0 0\n9\naigmap end\n'
+    row 'a cycle with the map' 'aag 3 1 0 0 2\n2\n4 6 2\n6 4 2\n' '' 'aiger: -: gate 4 depends on a cycle\n' 1 aigtoaig --keep-map
+    row 'a bad line with the map' 'aag 1 1 0 0 0\nx\n' '' 'aiger: -: line 2: bad line\n' 1 aigtoaig --keep-map
+}
+
+rows_undone() {
+    local image='aig 1 1 0 1 0\n3\nc\naigmap 1 9 1 0 0 0\n9\naigmap end\n'
+    row 'undone to binary, without a block' "$image" 'aig 1 1 0 1 0\n3\n' '' 0 aigtoaig --undo-map
+    row 'gates undone to binary' 'aig 2 1 0 1 1\n4\n\x02\x00c\naigmap 1 2 1 0 1 0\n1\n2 0 0\naigmap end\n' \
+        'aig 2 1 0 1 1\n4\n\x02\x00' '' 0 aigtoaig --undo-map
+    undoes 'an ASCII file in binary order is undone' 'aag 1 1 0 1 0\n2\n3\nc\naigmap 1 9 1 0 0 0\n9\naigmap end\n' \
+        'aag 9 1 0 1 0\n18\n19\n'
+    undoes 'another largest index is another source' 'aig 2 1 0 1 1\n4\n\x02\x00c\naigmap 1 3 1 0 1 0\n1\n2 0 0\naigmap end\n' \
+        'aag 3 1 0 1 1\n2\n4\n4 2 2\n'
+    undoes 'padded deltas and leading zeros before the block' 'aig 02 1 0  1 1\n04\n\x82\x00\x00c\naigmap 1 2 1 0 1 0\n1\n2 0 0\naigmap end\n' \
+        'aag 2 1 0 1 1\n2\n4\n4 2 2\n'
+    undoes 'symbols stay' 'aig 1 1 0 1 0\n3\no0 b\ni0 a\nc\naigmap 1 9 1 0 0 0\n9\naigmap end\n' \
+        'aag 9 1 0 1 0\n18\n19\no0 b\ni0 a\n'
+    no_undone 'not in binary order' 'aag 9 1 0 1 0\n18\n19\n' 'not in binary order'
+    no_undone 'not in binary order, and a block' 'aag 9 1 0 1 0\n18\n19\nc\naigmap 1 9 1 0 0 0\n9\naigmap end\n' 'not in binary order'
+    no_undone 'no comment' 'aig 0 0 0 0 0\n' 'no map'
+    no_undone 'another comment' 'aig 5 2 0 2 3\n10\n6\n\x02\x02\x03\x02\x01\x02c\nhalf adder\n' 'no map'
+    no_undone 'a bad line where undo is asked' 'aig 1 1 0 1 0\nx\n' 'line 2: bad line'
+    row 'no map, to binary' 'aig 0 0 0 0 0\n' '' 'aiger: -: no map\n' 1 aigtoaig --undo-map
+}
+
+rows_blocks() {
+    bad_block 'the word without a space' 'aigmap\n' 'no map'
+    bad_block 'the word alone' 'aigmap' 'no map'
+    bad_block 'an empty comment' '' 'no map'
+    bad_block 'the word in capital letters' 'AIGMAP 1 9 1 0 0 0\n9\naigmap end\n' 'no map'
+    bad_block 'a byte before the word' ' aigmap 1 9 1 0 0 0\n9\naigmap end\n' 'no map'
+    bad_block 'the word and a space' 'aigmap ' 'map line 1: bad line'
+    bad_block 'another version' 'aigmap 2 9 1 0 0 0\n9\naigmap end\n' 'map line 1: bad line'
+    bad_block 'a mark of the comment that is neither 0 nor 1' 'aigmap 1 9 1 0 0 2\n9\naigmap end\n' 'map line 1: bad line'
+    bad_block 'a first line without its line feed' 'aigmap 1 9 1 0 0 0' 'map line 1: bad line'
+    bad_block 'a first line with a CR' 'aigmap 1 9 1 0 0 0\r\n9\naigmap end\n' 'map line 1: bad line'
+    bad_block 'a number too few in the first line' 'aigmap 1 9 1 0 0\n9\naigmap end\n' 'map line 1: bad line'
+    bad_block 'a number too many in the first line' 'aigmap 1 9 1 0 0 0 0\n9\naigmap end\n' 'map line 1: bad line'
+    bad_block 'two spaces in the first line' 'aigmap 1  9 1 0 0 0\n9\naigmap end\n' 'map line 1: bad line'
+    bad_block 'a space at the end of the first line' 'aigmap 1 9 1 0 0 0 \n9\naigmap end\n' 'map line 1: bad line'
+    bad_block 'a leading zero in the first line' 'aigmap 1 09 1 0 0 0\n9\naigmap end\n' 'map line 1: bad line'
+    bad_block 'two zeros in the first line' 'aigmap 1 9 1 00 0 0\n9\naigmap end\n' 'map line 1: bad line'
+    bad_block 'a largest index above the limit, told before the counts' 'aigmap 1 2147483648 2 0 0 0\n9\naigmap end\n' 'map line 1: bad line'
+    bad_block 'a largest index of 2^64 + 9' 'aigmap 1 18446744073709551625 1 0 0 0\n9\naigmap end\n' 'map line 1: bad line'
+    bad_block 'another count of inputs' 'aigmap 1 9 2 0 0 0\n9\naigmap end\n' 'map counts differ'
+    bad_block 'another count of latches' 'aigmap 1 9 1 1 0 0\n9\naigmap end\n' 'map counts differ'
+    bad_block 'another count of gates' 'aigmap 1 9 1 0 1 0\n9\naigmap end\n' 'map counts differ'
+    bad_block 'a count of 2^32 + 1' 'aigmap 1 9 4294967297 0 0 0\n9\naigmap end\n' 'map counts differ'
+    bad_block 'a count of 2^64 + 1' 'aigmap 1 9 18446744073709551617 0 0 0\n9\naigmap end\n' 'map counts differ'
+    bad_block 'a count of four hundred digits' "aigmap 1 9 1 $(digits 400 9) 0 0\\n9\\naigmap end\\n" 'map counts differ'
+    bad_block 'a largest index below the counts' 'aigmap 1 0 1 0 0 0\n9\naigmap end\n' 'map counts differ'
+    bad_block 'other counts, told before a bad line' 'aigmap 1 9 2 0 0 0\nx\n' 'map counts differ'
+    bad_block 'a variable above the largest index' 'aigmap 1 9 1 0 0 0\n10\naigmap end\n' 'map line 2: bad line'
+    bad_block 'the variable 0' 'aigmap 1 9 1 0 0 0\n0\naigmap end\n' 'map line 2: bad line'
+    bad_block 'a variable of 2^32 + 9' 'aigmap 1 9 1 0 0 0\n4294967305\naigmap end\n' 'map line 2: bad line'
+    bad_block 'a variable with a leading zero' 'aigmap 1 9 1 0 0 0\n09\naigmap end\n' 'map line 2: bad line'
+    bad_block 'a variable with a sign' 'aigmap 1 9 1 0 0 0\n+9\naigmap end\n' 'map line 2: bad line'
+    bad_block 'two variables in a line' 'aigmap 1 9 1 0 0 0\n9 9\naigmap end\n' 'map line 2: bad line'
+    bad_block 'an empty line' 'aigmap 1 9 1 0 0 0\n\naigmap end\n' 'map line 2: bad line'
+    bad_block 'a variable without its line feed' 'aigmap 1 9 1 0 0 0\n9' 'map line 2: bad line'
+    bad_block 'no variable' 'aigmap 1 9 1 0 0 0\n' 'map line 2: bad line'
+    bad_block 'no last line' 'aigmap 1 9 1 0 0 0\n9\n' 'map line 3: bad line'
+    bad_block 'a last line without its line feed' 'aigmap 1 9 1 0 0 0\n9\naigmap end' 'map line 3: bad line'
+    bad_block 'a last line with a CR' 'aigmap 1 9 1 0 0 0\n9\naigmap end\r\n' 'map line 3: bad line'
+    bad_block 'a line of a gate where none is' 'aigmap 1 9 1 0 0 0\n9\n2 0 0\naigmap end\n' 'map line 3: bad line'
+    bad_gate_block 'a place that is not there' 'aigmap 1 2 1 0 1 0\n1\n2 1 0\naigmap end\n' 'map line 3: bad line'
+    bad_gate_block 'a gate above the largest index' 'aigmap 1 2 1 0 1 0\n1\n3 0 0\naigmap end\n' 'map line 3: bad line'
+    bad_gate_block 'a gate with a leading zero' 'aigmap 1 2 1 0 1 0\n1\n02 0 0\naigmap end\n' 'map line 3: bad line'
+    bad_gate_block 'a gate with a CR' 'aigmap 1 2 1 0 1 0\n1\n2 0 0\r\naigmap end\n' 'map line 3: bad line'
+    bad_gate_block 'a mark of an exchange that is neither 0 nor 1' 'aigmap 1 2 1 0 1 0\n1\n2 0 2\naigmap end\n' 'map line 3: bad line'
+    bad_gate_block 'a gate of two numbers' 'aigmap 1 2 1 0 1 0\n1\n2 0\naigmap end\n' 'map line 3: bad line'
+    bad_gate_block 'no last line behind a gate' 'aigmap 1 2 1 0 1 0\n1\n2 0 0\naigmap end' 'map line 4: bad line'
+    bad_gate_block 'gates, and a largest index below the counts' 'aigmap 1 1 1 0 1 0\n1\n2 0 0\naigmap end\n' 'map counts differ'
+}
+
+rows_forged() {
+    local forged='map does not belong to this circuit'
+    bad_block 'bytes behind the block of a source without a comment' 'aigmap 1 9 1 0 0 0\n9\naigmap end\nz' "$forged"
+    bad_gate_block 'bytes behind the block, and a gate' 'aigmap 1 2 1 0 1 0\n1\n2 0 0\naigmap end\nx' "$forged"
+    bad_gate_block 'equal operands exchanged' 'aigmap 1 2 1 0 1 0\n1\n2 0 1\naigmap end\n' "$forged"
+    bad_gate_block 'a variable twice' 'aigmap 1 2 1 0 1 0\n1\n1 0 0\naigmap end\n' "$forged"
+    no_undone 'places that are not the order' \
+        'aig 5 2 0 2 3\n10\n6\n\x02\x02\x03\x02\x01\x02i0 x\ni1 y\no0 s\no1 c\nc\naigmap 1 7 2 0 3 1\n1\n2\n3 2 1\n6 1 1\n7 0 1\naigmap end\nhalf adder\n' "$forged"
+    no_undone 'a place twice' 'aig 3 1 0 0 2\n\x02\x00\x04\x00c\naigmap 1 3 1 0 2 0\n1\n2 0 0\n3 0 0\naigmap end\n' "$forged"
+    no_undone 'gates that come before the least ready one' \
+        'aig 5 2 0 0 3\n\x02\x02\x02\x04\x06\x02c\naigmap 1 5 2 0 3 0\n1\n2\n3 2 0\n4 0 0\n5 1 0\naigmap end\n' "$forged"
+    no_undone 'an exchange that is not told' \
+        'aig 5 2 0 1 3\n10\n\x02\x02\x04\x02\x02\x06c\naigmap 1 5 2 0 3 0\n1\n2\n3 2 0\n4 0 1\n5 1 1\naigmap end\n' "$forged"
+}
+
 rows_words() {
     unknown 'no words'
     unknown 'a word after the subcommand' aigtoaig x
@@ -488,5 +624,10 @@ rows_words() {
     unknown 'help' --help
     unknown 'another subcommand' aigsim --ascii
     unknown 'another option' aigtoaig --binary
+    unknown 'a map kept in ASCII' aigtoaig --keep-map --ascii
+    unknown 'a map kept and undone' aigtoaig --keep-map --undo-map
+    unknown 'undone to ASCII, the words the other way round' aigtoaig --ascii --undo-map
+    unknown 'a map undone twice' aigtoaig --undo-map --undo-map
+    unknown 'a word behind the map and ASCII' aigtoaig --undo-map --ascii x
     unknown 'a word that is no text' aigtoaig $'\377'
 }
