@@ -535,6 +535,9 @@ rows_undone() {
         'aag 3 1 0 1 1\n2\n4\n4 2 2\n'
     undoes 'padded deltas and leading zeros before the block' 'aig 02 1 0  1 1\n04\n\x82\x00\x00c\naigmap 1 2 1 0 1 0\n1\n2 0 0\naigmap end\n' \
         'aag 2 1 0 1 1\n2\n4\n4 2 2\n'
+    undoes 'an exchange that is told is another source' \
+        'aig 5 2 0 1 3\n10\n\x02\x02\x04\x02\x02\x06c\naigmap 1 5 2 0 3 0\n1\n2\n3 2 0\n4 0 1\n5 1 1\naigmap end\n' \
+        'aag 5 2 0 1 3\n2\n4\n6\n6 10 2\n8 2 4\n10 2 4\n'
     undoes 'symbols stay' 'aig 1 1 0 1 0\n3\no0 b\ni0 a\nc\naigmap 1 9 1 0 0 0\n9\naigmap end\n' \
         'aag 9 1 0 1 0\n18\n19\no0 b\ni0 a\n'
     no_undone 'not in binary order' 'aag 9 1 0 1 0\n18\n19\n' 'not in binary order'
@@ -606,8 +609,6 @@ rows_forged() {
     no_undone 'a place twice' 'aig 3 1 0 0 2\n\x02\x00\x04\x00c\naigmap 1 3 1 0 2 0\n1\n2 0 0\n3 0 0\naigmap end\n' "$forged"
     no_undone 'gates that come before the least ready one' \
         'aig 5 2 0 0 3\n\x02\x02\x02\x04\x06\x02c\naigmap 1 5 2 0 3 0\n1\n2\n3 2 0\n4 0 0\n5 1 0\naigmap end\n' "$forged"
-    no_undone 'an exchange that is not told' \
-        'aig 5 2 0 1 3\n10\n\x02\x02\x04\x02\x02\x06c\naigmap 1 5 2 0 3 0\n1\n2\n3 2 0\n4 0 1\n5 1 1\naigmap end\n' "$forged"
 }
 
 rows_words() {

@@ -1,10 +1,41 @@
 //! Devices that fail, and devices that move few bytes in a call.
-use crate::run::{Behaviour, convert};
+use crate::run::{Behaviour, run};
 use std::alloc::{AllocError, Global};
 use std::test::Fail;
 
-/// Texts, with a `#` between them. What is written is the text itself, or stands behind `=`.
+/// Texts, with a `#` between them. What is written is the text itself, or stands behind `=`. The words are those of the
+/// conversion to ASCII, or stand before `$`.
 const TEXTS: &str = "\
+aiger aigtoaig --keep-map$aag 5 2 0 1 3
+2
+4
+6
+6 10 2
+8 2 4
+10 4 2
+=aig 5 2 0 1 3
+10
+\u{2}\u{2}\u{4}\u{2}\u{2}\u{6}c
+aigmap 1 5 2 0 3 0
+1
+2
+3 2 0
+4 0 1
+5 1 0
+aigmap end
+#\
+aiger aigtoaig --undo-map --ascii$aig 2 1 0 1 1
+4
+\u{2}\0c
+aigmap 1 2 1 0 1 0
+1
+2 0 0
+aigmap end
+=aag 2 1 0 1 1
+2
+4
+4 2 2
+#\
 aig 4 1 1 1 2
 9
 8
@@ -67,21 +98,24 @@ fn texts(alloc: Global) -> Result<String, AllocError> {
     Ok(texts)
 }
 
-/// The two texts of a row: what is read, and what is written.
-fn both(row: &str) -> (&[u8], &[u8]) {
-    let (read, written) = row.split_once('=').unwrap_or((row, row));
-    (read.as_bytes(), written.as_bytes())
+/// The words of a row, what is read, and what is written.
+fn parts(row: &str) -> (&str, &[u8], &[u8]) {
+    let (words, texts) = row
+        .split_once('$')
+        .unwrap_or(("aiger aigtoaig --ascii", row));
+    let (read, written) = texts.split_once('=').unwrap_or((texts, texts));
+    (words, read.as_bytes(), written.as_bytes())
 }
 
 /// Each read fails in turn: no byte was written, and no read came after it.
 #[test]
 fn failed_reads(rt: HostRuntime) -> Result<(), Fail> {
     for row in texts(rt.alloc())?.as_str().split('#') {
-        let (text, _) = both(row);
+        let (words, text, _) = parts(row);
         let mut behaviour = Behaviour::pieces_of(text.len() / 12 + 1);
-        for call in 0..convert(&rt, text, behaviour)?.reads {
+        for call in 0..run(&rt, words, text, behaviour)?.reads {
             behaviour.failing_read = call;
-            let outcome = convert(&rt, text, behaviour)?;
+            let outcome = run(&rt, words, text, behaviour)?;
             assert!(rt; outcome.told(1, "aiger: -: cannot read\n"), "read {call}");
             assert_eq!(rt; outcome.reads, call + 1);
             assert_eq!(rt; outcome.output.calls, 0);
@@ -94,11 +128,11 @@ fn failed_reads(rt: HostRuntime) -> Result<(), Fail> {
 #[test]
 fn failed_writes(rt: HostRuntime) -> Result<(), Fail> {
     for row in texts(rt.alloc())?.as_str().split('#') {
-        let (text, written) = both(row);
+        let (words, text, written) = parts(row);
         let mut behaviour = Behaviour::pieces_of(text.len() / 12 + 1);
-        for call in 0..convert(&rt, text, behaviour)?.output.calls {
+        for call in 0..run(&rt, words, text, behaviour)?.output.calls {
             behaviour.failing_write = call;
-            let outcome = convert(&rt, text, behaviour)?;
+            let outcome = run(&rt, words, text, behaviour)?;
             assert!(rt; outcome.told(1, "aiger: -: cannot write\n"), "write {call}");
             assert!(rt;
                 written.starts_with(outcome.output.taken.as_slice()),
@@ -114,9 +148,9 @@ fn failed_writes(rt: HostRuntime) -> Result<(), Fail> {
 #[test]
 fn pieces(rt: HostRuntime) -> Result<(), Fail> {
     for row in texts(rt.alloc())?.as_str().split('#') {
-        let (text, written) = both(row);
+        let (words, text, written) = parts(row);
         for piece in [1, 7, 30_000] {
-            let outcome = convert(&rt, text, Behaviour::pieces_of(piece))?;
+            let outcome = run(&rt, words, text, Behaviour::pieces_of(piece))?;
             assert!(rt; outcome.told(0, ""), "in pieces of {piece}");
             assert!(rt;
                 outcome.output.taken.as_slice() == written,

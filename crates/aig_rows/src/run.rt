@@ -41,23 +41,24 @@ impl Outcome {
     }
 }
 
-/// Words that ask for the conversion to ASCII.
-fn words(alloc: Global) -> Result<Vec<String>, AllocError> {
+/// The words of a line, with one space between them.
+fn words_of(alloc: Global, line: &str) -> Result<Vec<String>, AllocError> {
     let mut words = Vec::new(alloc);
-    for word in "aiger aigtoaig --ascii".split(' ') {
+    for word in line.split(' ') {
         words.push(String::from_str(alloc, word)?)?;
     }
     Ok(words)
 }
 
-/// Converts a text to ASCII.
-pub(crate) fn convert<R: Files + AllocGlobal>(
+/// Runs the program with these words over a text.
+pub(crate) fn run<R: Files + AllocGlobal>(
     rt: &R,
+    line: &str,
     text: &[u8],
     behaviour: Behaviour,
 ) -> Result<Outcome, Fail> {
     let alloc = rt.alloc();
-    let words = words(alloc)?;
+    let words = words_of(alloc, line)?;
     let mut reader = OnceReader {
         left: text,
         piece: behaviour.piece,
