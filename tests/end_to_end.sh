@@ -117,7 +117,10 @@ chain_comes_back 'in the order of the chain' 1 200000
 through_binary() { "$program" aigtoaig < "$1" | convert; }
 through_ascii() { convert < "$1" | "$program" aigtoaig; }
 check '200,000 gates in order come back through binary' through_binary "$work/in"
+with_map() { "$program" aigtoaig --keep-map < "$1" | "$program" aigtoaig --undo-map --ascii; }
+check '200,000 gates in order come back by their map' with_map "$work/in"
 chain_comes_back 'each before the gate that it is over' 200000 -1 1
+check '200,000 gates in reverse order come back by their map' with_map "$work/in"
 
 # chain_is_cyclic NAME LITERAL CLOSED NUMBER..
 chain_is_cyclic() {
@@ -169,7 +172,7 @@ check 'a file larger than the 20 MB of memory' within 20480 "$program" aigtoaig 
 
 # --- binary images ---
 wants '' '' 0
-check 'binary images of circuits made by chance' "$top/tests/images.py" "$program"
+check 'binary images of circuits made by chance, and their maps' "$top/tests/images.py" "$program"
 
 # --- the examples ---
 for file in "$top"/examples/*.aag "$top"/examples/*.aig; do
@@ -182,6 +185,8 @@ for file in "$top"/examples/*.aag "$top"/examples/*.aig; do
     "$program" aigtoaig < "$file" > "$work/want_out"
     cp "$work/want_out" "$work/in"
     check "the binary image of ${file##*/} comes back" through_ascii "$work/in"
+    cp "$canonical" "$work/want_out"
+    check "the example ${file##*/} comes back by its map" with_map "$canonical"
 done
 
 . "$top/tests/launcher.sh"

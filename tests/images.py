@@ -5,13 +5,17 @@
 
 Each circuit has shuffled gates, variables far apart, unused indices, symbols and perhaps a comment. Its gates are placed by
 looking at all of them again for each: the next one is the first in the file whose operands over gates are all placed. What
-the program writes must be that image's file, and its ASCII text must give the file again.
+the program writes must be that image's file, and its ASCII text must give the file again. With the map, the file must have
+the block that is made here, and undone it must give the circuit's text.
 """
 import random
 import subprocess
 import sys
 
 CIRCUITS = 300
+
+
+COMMENTS = [None, "", "made by chance\n", "no line feed", "aigmap 1 0 0 0 0 0\naigmap end\n", "\naigmap end\n"]
 
 
 def circuit(chance):
@@ -30,18 +34,21 @@ def circuit(chance):
     chance.shuffle(gates)
     nexts = [literal(total) for _ in range(latches)]
     outputs = [literal(total) for _ in range(chance.randrange(4))]
-    tail = "".join(f"i{at} name {at}\n" for at in range(inputs) if chance.randrange(2))
-    tail += chance.choice(["", "c\n", "c\nmade by chance\n", "c\nno line feed"])
-    return largest, variables[:inputs], variables[inputs:first], nexts, outputs, gates, tail
+    symbols = "".join(f"i{at} name {at}\n" for at in range(inputs) if chance.randrange(2))
+    return largest, variables[:inputs], variables[inputs:first], nexts, outputs, gates, symbols, chance.choice(COMMENTS)
 
 
-def ascii_text(largest, inputs, latches, nexts, outputs, gates, tail):
+def tail(symbols, comment):
+    return symbols + ("" if comment is None else f"c\n{comment}")
+
+
+def ascii_text(largest, inputs, latches, nexts, outputs, gates, symbols, comment):
     lines = [f"aag {largest} {len(inputs)} {len(latches)} {len(outputs)} {len(gates)}"]
     lines += [str(2 * variable) for variable in inputs]
     lines += [f"{2 * variable} {literal}" for variable, literal in zip(latches, nexts)]
     lines += [str(literal) for literal in outputs]
     lines += [f"{own} {left} {right}" for own, left, right in gates]
-    return ("\n".join(lines) + "\n" + tail).encode()
+    return ("\n".join(lines) + "\n" + tail(symbols, comment)).encode()
 
 
 def placed(gates):
@@ -61,13 +68,15 @@ def spelled(delta):
     return bytes(groups + bytes([delta]))
 
 
-def image(_largest, inputs, latches, nexts, outputs, gates, tail):
-    order = placed(gates)
+def renumbering(inputs, latches, order):
+    """The new literal of each old one."""
     new = {old: at for at, old in enumerate([0, *inputs, *latches, *(gate[0] // 2 for gate in order)])}
+    return lambda old: 2 * new[old // 2] + old % 2
 
-    def literal(old):
-        return 2 * new[old // 2] + old % 2
 
+def image(_largest, inputs, latches, nexts, outputs, gates, symbols, comment):
+    order = placed(gates)
+    literal = renumbering(inputs, latches, order)
     total = len(inputs) + len(latches) + len(gates)
     text = f"aig {total} {len(inputs)} {len(latches)} {len(outputs)} {len(gates)}\n"
     text += "".join(f"{literal(it)}\n" for it in nexts + outputs)
@@ -75,7 +84,19 @@ def image(_largest, inputs, latches, nexts, outputs, gates, tail):
     for own, *operands in order:
         right, left = sorted(map(literal, operands))
         deltas += spelled(literal(own) - left) + spelled(left - right)
-    return text.encode() + deltas + tail.encode()
+    return text.encode() + deltas + tail(symbols, comment).encode()
+
+
+def mapped_image(largest, inputs, latches, nexts, outputs, gates, symbols, comment):
+    """The image, its comment being the block, which tells numbering, places and exchanged operands, and the source's."""
+    order = placed(gates)
+    literal = renumbering(inputs, latches, order)
+    block = f"aigmap 1 {largest} {len(inputs)} {len(latches)} {len(gates)} {int(comment is not None)}\n"
+    block += "".join(f"{variable}\n" for variable in inputs + latches)
+    for gate in gates:
+        block += f"{gate[0] // 2} {order.index(gate)} {int(literal(gate[1]) < literal(gate[2]))}\n"
+    block += "aigmap end\n"
+    return image(largest, inputs, latches, nexts, outputs, gates, symbols, block + (comment or ""))
 
 
 def converted(program, text, *words):
@@ -92,6 +113,11 @@ def main(program):
             sys.exit(f"circuit {number} has another image: {text!r}")
         if converted(program, converted(program, wanted, "--ascii")) != wanted:
             sys.exit(f"the image of circuit {number} does not come back: {wanted!r}")
+        mapped = mapped_image(*made)
+        if converted(program, text, "--keep-map") != mapped:
+            sys.exit(f"circuit {number} has another mapped image: {text!r}")
+        if converted(program, mapped, "--undo-map", "--ascii") != text:
+            sys.exit(f"circuit {number} is not undone: {mapped!r}")
 
 
 if __name__ == "__main__":
