@@ -29,7 +29,7 @@ module _ (vs : List ℕ) (P Q : ℕ → Type 0) (new_one : (l : ℕ) → P l →
   new_nexts (l ∷ ls) all = (new_one l.next all.0, new_nexts ls all.1)
 
 -- where there is as much of each kind, symbols name what is there
-positions_kept : (c d : Circuit) → ((k : Kind) → count_of c k ≡ count_of d k) → (ss : List Symbol)
+pub positions_kept : (c d : Circuit) → ((k : Kind) → count_of c k ≡ count_of d k) → (ss : List Symbol)
     → AllByRecursion (λ (s : Symbol). s.position < count_of c s.kind) ss → AllByRecursion (λ (s : Symbol). s.position < count_of d s.kind) ss
 positions_kept c d same [] all = tt
 positions_kept c d same (s ∷ ss) all = (subst (λ n. s.position < n) (same s.kind) all.0, positions_kept c d same ss all.1)

@@ -2,3 +2,4 @@
 pub mod MapOutcomes
 pub mod Numbers
 pub mod Renewed
+pub mod Told
