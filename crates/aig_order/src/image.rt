@@ -126,7 +126,8 @@ pub(crate) fn by_numbers(
     comment: Option<Listing<u8>>,
 ) -> Result<Circuit, OutOfMemory>
     requires small { AreSmall numbers.now.places.items numbers.now.others }
-    ensures { IfOk result (λ r. r ≡ new_circuit (number_at numbers.now.places.items numbers.now.others) numbers.now.noted circuit.now gates.now comment) }
+    ensures { IfOk result (λ r. r ≡ new_circuit (number_at numbers.now.places.items numbers.now.others) numbers.now.noted
+        circuit.now gates.now comment) }
 {
     Ok(Circuit {
         max_var: numbers.count(),

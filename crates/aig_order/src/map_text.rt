@@ -78,7 +78,8 @@ fn put_first_line(text: &mut Vec<u8>, circuit: &Circuit) -> Result<(), OutOfMemo
 
 /// Adds a line for each of these, with the variable that it defines.
 fn put_variables<T: Defines>(text: &mut Vec<u8>, items: &[T]) -> Result<(), OutOfMemory>
-    ensures { OnOk result (text.new.items ≡ text.old.items ++ flat_map (λ x. numbers_text (variable_row (T.variable x))) items.now) }
+    ensures { OnOk result (text.new.items ≡ text.old.items
+        ++ flat_map (λ x. numbers_text (variable_row (T.variable x))) items.now) }
 {
     for item in items {
         put_row(text, u64::from(item.variable().0), &[])?;
@@ -115,7 +116,8 @@ fn put_gates(
 ) -> Result<(), OutOfMemory>
     requires { AreSmall numbers.now.places.items numbers.now.others }
     ensures { OnOk result (text.new.items ≡ text.old.items
-        ++ flat_map (λ g. numbers_text (gate_row (told_gate (number_at numbers.now.places.items numbers.now.others) first g))) gates.now) }
+        ++ flat_map (λ g. numbers_text
+        (gate_row (told_gate (number_at numbers.now.places.items numbers.now.others) first g))) gates.now) }
 {
     for gate in gates {
         put_gate(text, told_gate(numbers, first, gate))?;
@@ -162,7 +164,8 @@ pub(crate) fn map_comment(
 ) -> Result<Listing<u8>, OutOfMemory>
     requires small { AreSmall numbers.now.places.items numbers.now.others }
     requires fits { length circuit.now.inputs + length circuit.now.latches ≤ LARGEST }
-    ensures { IfOk result (λ r. r ≡ told_comment (number_at numbers.now.places.items numbers.now.others) circuit.now) }
+    ensures { IfOk result (λ r. r
+        ≡ told_comment (number_at numbers.now.places.items numbers.now.others) circuit.now) }
 {
     let mut text = Vec::with_capacity(alloc, most_bytes(circuit))?;
     put_block(&mut text, numbers, circuit)?;
