@@ -9,6 +9,6 @@ mod reader;
 mod writer;
 
 pub use crate::delta::{Delta, get_delta, put_delta};
-pub use crate::ordered::Ordered;
+pub use crate::ordered::{Ordered, is_in_binary_order};
 pub use crate::reader::{BINARY_WORD, read_binary};
 pub use crate::writer::write_binary;

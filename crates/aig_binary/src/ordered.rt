@@ -81,8 +81,8 @@ fn are_in_order<T: Numbered>(first: u64, items: &[T]) -> bool
     true
 }
 
-/// Whether a circuit is in binary order.
-fn is_in_binary_order(circuit: &Circuit) -> bool
+/// Whether the sections of a circuit are in binary order.
+fn are_sections_in_order(circuit: &Circuit) -> bool
     requires { IsWithinLimits circuit.now }
     ensures { IsTrue result ↔ AreSectionsInOrder circuit.now }
 {
@@ -92,6 +92,14 @@ fn is_in_binary_order(circuit: &Circuit) -> bool
         && are_in_order(1, circuit.inputs.as_slice())
         && are_in_order(first_latch, circuit.latches.as_slice())
         && are_in_order(first_gate, circuit.gates.as_slice())
+}
+
+/// Whether a circuit is in binary order. It is gone over once, and no memory is taken.
+#[tactic(auto, using(crate::proofs::InOrder::by_sections, crate::proofs::InOrder::all_sections))]
+pub fn is_in_binary_order(checked: &Checked) -> bool
+    ensures { IsTrue result ↔ IsInBinaryOrder checked.now }
+{
+    are_sections_in_order(checked.circuit())
 }
 
 impl Ordered {
@@ -108,13 +116,12 @@ impl Ordered {
     }
 
     /// The circuit as one in binary order, or else as it came. It is gone over once, and no memory is taken.
-    #[tactic(auto, using(crate::proofs::InOrder::by_sections, crate::proofs::InOrder::all_sections))]
     pub fn try_from_checked(checked: Checked) -> Result<Ordered, Checked>
         ensures ordered { IsOk result ↔ IsInBinaryOrder checked }
         ensures ok { IfOk result (λ ordered. ordered ≡ checked) }
         ensures handed_back { IfErr result (λ same. same ≡ checked) }
     {
-        if is_in_binary_order(checked.circuit()) {
+        if is_in_binary_order(&checked) {
             Ok(Ordered { checked })
         } else {
             Err(checked)

@@ -32,13 +32,13 @@ module _ (c : Circuit) (order : List ℕ) (good : IsWellFormed c) (least : IsLea
   order_there : AllByRecursion (λ g. g < length c.gates) order
   order_there = all_there (length c.gates) (gate_operands c.gates) [] order least.in_turn
 
-  there : (h : ℕ) → IsAmong h order → h < length c.gates
+  pub there : (h : ℕ) → IsAmong h order → h < length c.gates
   there h a = each (λ g. g < length c.gates) order order_there h a
 
   pub not_more : length order ≤ length c.gates
   not_more = at_most_below (length c.gates) order order_once order_there
 
-  listed : (h : ℕ) → h < length c.gates → IsAmong h order
+  pub listed : (h : ℕ) → h < length c.gates → IsAmong h order
   listed = (rank_exactly_where_all_are_ordered c order good.once least).0 good.ranked
 
   pub gates_once : AreDistinct (variables c.gates)
@@ -57,7 +57,7 @@ module _ (c : Circuit) (order : List ℕ) (good : IsWellFormed c) (least : IsLea
       (λ x a b. apart first (variables c.gates) good.once x a (of_gates x b))
 
   -- the new order has exactly the defined variables
-  has_defined : (v : ℕ) → IsAmong v (defined_variables c) → IsAmong v new
+  pub has_defined : (v : ℕ) → IsAmong v (defined_variables c) → IsAmong v new
   has_defined v a =
       ⊎_elim (λ (i : IsAmong v first). among_first first last v i) (λ (i : IsAmong v (variables c.gates)). among_last first last v (of_taken v i)) (among_either v first (variables c.gates) a)
 

@@ -48,10 +48,10 @@ module _ (c : Circuit) (order : List ℕ) (good : IsWellFormed c) (least : IsLea
   some : (vars : List ℕ) → AllByRecursion InRange vars → AllByRecursion (λ v. 1 ≤ v) vars
   some vars all = all_weaker InRange (λ v. 1 ≤ v) (λ v r. r.0) vars all
 
-  some_gate : (g : ℕ) → g < length c.gates → 1 ≤ (at c.gates g).var
+  pub some_gate : (g : ℕ) → g < length c.gates → 1 ≤ (at c.gates g).var
   some_gate g there = (each InRange (defined_variables c) good.in_range (at c.gates g).var (among_last (c.inputs ++ latches) (variables c.gates) (at c.gates g).var (stands_there c.gates g there))).0
 
-  known : (g l : ℕ) → g < length c.gates → IsAmong l (operands (at c.gates g)) → IsKnown (defined_variables c) l
+  pub known : (g l : ℕ) → g < length c.gates → IsAmong l (operands (at c.gates g)) → IsKnown (defined_variables c) l
   known g l there a =
       of_gate (IsKnown (defined_variables c)) c.gates (back (IsKnown (defined_variables c)) (map (λ (l : Latch). l.next) c.latches ++ c.outputs) (flat_map operands c.gates) good.known) g l there a
 

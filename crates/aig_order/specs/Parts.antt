@@ -1,5 +1,6 @@
 -- What only private functions cite. What the crate promises stands in the other files.
 pub mod MapOutcomes
 pub mod Numbers
+pub mod Placed
 pub mod Renewed
 pub mod Told

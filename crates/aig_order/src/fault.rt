@@ -1,5 +1,9 @@
 //! Why a circuit has no undone one.
+ghost use Rattle.std.specs.Prelude.{◌≡◌};
+ghost use Rattle.aig_order.specs.declared.fault.MapFault.TheVariants.{OutOfMemory as IsOutOfMemory};
+
 use aig_core::OutOfMemory;
+use std::alloc::AllocError;
 use thiserror::Error;
 
 /// Why a conversion cannot be undone. The variants stand in the order in which they are looked for.
@@ -24,4 +28,20 @@ pub enum MapFault {
     /// Memory was refused. This may come in place of any other.
     #[error("out of memory")]
     OutOfMemory,
+}
+
+impl From<AllocError> for MapFault {
+    ghost from_gives = { λ _ e. e ≡ IsOutOfMemory };
+
+    fn from(_refused: AllocError) -> MapFault {
+        MapFault::OutOfMemory
+    }
+}
+
+impl From<OutOfMemory> for MapFault {
+    ghost from_gives = { λ _ e. e ≡ IsOutOfMemory };
+
+    fn from(_refused: OutOfMemory) -> MapFault {
+        MapFault::OutOfMemory
+    }
 }

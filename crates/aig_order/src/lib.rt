@@ -9,9 +9,10 @@ mod map_reading;
 mod map_text;
 mod mapped;
 mod numbers;
-mod undo;
+mod undoing;
 mod undone;
 
 pub use crate::fault::MapFault;
 pub use crate::image::to_binary;
 pub use crate::mapped::to_binary_with_map;
+pub use crate::undoing::undo;

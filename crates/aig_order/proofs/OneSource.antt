@@ -1,0 +1,130 @@
+-- A mapped image is that of one circuit, which is undone from it.
+use Rattle.std.proofs.Common.{◌≡◌, ◌+◌, ◌<◌, ℕ, List, [], ◌∷◌, ◌++◌, length, map, Result, Ok, refl, sym, ap, subst, ◌∙◌, arith}
+use Rattle.std.specs.List.{AllByRecursion}
+use Rattle.std.specs.Option.{unwrap_or}
+use Rattle.std.proofs.lemmas.List.{length-map}
+use Rattle.aig_core.specs.declared.circuit.Latch.{Latch}
+use Rattle.aig_core.specs.declared.circuit.Gate.{Gate}
+use Rattle.aig_core.specs.declared.circuit.Circuit.{Circuit}
+use Rattle.aig_core.specs.Wellformed.{AreDistinct, IsVariableUpTo, IsWellFormed}
+use Rattle.aig_core.specs.Order.{IsLeastReadyOrder}
+use Rattle.aig_core.proofs.Fitting.{definitions_fit}
+use Rattle.aig_core.proofs.InForm.{front, back}
+use Rattle.aig_core.proofs.Ranked.{variables}
+use Rattle.aig_order.specs.declared.fault.MapFault.{MapFault}
+use Rattle.aig_order.specs.declared.map_block.MappedGate.{MappedGate}
+use Rattle.aig_order.specs.declared.map_block.MapBlock.{MapBlock}
+use Rattle.aig_order.specs.Image.{latch_image, gate_image}
+use Rattle.aig_order.specs.MapBlock.{mapped_gate, map_block, mapped_by, IsMappedImage}
+use Rattle.aig_order.specs.MapReading.{block_reading, HasCountsOf, IsWithinBounds}
+use Rattle.aig_order.specs.Renumbering.{in_new_order, renumbered, taken}
+use Rattle.aig_order.specs.Undone.{undone, comment_behind, IsUndoneFrom}
+use Rattle.aig_order.proofs.BlockText.{block_is_read}
+use Rattle.aig_order.proofs.Carried.{by_order, by_gate, carried_back}
+use Rattle.aig_order.proofs.Members.{not_more}
+use Rattle.aig_order.proofs.ToldGates.{as_many, places_below, places_distinct}
+
+-- what is told of gates is within bounds, where their variables and their places are
+told_within : (max_var count : ℕ) (tell : Gate → MappedGate) → ((g : Gate) → (tell g).var ≡ g.var) → (gates : List Gate) → AllByRecursion (IsVariableUpTo max_var) (variables gates)
+    → AllByRecursion (λ (m : MappedGate). m.place < count) (map tell gates) → AllByRecursion (λ (m : MappedGate). IsVariableUpTo max_var m.var × (m.place < count)) (map tell gates)
+told_within max_var count tell same [] vars places = tt
+told_within max_var count tell same (g ∷ gs) vars places = ((subst (IsVariableUpTo max_var) (sym (same g)) vars.0, places.0), told_within max_var count tell same gs vars.1 places.1)
+
+-- the circuit is undone from x by the block that is read of it
+pub record IsRecovered (x c : Circuit) : Type 0 where
+  pub block : MapBlock
+  pub rest : List ℕ
+  pub read : block_reading x ≡ Ok (block, rest)
+  pub places : AreDistinct (map (λ (g : MappedGate). g.place) block.gates)
+  pub is : c ≡ undone block (comment_behind block rest) x
+
+module _ (c : Circuit) (order : List ℕ) (good : IsWellFormed c) (least : IsLeastReadyOrder c order) where
+  abbrev vs : List ℕ
+  vs = in_new_order c order
+
+  abbrev latches : List ℕ
+  latches = map (λ (l : Latch). l.var) c.latches
+
+  abbrev start : ℕ
+  start = 1 + length c.inputs + length c.latches
+
+  abbrev InRange : ℕ → Type 0
+  InRange = IsVariableUpTo c.max_var
+
+  -- every gate is taken
+  all_taken : length order ≡ length c.gates
+  all_taken = as_many c.gates order vs start (not_more c order good least) (by_order c order good least) (by_gate c order good least)
+
+  -- the block tells of as many inputs, latches and gates as the image has
+  counts : HasCountsOf (map_block order c) (mapped_by order c)
+  counts = record {
+    inputs = sym (length-map c.inputs (renumbered vs));
+    latches = length-map c.latches (λ (l : Latch). l.var) ∙ sym (length-map c.latches (latch_image vs));
+    gates =
+        length-map c.gates (mapped_gate vs start) ∙ sym all_taken ∙ sym (length-map (taken c.gates order) (gate_image vs) ∙ length-map order _);
+  }
+
+  -- what the block tells is within bounds
+  within : IsWithinBounds (map_block order c)
+  within =
+      let before : AllByRecursion InRange (c.inputs ++ latches) = front InRange (c.inputs ++ latches) (variables c.gates) good.in_range in
+      let told : length (map (mapped_gate vs start) c.gates) ≡ length c.gates = length-map c.gates (mapped_gate vs start) in
+      let places : AllByRecursion (λ (m : MappedGate). m.place < length order) (map (mapped_gate vs start) c.gates) =
+      places_below c.gates order vs start (not_more c order good least) (by_order c order good least) (by_gate c order good least) in
+      record {
+        max_var = good.limits.max_var;
+        counts = omega (arith, definitions_fit c good, told, length-map c.latches (λ (l : Latch). l.var));
+        inputs = front InRange c.inputs latches before;
+        latches = back InRange c.inputs latches before;
+        gates =
+            told_within c.max_var (length (map (mapped_gate vs start) c.gates)) (mapped_gate vs start) (λ g. refl) c.gates (back InRange (c.inputs ++ latches) (variables c.gates) good.in_range)
+            (subst (λ n. AllByRecursion (λ (m : MappedGate). m.place < n) (map (mapped_gate vs start) c.gates)) (all_taken ∙ sym told) places);
+      }
+
+  -- the circuit is undone from its mapped image
+  undone_from_mapped : IsUndoneFrom (mapped_by order c) c
+  undone_from_mapped = record {
+    block = map_block order c;
+    rest = unwrap_or c.comment [];
+    begins = refl;
+    counts = counts;
+    places = places_distinct c.gates order vs start (not_more c order good least) (by_order c order good least) (by_gate c order good least);
+    is = sym (carried_back c order good least);
+    well_formed = good;
+    image = (order, least, refl);
+  }
+
+  -- what is read of the mapped image undoes it
+  recovered_from_mapped : IsRecovered (mapped_by order c) c
+  unfolding undone_from_mapped
+  recovered_from_mapped = record {
+    block = map_block order c;
+    rest = unwrap_or c.comment [];
+    read = block_is_read (mapped_by order c) (map_block order c) (unwrap_or c.comment []) refl counts within;
+    places = undone_from_mapped.places;
+    is = undone_from_mapped.is;
+  }
+
+-- what is read of a mapped image, and what it undoes
+pub recovered : (c x : Circuit) → IsWellFormed c → IsMappedImage c x → IsRecovered x c
+recovered c x good is = subst (λ (y : Circuit). IsRecovered y c) (sym is.2) (recovered_from_mapped c is.0 good is.1)
+
+-- one thing is read
+pub one_reading : (reading : Result (MapBlock × List ℕ) MapFault) (told other : MapBlock × List ℕ) → reading ≡ Ok told → reading ≡ Ok other → told ≡ other
+one_reading reading told other is is_too = cc
+
+-- no two well-formed circuits have one mapped image
+pub one_source : (c d x : Circuit) → IsWellFormed c → IsWellFormed d → IsMappedImage c x → IsMappedImage d x → c ≡ d
+one_source c d x good good_too is is_too =
+    let first = recovered c x good is in
+    let second = recovered d x good_too is_too in
+    let read : (first.block, first.rest) ≡ (second.block, second.rest) = one_reading (block_reading x) (first.block, first.rest) (second.block, second.rest) first.read second.read in
+    first.is ∙ ap (λ (told : MapBlock × List ℕ). undone told.0 (comment_behind told.0 told.1) x) read ∙ sym second.is
+
+pub undoing_recovers : (c image : Circuit) → IsWellFormed c → IsMappedImage c image → IsUndoneFrom image c × ((other : Circuit) → IsUndoneFrom image other → other ≡ c)
+undoing_recovers c image good is =
+    (subst (λ (x : Circuit). IsUndoneFrom x c) (sym is.2) (undone_from_mapped c is.0 good is.1), λ other from. one_source other c image from.well_formed good from.image is)
+
+pub only_mapped_images_are_undone : (image c d : Circuit) → (IsUndoneFrom image c → IsWellFormed c × IsMappedImage c image)
+    × (IsWellFormed c → IsWellFormed d → IsMappedImage c image → IsMappedImage d image → c ≡ d)
+only_mapped_images_are_undone image c d = (λ from. (from.well_formed, from.image), λ good good_too is is_too. one_source c d image good good_too is is_too)

@@ -1,0 +1,5 @@
+use Rattle.aig_order.proofs.OneSource.{undoing_recovers}
+use Rattle.aig_order.proofs.laws.undoing_recovers.Goals as goal
+
+pub returns : goal.returns
+returns c = undoing_recovers

@@ -1,0 +1,5 @@
+use Rattle.aig_order.proofs.Refused.{only_undone}
+use Rattle.aig_order.proofs.undoing.undo.Goals as goal
+
+pub returns-clause-only : goal.returns-clause-only
+returns-clause-only c = only_undone c.args.image.now c.recover.result c.recover.ensures.ok c.recover.ensures.fault
