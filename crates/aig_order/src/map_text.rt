@@ -155,8 +155,8 @@ fn most_bytes(circuit: &Circuit) -> usize {
         .saturating_add(comment)
 }
 
-/// The comment of the mapped image of a circuit whose variables get these numbers: the map block, and what the circuit's
-/// comment holds.
+/// The comment of the mapped image of a circuit whose variables get these numbers: the map block, and then what the
+/// circuit's own comment holds.
 pub(crate) fn map_comment(
     alloc: Global,
     numbers: &Numbers,

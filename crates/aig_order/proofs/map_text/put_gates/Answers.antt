@@ -8,6 +8,7 @@ use Rattle.aig_order.proofs.map_text.put_gates.Goals as goal
 
 pub loop-gate-preserved : goal.loop-gate-preserved
 loop-gate-preserved c =
-    added_more (λ g. numbers_text (gate_row (told_gate (number_at c.args.numbers.now.places.items c.args.numbers.now.others) c.args.first g))) c.args.text.now.items c.args.gates.now c.loop-gate.gate-index c.gate-item.result c.gate-item.result
-    c.loop-gate.text.items _ (omega arith) c.gate-item.is c.loop-gate.invariant
-    (c.in_ok-put_gate.ensures ∙ ap (λ told. c.loop-gate.text.items ++ numbers_text (gate_row told)) c.told_gate.ensures)
+    let told = told_gate (number_at c.args.numbers.now.places.items c.args.numbers.now.others) c.args.first in
+    added_more (λ g. numbers_text (gate_row (told g))) c.args.text.now.items c.args.gates.now c.loop-gate.gate-index
+    c.gate-item.result c.gate-item.result c.loop-gate.text.items _ (omega arith) c.gate-item.is c.loop-gate.invariant
+    (c.in_ok-put_gate.ensures ∙ ap (λ g. c.loop-gate.text.items ++ numbers_text (gate_row g)) c.told_gate.ensures)

@@ -11,8 +11,12 @@ map_comment-requires-clause-fits c = few_before_gates c.args.circuit.now c.requi
 
 pub returns : goal.returns
 returns c =
-    let new = new_circuit (number_at c.in_ok-gates.numbers.places.items c.in_ok-gates.numbers.others) c.in_ok-gates.numbers.noted c.args.circuit.now in
-    IfOk-weaker c.by_numbers.result (λ r. r ≡ new c.as_slice.result.now (Some c.in_ok-comment.comment)) (λ r. IsMappedImage c.args.circuit.now r)
-    (λ r is. is_mapped_image c.args.circuit.now r c.in_ok-gates.gates.items c.in_ok-gates.numbers.noted c.in_ok-gates.numbers.places.items c.in_ok-gates.numbers.others c.in_ok-comment.comment c.requires
-    (is ∙ ap (λ gs. new gs (Some c.in_ok-comment.comment)) c.as_slice.ensures.value) c.in_ok-comment.ensures c.in_ok-gates.ensures)
+    let circuit = c.args.circuit.now in
+    let gates = c.in_ok-gates.gates.items in
+    let numbers = c.in_ok-gates.numbers in
+    let comment = c.in_ok-comment.comment in
+    let new = new_circuit (number_at numbers.places.items numbers.others) numbers.noted circuit in
+    IfOk-weaker c.by_numbers.result (λ r. r ≡ new c.as_slice.result.now (Some comment)) (λ r. IsMappedImage circuit r)
+    (λ r is. is_mapped_image circuit r gates numbers.noted numbers.places.items numbers.others comment c.requires
+    (is ∙ ap (λ gs. new gs (Some comment)) c.as_slice.ensures.value) c.in_ok-comment.ensures c.in_ok-gates.ensures)
     c.by_numbers.ensures
