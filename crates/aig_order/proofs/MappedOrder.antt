@@ -16,11 +16,13 @@ module _ (c : Circuit) (comment : Option (List ℕ)) where
   abbrev commented : Circuit
   commented = record c { comment = comment }
 
+  -- there is as much that symbols may name
   same_counts : (k : Kind) → count_of c k ≡ count_of commented k
   same_counts kinds.Input = refl
   same_counts kinds.Latch = refl
   same_counts kinds.Output = refl
 
+  -- it is well formed too
   pub comment_is_free : IsWellFormed c → IsWellFormed commented
   comment_is_free good = record {
     limits = record {
@@ -41,20 +43,36 @@ module _ (c : Circuit) (comment : Option (List ℕ)) where
     ranked = good.ranked;
   }
 
+  -- and in binary order
   pub comment_keeps_order : IsInBinaryOrder c → IsInBinaryOrder commented
-  comment_keeps_order ordered = record { inputs = ordered.inputs; latches = ordered.latches; gates = ordered.gates; all = ordered.all }
+  comment_keeps_order ordered =
+      record { inputs = ordered.inputs; latches = ordered.latches; gates = ordered.gates; all = ordered.all }
 
-pub mapped_image_is_ordered : (c image : Circuit) → IsWellFormed c → IsMappedImage c image → IsWellFormed image × IsInBinaryOrder image
-mapped_image_is_ordered c image good is =
-    let ordered : IsWellFormed (image_by is.0 c) × IsInBinaryOrder (image_by is.0 c) = image_is_ordered c (image_by is.0 c) good (is.0, is.1, refl) in
-    let comment : Option (List ℕ) = (mapped_by is.0 c).comment in
-    subst (λ (d : Circuit). IsWellFormed d × IsInBinaryOrder d) (sym is.2) (comment_is_free (image_by is.0 c) comment ordered.0, comment_keeps_order (image_by is.0 c) comment ordered.1)
+abbrev IsGood : Circuit → Type 0
+IsGood c = IsWellFormed c × IsInBinaryOrder c
 
+-- the mapped image differs from the image in its comment alone
+pub mapped_image_is_ordered : (c image : Circuit) → IsWellFormed c → IsMappedImage c image
+    → IsWellFormed image × IsInBinaryOrder image
+mapped_image_is_ordered c image good (order, least, is) =
+    let plain : Circuit = image_by order c in
+    let ordered : IsGood plain = image_is_ordered c plain good (order, least, refl) in
+    let comment : Option (List ℕ) = (mapped_by order c).comment in
+    subst IsGood (sym is) (comment_is_free plain comment ordered.0, comment_keeps_order plain comment ordered.1)
+
+-- the gates have one least ready order, so there is one mapped image
 pub mapped_image_is_one : (c : Circuit) → IsWellFormed c
-    → (image : Circuit) × IsMappedImage c image × IsWellFormed image × IsInBinaryOrder image × ((other : Circuit) → IsMappedImage c other → other ≡ image)
+    → (image : Circuit) × IsMappedImage c image × IsWellFormed image × IsInBinaryOrder image
+    × ((other : Circuit) → IsMappedImage c other → other ≡ image)
 mapped_image_is_one c good =
     let made = a_least_ready_order c in
     let image : Circuit = mapped_by made.0 c in
     let is : IsMappedImage c image = (made.0, made.1, refl) in
-    let ordered = mapped_image_is_ordered c image good is in
-    (image, is, ordered.0, ordered.1, λ other also. also.2 ∙ ap (λ order. mapped_by order c) (one_least_ready_order c also.0 made.0 also.1 made.1))
+    let ordered = mapped_image_is_ordered c image good is in (
+      image,
+      is,
+      ordered.0,
+      ordered.1,
+      λ other (order, least, also). also
+          ∙ ap (λ at. mapped_by at c) (one_least_ready_order c order made.0 least made.1),
+    )

@@ -77,10 +77,10 @@ module _ (c : Circuit) (order : List ℕ) (good : IsWellFormed c) (least : IsLea
         ⊎_elim (λ (t : (eqb v 0 ≡ true) × (v ≡ 0)). told v ∙ ap (number_in vs) t.1 ∙ no_number 0 vs zero_out ∙ sym (ap (renumbered vs) t.1))
         (λ (f : (eqb v 0 ≡ false) × (v ≢ 0)). told v ∙ in_place v vs f.1 fits) (eqb_tells v 0)
 
-    same_literal : (l : ℕ) → Known l → new_literal number l ≡ renumbered_literal vs l
+    pub same_literal : (l : ℕ) → Known l → new_literal number l ≡ renumbered_literal vs l
     same_literal l known = ap (λ n. 2 * n + l % 2) (same_number (variable_of l) (omega (arith, known_fits c order good least l known)))
 
-    same_variable : (v : ℕ) → IsAmong v (defined_variables c) → number v ≡ renumbered vs v
+    pub same_variable : (v : ℕ) → IsAmong v (defined_variables c) → number v ≡ renumbered vs v
     same_variable v a =
         let half : variable_of (2 * v) ≡ v = omega arith in
         let fits : renumbered_literal vs (2 * v) ≤ 2 * length vs + 1 = known_fits c order good least (2 * v) (inr (subst (λ x. IsAmong x (defined_variables c)) (sym half) a)) in
@@ -113,7 +113,7 @@ module _ (c : Circuit) (order : List ℕ) (good : IsWellFormed c) (least : IsLea
     same_taken same (g ∷ at) there =
         ap₂ (λ (y : Gate) (ys : List Gate). y ∷ ys) (each_at (λ g. new_gate number g ≡ gate_image vs g) c.gates same g there.0) (same_taken same at there.1)
 
-    pub by_numbers : (count : ℕ) (gates : List Gate) → count ≡ length vs → gates ≡ taken c.gates order → new_circuit number count c gates ≡ image_by order c
+    pub by_numbers : (count : ℕ) (gates : List Gate) → count ≡ length vs → gates ≡ taken c.gates order → new_circuit number count c gates c.comment ≡ image_by order c
     by_numbers count gates many are =
         let nexts : List ℕ = map (λ (l : Latch). l.next) c.latches in
         let variables_first : (v : ℕ) → IsAmong v first → IsAmong v (defined_variables c) = λ v a. among_first first (variables c.gates) v a in
@@ -131,7 +131,7 @@ fits c order good least gates are =
     let many : length gates ≡ length order = ap length are ∙ length-map order _ in
     omega (arith, many, not_more c order good least, definitions_fit c good, good.limits.max_var)
 
-pub is_image : (c image : Circuit) (gates : List Gate) (noted : ℕ) (places : List ℕ) (others : BTreeMap ℕ ℕ) → IsWellFormed c → image ≡ new_circuit (number_at places others) noted c gates
+pub is_image : (c image : Circuit) (gates : List Gate) (noted : ℕ) (places : List ℕ) (others : BTreeMap ℕ ℕ) → IsWellFormed c → image ≡ new_circuit (number_at places others) noted c gates c.comment
     → (order : List ℕ) × IsLeastReadyOrder c order × (gates ≡ taken c.gates order) × AreNumbered noted places others (in_new_order c order) × AreSmall places others → IsBinaryImage c image
 is_image c image gates noted places others good is (order, least, are, numbered, small) =
     (order, least, is ∙ by_numbers c order good least (number_at places others) numbered.numbers noted gates numbered.count are)

@@ -3,3 +3,4 @@ pub mod MapOutcomes
 pub mod Numbers
 pub mod Placed
 pub mod Renewed
+pub mod Told

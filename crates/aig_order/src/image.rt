@@ -101,7 +101,10 @@ fn new_gates(alloc: Global, numbers: &Numbers, gates: &[Gate]) -> Result<Listing
 }
 
 /// The gates in their order, and the new numbers of all variables.
-fn in_order(alloc: Global, circuit: &Circuit) -> Result<(Vec<Gate>, Numbers), OutOfMemory>
+pub(crate) fn in_order(
+    alloc: Global,
+    circuit: &Circuit,
+) -> Result<(Vec<Gate>, Numbers), OutOfMemory>
     requires { IsWellFormed circuit.now }
     ensures { IfOk result (λ r. (order : List ℕ) × IsLeastReadyOrder circuit.now order
         × (r.0.items ≡ taken circuit.now.gates order)
@@ -114,15 +117,17 @@ fn in_order(alloc: Global, circuit: &Circuit) -> Result<(Vec<Gate>, Numbers), Ou
     Ok((gates, numbers))
 }
 
-/// The circuit by new numbers, with these gates.
-fn by_numbers(
+/// The circuit by new numbers, with these gates and this comment.
+pub(crate) fn by_numbers(
     alloc: Global,
     circuit: &Circuit,
     gates: &[Gate],
     numbers: &Numbers,
+    comment: Option<Listing<u8>>,
 ) -> Result<Circuit, OutOfMemory>
     requires small { AreSmall numbers.now.places.items numbers.now.others }
-    ensures { IfOk result (λ r. r ≡ new_circuit (number_at numbers.now.places.items numbers.now.others) numbers.now.noted circuit.now gates.now) }
+    ensures { IfOk result (λ r. r ≡ new_circuit (number_at numbers.now.places.items numbers.now.others) numbers.now.noted
+        circuit.now gates.now comment) }
 {
     Ok(Circuit {
         max_var: numbers.count(),
@@ -131,7 +136,7 @@ fn by_numbers(
         outputs: new_outputs(alloc, numbers, circuit.outputs.as_slice())?,
         gates: new_gates(alloc, numbers, gates)?,
         symbols: copy_symbols(alloc, &circuit.symbols)?,
-        comment: copy_comment(alloc, &circuit.comment)?,
+        comment,
     })
 }
 
@@ -141,7 +146,8 @@ fn image(alloc: Global, circuit: &Circuit) -> Result<Circuit, OutOfMemory>
     ensures { IfOk result (λ r. IsBinaryImage circuit.now r) }
 {
     let (gates, numbers) = in_order(alloc, circuit)?;
-    by_numbers(alloc, circuit, gates.as_slice(), &numbers)
+    let comment = copy_comment(alloc, &circuit.comment)?;
+    by_numbers(alloc, circuit, gates.as_slice(), &numbers, comment)
 }
 
 /// The binary image of a circuit: the same circuit with its variables numbered anew, inputs first, then latches, then gates

@@ -6,6 +6,7 @@ mod image;
 pub mod laws;
 mod map_block;
 mod map_reading;
+mod map_text;
 mod mapped;
 mod numbers;
 mod undoing;

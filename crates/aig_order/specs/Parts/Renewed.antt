@@ -1,5 +1,5 @@
 -- What stands in a circuit, by new numbers of variables.
-use Rattle.std.specs.Prelude.{◌+◌, ◌*◌, ◌%◌, ℕ, List, map, max, min}
+use Rattle.std.specs.Prelude.{◌+◌, ◌*◌, ◌%◌, ℕ, List, map, max, min, Option}
 use Rattle.aig_core.specs.declared.circuit.Latch.{Latch}
 use Rattle.aig_core.specs.declared.circuit.Gate.{Gate}
 use Rattle.aig_core.specs.declared.circuit.Circuit.{Circuit}
@@ -19,14 +19,14 @@ new_gate number g = record {
   right = min (new_literal number g.left) (new_literal number g.right);
 }
 
--- the circuit with these gates, all by new numbers, of which there are so many
-abbrev pub new_circuit : (ℕ → ℕ) → ℕ → Circuit → List Gate → Circuit
-new_circuit number count c gates = record {
+-- the circuit with these gates, all by new numbers, of which there are so many; and with this comment
+abbrev pub new_circuit : (ℕ → ℕ) → ℕ → Circuit → List Gate → Option (List ℕ) → Circuit
+new_circuit number count c gates comment = record {
   max_var = count;
   inputs = map number c.inputs;
   latches = map (new_latch number) c.latches;
   outputs = map (new_literal number) c.outputs;
   gates = map (new_gate number) gates;
   symbols = c.symbols;
-  comment = c.comment;
+  comment = comment;
 }
