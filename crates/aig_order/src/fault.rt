@@ -1,5 +1,8 @@
 //! Why a circuit has no undone one.
-use aig_core::OutOfMemory;
+ghost use Rattle.std.specs.Prelude.{◌≡◌};
+ghost use Rattle.aig_order.specs.declared.fault.MapFault.TheVariants.{OutOfMemory as IsOutOfMemory};
+
+use std::alloc::{AllocError, AllocFailed};
 use thiserror::Error;
 
 /// Why a conversion cannot be undone. The variants stand in the order in which they are looked for.
@@ -24,4 +27,20 @@ pub enum MapFault {
     /// Memory was refused. This may come in place of any other.
     #[error("out of memory")]
     OutOfMemory,
+}
+
+impl From<AllocError> for MapFault {
+    ghost from_gives = { λ _ e. e ≡ IsOutOfMemory };
+
+    fn from(_refused: AllocError) -> MapFault {
+        MapFault::OutOfMemory
+    }
+}
+
+impl<T: Drop> From<AllocFailed<T>> for MapFault {
+    ghost from_gives = { λ _ e. e ≡ IsOutOfMemory };
+
+    fn from(_refused: AllocFailed<T>) -> MapFault {
+        MapFault::OutOfMemory
+    }
 }

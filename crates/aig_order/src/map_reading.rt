@@ -1,11 +1,242 @@
 //! The map block of a circuit, read from its comment.
-ghost use Rattle.aig_order.specs.MapReading.{block_reading};
+ghost use Rattle.std.specs.Prelude.{◌≡◌, ◌+◌, ◌*◌, ◌^◌, ◌<◌, ◌≤◌, ℕ, List, Option, length, take, IfOk, IfSome};
+ghost use Rattle.std.specs.List.{prefix_len};
+ghost use Rattle.std.specs.Option.{unwrap_or};
+ghost use Rattle.aig_core.specs.declared.circuit.TheConstants.{LARGEST as largest_index};
+ghost use Rattle.aig_text.specs.Outcomes.{Gives, GivesOrFails};
+ghost use Rattle.aig_text.specs.Spelling.{is_digit, value_of};
+ghost use Rattle.aig_order.specs.MapSpelling.{after_byte, after_text, variable_at, gate_at, variable_of_row, gate_of_row};
+ghost use Rattle.aig_order.specs.MapSpelling.{first_line_of, is_variable};
+ghost use Rattle.aig_order.specs.MapReading.{entries_at, counts_match, counted_line, rest_of_block, block_reading};
+ghost use Rattle.aig_order.specs.Parts.Capped.{capped, capped_at, capped_after_space, capped_more_at, capped_row_at, capped_line_at};
 ghost use Rattle.aig_order.specs.Parts.MapOutcomes.{GivesOrMemory};
 
 use crate::fault::MapFault;
-use crate::map_block::MapBlock;
-use aig_core::Circuit;
+use crate::map_block::{MapBlock, MappedGate};
+use aig_core::{Circuit, LARGEST, Listing, Var};
 use std::alloc::Global;
+
+/// Numbers from here on are all above what may stand in a block, and are not told apart.
+const LIMIT: u64 = 1 << 33;
+
+/// What is kept of a number with one more digit.
+#[inline(always)]
+fn with_digit(value: u64, digit: u8) -> u64
+    requires value { value ≤ 2 ^ 33 }
+    requires digit { digit < 10 }
+    ensures { result ≡ capped (10 * value + digit) }
+{
+    (10 * value + u64::from(digit)).min(LIMIT)
+}
+
+/// What is kept of the number that the digits at the front spell, and how many they are.
+#[inline(always)]
+fn leading_digits(bytes: &[u8]) -> (u64, usize)
+    ensures value { result.0 ≡ capped (value_of (take (prefix_len is_digit bytes.now) bytes.now)) }
+    ensures count { result.1 ≡ prefix_len is_digit bytes.now }
+{
+    let mut value = 0;
+    for (at, byte) in bytes.iter().enumerate() {
+        if !byte.is_ascii_digit() {
+            return (value, at);
+        }
+        value = with_digit(value, *byte - b'0');
+    }
+    (value, bytes.len())
+}
+
+/// What is kept of the canonical number at the front, and what follows it.
+#[inline(always)]
+#[tactic(auto, unfolding(crate::specs::Parts::Capped::capped_at, crate::specs::MapSpelling::canonical_at))]
+fn canonical_number(bytes: &[u8]) -> Option<(u64, &[u8])>
+    ensures { Gives (λ x. (x.0, x.1.now)) result (capped_at bytes.now) }
+{
+    let (value, count) = leading_digits(bytes);
+    if count == 0 || (count > 1 && bytes[0] == b'0') {
+        return None;
+    }
+    let (_, rest) = bytes.split_at(count);
+    Some((value, rest))
+}
+
+/// What follows a byte at the front.
+#[inline(always)]
+#[tactic(auto, unfolding(crate::specs::MapSpelling::after_byte))]
+fn after_byte(bytes: &[u8], byte: u8) -> Option<&[u8]>
+    ensures { Gives (λ x. x.now) result (after_byte byte bytes.now) }
+{
+    match bytes.split_first() {
+        Some((first, rest)) if *first == byte => Some(rest),
+        _ => None,
+    }
+}
+
+/// What follows a text at the front.
+#[tactic(auto, unfolding(crate::specs::MapSpelling::after_text))]
+fn after_text<'a>(bytes: &'a [u8], text: &[u8]) -> Option<&'a [u8]>
+    ensures { Gives (λ x. x.now) result (after_text text.now bytes.now) }
+{
+    let mut rest = bytes;
+    for byte in text {
+        rest = after_byte(rest, *byte)?;
+    }
+    Some(rest)
+}
+
+/// What is kept of the number after a space, and what follows it.
+#[inline(always)]
+#[tactic(auto, unfolding(crate::specs::Parts::Capped::capped_after_space))]
+fn spaced_number(bytes: &[u8]) -> Option<(u64, &[u8])>
+    ensures { Gives (λ x. (x.0, x.1.now)) result (capped_after_space bytes.now) }
+{
+    canonical_number(after_byte(bytes, b' ')?)
+}
+
+/// What is kept of the one number of a line, and what follows the line.
+#[inline(always)]
+#[tactic(auto, unfolding(crate::specs::Parts::Capped::capped_row_at, crate::specs::Parts::Capped::capped_more_at))]
+fn one_number(bytes: &[u8]) -> Option<([u64; 1], &[u8])>
+    ensures { Gives (λ x. (x.0, x.1.now)) result (capped_row_at 0 bytes.now) }
+{
+    let (number, end) = canonical_number(bytes)?;
+    let rest = after_byte(end, b'\n')?;
+    Some(([number], rest))
+}
+
+/// What is kept of two numbers, each after a space, at the end of a line, and what follows the line.
+#[inline(always)]
+#[tactic(auto, unfolding(crate::specs::Parts::Capped::capped_more_at, crate::specs::Parts::Capped::capped_after_space))]
+fn two_more(bytes: &[u8]) -> Option<([u64; 2], &[u8])>
+    ensures { Gives (λ x. (x.0, x.1.now)) result (capped_more_at 2 bytes.now) }
+{
+    let (first, more) = spaced_number(bytes)?;
+    let (second, end) = spaced_number(more)?;
+    let rest = after_byte(end, b'\n')?;
+    Some(([first, second], rest))
+}
+
+/// What is kept of the three numbers of a line, and what follows the line.
+#[inline(always)]
+#[tactic(auto, unfolding(crate::specs::Parts::Capped::capped_row_at))]
+fn three_numbers(bytes: &[u8]) -> Option<([u64; 3], &[u8])>
+    ensures { Gives (λ x. (x.0, x.1.now)) result (capped_row_at 2 bytes.now) }
+{
+    let (first, more) = canonical_number(bytes)?;
+    let ([second, third], rest) = two_more(more)?;
+    Some(([first, second, third], rest))
+}
+
+/// What is kept of the six numbers of a line, and what follows the line.
+#[tactic(auto, unfolding(crate::specs::Parts::Capped::capped_row_at, crate::specs::Parts::Capped::capped_more_at, crate::specs::Parts::Capped::capped_after_space))]
+fn six_numbers(bytes: &[u8]) -> Option<([u64; 6], &[u8])>
+    ensures { Gives (λ x. (x.0, x.1.now)) result (capped_row_at 5 bytes.now) }
+{
+    let (version, more) = canonical_number(bytes)?;
+    let (max_var, more) = spaced_number(more)?;
+    let (inputs, more) = spaced_number(more)?;
+    let (latches, more) = spaced_number(more)?;
+    let ([gates, comment], rest) = two_more(more)?;
+    Some(([version, max_var, inputs, latches, gates, comment], rest))
+}
+
+/// Whether a variable may have this index.
+#[inline(always)]
+fn is_variable(max_var: u64, index: u64) -> bool
+    ensures { result ≡ is_variable max_var index }
+{
+    1 <= index && index <= max_var
+}
+
+/// The variable that a line tells, and what follows the line.
+#[inline(always)]
+#[tactic(auto, unfolding(crate::specs::Parts::Capped::capped_line_at))]
+fn variable(bytes: &[u8], max_var: u64) -> Option<(Var, &[u8])>
+    requires { max_var ≤ largest_index }
+    ensures { Gives (λ x. (x.0, x.1.now)) result (capped_line_at 0 (variable_of_row max_var) bytes.now) }
+{
+    let ([index], rest) = one_number(bytes)?;
+    if !is_variable(max_var, index) {
+        return None;
+    }
+    Some((Var(index as u32), rest))
+}
+
+/// The gate, of so many, that a line tells, and what follows the line.
+#[inline(always)]
+#[tactic(auto, unfolding(crate::specs::Parts::Capped::capped_line_at))]
+fn gate(bytes: &[u8], max_var: u64, count: u64) -> Option<(MappedGate, &[u8])>
+    requires max_var { max_var ≤ largest_index }
+    requires count { count ≤ largest_index }
+    ensures { Gives (λ x. (x.0, x.1.now)) result (capped_line_at 2 (gate_of_row max_var count) bytes.now) }
+{
+    let ([index, place, exchanged], rest) = three_numbers(bytes)?;
+    if !is_variable(max_var, index) || place >= count || exchanged > 1 {
+        return None;
+    }
+    let gate = MappedGate {
+        var: Var(index as u32),
+        place: place as u32,
+        exchanged: exchanged == 1,
+    };
+    Some((gate, rest))
+}
+
+/// What a line of a block tells behind the first.
+trait BlockEntry: Copy {
+    /// What the line at the front tells, by the largest index and the count of such lines, and what follows it.
+    ghost entry: { ℕ → ℕ → List ℕ → Option (Self × List ℕ) };
+
+    /// What the line at the front tells, and what follows it.
+    fn read_entry(bytes: &[u8], max_var: u64, count: u64) -> Option<(Self, &[u8])>
+        requires max_var { max_var ≤ largest_index }
+        requires count { count ≤ largest_index }
+        ensures { Gives (λ x. (x.0, x.1.now)) result (entry max_var count bytes.now) };
+}
+
+impl BlockEntry for Var {
+    ghost entry = { λ max_var _. variable_at max_var };
+
+    #[inline(always)]
+    fn read_entry(bytes: &[u8], max_var: u64, _count: u64) -> Option<(Var, &[u8])> {
+        variable(bytes, max_var)
+    }
+}
+
+impl BlockEntry for MappedGate {
+    ghost entry = { gate_at };
+
+    #[inline(always)]
+    fn read_entry(bytes: &[u8], max_var: u64, count: u64) -> Option<(MappedGate, &[u8])> {
+        gate(bytes, max_var, count)
+    }
+}
+
+/// What so many lines tell, from the line of this number on, and what follows them.
+fn entries<'a, T: BlockEntry>(
+    alloc: Global,
+    bytes: &'a [u8],
+    max_var: u64,
+    count: u64,
+    line: u64,
+) -> Result<(Listing<T>, &'a [u8]), MapFault>
+    requires max_var { max_var ≤ largest_index }
+    requires count { count ≤ largest_index }
+    requires line { line + count < 2 ^ 64 }
+    ensures { GivesOrMemory (λ x. (x.0, x.1.now)) result (entries_at (T.entry max_var count) line count bytes.now) }
+{
+    let mut found = Listing::new(alloc);
+    let mut rest = bytes;
+    for at in 0..count {
+        match T::read_entry(rest, max_var, count) {
+            Some((told, after)) => {
+                found.push(told)?;
+                rest = after;
+            }
+            None => return Err(MapFault::Malformed(line + at)),
+        }
+    }
+    Ok((found, rest))
+}
 
 /// The block at the front of a circuit's comment, and the comment behind it.
 pub(crate) fn read_block(alloc: Global, image: &Circuit) -> Result<(MapBlock, &[u8]), MapFault>
