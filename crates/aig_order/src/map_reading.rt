@@ -182,7 +182,7 @@ fn gate(bytes: &[u8], max_var: u64, count: u64) -> Option<(MappedGate, &[u8])>
 }
 
 /// What a line of a block tells behind the first.
-trait BlockEntry: Copy {
+trait BlockEntry: Drop {
     /// What the line at the front tells, by the largest index and the count of such lines, and what follows it.
     ghost entry: { ℕ → ℕ → List ℕ → Option (Self × List ℕ) };
 
