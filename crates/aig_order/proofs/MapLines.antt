@@ -8,7 +8,7 @@ use Rattle.aig_order.specs.MapSpelling.{FirstLine, row_at, is_variable, first_li
 use Rattle.aig_order.specs.Parts.Capped.{capped, capped_line_at}
 use Rattle.aig_order.proofs.MapCapped.{capped_small, le_capped, lt_capped, ge_capped, eq_capped, same_answers, told_at, line_kept}
 
-largest_small : LARGEST < 2 ^ 33
+pub largest_small : LARGEST < 2 ^ 33
 largest_small = omega arith
 
 is_variable_capped : (m v : ℕ) → m ≤ LARGEST → is_variable m (capped v) ≡ is_variable m v
