@@ -141,9 +141,9 @@ pub wrong_front : (x : Circuit) (bytes rest : List ℕ) (f : FirstLine) → f.ma
 wrong_front x bytes rest f small h t =
     let b : Behind f rest (first_line_at bytes) = behind (first_line_at bytes) f rest (sym (front_kept bytes) ∙ h) in
     let wrong : counts_match x b.0 ≡ false = elim (cases_Bool (counts_match x b.0)) [
-      | inl yes ↦
-          let same : kept_line b.0 ≡ b.0 = line_matches x b.0 (subst (λ (k : FirstLine). k.max_var ≤ LARGEST) (sym b.2) small) yes in
+      | inl all ↦
+          let same : kept_line b.0 ≡ b.0 = line_matches x b.0 (subst (λ (k : FirstLine). k.max_var ≤ LARGEST) (sym b.2) small) all in
           ap (counts_match x) (sym same ∙ b.2) ∙ t
-      | inr no ↦ no
+      | inr other ↦ other
     ] in
     (b.0, b.1, wrong)

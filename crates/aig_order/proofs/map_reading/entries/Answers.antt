@@ -5,9 +5,9 @@ use Rattle.aig_order.proofs.map_reading.entries.Goals as goal
 pub returns-in-None : goal.returns-in-None
 returns-in-None g c =
     inr (
-        entries_wrong (g.T.BlockEntry.entry c.args.max_var c.args.count) c.loop-at.at c.args.count c.args.line c.loop-at.rest.now c.loop-at.found _
-        c.loop-at-test.true c.in-None.ensures c.loop-at.invariant
-        )
+    entries_wrong (g.T.BlockEntry.entry c.args.max_var c.args.count) c.loop-at.at c.args.count c.args.line c.loop-at.rest.now c.loop-at.found _
+    c.loop-at-test.true c.in-None.ensures c.loop-at.invariant
+    )
 
 pub loop-at-preserved : goal.loop-at-preserved
 loop-at-preserved g c =
