@@ -16,10 +16,14 @@ ghost use Rattle.aig_order.specs.Parts.MapOutcomes.{GivesOrMemory};
 use crate::fault::MapFault;
 use crate::map_block::{MapBlock, MappedGate};
 use aig_core::{Circuit, LARGEST, Listing, Var};
+use core::dec2flt::read_digits;
 use std::alloc::Global;
 
 /// Numbers from here on are all above what may stand in a block, and are not told apart.
 const LIMIT: u64 = 1 << 33;
+
+/// How many bytes are read at once.
+const WORD: usize = 8;
 
 /// What is kept of a number with one more digit.
 #[inline(always)]
@@ -31,8 +35,8 @@ fn with_digit(value: u64, digit: u8) -> u64
     (10 * value + u64::from(digit)).min(LIMIT)
 }
 
-/// What is kept of the number that the digits at the front spell, and how many they are.
-#[inline(always)]
+/// What is kept of the number that the digits at the front spell, and how many they are, read one by one.
+#[inline(never)]
 fn leading_digits(bytes: &[u8]) -> (u64, usize)
     ensures value { result.0 ≡ capped (value_of (take (prefix_len is_digit bytes.now) bytes.now)) }
     ensures count { result.1 ≡ prefix_len is_digit bytes.now }
@@ -47,13 +51,29 @@ fn leading_digits(bytes: &[u8]) -> (u64, usize)
     (value, bytes.len())
 }
 
+/// The same. Most numbers have fewer digits than a word has bytes, and are read at once.
+#[inline(always)]
+fn front_digits(bytes: &[u8]) -> (u64, usize)
+    ensures value { result.0 ≡ capped (value_of (take (prefix_len is_digit bytes.now) bytes.now)) }
+    ensures count { result.1 ≡ prefix_len is_digit bytes.now }
+{
+    if bytes.len() >= WORD {
+        let (word, _) = bytes.split_at(WORD);
+        let (count, value) = read_digits(word, 0, 0);
+        if count < WORD {
+            return (value, count);
+        }
+    }
+    leading_digits(bytes)
+}
+
 /// What is kept of the canonical number at the front, and what follows it.
 #[inline(always)]
 #[tactic(auto, unfolding(crate::specs::Parts::Capped::capped_at, crate::specs::MapSpelling::canonical_at))]
 fn canonical_number(bytes: &[u8]) -> Option<(u64, &[u8])>
     ensures { Gives (λ x. (x.0, x.1.now)) result (capped_at bytes.now) }
 {
-    let (value, count) = leading_digits(bytes);
+    let (value, count) = front_digits(bytes);
     if count == 0 || (count > 1 && bytes[0] == b'0') {
         return None;
     }
