@@ -1,4 +1,4 @@
-use Rattle.std.proofs.Common.{◌≡◌, ap, sym, ◌∙◌}
+use Rattle.std.proofs.Common.{ap, sym, ◌∙◌}
 use Rattle.std.specs.Prelude.{codes}
 use Rattle.aig_order.specs.MapSpelling.{after_text}
 use Rattle.aig_order.specs.Parts.MapFront.{front_of}

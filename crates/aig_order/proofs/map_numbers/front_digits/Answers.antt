@@ -1,7 +1,7 @@
 use Rattle.std.proofs.Common.{◌≡◌, zero-add, ap, ◌∙◌}
 use Rattle.std.specs.Float.Numeral.{digits_len}
 use Rattle.aig_order.proofs.MapDigits.{word_value}
-use Rattle.aig_order.proofs.map_reading.front_digits.Goals as goal
+use Rattle.aig_order.proofs.map_numbers.front_digits.Goals as goal
 
 pub returns-then-count-lt-WORD-clause-value : goal.returns-then-count-lt-WORD-clause-value
 returns-then-count-lt-WORD-clause-value c =

@@ -2,7 +2,7 @@ use Rattle.std.proofs.Common.{◌≡◌, length, take, ap, sym, ◌∙◌, arith
 use Rattle.aig_text.specs.Spelling.{value_of}
 use Rattle.aig_text.proofs.Kept.Numbers.{digits_end}
 use Rattle.aig_order.specs.Parts.Capped.{capped}
-use Rattle.aig_order.proofs.map_reading.leading_digits.Goals as goal
+use Rattle.aig_order.proofs.map_numbers.leading_digits.Goals as goal
 
 pub returns-then-not-is_ascii_digit-clause-count : goal.returns-then-not-is_ascii_digit-clause-count
 returns-then-not-is_ascii_digit-clause-count c =
