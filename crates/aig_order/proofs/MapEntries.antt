@@ -2,7 +2,7 @@
 use Rattle.std.proofs.Common.{◌≡◌, ◌+◌, ◌-◌, ◌<◌, ◌≤◌, ℕ, suc, List, [], ◌∷◌, ◌++◌, Option, Some, None, Result, Ok, Err, refl, sym, ap, ◌∙◌, append_assoc, append-nil, arith}
 use Rattle.aig_order.specs.declared.fault.MapFault.{MapFault}
 use Rattle.aig_order.specs.declared.fault.MapFault.TheVariants.{Malformed}
-use Rattle.aig_order.specs.MapReading.{◌>>=◌, or_else, entries_at}
+use Rattle.aig_order.specs.MapReading.{◌>>=◌, entries_at}
 
 -- what is read behind what was found before
 abbrev pub behind_found : {T : Type 0} → List T → Result (List T × List ℕ) MapFault → Result (List T × List ℕ) MapFault
@@ -10,17 +10,15 @@ behind_found found (Ok x) = Ok (found ++ x.0, x.1)
 behind_found found (Err e) = Err e
 
 module _ {T : Type 0} where
+  -- an entry before others
   abbrev with_first : T → List T × List ℕ → Result (List T × List ℕ) MapFault
   with_first x others = Ok (x ∷ others.0, others.1)
 
+  -- an entry goes behind what was found, or before what comes
   found_first : (found : List T) (x : T) (r : Result (List T × List ℕ) MapFault)
       → behind_found (found ++ x ∷ []) r ≡ behind_found found (◌>>=◌ {B = List T × List ℕ} r (with_first x))
   found_first found x (Ok y) = ap (λ (xs : List T). Ok (xs, y.1)) (append_assoc found (x ∷ []) y.0)
   found_first found x (Err e) = refl
-
-  pub nothing_found : (r : Result (List T × List ℕ) MapFault) → behind_found [] r ≡ r
-  nothing_found (Ok y) = refl
-  nothing_found (Err e) = refl
 
   module _ (entry : List ℕ → Option (T × List ℕ)) where
     -- one more line
@@ -47,10 +45,3 @@ module _ {T : Type 0} where
     entries_done i count line bytes found whole l w =
         let none : count - i ≡ 0 = omega arith in
         sym w ∙ rw none (ap (λ (xs : List T). Ok (xs, bytes)) (append-nil found))
-
-    -- all lines are left
-    pub entries_start : (count line : ℕ) (bytes : List ℕ) → behind_found [] (entries_at entry (line + 0) (count - 0) bytes) ≡ entries_at entry line count bytes
-    entries_start count line bytes =
-        let all : count - 0 ≡ count = omega arith in
-        let first : line + 0 ≡ line = omega arith in
-        rw (all, first) (nothing_found (entries_at entry line count bytes))

@@ -1,14 +1,8 @@
 -- Numbers of a map block as a machine word keeps them: from a limit on, which is above all that may stand there, they are
 -- all kept as the limit.
-use Rattle.std.specs.Prelude.{◌^◌, ℕ, zero, suc, List, [], ◌∷◌, min, map, Option, None, Some, Result, Ok, Err, codes, if◌then◌else◌}
-use Rattle.std.specs.Option.{unwrap_or}
-use Rattle.aig_core.specs.declared.circuit.Circuit.{Circuit}
+use Rattle.std.specs.Prelude.{◌^◌, ℕ, zero, suc, List, [], ◌∷◌, min, Option, Some}
 use Rattle.aig_text.specs.Scanning.{◌>>=◌}
-use Rattle.aig_order.specs.declared.fault.MapFault.{MapFault}
-use Rattle.aig_order.specs.declared.fault.MapFault.TheVariants.{Missing, Malformed, Mismatch}
-use Rattle.aig_order.specs.declared.map_block.MappedGate.{MappedGate}
-use Rattle.aig_order.specs.MapSpelling.{FirstLine, canonical_at, after_byte, after_text, first_line_of, gate_of_row, variable_of_row}
-use Rattle.aig_order.specs.MapReading.{counts_match, or_else}
+use Rattle.aig_order.specs.MapSpelling.{canonical_at, after_byte}
 
 -- what is kept of a number
 abbrev pub capped : ℕ → ℕ
