@@ -40,8 +40,8 @@ fn leading_digits(bytes: &[u8]) -> (u64, usize)
     (value, bytes.len())
 }
 
-/// What is kept of the number that the digits at the front spell, and how many they are. Most numbers have fewer digits than
-/// a word has bytes, and are read at once.
+/// What is kept of the number that the digits at the front spell, and how many they are. Most numbers have fewer digits
+/// than a word has bytes, and are read at once.
 #[inline(always)]
 fn front_digits(bytes: &[u8]) -> (u64, usize)
     ensures value { result.0 ≡ capped (value_of (take (prefix_len is_digit bytes.now) bytes.now)) }
@@ -138,15 +138,24 @@ pub(crate) fn three_numbers(bytes: &[u8]) -> Option<([u64; 3], &[u8])>
     Some(([first, second, third], rest))
 }
 
+/// What is kept of five numbers, each after a space, at the end of a line, and what follows the line.
+#[tactic(auto, unfolding(crate::specs::Parts::Capped::capped_more_at, crate::specs::Parts::Capped::capped_after_space))]
+fn five_more(bytes: &[u8]) -> Option<([u64; 5], &[u8])>
+    ensures { Gives (λ x. (x.0, x.1.now)) result (capped_more_at 5 bytes.now) }
+{
+    let (first, more) = spaced_number(bytes)?;
+    let (second, more) = spaced_number(more)?;
+    let (third, more) = spaced_number(more)?;
+    let ([fourth, fifth], rest) = two_more(more)?;
+    Some(([first, second, third, fourth, fifth], rest))
+}
+
 /// What is kept of the six numbers of a line, and what follows the line.
-#[tactic(auto, unfolding(crate::specs::Parts::Capped::capped_row_at, crate::specs::Parts::Capped::capped_more_at, crate::specs::Parts::Capped::capped_after_space))]
+#[tactic(auto, unfolding(crate::specs::Parts::Capped::capped_row_at))]
 pub(crate) fn six_numbers(bytes: &[u8]) -> Option<([u64; 6], &[u8])>
     ensures { Gives (λ x. (x.0, x.1.now)) result (capped_row_at 5 bytes.now) }
 {
-    let (version, more) = canonical_number(bytes)?;
-    let (max_var, more) = spaced_number(more)?;
-    let (inputs, more) = spaced_number(more)?;
-    let (latches, more) = spaced_number(more)?;
-    let ([gates, comment], rest) = two_more(more)?;
-    Some(([version, max_var, inputs, latches, gates, comment], rest))
+    let (first, more) = canonical_number(bytes)?;
+    let ([second, third, fourth, fifth, sixth], rest) = five_more(more)?;
+    Some(([first, second, third, fourth, fifth, sixth], rest))
 }

@@ -4,7 +4,8 @@ ghost use Rattle.std.specs.Option.{unwrap_or};
 ghost use Rattle.aig_core.specs.declared.circuit.Circuit.{Circuit as CircuitRecord};
 ghost use Rattle.aig_core.specs.declared.circuit.TheConstants.{LARGEST as largest_index};
 ghost use Rattle.aig_text.specs.Outcomes.{Gives, GivesOrFails};
-ghost use Rattle.aig_order.specs.MapSpelling.{is_variable, first_line_of, variable_of_row, gate_of_row, variable_at, gate_at};
+ghost use Rattle.aig_order.specs.MapSpelling.{is_variable, first_line_of, variable_of_row, gate_of_row};
+ghost use Rattle.aig_order.specs.MapSpelling.{variable_at, gate_at};
 ghost use Rattle.aig_order.specs.MapReading.{entries_at, counts_match, counted_line, rest_of_block, block_reading};
 ghost use Rattle.aig_order.specs.Parts.Capped.{capped_line_at};
 ghost use Rattle.aig_order.specs.Parts.MapFront.{front_of};
@@ -203,7 +204,8 @@ fn rest_of_block<'a>(
 ) -> Result<(MapBlock, &'a [u8]), MapFault>
     requires max_var { front.max_var ≤ largest_index }
     requires counts { front.inputs + front.latches + front.gates ≤ front.max_var }
-    ensures { (image : CircuitRecord) → GivesOrMemory (λ x. (x.0, x.1.now)) result (rest_of_block image (front_of front) bytes.now) }
+    ensures { (image : CircuitRecord) → GivesOrMemory (λ x. (x.0, x.1.now)) result
+        (rest_of_block image (front_of front) bytes.now) }
 {
     let max_var = front.max_var;
     let (inputs, bytes) = entries::<Var>(alloc, bytes, max_var, front.inputs, 2)?;

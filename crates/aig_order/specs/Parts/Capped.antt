@@ -1,5 +1,5 @@
--- Numbers of a map block as a machine word keeps them: from a limit on, which is above all that may stand there, they are
--- all kept as the limit.
+-- Numbers of a map block as a machine word keeps them: from a limit on, which is above all that may stand there, they
+-- are all kept as the limit.
 use Rattle.std.specs.Prelude.{◌^◌, ℕ, zero, suc, List, [], ◌∷◌, min, Option, Some}
 use Rattle.aig_text.specs.Scanning.{◌>>=◌}
 use Rattle.aig_order.specs.MapSpelling.{canonical_at, after_byte}
