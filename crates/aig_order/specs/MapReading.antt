@@ -50,13 +50,16 @@ rest_of_block x first bytes = do
   latches ← entries_at (variable_at first.max_var) (2 + first.inputs) first.latches inputs.1
   gates ← entries_at (gate_at first.max_var first.gates) (2 + first.inputs + first.latches) first.gates latches.1
   rest ← or_else (Malformed (2 + first.inputs + first.latches + first.gates)) (after_text last_line gates.1)
-  Ok (record {
-    max_var = first.max_var;
-    inputs = inputs.0;
-    latches = latches.0;
-    gates = gates.0;
-    has_comment = first.has_comment;
-  }, rest)
+  Ok (
+    record {
+      max_var = first.max_var;
+      inputs = inputs.0;
+      latches = latches.0;
+      gates = gates.0;
+      has_comment = first.has_comment;
+    },
+    rest,
+  )
 
 -- the block at the front of the circuit's comment, and the comment behind it
 unfoldable pub block_reading : Circuit → Result (MapBlock × List ℕ) MapFault

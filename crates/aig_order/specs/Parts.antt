@@ -1,4 +1,6 @@
 -- What only private functions cite. What the crate promises stands in the other files.
+pub mod Capped
+pub mod MapFront
 pub mod MapOutcomes
 pub mod Numbers
 pub mod Placed

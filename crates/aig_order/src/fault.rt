@@ -3,7 +3,7 @@ ghost use Rattle.std.specs.Prelude.{◌≡◌};
 ghost use Rattle.aig_order.specs.declared.fault.MapFault.TheVariants.{OutOfMemory as IsOutOfMemory};
 
 use aig_core::OutOfMemory;
-use std::alloc::AllocError;
+use std::alloc::{AllocError, AllocFailed};
 use thiserror::Error;
 
 /// Why a conversion cannot be undone. The variants stand in the order in which they are looked for.
@@ -34,6 +34,14 @@ impl From<AllocError> for MapFault {
     ghost from_gives = { λ _ e. e ≡ IsOutOfMemory };
 
     fn from(_refused: AllocError) -> MapFault {
+        MapFault::OutOfMemory
+    }
+}
+
+impl<T: Drop> From<AllocFailed<T>> for MapFault {
+    ghost from_gives = { λ _ e. e ≡ IsOutOfMemory };
+
+    fn from(_refused: AllocFailed<T>) -> MapFault {
         MapFault::OutOfMemory
     }
 }

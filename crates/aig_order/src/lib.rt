@@ -5,6 +5,7 @@ mod fault;
 mod image;
 pub mod laws;
 mod map_block;
+mod map_numbers;
 mod map_reading;
 mod map_text;
 mod mapped;

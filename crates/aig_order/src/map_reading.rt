@@ -1,15 +1,239 @@
 //! The map block of a circuit, read from its comment.
-ghost use Rattle.aig_order.specs.MapReading.{block_reading};
+ghost use Rattle.std.specs.Prelude.{◌≡◌, ◌+◌, ◌^◌, ◌<◌, ◌≤◌, ℕ, List, [], Option, IfOk, IfSome};
+ghost use Rattle.std.specs.Option.{unwrap_or};
+ghost use Rattle.aig_core.specs.declared.circuit.Circuit.{Circuit as CircuitRecord};
+ghost use Rattle.aig_core.specs.declared.circuit.TheConstants.{LARGEST as largest_index};
+ghost use Rattle.aig_text.specs.Outcomes.{Gives, GivesOrFails};
+ghost use Rattle.aig_order.specs.MapSpelling.{is_variable, first_line_of, variable_of_row, gate_of_row};
+ghost use Rattle.aig_order.specs.MapSpelling.{variable_at, gate_at};
+ghost use Rattle.aig_order.specs.MapReading.{entries_at, counts_match, counted_line, rest_of_block, block_reading};
+ghost use Rattle.aig_order.specs.Parts.Capped.{capped_line_at};
+ghost use Rattle.aig_order.specs.Parts.MapFront.{front_of};
 ghost use Rattle.aig_order.specs.Parts.MapOutcomes.{GivesOrMemory};
 
 use crate::fault::MapFault;
-use crate::map_block::MapBlock;
-use aig_core::Circuit;
+use crate::map_block::{MapBlock, MappedGate};
+use crate::map_numbers::{after_text, one_number, six_numbers, three_numbers};
+use aig_core::{Circuit, LARGEST, Listing, Var};
 use std::alloc::Global;
 
+/// Whether a variable may have this index.
+#[inline(always)]
+fn is_variable(max_var: u64, index: u64) -> bool
+    ensures { result ≡ is_variable max_var index }
+{
+    1 <= index && index <= max_var
+}
+
+/// The variable that a line tells, and what follows the line.
+#[inline(always)]
+#[tactic(auto, unfolding(crate::specs::Parts::Capped::capped_line_at))]
+fn variable(bytes: &[u8], max_var: u64) -> Option<(Var, &[u8])>
+    requires { max_var ≤ largest_index }
+    ensures { Gives (λ x. (x.0, x.1.now)) result (capped_line_at 0 (variable_of_row max_var) bytes.now) }
+{
+    let ([index], rest) = one_number(bytes)?;
+    if !is_variable(max_var, index) {
+        return None;
+    }
+    Some((Var(index as u32), rest))
+}
+
+/// The gate, of so many, that a line tells, and what follows the line.
+#[inline(always)]
+#[tactic(auto, unfolding(crate::specs::Parts::Capped::capped_line_at))]
+fn gate(bytes: &[u8], max_var: u64, count: u64) -> Option<(MappedGate, &[u8])>
+    requires max_var { max_var ≤ largest_index }
+    requires count { count ≤ largest_index }
+    ensures { Gives (λ x. (x.0, x.1.now)) result (capped_line_at 2 (gate_of_row max_var count) bytes.now) }
+{
+    let ([index, place, exchanged], rest) = three_numbers(bytes)?;
+    if !is_variable(max_var, index) || place >= count || exchanged > 1 {
+        return None;
+    }
+    let gate = MappedGate {
+        var: Var(index as u32),
+        place: place as u32,
+        exchanged: exchanged == 1,
+    };
+    Some((gate, rest))
+}
+
+/// What a line of a block tells behind the first.
+trait BlockEntry: Drop {
+    /// What the line at the front tells, by the largest index and the count of such lines, and what follows it.
+    ghost entry: { ℕ → ℕ → List ℕ → Option (Self × List ℕ) };
+
+    /// What the line at the front tells, and what follows it.
+    fn read_entry(bytes: &[u8], max_var: u64, count: u64) -> Option<(Self, &[u8])>
+        requires max_var { max_var ≤ largest_index }
+        requires count { count ≤ largest_index }
+        ensures { Gives (λ x. (x.0, x.1.now)) result (entry max_var count bytes.now) };
+}
+
+impl BlockEntry for Var {
+    ghost entry = { λ max_var _. variable_at max_var };
+
+    #[inline(always)]
+    fn read_entry(bytes: &[u8], max_var: u64, _count: u64) -> Option<(Var, &[u8])> {
+        variable(bytes, max_var)
+    }
+}
+
+impl BlockEntry for MappedGate {
+    ghost entry = { gate_at };
+
+    #[inline(always)]
+    fn read_entry(bytes: &[u8], max_var: u64, count: u64) -> Option<(MappedGate, &[u8])> {
+        gate(bytes, max_var, count)
+    }
+}
+
+/// What so many lines tell, from the line of this number on, and what follows them.
+fn entries<'a, T: BlockEntry>(
+    alloc: Global,
+    bytes: &'a [u8],
+    max_var: u64,
+    count: u64,
+    line: u64,
+) -> Result<(Listing<T>, &'a [u8]), MapFault>
+    requires max_var { max_var ≤ largest_index }
+    requires count { count ≤ largest_index }
+    requires line { line + count < 2 ^ 64 }
+    ensures { GivesOrMemory (λ x. (x.0, x.1.now)) result (entries_at (T.entry max_var count) line count bytes.now) }
+{
+    let mut found = Listing::new(alloc);
+    let mut rest = bytes;
+    for at in 0..count {
+        match T::read_entry(rest, max_var, count) {
+            Some((told, after)) => {
+                found.push(told)?;
+                rest = after;
+            }
+            None => return Err(MapFault::Malformed(line + at)),
+        }
+    }
+    Ok((found, rest))
+}
+
+/// What the first line tells behind its word.
+#[derive(Clone, Copy)]
+struct BlockFront {
+    /// The largest variable index of the source.
+    max_var: u64,
+    /// How many inputs the source has.
+    inputs: u64,
+    /// How many latches.
+    latches: u64,
+    /// How many gates.
+    gates: u64,
+    /// Whether it had a comment section.
+    has_comment: bool,
+}
+
+/// What the first line tells behind its word, and what follows the line.
+#[tactic(auto, unfolding(crate::specs::Parts::Capped::capped_line_at))]
+fn first_line(bytes: &[u8]) -> Option<(BlockFront, &[u8])>
+    ensures line { Gives (λ x. (front_of x.0, x.1.now)) result (capped_line_at 5 first_line_of bytes.now) }
+    ensures max_var { IfSome result (λ x. x.0.max_var ≤ largest_index) }
+{
+    let ([version, max_var, inputs, latches, gates, comment], rest) = six_numbers(bytes)?;
+    if version != 1 || max_var > u64::from(LARGEST) || comment > 1 {
+        return None;
+    }
+    let front = BlockFront {
+        max_var,
+        inputs,
+        latches,
+        gates,
+        has_comment: comment == 1,
+    };
+    Some((front, rest))
+}
+
+/// Whether the counts are those of the circuit, and the largest index is not below their sum.
+fn counts_match(image: &Circuit, front: BlockFront) -> bool
+    requires { front.max_var ≤ largest_index }
+    ensures { result ≡ counts_match image.now (front_of front) }
+{
+    let inputs = image.inputs.len() as u64;
+    let latches = image.latches.len() as u64;
+    let gates = image.gates.len() as u64;
+    front.inputs == inputs
+        && front.latches == latches
+        && front.gates == gates
+        && inputs.saturating_add(latches).saturating_add(gates) <= front.max_var
+}
+
+/// The bytes of the comment, none where there is no such section.
+fn comment_bytes(image: &Circuit) -> &[u8]
+    ensures { result.now ≡ unwrap_or image.now.comment [] }
+{
+    match &image.comment {
+        Some(comment) => comment.as_slice(),
+        None => &[],
+    }
+}
+
+/// The first line, where it counts what the circuit has, and what follows the line.
+#[tactic(auto, unfolding(crate::specs::MapReading::counted_line))]
+fn counted_line(image: &Circuit) -> Result<(BlockFront, &[u8]), MapFault>
+    ensures line { GivesOrFails (λ x. (front_of x.0, x.1.now)) result (counted_line image.now) }
+    ensures max_var { IfOk result (λ x. x.0.max_var ≤ largest_index) }
+    ensures counts { IfOk result (λ x. x.0.inputs + x.0.latches + x.0.gates ≤ x.0.max_var) }
+{
+    let Some(text) = after_text(comment_bytes(image), b"aigmap ") else {
+        return Err(MapFault::Missing);
+    };
+    let Some((front, rest)) = first_line(text) else {
+        return Err(MapFault::Malformed(1));
+    };
+    if counts_match(image, front) {
+        Ok((front, rest))
+    } else {
+        Err(MapFault::Mismatch)
+    }
+}
+
+/// The block behind its first line, and what follows it.
+#[tactic(auto, unfolding(crate::specs::MapReading::rest_of_block))]
+fn rest_of_block<'a>(
+    alloc: Global,
+    front: BlockFront,
+    bytes: &'a [u8],
+) -> Result<(MapBlock, &'a [u8]), MapFault>
+    requires max_var { front.max_var ≤ largest_index }
+    requires counts { front.inputs + front.latches + front.gates ≤ front.max_var }
+    ensures { (image : CircuitRecord) → GivesOrMemory (λ x. (x.0, x.1.now)) result
+        (rest_of_block image (front_of front) bytes.now) }
+{
+    let max_var = front.max_var;
+    let (inputs, bytes) = entries::<Var>(alloc, bytes, max_var, front.inputs, 2)?;
+    let line = 2 + front.inputs;
+    let (latches, bytes) = entries::<Var>(alloc, bytes, max_var, front.latches, line)?;
+    let line = line + front.latches;
+    let (gates, bytes) = entries::<MappedGate>(alloc, bytes, max_var, front.gates, line)?;
+    let line = line + front.gates;
+    let Some(rest) = after_text(bytes, b"aigmap end\n") else {
+        return Err(MapFault::Malformed(line));
+    };
+    let block = MapBlock {
+        max_var: max_var as u32,
+        inputs,
+        latches,
+        gates,
+        has_comment: front.has_comment,
+    };
+    Ok((block, rest))
+}
+
 /// The block at the front of a circuit's comment, and the comment behind it.
+#[tactic(auto, unfolding(crate::specs::MapReading::block_reading))]
 pub(crate) fn read_block(alloc: Global, image: &Circuit) -> Result<(MapBlock, &[u8]), MapFault>
     ensures { GivesOrMemory (λ x. (x.0, x.1.now)) result (block_reading image.now) }
 {
-    Err(MapFault::OutOfMemory)
+    match counted_line(image) {
+        Ok((front, rest)) => rest_of_block(alloc, front, rest),
+        Err(fault) => Err(fault),
+    }
 }
