@@ -12,7 +12,7 @@ use Rattle.aig_core.specs.Order.{IsLeastReadyOrder}
 use Rattle.aig_core.proofs.Cyclic.{among_last}
 use Rattle.aig_core.proofs.Fitting.{all_weaker}
 use Rattle.aig_core.proofs.InForm.{front, back}
-use Rattle.aig_core.proofs.Ranked.{at, variables}
+use Rattle.aig_core.proofs.Ranked.{at}
 use Rattle.aig_core.proofs.Steps.{all_of}
 use Rattle.aig_order.specs.declared.map_block.MapBlock.{MapBlock}
 use Rattle.aig_order.specs.Image.{latch_image, gate_image}

@@ -1,5 +1,5 @@
 -- The gates of a mapped image, carried back, are the gates of the circuit.
-use Rattle.std.proofs.Common.{◌≡◌, ◌-◌, ◌<◌, ◌≤◌, ℕ, List, cond, ltb, length, get_or, map, max, min, ap, ap₂, ◌∙◌, ◌⊎◌, ⊎_elim, arith}
+use Rattle.std.proofs.Common.{◌≡◌, ◌-◌, ◌<◌, ◌≤◌, ℕ, List, cond, ltb, length, get_or, map, max, min, ap, ap₂, ◌∙◌, ⊎_elim, arith}
 use Rattle.std.proofs.Math.Nat.{max-eq_left, max-eq_right, min-eq_left, min-eq_right}
 use Rattle.std.proofs.lemmas.Bool.{cases_lt, lt-ltb, le-ltb}
 use Rattle.std.proofs.lemmas.List.{length-map, get_or-map, ext_get_or}

@@ -1,5 +1,5 @@
 -- Why undoing refuses.
-use Rattle.std.proofs.Common.{◌≡◌, ◌↔◌, ap, ap₂, ◌∙◌, sym, subst, refl, ◌⊎◌, inl, inr, ⊎_elim, ℕ, zero, suc, ◌+◌, cond, IsOk, IfOk, IfErr, MatchResult, List, map, Bool, true, false, true≢false, IsTrue, Result, Ok, Err, Option, None, Some}
+use Rattle.std.proofs.Common.{◌≡◌, ◌↔◌, ap, ◌∙◌, sym, subst, refl, ◌⊎◌, inl, inr, ⊎_elim, ℕ, zero, suc, ◌+◌, cond, IsOk, IfOk, IfErr, MatchResult, List, map, Bool, true, false, true≢false, IsTrue, Result, Ok, Err, Option, None, Some}
 use Rattle.aig_core.specs.declared.circuit.Circuit.{Circuit}
 use Rattle.aig_core.specs.Form.{IsInForm}
 use Rattle.aig_core.specs.Wellformed.{AreDistinct, IsWellFormed}
@@ -102,9 +102,10 @@ module _ (x : Circuit) (b : MapBlock) (rest : List ℕ) (in_order : IsInBinaryOr
   by_block : (c : Circuit) → IsUndoneFrom x c → AreDistinct (map (λ (g : MappedGate). g.place) b.gates) × (c ≡ undone b (comment_behind b rest) x)
   by_block c p =
       let r : IsRecovered x c = recovered c x p.well_formed p.image in
-      let same : (r.block, r.rest) ≡ (b, rest) = one_reading (block_reading x) (r.block, r.rest) (b, rest) r.read read in
-      (subst (λ (told : MapBlock × List ℕ). AreDistinct (map (λ (g : MappedGate). g.place) told.0.gates)) same r.places,
-        r.is ∙ ap (λ (told : MapBlock × List ℕ). undone told.0 (comment_behind told.0 told.1) x) same)
+      let same : (r.block, r.rest) ≡ (b, rest) = one_reading (block_reading x) (r.block, r.rest) (b, rest) r.read read in (
+        subst (λ (told : MapBlock × List ℕ). AreDistinct (map (λ (g : MappedGate). g.place) told.0.gates)) same r.places,
+        r.is ∙ ap (λ (told : MapBlock × List ℕ). undone told.0 (comment_behind told.0 told.1) x) same,
+      )
 
   pub of_places : (e : MapFault) → (e ≡ OutOfMemory) ⊎ ((e ≡ Forged) × (¬ AreDistinct (map (λ (g : MappedGate). g.place) b.gates))) → IsMapFault x e
   of_places e (inl memory) = subst (IsMapFault x) (sym memory) tt

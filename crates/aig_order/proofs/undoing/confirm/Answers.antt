@@ -12,5 +12,8 @@ returns-then-same-clause-ok c =
     (undoing_recovers c.args.source c.args.image.now (subst IsWellFormed c.source.view_is c.source.invariant) (subst (λ (x : Circuit). IsMappedImage c.args.source x) same c.in_ok-again.ensures)).0
 
 pub returns-else-same-clause-err : goal.returns-else-same-clause-err
-returns-else-same-clause-err c = inr (refl, λ (is : IsMappedImage c.args.source c.args.image.now).
-    true≢false (sym (c.same.ensures.1 (c.checked.ensures.value ∙ one_mapped c.args.source c.in_ok-again.again c.args.image.now c.in_ok-again.ensures is)) ∙ c.if-same.false))
+returns-else-same-clause-err c = inr (
+  refl,
+  λ (is : IsMappedImage c.args.source c.args.image.now).
+      true≢false (sym (c.same.ensures.1 (c.checked.ensures.value ∙ one_mapped c.args.source c.in_ok-again.again c.args.image.now c.in_ok-again.ensures is)) ∙ c.if-same.false),
+)

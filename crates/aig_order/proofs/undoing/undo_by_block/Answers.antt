@@ -1,5 +1,4 @@
 use Rattle.std.proofs.Common.{◌∙◌, ap, subst, sym}
-use Rattle.aig_core.specs.declared.circuit.Circuit.{Circuit}
 use Rattle.aig_order.specs.MapReading.{HasCountsOf}
 use Rattle.aig_order.specs.Undone.{comment_behind, undone}
 use Rattle.aig_order.proofs.BlockRead.{read_is_within}
