@@ -6,3 +6,4 @@ pub mod Numbers
 pub mod Placed
 pub mod Renewed
 pub mod Told
+pub mod Turns

@@ -1,0 +1,26 @@
+-- Whether the places that a block tells are the order in which the gates of its source are taken, by the image alone.
+use Rattle.std.specs.Prelude.{◌==◌, ◌-◌, ◌<◌, ◌≤◌, ℕ, suc, List, length, map, slice_index_or}
+use Rattle.std.specs.List.{position_or_len, range_with_len}
+use Rattle.aig_core.specs.declared.circuit.Gate.{Gate}
+use Rattle.aig_core.specs.Literal.{variable_of}
+use Rattle.aig_order.specs.declared.map_block.MappedGate.{MappedGate}
+
+-- the position in the source of the gate that has this place
+abbrev pub position_at_place : List MappedGate → ℕ → ℕ
+position_at_place gates place = position_or_len (λ (g : MappedGate). g.place == place) gates
+
+-- the positions in the source, place by place
+abbrev pub positions : List MappedGate → List ℕ
+positions gates = map (position_at_place gates) (range_with_len 0 (length gates))
+
+-- The first place that a gate of the image may have, where the first gate has this variable: the one behind the gate that
+-- its larger operand is over, or 0 where that is over none.
+abbrev pub ready_from : ℕ → Gate → ℕ
+ready_from first g = suc (variable_of g.left) - first
+
+abbrev pub ready_at : ℕ → List Gate → ℕ → ℕ
+ready_at first gates place = ready_from first (slice_index_or gates place (record { var = 0; left = 0; right = 0 }))
+
+-- the gate at each place comes first in the source of all that may have this place
+abbrev pub AreTakenInTurn : ℕ → List Gate → List ℕ → Type 0
+AreTakenInTurn first gates places = (p q : ℕ) → q < length gates → p ≤ q → ready_at first gates q ≤ p → slice_index_or places p 0 ≤ slice_index_or places q 0
