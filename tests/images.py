@@ -6,20 +6,22 @@
 Each circuit has shuffled gates, variables far apart, unused indices, symbols and perhaps a comment. Its gates are placed by
 looking at all of them again for each: the next one is the first in the file whose operands over gates are all placed. What
 the program writes must be that image's file, and its ASCII text must give the file again. With the map, the file must have
-the block that is made here, and undone it must give the circuit's text.
+the block that is made here, and undone it must give the circuit's text. Of circuits that may have cycles, the first gate that
+the plain search leaves out must be told.
 """
 import random
 import subprocess
 import sys
 
 CIRCUITS = 300
+CYCLIC = 300
 
 
 COMMENTS = [None, "", "made by chance\n", "no line feed", "aigmap 1 0 0 0 0 0\naigmap end\n", "\naigmap end\n"]
 
 
-def circuit(chance):
-    """The variables of inputs and latches, next literals, outputs, and gates of three literals in any order."""
+def circuit(chance, may_be_cyclic=False):
+    """The variables of inputs and latches, next literals, outputs, gates of three literals in any order, and the tail."""
     inputs, latches, count = (chance.randrange(most) for most in (5, 4, 12))
     total = inputs + latches + count
     largest = chance.choice([total + 3, 1000, 2147483647])
@@ -30,7 +32,10 @@ def circuit(chance):
         place = chance.randrange(places + 1)
         return chance.randrange(2) + (2 * variables[place - 1] if place else 0)
 
-    gates = [(2 * variables[place], literal(place), literal(place)) for place in range(first, total)]
+    gates = []
+    for place in range(first, total):
+        below = total if may_be_cyclic else place
+        gates.append((2 * variables[place], literal(below), literal(below)))
     chance.shuffle(gates)
     nexts = [literal(total) for _ in range(latches)]
     outputs = [literal(total) for _ in range(chance.randrange(4))]
@@ -52,12 +57,14 @@ def ascii_text(largest, inputs, latches, nexts, outputs, gates, symbols, comment
 
 
 def placed(gates):
-    """The gates in their order, each found by looking at all of them."""
+    """The gates in their order, each found by looking at all of them; those that depend on a cycle are left out."""
     own, order = {gate[0] // 2 for gate in gates}, []
-    while len(order) < len(gates):
-        done = {gate[0] // 2 for gate in order}
-        order.append(next(it for it in gates if it not in order and all(x // 2 not in own - done for x in it[1:])))
-    return order
+    while True:
+        waiting = own - {gate[0] // 2 for gate in order}
+        ready = [it for it in gates if it[0] // 2 in waiting and all(x // 2 not in waiting for x in it[1:])]
+        if not ready:
+            return order
+        order.append(ready[0])
 
 
 def spelled(delta):
@@ -104,6 +111,16 @@ def converted(program, text, *words):
     return ran.stdout if (ran.returncode, ran.stderr) == (0, b"") else ran
 
 
+def refused_for_cycle(program, gates, text):
+    """Whether the first gate that the plain search leaves out is told, if there is one."""
+    left = [gate for gate in gates if gate not in placed(gates)]
+    ran = converted(program, text)
+    if not left:
+        return isinstance(ran, bytes)
+    told = f"aiger: -: gate {left[0][0]} depends on a cycle\n".encode()
+    return not isinstance(ran, bytes) and (ran.returncode, ran.stdout, ran.stderr) == (1, b"", told)
+
+
 def main(program):
     chance = random.Random(7)
     for number in range(CIRCUITS):
@@ -118,6 +135,11 @@ def main(program):
             sys.exit(f"circuit {number} has another mapped image: {text!r}")
         if converted(program, mapped, "--undo-map", "--ascii") != text:
             sys.exit(f"circuit {number} is not undone: {mapped!r}")
+    for number in range(CYCLIC):
+        made = circuit(chance, may_be_cyclic=True)
+        text = ascii_text(*made)
+        if not refused_for_cycle(program, made[5], text):
+            sys.exit(f"another cycle is told of circuit {number}: {text!r}")
 
 
 if __name__ == "__main__":
