@@ -100,7 +100,8 @@ fn new_gates(alloc: Global, numbers: &Numbers, gates: &[Gate]) -> Result<Listing
     Ok(Listing::from_vec(found))
 }
 
-/// The gates in their order, and the new numbers of all variables.
+/// The gates in their order, and the new numbers of all variables. Where the gates stand in order, as in most files, that
+/// is their order, and none is made.
 fn in_order(alloc: Global, circuit: &Circuit) -> Result<(Vec<Gate>, Numbers), OutOfMemory>
     requires { IsWellFormed circuit.now }
     ensures { IfOk result (λ r. (order : List ℕ) × IsLeastReadyOrder circuit.now order
@@ -108,6 +109,9 @@ fn in_order(alloc: Global, circuit: &Circuit) -> Result<(Vec<Gate>, Numbers), Ou
         × AreNumbered r.1.noted r.1.places.items r.1.others (in_new_order circuit.now order)
         × AreSmall r.1.places.items r.1.others) }
 {
+    if let Some(numbers) = Numbers::of_ordered(alloc, circuit)? {
+        return Ok((circuit.gates.copy(alloc)?.into_vec(), numbers));
+    }
     let order = gate_order(alloc, circuit)?;
     let gates = take_gates(alloc, circuit.gates.as_slice(), order.list())?;
     let numbers = Numbers::new(alloc, circuit, gates.as_slice())?;
