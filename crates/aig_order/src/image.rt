@@ -156,3 +156,14 @@ pub fn to_binary(alloc: Global, checked: &Checked) -> Result<Ordered, OutOfMemor
     let image = image(alloc, checked.circuit())?;
     Ok(Ordered::from_well_ordered(image))
 }
+
+/// The binary image of a circuit that is not needed any more: the circuit itself, where it is in binary order already. It
+/// fails for want of memory alone.
+pub fn into_binary(alloc: Global, checked: Checked) -> Result<Ordered, OutOfMemory>
+    ensures { IfOk result (λ o. IsBinaryImage checked o) }
+{
+    match Ordered::try_from_checked(checked) {
+        Ok(ordered) => Ok(ordered),
+        Err(checked) => to_binary(alloc, &checked),
+    }
+}

@@ -5,4 +5,4 @@ mod image;
 pub mod laws;
 mod numbers;
 
-pub use crate::image::to_binary;
+pub use crate::image::{into_binary, to_binary};

@@ -9,7 +9,7 @@ use crate::file::read_file;
 use crate::request::ToAig;
 use aig_binary::write_binary;
 use aig_core::{Checked, Circuit, Listing, Sink, Source, read_all};
-use aig_order::to_binary;
+use aig_order::into_binary;
 use aig_text::{Limits, write_ascii};
 use std::alloc::Global;
 
@@ -44,9 +44,7 @@ fn write<W: Sink>(
         write_ascii(&circuit, sink)?;
         return Ok(());
     }
-    let image = to_binary(alloc, &circuit)?;
-    // What was read is not needed from here on.
-    drop(circuit);
+    let image = into_binary(alloc, circuit)?;
     write_binary(&image, sink)?;
     Ok(())
 }
