@@ -1,4 +1,4 @@
-use Rattle.std.proofs.Common.{◌≡◌, ◌∙◌, ap}
+use Rattle.std.proofs.Common.{◌≡◌, ◌∙◌, ap₂}
 use Rattle.std.proofs.lemmas.Result.{IfOk-weaker}
 use Rattle.aig_order.specs.Image.{IsBinaryImage}
 use Rattle.aig_order.specs.Parts.Renewed.{new_circuit}
@@ -6,9 +6,11 @@ use Rattle.aig_order.specs.Parts.Numbers.{number_at}
 use Rattle.aig_order.proofs.Renewed.{is_image}
 use Rattle.aig_order.proofs.image.image.Goals as goal
 
-pub returns : goal.returns
-returns c =
-    let new = new_circuit (number_at c.in_ok-gates.numbers.places.items c.in_ok-gates.numbers.others) c.in_ok-gates.numbers.noted c.args.circuit.now in
-    IfOk-weaker c.by_numbers.result (λ r. r ≡ new c.as_slice.result.now) (λ r. IsBinaryImage c.args.circuit.now r)
-    (λ r is. is_image c.args.circuit.now r c.in_ok-gates.gates.items c.in_ok-gates.numbers.noted c.in_ok-gates.numbers.places.items c.in_ok-gates.numbers.others c.requires (is ∙ ap new c.as_slice.ensures.value) c.in_ok-gates.ensures)
+pub returns-clause-image : goal.returns-clause-image
+returns-clause-image c =
+    let circuit = c.args.checked.now in
+    let numbers = c.in_ok-gates.numbers in
+    let new = new_circuit (number_at numbers.places.items numbers.others) numbers.noted in
+    IfOk-weaker c.by_numbers.result (λ r. r ≡ new c.circuit.result.now c.as_slice.result.now) (λ r. IsBinaryImage circuit r)
+    (λ r is. is_image circuit r c.in_ok-gates.gates.items numbers.noted numbers.places.items numbers.others c.circuit.ensures.well_formed (is ∙ ap₂ new c.circuit.ensures.value c.as_slice.ensures.value) c.in_ok-gates.ensures)
     c.by_numbers.ensures
