@@ -12,9 +12,9 @@ kinds:
   binary-far      N gates in a binary file, over any places before them: most deltas have three bytes
   binary-near     the same, over the 60 places before them: each delta has one byte
 
-Each file is canonical and the same on every machine. A conversion to ASCII gives an ASCII file back byte for byte; what it
-gives of a binary file stands beside that, in NAME.aig.ascii. A conversion to binary gives a binary file back byte for byte;
-what it gives of a file of gates stands beside that, in NAME.aag.image.
+Each file is canonical and the same on every machine. A conversion to ASCII gives an ASCII file back byte for byte;
+what it gives of a binary file stands beside that, in NAME.aig.ascii. A conversion to binary gives a binary file back
+byte for byte; what it gives of a file of gates stands beside that, in NAME.aag.image.
 """
 import argparse
 import heapq
@@ -116,7 +116,7 @@ def binary(count, most):
 
 
 def least_ready(gates):
-    """The positions of gates of three literals: each time the first gate in the file whose operands over gates are taken."""
+    """The positions of gates of three literals: each time that of the first whose operands over gates are taken."""
     own = {gate[0] // 2: at for at, gate in enumerate(gates)}
     users = [[] for _ in gates]
     waiting = [0] * len(gates)

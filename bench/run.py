@@ -104,8 +104,8 @@ def is_right(command, source, wanted, scratch):
 
 
 def is_reordered(program, command, source, wanted, scratch):
-    """Whether the command gives a binary file of as many entries, which the program gives back as it is: so that file is
-    well formed and in binary order, only its gates may stand in an order of its own."""
+    """Whether the command gives a binary file of as many entries, which the program gives back as it is: so that file
+    is well formed and in binary order, only its gates may stand in an order of its own."""
     if spawned(command, source, scratch)[2] != 0:
         return False
     given = content(scratch)

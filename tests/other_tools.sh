@@ -1,6 +1,6 @@
-# Other programs that read AIGER files, for end_to_end.sh: each that is installed reads the binary image of each example and
-# writes it again, and what it writes must have as many inputs, latches, outputs and gates. Where none is installed, that
-# is said in a line, and nothing fails.
+# Other programs that read AIGER files, for end_to_end.sh: each that is installed reads the binary image of each example
+# and writes it again, and what it writes must have as many inputs, latches, outputs and gates. Where none is installed,
+# that is said in a line, and nothing fails.
 #
 # This was written without any of them at hand and was never run with one: where a row fails, look at the words for that
 # tool first. They may merge equal gates and leave out gates that nothing uses; no example has such gates.
@@ -11,7 +11,7 @@ for tool in berkeley-abc yosys-abc yosys; do
     if command -v "$tool" > /dev/null; then other_tools+=("$tool"); fi
 done
 
-# write_again TOOL: has the tool read in.aig and write out.aig, in the folder $work, where it may also leave files of its own
+# write_again TOOL: has the tool read in.aig and write out.aig, in the folder $work, where it may leave other files too
 write_again() {
     (
         cd "$work" || exit
@@ -48,4 +48,4 @@ tool_agrees() {
 for tool in "${other_tools[@]}"; do
     for file in "$top"/examples/*.aag "$top"/examples/*.aig; do tool_agrees "$tool" "$file"; done
 done
-[ ${#other_tools[@]} != 0 ] || printf 'skipped: no other program that reads AIGER files is installed (berkeley-abc, yosys)\n'
+[ ${#other_tools[@]} != 0 ] || printf 'skipped: no other program that reads AIGER is installed (berkeley-abc, yosys)\n'
