@@ -12,10 +12,12 @@ kinds:
   binary-far      N gates in a binary file, over any places before them: most deltas have three bytes
   binary-near     the same, over the 60 places before them: each delta has one byte
 
-Each file is canonical and the same on every machine. A conversion to ASCII gives an ASCII file back byte for byte; what it
-gives of a binary file stands beside that, in NAME.aig.ascii.
+Each file is canonical and the same on every machine. A conversion to ASCII gives an ASCII file back byte for byte;
+what it gives of a binary file stands beside that, in NAME.aig.ascii. A conversion to binary gives a binary file back
+byte for byte; what it gives of a file of gates stands beside that, in NAME.aag.image.
 """
 import argparse
+import heapq
 import os
 import random
 import re
@@ -113,6 +115,49 @@ def binary(count, most):
     return text, lines
 
 
+def least_ready(gates):
+    """The positions of gates of three literals: each time that of the first whose operands over gates are taken."""
+    own = {gate[0] // 2: at for at, gate in enumerate(gates)}
+    users = [[] for _ in gates]
+    waiting = [0] * len(gates)
+    for at, gate in enumerate(gates):
+        for under in (own[it // 2] for it in gate[1:] if it // 2 in own):
+            users[under].append(at)
+            waiting[at] += 1
+    ready = [at for at, count in enumerate(waiting) if not count]
+    while ready:
+        taken = heapq.heappop(ready)
+        yield taken
+        for user in users[taken]:
+            waiting[user] -= 1
+            if not waiting[user]:
+                heapq.heappush(ready, user)
+
+
+def image(lines):
+    """The binary text of an ASCII circuit without symbols and comment, its gates in the least ready order."""
+    header, *rows = ([int(it) for it in line.split() if it != "aag"] for line in lines)
+    inputs, latches, outputs, count = header[1:]
+    rest = iter(rows)
+    own = [next(rest)[0] // 2 for _ in range(inputs)]
+    nexts = [next(rest) for _ in range(latches)]
+    ends = [next(rest)[0] for _ in range(outputs)]
+    gates = list(rest)
+    order = list(least_ready(gates))
+    own += [row[0] // 2 for row in nexts] + [gates[at][0] // 2 for at in order]
+    new = {variable: number for number, variable in enumerate([0, *own])}
+
+    def literal(old):
+        return 2 * new[old // 2] + old % 2
+
+    text = bytearray(f"aig {len(own)} {inputs} {latches} {outputs} {count}\n", "ascii")
+    for old in [row[1] for row in nexts] + ends:
+        text += b"%d\n" % literal(old)
+    for variable, left, right in (map(literal, gates[at]) for at in order):
+        text += spelled(variable - max(left, right)) + spelled(abs(left - right))
+    return text
+
+
 BINARY_KINDS = {
     "binary-far": lambda count: binary(count, count),
     "binary-near": lambda count: binary(count, 60),
@@ -142,20 +187,38 @@ def path_of(name, folder=OUT):
     return os.path.join(folder, f"{name}.aig" if name.startswith("binary-") else f"{name}.aag")
 
 
+def ascii_of(path):
+    """Where the ASCII text of a file stands: it is the file itself, or beside a binary one."""
+    return f"{path}.ascii" if path.endswith(".aig") else path
+
+
+def image_of(path):
+    """Where the binary text of a file stands: it is the file itself, or beside an ASCII one of gates."""
+    return path if path.endswith(".aig") else f"{path}.image"
+
+
 def write(name, folder=OUT):
-    """Writes the file of that name, and returns its path."""
+    """Writes the file of that name and what stands beside it, and returns its path."""
     kind, count = name.rsplit("-", 1)
     os.makedirs(folder, exist_ok=True)
     path = path_of(name, folder)
     if kind in BINARY_KINDS:
         text, lines = BINARY_KINDS[kind](int(count))
-        with open(path, "wb") as file:
-            file.write(text)
     else:
-        lines = KINDS[kind](int(count))
-    with open(f"{path}.ascii" if kind in BINARY_KINDS else path, "w", encoding="ascii") as file:
+        lines = list(KINDS[kind](int(count)))
+        text = image(lines) if kind.startswith("gates-") else None
+    with open(ascii_of(path), "w", encoding="ascii") as file:
         file.writelines(lines)
+    if text is not None:
+        with open(image_of(path), "wb") as file:
+            file.write(text)
     return path
+
+
+def is_written(name, folder=OUT):
+    """Whether the file of that name is there, with what stands beside it."""
+    path = path_of(name, folder)
+    return all(os.path.isfile(it) for it in (path, ascii_of(path), *[image_of(path)] * name.startswith("gates-")))
 
 
 def main():

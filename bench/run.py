@@ -1,5 +1,6 @@
 #!/usr/bin/env python3
-"""Measures the program, and another beside it, on the files of bench/generate.py, and prints a Markdown table.
+"""Measures the program, and another beside it, on the files of bench/generate.py, and prints a Markdown table for each
+of the measurements below.
 
 Each program reads the file as its standard input and writes to /dev/null. A time is the best of some runs, in which the
 programs take turns, from the start of the process to its end. Peak memory is the kernel's count of resident memory.
@@ -11,14 +12,57 @@ import shutil
 import subprocess
 import sys
 import time
+from typing import Callable, NamedTuple
 
 sys.dont_write_bytecode = True
 import generate
 
 TOP = os.path.dirname(os.path.dirname(os.path.abspath(__file__)))
 LINKED = f"{TOP}/crates/aiger/out/aiger"
-WORDS = ["aigtoaig", "--ascii"]
 GNU_TIME = shutil.which("time", path="/usr/bin:/usr/local/bin")
+AIMED_AT = 1_000_000
+AIMED_BYTES = 80
+
+
+class Measurement(NamedTuple):
+    """What is measured: with which words, on which files, and beside what."""
+
+    words: str
+    # The kinds of files, as bench/generate.py names them.
+    kinds: tuple
+    # Where the text stands that is right for a file.
+    wanted: Callable
+    # Whether a peer may take the gates in another order.
+    may_reorder: bool = False
+    # Words of the program that run beside it on the same file; where there are none, the peer runs with the same words.
+    beside: str = ""
+    # Words by which the program first makes, of the file, the one that is read; where there are none, that is the file.
+    made_by: str = ""
+    # The quotient aimed at, by the kind of file, where it has AIMED_AT lines of its kind.
+    aims: dict = {}
+
+
+TO_BINARY_AIMS = {
+    "gates-ordered": 0.6,
+    "gates-shuffled": 0.9,
+    "gates-sparse": 0.5,
+    "gates-chain": 1.0,
+    **dict.fromkeys(generate.BINARY_KINDS, 0.5),
+}
+MEASUREMENTS = {
+    "ascii": Measurement(
+        words="aigtoaig --ascii",
+        kinds=(*generate.KINDS, *generate.BINARY_KINDS),
+        wanted=generate.ascii_of,
+    ),
+    "binary": Measurement(
+        words="aigtoaig",
+        kinds=tuple(TO_BINARY_AIMS),
+        wanted=generate.image_of,
+        may_reorder=True,
+        aims=TO_BINARY_AIMS,
+    ),
+}
 
 
 def spawned(command, source, target=os.devnull):
@@ -49,88 +93,162 @@ def peak_bytes(command, source):
     return 1024 * int(ran.stderr.split()[-1])
 
 
-def ascii_of(file):
-    """The ASCII text that a conversion gives: the file itself, or what stands beside a binary one."""
-    return f"{file}.ascii" if file.endswith(".aig") else file
-
-
-def is_right(command, source, scratch):
-    """Whether the command gives the file's ASCII text: a wrong answer has no speed."""
-    status = spawned(command, source, scratch)[2]
-    with open(ascii_of(source), "rb") as one, open(scratch, "rb") as other:
-        return status == 0 and one.read() == other.read()
-
-
-def lines_of(file):
+def content(file):
     with open(file, "rb") as it:
-        return it.read().count(b"\n")
+        return it.read()
+
+
+def is_right(command, source, wanted, scratch):
+    """Whether the command gives this text: a wrong answer has no speed."""
+    return spawned(command, source, scratch)[2] == 0 and content(scratch) == wanted
+
+
+def is_reordered(program, command, source, wanted, scratch):
+    """Whether the command gives a binary file of as many entries, which the program gives back as it is: so that file
+    is well formed and in binary order, only its gates may stand in an order of its own."""
+    if spawned(command, source, scratch)[2] != 0:
+        return False
+    given = content(scratch)
+    is_alike = given.partition(b"\n")[0] == wanted.partition(b"\n")[0]
+    return is_alike and is_right([program, "aigtoaig"], scratch, given, f"{scratch}-again")
+
+
+def kind_and_count(file):
+    kind, _, count = os.path.basename(file).partition(".")[0].rpartition("-")
+    return kind, int(count) if count.isdecimal() else 0
 
 
 def row(*cells):
     print("| " + " | ".join(cells) + " |", flush=True)
 
 
-def measure(programs, files, runs):
-    """Prints the table. The programs are commands by name; the first is compared with the second, if there is one."""
-    names, commands = list(programs), list(programs.values())
-    os.makedirs(generate.OUT, exist_ok=True)
-    scratch, smallest = f"{generate.OUT}/scratch", f"{generate.OUT}/smallest"
-    with open(smallest, "w", encoding="ascii") as it:
-        it.write("aag 0 0 0 0 0\n")
-    starts = best_seconds(commands, smallest, 5 * runs)
-    floors = [peak_bytes(it, smallest) for it in commands]
+def contestants(measurement, program, peer):
+    """The commands that are measured, by the names of their columns: the program's first, then what runs beside it."""
+    commands = {"aiger": [program, *measurement.words.split()]}
+    if measurement.beside:
+        commands[measurement.beside] = [program, *measurement.beside.split()]
+    elif peer:
+        commands["peer"] = [peer, *measurement.words.split()]
+    return commands
 
-    heads = [f"{it}, ns a line" for it in names] + ["quotient"] * (len(names) > 1)
-    heads += [f"{it}, bytes a line" for it in names]
-    row("file", "lines", *heads)
-    print("|---|---:|" + "---:|" * len(heads))
-    quotients = []
-    for file in files:
-        for name, command in programs.items():
-            if not is_right(command, file, scratch):
-                sys.exit(f"bench/run.py: {name} did not give the ASCII text of {file}")
-        lines = lines_of(ascii_of(file))
-        times = best_seconds(commands, file, runs)
-        memory = [max(peak_bytes(it, file) - floor, 0) for it, floor in zip(commands, floors)]
-        quotients += [times[0] / it for it in times[1:]]
-        cells = [f"{it * 1e9 / lines:.1f}" for it in times] + [f"{it:.2f}" for it in quotients[-1:]]
-        row(os.path.basename(file), f"{lines:,}", *cells, *[f"{it / lines:.0f}" for it in memory])
 
+def source_of(measurement, program, file):
+    """The file that is read."""
+    if not measurement.made_by:
+        return file
+    made = f"{generate.OUT}/made"
+    if spawned([program, *measurement.made_by.split()], file, made)[2] != 0:
+        sys.exit(f"bench/run.py: {measurement.made_by} does not take {file}")
+    return made
+
+
+def judge(measurement, commands, file, source):
+    """Ends the run where a command gives a wrong answer."""
+    program, scratch, wanted = commands["aiger"][0], f"{generate.OUT}/scratch", content(measurement.wanted(file))
+    judged = {name: it for name, it in commands.items() if name in ("aiger", "peer")}
+    for name, command in judged.items():
+        may_reorder = name == "peer" and measurement.may_reorder
+        if is_right(command, source, wanted, scratch):
+            continue
+        if not (may_reorder and is_reordered(program, command, source, wanted, scratch)):
+            sys.exit(f"bench/run.py: {name} does not give {measurement.wanted(file)} by {measurement.words}")
+
+
+def tell_ends(commands, floors, quotients, missed, runs):
+    """Prints what stands below a table."""
+    starts = best_seconds(list(commands.values()), smallest_file(), 5 * runs)
     print(f"\nBest of {runs} runs. On the file `aag 0 0 0 0 0`:", end=" ")
-    ends = zip(names, starts, floors)
+    ends = zip(commands, starts, floors)
     print("; ".join(f"{name} {start * 1e3:.2f} ms and {floor / 1e6:.1f} MB" for name, start, floor in ends) + ".")
     if quotients:
         mean = math.exp(sum(map(math.log, quotients)) / len(quotients))
         print(f"Quotients: geometric mean {mean:.2f}, largest {max(quotients):.2f}.")
-    if not GNU_TIME:
-        print("Memory has this script's own in it, since GNU time is not installed.")
+    if missed:
+        print(f"Aims not met: {'; '.join(missed)}.")
+    print(flush=True)
 
 
-def main():
-    asked = argparse.ArgumentParser(description=__doc__, formatter_class=argparse.RawDescriptionHelpFormatter)
-    asked.add_argument("--program", default=LINKED, help="the executable to measure (crates/aiger/out/aiger)")
-    peer = "an executable to measure beside it, which takes the same words, aigtoaig --ascii, and the same streams"
-    asked.add_argument("--peer", help=peer)
-    asked.add_argument("--runs", type=int, default=15, help="runs of each program, of which the best counts (15)")
-    default = "what to measure on (those that bench/generate.py writes by default, made where they are missing)"
-    asked.add_argument("files", nargs="*", help=default)
-    given = asked.parse_args()
+def smallest_file():
+    smallest = f"{generate.OUT}/smallest"
+    with open(smallest, "w", encoding="ascii") as it:
+        it.write("aag 0 0 0 0 0\n")
+    return smallest
 
-    programs = {"aiger": given.program, **({"peer": given.peer} if given.peer else {})}
-    for path in programs.values():
+
+def missed_aims(name, aim, quotient, bytes_a_line):
+    """The aims that this file's numbers do not meet."""
+    if aim is None:
+        return []
+    missed = [f"{name} {quotient:.2f} of {aim}"] if quotient is not None and quotient > aim else []
+    return missed + [f"{name} {bytes_a_line:.0f} of {AIMED_BYTES} bytes"] * (bytes_a_line > AIMED_BYTES)
+
+
+def measure(measurement, commands, files, runs):
+    """Prints a table. The first command is compared with the second, if there is one."""
+    floors = [peak_bytes(it, smallest_file()) for it in commands.values()]
+    heads = [f"{it}, ns a line" for it in commands] + ["quotient"] * (len(commands) > 1)
+    heads += ["aim"] * bool(measurement.aims) + [f"{it}, bytes a line" for it in commands]
+    print(f"`{measurement.words}`\n")
+    row("file", "lines", *heads)
+    print("|---|---:|" + "---:|" * len(heads))
+    quotients, missed = [], []
+    for file in files:
+        source = source_of(measurement, commands["aiger"][0], file)
+        judge(measurement, commands, file, source)
+        name, lines = os.path.basename(file), content(generate.ascii_of(file)).count(b"\n")
+        times = best_seconds(list(commands.values()), source, runs)
+        memory = [max(peak_bytes(it, source) - floor, 0) / lines for it, floor in zip(commands.values(), floors)]
+        quotient = times[0] / times[1] if times[1:] else None
+        kind, count = kind_and_count(file)
+        aim = measurement.aims.get(kind) if count == AIMED_AT else None
+        quotients += [quotient] * (quotient is not None)
+        missed += missed_aims(name, aim, quotient, memory[0])
+        cells = [f"{it * 1e9 / lines:.1f}" for it in times] + [f"{it:.2f}" for it in quotients[-1:]]
+        cells += [f"{aim or ''}"] * bool(measurement.aims) + [f"{it:.0f}" for it in memory]
+        row(name, f"{lines:,}", *cells)
+    tell_ends(commands, floors, quotients, missed, runs)
+
+
+def asked():
+    """The words of the command line."""
+    words = argparse.ArgumentParser(description=__doc__, formatter_class=argparse.RawDescriptionHelpFormatter)
+    words.add_argument("--program", default=LINKED, help="the executable to measure (crates/aiger/out/aiger)")
+    words.add_argument("--peer", help="an executable to measure beside it, which takes the same words and streams")
+    words.add_argument("--runs", type=int, default=15, help="runs of each program, of which the best counts (15)")
+    only = "one of the measurements alone, which may be given again for more (all)"
+    words.add_argument("--only", action="append", choices=[*MEASUREMENTS], help=only)
+    default = "what to measure on, of those that bench/generate.py writes, each for the measurements of its kind"
+    words.add_argument("files", nargs="*", help=f"{default} (those it writes by default, made where they are missing)")
+    given = words.parse_args()
+    for path in [given.program, *[given.peer] * (given.peer is not None)]:
         if not (os.path.isfile(path) and os.access(path, os.X_OK)):
             sys.exit(f"bench/run.py: no executable file: {path}" + " (./aiger links it)" * (path == LINKED))
     for file in given.files:
         if not os.path.isfile(file):
             sys.exit(f"bench/run.py: no such file: {file}")
+        if kind_and_count(file)[0] not in MEASUREMENTS["ascii"].kinds:
+            sys.exit(f"bench/run.py: no file of bench/generate.py: {file}")
     if given.runs < 1:
         sys.exit("bench/run.py: --runs takes a number from 1")
-    files = given.files or [generate.path_of(it) for it in generate.DEFAULT]
-    for name in generate.DEFAULT:
-        if not given.files and not os.path.isfile(generate.path_of(name)):
+    return given
+
+
+def main():
+    given = asked()
+    os.makedirs(generate.OUT, exist_ok=True)
+    for name in [] if given.files else generate.DEFAULT:
+        if not generate.is_written(name):
             generate.write(name)
-    commands = {name: [os.path.abspath(path), *WORDS] for name, path in programs.items()}
-    measure(commands, files, given.runs)
+    files = given.files or [generate.path_of(it) for it in generate.DEFAULT]
+    program, peer = os.path.abspath(given.program), given.peer and os.path.abspath(given.peer)
+    for name in given.only or MEASUREMENTS:
+        measurement = MEASUREMENTS[name]
+        fitting = [it for it in files if kind_and_count(it)[0] in measurement.kinds]
+        for wanted in map(measurement.wanted, fitting):
+            if not os.path.isfile(wanted):
+                sys.exit(f"bench/run.py: no such file: {wanted} (bench/generate.py writes it)")
+        if fitting:
+            measure(measurement, contestants(measurement, program, peer), fitting, given.runs)
 
 
 if __name__ == "__main__":

@@ -1,6 +1,7 @@
 #!/usr/bin/env bash
 # Runs the linked program on real files and pipes: the rows of the table in rows.sh, and what needs a device of
-# the system, as a closed standard output, a large file or little memory. Then the launcher.
+# the system, as a closed standard output, a large file or little memory. Then the launcher, and other programs that read
+# AIGER files, where there are any.
 . "$(dirname "${BASH_SOURCE[0]}")/rows.sh"
 . "$top/tests/judge.sh"
 need_program
@@ -190,5 +191,6 @@ for file in "$top"/examples/*.aag "$top"/examples/*.aig; do
 done
 
 . "$top/tests/launcher.sh"
+. "$top/tests/other_tools.sh"
 
 finish

@@ -119,6 +119,7 @@ impl Ordered {
     pub fn try_from_checked(checked: Checked) -> Result<Ordered, Checked>
         ensures ordered { IsOk result ↔ IsInBinaryOrder checked }
         ensures ok { IfOk result (λ ordered. ordered ≡ checked) }
+        ensures well_formed { IfOk result (λ ordered. IsWellFormed ordered) }
         ensures handed_back { IfErr result (λ same. same ≡ checked) }
     {
         if is_in_binary_order(&checked) {

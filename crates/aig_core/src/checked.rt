@@ -1,14 +1,17 @@
 //! Circuits that are well formed, and the check that tells them from the others.
 ghost use Rattle.std.specs.Prelude.{◌≡◌, ◌≢◌, ◌↔◌, IsTrue, IfOk, IfErr, OnOk, None};
+ghost use Rattle.std.specs.Option.{IfSome};
 ghost use Rattle.aig_core.specs.declared.fault.CheckFault.TheVariants.{OutOfMemory as WantOfMemory};
 ghost use Rattle.aig_core.specs.Wellformed.{IsWellFormed};
 ghost use Rattle.aig_core.specs.Form.{IsInForm};
+ghost use Rattle.aig_core.specs.Order.{IsLeastReadyOrder};
 ghost use Rattle.aig_core.specs.Fault.{first_fault, IsFault};
 
 use crate::checked::copies::copy_circuit;
 use crate::checked::faults::find_fault;
 use crate::circuit::Circuit;
 use crate::fault::{CheckFault, OutOfMemory};
+use crate::order::Order;
 use std::alloc::Global;
 use std::marker::Model;
 
@@ -21,17 +24,21 @@ pub use crate::checked::copies::{copy_comment, copy_symbols};
 #[derive(Drop)]
 pub struct Checked {
     circuit: Circuit,
+    /// The least ready order of its gates, where the check had to make it.
+    order: Option<Order>,
 }
 
 impl Model for Checked {
     ghost use Rattle.aig_core.specs.declared.circuit.Circuit.{Circuit as CircuitRecord};
+    ghost use Rattle.std.specs.Option.{IfSome};
     ghost use Rattle.aig_core.specs.Wellformed.{IsWellFormed as IsGood};
+    ghost use Rattle.aig_core.specs.Order.{IsLeastReadyOrder as IsLeast};
 
     ghost Value = { CircuitRecord };
 
     ghost view = { λ a. a.circuit };
 
-    ghost invariant = { λ a. IsGood a.circuit };
+    ghost invariant = { λ a. IsGood a.circuit × IfSome a.order (λ order. IsLeast a.circuit order.list) };
 }
 
 impl Checked {
@@ -40,7 +47,17 @@ impl Checked {
         requires { IsWellFormed circuit }
         ensures { result ≡ circuit }
     {
-        Checked { circuit }
+        Checked {
+            circuit,
+            order: None,
+        }
+    }
+
+    /// The least ready order of the gates, where the check had to make it: where they stand in order it makes none.
+    pub fn order(&self) -> Option<&Order>
+        ensures { IfSome result (λ order. IsLeastReadyOrder self.now order.now.list) }
+    {
+        self.order.as_ref()
     }
 
     /// The circuit.
@@ -66,6 +83,7 @@ impl Checked {
     {
         Ok(Checked {
             circuit: copy_circuit(alloc, &self.circuit)?,
+            order: None,
         })
     }
 }
@@ -82,7 +100,7 @@ pub fn check(alloc: Global, circuit: Circuit) -> Result<Checked, (Circuit, Check
     ensures refused { IfErr result (λ e. e.1 ≢ WantOfMemory → ¬ IsWellFormed circuit) }
 {
     match find_fault(alloc, &circuit) {
-        Ok(()) => Ok(Checked { circuit }),
+        Ok(order) => Ok(Checked { circuit, order }),
         Err(fault) => Err((circuit, fault)),
     }
 }

@@ -7,3 +7,4 @@ pub mod Placed
 pub mod Renewed
 pub mod Told
 pub mod Turns
+pub mod InOrder

@@ -1,5 +1,5 @@
 //! The binary image of a circuit.
-ghost use Rattle.std.specs.Prelude.{◌≡◌, ◌+◌, ◌≤◌, ◌<◌, ℕ, List, length, map, IfOk};
+ghost use Rattle.std.specs.Prelude.{◌≡◌, ◌+◌, ◌≤◌, ◌<◌, ℕ, List, length, map, IfOk, OnOk};
 ghost use Rattle.std.specs.List.{AllByRecursion};
 ghost use Rattle.aig_core.specs.Wellformed.{IsWellFormed};
 ghost use Rattle.aig_core.specs.Order.{IsLeastReadyOrder};
@@ -11,8 +11,8 @@ ghost use Rattle.aig_order.specs.Image.{IsBinaryImage};
 use crate::numbers::Numbers;
 use aig_binary::Ordered;
 use aig_core::{
-    Checked, Circuit, Gate, Latch, Listing, Lit, OutOfMemory, Var, copy_comment, copy_symbols,
-    gate_order,
+    Checked, Circuit, Gate, Latch, Listing, Lit, Order, OutOfMemory, Var, copy_comment,
+    copy_symbols, gate_order,
 };
 use std::alloc::Global;
 
@@ -100,21 +100,52 @@ fn new_gates(alloc: Global, numbers: &Numbers, gates: &[Gate]) -> Result<Listing
     Ok(Listing::from_vec(found))
 }
 
-/// The gates in their order, and the new numbers of all variables.
-pub(crate) fn in_order(
+/// The gates in this order, and the new numbers of all variables.
+fn in_this_order(
     alloc: Global,
     circuit: &Circuit,
+    order: &Order,
 ) -> Result<(Vec<Gate>, Numbers), OutOfMemory>
+    requires good { IsWellFormed circuit.now }
+    requires least { IsLeastReadyOrder circuit.now order.now.list }
+    ensures { IfOk result (λ r. (order : List ℕ) × IsLeastReadyOrder circuit.now order
+        × (r.0.items ≡ taken circuit.now.gates order)
+        × AreNumbered r.1.noted r.1.places.items r.1.others (in_new_order circuit.now order)
+        × AreSmall r.1.places.items r.1.others) }
+{
+    let gates = take_gates(alloc, circuit.gates.as_slice(), order.list())?;
+    let numbers = Numbers::new(alloc, circuit, gates.as_slice())?;
+    Ok((gates, numbers))
+}
+
+/// The gates in their order, and the new numbers of all variables. Where the gates stand in order, as in most files, that
+/// is their order, and none is made.
+fn in_order(alloc: Global, circuit: &Circuit) -> Result<(Vec<Gate>, Numbers), OutOfMemory>
     requires { IsWellFormed circuit.now }
     ensures { IfOk result (λ r. (order : List ℕ) × IsLeastReadyOrder circuit.now order
         × (r.0.items ≡ taken circuit.now.gates order)
         × AreNumbered r.1.noted r.1.places.items r.1.others (in_new_order circuit.now order)
         × AreSmall r.1.places.items r.1.others) }
 {
+    if let Some(numbers) = Numbers::of_ordered(alloc, circuit)? {
+        return Ok((circuit.gates.copy(alloc)?.into_vec(), numbers));
+    }
     let order = gate_order(alloc, circuit)?;
-    let gates = take_gates(alloc, circuit.gates.as_slice(), order.list())?;
-    let numbers = Numbers::new(alloc, circuit, gates.as_slice())?;
-    Ok((gates, numbers))
+    in_this_order(alloc, circuit, &order)
+}
+
+/// The same of a circuit that was checked: the order that the check made serves again.
+pub(crate) fn in_checked_order(alloc: Global, checked: &Checked) -> Result<(Vec<Gate>, Numbers), OutOfMemory>
+    ensures { IfOk result (λ r. (order : List ℕ) × IsLeastReadyOrder checked.now order
+        × (r.0.items ≡ taken checked.now.gates order)
+        × AreNumbered r.1.noted r.1.places.items r.1.others (in_new_order checked.now order)
+        × AreSmall r.1.places.items r.1.others) }
+{
+    let circuit = checked.circuit();
+    match checked.order() {
+        Some(order) => in_this_order(alloc, circuit, order),
+        None => in_order(alloc, circuit),
+    }
 }
 
 /// The circuit by new numbers, with these gates and this comment.
@@ -141,11 +172,12 @@ pub(crate) fn by_numbers(
 }
 
 /// The binary image of a circuit.
-fn image(alloc: Global, circuit: &Circuit) -> Result<Circuit, OutOfMemory>
-    requires { IsWellFormed circuit.now }
-    ensures { IfOk result (λ r. IsBinaryImage circuit.now r) }
+fn image(alloc: Global, checked: &Checked) -> Result<Circuit, OutOfMemory>
+    ensures image { IfOk result (λ r. IsBinaryImage checked.now r) }
+    ensures well_formed { OnOk result (IsWellFormed checked.now) }
 {
-    let (gates, numbers) = in_order(alloc, circuit)?;
+    let (gates, numbers) = in_checked_order(alloc, checked)?;
+    let circuit = checked.circuit();
     let comment = copy_comment(alloc, &circuit.comment)?;
     by_numbers(alloc, circuit, gates.as_slice(), &numbers, comment)
 }
@@ -155,6 +187,17 @@ fn image(alloc: Global, circuit: &Circuit) -> Result<Circuit, OutOfMemory>
 pub fn to_binary(alloc: Global, checked: &Checked) -> Result<Ordered, OutOfMemory>
     ensures { IfOk result (λ o. IsBinaryImage checked.now o) }
 {
-    let image = image(alloc, checked.circuit())?;
+    let image = image(alloc, checked)?;
     Ok(Ordered::from_well_ordered(image))
+}
+
+/// The binary image of a circuit that is not needed any more: the circuit itself, where it is in binary order already. It
+/// fails for want of memory alone.
+pub fn into_binary(alloc: Global, checked: Checked) -> Result<Ordered, OutOfMemory>
+    ensures { IfOk result (λ o. IsBinaryImage checked o) }
+{
+    match Ordered::try_from_checked(checked) {
+        Ok(ordered) => Ok(ordered),
+        Err(checked) => to_binary(alloc, &checked),
+    }
 }

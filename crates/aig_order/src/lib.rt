@@ -14,6 +14,6 @@ mod undoing;
 mod undone;
 
 pub use crate::fault::MapFault;
-pub use crate::image::to_binary;
+pub use crate::image::{into_binary, to_binary};
 pub use crate::mapped::to_binary_with_map;
 pub use crate::undoing::undo;

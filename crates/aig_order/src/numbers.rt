@@ -1,9 +1,12 @@
 //! The new numbers of variables.
-ghost use Rattle.std.specs.Prelude.{◌≡◌, ◌+◌, ◌*◌, ◌%◌, ◌==◌, ◌≤◌, ◌<◌, ◌++◌, ℕ, List, [], ◌∷◌, length, map, IfOk, OnOk, if◌then◌else◌};
+ghost use Rattle.std.specs.Prelude.{◌≡◌, ◌↔◌, ◌⊎◌, ◌+◌, ◌*◌, ◌%◌, ◌==◌, ◌≤◌, ◌<◌, ◌++◌, ℕ, List, [], ◌∷◌, length, map, IfOk, OnOk, IsTrue, if◌then◌else◌};
+ghost use Rattle.std.specs.Option.{IfSome};
+ghost use Rattle.aig_core.specs.Literal.{variable_of};
 ghost use Rattle.aig_core.specs.declared.circuit.Latch.{Latch as LatchRecord};
 ghost use Rattle.aig_core.specs.declared.circuit.Gate.{Gate as GateRecord};
 ghost use Rattle.aig_order.specs.Parts.Renewed.{new_literal};
 ghost use Rattle.aig_order.specs.Parts.Numbers.{number_at, AreNumbered, AreSmall};
+ghost use Rattle.aig_order.specs.Parts.InOrder.{StandInOrder};
 
 use aig_core::{Circuit, Gate, LARGEST, Latch, Lit, Var};
 use std::alloc::{AllocError, Global};
@@ -133,6 +136,52 @@ impl Numbers {
         Ok(())
     }
 
+    /// Whether a literal is a constant, or its variable has a number.
+    fn knows(&self, literal: Lit) -> bool
+        ensures { IsTrue result ↔ ((variable_of literal ≡ 0) ⊎ (0 < number_at self.now.places.items self.now.others (variable_of literal))) }
+    {
+        let var = literal.var();
+        var.0 == 0 || self.number(var) > 0
+    }
+
+    /// Gives the variables of gates the next numbers, in their order, up to the first gate with an operand that is not
+    /// known yet. Whether there is none such.
+    fn note_in_order(&mut self, gates: &[Gate]) -> Result<bool, AllocError>
+        requires { self.old.noted + length gates.now ≤ LARGEST }
+        ensures { IfOk result (λ all. IsTrue all → (variables : List ℕ)
+            → AreNumbered self.old.noted self.old.places.items self.old.others variables
+            → AreNumbered self.new.noted self.new.places.items self.new.others (variables ++ map (λ (g : GateRecord). g.var) gates.now)
+            × StandInOrder variables gates.now) }
+    {
+        for gate in gates {
+            if !self.knows(gate.left) {
+                return Ok(false);
+            }
+            if !self.knows(gate.right) {
+                return Ok(false);
+            }
+            self.note(gate.var)?;
+        }
+        Ok(true)
+    }
+
+    /// The new numbers of inputs and latches, with places in the table for so many gates too.
+    fn of_first(alloc: Global, circuit: &Circuit, gates: usize) -> Result<Self, AllocError>
+        requires { length circuit.now.inputs + length circuit.now.latches + gates ≤ LARGEST }
+        ensures count { IfOk result (λ n. n.noted ≡ length circuit.now.inputs + length circuit.now.latches) }
+        ensures numbers { IfOk result (λ n. AreNumbered n.noted n.places.items n.others
+            (circuit.now.inputs ++ map (λ (l : LatchRecord). l.var) circuit.now.latches)) }
+    {
+        let variables = circuit.inputs.len() + circuit.latches.len() + gates;
+        let places = (circuit.max_var as usize + 1).min(variables.saturating_mul(
+            PLACES_PER_VARIABLE,
+        ));
+        let mut numbers = Numbers::empty(alloc, places)?;
+        numbers.note_all(circuit.inputs.as_slice())?;
+        numbers.note_all(circuit.latches.as_slice())?;
+        Ok(numbers)
+    }
+
     /// The new numbers of a circuit's variables, where its gates are taken in this order.
     pub(crate) fn new(alloc: Global, circuit: &Circuit, taken: &[Gate]) -> Result<Self, AllocError>
         requires { length circuit.now.inputs + length circuit.now.latches + length taken.now ≤ LARGEST }
@@ -140,14 +189,26 @@ impl Numbers {
             (circuit.now.inputs ++ map (λ (l : LatchRecord). l.var) circuit.now.latches ++ map (λ (g : GateRecord). g.var) taken.now)) }
         ensures small { IfOk result (λ n. AreSmall n.places.items n.others) }
     {
-        let variables = circuit.inputs.len() + circuit.latches.len() + taken.len();
-        let places = (circuit.max_var as usize + 1).min(variables.saturating_mul(
-            PLACES_PER_VARIABLE,
-        ));
-        let mut numbers = Numbers::empty(alloc, places)?;
-        numbers.note_all(circuit.inputs.as_slice())?;
-        numbers.note_all(circuit.latches.as_slice())?;
+        let mut numbers = Numbers::of_first(alloc, circuit, taken.len())?;
         numbers.note_all(taken)?;
         Ok(numbers)
+    }
+
+    /// The new numbers of a circuit's variables where its gates stand in order, each after those that it is over: then they
+    /// are taken as they stand. None where they do not.
+    pub(crate) fn of_ordered(alloc: Global, circuit: &Circuit) -> Result<Option<Self>, AllocError>
+        requires { length circuit.now.inputs + length circuit.now.latches + length circuit.now.gates ≤ LARGEST }
+        ensures numbers { IfOk result (λ some. IfSome some (λ n. AreNumbered n.noted n.places.items n.others
+            (circuit.now.inputs ++ map (λ (l : LatchRecord). l.var) circuit.now.latches ++ map (λ (g : GateRecord). g.var) circuit.now.gates))) }
+        ensures small { IfOk result (λ some. IfSome some (λ n. AreSmall n.places.items n.others)) }
+        ensures in_order { IfOk result (λ some. IfSome some (λ _.
+            StandInOrder (circuit.now.inputs ++ map (λ (l : LatchRecord). l.var) circuit.now.latches) circuit.now.gates)) }
+    {
+        let mut numbers = Numbers::of_first(alloc, circuit, circuit.gates.len())?;
+        if numbers.note_in_order(circuit.gates.as_slice())? {
+            Ok(Some(numbers))
+        } else {
+            Ok(None)
+        }
     }
 }

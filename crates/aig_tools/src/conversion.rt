@@ -10,7 +10,7 @@ use crate::file::read_file;
 use crate::request::ToAig;
 use aig_binary::{Ordered, write_binary};
 use aig_core::{Checked, Circuit, Listing, OutOfMemory, Sink, Source, read_all};
-use aig_order::{MapFault, to_binary, to_binary_with_map, undo};
+use aig_order::{MapFault, into_binary, to_binary_with_map, undo};
 use aig_text::{Limits, write_ascii};
 use std::alloc::Global;
 
@@ -41,16 +41,14 @@ fn undone(alloc: Global, request: &ToAig, found: Checked) -> Result<Checked, Map
     }
 }
 
-/// The image of a circuit, with the map where the request asks for it. A circuit in binary order is its own image.
+/// The image of a circuit, with the map where the request asks for it.
 fn image(alloc: Global, request: &ToAig, circuit: Checked) -> Result<Ordered, OutOfMemory>
     ensures { IfOk result (λ image. IsImageAs request.now.keep_map circuit image) }
 {
     if request.keep_map {
-        return to_binary_with_map(alloc, &circuit);
-    }
-    match Ordered::try_from_checked(circuit) {
-        Ok(ordered) => Ok(ordered),
-        Err(circuit) => to_binary(alloc, &circuit),
+        to_binary_with_map(alloc, &circuit)
+    } else {
+        into_binary(alloc, circuit)
     }
 }
 

@@ -2,13 +2,14 @@
 //! not defined, or else the first gate that depends on a cycle.
 ghost use Rattle.std.specs.Prelude.{◌≡◌, ◌≤◌, ◌*◌, ◌++◌, IfOk, IfErr, OnOk, None, map};
 ghost use Rattle.std.specs.List.{flat_map};
-ghost use Rattle.std.specs.Option.{option_to_list};
+ghost use Rattle.std.specs.Option.{option_map, option_to_list, IfSome};
 ghost use Rattle.std.specs.FinSet as set;
 ghost use Rattle.aig_core.specs.Wellformed.{defined_variables, used_literals};
 ghost use Rattle.aig_core.specs.Fault.{first_fault, first_repeat, first_redefinition, first_unknown, with_all};
 ghost use Rattle.aig_core.specs.Fault.{is_known, IsFault};
 ghost use Rattle.aig_core.specs.Form.{IsInForm};
-ghost use Rattle.aig_core.specs.Order.{first_cyclic};
+ghost use Rattle.aig_core.specs.Order.{first_cyclic, IsLeastReadyOrder};
+ghost use Rattle.aig_core.specs.declared.fault.CheckFault.TheVariants.{Cyclic as CyclicFault};
 ghost use Rattle.aig_core.specs.Parts.InOrder.{are_in_order, has_gates_in_order};
 ghost use Rattle.aig_core.specs.declared.circuit.TheConstants.{LARGEST as largest};
 
@@ -17,7 +18,7 @@ use crate::entry::Entry;
 use crate::fault::{CheckFault, OutOfMemory};
 use crate::listing::Listing;
 use crate::literal::Lit;
-use crate::order::gate_order;
+use crate::order::{Order, gate_order};
 use crate::var_set::VarSet;
 use std::alloc::Global;
 
@@ -148,34 +149,34 @@ fn own_literal(gate: &Gate) -> Lit
     Lit(2 * gate.var.0)
 }
 
-/// The literal of the first gate that depends on a cycle.
-fn first_cyclic(alloc: Global, circuit: &Circuit) -> Result<Option<Lit>, OutOfMemory>
+/// The least ready order of the gates, or the literal of the first one that depends on a cycle.
+fn order_of_all(alloc: Global, circuit: &Circuit) -> Result<Order, CheckFault>
     requires { IsInForm circuit.now }
-    ensures { IfOk result (λ literal. literal ≡ first_cyclic circuit.now.gates) }
+    ensures ok { OnOk result (first_cyclic circuit.now.gates ≡ None) }
+    ensures least { IfOk result (λ order. IsLeastReadyOrder circuit.now order.list) }
+    ensures err { IfErr result (λ e. IsFault e (option_map CyclicFault (first_cyclic circuit.now.gates))) }
 {
     let order = gate_order(alloc, circuit)?;
     match order.first_waiting() {
-        Some(gate) => Ok(Some(own_literal(&circuit.gates.as_slice()[gate]))),
-        None => Ok(None),
+        Some(gate) => Err(CheckFault::Cyclic(own_literal(&circuit.gates.as_slice()[gate]))),
+        None => Ok(order),
     }
 }
 
-/// The first fault of a circuit.
-pub(crate) fn find_fault(alloc: Global, circuit: &Circuit) -> Result<(), CheckFault>
+/// The first fault of a circuit. Where there is none, the order of its gates, where it had to be made.
+pub(crate) fn find_fault(alloc: Global, circuit: &Circuit) -> Result<Option<Order>, CheckFault>
     requires { IsInForm circuit.now }
     ensures ok { OnOk result (first_fault circuit.now ≡ None) }
+    ensures least { IfOk result (λ some. IfSome some (λ order. IsLeastReadyOrder circuit.now order.list)) }
     ensures err { IfErr result (λ e. IsFault e (first_fault circuit.now)) }
 {
     let (variables, in_order) = definitions(alloc, circuit)?;
     if in_order && first_undefined_end(&variables, circuit).is_none() {
-        return Ok(());
+        return Ok(None);
     }
     if let Some(literal) = first_undefined(&variables, circuit) {
         return Err(CheckFault::Undefined(literal));
     }
     drop(variables);
-    match first_cyclic(alloc, circuit)? {
-        Some(literal) => Err(CheckFault::Cyclic(literal)),
-        None => Ok(()),
-    }
+    Ok(Some(order_of_all(alloc, circuit)?))
 }

@@ -2,7 +2,7 @@ use Rattle.aig_core.proofs.Faultless.{refuted, well_formed}
 use Rattle.aig_core.proofs.checked.check.Goals as goal
 
 pub invariant_of-result : goal.invariant_of-result
-invariant_of-result c = well_formed c.args.circuit c.requires.in_form c.in-Ok.ensures.ok
+invariant_of-result c = (well_formed c.args.circuit c.requires.in_form c.in-Ok.ensures.ok, c.in-Ok.ensures.least)
 
 pub returns-in-Ok-clause-well_formed : goal.returns-in-Ok-clause-well_formed
 returns-in-Ok-clause-well_formed c = well_formed c.args.circuit c.requires.in_form c.in-Ok.ensures.ok

@@ -9,7 +9,7 @@ use Rattle.aig_order.proofs.undoing.confirm.Goals as goal
 pub returns-then-same-clause-ok : goal.returns-then-same-clause-ok
 returns-then-same-clause-ok c =
     let same = sym c.checked.ensures.value ∙ c.same.ensures.0 c.if-same.true in
-    (undoing_recovers c.args.source c.args.image.now (subst IsWellFormed c.source.view_is c.source.invariant) (subst (λ (x : Circuit). IsMappedImage c.args.source x) same c.in_ok-again.ensures)).0
+    (undoing_recovers c.args.source c.args.image.now (subst IsWellFormed c.source.view_is c.source.invariant.0) (subst (λ (x : Circuit). IsMappedImage c.args.source x) same c.in_ok-again.ensures)).0
 
 pub returns-else-same-clause-err : goal.returns-else-same-clause-err
 returns-else-same-clause-err c = inr (
