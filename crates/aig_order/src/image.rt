@@ -135,7 +135,10 @@ fn in_order(alloc: Global, circuit: &Circuit) -> Result<(Vec<Gate>, Numbers), Ou
 }
 
 /// The same of a circuit that was checked: the order that the check made serves again.
-pub(crate) fn in_checked_order(alloc: Global, checked: &Checked) -> Result<(Vec<Gate>, Numbers), OutOfMemory>
+pub(crate) fn in_checked_order(
+    alloc: Global,
+    checked: &Checked,
+) -> Result<(Vec<Gate>, Numbers), OutOfMemory>
     ensures { IfOk result (λ r. (order : List ℕ) × IsLeastReadyOrder checked.now order
         × (r.0.items ≡ taken checked.now.gates order)
         × AreNumbered r.1.noted r.1.places.items r.1.others (in_new_order checked.now order)

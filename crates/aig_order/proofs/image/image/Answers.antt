@@ -1,7 +1,6 @@
-use Rattle.std.proofs.Common.{◌≡◌, ◌∙◌, ap, ap₂, subst}
+use Rattle.std.proofs.Common.{◌≡◌, ◌∙◌, ap, ap₂}
 use Rattle.std.proofs.lemmas.Result.{IfOk-weaker}
 use Rattle.aig_core.specs.declared.circuit.Circuit.{Circuit}
-use Rattle.aig_core.specs.Wellformed.{IsWellFormed}
 use Rattle.aig_order.specs.Image.{IsBinaryImage}
 use Rattle.aig_order.specs.Parts.Renewed.{new_circuit}
 use Rattle.aig_order.specs.Parts.Numbers.{number_at}
