@@ -1,6 +1,6 @@
 -- A circuit without a fault is well formed, and a well-formed circuit has no fault.
 use Rattle.std.proofs.Common.{◌≡◌, ℕ, List, [], ◌∷◌, eqb, Bool, true, false, cond, Option, None, Some, refl, sym, ap, subst, ◌∙◌, inl, inr, ⊎_elim}
-use Rattle.std.specs.Prelude.{◌⊎◌, ◌↔◌, ◌≢◌}
+use Rattle.std.specs.Prelude.{◌⊎◌, ◌↔◌, ◌≢◌, IsTrue}
 use mathlib.Core.Bool.{◌||◌}
 use Rattle.std.specs.List.{AllByRecursion}
 use Rattle.std.proofs.lemmas.Bool.Decides.{Decides-eqb}
@@ -15,7 +15,7 @@ use Rattle.aig_core.specs.Literal.{variable_of}
 use Rattle.aig_core.specs.Wellformed.{IsAmong, AreDistinct, IsKnown, HasRank, IsWellFormed, defined_variables, used_literals}
 use Rattle.aig_core.specs.Form.{IsInForm}
 use Rattle.aig_core.specs.declared.fault.CheckFault.TheVariants.{OutOfMemory, Redefined, Undefined, Cyclic}
-use Rattle.aig_core.specs.Fault.{IsFault, first_repeat, first_unknown, with_all, is_known, first_fault}
+use Rattle.aig_core.specs.Fault.{IsFault, first_repeat, first_redefinition, first_unknown, with_all, is_known, first_fault}
 use Rattle.std.specs.Option.{option_map, option_or}
 use Rattle.aig_core.specs.Order.{first_cyclic}
 use Rattle.aig_core.proofs.LeastReady.{a_least_ready_order}
@@ -78,6 +78,27 @@ nothing_repeats s (x ∷ xs) d new =
     ∙ nothing_repeats (set.insert s x) xs d.1 (λ y a has.
     ⊎_elim (λ (e : y ≡ x). d.0 (subst (λ z. IsAmong z xs) e a)) (λ (old : set.contains s y ≡ true). new y (inr a) old) (was_there s x y has))
 
+-- the empty set has nothing
+none_in_empty : (y : ℕ) → ¬ (set.contains (set.empty {R = nat_cmp}) y ≡ true)
+none_in_empty y h = let m : set.contains (set.empty {R = nat_cmp}) y ≡ false = contains-empty nat_cmp y in cc
+
+-- of what has no fault nothing is told but want of memory
+told_of_none : (e : CheckFault) → e ≢ OutOfMemory → IsFault e None → ⊥
+told_of_none e ne h = ⊎_elim ne (λ none. cc) h
+
+-- where no repeat is told, numbers are distinct, and where one is told, they are not
+pub told_once : (xs : List ℕ) → first_repeat set.empty xs ≡ None → IsTrue true ↔ AreDistinct xs
+told_once xs none = (λ _. distinct set.empty xs none, λ _. refl)
+
+pub told_twice : (v : ℕ) (xs : List ℕ) → IsFault (Redefined v) (first_redefinition set.empty xs) → IsTrue false ↔ AreDistinct xs
+told_twice v xs told = (
+  λ is. cc,
+  λ once.
+      let none : first_repeat set.empty xs ≡ None = nothing_repeats set.empty xs once (λ y _ h. none_in_empty y h) in
+      let told_none : IsFault (Redefined v) None = subst (λ o. IsFault (Redefined v) (option_map Redefined o)) none told in
+      absurd (told_of_none (Redefined v) (λ is. cc) told_none),
+)
+
 -- what the set of all has was there before or stands in the list
 found : (s : FinSet nat_cmp) (xs : List ℕ) (y : ℕ) → set.contains (with_all s xs) y ≡ true → (set.contains s y ≡ true) ⊎ IsAmong y xs
 found s [] y h = inl h
@@ -95,9 +116,6 @@ taken s [] y a = absurd a
 taken s (x ∷ xs) y a =
     ⊎_elim (λ (e : y ≡ x). kept (set.insert s x) xs y (subst (λ z. set.contains (set.insert s x) z ≡ true) (sym e) (has_new s x)))
     (taken (set.insert s x) xs y) a
-
-none_in_empty : (y : ℕ) → ¬ (set.contains (set.empty {R = nat_cmp}) y ≡ true)
-none_in_empty y h = let m : set.contains (set.empty {R = nat_cmp}) y ≡ false = contains-empty nat_cmp y in cc
 
 known_is : (vars : List ℕ) (lit : ℕ) → is_known (with_all set.empty vars) lit ≡ true → IsKnown vars lit
 known_is vars lit h =
@@ -164,8 +182,5 @@ pub faultless_is_well_formed : (c : Circuit) → IsInForm c → (first_fault c �
 faultless_is_well_formed c form = (well_formed c form, faultless c)
 
 -- a well-formed circuit is told nothing but want of memory
-told_of_none : (e : CheckFault) → e ≢ OutOfMemory → IsFault e None → ⊥
-told_of_none e ne h = ⊎_elim ne (λ none. cc) h
-
 pub refuted : (e : CheckFault) (c : Circuit) → IsWellFormed c → e ≢ OutOfMemory → IsFault e (first_fault c) → ⊥
 refuted e c good ne h = told_of_none e ne (subst (IsFault e) (faultless c good) h)

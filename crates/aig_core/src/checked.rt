@@ -2,13 +2,13 @@
 ghost use Rattle.std.specs.Prelude.{◌≡◌, ◌≢◌, ◌↔◌, IsTrue, IfOk, IfErr, OnOk, None};
 ghost use Rattle.std.specs.Option.{IfSome};
 ghost use Rattle.aig_core.specs.declared.fault.CheckFault.TheVariants.{OutOfMemory as WantOfMemory};
-ghost use Rattle.aig_core.specs.Wellformed.{IsWellFormed};
+ghost use Rattle.aig_core.specs.Wellformed.{AreDistinct, IsWellFormed, defined_variables};
 ghost use Rattle.aig_core.specs.Form.{IsInForm};
 ghost use Rattle.aig_core.specs.Order.{IsLeastReadyOrder};
 ghost use Rattle.aig_core.specs.Fault.{first_fault, IsFault};
 
 use crate::checked::copies::copy_circuit;
-use crate::checked::faults::find_fault;
+use crate::checked::faults::{find_fault, find_redefinition};
 use crate::circuit::Circuit;
 use crate::fault::{CheckFault, OutOfMemory};
 use crate::order::Order;
@@ -102,6 +102,17 @@ pub fn check(alloc: Global, circuit: Circuit) -> Result<Checked, (Circuit, Check
     match find_fault(alloc, &circuit) {
         Ok(order) => Ok(Checked { circuit, order }),
         Err(fault) => Err((circuit, fault)),
+    }
+}
+
+/// Whether no variable of a circuit is defined twice.
+pub fn is_defined_once(alloc: Global, circuit: &Circuit) -> Result<bool, OutOfMemory>
+    ensures { IfOk result (λ once. IsTrue once ↔ AreDistinct (defined_variables circuit.now)) }
+{
+    match find_redefinition(alloc, circuit) {
+        Ok(()) => Ok(true),
+        Err(CheckFault::Redefined(_)) => Ok(false),
+        Err(_) => Err(OutOfMemory),
     }
 }
 

@@ -20,7 +20,7 @@ mod transfer;
 mod var_set;
 
 pub use crate::block::{Block, ROOM};
-pub use crate::checked::{Checked, check, copy_comment, copy_symbols, same};
+pub use crate::checked::{Checked, check, copy_comment, copy_symbols, is_defined_once, same};
 pub use crate::circuit::{Circuit, Gate, Kind, LARGEST, Latch, Symbol};
 pub use crate::device::{DeviceFault, Sink, Source};
 pub use crate::digits::MOST_DIGITS;

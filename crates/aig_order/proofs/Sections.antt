@@ -24,7 +24,7 @@ latch_numbers vs [] = refl
 latch_numbers vs (l ∷ ls) = ap (λ (ns : List ℕ). renumbered vs l.var ∷ ns) (latch_numbers vs ls)
 
 -- what holds of all operands holds of those of each gate
-of_gate : (P : ℕ → Type 0) (gates : List Gate) → AllByRecursion P (flat_map operands gates) → (i l : ℕ) → i < length gates → IsAmong l (operands (at gates i)) → P l
+pub of_gate : (P : ℕ → Type 0) (gates : List Gate) → AllByRecursion P (flat_map operands gates) → (i l : ℕ) → i < length gates → IsAmong l (operands (at gates i)) → P l
 of_gate P [] all i l there a = absurd (omega arith)
 of_gate P (g ∷ gs) all zero l there a = each P (operands g) (front P (operands g) (flat_map operands gs) all) l a
 of_gate P (g ∷ gs) all (suc i) l there a = of_gate P gs (back P (operands g) (flat_map operands gs) all) i l (omega arith) a

@@ -43,7 +43,7 @@ numbers_all P [] all = tt
 numbers_all P (m ∷ ms) all = (all.0, numbers_all P ms all.1)
 
 -- numbers of which each is at one place
-distinct_by_places : (xs : List ℕ) → ((i k : ℕ) → i < length xs → k < length xs → get_or xs i 0 ≡ get_or xs k 0 → i ≡ k) → AreDistinct xs
+pub distinct_by_places : (xs : List ℕ) → ((i k : ℕ) → i < length xs → k < length xs → get_or xs i 0 ≡ get_or xs k 0 → i ≡ k) → AreDistinct xs
 distinct_by_places [] once = tt
 distinct_by_places (x ∷ xs) once = (
   λ a. let later = somewhere x xs a in

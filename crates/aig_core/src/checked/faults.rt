@@ -111,6 +111,19 @@ fn definition_count(circuit: &Circuit) -> usize {
         .saturating_add(circuit.gates.len())
 }
 
+/// The variables that inputs and latches define, unless one of them is defined twice.
+fn definitions_before_gates(alloc: Global, circuit: &Circuit) -> Result<VarSet, CheckFault>
+    ensures variables { IfOk result (λ variables.
+        variables ≡ with_all set.empty (circuit.now.inputs ++ map (λ l. l.var) circuit.now.latches)) }
+    ensures ok { OnOk result (first_repeat set.empty (circuit.now.inputs ++ map (λ l. l.var) circuit.now.latches) ≡ None) }
+    ensures err { IfErr result (λ e. IsFault e (first_redefinition set.empty (defined_variables circuit.now))) }
+{
+    let mut variables = VarSet::new(alloc, definition_count(circuit), circuit.max_var)?;
+    define_all(&mut variables, &circuit.inputs)?;
+    define_all(&mut variables, &circuit.latches)?;
+    Ok(variables)
+}
+
 /// The variables that a circuit defines, unless one of them is defined twice, and whether its gates stand after those
 /// that they use.
 fn definitions(alloc: Global, circuit: &Circuit) -> Result<(VarSet, bool), CheckFault>
@@ -119,11 +132,18 @@ fn definitions(alloc: Global, circuit: &Circuit) -> Result<(VarSet, bool), Check
     ensures ok { OnOk result (first_repeat set.empty (defined_variables circuit.now) ≡ None) }
     ensures err { IfErr result (λ e. IsFault e (first_redefinition set.empty (defined_variables circuit.now))) }
 {
-    let mut variables = VarSet::new(alloc, definition_count(circuit), circuit.max_var)?;
-    define_all(&mut variables, &circuit.inputs)?;
-    define_all(&mut variables, &circuit.latches)?;
+    let mut variables = definitions_before_gates(alloc, circuit)?;
     let in_order = define_in_order(&mut variables, &circuit.gates)?;
     Ok((variables, in_order))
+}
+
+/// The first redefinition of a circuit. Unlike `definitions`, it does not look at what gates use.
+pub(crate) fn find_redefinition(alloc: Global, circuit: &Circuit) -> Result<(), CheckFault>
+    ensures ok { OnOk result (first_repeat set.empty (defined_variables circuit.now) ≡ None) }
+    ensures err { IfErr result (λ e. IsFault e (first_redefinition set.empty (defined_variables circuit.now))) }
+{
+    let mut variables = definitions_before_gates(alloc, circuit)?;
+    define_all(&mut variables, &circuit.gates)
 }
 
 /// The first next literal or output of a circuit, of those that are no constants and over none of the variables.

@@ -1,36 +1,25 @@
 use Rattle.std.proofs.Common.{◌∙◌, ◌∷◌, [], ap}
 use Rattle.std.proofs.lemmas.Result.{err_from_is_err_and}
-use Rattle.aig_core.proofs.Sections.{told_of_inputs, told_of_latches, told_of_gates, gates_repeat, all_seen, before_gates}
+use Rattle.aig_core.proofs.Sections.{told_of_gates, gates_repeat, all_seen}
 use Rattle.aig_core.specs.declared.circuit.Gate.{Gate}
 use Rattle.aig_core.specs.Wellformed.{operands}
 use Rattle.aig_core.specs.Parts.InOrder.{are_in_order}
 use Rattle.aig_core.proofs.checked.faults.definitions.Goals as goal
 
-pub returns-in_err-define_all-clause-err : goal.returns-in_err-define_all-clause-err
-returns-in_err-define_all-clause-err c =
-    let h = err_from_is_err_and c.from_residual-in_err-define_all.result c.from_residual-in_err-define_all.ensures.1 in
-    rw (h.1, h.2) (told_of_inputs c.args.circuit.now _ (rw (← c.in_ok-variables.ensures) c.in_err-define_all.ensures.err))
-
-pub returns-in_err-define_all-2-clause-err : goal.returns-in_err-define_all-2-clause-err
-returns-in_err-define_all-2-clause-err c =
-    let h = err_from_is_err_and c.from_residual-in_err-define_all-2.result c.from_residual-in_err-define_all-2.ensures.1 in
-    rw (h.1, h.2) (told_of_latches c.args.circuit.now _ (rw (← c.in_ok-variables.ensures) c.in_ok-define_all.ensures.seen) (rw (← c.in_ok-variables.ensures) c.in_ok-define_all.ensures.ok) _ c.in_err-define_all-2.ensures.err)
-
 pub returns-in_err-in_order-clause-err : goal.returns-in_err-in_order-clause-err
 returns-in_err-in_order-clause-err c =
     let h = err_from_is_err_and c.from_residual-in_err-in_order.result c.from_residual-in_err-in_order.ensures.1 in
-    rw (h.1, h.2) (told_of_gates c.args.circuit.now _ (rw (← c.in_ok-variables.ensures) c.in_ok-define_all.ensures.seen) (rw (← c.in_ok-variables.ensures) c.in_ok-define_all.ensures.ok) _ c.in_ok-define_all-2.ensures.seen c.in_ok-define_all-2.ensures.ok _ c.in_err-in_order.ensures.err)
+    rw (h.1, h.2) (told_of_gates c.args.circuit.now _ c.in_ok-variables.ensures.variables c.in_ok-variables.ensures.ok _ c.in_err-in_order.ensures.err)
 
 pub returns-clause-variables : goal.returns-clause-variables
 returns-clause-variables c =
-    c.in_ok-in_order.ensures.seen ∙ all_seen c.args.circuit.now _ (rw (← c.in_ok-variables.ensures) c.in_ok-define_all.ensures.seen) (rw (← c.in_ok-variables.ensures) c.in_ok-define_all.ensures.ok) _ c.in_ok-define_all-2.ensures.seen c.in_ok-define_all-2.ensures.ok
+    c.in_ok-in_order.ensures.seen ∙ all_seen c.args.circuit.now _ c.in_ok-variables.ensures.variables c.in_ok-variables.ensures.ok
 
 pub returns-clause-ok : goal.returns-clause-ok
 returns-clause-ok c =
-    gates_repeat c.args.circuit.now _ (rw (← c.in_ok-variables.ensures) c.in_ok-define_all.ensures.seen) (rw (← c.in_ok-variables.ensures) c.in_ok-define_all.ensures.ok) _ c.in_ok-define_all-2.ensures.seen c.in_ok-define_all-2.ensures.ok ∙ c.in_ok-in_order.ensures.ok
+    gates_repeat c.args.circuit.now _ c.in_ok-variables.ensures.variables c.in_ok-variables.ensures.ok ∙ c.in_ok-in_order.ensures.ok
 
 pub returns-clause-in_order : goal.returns-clause-in_order
 returns-clause-in_order c =
     c.in_ok-in_order.ensures.in_order
-    ∙ ap (λ before. are_in_order (λ (g : Gate). g.var ∷ []) operands before c.args.circuit.now.gates)
-    (before_gates c.args.circuit.now _ (rw (← c.in_ok-variables.ensures) c.in_ok-define_all.ensures.seen) (rw (← c.in_ok-variables.ensures) c.in_ok-define_all.ensures.ok) _ c.in_ok-define_all-2.ensures.seen c.in_ok-define_all-2.ensures.ok)
+    ∙ ap (λ before. are_in_order (λ (g : Gate). g.var ∷ []) operands before c.args.circuit.now.gates) c.in_ok-variables.ensures.variables
