@@ -44,7 +44,7 @@ module _ (gates : List Gate) where
   taken_has (g ∷ order) h a = ⊎_elim (λ (e : h ≡ g). inl (ap (λ i. (at gates i).var) e)) (λ (i : IsAmong h order). inr (taken_has order h i)) a
 
   -- a variable that is defined once is that of one gate
-  same_gate : AreDistinct (variables gates) → (g h : ℕ) → g < length gates → h < length gates → (at gates g).var ≡ (at gates h).var → g ≡ h
+  pub same_gate : AreDistinct (variables gates) → (g h : ℕ) → g < length gates → h < length gates → (at gates g).var ≡ (at gates h).var → g ≡ h
   same_gate once g h g_there h_there e =
       let told : Some g ≡ Some h = sym (gate_here gates once g g_there) ∙ ap (gate_of gates) e ∙ gate_here gates once h h_there in
       let same : g ≡ h = cc in
