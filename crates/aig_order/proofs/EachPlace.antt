@@ -58,14 +58,20 @@ module _ (gates : List MappedGate) (once : AreDistinct (places gates)) (below : 
   place_at : (i : ℕ) → i < length gates → get_or (places gates) i 0 ≡ place_of i
   place_at i low = get_or-map (λ (g : MappedGate). g.place) gates i no_told 0 low
 
+  -- no two gates have one place
+  pub differ : (k i : ℕ) → k < i → i < length gates → place_of k ≢ place_of i
+  differ k i before low e =
+      distinct_at (places gates) once k i before (omega (arith, low, many)) (place_at k (omega (arith, before, low)) ∙ e ∙ sym (place_at i low))
+
+  pub place_below : (i : ℕ) → i < length gates → place_of i < length gates
+  place_below i low = told_each (λ (g : MappedGate). g.place < length gates) gates below i low
+
   -- each gate is at the position of its place
   pub by_gate : (i : ℕ) → i < length gates → (place_of i < length gates) × (position_at_place gates (place_of i) ≡ i)
   by_gate i low = (
-    told_each (λ (g : MappedGate). g.place < length gates) gates below i low,
+    place_below i low,
     position_or_len_is (λ (g : MappedGate). eqb g.place (place_of i)) gates i no_told (omega (arith, low))
-    (λ k before. ne_eqb (place_of k) (place_of i) (λ e.
-    distinct_at (places gates) once k i before (omega (arith, low, many)) (place_at k (omega (arith, before, low)) ∙ e ∙ sym (place_at i low))))
-    (λ _. (Decides-eqb (place_of i) (place_of i)).1 refl),
+    (λ k before. ne_eqb (place_of k) (place_of i) (differ k i before low)) (λ _. (Decides-eqb (place_of i) (place_of i)).1 refl),
   )
 
   -- no place is missing, since there are as many gates

@@ -24,3 +24,11 @@ ready_at first gates place = ready_from first (slice_index_or gates place (recor
 -- the gate at each place comes first in the source of all that may have this place
 abbrev pub AreTakenInTurn : ℕ → List Gate → List ℕ → Type 0
 AreTakenInTurn first gates places = (p q : ℕ) → q < length gates → p ≤ q → ready_at first gates q ≤ p → slice_index_or places p 0 ≤ slice_index_or places q 0
+
+-- from this place on, up to another one, no position is above the one there
+abbrev pub IsClear : List ℕ → ℕ → ℕ → Type 0
+IsClear places from to = (p : ℕ) → from ≤ p → p < to → slice_index_or places p 0 ≤ slice_index_or places to 0
+
+-- each place has a link: a place from which on up to it no position is above the one there
+abbrev pub AreLinks : List ℕ → List ℕ → Type 0
+AreLinks places links = (j : ℕ) → j < length links → (slice_index_or links j 0 ≤ j) × IsClear places (slice_index_or links j 0) j
