@@ -71,7 +71,7 @@ module _ (gates : List MappedGate) (once : AreDistinct (places gates)) (below : 
   by_gate i low = (
     place_below i low,
     position_or_len_is (λ (g : MappedGate). eqb g.place (place_of i)) gates i no_told (omega (arith, low))
-    (λ k before. ne_eqb (place_of k) (place_of i) (differ k i before low)) (λ _. (Decides-eqb (place_of i) (place_of i)).1 refl),
+        (λ k before. ne_eqb (place_of k) (place_of i) (differ k i before low)) (λ _. (Decides-eqb (place_of i) (place_of i)).1 refl),
   )
 
   -- no place is missing, since there are as many gates
