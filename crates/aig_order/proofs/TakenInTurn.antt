@@ -17,7 +17,7 @@ use Rattle.aig_order.proofs.LeastFirst as least
 use Rattle.aig_order.proofs.NumbersBack as back
 use Rattle.aig_order.proofs.NumbersBack.{IsFit, gates_had, start_of}
 use Rattle.aig_order.proofs.OneByOne.{ordered_at}
-use Rattle.aig_order.proofs.OperandsHad.{operand_variables, from_either, by_left}
+use Rattle.aig_order.proofs.OperandsHad.{from_either, by_left}
 
 module _ (b : MapBlock) (x : Circuit) (comment : Option (List ℕ)) (fit : IsFit b x)
     (once : AreDistinct (defined_variables (undone b comment x))) where
