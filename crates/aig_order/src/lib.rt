@@ -10,6 +10,7 @@ mod map_reading;
 mod map_text;
 mod mapped;
 mod numbers;
+mod turns;
 mod undoing;
 mod undone;
 

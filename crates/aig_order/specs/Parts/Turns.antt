@@ -13,8 +13,8 @@ position_at_place gates place = position_or_len (λ (g : MappedGate). g.place ==
 abbrev pub positions : List MappedGate → List ℕ
 positions gates = map (position_at_place gates) (range_with_len 0 (length gates))
 
--- The first place that a gate of the image may have, where the first gate has this variable: the one behind the gate that
--- its larger operand is over, or 0 where that is over none.
+-- The first place that a gate of the image may have, where the first gate has this variable: the one behind the gate
+-- that its larger operand is over, or 0 where that is over none.
 abbrev pub ready_from : ℕ → Gate → ℕ
 ready_from first g = suc (variable_of g.left) - first
 
@@ -23,4 +23,15 @@ ready_at first gates place = ready_from first (slice_index_or gates place (recor
 
 -- the gate at each place comes first in the source of all that may have this place
 abbrev pub AreTakenInTurn : ℕ → List Gate → List ℕ → Type 0
-AreTakenInTurn first gates places = (p q : ℕ) → q < length gates → p ≤ q → ready_at first gates q ≤ p → slice_index_or places p 0 ≤ slice_index_or places q 0
+AreTakenInTurn first gates places =
+    (p q : ℕ) → q < length gates → p ≤ q → ready_at first gates q ≤ p
+    → slice_index_or places p 0 ≤ slice_index_or places q 0
+
+-- from this place on, up to another one, no position is above the one there
+abbrev pub IsClear : List ℕ → ℕ → ℕ → Type 0
+IsClear places from to = (p : ℕ) → from ≤ p → p < to → slice_index_or places p 0 ≤ slice_index_or places to 0
+
+-- each place has a link: a place from which on up to it no position is above the one there
+abbrev pub AreLinks : List ℕ → List ℕ → Type 0
+AreLinks places links =
+    (j : ℕ) → j < length links → (slice_index_or links j 0 ≤ j) × IsClear places (slice_index_or links j 0) j
