@@ -26,7 +26,7 @@ found_there v (w ∷ vs) a =
     (eqb_tells w v)
 
 -- the number that a place gives, carried back
-by_place : (vs : List ℕ) (n : ℕ) → source_variable vs (1 + n) ≡ get_or vs n 0
+pub by_place : (vs : List ℕ) (n : ℕ) → source_variable vs (1 + n) ≡ get_or vs n 0
 by_place vs n =
     let less : 1 + n - 1 ≡ n = omega arith in
     rw (ne_eqb (1 + n) 0 (λ e. absurd (omega (arith, e)))) (ap (λ k. get_or vs k 0) less)

@@ -44,7 +44,7 @@ module _ (count : ℕ) (needs : ℕ → List ℕ) (falls : (g h : ℕ) → g < c
   all_of_them g there served = among g 0 count (omega arith) (omega (arith, there))
 
 -- gates in binary order need only those before them
-ordered_at : (v : ℕ) (gates : List Gate) → AreOrderedGates v gates → (i : ℕ) → i < length gates → ((at gates i).var ≡ v + i) × ((at gates i).left < 2 * (at gates i).var) × ((at gates i).right ≤ (at gates i).left)
+pub ordered_at : (v : ℕ) (gates : List Gate) → AreOrderedGates v gates → (i : ℕ) → i < length gates → ((at gates i).var ≡ v + i) × ((at gates i).left < 2 * (at gates i).var) × ((at gates i).right ≤ (at gates i).left)
 ordered_at v [] ordered i there = absurd (omega arith)
 ordered_at v (g ∷ gs) ordered zero there = (omega (arith, ordered.0), ordered.1, ordered.2)
 ordered_at v (g ∷ gs) ordered (suc i) there =
