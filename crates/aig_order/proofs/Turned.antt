@@ -62,13 +62,13 @@ module _ (x : Circuit) (b : MapBlock) (comment : Option (List ℕ)) (ordered : I
     abbrev new : List ℕ
     new = in_new_order source order
 
-    gates_many : length source.gates ≡ length b.gates
+    pub gates_many : length source.gates ≡ length b.gates
     gates_many = length-map b.gates (source_gate vs x.gates)
 
-    order_many : length order ≡ length b.gates
+    pub order_many : length order ≡ length b.gates
     order_many = length-map-range_with_len (position_at_place b.gates) 0 (length b.gates)
 
-    order_at : (p : ℕ) → p < length b.gates → get_or order p 0 ≡ position_at_place b.gates p
+    pub order_at : (p : ℕ) → p < length b.gates → get_or order p 0 ≡ position_at_place b.gates p
     order_at p below = get_or-map-range_with_len (position_at_place b.gates) 0 (length b.gates) p p 0 below (omega arith)
 
     -- each place is that of a gate
@@ -77,7 +77,7 @@ module _ (x : Circuit) (b : MapBlock) (comment : Option (List ℕ)) (ordered : I
         let there : get_or order p 0 < length source.gates = (by_order source order good least p (omega (arith, below, order_many))).0 in
         omega (arith, there, order_at p below, gates_many)
 
-    new_is : new ≡ vs
+    pub new_is : new ≡ vs
     new_is =
         let gates : variables (taken source.gates order) ≡ by_places =
         taken_by_place b.gates (source_gate vs x.gates) (λ m. refl) 0 (length b.gates) (λ p low high. one_there p (omega (arith, high))) in
