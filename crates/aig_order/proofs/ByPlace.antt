@@ -1,7 +1,7 @@
 -- The gate that is told for a place: the first one that has it.
-use Rattle.std.proofs.Common.{◌≡◌, ◌+◌, ◌<◌, ◌≤◌, ℕ, zero, suc, List, [], ◌∷◌, Option, Some, false, eqb, length, get_or, map}
+use Rattle.std.proofs.Common.{◌≡◌, ◌+◌, ◌<◌, ◌≤◌, ℕ, zero, suc, List, ◌∷◌, Option, false, eqb, length, get_or, map}
 use Rattle.std.proofs.Common.{refl, sym, ap, ap₂, ◌∙◌, arith}
-use Rattle.std.specs.List.{range_with_len, slice_get}
+use Rattle.std.specs.List.{range_with_len}
 use Rattle.std.specs.Option.{option_map, unwrap_or}
 use Rattle.std.proofs.lemmas.Bool.Decides.{Decides-eqb}
 use Rattle.std.proofs.lemmas.List.{get_or-map}
@@ -9,7 +9,7 @@ use Rattle.std.proofs.lemmas.List.Folds.{find_at}
 use Rattle.std.proofs.lemmas.List.Sums.{passes_at_first}
 use Rattle.std.proofs.lemmas.Option.{slice_get-get_or}
 use Rattle.aig_core.specs.declared.circuit.Gate.{Gate}
-use Rattle.aig_core.proofs.Ranked.{at, no_gate, variables}
+use Rattle.aig_core.proofs.Ranked.{no_gate, variables}
 use Rattle.aig_order.specs.declared.map_block.MappedGate.{MappedGate}
 use Rattle.aig_order.specs.Renumbering.{taken}
 use Rattle.aig_order.specs.Parts.Turns.{position_at_place}

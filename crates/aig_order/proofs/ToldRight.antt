@@ -1,6 +1,6 @@
 -- The block of a mapped image tells no exchange of equal operands, and of a comment section where a comment follows.
-use Rattle.std.proofs.Common.{◌≡◌, ◌≢◌, ◌+◌, ◌-◌, ◌<◌, ℕ, List, [], Bool, true, ltb, Option, None, Some, Ok, length, get_or, map, max, min}
-use Rattle.std.proofs.Common.{refl, sym, ap, ap₂, subst, ◌∙◌, ◌⊎◌, inl, inr, arith}
+use Rattle.std.proofs.Common.{◌≡◌, ◌≢◌, ◌+◌, ◌<◌, ℕ, List, [], true, ltb, Option, None, Some, Ok, length, get_or, map, max, min}
+use Rattle.std.proofs.Common.{refl, sym, ap, subst, ◌∙◌, ◌⊎◌, inl, inr, arith}
 use Rattle.std.specs.Prelude.{is_some}
 use Rattle.std.specs.Option.{unwrap_or}
 use Rattle.std.proofs.Math.Nat.{max-eq_right, min-eq_left}
@@ -16,7 +16,7 @@ use Rattle.aig_order.specs.Image.{gate_image}
 use Rattle.aig_order.specs.MapBlock.{mapped_gate, map_block, mapped_by, IsMappedImage}
 use Rattle.aig_order.specs.MapReading.{block_reading}
 use Rattle.aig_order.specs.Parts.Confirmed.{TellsExchanges, TellsComment}
-use Rattle.aig_order.specs.Renumbering.{in_new_order, renumbered, renumbered_literal, taken}
+use Rattle.aig_order.specs.Renumbering.{in_new_order, renumbered_literal, taken}
 use Rattle.aig_order.proofs.Carried.{by_order, by_gate}
 use Rattle.aig_order.proofs.Members.{not_more}
 use Rattle.aig_order.proofs.OneSource.{mapped_reading, one_reading}

@@ -1,6 +1,6 @@
 -- The undone circuit's variables in their new order are those that the block tells, where its places are the least ready
 -- order of the circuit.
-use Rattle.std.proofs.Common.{◌≡◌, ◌+◌, ◌-◌, ◌<◌, ◌≤◌, ℕ, List, [], ◌∷◌, ◌++◌, Option, length, length-append, get_or, map}
+use Rattle.std.proofs.Common.{◌≡◌, ◌+◌, ◌-◌, ◌<◌, ◌≤◌, ℕ, List, [], ◌++◌, Option, length, length-append, get_or, map}
 use Rattle.std.proofs.Common.{refl, sym, ap, ap₂, subst, ◌∙◌, append_assoc, arith}
 use Rattle.std.specs.List.{range_with_len}
 use Rattle.std.proofs.lemmas.List.{length-map, get_or-map}
@@ -13,13 +13,12 @@ use Rattle.aig_core.specs.Wellformed.{IsAmong, AreDistinct, IsVariableUpTo, IsWe
 use Rattle.aig_core.proofs.Fitting.{each}
 use Rattle.aig_core.proofs.Ranked.{at, no_gate, variables}
 use Rattle.aig_binary.specs.BinaryOrder.{IsInBinaryOrder}
-use Rattle.aig_order.specs.declared.map_block.MappedGate.{MappedGate}
 use Rattle.aig_order.specs.declared.map_block.MapBlock.{MapBlock}
 use Rattle.aig_order.specs.Image.{latch_image, gate_image}
 use Rattle.aig_order.specs.MapReading.{HasCountsOf}
 use Rattle.aig_order.specs.Parts.Turns.{positions, position_at_place}
 use Rattle.aig_order.specs.Renumbering.{in_new_order, renumbered, taken}
-use Rattle.aig_order.specs.Undone.{source_variables, source_variable, source_latch, source_gate, undone, variable_at_place}
+use Rattle.aig_order.specs.Undone.{source_variables, source_variable, source_gate, undone, variable_at_place}
 use Rattle.aig_order.proofs.ByPlace.{told_at, none_told, has_place, taken_by_place}
 use Rattle.aig_order.proofs.Carried.{by_order, by_gate}
 use Rattle.aig_order.proofs.Members.{new_once, is_defined, not_more}
