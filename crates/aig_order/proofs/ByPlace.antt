@@ -25,7 +25,8 @@ module _ (ms : List MappedGate) (p : ℕ) (below : position_at_place ms p < leng
   -- it has the place
   pub has_place : (told_at ms (position_at_place ms p)).place ≡ p
   has_place =
-      (Decides-eqb (told_at ms (position_at_place ms p)).place p).0 (passes_at_first (λ (m : MappedGate). eqb m.place p) ms none_told below)
+      (Decides-eqb (told_at ms (position_at_place ms p)).place p).0
+      (passes_at_first (λ (m : MappedGate). eqb m.place p) ms none_told below)
 
   -- and the variable of the place
   pub has_variable : variable_at_place ms p ≡ (told_at ms (position_at_place ms p)).var
@@ -34,13 +35,17 @@ module _ (ms : List MappedGate) (p : ℕ) (below : position_at_place ms p < leng
       (find_at (λ (m : MappedGate). eqb m.place p) ms ∙ slice_get-get_or ms (position_at_place ms p) none_told below)
 
 -- gates with the variables that are told, taken by their places
-pub taken_by_place : (ms : List MappedGate) (make : MappedGate → Gate) → ((m : MappedGate) → (make m).var ≡ m.var) → (a n : ℕ)
+pub taken_by_place : (ms : List MappedGate) (make : MappedGate → Gate) → ((m : MappedGate) → (make m).var ≡ m.var)
+    → (a n : ℕ)
     → ((p : ℕ) → a ≤ p → p < a + n → position_at_place ms p < length ms)
-    → variables (taken (map make ms) (map (position_at_place ms) (range_with_len a n))) ≡ map (variable_at_place ms) (range_with_len a n)
+    → variables (taken (map make ms) (map (position_at_place ms) (range_with_len a n)))
+    ≡ map (variable_at_place ms) (range_with_len a n)
 taken_by_place ms make same a zero there = refl
 taken_by_place ms make same a (suc n) there =
     let below : position_at_place ms a < length ms = there a (omega arith) (omega arith) in
     let at_place : ℕ = position_at_place ms a in
     ap₂ (λ (v : ℕ) (vs : List ℕ). v ∷ vs)
-    (ap (λ (g : Gate). g.var) (get_or-map make ms at_place none_told no_gate below) ∙ same (told_at ms at_place) ∙ sym (has_variable ms a below))
+    (ap (λ (g : Gate). g.var) (get_or-map make ms at_place none_told no_gate below)
+    ∙ same (told_at ms at_place)
+    ∙ sym (has_variable ms a below))
     (taken_by_place ms make same (a + 1) n (λ p low high. there p (omega (arith, low)) (omega (arith, high))))

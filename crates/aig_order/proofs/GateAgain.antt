@@ -1,5 +1,6 @@
 -- A gate of the undone circuit has the image that it was undone from, and is told as it was told.
-use Rattle.std.proofs.Common.{◌≡◌, ◌≢◌, ◌+◌, ◌-◌, ◌*◌, ◌≤◌, ℕ, List, Bool, true, false, cond, ltb, length, get_or, max, min}
+use Rattle.std.proofs.Common.{◌≡◌, ◌≢◌, ◌+◌, ◌-◌, ◌*◌, ◌≤◌, ℕ, List, Bool, true, false, cond, ltb, length, get_or, max}
+use Rattle.std.proofs.Common.{min}
 use Rattle.std.proofs.Common.{refl, ap, ap₂, ◌∙◌, arith}
 use Rattle.std.proofs.Math.Nat.{max-eq_left, max-eq_right, min-eq_left, min-eq_right}
 use Rattle.std.proofs.lemmas.Bool.{lt-ltb, le-ltb}

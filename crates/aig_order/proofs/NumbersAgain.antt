@@ -1,5 +1,6 @@
 -- Numbers, carried back to the variables that had them, are given to these variables again.
-use Rattle.std.proofs.Common.{◌≡◌, ◌+◌, ◌*◌, ◌/◌, ◌%◌, ◌<◌, ◌≤◌, ℕ, zero, suc, List, [], ◌∷◌, ◌++◌, length, length-append}
+use Rattle.std.proofs.Common.{◌≡◌, ◌+◌, ◌*◌, ◌/◌, ◌%◌, ◌<◌, ◌≤◌, ℕ, zero, suc, List, [], ◌∷◌, ◌++◌, length}
+use Rattle.std.proofs.Common.{length-append}
 use Rattle.std.proofs.Common.{get_or, map, take, drop, refl, sym, ap, ap₂, ◌∙◌, append_assoc, arith}
 use Rattle.std.specs.List.{AllByRecursion, range_with_len}
 use Rattle.std.proofs.Math.Seq.{get_or-append_seam}
@@ -57,12 +58,14 @@ module _ (vs : List ℕ) (once : AreDistinct vs) (some : (v : ℕ) → IsAmong v
   pub variables_again : (ns : List ℕ) → AllByRecursion (IsVariableUpTo (length vs)) ns
       → map (renumbered vs) (map (source_variable vs) ns) ≡ ns
   variables_again [] fit = refl
-  variables_again (n ∷ ns) fit = ap₂ (λ (x : ℕ) (xs : List ℕ). x ∷ xs) (variable_again n fit.0.1) (variables_again ns fit.1)
+  variables_again (n ∷ ns) fit =
+      ap₂ (λ (x : ℕ) (xs : List ℕ). x ∷ xs) (variable_again n fit.0.1) (variables_again ns fit.1)
 
   pub literals_again : (ls : List ℕ) → AllByRecursion (IsLiteralUpTo (length vs)) ls
       → map (renumbered_literal vs) (map (source_literal vs) ls) ≡ ls
   literals_again [] fit = refl
-  literals_again (l ∷ ls) fit = ap₂ (λ (x : ℕ) (xs : List ℕ). x ∷ xs) (literal_again l fit.0) (literals_again ls fit.1)
+  literals_again (l ∷ ls) fit =
+      ap₂ (λ (x : ℕ) (xs : List ℕ). x ∷ xs) (literal_again l fit.0) (literals_again ls fit.1)
 
   pub latches_again : (ls : List Latch) → AllByRecursion (IsVariableUpTo (length vs)) (map (λ (l : Latch). l.var) ls)
       → AllByRecursion (IsLiteralUpTo (length vs)) (map (λ (l : Latch). l.next) ls)

@@ -1,5 +1,6 @@
 -- The block of a mapped image tells no exchange of equal operands, and of a comment section where a comment follows.
-use Rattle.std.proofs.Common.{◌≡◌, ◌≢◌, ◌+◌, ◌<◌, ℕ, List, [], true, ltb, Option, None, Some, Ok, length, get_or, map, max, min}
+use Rattle.std.proofs.Common.{◌≡◌, ◌≢◌, ◌+◌, ◌<◌, ℕ, List, [], true, ltb, Option, None, Some, Ok, length, get_or, map}
+use Rattle.std.proofs.Common.{max, min}
 use Rattle.std.proofs.Common.{refl, sym, ap, subst, ◌∙◌, ◌⊎◌, inl, inr, arith}
 use Rattle.std.specs.Prelude.{is_some}
 use Rattle.std.specs.Option.{unwrap_or}
@@ -15,7 +16,7 @@ use Rattle.aig_order.specs.declared.map_block.MapBlock.{MapBlock}
 use Rattle.aig_order.specs.Image.{gate_image}
 use Rattle.aig_order.specs.MapBlock.{mapped_gate, map_block, mapped_by, IsMappedImage}
 use Rattle.aig_order.specs.MapReading.{block_reading}
-use Rattle.aig_order.specs.Parts.Confirmed.{TellsExchanges, TellsComment}
+use Rattle.aig_order.specs.Parts.Confirmed.{HasTwoOperands, TellsExchanges, TellsComment}
 use Rattle.aig_order.specs.Renumbering.{in_new_order, renumbered_literal, taken}
 use Rattle.aig_order.proofs.Carried.{by_order, by_gate}
 use Rattle.aig_order.proofs.Members.{not_more}
@@ -54,22 +55,24 @@ module _ (c : Circuit) (order : List ℕ) (good : IsWellFormed c) (least : IsLea
 
   -- a gate that is told as exchanged has an image with two operands
   two_operands : (i : ℕ) → i < length c.gates → (tell (at c.gates i)).exchanged ≡ true
-      → (get_or images (tell (at c.gates i)).place no_gate).left ≢ (get_or images (tell (at c.gates i)).place no_gate).right
+      → HasTwoOperands (at images (tell (at c.gates i)).place)
   two_operands i below is same =
       let g : Gate = at c.gates i in
       let there : get_or images (tell g).place no_gate ≡ gate_image vs g =
-      image_there c.gates order vs start (not_more c order good least) (by_order c order good least) (by_gate c order good least) i below in
+      image_there c.gates order vs start (not_more c order good least) (by_order c order good least)
+      (by_gate c order good least) i below in
       apart (renumbered_literal vs g.left) (renumbered_literal vs g.right) is
       (sym (ap (λ (h : Gate). h.left) there) ∙ same ∙ ap (λ (h : Gate). h.right) there)
 
   mapped_right : IsRight (mapped_by order c) (map_block order c, unwrap_or c.comment [])
   mapped_right = (
-    all_told (λ (m : MappedGate). m.exchanged ≡ true → (get_or images m.place no_gate).left ≢ (get_or images m.place no_gate).right) tell c.gates two_operands,
+    all_told (λ (m : MappedGate). m.exchanged ≡ true → HasTwoOperands (at images m.place)) tell c.gates two_operands,
     none_empty c.comment,
   )
 
 -- what is read of a mapped image is told rightly
-pub told_right : (g x : Circuit) (b : MapBlock) (rest : List ℕ) → IsWellFormed g → IsMappedImage g x → block_reading x ≡ Ok (b, rest)
+pub told_right : (g x : Circuit) (b : MapBlock) (rest : List ℕ) → IsWellFormed g → IsMappedImage g x
+    → block_reading x ≡ Ok (b, rest)
     → TellsExchanges x.gates b.gates × TellsComment b rest
 told_right g x b rest good (order, least, is) read =
     let made : MapBlock × List ℕ = (map_block order g, unwrap_or g.comment []) in
