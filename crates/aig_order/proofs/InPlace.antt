@@ -23,7 +23,7 @@ here (x ∷ xs) zero below = inl refl
 here (x ∷ xs) (suc j) below = inr (here xs j (omega arith))
 
 -- a list, split at a place
-split_at : (xs : List ℕ) (j : ℕ) → j < length xs → xs ≡ take j xs ++ get_or xs j 0 ∷ drop (suc j) xs
+pub split_at : (xs : List ℕ) (j : ℕ) → j < length xs → xs ≡ take j xs ++ get_or xs j 0 ∷ drop (suc j) xs
 split_at xs j below = sym (take-append-drop j xs) ∙ ap (λ ys. take j xs ++ ys) (drop-cons xs j 0 below)
 
 module _ (gates : List Gate) (first order : List ℕ) (once : AreDistinct (first ++ taken_variables gates order)) (start : ℕ) (starts : start ≡ 1 + length first)

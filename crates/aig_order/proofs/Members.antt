@@ -61,7 +61,7 @@ module _ (c : Circuit) (order : List ℕ) (good : IsWellFormed c) (least : IsLea
   has_defined v a =
       ⊎_elim (λ (i : IsAmong v first). among_first first last v i) (λ (i : IsAmong v (variables c.gates)). among_last first last v (of_taken v i)) (among_either v first (variables c.gates) a)
 
-  is_defined : (v : ℕ) → IsAmong v new → IsAmong v (defined_variables c)
+  pub is_defined : (v : ℕ) → IsAmong v new → IsAmong v (defined_variables c)
   is_defined v a =
       ⊎_elim (λ (i : IsAmong v first). among_first first (variables c.gates) v i) (λ (i : IsAmong v last). among_last first (variables c.gates) v (of_gates v i)) (among_either v first last a)
 

@@ -94,13 +94,17 @@ module _ (c : Circuit) (order : List ℕ) (good : IsWellFormed c) (least : IsLea
     image = (order, least, refl);
   }
 
-  -- what is read of the mapped image undoes it
+  -- what is read of the mapped image
+  pub mapped_reading : block_reading (mapped_by order c) ≡ Ok (map_block order c, unwrap_or c.comment [])
+  mapped_reading = block_is_read (mapped_by order c) (map_block order c) (unwrap_or c.comment []) refl counts within
+
+  -- undoes it
   recovered_from_mapped : IsRecovered (mapped_by order c) c
   unfolding undone_from_mapped
   recovered_from_mapped = record {
     block = map_block order c;
     rest = unwrap_or c.comment [];
-    read = block_is_read (mapped_by order c) (map_block order c) (unwrap_or c.comment []) refl counts within;
+    read = mapped_reading;
     places = undone_from_mapped.places;
     is = undone_from_mapped.is;
   }

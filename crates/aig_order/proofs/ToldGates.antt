@@ -27,7 +27,7 @@ told_at k v (m ∷ ms) all a =
     (eqb_tells m.place k)
 
 -- what holds of each of some gates, by what is told of them
-all_told : (P : MappedGate → Type 0) (tell : Gate → MappedGate) (gates : List Gate) → ((i : ℕ) → i < length gates → P (tell (at gates i))) → AllByRecursion P (map tell gates)
+pub all_told : (P : MappedGate → Type 0) (tell : Gate → MappedGate) (gates : List Gate) → ((i : ℕ) → i < length gates → P (tell (at gates i))) → AllByRecursion P (map tell gates)
 all_told P tell [] each = tt
 all_told P tell (g ∷ gs) each = (each zero (omega arith), all_told P tell gs (λ i below. each (suc i) (omega (arith, below))))
 

@@ -1,6 +1,7 @@
 //! Conversion of circuits to binary order, and back.
 #![tactic(auto)]
 
+mod confirmed;
 mod fault;
 mod image;
 pub mod laws;

@@ -1,0 +1,82 @@
+-- The block of a mapped image tells no exchange of equal operands, and of a comment section where a comment follows.
+use Rattle.std.proofs.Common.{◌≡◌, ◌≢◌, ◌+◌, ◌<◌, ℕ, List, [], true, ltb, Option, None, Some, Ok, length, get_or, map}
+use Rattle.std.proofs.Common.{max, min}
+use Rattle.std.proofs.Common.{refl, sym, ap, subst, ◌∙◌, ◌⊎◌, inl, inr, arith}
+use Rattle.std.specs.Prelude.{is_some}
+use Rattle.std.specs.Option.{unwrap_or}
+use Rattle.std.proofs.Math.Nat.{max-eq_right, min-eq_left}
+use Rattle.std.proofs.lemmas.Bool.{ltb-true}
+use Rattle.aig_core.specs.declared.circuit.Gate.{Gate}
+use Rattle.aig_core.specs.declared.circuit.Circuit.{Circuit}
+use Rattle.aig_core.specs.Order.{IsLeastReadyOrder}
+use Rattle.aig_core.specs.Wellformed.{IsWellFormed}
+use Rattle.aig_core.proofs.Ranked.{at, no_gate}
+use Rattle.aig_order.specs.declared.map_block.MappedGate.{MappedGate}
+use Rattle.aig_order.specs.declared.map_block.MapBlock.{MapBlock}
+use Rattle.aig_order.specs.Image.{gate_image}
+use Rattle.aig_order.specs.MapBlock.{mapped_gate, map_block, mapped_by, IsMappedImage}
+use Rattle.aig_order.specs.MapReading.{block_reading}
+use Rattle.aig_order.specs.Parts.Confirmed.{HasTwoOperands, TellsExchanges, TellsComment}
+use Rattle.aig_order.specs.Renumbering.{in_new_order, renumbered_literal, taken}
+use Rattle.aig_order.proofs.Carried.{by_order, by_gate}
+use Rattle.aig_order.proofs.Members.{not_more}
+use Rattle.aig_order.proofs.OneSource.{mapped_reading, one_reading}
+use Rattle.aig_order.proofs.ToldGates.{all_told, image_there}
+
+-- of two numbers in rising order, the larger is not the smaller
+apart : (a b : ℕ) → ltb a b ≡ true → max a b ≢ min a b
+apart a b rising same =
+    let less : a < b = ltb-true a b rising in
+    let more : max a b ≡ b = max-eq_right (omega (arith, less)) in
+    let fewer : min a b ≡ a = min-eq_left (omega (arith, less)) in
+    absurd (omega (arith, less, more, fewer, same))
+
+-- a comment that is not there is empty
+none_empty : (comment : Option (List ℕ)) → (is_some comment ≡ true) ⊎ (unwrap_or comment [] ≡ [])
+none_empty None = inr refl
+none_empty (Some text) = inl refl
+
+-- what is told rightly of an image
+abbrev IsRight : Circuit → MapBlock × List ℕ → Type 0
+IsRight x told = TellsExchanges x.gates told.0.gates × TellsComment told.0 told.1
+
+module _ (c : Circuit) (order : List ℕ) (good : IsWellFormed c) (least : IsLeastReadyOrder c order) where
+  abbrev vs : List ℕ
+  vs = in_new_order c order
+
+  abbrev start : ℕ
+  start = 1 + length c.inputs + length c.latches
+
+  abbrev images : List Gate
+  images = map (gate_image vs) (taken c.gates order)
+
+  abbrev tell : Gate → MappedGate
+  tell = mapped_gate vs start
+
+  -- a gate that is told as exchanged has an image with two operands
+  two_operands : (i : ℕ) → i < length c.gates → (tell (at c.gates i)).exchanged ≡ true
+      → HasTwoOperands (at images (tell (at c.gates i)).place)
+  two_operands i below is same =
+      let g : Gate = at c.gates i in
+      let there : get_or images (tell g).place no_gate ≡ gate_image vs g =
+      image_there c.gates order vs start (not_more c order good least) (by_order c order good least)
+      (by_gate c order good least) i below in
+      apart (renumbered_literal vs g.left) (renumbered_literal vs g.right) is
+      (sym (ap (λ (h : Gate). h.left) there) ∙ same ∙ ap (λ (h : Gate). h.right) there)
+
+  mapped_right : IsRight (mapped_by order c) (map_block order c, unwrap_or c.comment [])
+  mapped_right = (
+    all_told (λ (m : MappedGate). m.exchanged ≡ true → HasTwoOperands (at images m.place)) tell c.gates two_operands,
+    none_empty c.comment,
+  )
+
+-- what is read of a mapped image is told rightly
+pub told_right : (g x : Circuit) (b : MapBlock) (rest : List ℕ) → IsWellFormed g → IsMappedImage g x
+    → block_reading x ≡ Ok (b, rest)
+    → TellsExchanges x.gates b.gates × TellsComment b rest
+told_right g x b rest good (order, least, is) read =
+    let made : MapBlock × List ℕ = (map_block order g, unwrap_or g.comment []) in
+    let first : block_reading x ≡ Ok made = ap block_reading is ∙ mapped_reading g order good least in
+    let same : made ≡ (b, rest) = one_reading (block_reading x) made (b, rest) first read in
+    let right : IsRight x made = subst (λ (y : Circuit). IsRight y made) (sym is) (mapped_right g order good least) in
+    subst (IsRight x) same right
