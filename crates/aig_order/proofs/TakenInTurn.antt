@@ -1,6 +1,6 @@
 -- Where the gates of an image are taken in turn, the places that a block tells are the least ready order of its source,
 -- and the other way round.
-use Rattle.std.proofs.Common.{◌≡◌, ◌+◌, ◌*◌, ◌<◌, ◌≤◌, ℕ, suc, List, [], Option, length, get_or}
+use Rattle.std.proofs.Common.{◌≡◌, ◌+◌, ◌*◌, ◌<◌, ◌≤◌, ◌↔◌, ℕ, suc, List, [], Bool, IsTrue, Option, length, get_or}
 use Rattle.std.proofs.Common.{map, sym, ap, subst, ◌∙◌, ⊎_elim, arith}
 use Rattle.std.proofs.lemmas.List.FromFn.{get_or-map-range_with_len}
 use Rattle.aig_core.specs.declared.circuit.Gate.{Gate}
@@ -138,3 +138,13 @@ module _ (b : MapBlock) (x : Circuit) (comment : Option (List ℕ)) (fit : IsFit
       least.least_at_each (length b.gates) needs (λ i. (told i).place) position ready
       at_place (back.at_gate b x fit once) enough last by_then takes p q there behind free in
       omega (arith, less, position_there p (omega (arith, behind, there)), position_there q there)
+
+  -- so a test for the one tells the other
+  pub tells_order : (n : ℕ) (gates : List Gate) (places : List ℕ) (told : Bool)
+      → n ≡ start → gates ≡ x.gates → places ≡ positions b.gates → IsTrue told ↔ AreTakenInTurn n gates places
+      → IsTrue told ↔ IsLeastReadyOrder (undone b comment x) (positions b.gates)
+  tells_order n gates places told n_is gates_are places_are is =
+      let first = subst (λ m. IsTrue told ↔ AreTakenInTurn m gates places) n_is is in
+      let second = subst (λ gs. IsTrue told ↔ AreTakenInTurn start gs places) gates_are first in
+      let third = subst (λ ps. IsTrue told ↔ AreTakenInTurn start x.gates ps) places_are second in
+      (λ t. in_turn (third.0 t), λ order. third.1 (in_turn_where_least order))

@@ -1,14 +1,18 @@
 //! Whether the places that a block tells are the order in which the gates of its source are taken, by the image alone.
-ghost use Rattle.std.specs.Prelude.{◌≡◌, ◌<◌, ◌≤◌, ◌↔◌, length, map, IfOk, IsTrue, MatchOption};
+ghost use Rattle.std.specs.Prelude.{◌≡◌, ◌<◌, ◌≤◌, ◌↔◌, ℕ, List, Option, length, map, IfOk, IsTrue, MatchOption};
 ghost use Rattle.std.specs.List.{AllByRecursion};
 ghost use Rattle.std.specs.Option.{IfSome};
 ghost use Rattle.aig_core.specs.declared.circuit.TheConstants.{LARGEST};
-ghost use Rattle.aig_core.specs.Wellformed.{AreDistinct};
+ghost use Rattle.aig_core.specs.Order.{IsLeastReadyOrder};
+ghost use Rattle.aig_core.specs.Wellformed.{AreDistinct, defined_variables};
+ghost use Rattle.aig_binary.specs.BinaryOrder.{IsInBinaryOrder};
 ghost use Rattle.aig_order.specs.declared.map_block.MappedGate.{MappedGate as MappedGateRecord};
+ghost use Rattle.aig_order.specs.MapReading.{HasCountsOf, IsWithinBounds};
+ghost use Rattle.aig_order.specs.Undone.{undone};
 ghost use Rattle.aig_order.specs.Parts.Turns.{positions, ready_from, AreLinks, AreTakenInTurn, IsClear};
 
-use crate::map_block::MappedGate;
-use aig_core::{Gate, OutOfMemory};
+use crate::map_block::{MapBlock, MappedGate};
+use aig_core::{Circuit, Gate, OutOfMemory};
 use std::alloc::Global;
 
 /// The positions in the source, place by place.
@@ -73,4 +77,24 @@ pub(crate) fn are_taken_in_turn(
         }
     }
     Ok(true)
+}
+
+/// Whether the places that a block tells are the order in which the gates of its source are taken, where the source
+/// defines no variable twice.
+pub(crate) fn tells_order(
+    alloc: Global,
+    block: &MapBlock,
+    image: &Circuit,
+) -> Result<bool, OutOfMemory>
+    requires ordered { IsInBinaryOrder image.now }
+    requires counts { HasCountsOf block.now image.now }
+    requires bounds { IsWithinBounds block.now }
+    requires places { AreDistinct (map (λ (g : MappedGateRecord). g.place) block.now.gates) }
+    ensures { (comment : Option (List ℕ)) → AreDistinct (defined_variables (undone block.now comment image.now))
+        → IfOk result (λ told. IsTrue told
+        ↔ IsLeastReadyOrder (undone block.now comment image.now) (positions block.now.gates)) }
+{
+    let places = positions(alloc, block.gates.as_slice())?;
+    let first = 1 + image.inputs.len() as u32 + image.latches.len() as u32;
+    are_taken_in_turn(alloc, first, image.gates.as_slice(), places.as_slice())
 }

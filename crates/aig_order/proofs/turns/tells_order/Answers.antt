@@ -1,0 +1,49 @@
+use Rattle.std.proofs.Common.{◌≡◌, ◌+◌, ◌↔◌, length, IsTrue, ap, sym, ◌∙◌, arith}
+use Rattle.std.proofs.lemmas.List.FromFn.{length-map-range_with_len}
+use Rattle.std.proofs.lemmas.Result.{IfOk-weaker}
+use Rattle.aig_core.specs.Order.{IsLeastReadyOrder}
+use Rattle.aig_order.specs.Parts.Turns.{positions, position_at_place, AreTakenInTurn}
+use Rattle.aig_order.specs.Undone.{undone}
+use Rattle.aig_order.proofs.TakenInTurn.{tells_order}
+use Rattle.aig_order.proofs.turns.tells_order.Goals as goal
+
+pub are_taken_in_turn-requires-clause-few : goal.are_taken_in_turn-requires-clause-few
+are_taken_in_turn-requires-clause-few c =
+    let gates = c.args.block.now.gates in
+    let are : c.as_slice-3.result.now ≡ positions gates =
+    c.as_slice-3.ensures.value ∙ c.in_ok-places.ensures ∙ ap positions c.as_slice.ensures in
+    let many : length c.as_slice-3.result.now ≡ length gates =
+    ap length are ∙ length-map-range_with_len (position_at_place gates) 0 (length gates) in
+    omega (arith, many, c.requires.bounds.counts, c.requires.bounds.max_var)
+
+pub are_taken_in_turn-requires-clause-many : goal.are_taken_in_turn-requires-clause-many
+are_taken_in_turn-requires-clause-many c =
+    let gates = c.args.block.now.gates in
+    let are : c.as_slice-3.result.now ≡ positions gates =
+    c.as_slice-3.ensures.value ∙ c.in_ok-places.ensures ∙ ap positions c.as_slice.ensures in
+    ap length are ∙ length-map-range_with_len (position_at_place gates) 0 (length gates)
+    ∙ c.requires.counts.gates ∙ ap length (sym c.as_slice-2.ensures)
+
+pub returns : goal.returns
+returns c = λ comment once.
+    let b = c.args.block.now in
+    let x = c.args.image.now in
+    let are : c.as_slice-3.result.now ≡ positions b.gates =
+    c.as_slice-3.ensures.value ∙ c.in_ok-places.ensures ∙ ap positions c.as_slice.ensures in
+    let start : 1 + c.len.result + c.len-2.result ≡ 1 + length x.inputs + length x.latches =
+    omega (arith, c.len.ensures, c.len-2.ensures) in
+    IfOk-weaker c.are_taken_in_turn.result
+    (λ told. IsTrue told
+    ↔ AreTakenInTurn (1 + c.len.result + c.len-2.result) c.as_slice-2.result.now c.as_slice-3.result.now)
+    (λ told. IsTrue told ↔ IsLeastReadyOrder (undone b comment x) (positions b.gates))
+    (λ told is.
+    tells_order b x comment
+    (record {
+      ordered = c.requires.ordered;
+      counts = c.requires.counts;
+      bounds = c.requires.bounds;
+      once = c.requires.places;
+    })
+    once (1 + c.len.result + c.len-2.result) c.as_slice-2.result.now c.as_slice-3.result.now told
+    start c.as_slice-2.ensures are is)
+    c.are_taken_in_turn.ensures
