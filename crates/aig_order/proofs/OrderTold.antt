@@ -1,5 +1,5 @@
 -- The places that the block of a mapped image tells are the order in which the gates of its source were taken.
-use Rattle.std.proofs.Common.{◌≡◌, ◌+◌, ◌-◌, ◌<◌, ℕ, List, [], eqb, Ok, length, get_or, map, sym, ap, subst, ◌∙◌, arith}
+use Rattle.std.proofs.Common.{◌≡◌, ◌+◌, ◌<◌, ℕ, List, [], eqb, Ok, length, get_or, map, sym, ap, subst, ◌∙◌, arith}
 use Rattle.std.specs.Option.{unwrap_or}
 use Rattle.std.proofs.lemmas.Bool.{ne_eqb}
 use Rattle.std.proofs.lemmas.Bool.Decides.{Decides-eqb}
@@ -38,7 +38,8 @@ module _ (c : Circuit) (order : List ℕ) (good : IsWellFormed c) (least : IsLea
 
   many : length order ≡ length told
   many =
-      as_many c.gates order vs start (not_more c order good least) (by_order c order good least) (by_gate c order good least)
+      as_many c.gates order vs start (not_more c order good least) (by_order c order good least)
+      (by_gate c order good least)
       ∙ sym (length-map c.gates tell)
 
   -- the gate that is taken at a place is the first that has this place
@@ -46,8 +47,10 @@ module _ (c : Circuit) (order : List ℕ) (good : IsWellFormed c) (least : IsLea
   taken_at j below =
       let i : ℕ = get_or order j 0 in
       let here = by_order c order good least j below in
-      let has = λ (k : ℕ) (low : k < length c.gates). ap (λ (m : MappedGate). eqb m.place j) (get_or-map tell c.gates k no_gate none_told low) in
-      position_or_len_is (λ (m : MappedGate). eqb m.place j) told i none_told (omega (arith, here.0, length-map c.gates tell))
+      let has = λ (k : ℕ) (low : k < length c.gates).
+      ap (λ (m : MappedGate). eqb m.place j) (get_or-map tell c.gates k no_gate none_told low) in
+      position_or_len_is (λ (m : MappedGate). eqb m.place j) told i none_told
+      (omega (arith, here.0, length-map c.gates tell))
       (λ k before.
       let low : k < length c.gates = omega (arith, before, here.0) in
       has k low ∙ ne_eqb (tell (at c.gates k)).place j (λ e.
@@ -60,12 +63,13 @@ module _ (c : Circuit) (order : List ℕ) (good : IsWellFormed c) (least : IsLea
       let long : length (positions told) ≡ length order =
       length-map-range_with_len (position_at_place told) 0 (length told) ∙ sym many in
       ext_get_or 0 (positions told) order long (λ j below.
-      get_or-map-range_with_len (position_at_place told) 0 (length told) j j 0 (omega (arith, below, long, many)) (omega arith)
+      let there : j < length told = omega (arith, below, long, many) in
+      get_or-map-range_with_len (position_at_place told) 0 (length told) j j 0 there (omega arith)
       ∙ taken_at j (omega (arith, below, long)))
 
 -- what is read of a mapped image tells the order of its source's gates
-pub order_told : (g x : Circuit) (b : MapBlock) (rest : List ℕ) → IsWellFormed g → IsMappedImage g x → block_reading x ≡ Ok (b, rest)
-    → IsLeastReadyOrder g (positions b.gates)
+pub order_told : (g x : Circuit) (b : MapBlock) (rest : List ℕ) → IsWellFormed g → IsMappedImage g x
+    → block_reading x ≡ Ok (b, rest) → IsLeastReadyOrder g (positions b.gates)
 order_told g x b rest good (order, least, is) read =
     let made : MapBlock × List ℕ = (map_block order g, unwrap_or g.comment []) in
     let first : block_reading x ≡ Ok made = ap block_reading is ∙ mapped_reading g order good least in
