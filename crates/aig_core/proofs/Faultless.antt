@@ -15,7 +15,8 @@ use Rattle.aig_core.specs.Literal.{variable_of}
 use Rattle.aig_core.specs.Wellformed.{IsAmong, AreDistinct, IsKnown, HasRank, IsWellFormed, defined_variables, used_literals}
 use Rattle.aig_core.specs.Form.{IsInForm}
 use Rattle.aig_core.specs.declared.fault.CheckFault.TheVariants.{OutOfMemory, Redefined, Undefined, Cyclic}
-use Rattle.aig_core.specs.Fault.{IsFault, first_repeat, first_redefinition, first_unknown, with_all, is_known, first_fault}
+use Rattle.aig_core.specs.Fault.{IsFault, first_repeat, first_redefinition, first_unknown}
+use Rattle.aig_core.specs.Fault.{with_all, is_known, first_fault}
 use Rattle.std.specs.Option.{option_map, option_or}
 use Rattle.aig_core.specs.Order.{first_cyclic}
 use Rattle.aig_core.proofs.LeastReady.{a_least_ready_order}
@@ -90,12 +91,14 @@ told_of_none e ne h = ⊎_elim ne (λ none. cc) h
 pub told_once : (xs : List ℕ) → first_repeat set.empty xs ≡ None → IsTrue true ↔ AreDistinct xs
 told_once xs none = (λ _. distinct set.empty xs none, λ _. refl)
 
-pub told_twice : (v : ℕ) (xs : List ℕ) → IsFault (Redefined v) (first_redefinition set.empty xs) → IsTrue false ↔ AreDistinct xs
+pub told_twice : (v : ℕ) (xs : List ℕ) → IsFault (Redefined v) (first_redefinition set.empty xs)
+    → IsTrue false ↔ AreDistinct xs
 told_twice v xs told = (
   λ is. cc,
   λ once.
       let none : first_repeat set.empty xs ≡ None = nothing_repeats set.empty xs once (λ y _ h. none_in_empty y h) in
-      let told_none : IsFault (Redefined v) None = subst (λ o. IsFault (Redefined v) (option_map Redefined o)) none told in
+      let told_none : IsFault (Redefined v) None =
+      subst (λ o. IsFault (Redefined v) (option_map Redefined o)) none told in
       absurd (told_of_none (Redefined v) (λ is. cc) told_none),
 )
 

@@ -1,5 +1,6 @@
 -- Definitions and uses over sections end to end, as the loops over each section tell them.
-use Rattle.std.proofs.Common.{◌≡◌, ℕ, List, [], ◌∷◌, ◌++◌, true, false, cond, Option, None, Some, refl, sym, ap, ◌∙◌, inl, ⊎_elim, map}
+use Rattle.std.proofs.Common.{◌≡◌, ℕ, List, [], ◌∷◌, ◌++◌, true, false, cond, Option, None, Some}
+use Rattle.std.proofs.Common.{refl, sym, ap, ◌∙◌, inl, ⊎_elim, map}
 use Rattle.std.specs.List.{flat_map}
 use Rattle.std.specs.Option.{option_map, option_or}
 use Rattle.std.specs.Ordering.{nat_cmp}
@@ -35,8 +36,12 @@ used_outputs = flat_map (λ (l : ℕ). l ∷ [])
 pub defined_is : (c : Circuit) → (defined_inputs c.inputs ++ defined_latches c.latches) ++ defined_gates c.gates ≡ defined_variables c
 defined_is c = rw (flat_map_single (λ (v : ℕ). v) c.inputs, map-id c.inputs, flat_map_single (λ (l : Latch). l.var) c.latches, flat_map_single (λ (g : Gate). g.var) c.gates) refl
 
-before_is : (c : Circuit) → defined_inputs c.inputs ++ defined_latches c.latches ≡ c.inputs ++ map (λ (l : Latch). l.var) c.latches
-before_is c = rw (flat_map_single (λ (v : ℕ). v) c.inputs, map-id c.inputs, flat_map_single (λ (l : Latch). l.var) c.latches) refl
+-- what they go through before the gates
+before_is : (c : Circuit)
+    → defined_inputs c.inputs ++ defined_latches c.latches ≡ c.inputs ++ map (λ (l : Latch). l.var) c.latches
+before_is c =
+    rw (flat_map_single (λ (v : ℕ). v) c.inputs, map-id c.inputs, flat_map_single (λ (l : Latch). l.var) c.latches)
+    refl
 
 pub used_is : (c : Circuit) → (used_nexts c.latches ++ used_outputs c.outputs) ++ flat_map operands c.gates ≡ used_literals c
 used_is c = rw (flat_map_single (λ (l : ℕ). l) c.outputs, map-id c.outputs, flat_map_single (λ (l : Latch). l.next) c.latches) refl
@@ -102,13 +107,15 @@ module _ (c : Circuit) where
     pub gates_repeat : first_repeat set.empty (defined_variables c) ≡ first_repeat u (defined_gates c.gates)
     gates_repeat = rw (flat_map_single (λ (g : Gate). g.var) c.gates) (goes_on _ _ _ _ u_is none)
 
-    pub told_of_gates : (e : CheckFault) → IsFault e (first_redefinition u (defined_gates c.gates)) → IsFault e (first_redefinition set.empty (defined_variables c))
+    pub told_of_gates : (e : CheckFault) → IsFault e (first_redefinition u (defined_gates c.gates))
+        → IsFault e (first_redefinition set.empty (defined_variables c))
     told_of_gates e told = rw gates_repeat told
 
     pub all_seen : with_all u (defined_gates c.gates) ≡ with_all set.empty (defined_variables c)
     all_seen =
         rw (u_is, flat_map_single (λ (g : Gate). g.var) c.gates)
-        (sym (with_all_append set.empty (c.inputs ++ map (λ (l : Latch). l.var) c.latches) (map (λ (g : Gate). g.var) c.gates)))
+        (sym (with_all_append set.empty (c.inputs ++ map (λ (l : Latch). l.var) c.latches)
+        (map (λ (g : Gate). g.var) c.gates)))
 
 pub unknown_ends : (s : FinSet nat_cmp) (c : Circuit) → option_or (first_unknown s (used_nexts c.latches)) (first_unknown s (used_outputs c.outputs)) ≡ first_unknown s (map (λ (l : Latch). l.next) c.latches ++ c.outputs)
 unknown_ends s c = rw (flat_map_single (λ (l : ℕ). l) c.outputs, map-id c.outputs, flat_map_single (λ (l : Latch). l.next) c.latches) (sym (unknown_append s (map (λ (l : Latch). l.next) c.latches) c.outputs))

@@ -7,8 +7,9 @@ use Rattle.aig_core.specs.declared.circuit.Latch.{Latch}
 use Rattle.aig_core.specs.declared.circuit.Kind.{Kind}
 use Rattle.aig_core.specs.declared.circuit.Kind.TheVariants as kinds
 use Rattle.aig_core.specs.declared.circuit.Circuit.{Circuit}
-use Rattle.aig_core.specs.Wellformed.{IsAmong, AreDistinct, IsVariableUpTo, IsKnown, IsWithinLimits, HasGoodSymbols, HasRank}
-use Rattle.aig_core.specs.Wellformed.{IsWellFormed, count_of, defined_variables, used_literals, operands}
+use Rattle.aig_core.specs.Wellformed.{IsAmong, AreDistinct, IsVariableUpTo, IsKnown, IsWithinLimits}
+use Rattle.aig_core.specs.Wellformed.{HasGoodSymbols, HasRank, IsWellFormed}
+use Rattle.aig_core.specs.Wellformed.{count_of, defined_variables, used_literals, operands}
 use Rattle.aig_core.proofs.Fitting.{well_formed_in_form}
 use Rattle.aig_core.proofs.InForm.{joined, front, back}
 use Rattle.aig_binary.specs.BinaryOrder.{AreOrderedGates, IsInBinaryOrder}
@@ -94,8 +95,10 @@ module _ (x : Circuit) (b : MapBlock) (comment : Option (List ℕ)) (good : IsWe
       let Known : ℕ → Type 0 = IsKnown all in
       let nexts : List ℕ = map (λ (l : Latch). l.next) x.latches in
       let low : AllByRecursion IsLow (used_literals x) =
-      subst (λ n. AllByRecursion (λ l. l ≤ 2 * n + 1) (used_literals x)) (sym as_many_as_before) (well_formed_in_form x good).literals in
-      let ends : AllByRecursion IsLow (nexts ++ x.outputs) = front IsLow (nexts ++ x.outputs) (flat_map operands x.gates) low in
+      subst (λ n. AllByRecursion (λ l. l ≤ 2 * n + 1) (used_literals x)) (sym as_many_as_before)
+      (well_formed_in_form x good).literals in
+      let ends : AllByRecursion IsLow (nexts ++ x.outputs) =
+      front IsLow (nexts ++ x.outputs) (flat_map operands x.gates) low in
       let among : (v : ℕ) → IsAmong v vs → IsAmong v all =
       λ v a. subst (IsAmong v) (sym defined) (source_is_told b apart below v a) in
       let places_there : AllByRecursion (λ (g : MappedGate). g.place < length x.gates) b.gates =
@@ -104,7 +107,8 @@ module _ (x : Circuit) (b : MapBlock) (comment : Option (List ℕ)) (good : IsWe
       (joined Known _ (map (source_literal vs) x.outputs)
       (nexts_known vs all among x.latches (front IsLow nexts x.outputs ends))
       (outputs_known vs all among x.outputs (back IsLow nexts x.outputs ends)))
-      (operands_known vs all among x.gates (back IsLow (nexts ++ x.outputs) (flat_map operands x.gates) low) b.gates places_there)
+      (operands_known vs all among x.gates (back IsLow (nexts ++ x.outputs) (flat_map operands x.gates) low)
+      b.gates places_there)
 
   same_counts : (k : Kind) → count_of x k ≡ count_of source k
   same_counts kinds.Input = sym (length-map x.inputs (source_variable vs))
@@ -128,10 +132,16 @@ module _ (x : Circuit) (b : MapBlock) (comment : Option (List ℕ)) (good : IsWe
       (rank vs distinct, places_rank vs distinct source.gates stand)
 
   formed : IsWellFormed source
-  formed = record { limits = limits; in_range = in_range; once = once; known = known; symbols = symbols; ranked = ranked }
+  formed =
+      record { limits = limits; in_range = in_range; once = once; known = known; symbols = symbols; ranked = ranked }
 
 -- the undone circuit is well formed where no variable is defined twice
 pub well_formed_again : (x : Circuit) (b : MapBlock) (comment : Option (List ℕ)) → IsWellFormed x → IsInBinaryOrder x
     → HasCountsOf b x → IsWithinBounds b → AreDistinct (map (λ (g : MappedGate). g.place) b.gates)
     → AreDistinct (defined_variables (undone b comment x)) → IsWellFormed (undone b comment x)
-well_formed_again x b comment good ordered counts bounds apart once = formed x b comment good ordered counts bounds apart once
+well_formed_again x b comment good ordered counts bounds apart once =
+    formed x b comment good ordered counts bounds apart once
+
+-- and where one is, it is not
+pub twice_is_not_well_formed : (c : Circuit) → ¬ AreDistinct (defined_variables c) → ¬ IsWellFormed c
+twice_is_not_well_formed c twice good = twice good.once

@@ -64,7 +64,8 @@ variable_there (g ∷ gates) once (suc i) below =
     let p : ℕ = (told_at gates i).place in
     let many : length (places gates) ≡ length gates = length-map gates (λ (h : MappedGate). h.place) in
     let among : IsAmong p (places gates) =
-    subst (λ q. IsAmong q (places gates)) (place_at gates i there) (here (places gates) i (omega (arith, there, many))) in
+    subst (λ q. IsAmong q (places gates)) (place_at gates i there)
+    (here (places gates) i (omega (arith, there, many))) in
     let other : g.place ≢ p = λ e. once.0 (subst (λ q. IsAmong q (places gates)) (sym e) among) in
     variable_later g gates p (ne_eqb g.place p other) ∙ variable_there gates once.1 i there
 
@@ -81,7 +82,8 @@ module _ (gates : List MappedGate) (once : AreDistinct (places gates))
 
   -- each place is that of a gate, and has its variable
   gate_there : (p : ℕ) → p < length gates
-      → (i : ℕ) × (i < length gates) × ((told_at gates i).place ≡ p) × (variable_at_place gates p ≡ (told_at gates i).var)
+      → (i : ℕ) × (i < length gates) × ((told_at gates i).place ≡ p)
+      × (variable_at_place gates p ≡ (told_at gates i).var)
   gate_there p low =
       let among : IsAmong p (places gates) =
       all_below (length gates) (places gates) once (places_all (λ q. q < length gates) gates below) many p low in
@@ -109,7 +111,8 @@ module _ (gates : List MappedGate) (once : AreDistinct (places gates))
       let long : length (told_variables gates) ≡ length gates = length-map gates (λ (g : MappedGate). g.var) in
       let is : get_or (told_variables gates) gate.0 0 ≡ v =
       variable_at gates gate.0 gate.1 ∙ sym gate.3 ∙ sym (row_at found.0 low) ∙ found.2 in
-      subst (λ w. IsAmong w (told_variables gates)) is (here (told_variables gates) gate.0 (omega (arith, gate.1, long)))
+      subst (λ w. IsAmong w (told_variables gates)) is
+      (here (told_variables gates) gate.0 (omega (arith, gate.1, long)))
 
   -- so where the gates' variables are distinct, they are
   pub row_once : AreDistinct (told_variables gates) → AreDistinct in_a_row
@@ -120,7 +123,8 @@ module _ (gates : List MappedGate) (once : AreDistinct (places gates))
       let h = gate_there q q_low in
       let long : length (told_variables gates) ≡ length gates = length-map gates (λ (g : MappedGate). g.var) in
       let same : get_or (told_variables gates) g.0 0 ≡ get_or (told_variables gates) h.0 0 =
-      variable_at gates g.0 g.1 ∙ sym g.3 ∙ sym (row_at p p_low) ∙ e ∙ row_at q q_low ∙ h.3 ∙ sym (variable_at gates h.0 h.1) in
+      variable_at gates g.0 g.1 ∙ sym g.3 ∙ sym (row_at p p_low) ∙ e ∙ row_at q q_low
+      ∙ h.3 ∙ sym (variable_at gates h.0 h.1) in
       let one : g.0 ≡ h.0 =
       same_place (told_variables gates) distinct g.0 h.0 (omega (arith, g.1, long)) (omega (arith, h.1, long)) same in
       sym g.2 ∙ ap (λ i. (told_at gates i).place) one ∙ h.2)

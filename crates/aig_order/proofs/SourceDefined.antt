@@ -27,7 +27,8 @@ pub carried_on : (vs pre mid post : List ℕ) → vs ≡ pre ++ (mid ++ post)
     → map (source_variable vs) (range_with_len (1 + length pre) (length mid)) ≡ mid
 carried_on vs pre mid post are =
     let found : List ℕ = map (source_variable vs) (range_with_len (1 + length pre) (length mid)) in
-    let many : length found ≡ length mid = length-map-range_with_len (source_variable vs) (1 + length pre) (length mid) in
+    let many : length found ≡ length mid =
+    length-map-range_with_len (source_variable vs) (1 + length pre) (length mid) in
     ext_get_or 0 found mid many (λ i below.
     let low : i < length mid = omega (arith, below, many) in
     let n : ℕ = length pre + i in
@@ -70,7 +71,8 @@ module _ (x : Circuit) (b : MapBlock) where
       ∙ ap (map (source_variable vs))
       (ordered.latches ∙ ap₂ (λ i n. range_with_len (1 + i) n) (sym counts.inputs) (sym counts.latches))
       ∙ carried_on vs b.inputs b.latches _ (append_assoc b.inputs b.latches _) in
-      ap₂ (λ (xs ys : List ℕ). xs ++ ys) (ap₂ (λ (xs ys : List ℕ). xs ++ ys) inputs latches) (gates_told vs x.gates b.gates)
+      ap₂ (λ (xs ys : List ℕ). xs ++ ys) (ap₂ (λ (xs ys : List ℕ). xs ++ ys) inputs latches)
+      (gates_told vs x.gates b.gates)
 
 module _ (b : MapBlock) (once : AreDistinct (places b.gates))
     (below : AllByRecursion (λ (g : MappedGate). g.place < length b.gates) b.gates) where

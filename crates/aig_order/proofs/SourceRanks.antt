@@ -67,7 +67,8 @@ each_told P (g ∷ gates) all (suc i) below = each_told P gates all.1 i (omega (
 
 module _ (b : MapBlock) (bounds : IsWithinBounds b) (once : AreDistinct (places b.gates))
     (below : AllByRecursion (λ (g : MappedGate). g.place < length b.gates) b.gates) (image : List Gate)
-    (ordered : AreOrderedGates (1 + length b.inputs + length b.latches) image) (many : length image ≡ length b.gates) where
+    (ordered : AreOrderedGates (1 + length b.inputs + length b.latches) image)
+    (many : length image ≡ length b.gates) where
   abbrev vs : List ℕ
   vs = source_variables b
 
@@ -81,7 +82,8 @@ module _ (b : MapBlock) (bounds : IsWithinBounds b) (once : AreDistinct (places 
       let p : ℕ = g.place in
       let n : ℕ = length (first b) + p in
       let low : p < length b.gates = each_told (λ (h : MappedGate). h.place < length b.gates) b.gates below i there in
-      let range = each_told (λ (h : MappedGate). IsVariableUpTo b.max_var h.var × (h.place < length b.gates)) b.gates bounds.gates i there in
+      let range = each_told (λ (h : MappedGate). IsVariableUpTo b.max_var h.var × (h.place < length b.gates))
+      b.gates bounds.gates i there in
       let front : length (first b) ≡ length b.inputs + length b.latches = length-append b.inputs b.latches in
       let lower = operands_lower (1 + length b.inputs + length b.latches) image ordered p (omega (arith, low, many)) in
       let l : ℕ = (at image p).left in
@@ -92,7 +94,9 @@ module _ (b : MapBlock) (bounds : IsWithinBounds b) (once : AreDistinct (places 
         n = n;
         there = omega (arith, low, length-append (first b) row, as_many b.gates once below);
         some = range.0.0;
-        is = sym (get_or-append-add (first b) row p 0 ∙ row_at b.gates once below p low ∙ variable_there b.gates once i there);
+        is =
+            sym (get_or-append-add (first b) row p 0 ∙ row_at b.gates once below p low
+            ∙ variable_there b.gates once i there);
         left = of_either IsUnder g.exchanged r l right left;
         right = of_either IsUnder g.exchanged l r left right;
       }

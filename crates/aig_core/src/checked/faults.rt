@@ -115,7 +115,8 @@ fn definition_count(circuit: &Circuit) -> usize {
 fn definitions_before_gates(alloc: Global, circuit: &Circuit) -> Result<VarSet, CheckFault>
     ensures variables { IfOk result (λ variables.
         variables ≡ with_all set.empty (circuit.now.inputs ++ map (λ l. l.var) circuit.now.latches)) }
-    ensures ok { OnOk result (first_repeat set.empty (circuit.now.inputs ++ map (λ l. l.var) circuit.now.latches) ≡ None) }
+    ensures ok { OnOk result
+        (first_repeat set.empty (circuit.now.inputs ++ map (λ l. l.var) circuit.now.latches) ≡ None) }
     ensures err { IfErr result (λ e. IsFault e (first_redefinition set.empty (defined_variables circuit.now))) }
 {
     let mut variables = VarSet::new(alloc, definition_count(circuit), circuit.max_var)?;

@@ -7,4 +7,5 @@ returns-in-Ok c = told_once (defined_variables c.args.circuit.now) c.in-Ok.ensur
 
 pub returns-in-Err-Redefined : goal.returns-in-Err-Redefined
 returns-in-Err-Redefined c =
-    told_twice _ (defined_variables c.args.circuit.now) (rw c.in-Err-Redefined.field-0-is at c.in-Err-Redefined.ensures.err)
+    told_twice _ (defined_variables c.args.circuit.now)
+    (rw c.in-Err-Redefined.field-0-is at c.in-Err-Redefined.ensures.err)
