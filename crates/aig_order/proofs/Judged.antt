@@ -1,5 +1,5 @@
 -- What a block tells, judged: whether the circuit that is undone by it has the image that it was read of.
-use Rattle.std.proofs.Common.{◌≡◌, ◌↔◌, ◌∙◌, sym, ℕ, List, Bool, true, false, true≢false, IsTrue, Ok}
+use Rattle.std.proofs.Common.{◌≡◌, ◌↔◌, ◌∙◌, sym, subst, ℕ, List, Bool, false, true≢false, IsTrue, Ok}
 use Rattle.aig_core.specs.declared.circuit.Circuit.{Circuit}
 use Rattle.aig_core.specs.Order.{IsLeastReadyOrder}
 use Rattle.aig_core.specs.Wellformed.{IsWellFormed}
@@ -11,6 +11,10 @@ use Rattle.aig_order.specs.Parts.Confirmed.{TellsExchanges, TellsComment}
 use Rattle.aig_order.specs.Parts.Turns.{positions}
 use Rattle.aig_order.specs.Undone.{undone, comment_behind}
 use Rattle.aig_order.proofs.ConfirmedByOrder.{confirmed_by_order}
+
+-- what is told of two things is told of the same ones
+pub told_of_same : {A B : Type 0} (P : A → B → Type 0) (told : Bool) (a c : A) (b d : B) → a ≡ c → b ≡ d → (IsTrue told ↔ P a b) → IsTrue told ↔ P c d
+told_of_same P told a c b d p q tells = subst (λ y. IsTrue told ↔ P c y) q (subst (λ y. IsTrue told ↔ P y b) p tells)
 
 module _ (x : Circuit) (b : MapBlock) (rest : List ℕ) (good : IsWellFormed x) (ordered : IsInBinaryOrder x)
     (read : block_reading x ≡ Ok (b, rest)) (formed : IsWellFormed (undone b (comment_behind b rest) x)) where

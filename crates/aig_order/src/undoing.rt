@@ -1,47 +1,84 @@
 //! Conversions undone by the map block of their image.
-ghost use Rattle.std.specs.Prelude.{◌≡◌, ◌⊎◌, IfOk, IfErr, MatchResult, Ok};
+ghost use Rattle.std.specs.Prelude.{◌≡◌, ◌↔◌, ◌⊎◌, map, IfOk, IfErr, IsTrue, MatchResult, Ok, OnOk};
 ghost use Rattle.aig_core.specs.declared.circuit.Circuit.{Circuit as CircuitRecord};
-ghost use Rattle.aig_core.specs.Wellformed.{IsWellFormed};
+ghost use Rattle.aig_core.specs.Wellformed.{AreDistinct, IsWellFormed, defined_variables};
 ghost use Rattle.aig_order.specs.declared.fault.MapFault.TheVariants.{Forged as IsForged, OutOfMemory as IsOutOfMemory};
 ghost use Rattle.aig_binary.specs.BinaryOrder.{IsInBinaryOrder};
+ghost use Rattle.aig_order.specs.declared.map_block.MappedGate.{MappedGate as MappedGateRecord};
 ghost use Rattle.aig_order.specs.MapBlock.{IsMappedImage};
 ghost use Rattle.aig_order.specs.MapReading.{block_reading};
-ghost use Rattle.aig_order.specs.Undone.{IsMapFault, IsUndoneFrom};
+ghost use Rattle.aig_order.specs.Undone.{IsMapFault, IsUndoneFrom, comment_behind, undone};
 
+use crate::confirmed::{tells_comment, tells_exchanges};
 use crate::fault::MapFault;
 use crate::map_block::MapBlock;
 use crate::map_reading::read_block;
-use crate::mapped::to_binary_with_map;
+use crate::turns::tells_order;
 use crate::undone::make_undone;
 use aig_binary::is_in_binary_order;
-use aig_core::{CheckFault, Checked, Circuit, check, same};
+use aig_core::{Checked, Circuit, OutOfMemory, is_defined_once};
 use std::alloc::Global;
 
-/// The source, which is forged where it is not well formed.
+/// The source, which is forged where it is not well formed. Nothing else can be wrong with it than that a variable is
+/// defined twice.
 fn check_source(alloc: Global, source: Circuit) -> Result<Checked, MapFault>
+    requires { AreDistinct (defined_variables source) → IsWellFormed source }
     ensures ok { IfOk result (λ c. c ≡ source) }
+    ensures formed { OnOk result (IsWellFormed source) }
     ensures err { IfErr result (λ e. (e ≡ IsOutOfMemory) ⊎ ((e ≡ IsForged) × (¬ IsWellFormed source))) }
 {
-    if !source.in_form() {
-        return Err(MapFault::Forged);
-    }
-    match check(alloc, source) {
-        Ok(checked) => Ok(checked),
-        Err((_, CheckFault::OutOfMemory)) => Err(MapFault::OutOfMemory),
-        Err(_) => Err(MapFault::Forged),
+    match is_defined_once(alloc, &source) {
+        Ok(true) => Ok(Checked::from_well_formed(source)),
+        Ok(false) => Err(MapFault::Forged),
+        Err(_) => Err(MapFault::OutOfMemory),
     }
 }
 
+/// Whether the circuit that is undone by the block that was read has this mapped image. That image is not made again: what
+/// the block tells is judged by itself.
+fn has_image(
+    alloc: Global,
+    image: &Checked,
+    block: &MapBlock,
+    comment: &[u8],
+) -> Result<bool, OutOfMemory>
+    requires ordered { IsInBinaryOrder image.now }
+    requires read { block_reading image.now ≡ Ok (block.now, comment.now) }
+    requires once { AreDistinct (map (λ (g : MappedGateRecord). g.place) block.now.gates) }
+    requires formed { IsWellFormed (undone block.now (comment_behind block.now comment.now) image.now) }
+    ensures { IfOk result (λ is. IsTrue is
+        ↔ IsMappedImage (undone block.now (comment_behind block.now comment.now) image.now) image.now) }
+{
+    let circuit = image.circuit();
+    if !tells_comment(block, comment) {
+        return Ok(false);
+    }
+    if !tells_exchanges(circuit.gates.as_slice(), block.gates.as_slice()) {
+        return Ok(false);
+    }
+    tells_order(alloc, block, circuit)
+}
+
 /// The source, which is forged where its mapped image is another circuit than this one.
-fn confirm(alloc: Global, source: Checked, image: &Checked) -> Result<Checked, MapFault>
+fn confirm(
+    alloc: Global,
+    source: Checked,
+    image: &Checked,
+    block: &MapBlock,
+    comment: &[u8],
+) -> Result<Checked, MapFault>
+    requires ordered { IsInBinaryOrder image.now }
+    requires read { block_reading image.now ≡ Ok (block.now, comment.now) }
+    requires once { AreDistinct (map (λ (g : MappedGateRecord). g.place) block.now.gates) }
+    requires is { source ≡ undone block.now (comment_behind block.now comment.now) image.now }
+    requires formed { IsWellFormed source }
     ensures ok { IfOk result (λ c. IsUndoneFrom image.now c) }
     ensures err { IfErr result (λ e. (e ≡ IsOutOfMemory) ⊎ ((e ≡ IsForged) × (¬ IsMappedImage source image.now))) }
 {
-    let again = to_binary_with_map(alloc, &source)?;
-    if same(again.checked(), image) {
-        Ok(source)
-    } else {
-        Err(MapFault::Forged)
+    match has_image(alloc, image, block, comment) {
+        Ok(true) => Ok(source),
+        Ok(false) => Err(MapFault::Forged),
+        Err(_) => Err(MapFault::OutOfMemory),
     }
 }
 
@@ -61,12 +98,11 @@ fn undo_by_block(
         Ok(source) => source,
         Err(fault) => return Err(fault),
     };
-    drop(block);
     let source = match check_source(alloc, source) {
         Ok(source) => source,
         Err(fault) => return Err(fault),
     };
-    confirm(alloc, source, image)
+    confirm(alloc, source, image, &block, comment)
 }
 
 /// The circuit whose mapped image this is, or why there is none.

@@ -3,17 +3,20 @@ use Rattle.aig_core.specs.declared.circuit.Circuit.{Circuit}
 use Rattle.aig_core.specs.Wellformed.{IsWellFormed}
 use Rattle.aig_order.specs.MapBlock.{IsMappedImage}
 use Rattle.aig_order.proofs.OneSource.{undoing_recovers}
-use Rattle.aig_order.proofs.Refused.{one_mapped}
 use Rattle.aig_order.proofs.undoing.confirm.Goals as goal
 
-pub returns-then-same-clause-ok : goal.returns-then-same-clause-ok
-returns-then-same-clause-ok c =
-    let same = sym c.checked.ensures.value ∙ c.same.ensures.0 c.if-same.true in
-    (undoing_recovers c.args.source c.args.image.now (subst IsWellFormed c.source.view_is c.source.invariant.0) (subst (λ (x : Circuit). IsMappedImage c.args.source x) same c.in_ok-again.ensures)).0
+pub has_image-requires-clause-formed : goal.has_image-requires-clause-formed
+has_image-requires-clause-formed c = subst IsWellFormed c.requires.is c.requires.formed
 
-pub returns-else-same-clause-err : goal.returns-else-same-clause-err
-returns-else-same-clause-err c = inr (
+pub returns-in-Ok-true-clause-ok : goal.returns-in-Ok-true-clause-ok
+returns-in-Ok-true-clause-ok c =
+    let is = subst (λ (source : Circuit). IsMappedImage source c.args.image.now) (sym c.requires.is) (c.in-Ok-true.ensures.0 c.in-Ok-true.field-0-test) in
+    (undoing_recovers c.args.source c.args.image.now c.requires.formed is).0
+
+pub returns-in-Ok-false-clause-err : goal.returns-in-Ok-false-clause-err
+returns-in-Ok-false-clause-err c = inr (
   refl,
   λ (is : IsMappedImage c.args.source c.args.image.now).
-      true≢false (sym (c.same.ensures.1 (c.checked.ensures.value ∙ one_mapped c.args.source c.in_ok-again.again c.args.image.now c.in_ok-again.ensures is)) ∙ c.if-same.false),
+      let image = subst (λ (source : Circuit). IsMappedImage source c.args.image.now) c.requires.is is in
+      true≢false (sym (c.in-Ok-false.ensures.1 image) ∙ c.in-Ok-false.field-0-test),
 )

@@ -1,18 +1,17 @@
-use Rattle.std.proofs.Common.{◌≡◌, ◌↔◌, ◌∙◌, sym, ap, ap₂, subst, refl, ℕ, List, Bool, Option, IsTrue, IfOk, length}
+use Rattle.std.proofs.Common.{◌≡◌, ◌↔◌, ◌∙◌, ◌<◌, sym, ap, subst, ℕ, List, Bool, Option, IsTrue, IfOk, length}
 use Rattle.std.specs.List.{AllByRecursion}
 use Rattle.std.proofs.lemmas.Result.{IfOk-weaker}
 use Rattle.aig_core.specs.declared.circuit.Circuit.{Circuit}
-use Rattle.aig_core.specs.declared.circuit.Gate.{Gate}
 use Rattle.aig_core.specs.Order.{IsLeastReadyOrder}
 use Rattle.aig_core.specs.Wellformed.{AreDistinct, defined_variables}
 use Rattle.aig_order.specs.declared.map_block.MappedGate.{MappedGate}
 use Rattle.aig_order.specs.MapBlock.{IsMappedImage}
-use Rattle.aig_order.specs.MapReading.{HasCountsOf, IsWithinBounds}
+use Rattle.aig_order.specs.MapReading.{HasCountsOf}
 use Rattle.aig_order.specs.Parts.Confirmed.{TellsExchanges}
 use Rattle.aig_order.specs.Parts.Turns.{positions}
 use Rattle.aig_order.specs.Undone.{undone, comment_behind}
 use Rattle.aig_order.proofs.BlockRead.{read_is_within}
-use Rattle.aig_order.proofs.Judged.{by_comment, by_exchanges, by_order}
+use Rattle.aig_order.proofs.Judged.{by_comment, by_exchanges, by_order, told_of_same}
 use Rattle.aig_order.proofs.SourceVariables.{places_there}
 use Rattle.aig_order.proofs.undoing.has_image.Goals as goal
 
@@ -29,16 +28,13 @@ tells_exchanges-requires c =
     subst (λ told. AllByRecursion (λ (g : MappedGate). g.place < length c.as_slice.result.now) told) (sym c.as_slice-2.ensures)
     (places_there c.args.block.now.max_var (length c.args.block.now.gates) c.args.block.now.gates within.1.gates (length c.as_slice.result.now) many)
 
-exchanges : (c : goal.After-tells_exchanges) → IsTrue c.tells_exchanges.result ↔ TellsExchanges c.args.image.now.gates c.args.block.now.gates
-exchanges c =
-    let gates = c.as_slice.ensures ∙ ap (λ (d : Circuit). d.gates) c.circuit-circuit.ensures.value in
-    subst (λ told. IsTrue c.tells_exchanges.result ↔ TellsExchanges c.args.image.now.gates told) c.as_slice-2.ensures
-    (subst (λ gs. IsTrue c.tells_exchanges.result ↔ TellsExchanges gs c.as_slice-2.result.now) gates c.tells_exchanges.ensures)
-
 pub returns-then-not-tells_exchanges : goal.returns-then-not-tells_exchanges
 returns-then-not-tells_exchanges c =
     by_exchanges c.args.image.now c.args.block.now c.args.comment.now c.circuit-circuit.ensures.well_formed c.requires.ordered c.requires.read c.requires.formed
-    c.tells_exchanges.result (exchanges c) c.if-not-tells_exchanges.true
+    c.tells_exchanges.result
+    (told_of_same TellsExchanges c.tells_exchanges.result c.as_slice.result.now c.args.image.now.gates c.as_slice-2.result.now c.args.block.now.gates
+    (c.as_slice.ensures ∙ ap (λ (d : Circuit). d.gates) c.circuit-circuit.ensures.value) c.as_slice-2.ensures c.tells_exchanges.ensures)
+    c.if-not-tells_exchanges.true
 
 pub tells_order-requires-clause-counts : goal.tells_order-requires-clause-counts
 tells_order-requires-clause-counts c =
@@ -51,11 +47,13 @@ pub returns : goal.returns
 returns c =
     let b = c.args.block.now in
     let comment = comment_behind b c.args.comment.now in
+    let exchanges = told_of_same TellsExchanges c.tells_exchanges.result c.as_slice.result.now c.args.image.now.gates c.as_slice-2.result.now c.args.block.now.gates
+    (c.as_slice.ensures ∙ ap (λ (d : Circuit). d.gates) c.circuit-circuit.ensures.value) c.as_slice-2.ensures c.tells_exchanges.ensures in
     let told = subst (λ (y : Circuit). (comment : Option (List ℕ)) → AreDistinct (defined_variables (undone b comment y))
-        → IfOk c.tells_order.result (λ (told : Bool). IsTrue told ↔ IsLeastReadyOrder (undone b comment y) (positions b.gates)))
+    → IfOk c.tells_order.result (λ (told : Bool). IsTrue told ↔ IsLeastReadyOrder (undone b comment y) (positions b.gates)))
     c.circuit-circuit.ensures.value c.tells_order.ensures in
     IfOk-weaker c.tells_order.result (λ (t : Bool). IsTrue t ↔ IsLeastReadyOrder (undone b comment c.args.image.now) (positions b.gates))
     (λ (t : Bool). IsTrue t ↔ IsMappedImage (undone b comment c.args.image.now) c.args.image.now)
     (by_order c.args.image.now b c.args.comment.now c.circuit-circuit.ensures.well_formed c.requires.ordered c.requires.read c.requires.formed
-    (c.tells_comment.ensures.0 c.if-not-tells_comment.false) ((exchanges c).0 c.if-not-tells_exchanges.false))
+    (c.tells_comment.ensures.0 c.if-not-tells_comment.false) (exchanges.0 c.if-not-tells_exchanges.false))
     (told comment c.requires.formed.once)

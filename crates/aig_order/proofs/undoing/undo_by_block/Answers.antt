@@ -1,7 +1,11 @@
 use Rattle.std.proofs.Common.{◌∙◌, ap, subst, sym}
+use Rattle.aig_core.specs.declared.circuit.Circuit.{Circuit}
+use Rattle.aig_core.specs.Wellformed.{AreDistinct, IsWellFormed, defined_variables}
+use Rattle.aig_binary.specs.BinaryOrder.{IsInBinaryOrder}
 use Rattle.aig_order.specs.MapReading.{HasCountsOf}
 use Rattle.aig_order.specs.Undone.{comment_behind, undone}
 use Rattle.aig_order.proofs.BlockRead.{read_is_within}
+use Rattle.aig_order.proofs.FormedAgain.{well_formed_again}
 use Rattle.aig_order.proofs.Refused.{of_places, of_source, of_confirmed}
 use Rattle.aig_order.proofs.undoing.undo_by_block.Goals as goal
 
@@ -24,3 +28,12 @@ pub returns-clause-fault : goal.returns-clause-fault
 returns-clause-fault c =
     of_confirmed c.args.image.now c.args.block c.args.comment.now c.requires.ordered c.requires.read c.in-Ok-check_source.source c.confirm.result
     (c.in-Ok-check_source.ensures.ok ∙ c.in-Ok.ensures.ok ∙ ap (undone c.args.block (comment_behind c.args.block c.args.comment.now)) c.circuit.ensures.value) c.confirm.ensures.err
+
+pub check_source-requires : goal.check_source-requires
+check_source-requires c =
+    let x = c.circuit.result.now in
+    let within = read_is_within c.args.image.now c.args.block c.args.comment.now c.requires.read in
+    let good = subst IsWellFormed (sym c.circuit.ensures.value) c.circuit.ensures.well_formed in
+    subst (λ (source : Circuit). AreDistinct (defined_variables source) → IsWellFormed source) (sym c.in-Ok.ensures.ok)
+    (well_formed_again x c.args.block (comment_behind c.args.block c.args.comment.now) good
+    (subst IsInBinaryOrder (sym c.circuit.ensures.value) c.requires.ordered) (subst (HasCountsOf c.args.block) (sym c.circuit.ensures.value) within.0) within.1 c.in-Ok.ensures.places)
