@@ -134,8 +134,9 @@ def least_ready(gates):
                 heapq.heappush(ready, user)
 
 
-def image(lines):
-    """The binary text of an ASCII circuit without symbols and comment, its gates in the least ready order."""
+def images(lines):
+    """The binary text of an ASCII circuit without symbols and comment, its gates in the least ready order; and the same
+    with the map."""
     header, *rows = ([int(it) for it in line.split() if it != "aag"] for line in lines)
     inputs, latches, outputs, count = header[1:]
     rest = iter(rows)
@@ -155,7 +156,18 @@ def image(lines):
         text += b"%d\n" % literal(old)
     for variable, left, right in (map(literal, gates[at]) for at in order):
         text += spelled(variable - max(left, right)) + spelled(abs(left - right))
-    return text
+    return text, text + b"c\n" + block(header, own[: inputs + latches], gates, order, literal)
+
+
+def block(header, first, gates, order, literal):
+    """The map block of a circuit without a comment, whose inputs and latches are these."""
+    places = [0] * len(gates)
+    for place, at in enumerate(order):
+        places[at] = place
+    lines = [f"aigmap 1 {header[0]} {header[1]} {header[2]} {len(gates)} 0", *map(str, first)]
+    for (variable, left, right), place in zip(gates, places):
+        lines.append(f"{variable // 2} {place} {int(literal(left) < literal(right))}")
+    return "\n".join([*lines, "aigmap end", ""]).encode()
 
 
 BINARY_KINDS = {
@@ -197,6 +209,16 @@ def image_of(path):
     return path if path.endswith(".aig") else f"{path}.image"
 
 
+def mapped_of(path):
+    """Where the binary text with the map stands, of an ASCII file of gates."""
+    return f"{path}.mapped"
+
+
+def source_of(path):
+    """The file itself."""
+    return path
+
+
 def write(name, folder=OUT):
     """Writes the file of that name and what stands beside it, and returns its path."""
     kind, count = name.rsplit("-", 1)
@@ -204,13 +226,14 @@ def write(name, folder=OUT):
     path = path_of(name, folder)
     if kind in BINARY_KINDS:
         text, lines = BINARY_KINDS[kind](int(count))
+        beside = {image_of(path): text}
     else:
         lines = list(KINDS[kind](int(count)))
-        text = image(lines) if kind.startswith("gates-") else None
+        beside = dict(zip((image_of(path), mapped_of(path)), images(lines) if kind.startswith("gates-") else ()))
     with open(ascii_of(path), "w", encoding="ascii") as file:
         file.writelines(lines)
-    if text is not None:
-        with open(image_of(path), "wb") as file:
+    for name_beside, text in beside.items():
+        with open(name_beside, "wb") as file:
             file.write(text)
     return path
 
@@ -218,7 +241,8 @@ def write(name, folder=OUT):
 def is_written(name, folder=OUT):
     """Whether the file of that name is there, with what stands beside it."""
     path = path_of(name, folder)
-    return all(os.path.isfile(it) for it in (path, ascii_of(path), *[image_of(path)] * name.startswith("gates-")))
+    beside = [image_of(path), mapped_of(path)] if name.startswith("gates-") else []
+    return all(os.path.isfile(it) for it in (path, ascii_of(path), *beside))
 
 
 def main():

@@ -21,7 +21,6 @@ TOP = os.path.dirname(os.path.dirname(os.path.abspath(__file__)))
 LINKED = f"{TOP}/crates/aiger/out/aiger"
 GNU_TIME = shutil.which("time", path="/usr/bin:/usr/local/bin")
 AIMED_AT = 1_000_000
-AIMED_BYTES = 80
 
 
 class Measurement(NamedTuple):
@@ -40,6 +39,8 @@ class Measurement(NamedTuple):
     made_by: str = ""
     # The quotient aimed at, by the kind of file, where it has AIMED_AT lines of its kind.
     aims: dict = {}
+    # How many bytes of memory a line there should be at most.
+    aimed_bytes: int = 80
 
 
 TO_BINARY_AIMS = {
@@ -49,6 +50,7 @@ TO_BINARY_AIMS = {
     "gates-chain": 1.0,
     **dict.fromkeys(generate.BINARY_KINDS, 0.5),
 }
+GATES = tuple(kind for kind in generate.KINDS if kind.startswith("gates-"))
 MEASUREMENTS = {
     "ascii": Measurement(
         words="aigtoaig --ascii",
@@ -61,6 +63,23 @@ MEASUREMENTS = {
         wanted=generate.image_of,
         may_reorder=True,
         aims=TO_BINARY_AIMS,
+    ),
+    "keep": Measurement(
+        words="aigtoaig --keep-map",
+        kinds=GATES,
+        wanted=generate.mapped_of,
+        beside="aigtoaig",
+        aims=dict.fromkeys(GATES, 1.6),
+        aimed_bytes=120,
+    ),
+    "undo": Measurement(
+        words="aigtoaig --undo-map --ascii",
+        kinds=GATES,
+        wanted=generate.source_of,
+        beside="aigtoaig --ascii",
+        made_by="aigtoaig --keep-map",
+        aims=dict.fromkeys(GATES, 2.0),
+        aimed_bytes=120,
     ),
 }
 
@@ -154,9 +173,10 @@ def judge(measurement, commands, file, source):
             sys.exit(f"bench/run.py: {name} does not give {measurement.wanted(file)} by {measurement.words}")
 
 
-def tell_ends(commands, floors, quotients, missed, runs):
+def tell_ends(measurement, commands, floors, quotients, missed, runs):
     """Prints what stands below a table."""
-    starts = best_seconds(list(commands.values()), smallest_file(), 5 * runs)
+    smallest = smallest_source(measurement, commands["aiger"][0])
+    starts = best_seconds(list(commands.values()), smallest, 5 * runs)
     print(f"\nBest of {runs} runs. On the file `aag 0 0 0 0 0`:", end=" ")
     ends = zip(commands, starts, floors)
     print("; ".join(f"{name} {start * 1e3:.2f} ms and {floor / 1e6:.1f} MB" for name, start, floor in ends) + ".")
@@ -175,17 +195,23 @@ def smallest_file():
     return smallest
 
 
-def missed_aims(name, aim, quotient, bytes_a_line):
+def smallest_source(measurement, program):
+    """What is read of the smallest file."""
+    return source_of(measurement, program, smallest_file())
+
+
+def missed_aims(name, aim, quotient, bytes_a_line, aimed_bytes):
     """The aims that this file's numbers do not meet."""
     if aim is None:
         return []
     missed = [f"{name} {quotient:.2f} of {aim}"] if quotient is not None and quotient > aim else []
-    return missed + [f"{name} {bytes_a_line:.0f} of {AIMED_BYTES} bytes"] * (bytes_a_line > AIMED_BYTES)
+    return missed + [f"{name} {bytes_a_line:.0f} of {aimed_bytes} bytes"] * (bytes_a_line > aimed_bytes)
 
 
 def measure(measurement, commands, files, runs):
     """Prints a table. The first command is compared with the second, if there is one."""
-    floors = [peak_bytes(it, smallest_file()) for it in commands.values()]
+    smallest = smallest_source(measurement, commands["aiger"][0])
+    floors = [peak_bytes(it, smallest) for it in commands.values()]
     heads = [f"{it}, ns a line" for it in commands] + ["quotient"] * (len(commands) > 1)
     heads += ["aim"] * bool(measurement.aims) + [f"{it}, bytes a line" for it in commands]
     print(f"`{measurement.words}`\n")
@@ -202,11 +228,11 @@ def measure(measurement, commands, files, runs):
         kind, count = kind_and_count(file)
         aim = measurement.aims.get(kind) if count == AIMED_AT else None
         quotients += [quotient] * (quotient is not None)
-        missed += missed_aims(name, aim, quotient, memory[0])
+        missed += missed_aims(name, aim, quotient, memory[0], measurement.aimed_bytes)
         cells = [f"{it * 1e9 / lines:.1f}" for it in times] + [f"{it:.2f}" for it in quotients[-1:]]
         cells += [f"{aim or ''}"] * bool(measurement.aims) + [f"{it:.0f}" for it in memory]
         row(name, f"{lines:,}", *cells)
-    tell_ends(commands, floors, quotients, missed, runs)
+    tell_ends(measurement, commands, floors, quotients, missed, runs)
 
 
 def asked():
