@@ -2,8 +2,8 @@
 # and writes it again, and what it writes must have as many inputs, latches, outputs and gates. Where none is installed,
 # that is said in a line, and nothing fails.
 #
-# This was written without any of them at hand and was never run with one: where a row fails, look at the words for that
-# tool first. They may merge equal gates and leave out gates that nothing uses; no example has such gates.
+# Tried with berkeley-abc 1.01 and yosys 0.23 of Debian 12. They may merge equal gates and leave out gates that nothing
+# uses; no example has such gates. For yosys a latch has to be made a flip-flop of its gate library (simplemap).
 
 # the tools of Debian's packages berkeley-abc and yosys
 other_tools=()
@@ -16,7 +16,7 @@ write_again() {
     (
         cd "$work" || exit
         case $1 in
-            yosys) exec timeout 60 yosys -q -p 'read_aiger in.aig; write_aiger out.aig' ;;
+            yosys) exec timeout 60 yosys -q -p 'read_aiger in.aig; simplemap; write_aiger out.aig' ;;
             *) exec timeout 60 "$1" -c 'read_aiger in.aig; write_aiger out.aig' ;;
         esac
     ) > "$work/out" 2>&1 < /dev/null
