@@ -1,13 +1,14 @@
--- A well-formed circuit in binary order: the order of its gates is 0, 1, 2 and so on.
+-- A circuit in binary order: the order of its gates is 0, 1, 2 and so on.
 use Rattle.std.proofs.Common.{◌≡◌, ◌+◌, ◌*◌, ◌/◌, ◌<◌, ◌≤◌, ℕ, zero, suc, List, [], ◌∷◌, length, map, inl, inr, ⊎_elim, arith}
 use Rattle.std.specs.List.{range_with_len}
 use Rattle.std.proofs.lemmas.Bool.{cases_lt}
 use Rattle.aig_core.specs.declared.circuit.Gate.{Gate}
+use Rattle.aig_core.specs.declared.circuit.Circuit.{Circuit}
 use Rattle.aig_core.specs.Literal.{variable_of}
 use Rattle.aig_core.specs.Wellformed.{IsAmong}
-use Rattle.aig_core.specs.Order.{IsReady, TakesLeast, IsFull, gate_operands}
+use Rattle.aig_core.specs.Order.{IsLeastReadyOrder, IsReady, TakesLeast, IsFull, gate_operands}
 use Rattle.aig_core.proofs.Ranked.{at, over_one, all_served}
-use Rattle.aig_binary.specs.BinaryOrder.{AreOrderedGates}
+use Rattle.aig_binary.specs.BinaryOrder.{AreOrderedGates, IsInBinaryOrder}
 use Rattle.aig_binary.proofs.Grammar.Ranges.{among}
 
 -- where each gate needs only those before it, they are taken one after another
@@ -56,7 +57,7 @@ lower_variable : (x var left right : ℕ) → left < 2 * var → right ≤ left 
 lower_variable x var left right l r a =
     ⊎_elim (λ (e : x ≡ left / 2). omega (arith, l, e)) (λ (i : IsAmong x (right / 2 ∷ [])). ⊎_elim (λ (e : x ≡ right / 2). omega (arith, l, r, e)) (λ (n : ⊥). absurd n) i) a
 
-pub needs_fall : (v : ℕ) (gates : List Gate) → AreOrderedGates v gates → (g h : ℕ) → g < length gates → IsAmong h (gate_operands gates g) → h < g
+needs_fall : (v : ℕ) (gates : List Gate) → AreOrderedGates v gates → (g h : ℕ) → g < length gates → IsAmong h (gate_operands gates g) → h < g
 needs_fall v gates ordered g h there used =
     let over = over_one gates g h there used in
     let here = ordered_at v gates ordered g there in
@@ -65,3 +66,12 @@ needs_fall v gates ordered g h there used =
     let number_under : (at gates h).var ≡ v + h = under.0 in
     let low : (at gates h).var < (at gates g).var = lower_variable (at gates h).var (at gates g).var (at gates g).left (at gates g).right here.1 here.2 over.1 in
     omega (arith, number, number_under, low)
+
+-- so they are taken as they stand
+pub in_order : (c : Circuit) → IsInBinaryOrder c → IsLeastReadyOrder c (range_with_len 0 (length c.gates))
+in_order c ordered =
+    let falls = needs_fall (1 + length c.inputs + length c.latches) c.gates ordered.gates in
+    record {
+      in_turn = one_by_one (length c.gates) (gate_operands c.gates) falls;
+      full = all_of_them (length c.gates) (gate_operands c.gates) falls;
+    }

@@ -52,7 +52,7 @@ module _ (c : Circuit) (order : List ℕ) (good : IsWellFormed c) (least : IsLea
   InRange = IsVariableUpTo c.max_var
 
   -- every gate is taken
-  all_taken : length order ≡ length c.gates
+  pub all_taken : length order ≡ length c.gates
   all_taken = as_many c.gates order vs start (not_more c order good least) (by_order c order good least) (by_gate c order good least)
 
   -- the block tells of as many inputs, latches and gates as the image has

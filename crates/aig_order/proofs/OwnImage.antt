@@ -8,7 +8,6 @@ use Rattle.aig_core.specs.declared.circuit.Gate.{Gate}
 use Rattle.aig_core.specs.declared.circuit.Circuit.{Circuit}
 use Rattle.aig_core.specs.Wellformed.{IsVariableUpTo, IsWellFormed, operands}
 use Rattle.aig_core.specs.Form.{IsInForm, IsLiteralUpTo}
-use Rattle.aig_core.specs.Order.{IsLeastReadyOrder, gate_operands}
 use Rattle.aig_core.proofs.Fitting.{well_formed_in_form}
 use Rattle.aig_core.proofs.InForm.{front, back}
 use Rattle.aig_core.proofs.Ranked.{no_gate, variables}
@@ -16,17 +15,12 @@ use Rattle.aig_binary.specs.BinaryOrder.{IsInBinaryOrder}
 use Rattle.aig_binary.proofs.Grammar.Ranges.{variables_are}
 use Rattle.aig_order.specs.Image.{IsBinaryImage, latch_image, gate_image}
 use Rattle.aig_order.specs.Renumbering.{in_new_order, renumbered, renumbered_literal, taken}
-use Rattle.aig_order.proofs.OneByOne.{one_by_one, all_of_them, needs_fall}
+use Rattle.aig_order.proofs.OneByOne.{in_order}
 use Rattle.aig_order.proofs.Same.{same_variables, same_literals, same_latches, same_gates}
 
 module _ (c : Circuit) (good : IsWellFormed c) (ordered : IsInBinaryOrder c) where
   abbrev order : List ℕ
   order = range_with_len 0 (length c.gates)
-
-  in_order : IsLeastReadyOrder c order
-  in_order =
-      let falls = needs_fall (1 + length c.inputs + length c.latches) c.gates ordered.gates in
-      record { in_turn = one_by_one (length c.gates) (gate_operands c.gates) falls; full = all_of_them (length c.gates) (gate_operands c.gates) falls }
 
   abbrev all : List ℕ
   all = range_with_len 1 c.max_var
@@ -74,4 +68,4 @@ module _ (c : Circuit) (good : IsWellFormed c) (ordered : IsInBinaryOrder c) whe
       λ i. record { max_var = as_many i; inputs = first i; latches = second i; outputs = third i; gates = last i; symbols = c.symbols; comment = c.comment }
 
   pub own_image : IsBinaryImage c c
-  own_image = (order, in_order, sym (ap₂ with_numbers new_is all_taken ∙ same_circuit))
+  own_image = (order, in_order c ordered, sym (ap₂ with_numbers new_is all_taken ∙ same_circuit))
