@@ -1,11 +1,12 @@
 //! The undone circuit: what a circuit was before its conversion, by a map block.
 ghost use Rattle.std.specs.Prelude.{◌≡◌, ◌<◌, ◌⊎◌, Some, None, length, map, IfOk, IfErr};
+ghost use Rattle.std.specs.Bool.{OnTrue, OnFalse};
 ghost use Rattle.std.specs.List.{AllByRecursion};
 ghost use Rattle.aig_core.specs.Wellformed.{AreDistinct};
 ghost use Rattle.aig_order.specs.declared.fault.MapFault.TheVariants.{Forged as IsForged, OutOfMemory as IsOutOfMemory};
 ghost use Rattle.aig_order.specs.declared.map_block.MappedGate.{MappedGate as MappedGateRecord};
 ghost use Rattle.aig_order.specs.MapReading.{HasCountsOf, IsWithinBounds};
-ghost use Rattle.aig_order.specs.Parts.Placed.{table_of, FitIntoLiterals};
+ghost use Rattle.aig_order.specs.Parts.Placed.{table_of, with_gates, FitIntoLiterals};
 ghost use Rattle.aig_order.specs.Undone.{comment_behind, source_gate, source_latch, source_literal, source_variable};
 ghost use Rattle.aig_order.specs.Undone.{source_variables, undone};
 
@@ -14,6 +15,23 @@ use crate::map_block::{MapBlock, MappedGate};
 use aig_core::{Circuit, Gate, Latch, Listing, Lit, OutOfMemory, Var, copy_symbols};
 use std::alloc::Global;
 
+/// Puts the variables of gates at their places, up to the first gate whose place has a variable. Whether none has.
+fn put_gates(placed: &mut [Var], gates: &[MappedGate]) -> bool
+    requires { AllByRecursion (λ (g : MappedGateRecord). g.place < length placed.old) gates.now }
+    ensures all { OnTrue result (with_gates placed.old gates.now ≡ Some placed.new) }
+    ensures twice { OnFalse result (with_gates placed.old gates.now ≡ None) }
+{
+    for gate in gates {
+        let at = gate.place as usize;
+        let there = placed[at];
+        if there.0 != 0 {
+            return false;
+        }
+        placed[at] = gate.var;
+    }
+    true
+}
+
 /// The variables of the gates by their places. No two gates may have one place.
 fn place_gates(alloc: Global, gates: &[MappedGate]) -> Result<Vec<Var>, MapFault>
     requires { AllByRecursion (λ (g : MappedGateRecord). g.place < length gates.now) gates.now }
@@ -21,14 +39,11 @@ fn place_gates(alloc: Global, gates: &[MappedGate]) -> Result<Vec<Var>, MapFault
     ensures err { IfErr result (λ e. (e ≡ IsOutOfMemory) ⊎ ((e ≡ IsForged) × (table_of gates.now ≡ None))) }
 {
     let mut placed = vec![in alloc; Var(0); gates.len()]?;
-    for gate in gates {
-        let at = gate.place as usize;
-        if placed[at].0 != 0 {
-            return Err(MapFault::Forged);
-        }
-        placed[at] = gate.var;
+    if put_gates(placed.as_mut_slice(), gates) {
+        Ok(placed)
+    } else {
+        Err(MapFault::Forged)
     }
-    Ok(placed)
 }
 
 /// The variables of the source in their new order: inputs, latches, and gates by their places.
