@@ -48,7 +48,7 @@ one_conversion request bytes text other p q =
     (subst (λ (c : Circuit). IsTextAs request.ascii request.keep_map (changed request c) text) source p.written_as) q.written_as
 
 -- what a conversion that leaves nothing out writes
-unchanged : (request : ToAig) (c : Circuit) → request.strip ≡ false → changed request c ≡ c
+pub unchanged : (request : ToAig) (c : Circuit) → request.strip ≡ false → changed request c ≡ c
 unchanged request c whole = rw whole refl
 
 -- of a file of a circuit at the default limit, that circuit is read
@@ -68,10 +68,10 @@ plainly : (request : ToAig) (bytes text : List ℕ) (c : Circuit) → IsPlain re
 plainly request bytes text c plain file p =
     subst (λ keep. IsTextAs request.ascii keep c text) plain.keep_map (written request bytes text c plain.limit plain.strip plain.undo_map file p)
 
-binary_file : (c : Circuit) (text : List ℕ) → IsWellFormed c → IsInBinaryOrder c → text ≡ binary_text c → IsFileOf text LARGEST c
+pub binary_file : (c : Circuit) (text : List ℕ) → IsWellFormed c → IsInBinaryOrder c → text ≡ binary_text c → IsFileOf text LARGEST c
 binary_file c text good ordered is = inr (rw is (canonical_binary c good (well_formed_in_form c good) ordered))
 
-ascii_file : (c : Circuit) (text : List ℕ) → IsWellFormed c → text ≡ ascii_text c → IsAsciiText text LARGEST c
+pub ascii_file : (c : Circuit) (text : List ℕ) → IsWellFormed c → text ≡ ascii_text c → IsAsciiText text LARGEST c
 ascii_file c text good is = rw is (canonical_text c good (well_formed_in_form c good) (definitions_fit c good))
 
 pub through_ascii : (there back : ToAig) → IsPlain there → there.ascii ≡ true → IsPlain back → back.ascii ≡ false
@@ -84,7 +84,7 @@ through_ascii there back plain_there to_ascii plain_back to_binary file ascii bi
     last.2 ∙ ap binary_text (same_image c last.0 c last.1 (own_image c good canonical.2)) ∙ sym canonical.3
 
 -- what is written where the map is kept
-with_map : (request : ToAig) (bytes text : List ℕ) (c : Circuit) → KeepsMap request → IsFileOf bytes LARGEST c → IsConversionText request bytes text
+pub with_map : (request : ToAig) (bytes text : List ℕ) (c : Circuit) → KeepsMap request → IsFileOf bytes LARGEST c → IsConversionText request bytes text
     → (image : Circuit) × IsMappedImage c image × (text ≡ binary_text image)
 with_map request bytes text c keeps file p =
     let as_asked = written request bytes text c keeps.limit keeps.strip keeps.undo_map file p in

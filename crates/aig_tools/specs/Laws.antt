@@ -1,5 +1,5 @@
 -- What the definitions of this crate say of one another.
-use Rattle.std.specs.Prelude.{◌≡◌, ◌↔◌, ℕ, List, Ok, true, false}
+use Rattle.std.specs.Prelude.{◌≡◌, ◌↔◌, ℕ, List, None, Ok, true, false}
 use Rattle.aig_core.specs.declared.circuit.TheConstants.{LARGEST}
 use Rattle.aig_core.specs.Wellformed.{IsWellFormed}
 use Rattle.aig_text.specs.AsciiText.{ascii_text}
@@ -7,8 +7,11 @@ use Rattle.aig_text.specs.AsciiGrammar.{IsAsciiText}
 use Rattle.aig_binary.specs.BinaryOrder.{IsInBinaryOrder}
 use Rattle.aig_binary.specs.BinaryText.{binary_text}
 use Rattle.aig_core.specs.declared.circuit.Circuit.{Circuit}
+use Rattle.aig_order.specs.declared.fault.MapFault.{MapFault}
+use Rattle.aig_order.specs.declared.fault.MapFault.TheVariants.{OutOfMemory}
+use Rattle.aig_order.specs.Undone.{IsMapFault}
 use Rattle.aig_tools.specs.declared.request.ToAig.{ToAig}
-use Rattle.aig_tools.specs.File.{IsFileOf, file_reading}
+use Rattle.aig_tools.specs.File.{IsFileOf, file_reading, first_fault}
 use Rattle.aig_tools.specs.Conversion.{IsConversionText}
 
 -- what is read of a text is exactly the circuit whose file it is, of either kind
@@ -67,3 +70,24 @@ UndoingGivesAsciiBack = (there back : ToAig) → KeepsMap there → UndoesMap ba
 pub record Headline : Type 0 where
   pub undoing_gives_ascii_back : UndoingGivesAsciiBack
   pub binary_survives_ascii : BinarySurvivesAscii
+
+-- every ASCII file of a circuit has a conversion text with the map, and that has one with the map undone
+abbrev pub AsciiFilesConvertThereAndBack : Type 0
+AsciiFilesConvertThereAndBack = (there back : ToAig) → KeepsMap there → UndoesMap back
+    → (c : Circuit) (file : List ℕ) → IsAsciiText file LARGEST c
+    → (binary : List ℕ) × (ascii : List ℕ) × IsConversionText there file binary × IsConversionText back binary ascii
+
+-- every canonical binary file has a conversion text to ASCII, and that has one to binary
+abbrev pub BinaryFilesConvertThereAndBack : Type 0
+BinaryFilesConvertThereAndBack = (there back : ToAig)
+    → IsPlain there → there.ascii ≡ true → IsPlain back → back.ascii ≡ false → (file : List ℕ) → IsCanonicalBinary file
+    → (ascii : List ℕ) × (binary : List ℕ) × IsConversionText there file ascii × IsConversionText back ascii binary
+
+-- A text that was converted with the map has no fault, nor has its map, so it is read and undone unless an allocation
+-- fails.
+abbrev pub MappedTextsHaveNoFault : Type 0
+MappedTextsHaveNoFault = (there : ToAig) → KeepsMap there
+    → (file binary : List ℕ) → IsConversionText there file binary
+    → (first_fault LARGEST binary ≡ None)
+    × ((found : Circuit) (fault : MapFault)
+    → IsFileOf binary LARGEST found → IsMapFault found fault → fault ≡ OutOfMemory)
