@@ -40,7 +40,7 @@ cp "$program" "$work/program"
 launch() { RT=$work/rt "$tree/aiger" "$@"; }
 calls() { wc -l < "$work/calls"; }
 edit() { echo '// more' >> "$tree/crates/low/src/lib.rt"; }
-begins='aiger: proving and linking the program, some minutes the first time ..
+begins='aiger: proving and linking the program, about ten minutes the first time ..
 aiger: proving 1 of 2: low ..
 aiger:   0 of 2 functions checked
 '
@@ -48,11 +48,28 @@ proves="${begins}aiger: low is proved
 aiger: proving 2 of 2: aiger ..
 aiger:   0 of 2 functions checked
 aiger: aiger is proved
-aiger: linked
+aiger: the program is linked
 "
 
-# --- what it proves, and when ---
+# --- help, while there is no program that could answer ---
 : > "$work/calls"
+# helps NAME WORD..: a launch with these words prints what is to come, and starts nothing
+helps() {
+    local name=$1
+    shift
+    launch "$@" > "$work/out" 2> "$work/err"
+    echo $? > "$work/status"
+    grep -q '^The program is not linked' "$work/out" && : > "$work/out"
+    cat "$work/calls" >> "$work/err"
+    wants '' '' 0
+    judge "$name before the program is linked" "$(cat "$work/status")"
+}
+for word in -h --help -V --version; do helps "$word" "$word"; done
+helps 'help for a command' aigtoaig --help
+wants '' 'aiger: cannot write the help text\n' 125
+check 'help that cannot be written' output_full launch --help
+
+# --- what it proves, and when ---
 wants "$small" "$proves" 0
 check 'the first launch' launch aigtoaig --ascii < "$work/small"
 wants 'lib\nrun -- aigtoaig --ascii\n' '' 0
@@ -98,6 +115,9 @@ seen 'an older source' older
 seen 'a source of the same size and date' same_date
 seen 'a new source' cp "$tree/crates/low/src/lib.rt" "$tree/crates/low/src/new.rt"
 seen 'a source that has gone' rm "$tree/crates/low/src/new.rt"
+in_folder() { mkdir "$tree/crates/low/src/$1" && cp "$tree/crates/low/src/lib.rt" "$tree/crates/low/src/$1/new.rt"; }
+seen 'a new source in a folder named out' in_folder out
+seen 'a new source in a folder named must-fail' in_folder must-fail
 seen 'a changed definition' touch "$tree/crates/low/specs/More.antt"
 seen 'a changed crates.txt' touch "$tree/crates.txt"
 seen 'another rt' newer_kit
@@ -107,13 +127,16 @@ seen 'another program' other_program
 touch "$tree/crates/beside/src/lib.rt"
 wants "$small" '' 0
 check 'a crate that the program does not stand on' launch aigtoaig --ascii < "$work/small"
+mkdir "$tree/crates/low/out" "$tree/crates/low/must-fail"
+touch "$tree/crates/low/out/kept" "$tree/crates/low/must-fail/wrong.edit"
+check 'what rt keeps beside the sources, and edits that must fail' launch aigtoaig --ascii < "$work/small"
 
 # --- no rt ---
 with_rt() { ( export RT=$1 && shift && exec "$@" ); }
 on_the_path() { ( unset RT; export PATH=$1:/usr/bin:/bin && shift && exec "$@" ); }
 check 'a linked program needs no rt' with_rt "$work/none" "$tree/aiger" aigtoaig --ascii < "$work/small"
 edit
-wants '' "aiger: there is no rt at $work/none to prove and link the program\n" 125
+wants '' "aiger: cannot prove and link the program: there is no command $work/none\n" 125
 check 'a changed source needs an rt' with_rt "$work/none" "$tree/aiger" aigtoaig --ascii < "$work/small"
 wants '' '' 125
 check 'and with a closed standard error' \
@@ -121,14 +144,14 @@ check 'and with a closed standard error' \
 wants "$small" "$proves" 0
 check 'rt on the PATH' on_the_path "$work" "$tree/aiger" aigtoaig --ascii < "$work/small"
 rm "$tree/crates/aiger/out/launch.stamp"
-wants '' 'aiger: there is no rt on the PATH to prove and link the program\n' 125
+wants '' 'aiger: cannot prove and link the program: rt of the Rattle kit is not on the PATH\n' 125
 check 'no rt on the PATH' on_the_path "$work/none" "$tree/aiger" aigtoaig --ascii < "$work/small"
 
 # --- a proof that fails ---
 echo low > "$work/broken"
 wants '' "${begins}aiger:   src/lib.rt:64:5: it is not proved that what the function ensures holds
 aiger:   fn low::first: no proof: expected answers in ./proofs/first/Answers.antt
-aiger: low is not proved; what rt said is in $tree/crates/aiger/out/launch.log
+aiger: low is not proved; the output of rt is in $tree/crates/aiger/out/launch.log
 " 125
 check 'a crate without a proof' launch aigtoaig --ascii < "$work/small"
 check 'and once more' launch aigtoaig --ascii < "$work/small"
@@ -189,7 +212,7 @@ let_go
 wants "$small" "$proves" 0
 wait "$held"
 judge 'the first of two launches' $?
-wants "$small" 'aiger: waiting for another launch, which is proving ..\n' 0
+wants "$small" 'aiger: waiting for another launch that is proving the program ..\n' 0
 wait "$second"
 ended=$?
 mv "$work/out2" "$work/out"
@@ -201,7 +224,7 @@ check 'two launches prove once' cat "$work/calls"
 hold
 edit
 let_go
-wants '' "${proves%linked?}the sources were changed while they were proved: start again\n" 125
+wants '' "${proves%the program is linked?}the sources changed while they were being proved: run this again\n" 125
 wait "$held"
 judge 'an edit while it proves' $?
 wants "$small" "$proves" 0
@@ -224,5 +247,5 @@ wait
 # --- a folder that cannot be written ---
 mv "$tree/crates/aiger/out" "$tree/kept"
 : > "$tree/crates/aiger/out"
-wants '' "aiger: cannot make the folder $tree/crates/aiger/out\n" 125
+wants '' "aiger: cannot create the folder $tree/crates/aiger/out\n" 125
 check 'a file in the place of out' launch aigtoaig --ascii < "$work/small"
