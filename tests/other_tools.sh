@@ -1,15 +1,9 @@
 # Other programs that read AIGER files, for end_to_end.sh: each that is installed reads the binary image of each example
-# and writes it again, and what it writes must have as many inputs, latches, outputs and gates. Where none is installed,
-# that is said in a line, and nothing fails.
+# and writes it again, and what it writes must have as many inputs, latches, outputs and gates. The examples of a program
+# that is not installed count as skipped.
 #
 # Tried with berkeley-abc 1.01 and yosys 0.23 of Debian 12. They may merge equal gates and leave out gates that nothing
 # uses; no example has such gates. For yosys a latch has to be made a flip-flop of its gate library (simplemap).
-
-# the tools of Debian's packages berkeley-abc and yosys
-other_tools=()
-for tool in berkeley-abc yosys-abc yosys; do
-    if command -v "$tool" > /dev/null; then other_tools+=("$tool"); fi
-done
 
 # write_again TOOL: has the tool read in.aig and write out.aig, in the folder $work, where it may leave other files too
 write_again() {
@@ -45,7 +39,12 @@ tool_agrees() {
     fi
 }
 
-for tool in "${other_tools[@]}"; do
-    for file in "$top"/examples/*.aag "$top"/examples/*.aig; do tool_agrees "$tool" "$file"; done
+examples=("$top"/examples/*.aag "$top"/examples/*.aig)
+# the tools of Debian's packages berkeley-abc and yosys
+for tool in berkeley-abc yosys-abc yosys; do
+    if command -v "$tool" > /dev/null; then
+        for file in "${examples[@]}"; do tool_agrees "$tool" "$file"; done
+    else
+        skip "${#examples[@]}" "$tool is not installed, to read the binary images of the examples"
+    fi
 done
-[ ${#other_tools[@]} != 0 ] || printf 'skipped: no other program that reads AIGER is installed (berkeley-abc, yosys)\n'

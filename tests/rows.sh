@@ -7,6 +7,7 @@ top=$(cd "$(dirname "${BASH_SOURCE[0]}")/.." && pwd)
 program=${AIGER:-$top/crates/aiger/out/aiger}   # AIGER names another executable to try the same rows on
 passed=0
 failed=0
+skipped=0
 
 # pass NAME, fail NAME LINE..: count a row, and say what was wanted and what came
 pass() { passed=$((passed + 1)); }
@@ -15,6 +16,11 @@ fail() {
     printf 'FAILED %s\n' "$1"
     shift
     [ $# = 0 ] || printf '    %s\n' "$@"
+}
+# skip COUNT REASON: counts rows that are left out, and says why
+skip() {
+    skipped=$((skipped + $1))
+    printf 'SKIPPED %s: %s\n' "$1" "$2"
 }
 
 # the beginning of a file on one line, for a message
@@ -34,7 +40,9 @@ need_program() {
 
 # the last line of each script, which ./test adds up
 finish() {
-    printf '%s passed, %s failed\n' "$passed" "$failed"
+    local skips=
+    [ "$skipped" = 0 ] || skips=", $skipped skipped"
+    printf '%s passed, %s failed%s\n' "$passed" "$failed" "$skips"
     [ "$failed" = 0 ] && [ "$passed" != 0 ]
     exit
 }
