@@ -1,7 +1,8 @@
 -- Steps of an order: one for each gate that is listed, and one for each operand over it.
-use Rattle.std.proofs.Common.{◌≡◌, ◌<◌, ◌≤◌, ◌+◌, ℕ, suc, List, [], ◌∷◌, length, map, get_or, Bool, cond, eqb, ltb, true, false, refl, sym, ap, ap₂, subst, ◌∙◌, ⊎_elim, arith, inl, inr}
+use Rattle.std.proofs.Common.{◌≡◌, ◌<◌, ◌≤◌, ◌+◌, ◌*◌, ℕ, suc, Option, None, Some, List, [], ◌∷◌, length, ◌++◌, map, get_or, Bool, cond, eqb, ltb, true, false, refl, sym, ap, ap₂, subst, ◌∙◌, ⊎_elim, arith, inl, inr}
 use mathlib.Core.Bool.{◌&&◌, not}
 use Rattle.std.specs.List.{AllByRecursion, count_by, sum, sum_by, flat_map}
+use Rattle.std.specs.Option.{option_to_list}
 use Rattle.std.proofs.lemmas.Bool.{cases_lt}
 use Rattle.std.proofs.lemmas.List.{get_or-map, get_or_past, length-map}
 use Rattle.std.proofs.lemmas.Simd.{map-map}
@@ -9,12 +10,13 @@ use Rattle.std.proofs.lemmas.List.Concat.{flat_map-cons}
 use Rattle.std.proofs.lemmas.List.Sums.{sum_by-cons, sum_by-append, sum-map}
 use Rattle.aig_core.specs.declared.circuit.Gate.{Gate}
 use Rattle.aig_core.specs.declared.circuit.Circuit.{Circuit}
-use Rattle.aig_core.specs.declared.order.operands.Operands.{Operands}
+use Rattle.aig_core.specs.declared.operands.Operands.{Operands}
 use Rattle.aig_core.specs.Wellformed.{IsAmong}
-use Rattle.aig_core.specs.Order.{gates_under, gate_operands, operands_over}
+use Rattle.aig_core.specs.Literal.{variable_of}
+use Rattle.aig_core.specs.Order.{gate_of, gates_under, gate_operands, operands_over}
 use Rattle.aig_core.specs.Operands.{over, operands_of, operands_at, AreOverGates}
 use Rattle.aig_core.proofs.Ranked.{over_one, needed, no_gate}
-use Rattle.aig_core.proofs.Ordered.{Stands, listed, open_ones, open_less}
+use Rattle.aig_core.proofs.Ordered.{Stands, no_longer, listed, open_ones, open_less}
 
 -- what holds of each holds of all
 pub all_of : (P : ℕ → Type 0) (xs : List ℕ) → ((x : ℕ) → IsAmong x xs → P x) → AllByRecursion P xs
@@ -111,3 +113,28 @@ steps_are c list waiting has steps stands =
     let left : sum waiting ≡ sum_by (waiting_of c.gates list) c.gates =
     sum_at (waiting_of c.gates list) c.gates waiting stands.as_many (λ u there. stands.waits u there ∙ ap (open_ones list) (needed c.gates u there)) in
     omega (arith, stands.paid, left, by_gates c.gates list c.gates, sum-map (λ (g : Gate). length (gates_under c.gates g)) c.gates)
+
+two_at_most : (a b : Option ℕ) → length (option_to_list a ++ option_to_list b) ≤ 2
+two_at_most None None = omega arith
+two_at_most None (Some y) = omega arith
+two_at_most (Some x) None = omega arith
+two_at_most (Some x) (Some y) = omega arith
+
+few_operands : (gates gs : List Gate) → sum (map (λ (g : Gate). length (gates_under gates g)) gs) ≤ 2 * length gs
+few_operands gates [] = omega arith
+few_operands gates (g ∷ gs) =
+    let counts : List Gate → List ℕ = map (λ (h : Gate). length (gates_under gates h)) in
+    let all : sum (counts (g ∷ gs)) ≡ length (gates_under gates g) + sum (counts gs) =
+    sum_by-cons (λ n. n) (length (gates_under gates g)) (counts gs) in
+    let here : length (gates_under gates g) ≤ 2 =
+    two_at_most (gate_of gates (variable_of g.left)) (gate_of gates (variable_of g.right)) in
+    omega (arith, all, here, few_operands gates gs)
+
+-- at any time at most three steps were made for each gate
+pub few_steps : (gates : List Gate) (list waiting : List ℕ) (has : ℕ → Bool) (steps : ℕ)
+    → Stands (length gates) (gate_operands gates) list waiting has steps
+    (sum (map (λ (g : Gate). length (gates_under gates g)) gates)) → steps ≤ 3 * length gates
+few_steps gates list waiting has steps stands =
+    let listed : length list ≤ length gates =
+    no_longer (length gates) (gate_operands gates) list stands.in_turn in
+    omega (arith, stands.paid, listed, few_operands gates gates)

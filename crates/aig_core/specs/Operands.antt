@@ -3,7 +3,7 @@ use Rattle.std.specs.Prelude.{ℕ, List, [], ◌++◌, ◌<◌, map, length, sli
 use Rattle.std.specs.List.{AllByRecursion}
 use Rattle.std.specs.Option.{option_to_list}
 use Rattle.aig_core.specs.declared.circuit.Gate.{Gate}
-use Rattle.aig_core.specs.declared.order.operands.Operands.{Operands}
+use Rattle.aig_core.specs.declared.operands.Operands.{Operands}
 use Rattle.aig_core.specs.Literal.{variable_of}
 use Rattle.aig_core.specs.Order.{gate_of}
 

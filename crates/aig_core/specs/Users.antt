@@ -2,7 +2,7 @@
 -- a link is one more than an operand, or 0 at the end of a chain.
 use Rattle.std.specs.Prelude.{ℕ, zero, suc, ◌==◌, ◌-◌, ◌/◌, ◌≤◌, List, [], ◌∷◌, slice_index, Option, None, Some, if◌then◌else◌}
 use Rattle.std.specs.List.{count_by}
-use Rattle.aig_core.specs.declared.order.users.Users.{Users}
+use Rattle.aig_core.specs.declared.least_ready.users.Users.{Users}
 
 -- the users along a chain, at most so many
 unfoldable pub users_up_to : ℕ → List ℕ → ℕ → List ℕ

@@ -1,5 +1,6 @@
-//! The order of gates.
-ghost use Rattle.std.specs.Prelude.{◌≡◌, ◌+◌, ◌-◌, ◌<◌, ◌≤◌, [], ◌∷◌, ◌++◌, length, map, nat_lt, slice_index, slice_set, IfOk};
+//! An order of gates that is being made. No module stands in this one: its fields are private, so steps change through
+//! `take` and `count_down` alone.
+ghost use Rattle.std.specs.Prelude.{◌≡◌, ◌+◌, ◌-◌, ◌*◌, ◌<◌, ◌≤◌, [], ◌∷◌, ◌++◌, length, map, nat_lt, slice_index, slice_set, IfOk};
 ghost use Rattle.aig_core.specs.Wellformed.{IsAmong};
 ghost use Rattle.aig_core.specs.Order.{gates_under};
 ghost use Rattle.aig_core.specs.Operands.{how_many};
@@ -7,18 +8,9 @@ ghost use Rattle.std.specs.List.{position};
 
 use crate::circuit::{Circuit, LARGEST};
 use crate::fault::OutOfMemory;
-use crate::order::operands::{Operands, all_operands};
+use crate::operands::{Operands, all_operands};
 use std::alloc::{AllocError, Global};
 use std::marker::Model;
-
-mod gate_index;
-mod least_ready;
-mod operands;
-mod ready;
-mod serve;
-mod users;
-
-pub use crate::order::least_ready::gate_order;
 
 /// An order of gates that is being made: the positions of the gates that are taken, how many operands each gate still
 /// waits for, and how many steps were made.
@@ -46,7 +38,7 @@ impl Model for Order {
 
 impl Order {
     /// No gate taken, where the gates have these operands.
-    fn waiting_for(alloc: Global, operands: &[Operands]) -> Result<Self, AllocError>
+    pub(crate) fn waiting_for(alloc: Global, operands: &[Operands]) -> Result<Self, AllocError>
         requires { length operands.now ≤ LARGEST }
         ensures { IfOk result (λ order. order ≡ record { list = []; waiting = map how_many operands.now; steps = 0 }) }
     {
@@ -84,7 +76,8 @@ impl Order {
 
     /// How many steps were made.
     pub fn steps(&self) -> u64
-        ensures { result ≡ self.now.steps }
+        ensures value { result ≡ self.now.steps }
+        ensures few { result ≤ 3 * length self.now.waiting }
     {
         self.steps
     }

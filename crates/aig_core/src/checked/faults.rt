@@ -16,9 +16,10 @@ ghost use Rattle.aig_core.specs.declared.circuit.TheConstants.{LARGEST as larges
 use crate::circuit::{Circuit, Gate, LARGEST};
 use crate::entry::Entry;
 use crate::fault::{CheckFault, OutOfMemory};
+use crate::least_ready::gate_order;
 use crate::listing::Listing;
 use crate::literal::Lit;
-use crate::order::{Order, gate_order};
+use crate::order::Order;
 use crate::var_set::VarSet;
 use std::alloc::Global;
 

@@ -1,6 +1,6 @@
 use Rattle.std.proofs.Common.{◌≡◌, ◌∙◌, ap, map, length, ℕ, List, []}
 use Rattle.std.proofs.lemmas.Simd.{map-map}
-use Rattle.aig_core.specs.declared.order.operands.Operands.{Operands}
+use Rattle.aig_core.specs.declared.operands.Operands.{Operands}
 use Rattle.aig_core.specs.Operands.{over, operands_of}
 use Rattle.aig_core.proofs.order.Order.new.Goals as goal
 

@@ -1,0 +1,21 @@
+use Rattle.std.proofs.Common.{◌≡◌, ◌+◌, ap, suc, refl, arith}
+use Rattle.aig_core.specs.Ready.{first_bit}
+use Rattle.aig_core.proofs.Trees.{empty_tree}
+use Rattle.aig_core.proofs.least_ready.ready.Ready.new.Goals as goal
+
+pub loop-first-init : goal.loop-first-init
+unfolding first_bit
+loop-first-init c = record { first_is = omega arith; levels = omega arith; few = omega arith }
+
+pub loop-first-preserved : goal.loop-first-preserved
+unfolding first_bit
+loop-first-preserved c =
+    let next : c.loop-first.levels + 1 ≡ suc c.loop-first.levels = omega arith in record {
+      first_is = omega (arith, c.loop-first.invariant.first_is, ap first_bit next);
+      levels = omega (arith, c.loop-first.invariant.levels);
+      few = omega (arith, c.loop-first-test.true);
+    }
+
+pub invariant_of-result : goal.invariant_of-result
+invariant_of-result c =
+    empty_tree _ _ c.loop-first.first c.loop-first.levels c.args.gates (c.in_ok-vec.ensures.items_if_clones_equal (λ y e. e)) refl c.loop-first.invariant.first_is c.loop-first.invariant.few (omega (arith, c.loop-first-test.false)) (omega (arith, c.requires))
