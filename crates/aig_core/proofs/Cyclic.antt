@@ -121,13 +121,13 @@ module _ (gates : List Gate) (list : List ℕ) (order_full : IsFull (length gate
   depends_where i there = ap (λ xs. not (list_all (ends_within (length gates) gates) xs)) (sym (needed gates i there))
 
   -- a gate of the order depends on no cycle
-  free : (i : ℕ) → i < length gates → IsAmong i list → depends_on_cycle gates (at gates i) ≡ false
+  pub free : (i : ℕ) → i < length gates → IsAmong i list → depends_on_cycle gates (at gates i) ≡ false
   free i there listed =
       let ends : ends_within (length gates) gates i ≡ true = listed_ends gates [] list order_in_turn tt tt (λ h n. absurd n) i (inr listed) in
       depends_where i there ∙ ap not (one_more gates (length gates) i ends)
 
   -- and the other way round
-  placed_where_free : (i : ℕ) → i < length gates → depends_on_cycle gates (at gates i) ≡ false → IsAmong i list
+  pub placed_where_free : (i : ℕ) → i < length gates → depends_on_cycle gates (at gates i) ≡ false → IsAmong i list
   placed_where_free i there h =
       ended_listed gates list order_full (suc (length gates)) i there (not_false (ends_within (suc (length gates)) gates i) (sym (depends_where i there) ∙ h))
 

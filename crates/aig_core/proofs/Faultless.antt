@@ -59,19 +59,19 @@ apart s (x ∷ xs) none y has a =
     ⊎_elim (λ (e : y ≡ x). let f : set.contains s x ≡ true = subst (λ z. set.contains s z ≡ true) e has in let g : set.contains s x ≡ false = n.0 in cc)
     (apart (set.insert s x) xs n.1 y (has_old s x y has)) a
 
-distinct : (s : FinSet nat_cmp) (xs : List ℕ) → first_repeat s xs ≡ None → AreDistinct xs
+pub distinct : (s : FinSet nat_cmp) (xs : List ℕ) → first_repeat s xs ≡ None → AreDistinct xs
 distinct s [] none = tt
 distinct s (x ∷ xs) none =
     let n : (set.contains s x ≡ false) × (first_repeat (set.insert s x) xs ≡ None) = no_repeat s x xs none in
     (apart (set.insert s x) xs n.1 x (has_new s x), distinct (set.insert s x) xs n.1)
 
 -- a test that is not true is false
-not_true : (b : Bool) → ¬ (b ≡ true) → b ≡ false
+pub not_true : (b : Bool) → ¬ (b ≡ true) → b ≡ false
 not_true true h = absurd (h refl)
 not_true false h = refl
 
 -- distinct numbers that a set does not have repeat nothing
-nothing_repeats : (s : FinSet nat_cmp) (xs : List ℕ) → AreDistinct xs → ((y : ℕ) → IsAmong y xs → ¬ (set.contains s y ≡ true)) → first_repeat s xs ≡ None
+pub nothing_repeats : (s : FinSet nat_cmp) (xs : List ℕ) → AreDistinct xs → ((y : ℕ) → IsAmong y xs → ¬ (set.contains s y ≡ true)) → first_repeat s xs ≡ None
 nothing_repeats s [] d new = refl
 nothing_repeats s (x ∷ xs) d new =
     let fresh : set.contains s x ≡ false = not_true (set.contains s x) (new x (inl refl)) in
@@ -80,7 +80,7 @@ nothing_repeats s (x ∷ xs) d new =
     ⊎_elim (λ (e : y ≡ x). d.0 (subst (λ z. IsAmong z xs) e a)) (λ (old : set.contains s y ≡ true). new y (inr a) old) (was_there s x y has))
 
 -- the empty set has nothing
-none_in_empty : (y : ℕ) → ¬ (set.contains (set.empty {R = nat_cmp}) y ≡ true)
+pub none_in_empty : (y : ℕ) → ¬ (set.contains (set.empty {R = nat_cmp}) y ≡ true)
 none_in_empty y h = let m : set.contains (set.empty {R = nat_cmp}) y ≡ false = contains-empty nat_cmp y in cc
 
 -- of what has no fault nothing is told but want of memory
@@ -103,7 +103,7 @@ told_twice v xs told = (
 )
 
 -- what the set of all has was there before or stands in the list
-found : (s : FinSet nat_cmp) (xs : List ℕ) (y : ℕ) → set.contains (with_all s xs) y ≡ true → (set.contains s y ≡ true) ⊎ IsAmong y xs
+pub found : (s : FinSet nat_cmp) (xs : List ℕ) (y : ℕ) → set.contains (with_all s xs) y ≡ true → (set.contains s y ≡ true) ⊎ IsAmong y xs
 found s [] y h = inl h
 found s (x ∷ xs) y h =
     ⊎_elim (λ (e : set.contains (set.insert s x) y ≡ true). ⊎_elim (λ (i : y ≡ x). inr (inl i)) (λ (t : set.contains s y ≡ true). inl t) (was_there s x y e))
@@ -114,25 +114,25 @@ kept s [] y h = h
 kept s (x ∷ xs) y h = kept (set.insert s x) xs y (has_old s x y h)
 
 -- what stands in the list is in the set of all
-taken : (s : FinSet nat_cmp) (xs : List ℕ) (y : ℕ) → IsAmong y xs → set.contains (with_all s xs) y ≡ true
+pub taken : (s : FinSet nat_cmp) (xs : List ℕ) (y : ℕ) → IsAmong y xs → set.contains (with_all s xs) y ≡ true
 taken s [] y a = absurd a
 taken s (x ∷ xs) y a =
     ⊎_elim (λ (e : y ≡ x). kept (set.insert s x) xs y (subst (λ z. set.contains (set.insert s x) z ≡ true) (sym e) (has_new s x)))
     (taken (set.insert s x) xs y) a
 
-known_is : (vars : List ℕ) (lit : ℕ) → is_known (with_all set.empty vars) lit ≡ true → IsKnown vars lit
+pub known_is : (vars : List ℕ) (lit : ℕ) → is_known (with_all set.empty vars) lit ≡ true → IsKnown vars lit
 known_is vars lit h =
     elim (eqb (variable_of lit) 0) as (λ b. eqb (variable_of lit) 0 ≡ b → (b || set.contains (with_all set.empty vars) (variable_of lit)) ≡ true → IsKnown vars lit) [
       | true ↦ λ e _. inl ((Decides-eqb (variable_of lit) 0).0 e)
       | false ↦ λ _ e. ⊎_elim (λ (n : set.contains (set.empty {R = nat_cmp}) (variable_of lit) ≡ true). absurd (none_in_empty _ n)) (λ (a : IsAmong (variable_of lit) vars). inr a) (found set.empty vars (variable_of lit) e)
     ] refl h
 
-known_told : (vars : List ℕ) (lit : ℕ) → IsKnown vars lit → is_known (with_all set.empty vars) lit ≡ true
+pub known_told : (vars : List ℕ) (lit : ℕ) → IsKnown vars lit → is_known (with_all set.empty vars) lit ≡ true
 known_told vars lit k =
     ⊎_elim (λ (e : variable_of lit ≡ 0). ap (λ b. b || set.contains (with_all set.empty vars) (variable_of lit)) ((Decides-eqb (variable_of lit) 0).1 e))
     (λ (a : IsAmong (variable_of lit) vars). or_true _ _ (taken set.empty vars (variable_of lit) a)) k
 
-all_known : (vars lits : List ℕ) → first_unknown (with_all set.empty vars) lits ≡ None → AllByRecursion (IsKnown vars) lits
+pub all_known : (vars lits : List ℕ) → first_unknown (with_all set.empty vars) lits ≡ None → AllByRecursion (IsKnown vars) lits
 all_known vars [] h = tt
 all_known vars (x ∷ xs) h =
     elim (is_known (with_all set.empty vars) x) as (λ b. is_known (with_all set.empty vars) x ≡ b → cond b (first_unknown (with_all set.empty vars) xs) (Some x) ≡ None → AllByRecursion (IsKnown vars) (x ∷ xs)) [
@@ -140,7 +140,7 @@ all_known vars (x ∷ xs) h =
       | false ↦ λ _ n. cc
     ] refl h
 
-none_unknown : (vars lits : List ℕ) → AllByRecursion (IsKnown vars) lits → first_unknown (with_all set.empty vars) lits ≡ None
+pub none_unknown : (vars lits : List ℕ) → AllByRecursion (IsKnown vars) lits → first_unknown (with_all set.empty vars) lits ≡ None
 none_unknown vars [] h = refl
 none_unknown vars (x ∷ xs) h =
     ap (λ b. cond b (first_unknown (with_all set.empty vars) xs) (Some x)) (known_told vars x h.0) ∙ none_unknown vars xs h.1
@@ -153,7 +153,7 @@ nothing_told None (Some x) cyclic h = cc
 nothing_told (Some x) unknown cyclic h = cc
 
 -- where each variable is defined once and no gate depends on a cycle, the gates have a rank
-ranked_where_none_cyclic : (c : Circuit) → AreDistinct (defined_variables c) → first_cyclic c.gates ≡ None → HasRank c.gates
+pub ranked_where_none_cyclic : (c : Circuit) → AreDistinct (defined_variables c) → first_cyclic c.gates ≡ None → HasRank c.gates
 ranked_where_none_cyclic c once none =
     let order = a_least_ready_order c in
     (rank_exactly_where_all_are_ordered c order.0 once order.1).1 (all_listed_where_none c.gates order.0 order.1.full order.1.in_turn none)

@@ -19,6 +19,7 @@ pub mod Outgoing
 pub mod Puts
 pub mod Sections
 pub mod Faultless
+pub mod Reported
 pub mod Fitting
 pub mod Alike
 pub mod InOrder

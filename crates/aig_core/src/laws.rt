@@ -2,6 +2,9 @@
 ghost use Rattle.aig_core.specs.Laws.{FaultlessIsWellFormed, DefinitionsFit, WellFormedIsInForm};
 ghost use Rattle.aig_core.specs.Laws.{GatesHaveAnOrder, GatesHaveOneOrder};
 ghost use Rattle.aig_core.specs.Laws.{RankExactlyWhereAllAreOrdered, OrderedExactlyWhereItEnds};
+ghost use Rattle.aig_core.specs.Laws.{RepeatsAreFound, NoneRepeatsWhereDistinct};
+ghost use Rattle.aig_core.specs.Laws.{UnknownsAreFound, NoneUnknownWhereAllKnown};
+ghost use Rattle.aig_core.specs.Laws.{RedefinedExactly, UndefinedExactly, CyclicExactly, CycleExactlyWhereNoRank};
 
 /// A circuit in form is well formed exactly where the check finds no fault.
 pub fn faultless_is_well_formed()
@@ -32,4 +35,32 @@ pub fn rank_exactly_where_all_are_ordered()
 /// A gate is in the least ready order exactly where it does not depend on a cycle.
 pub fn ordered_exactly_where_it_ends()
     ensures { OrderedExactlyWhereItEnds }
+{}
+
+/// The first repeat of a list is the first number that stands before itself too. There is none exactly where no number
+/// stands twice.
+pub fn repeats_are_found()
+    ensures some { RepeatsAreFound }
+    ensures none { NoneRepeatsWhereDistinct }
+{}
+
+/// The first unknown literal of a list is the first that is no constant and over none of the variables. There is none
+/// exactly where each is known.
+pub fn unknowns_are_found()
+    ensures some { UnknownsAreFound }
+    ensures none { NoneUnknownWhereAllKnown }
+{}
+
+/// The first fault of a circuit is the first variable that is defined twice, else the first literal that is used and
+/// not defined, else the gate of least position that the least ready order leaves out.
+pub fn faults_are_reported_exactly()
+    ensures redefined { RedefinedExactly }
+    ensures undefined { UndefinedExactly }
+    ensures cyclic { CyclicExactly }
+{}
+
+/// The first fault of a circuit is a cycle exactly where each variable is defined once, each used literal is known, and
+/// the gates have no rank.
+pub fn cycle_exactly_where_no_rank()
+    ensures { CycleExactlyWhereNoRank }
 {}
