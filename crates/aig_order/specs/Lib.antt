@@ -4,5 +4,6 @@ pub mod MapBlock
 pub mod MapSpelling
 pub mod MapReading
 pub mod Undone
+pub mod Messages
 pub mod Laws
 pub mod Parts

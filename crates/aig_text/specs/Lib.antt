@@ -7,5 +7,6 @@ pub mod AsciiText
 pub mod Scanning
 pub mod Reading
 pub mod Outcomes
+pub mod Messages
 pub mod Laws
 pub mod Parts

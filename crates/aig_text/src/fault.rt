@@ -1,11 +1,13 @@
 //! Why a text is refused, and where (this project's profile).
-ghost use Rattle.std.specs.Prelude.{◌≡◌};
+ghost use Rattle.std.specs.Prelude.{◌≡◌, Some};
+ghost use Rattle.aig_text.specs.Messages.{fault_text, kind_text, message_text, place_text};
 ghost use Rattle.aig_text.specs.Reading.{want_of_memory};
 
+use crate::message::Message;
 use aig_core::{Lit, Var};
 use std::alloc::{AllocError, AllocFailed};
-use std::{error, fmt};
-use thiserror::Error;
+use std::error::Error;
+use std::fmt;
 
 /// Where a text is wrong.
 #[derive(Clone, Copy, Debug, PartialEq, Eq)]
@@ -18,13 +20,24 @@ pub enum Place {
     Whole,
 }
 
-impl fmt::Display for Place {
-    fn fmt<W: fmt::Write>(&self, f: &mut fmt::Formatter<W>) -> fmt::Result {
-        match self {
-            Place::Line(number) => write!(f, "line {number}: "),
-            Place::Gate(number) => write!(f, "gate {number}: "),
-            Place::Whole => write!(f, ""),
+impl Place {
+    /// What the message of a fault at this place begins with.
+    pub fn message(&self) -> Message
+        ensures { message_text result ≡ place_text self.now }
+    {
+        match *self {
+            Place::Line(number) => Message::around("line ", number, ": "),
+            Place::Gate(number) => Message::around("gate ", number, ": "),
+            Place::Whole => Message::new(""),
         }
+    }
+}
+
+impl fmt::Display for Place {
+    ghost output = { λ place. Some (place_text place) };
+
+    fn fmt<W: fmt::Write>(&self, f: &mut fmt::Formatter<W>) -> fmt::Result {
+        write!(f, "{}", self.message())
     }
 }
 
@@ -65,51 +78,64 @@ pub enum ReadKind {
 }
 
 impl ReadKind {
-    /// The message, behind the variable or the literal where it names one.
-    fn words(self) -> &'static str {
-        match self {
-            ReadKind::NotAiger => "not an AIGER file",
-            ReadKind::BadHeader => "bad header",
-            ReadKind::TooLarge => "number above the limit",
-            ReadKind::BadLine => "bad line",
-            ReadKind::NotVariable => "not a variable",
-            ReadKind::LiteralRange => "literal out of range",
-            ReadKind::Truncated => "file ends too early",
-            ReadKind::BadDelta => "bad delta",
-            ReadKind::BadSymbol => "bad symbol line",
-            ReadKind::SymbolRange => "symbol position out of range",
-            ReadKind::SymbolTwice => "symbol given twice",
-            ReadKind::Redefined(_) => "defined twice",
-            ReadKind::Undefined(_) => "not defined",
-            ReadKind::Cyclic(_) => "depends on a cycle",
-            ReadKind::OutOfMemory => "out of memory",
+    /// What is wrong, in words.
+    pub fn message(&self) -> Message
+        ensures { message_text result ≡ kind_text self.now }
+    {
+        match *self {
+            ReadKind::NotAiger => Message::new("not an AIGER file"),
+            ReadKind::BadHeader => Message::new("bad header"),
+            ReadKind::TooLarge => Message::new("number above the limit"),
+            ReadKind::BadLine => Message::new("bad line"),
+            ReadKind::NotVariable => Message::new("not a variable"),
+            ReadKind::LiteralRange => Message::new("literal out of range"),
+            ReadKind::Truncated => Message::new("file ends too early"),
+            ReadKind::BadDelta => Message::new("bad delta"),
+            ReadKind::BadSymbol => Message::new("bad symbol line"),
+            ReadKind::SymbolRange => Message::new("symbol position out of range"),
+            ReadKind::SymbolTwice => Message::new("symbol given twice"),
+            ReadKind::Redefined(variable) => {
+                Message::around("variable ", u64::from(variable.0), " defined twice")
+            }
+            ReadKind::Undefined(literal) => {
+                Message::around("literal ", u64::from(literal.0), " not defined")
+            }
+            ReadKind::Cyclic(literal) => {
+                Message::around("gate ", u64::from(literal.0), " depends on a cycle")
+            }
+            ReadKind::OutOfMemory => Message::new("out of memory"),
         }
     }
 }
 
 impl fmt::Display for ReadKind {
+    ghost output = { λ kind. Some (kind_text kind) };
+
     fn fmt<W: fmt::Write>(&self, f: &mut fmt::Formatter<W>) -> fmt::Result {
-        let words = self.words();
-        match self {
-            ReadKind::Redefined(variable) => write!(f, "variable {variable} {words}"),
-            ReadKind::Undefined(literal) => write!(f, "literal {literal} {words}"),
-            ReadKind::Cyclic(gate) => write!(f, "gate {gate} {words}"),
-            _ => f.write_str(words),
-        }
+        write!(f, "{}", self.message())
     }
 }
 
-impl error::Error for ReadKind {}
+impl Error for ReadKind {}
 
 /// The first fault of a text, or want of memory.
-#[derive(Clone, Copy, Debug, PartialEq, Eq, Error)]
-#[error("{place}{kind}")]
+#[derive(Clone, Copy, Debug, PartialEq, Eq)]
 pub struct ReadFault {
     /// Where it is.
     pub place: Place,
     /// What it is.
     pub kind: ReadKind,
 }
+
+impl fmt::Display for ReadFault {
+    ghost output = { λ fault. Some (fault_text fault) };
+
+    fn fmt<W: fmt::Write>(&self, f: &mut fmt::Formatter<W>) -> fmt::Result {
+        write!(f, "{}{}", self.place, self.kind)
+    }
+}
+
+impl Error for ReadFault {}
 
 impl From<AllocError> for ReadFault {
     ghost from_gives = { λ _ e. e ≡ want_of_memory };
