@@ -17,6 +17,7 @@ pub mod DigitWords
 pub mod LeadingDigits
 pub mod Outgoing
 pub mod Puts
+pub mod Filled
 pub mod Sections
 pub mod Faultless
 pub mod Reported

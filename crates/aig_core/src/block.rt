@@ -1,5 +1,5 @@
 //! Output in blocks.
-ghost use Rattle.std.specs.Prelude.{◌≡◌, ◌+◌, ◌-◌, ◌*◌, ◌<◌, ◌≤◌, [], ◌++◌, ◌↔◌, length, take, min, decimal};
+ghost use Rattle.std.specs.Prelude.{◌≡◌, ◌+◌, ◌-◌, ◌*◌, ◌%◌, ◌<◌, ◌≤◌, [], ◌++◌, ◌↔◌, length, take, min, decimal};
 ghost use Rattle.std.specs.Prelude.{is_err, IsOk, OnErr};
 ghost use Rattle.aig_core.specs.Output.{CanFail, nothing_held, out, Put, row_text};
 ghost use Rattle.aig_core.specs.declared.block.TheConstants.{ROOM};
@@ -85,14 +85,17 @@ impl Block {
         Ok(())
     }
 
-    /// Sends what is held where fewer bytes than these fit.
+    /// Sends what is held where fewer bytes than these fit, and nothing where they fit.
     #[inline(always)]
     pub fn make_room<W: Sink>(&mut self, sink: &mut W, room: usize)
         requires countable { CanFail (out (W.taken sink.old) (W.longest sink.old) (W.failed sink.old) self.old) }
         requires fits { room ≤ ROOM }
         ensures put { Put (out (W.taken sink.old) (W.longest sink.old) (W.failed sink.old) self.old)
             (out (W.taken sink.new) (W.longest sink.new) (W.failed sink.new) self.new) [] }
+        ensures short { length self.old.bytes ≤ ROOM }
         ensures room { length self.new.bytes + room ≤ ROOM }
+        ensures kept { length self.old.bytes + room ≤ ROOM → (sink.new ≡ sink.old) × (self.new ≡ self.old) }
+        ensures emptied { ROOM < length self.old.bytes + room → self.new.bytes ≡ [] }
     {
         if ROOM - self.len < room {
             self.send_held(sink);
@@ -146,6 +149,11 @@ impl Block {
         requires countable { CanFail (out (W.taken sink.old) (W.longest sink.old) (W.failed sink.old) self.old) }
         ensures within { result ≤ length bytes.now }
         ensures moves { 0 < result }
+        ensures held { length self.old.bytes ≤ ROOM }
+        ensures kept { length self.old.bytes < ROOM → sink.new ≡ sink.old }
+        ensures added { length self.old.bytes < ROOM → length self.new.bytes ≡ length self.old.bytes + result }
+        ensures emptied { ROOM ≤ length self.old.bytes → length self.new.bytes ≡ result }
+        ensures short { length self.new.bytes ≤ ROOM }
         ensures put { Put (out (W.taken sink.old) (W.longest sink.old) (W.failed sink.old) self.old)
             (out (W.taken sink.new) (W.longest sink.new) (W.failed sink.new) self.new) (take result bytes.now) }
     {
@@ -153,11 +161,14 @@ impl Block {
         self.fill(bytes)
     }
 
-    /// Adds bytes, and sends what is held each time that the block is full.
+    /// Adds bytes. What is held is sent each time that the block is full and another byte comes, and no sooner.
     pub fn put<W: Sink>(&mut self, sink: &mut W, bytes: &[u8])
         requires { CanFail (out (W.taken sink.old) (W.longest sink.old) (W.failed sink.old) self.old) }
-        ensures { Put (out (W.taken sink.old) (W.longest sink.old) (W.failed sink.old) self.old)
+        ensures put { Put (out (W.taken sink.old) (W.longest sink.old) (W.failed sink.old) self.old)
             (out (W.taken sink.new) (W.longest sink.new) (W.failed sink.new) self.new) bytes.now }
+        ensures kept { length self.old.bytes + length bytes.now ≤ ROOM → sink.new ≡ sink.old }
+        ensures left { 0 < length bytes.now
+            → length self.new.bytes ≡ (length self.old.bytes + length bytes.now - 1) % ROOM + 1 }
     {
         let mut at = 0;
         while at < bytes.len() {
@@ -165,11 +176,13 @@ impl Block {
         }
     }
 
-    /// Adds a number in decimal, as `put` adds bytes.
+    /// Adds a number in decimal. What is held is sent first where a number of the most digits would not fit.
     pub fn put_number<W: Sink>(&mut self, sink: &mut W, number: u64)
         requires { CanFail (out (W.taken sink.old) (W.longest sink.old) (W.failed sink.old) self.old) }
-        ensures { Put (out (W.taken sink.old) (W.longest sink.old) (W.failed sink.old) self.old)
+        ensures put { Put (out (W.taken sink.old) (W.longest sink.old) (W.failed sink.old) self.old)
             (out (W.taken sink.new) (W.longest sink.new) (W.failed sink.new) self.new) (decimal number) }
+        ensures kept { length self.old.bytes + MOST_DIGITS ≤ ROOM → sink.new ≡ sink.old }
+        ensures left { ROOM < length self.old.bytes + MOST_DIGITS → self.new.bytes ≡ decimal number }
     {
         self.make_room(sink, MOST_DIGITS);
         self.fill_number(number);

@@ -2,4 +2,4 @@ use Rattle.aig_core.proofs.Puts.{put_twice}
 use Rattle.aig_text.proofs.writer.put_name.Goals as goal
 
 pub returns : goal.returns
-returns g c = put_twice _ _ _ _ _ c.put.ensures (put_twice _ _ _ _ _ c.put-2.ensures c.put-3.ensures)
+returns g c = put_twice _ _ _ _ _ c.put.ensures.put (put_twice _ _ _ _ _ c.put-2.ensures.put c.put-3.ensures.put)

@@ -19,5 +19,5 @@ told_by a b c line false end start put sent empty =
 pub returns : goal.returns
 returns g c =
     told_by _ _ _ _ _ refl c.new-block.ensures
-    (put_twice _ _ _ _ _ c.put.ensures (put_twice _ _ _ _ _ (rw c.as_bytes.ensures.value at c.put-2.ensures) (put_twice _ _ _ _ _ c.put-3.ensures c.put-4.ensures)))
+    (put_twice _ _ _ _ _ c.put.ensures.put (put_twice _ _ _ _ _ (rw c.as_bytes.ensures.value at c.put-2.ensures.put) (put_twice _ _ _ _ _ c.put-3.ensures.put c.put-4.ensures.put)))
     c.flush-sent.ensures.put c.flush-sent.ensures.empty

@@ -1,15 +1,32 @@
-use Rattle.std.proofs.Common.{rules}
+use Rattle.std.proofs.Common.{◌≡◌, ◌∙◌, rules, arith, ap, length}
+use Rattle.aig_core.specs.Output.{Held}
 use Rattle.aig_core.proofs.Puts.{can_still, put_next, put_nothing}
+use Rattle.aig_core.proofs.Filled.{left_more, room_still}
 use Rattle.aig_core.proofs.block.Block.put.Goals as goal
-
-pub loop-at-init : goal.loop-at-init
-loop-at-init g c = record { within = search rules; put = put_nothing _ }
 
 pub put_some-at-requires-clause-countable : goal.put_some-at-requires-clause-countable
 put_some-at-requires-clause-countable g c = can_still _ _ _ c.requires c.loop-at.invariant.put
 
-pub loop-at-preserved : goal.loop-at-preserved
-loop-at-preserved g c = record {
+pub loop-at-init : goal.loop-at-init
+loop-at-init g c = record {
   within = search rules;
-  put = put_next _ _ _ _ _ _ c.loop-at.invariant.put (rw c.split_at.ensures.back at c.put_some-at.ensures.put);
+  put = put_nothing _;
+  kept = search rules;
+  first = search rules;
+  left = search rules;
 }
+
+pub loop-at-preserved : goal.loop-at-preserved
+loop-at-preserved g c =
+    let start = length c.args.self.now.bytes in
+    let held = length c.loop-at.self.bytes in
+    let before = c.loop-at.invariant in
+    let some = c.put_some-at.ensures in
+    let first : c.loop-at.at ≡ 0 → held ≡ start = λ e. ap (λ (h : Held). length h.bytes) (before.first e) in
+    record {
+      within = search rules;
+      put = put_next _ _ _ _ _ _ before.put (rw c.split_at.ensures.back at some.put);
+      kept = λ fits. some.kept (room_still start c.loop-at.at _ held first before.left some.moves fits) ∙ before.kept (omega (arith, fits));
+      first = search rules;
+      left = λ _. left_more start c.loop-at.at _ held _ some.held first before.left some.added some.emptied some.moves some.short;
+    }
