@@ -1,8 +1,7 @@
-//! Canonical binary files that are read and written again, and files without their names.
+//! Canonical binary files that are read and written again.
 use aig_binary::{Ordered, read_binary, write_binary};
-use aig_core::{LARGEST, MemorySink, MemorySource};
+use aig_core::MemorySink;
 use aig_text::Limits;
-use aig_tools::{ToAig, run_toaig};
 use std::alloc::Global;
 use std::test::Fail;
 
@@ -62,29 +61,5 @@ fn failed_sends_of_binary_texts(rt: HostRuntime) -> Result<(), Fail> {
             assert_eq!(rt; sink.taken().len(), 3 * call);
         }
     }
-    Ok(())
-}
-
-/// A conversion to binary that leaves symbols and comment out, which no words ask for yet.
-const STRIP: ToAig = ToAig {
-    ascii: false,
-    strip: true,
-    keep_map: false,
-    undo_map: false,
-    max_var: LARGEST,
-    source: None,
-    destination: None,
-};
-
-#[test]
-fn names_are_left_out(rt: HostRuntime) -> Result<(), Fail> {
-    let alloc = rt.alloc();
-    let text =
-        b"aag 7 2 0 2 3\n2\n4\n6\n12\n6 13 15\n12 2 4\n14 3 5\ni0 x\ni1 y\no0 s\no1 c\nc\nhalf adder\n";
-    let mut source = MemorySource::new(Vec::from_slice(alloc, text)?, 7, 0);
-    let mut sink = MemorySink::new(alloc, 100, 7, 0)?;
-    assert!(rt; run_toaig(alloc, &STRIP, &mut source, &mut sink).is_ok());
-    let wanted = "aig 5 2 0 2 3\n10\n6\n\u{2}\u{2}\u{3}\u{2}\u{1}\u{2}";
-    assert!(rt; sink.taken() == wanted.as_bytes());
     Ok(())
 }

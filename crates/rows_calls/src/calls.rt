@@ -1,9 +1,7 @@
 //! Calls that are given what they need.
 use crate::forms::{numbers_of, symbols_of};
-use aig_core::{
-    Block, Circuit, Listing, Lit, MemorySink, MemorySource, Names, Var, check, read_all, same,
-};
-use aig_text::{Limits, read_ascii, write_ascii};
+use aig_core::{Block, Circuit, Listing, Lit, MemorySink, MemorySource, Names, Var, read_all};
+use aig_text::{Limits, read_ascii};
 use std::alloc::Global;
 use std::test::Fail;
 
@@ -26,17 +24,6 @@ aag 4 0 0 5 0\n0\n0\n0\n0\n0\n:no";
 
 /// What is named in turn, and whether it had no name before.
 const NAMED: &str = "i0 new,l0 new,o0 new,i0 old,l0 old,o0 old,i9 new,i9 old";
-
-/// A half adder, then others that differ from it in the comment alone, in the order of two symbols, in a name, in the
-/// order of a gate's operands, in the order of two gates, and in having no comment; with a `#` between them.
-const HALF_ADDERS: &str = "\
-aag 7 2 0 2 3\n2\n4\n6\n12\n6 13 15\n12 2 4\n14 3 5\ni0 x\ni1 y\no0 s\no1 c\nc\nhalf adder\n#\
-aag 7 2 0 2 3\n2\n4\n6\n12\n6 13 15\n12 2 4\n14 3 5\ni0 x\ni1 y\no0 s\no1 c\nc\nhalf adder#\
-aag 7 2 0 2 3\n2\n4\n6\n12\n6 13 15\n12 2 4\n14 3 5\ni0 x\ni1 y\no1 c\no0 s\nc\nhalf adder\n#\
-aag 7 2 0 2 3\n2\n4\n6\n12\n6 13 15\n12 2 4\n14 3 5\ni0 x\ni1 y\no0 s\no1 d\nc\nhalf adder\n#\
-aag 7 2 0 2 3\n2\n4\n6\n12\n6 13 15\n12 4 2\n14 3 5\ni0 x\ni1 y\no0 s\no1 c\nc\nhalf adder\n#\
-aag 7 2 0 2 3\n2\n4\n6\n12\n6 13 15\n14 3 5\n12 2 4\ni0 x\ni1 y\no0 s\no1 c\nc\nhalf adder\n#\
-aag 7 2 0 2 3\n2\n4\n6\n12\n6 13 15\n12 2 4\n14 3 5\ni0 x\ni1 y\no0 s\no1 c\n";
 
 /// The circuit of a text.
 pub(crate) fn circuit_of(alloc: Global, text: &str) -> Result<Circuit, Fail> {
@@ -78,50 +65,12 @@ fn listings_are_copied(rt: HostRuntime) -> Result<(), Fail> {
 }
 
 #[test]
-fn circuits_are_copied(rt: HostRuntime) -> Result<(), Fail> {
-    let circuit = circuit_of(rt.alloc(), "aag 2 1 1 1 0\n2\n4 3\n5\no0 b\ni0 a\nc\nx")?;
-    assert!(rt; circuit.clone()? == circuit);
-    Ok(())
-}
-
-/// A copy is the same as what it was made of, and as no other.
-#[test]
-fn copies_and_others(rt: HostRuntime) -> Result<(), Fail> {
-    for text in HALF_ADDERS.split('#') {
-        for other in HALF_ADDERS.split('#') {
-            let first = read_ascii(rt.alloc(), text.as_bytes(), Limits::default())?;
-            let second = read_ascii(rt.alloc(), other.as_bytes(), Limits::default())?;
-            let copy = second.copy(rt.alloc())?;
-            assert!(rt; same(&first, &copy) == (text == other), "{text}{other}");
-        }
-    }
-    Ok(())
-}
-
-#[test]
 fn names(rt: HostRuntime) -> Result<(), Fail> {
     let mut names = Names::new(rt.alloc(), 1, 1, 1)?;
     for symbol in symbols_of(rt.alloc(), NAMED)?.as_slice() {
         let is_new = names.insert(symbol.kind, symbol.position)?;
         assert!(rt; is_new == (symbol.name.as_slice() == b"new".as_slice()));
     }
-    Ok(())
-}
-
-/// Symbols and a comment that were put in by hand come back from what is written.
-#[test]
-fn symbols_and_comments_come_back(rt: HostRuntime) -> Result<(), Fail> {
-    let alloc = rt.alloc();
-    let mut circuit = circuit_of(alloc, "aag 7 1 1 2 0\n2\n4 3\n5\n0\n")?;
-    circuit.symbols = symbols_of(alloc, "o1 a b\r,l0 ,i0 c")?;
-    circuit.comment = Some(Listing::from_vec(Vec::from_slice(alloc, b"made by hand\n\n")?));
-    assert!(rt; circuit.in_form());
-    let checked = check(alloc, circuit).ok().ok_or("it is well formed")?;
-    let mut sink = MemorySink::new(alloc, 100, 7, 0)?;
-    write_ascii(&checked, &mut sink)?;
-    let wanted = "aag 7 1 1 2 0\n2\n4 3\n5\n0\no1 a b\r\nl0 \ni0 c\nc\nmade by hand\n\n";
-    assert!(rt; sink.taken() == wanted.as_bytes());
-    assert!(rt; circuit_of(alloc, wanted)? == *checked.circuit());
     Ok(())
 }
 

@@ -1,0 +1,92 @@
+//! Circuits that are copied, compared, and made by hand.
+use crate::calls::circuit_of;
+use crate::forms::symbols_of;
+use aig_core::{Checked, Circuit, Listing, MemorySink, check, same};
+use aig_text::{Limits, read_ascii, write_ascii};
+use std::alloc::Global;
+use std::test::Fail;
+
+/// A half adder, then others that differ from it in the comment alone, in the order of two symbols, in a name, in the
+/// order of a gate's operands, in the order of two gates, and in having no comment; with a `#` between them.
+const HALF_ADDERS: &str = "\
+aag 7 2 0 2 3\n2\n4\n6\n12\n6 13 15\n12 2 4\n14 3 5\ni0 x\ni1 y\no0 s\no1 c\nc\nhalf adder\n#\
+aag 7 2 0 2 3\n2\n4\n6\n12\n6 13 15\n12 2 4\n14 3 5\ni0 x\ni1 y\no0 s\no1 c\nc\nhalf adder#\
+aag 7 2 0 2 3\n2\n4\n6\n12\n6 13 15\n12 2 4\n14 3 5\ni0 x\ni1 y\no1 c\no0 s\nc\nhalf adder\n#\
+aag 7 2 0 2 3\n2\n4\n6\n12\n6 13 15\n12 2 4\n14 3 5\ni0 x\ni1 y\no0 s\no1 d\nc\nhalf adder\n#\
+aag 7 2 0 2 3\n2\n4\n6\n12\n6 13 15\n12 4 2\n14 3 5\ni0 x\ni1 y\no0 s\no1 c\nc\nhalf adder\n#\
+aag 7 2 0 2 3\n2\n4\n6\n12\n6 13 15\n14 3 5\n12 2 4\ni0 x\ni1 y\no0 s\no1 c\nc\nhalf adder\n#\
+aag 7 2 0 2 3\n2\n4\n6\n12\n6 13 15\n12 2 4\n14 3 5\ni0 x\ni1 y\no0 s\no1 c\n";
+
+/// The text of a circuit whose symbols and comment were put in by hand.
+const BY_HAND: &str = "aag 7 1 1 2 0\n2\n4 3\n5\n0\no1 a b\r\nl0 \ni0 c\nc\nmade by hand\n\n";
+
+/// Whether a copy of the second circuit is the same as the first.
+fn same_as_copy(alloc: Global, first: &Checked, second: &Checked) -> Result<bool, Fail> {
+    let copy = second.copy(alloc)?;
+    Ok(same(first, &copy))
+}
+
+/// Whether a copy of a text's circuit is the same as this one.
+fn same_as_copy_of(alloc: Global, first: &Checked, text: &str) -> Result<bool, Fail> {
+    let second = read_ascii(alloc, text.as_bytes(), Limits::default())?;
+    same_as_copy(alloc, first, &second)
+}
+
+/// Whether a text has this circuit.
+fn is_circuit_of(alloc: Global, circuit: &Circuit, text: &str) -> Result<bool, Fail> {
+    let read = circuit_of(alloc, text)?;
+    Ok(read == *circuit)
+}
+
+/// Whether a circuit is the same as its copy.
+fn same_as_own_copy(circuit: &Circuit) -> Result<bool, Fail> {
+    let copy = circuit.clone()?;
+    Ok(copy == *circuit)
+}
+
+/// A circuit whose symbols and comment are put in by hand.
+fn made_by_hand(alloc: Global) -> Result<Checked, Fail> {
+    let mut circuit = circuit_of(alloc, "aag 7 1 1 2 0\n2\n4 3\n5\n0\n")?;
+    circuit.symbols = symbols_of(alloc, "o1 a b\r,l0 ,i0 c")?;
+    circuit.comment = Some(Listing::from_vec(Vec::from_slice(alloc, b"made by hand\n\n")?));
+    if !circuit.in_form() {
+        return Err("it is in form")?;
+    }
+    Ok(check(alloc, circuit).ok().ok_or("it is well formed")?)
+}
+
+#[test]
+fn circuits_are_copied(rt: HostRuntime) -> Result<(), Fail> {
+    let circuit = circuit_of(rt.alloc(), "aag 2 1 1 1 0\n2\n4 3\n5\no0 b\ni0 a\nc\nx")?;
+    assert!(rt; same_as_own_copy(&circuit)?);
+    Ok(())
+}
+
+/// A copy is the same as what it was made of, and as no other.
+#[test]
+fn copies_and_others(rt: HostRuntime) -> Result<(), Fail> {
+    for text in HALF_ADDERS.split('#') {
+        let first = read_ascii(rt.alloc(), text.as_bytes(), Limits::default())?;
+        for other in HALF_ADDERS.split('#') {
+            let is_same = same_as_copy_of(rt.alloc(), &first, other)?;
+            assert!(rt; is_same == (text == other), "{text}{other}");
+        }
+    }
+    Ok(())
+}
+
+#[test]
+fn symbols_and_comments_are_written(rt: HostRuntime) -> Result<(), Fail> {
+    let checked = made_by_hand(rt.alloc())?;
+    let mut sink = MemorySink::new(rt.alloc(), 100, 7, 0)?;
+    write_ascii(&checked, &mut sink)?;
+    assert!(rt; sink.taken() == BY_HAND.as_bytes());
+    Ok(())
+}
+
+#[test]
+fn symbols_and_comments_come_back(rt: HostRuntime) -> Result<(), Fail> {
+    let checked = made_by_hand(rt.alloc())?;
+    assert!(rt; is_circuit_of(rt.alloc(), checked.circuit(), BY_HAND)?);
+    Ok(())
+}

@@ -1,0 +1,12 @@
+//! Tests of the engine over devices that fail or move few bytes in a call, which no run of the program shows. The texts
+//! that the program is run on stand in `tests/rows.sh`.
+#![tactic(auto)]
+
+#[cfg(test)]
+mod conversions;
+#[cfg(test)]
+mod failures;
+#[cfg(test)]
+mod run;
+#[cfg(test)]
+mod streams;
