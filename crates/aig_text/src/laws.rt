@@ -1,6 +1,7 @@
 //! Laws: facts about the definitions alone, each the contract of a function with an empty body.
 ghost use Rattle.aig_text.specs.Laws.{LinesAreThePieces, ReadExactly, FaultyOrAccepted, TextsAreUnambiguous};
-ghost use Rattle.aig_text.specs.Laws.{CanonicalTextIsAccepted};
+ghost use Rattle.aig_text.specs.Laws.{CanonicalTextIsAccepted, RowsReadExactly, HeadersReadExactly, SymbolsReadExactly};
+ghost use Rattle.aig_text.specs.Laws.{CommentsReadExactly, RowsAreJudged, HeadersAreJudged, SymbolsAreJudged};
 
 /// The lines of a text, joined, are the text; no line holds a line feed, and only the last may lack its own.
 pub fn lines_are_the_pieces()
@@ -25,4 +26,40 @@ pub fn texts_are_unambiguous()
 /// The canonical text of a well-formed circuit is its file.
 pub fn canonical_text_is_accepted()
     ensures { CanonicalTextIsAccepted }
+{}
+
+/// From left to right the numbers of a row are read exactly where the line holds that row, by the grammar.
+pub fn rows_read_exactly()
+    ensures { RowsReadExactly }
+{}
+
+/// From left to right a first word and five numbers are read exactly where the line is a header that holds them.
+pub fn headers_read_exactly()
+    ensures { HeadersReadExactly }
+{}
+
+/// From left to right a symbol is read exactly where the line names it.
+pub fn symbols_read_exactly()
+    ensures { SymbolsReadExactly }
+{}
+
+/// From left to right a line is read as the line `c` exactly where it is that line.
+pub fn comments_read_exactly()
+    ensures { CommentsReadExactly }
+{}
+
+/// Where a row is due, a line that holds none is a bad line, and of any other the row's numbers alone are judged.
+pub fn rows_are_judged()
+    ensures { RowsAreJudged }
+{}
+
+/// Where a header is due, a line with another first word is of no such file, one without five numbers has a bad header,
+/// and of any other the numbers alone are judged.
+pub fn headers_are_judged()
+    ensures { HeadersAreJudged }
+{}
+
+/// Where a symbol is due, a line that names none is a bad symbol line, and of any other what it names is judged.
+pub fn symbols_are_judged()
+    ensures { SymbolsAreJudged }
 {}
