@@ -132,6 +132,29 @@ fn put_symbol(circuit: &mut Circuit, symbol: Symbol) -> Result<(), ReadFault>
     Ok(())
 }
 
+/// Adds the symbols and the comment that the lines from here on tell, where these things have names already.
+fn read_tail_lines(
+    alloc: Global,
+    header: &Header,
+    names: &mut Names,
+    circuit: &mut Circuit,
+    at: &mut Cursor,
+) -> Result<(), ReadFault>
+    ensures { GivesOrMemory (λ _. circuit.new) result
+        (tail_at header.now names.old circuit.old at.old.number (lines_of at.old.rest.now)) }
+{
+    while let Some((line, rest)) = split_line(at.rest) {
+        if is_comment_line(line) {
+            return put_comment(alloc, circuit, rest);
+        }
+        let symbol = read_symbol(alloc, header, names, line, at.number)?;
+        put_symbol(circuit, symbol)?;
+        let number = at.number + 1;
+        *at = Cursor { rest, number };
+    }
+    Ok(())
+}
+
 /// Adds the symbols and the comment that the lines from here on tell. Where there are none, it takes no memory.
 pub(crate) fn read_tail(
     alloc: Global,
@@ -146,14 +169,5 @@ pub(crate) fn read_tail(
         return Ok(());
     }
     let mut names = Names::new(alloc, header.inputs, header.latches, header.outputs)?;
-    while let Some((line, rest)) = split_line(at.rest) {
-        if is_comment_line(line) {
-            return put_comment(alloc, circuit, rest);
-        }
-        let symbol = read_symbol(alloc, header, &mut names, line, at.number)?;
-        put_symbol(circuit, symbol)?;
-        let number = at.number + 1;
-        *at = Cursor { rest, number };
-    }
-    Ok(())
+    read_tail_lines(alloc, header, &mut names, circuit, at)
 }
