@@ -1,5 +1,6 @@
 -- What the definitions of this crate say of one another.
-use Rattle.std.specs.Prelude.{◌≡◌, ◌≢◌, ◌≤◌, ◌↔◌, ℕ, List, [], ◌∷◌, min, drop, length, true, false, None, Some, Result, Ok, Err}
+use Rattle.std.specs.Prelude.{◌≡◌, ◌≢◌, ◌≤◌, ◌↔◌, ℕ, List, [], ◌∷◌, min, drop, length}
+use Rattle.std.specs.Prelude.{true, false, None, Some, Result, Ok, Err}
 use Rattle.std.specs.List.{AllByRecursion}
 use Rattle.aig_core.specs.declared.circuit.Circuit.{Circuit}
 use Rattle.aig_core.specs.declared.circuit.Symbol.{Symbol}
@@ -15,8 +16,8 @@ use Rattle.aig_text.specs.Tail.{IsSymbolLine, IsCommentLine}
 use Rattle.aig_text.specs.AsciiGrammar.{IsAsciiText, IsRowLine}
 use Rattle.aig_text.specs.AsciiText.{ascii_text}
 use Rattle.aig_text.specs.Scanning.{numbers_at, more_numbers_at, symbol_at, is_comment_line}
-use Rattle.aig_text.specs.Reading.{ends_word, begins_with_word, header_within, header_of, fault_in_row, unless_wrong, row_of}
-use Rattle.aig_text.specs.Reading.{fault_in_symbol, checked_symbol, reading, first_fault}
+use Rattle.aig_text.specs.Reading.{ends_word, begins_with_word, header_within, header_of, fault_in_row}
+use Rattle.aig_text.specs.Reading.{unless_wrong, row_of, fault_in_symbol, checked_symbol, reading, first_fault}
 
 -- a line holds no line feed
 abbrev pub IsOneLine : Line → Type 0
@@ -90,7 +91,7 @@ SymbolsReadExactly = (l : Line) (s : Symbol) → (symbol_at l.text ≡ Some s) �
 abbrev pub CommentsReadExactly : Type 0
 CommentsReadExactly = (l : Line) → (is_comment_line l ≡ true) ↔ IsCommentLine l
 
--- What is read of a line that holds something is what that is judged to be; of a line that holds nothing it is this fault.
+-- what is read of a line is what the thing that it holds is judged to be, and this fault where it holds nothing
 pub record IsJudged {A B : Type 0} (Holds : A → Type 0) (judge : A → Result B ReadKind) (otherwise : ReadKind)
     (read : Result B ReadKind) : Type 0 where
   pub held : (x : A) → Holds x → read ≡ judge x

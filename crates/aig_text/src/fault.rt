@@ -58,8 +58,8 @@ pub enum ReadKind {
     LiteralRange,
     /// The text ends where a line or a byte of a gate is due.
     Truncated,
-    /// A delta of a binary gate that has no end within five bytes, or a value of 2^32 or more; a first delta that is 0; or
-    /// a delta above what it is taken from.
+    /// A delta of a binary gate that has no end within five bytes, or a value of 2^32 or more; a first delta that is 0;
+    /// or a delta above what it is taken from.
     BadDelta,
     /// A line of the tail that is neither a symbol line nor the line `c`.
     BadSymbol,
