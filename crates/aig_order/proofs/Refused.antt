@@ -125,16 +125,16 @@ module _ (x : Circuit) (b : MapBlock) (rest : List ℕ) (in_order : IsInBinaryOr
   of_confirmed source (Err e) is refused = of_image source e is refused
 
 -- a circuit that has an undone one is refused for want of memory alone
-only : (x : Circuit) (e : MapFault) → IsMapFault x e → (c : Circuit) → IsUndoneFrom x c → e ≡ OutOfMemory
-only x NotOrdered fault c p = absurd (fault (mapped_image_is_ordered c x p.well_formed p.image).1)
-only x Missing fault c p = let r = recovered c x p.well_formed p.image in absurd (no_fault r.block r.rest Missing (block_reading x) r.read fault.1)
-only x (Malformed line) fault c p = let r = recovered c x p.well_formed p.image in absurd (no_fault r.block r.rest (Malformed line) (block_reading x) r.read fault.1)
-only x Mismatch fault c p = let r = recovered c x p.well_formed p.image in absurd (no_fault r.block r.rest Mismatch (block_reading x) r.read fault.1)
-only x Forged fault c p = absurd (fault.2 c p)
-only x OutOfMemory fault c p = refl
+pub only_memory : (x : Circuit) (e : MapFault) → IsMapFault x e → (c : Circuit) → IsUndoneFrom x c → e ≡ OutOfMemory
+only_memory x NotOrdered fault c p = absurd (fault (mapped_image_is_ordered c x p.well_formed p.image).1)
+only_memory x Missing fault c p = let r = recovered c x p.well_formed p.image in absurd (no_fault r.block r.rest Missing (block_reading x) r.read fault.1)
+only_memory x (Malformed line) fault c p = let r = recovered c x p.well_formed p.image in absurd (no_fault r.block r.rest (Malformed line) (block_reading x) r.read fault.1)
+only_memory x Mismatch fault c p = let r = recovered c x p.well_formed p.image in absurd (no_fault r.block r.rest Mismatch (block_reading x) r.read fault.1)
+only_memory x Forged fault c p = absurd (fault.2 c p)
+only_memory x OutOfMemory fault c p = refl
 
 -- so what undoing gives is told by what it may give
 pub only_undone : (x : Circuit) (told : Result Circuit MapFault) → IfOk told (IsUndoneFrom x) → IfErr told (IsMapFault x) → (c : Circuit) → IsUndoneFrom x c
     → MatchResult told (λ d. d ≡ c) (λ e. e ≡ OutOfMemory)
 only_undone x (Ok d) ok fault c p = one_source d c x ok.well_formed p.well_formed ok.image p.image
-only_undone x (Err e) ok fault c p = only x e fault c p
+only_undone x (Err e) ok fault c p = only_memory x e fault c p

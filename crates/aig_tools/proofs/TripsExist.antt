@@ -1,5 +1,5 @@
 -- The texts of the headline exist: a file has a conversion text, which has one back, and no fault.
-use Rattle.std.proofs.Common.{◌≡◌, sym, refl, ap, subst, ℕ, List, Result, Ok, Err, None, true, false, inl, inr}
+use Rattle.std.proofs.Common.{◌≡◌, sym, refl, ap, subst, ℕ, List, None, true, false, inl, inr}
 use Rattle.aig_core.specs.declared.circuit.Circuit.{Circuit}
 use Rattle.aig_core.specs.declared.circuit.TheConstants.{LARGEST}
 use Rattle.aig_core.specs.Wellformed.{IsWellFormed}
@@ -8,15 +8,13 @@ use Rattle.aig_text.specs.Reading.{fault_of}
 use Rattle.aig_text.specs.AsciiGrammar.{IsAsciiText}
 use Rattle.aig_binary.specs.BinaryText.{binary_text}
 use Rattle.aig_order.specs.declared.fault.MapFault.{MapFault}
-use Rattle.aig_order.specs.declared.fault.MapFault.TheVariants.{NotOrdered, Missing, Malformed}
-use Rattle.aig_order.specs.declared.fault.MapFault.TheVariants.{Mismatch, Forged, OutOfMemory}
-use Rattle.aig_order.specs.declared.map_block.MapBlock.{MapBlock}
+use Rattle.aig_order.specs.declared.fault.MapFault.TheVariants.{OutOfMemory}
 use Rattle.aig_order.specs.MapBlock.{IsMappedImage}
-use Rattle.aig_order.specs.MapReading.{block_reading}
 use Rattle.aig_order.specs.Undone.{IsMapFault}
 use Rattle.aig_order.proofs.MappedOrder.{mapped_image_is_one, mapped_image_is_ordered}
-use Rattle.aig_order.proofs.OneSource.{recovered, undoing_recovers}
+use Rattle.aig_order.proofs.OneSource.{undoing_recovers}
 use Rattle.aig_order.proofs.OwnImage.{own_image}
+use Rattle.aig_order.proofs.Refused.{only_memory}
 use Rattle.aig_tools.specs.declared.request.ToAig.{ToAig}
 use Rattle.aig_tools.specs.File.{IsFileOf, first_fault}
 use Rattle.aig_tools.specs.Conversion.{IsConversionText, IsSource, IsTextAs}
@@ -86,27 +84,6 @@ binary_there_and_back there back plain_there to_ascii plain_back to_binary file 
       plain_text back ascii (binary_text c) c plain_back again (rw to_binary (c, own_image c good ordered, refl)),
     )
 
--- what is read is no fault
-no_fault : (told : MapBlock × List ℕ) (fault : MapFault) (read : Result (MapBlock × List ℕ) MapFault)
-    → read ≡ Ok told → ¬ (read ≡ Err fault)
-no_fault told fault read is failed = absurd cc
-
--- a mapped image is undone
-no_map_fault : (c image : Circuit) → IsWellFormed c → IsMappedImage c image
-    → (fault : MapFault) → IsMapFault image fault → fault ≡ OutOfMemory
-no_map_fault c image good is NotOrdered out = absurd (out (mapped_image_is_ordered c image good is).1)
-no_map_fault c image good is Missing failed =
-    let undoes = recovered c image good is in
-    absurd (no_fault (undoes.block, undoes.rest) Missing (block_reading image) undoes.read failed.1)
-no_map_fault c image good is (Malformed line) failed =
-    let undoes = recovered c image good is in
-    absurd (no_fault (undoes.block, undoes.rest) (Malformed line) (block_reading image) undoes.read failed.1)
-no_map_fault c image good is Mismatch failed =
-    let undoes = recovered c image good is in
-    absurd (no_fault (undoes.block, undoes.rest) Mismatch (block_reading image) undoes.read failed.1)
-no_map_fault c image good is Forged failed = absurd (failed.2 c (undoing_recovers c image good is).0)
-no_map_fault c image good is OutOfMemory failed = refl
-
 well_formed_file : (text : List ℕ) (limit : ℕ) (c : Circuit) → IsFileOf text limit c → IsWellFormed c
 well_formed_file text limit c (inl accepted) = accepted.well_formed
 well_formed_file text limit c (inr accepted) = accepted.well_formed
@@ -127,5 +104,6 @@ mapped_text_has_no_fault there keeps file binary converted =
       ap fault_of (file_is_read LARGEST binary image again),
       λ found fault file_too told.
           let same : found ≡ image = one_circuit binary LARGEST found image file_too again in
-          no_map_fault c image good mapped.1 fault (subst (λ (d : Circuit). IsMapFault d fault) same told),
+          only_memory image fault (subst (λ (d : Circuit). IsMapFault d fault) same told)
+          c (undoing_recovers c image good mapped.1).0,
     )
