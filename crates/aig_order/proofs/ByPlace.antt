@@ -1,5 +1,5 @@
 -- The gate that is told for a place: the first one that has it.
-use Rattle.std.proofs.Common.{◌≡◌, ◌+◌, ◌<◌, ◌≤◌, ℕ, zero, suc, List, ◌∷◌, Option, false, eqb, length, get_or, map}
+use Rattle.std.proofs.Common.{◌≡◌, ◌+◌, ◌<◌, ◌≤◌, ℕ, zero, suc, List, ◌∷◌, Option, eqb, length, map}
 use Rattle.std.proofs.Common.{refl, sym, ap, ap₂, ◌∙◌, arith}
 use Rattle.std.specs.List.{range_with_len}
 use Rattle.std.specs.Option.{option_map, unwrap_or}
@@ -14,12 +14,7 @@ use Rattle.aig_order.specs.declared.map_block.MappedGate.{MappedGate}
 use Rattle.aig_order.specs.Renumbering.{taken}
 use Rattle.aig_order.specs.Parts.Turns.{position_at_place}
 use Rattle.aig_order.specs.Undone.{variable_at_place}
-
-abbrev pub none_told : MappedGate
-none_told = record { var = 0; place = 0; exchanged = false }
-
-abbrev pub told_at : List MappedGate → ℕ → MappedGate
-told_at ms i = get_or ms i none_told
+use Rattle.aig_order.proofs.ToldAt.{none_told, told_at}
 
 module _ (ms : List MappedGate) (p : ℕ) (below : position_at_place ms p < length ms) where
   -- it has the place

@@ -1,5 +1,5 @@
 -- Gates of distinct places below their count: each place is that of one gate, and has its variable.
-use Rattle.std.proofs.Common.{◌≡◌, ◌≢◌, ◌<◌, ◌≤◌, ℕ, zero, suc, List, [], ◌∷◌, false, length, get_or, map}
+use Rattle.std.proofs.Common.{◌≡◌, ◌≢◌, ◌<◌, ◌≤◌, ℕ, zero, suc, List, [], ◌∷◌, length, get_or, map}
 use Rattle.std.proofs.Common.{refl, sym, ap, subst, ◌∙◌, ⊎_elim, zero-add, arith}
 use Rattle.std.specs.List.{AllByRecursion, range_with_len}
 use Rattle.std.proofs.lemmas.Bool.{ne_eqb}
@@ -13,10 +13,11 @@ use Rattle.aig_order.specs.declared.map_block.MappedGate.{MappedGate}
 use Rattle.aig_order.specs.Undone.{variable_at_place}
 use Rattle.aig_order.proofs.InPlace.{somewhere, here}
 use Rattle.aig_order.proofs.Placed.{places, variable_here, variable_later}
-use Rattle.aig_order.proofs.ToldGates.{distinct_by_places}
+use Rattle.aig_order.proofs.ToldAt.{none_told, told_at}
+use Rattle.aig_order.proofs.ToldGates.{distinct_by_places, numbers_all}
 
 -- distinct numbers below n, as many as n, are all of them
-all_below : (n : ℕ) (ps : List ℕ) → AreDistinct ps → AllByRecursion (λ p. p < n) ps → length ps ≡ n
+pub all_below : (n : ℕ) (ps : List ℕ) → AreDistinct ps → AllByRecursion (λ p. p < n) ps → length ps ≡ n
     → (p : ℕ) → p < n → IsAmong p ps
 all_below n ps once below many p low =
     ⊎_elim (λ (i : IsAmong p ps). i)
@@ -37,22 +38,17 @@ same_place (x ∷ xs) once (suc i) zero below below_too e =
 same_place (x ∷ xs) once (suc i) (suc k) below below_too e =
     ap suc (same_place xs once.1 i k (omega arith) (omega arith) e)
 
-abbrev pub nothing_told : MappedGate
-nothing_told = record { var = 0; place = 0; exchanged = false }
-
-abbrev pub told_at : List MappedGate → ℕ → MappedGate
-told_at gates i = get_or gates i nothing_told
-
 abbrev pub told_variables : List MappedGate → List ℕ
 told_variables gates = map (λ (g : MappedGate). g.var) gates
 
 -- the place and the variable of a gate stand among those of all
-place_at : (gates : List MappedGate) (i : ℕ) → i < length gates → get_or (places gates) i 0 ≡ (told_at gates i).place
-place_at gates i below = get_or-map (λ (g : MappedGate). g.place) gates i nothing_told 0 below
+pub place_at : (gates : List MappedGate) (i : ℕ) → i < length gates
+    → get_or (places gates) i 0 ≡ (told_at gates i).place
+place_at gates i below = get_or-map (λ (g : MappedGate). g.place) gates i none_told 0 below
 
 variable_at : (gates : List MappedGate) (i : ℕ) → i < length gates
     → get_or (told_variables gates) i 0 ≡ (told_at gates i).var
-variable_at gates i below = get_or-map (λ (g : MappedGate). g.var) gates i nothing_told 0 below
+variable_at gates i below = get_or-map (λ (g : MappedGate). g.var) gates i none_told 0 below
 
 -- the variable at the place of a gate is that of the gate
 pub variable_there : (gates : List MappedGate) → AreDistinct (places gates)
@@ -69,12 +65,6 @@ variable_there (g ∷ gates) once (suc i) below =
     let other : g.place ≢ p = λ e. once.0 (subst (λ q. IsAmong q (places gates)) (sym e) among) in
     variable_later g gates p (ne_eqb g.place p other) ∙ variable_there gates once.1 i there
 
--- what holds of each place
-places_all : (P : ℕ → Type 0) (gates : List MappedGate) → AllByRecursion (λ (g : MappedGate). P g.place) gates
-    → AllByRecursion P (places gates)
-places_all P [] all = tt
-places_all P (g ∷ gates) all = (all.0, places_all P gates all.1)
-
 module _ (gates : List MappedGate) (once : AreDistinct (places gates))
     (below : AllByRecursion (λ (g : MappedGate). g.place < length gates) gates) where
   many : length (places gates) ≡ length gates
@@ -86,7 +76,7 @@ module _ (gates : List MappedGate) (once : AreDistinct (places gates))
       × (variable_at_place gates p ≡ (told_at gates i).var)
   gate_there p low =
       let among : IsAmong p (places gates) =
-      all_below (length gates) (places gates) once (places_all (λ q. q < length gates) gates below) many p low in
+      all_below (length gates) (places gates) once (numbers_all (λ q. q < length gates) gates below) many p low in
       let found = somewhere p (places gates) among in
       let there : found.0 < length gates = omega (arith, found.1, many) in
       let is : (told_at gates found.0).place ≡ p = sym (place_at gates found.0 there) ∙ found.2 in

@@ -1,8 +1,7 @@
 -- The gates of the undone circuit, taken by their places, have the images that they were undone from, and are told as
 -- they were told.
-use Rattle.std.proofs.Common.{◌≡◌, ◌+◌, ◌*◌, ◌<◌, ◌≤◌, ℕ, zero, suc, List, [], ◌∷◌, true, Option, length, map}
+use Rattle.std.proofs.Common.{◌≡◌, ◌+◌, ◌*◌, ◌<◌, ◌≤◌, ℕ, List, true, Option, length, map}
 use Rattle.std.proofs.Common.{refl, ap, ◌∙◌, arith}
-use Rattle.std.specs.List.{AllByRecursion}
 use Rattle.std.proofs.lemmas.List.{length-map, get_or-map, ext_get_or}
 use Rattle.aig_core.specs.declared.circuit.Gate.{Gate}
 use Rattle.aig_core.specs.declared.circuit.Circuit.{Circuit}
@@ -19,18 +18,12 @@ use Rattle.aig_order.specs.Parts.Confirmed.{HasTwoOperands, TellsExchanges}
 use Rattle.aig_order.specs.Parts.Turns.{positions, position_at_place}
 use Rattle.aig_order.specs.Renumbering.{renumbered, taken}
 use Rattle.aig_order.specs.Undone.{source_variable, source_latch}
-use Rattle.aig_order.proofs.ByPlace.{told_at, none_told, has_place}
+use Rattle.aig_order.proofs.ByPlace.{has_place}
 use Rattle.aig_order.proofs.GateAgain.{gate_again, told_again}
 use Rattle.aig_order.proofs.OneByOne.{ordered_at}
+use Rattle.aig_order.proofs.ToldAt.{none_told, told_at, each_at}
 use Rattle.aig_order.proofs.Turned.{vs, source, as_many, gates_many, order_many, order_at, once, some, one_there}
 use Rattle.aig_order.proofs.Turned.{number_is, source_gate_at}
-
--- what holds of all that is told holds of what is told at a position
-each_told : (P : MappedGate → Type 0) (ms : List MappedGate) → AllByRecursion P ms → (i : ℕ) → i < length ms
-    → P (told_at ms i)
-each_told P [] all i below = absurd (omega arith)
-each_told P (m ∷ ms) all zero below = all.0
-each_told P (m ∷ ms) all (suc i) below = each_told P ms all.1 i (omega (arith, below))
 
 module _ (x : Circuit) (b : MapBlock) (comment : Option (List ℕ)) (ordered : IsInBinaryOrder x)
     (counts : HasCountsOf b x) where
@@ -108,6 +101,6 @@ module _ (x : Circuit) (b : MapBlock) (comment : Option (List ℕ)) (ordered : I
         ext_get_or none_told (map (mapped_gate us first) from.gates) b.gates long (λ i below.
         let low : i < length b.gates = omega (arith, below, long) in
         let Differs : MappedGate → Type 0 = λ m. m.exchanged ≡ true → HasTwoOperands (at x.gates m.place) in
-        let differ : Differs (told_at b.gates i) = each_told Differs b.gates exchanges i low in
+        let differ : Differs (told_at b.gates i) = each_at Differs b.gates none_told exchanges i low in
         get_or-map (mapped_gate us first) from.gates i no_gate none_told (omega (arith, low, many))
         ∙ told_here i low differ)

@@ -1,7 +1,7 @@
 -- A gate's new number tells its place in the order in which gates are taken.
 use Rattle.std.proofs.Common.{◌≡◌, ◌+◌, ◌-◌, ◌<◌, ◌≤◌, ℕ, zero, suc, List, [], ◌∷◌, ◌++◌, length, length-append, get_or, map, take, drop, refl, sym, ap, subst, ◌∙◌, inl, inr, ⊎_elim, append_assoc, arith}
-use Rattle.std.proofs.Math.Seq.{drop-cons}
-use Rattle.std.proofs.lemmas.List.{length-map, map-append, take-append-drop, length-take-le}
+use Rattle.std.proofs.Math.Seq.{split_at}
+use Rattle.std.proofs.lemmas.List.{length-map, map-append, length-take-le}
 use Rattle.aig_core.specs.declared.circuit.Gate.{Gate}
 use Rattle.aig_core.specs.Wellformed.{IsAmong, AreDistinct}
 use Rattle.aig_core.proofs.Ranked.{at}
@@ -22,10 +22,6 @@ here [] j below = absurd (omega arith)
 here (x ∷ xs) zero below = inl refl
 here (x ∷ xs) (suc j) below = inr (here xs j (omega arith))
 
--- a list, split at a place
-pub split_at : (xs : List ℕ) (j : ℕ) → j < length xs → xs ≡ take j xs ++ get_or xs j 0 ∷ drop (suc j) xs
-split_at xs j below = sym (take-append-drop j xs) ∙ ap (λ ys. take j xs ++ ys) (drop-cons xs j 0 below)
-
 module _ (gates : List Gate) (first order : List ℕ) (once : AreDistinct (first ++ taken_variables gates order)) (start : ℕ) (starts : start ≡ 1 + length first)
     (there : (g : ℕ) → IsAmong g order → g < length gates) (listed : (g : ℕ) → g < length gates → IsAmong g order) (some : (g : ℕ) → g < length gates → 1 ≤ (at gates g).var) where
   abbrev pub vs : List ℕ
@@ -42,7 +38,7 @@ module _ (gates : List Gate) (first order : List ℕ) (once : AreDistinct (first
       let pre : List ℕ = take j order in
       let post : List ℕ = drop (suc j) order in
       let apart : taken_variables gates order ≡ taken_variables gates pre ++ (at gates g).var ∷ taken_variables gates post =
-      ap (taken_variables gates) (split_at order j below)
+      ap (taken_variables gates) (split_at order j 0 below)
       ∙ ap (λ (gs : List Gate). map (λ (h : Gate). h.var) gs) (map-append (at gates) pre (g ∷ post))
       ∙ map-append (λ (h : Gate). h.var) (taken gates pre) (at gates g ∷ taken gates post) in
       let all : vs ≡ (first ++ taken_variables gates pre) ++ (at gates g).var ∷ taken_variables gates post =

@@ -3,7 +3,7 @@ use Rattle.std.proofs.Common.{◌≡◌, ◌+◌, ◌*◌, ◌/◌, ◌%◌, ◌
 use Rattle.std.proofs.Common.{length-append}
 use Rattle.std.proofs.Common.{get_or, map, take, drop, refl, sym, ap, ap₂, ◌∙◌, append_assoc, arith}
 use Rattle.std.specs.List.{AllByRecursion, range_with_len}
-use Rattle.std.proofs.Math.Seq.{get_or-append_seam}
+use Rattle.std.proofs.Math.Seq.{get_or-append_seam, split_at}
 use Rattle.std.proofs.lemmas.List.{length-take-le}
 use Rattle.aig_core.specs.declared.circuit.Latch.{Latch}
 use Rattle.aig_core.specs.Form.{IsLiteralUpTo}
@@ -14,7 +14,7 @@ use Rattle.aig_order.specs.Image.{latch_image}
 use Rattle.aig_order.specs.Renumbering.{renumbered, renumbered_literal}
 use Rattle.aig_order.specs.Undone.{source_variable, source_literal, source_latch}
 use Rattle.aig_order.proofs.Back.{by_place}
-use Rattle.aig_order.proofs.InPlace.{here, split_at}
+use Rattle.aig_order.proofs.InPlace.{here}
 use Rattle.aig_order.proofs.Places.{number_of}
 
 -- numbers in a row, carried back to the variables that have them
@@ -44,7 +44,7 @@ module _ (vs : List ℕ) (once : AreDistinct vs) (some : (v : ℕ) → IsAmong v
       let same : suc k ≡ 1 + k = omega arith in
       ap (λ n. renumbered vs (source_variable vs n)) same
       ∙ ap (renumbered vs) (by_place vs k)
-      ∙ number_of vs (take k vs) (drop (suc k) vs) v once (some v (here vs k below)) (split_at vs k below)
+      ∙ number_of vs (take k vs) (drop (suc k) vs) v once (some v (here vs k below)) (split_at vs k 0 below)
       ∙ omega (arith, length-take-le k vs (omega (arith, below)))
 
   pub literal_again : (l : ℕ) → l ≤ 2 * length vs + 1 → renumbered_literal vs (source_literal vs l) ≡ l

@@ -1,5 +1,5 @@
 -- Which gate of the source a number of the image is carried back to.
-use Rattle.std.proofs.Common.{◌≡◌, ◌+◌, ◌-◌, ◌<◌, ◌≤◌, ℕ, zero, suc, List, ◌++◌, length, length-append, get_or, map}
+use Rattle.std.proofs.Common.{◌≡◌, ◌+◌, ◌-◌, ◌<◌, ◌≤◌, ℕ, zero, suc, List, ◌++◌, length, length-append, map}
 use Rattle.std.proofs.Common.{refl, sym, ap, subst, ◌∙◌, ⊎_elim, arith}
 use Rattle.std.specs.List.{range_with_len}
 use Rattle.std.proofs.lemmas.Bool.{cases_lt}
@@ -19,11 +19,12 @@ use Rattle.aig_order.specs.Parts.Turns.{position_at_place}
 use Rattle.aig_order.specs.Undone.{source_variables, source_variable, source_latch, source_gate, variable_at_place}
 use Rattle.aig_order.proofs.Back.{by_place as by_number}
 use Rattle.aig_order.proofs.Distinct.{among_first, apart}
-use Rattle.aig_order.proofs.EachPlace.{no_told, told_each, variable_by_position, by_gate, by_place}
+use Rattle.aig_order.proofs.EachPlace.{variable_by_position, by_gate, by_place}
 use Rattle.aig_order.proofs.OperandsHad.{latch_variables, inputs_had, latches_had}
 use Rattle.aig_order.proofs.Placed.{places}
 use Rattle.aig_order.proofs.SourceVariables.{places_there}
 use Rattle.aig_order.proofs.Taken.{same_gate}
+use Rattle.aig_order.proofs.ToldAt.{none_told, told_at, each_at}
 
 -- a circuit in binary order, and a block that fits it
 pub record IsFit (b : MapBlock) (x : Circuit) : Type 0 where
@@ -59,7 +60,7 @@ module _ (b : MapBlock) (x : Circuit) (fit : IsFit b x)
   first = first_had b x
 
   abbrev pub told : ℕ → MappedGate
-  told i = get_or b.gates i no_told
+  told i = told_at b.gates i
 
   abbrev pub position : ℕ → ℕ
   position = position_at_place b.gates
@@ -78,7 +79,7 @@ module _ (b : MapBlock) (x : Circuit) (fit : IsFit b x)
   many = length-map b.gates (source_gate vs x.gates)
 
   pub source_at : (i : ℕ) → i < length b.gates → at source i ≡ source_gate vs x.gates (told i)
-  source_at i low = get_or-map (source_gate vs x.gates) b.gates i no_told no_gate low
+  source_at i low = get_or-map (source_gate vs x.gates) b.gates i none_told no_gate low
 
   pub variable_at : (i : ℕ) → i < length b.gates → (at source i).var ≡ (told i).var
   variable_at i low = ap (λ (g : Gate). g.var) (source_at i low)
@@ -123,8 +124,8 @@ module _ (b : MapBlock) (x : Circuit) (fit : IsFit b x)
   pub place_by_number : (h v : ℕ) → h < length b.gates → v < start + length b.gates
       → (told h).var ≡ source_variable vs v → v ≡ start + (told h).place
   place_by_number h zero there low is =
-      let good = told_each (λ (g : MappedGate). IsVariableUpTo b.max_var g.var × (g.place < length b.gates))
-      b.gates fit.bounds.gates h there in
+      let good = each_at (λ (g : MappedGate). IsVariableUpTo b.max_var g.var × (g.place < length b.gates))
+      b.gates none_told fit.bounds.gates h there in
       let some : 1 ≤ (told h).var = good.0.0 in
       absurd (omega (arith, some, is))
   place_by_number h (suc k) there low is =

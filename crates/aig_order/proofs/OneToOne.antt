@@ -1,7 +1,7 @@
 -- Renumbering is one to one from the defined variables onto the numbers from 1 on.
-use Rattle.std.proofs.Common.{◌≡◌, ◌+◌, ◌<◌, ℕ, zero, suc, List, ◌++◌, length, get_or, map, take, drop}
+use Rattle.std.proofs.Common.{◌≡◌, ◌+◌, ◌<◌, ◌≤◌, ℕ, zero, suc, List, ◌++◌, length, get_or, map}
 use Rattle.std.proofs.Common.{sym, ap, ap₂, ◌∙◌, inr, length-append, arith}
-use Rattle.std.proofs.lemmas.List.{length-map, length-take-le}
+use Rattle.std.proofs.lemmas.List.{length-map}
 use Rattle.aig_core.specs.declared.circuit.Latch.{Latch}
 use Rattle.aig_core.specs.declared.circuit.Gate.{Gate}
 use Rattle.aig_core.specs.declared.circuit.Circuit.{Circuit}
@@ -12,11 +12,11 @@ use Rattle.aig_core.proofs.Ranked.{at}
 use Rattle.aig_order.specs.Laws.{IsOneToOneOnto}
 use Rattle.aig_order.specs.Renumbering.{in_new_order, renumbered, taken}
 use Rattle.aig_order.specs.Undone.{source_variable}
-use Rattle.aig_order.proofs.Back.{back_variable}
-use Rattle.aig_order.proofs.InPlace.{here, somewhere, split_at}
+use Rattle.aig_order.proofs.Back.{back_variable, by_place}
+use Rattle.aig_order.proofs.InPlace.{here, somewhere}
 use Rattle.aig_order.proofs.Members.{new_once, has_defined, is_defined}
+use Rattle.aig_order.proofs.NumbersAgain.{variable_again}
 use Rattle.aig_order.proofs.OneSource.{all_taken}
-use Rattle.aig_order.proofs.Places.{number_of}
 use Rattle.aig_order.proofs.Taken.{taken_variables}
 
 module _ (c : Circuit) (order : List ℕ) (good : IsWellFormed c) (least : IsLeastReadyOrder c order) where
@@ -37,15 +37,17 @@ module _ (c : Circuit) (order : List ℕ) (good : IsWellFormed c) (least : IsLea
       length-append (c.inputs ++ latches) gates ∙ ap₂ (λ m n. m + n) (length-append c.inputs latches) all
       ∙ ap (λ n. length c.inputs + n + length c.gates) as_many
 
+  some : (v : ℕ) → IsAmong v vs → 1 ≤ v
+  some v among =
+      let range : IsVariableUpTo c.max_var v =
+      each (IsVariableUpTo c.max_var) (defined_variables c) good.in_range v (is_defined c order good least v among) in
+      range.0
+
   -- the variable at a place has the number that is one more
   number_at : (j : ℕ) → j < length vs → renumbered vs (get_or vs j 0) ≡ 1 + j
   number_at j below =
-      let v : ℕ = get_or vs j 0 in
-      let defined : IsAmong v (defined_variables c) = is_defined c order good least v (here vs j below) in
-      let range : IsVariableUpTo c.max_var v =
-      each (IsVariableUpTo c.max_var) (defined_variables c) good.in_range v defined in
-      number_of vs (take j vs) (drop (suc j) vs) v (new_once c order good least) range.0 (split_at vs j below)
-      ∙ ap (λ n. 1 + n) (length-take-le j vs (omega (arith, below)))
+      ap (renumbered vs) (sym (by_place vs j))
+      ∙ variable_again vs (new_once c order good least) some (1 + j) (omega (arith, below))
 
   within : (v : ℕ) → IsAmong v (defined_variables c) → IsVariableUpTo count (renumbered vs v)
   within v defined =

@@ -9,13 +9,14 @@ use Rattle.std.proofs.lemmas.List.FromFn.{get_or-map-range_with_len, length-map-
 use Rattle.aig_core.specs.Wellformed.{AreDistinct}
 use Rattle.aig_order.specs.declared.map_block.MappedGate.{MappedGate}
 use Rattle.aig_order.specs.Parts.Turns.{position_at_place, positions}
-use Rattle.aig_order.proofs.EachPlace.{no_told, differ, by_place, place_below}
+use Rattle.aig_order.proofs.EachPlace.{differ, by_place, place_below}
 use Rattle.aig_order.proofs.Placed.{places}
+use Rattle.aig_order.proofs.ToldAt.{none_told, told_at}
 
 module _ (gates : List MappedGate) (once : AreDistinct (places gates))
     (below : AllByRecursion (λ (g : MappedGate). g.place < length gates) gates) where
   abbrev place_of : ℕ → ℕ
-  place_of i = (get_or gates i no_told).place
+  place_of i = (told_at gates i).place
 
   -- the first gates have put their positions
   abbrev pub ArePut : ℕ → List ℕ → Type 0
@@ -26,7 +27,7 @@ module _ (gates : List MappedGate) (once : AreDistinct (places gates))
       → ArePut (k + 1) (set found g.place k)
   one_more_put k found g many there is put i low =
       let here : g.place ≡ place_of k =
-      ap (λ (m : MappedGate). m.place) (is ∙ get_or_default gates k g no_told there) in
+      ap (λ (m : MappedGate). m.place) (is ∙ get_or_default gates k g none_told there) in
       let now : set found g.place k ≡ set found (place_of k) k = ap (λ p. set found p k) here in
       ⊎_elim (λ (l : i < k).
       ap (λ xs. get_or xs (place_of i) 0) now

@@ -1,5 +1,5 @@
 -- The circuit by the numbers that were noted is the image.
-use Rattle.std.proofs.Common.{◌≡◌, ◌≢◌, ◌+◌, ◌*◌, ◌%◌, ◌<◌, ◌≤◌, ℕ, zero, suc, List, [], ◌∷◌, ◌++◌, true, false, eqb, length, map, refl, sym, ap, ap₂, subst, ◌∙◌, inl, inr, ⊎_elim, arith}
+use Rattle.std.proofs.Common.{◌≡◌, ◌≢◌, ◌+◌, ◌*◌, ◌%◌, ◌<◌, ◌≤◌, ℕ, List, [], ◌∷◌, ◌++◌, true, false, eqb, length, map, refl, sym, ap, ap₂, subst, ◌∙◌, inl, inr, ⊎_elim, arith}
 use Rattle.std.specs.List.{AllByRecursion, position_or_len, flat_map}
 use Rattle.std.specs.BTreeMap.{BTreeMap}
 use Rattle.std.proofs.lemmas.Bool.{ne_eqb}
@@ -17,7 +17,7 @@ use Rattle.aig_core.proofs.Counted.{among_either}
 use Rattle.aig_core.proofs.Cyclic.{among_last}
 use Rattle.aig_core.proofs.Fitting.{each, definitions_fit}
 use Rattle.aig_core.proofs.InForm.{front, back}
-use Rattle.aig_core.proofs.Ranked.{at, variables, stands_there}
+use Rattle.aig_core.proofs.Ranked.{at, no_gate, variables, stands_there}
 use Rattle.aig_order.specs.Image.{latch_image, gate_image, image_by, IsBinaryImage}
 use Rattle.aig_order.specs.Parts.Renewed.{new_literal, new_latch, new_gate, new_circuit}
 use Rattle.aig_order.specs.Parts.Numbers.{number_at, number_in, AreNumbered, AreSmall}
@@ -25,6 +25,7 @@ use Rattle.aig_order.specs.Renumbering.{in_new_order, renumbered, renumbered_lit
 use Rattle.aig_order.proofs.Distinct.{among_first}
 use Rattle.aig_order.proofs.Members.{new_literal as known_fits, not_more}
 use Rattle.aig_order.proofs.Taken.{all_there, among_taken, taken_variables}
+use Rattle.aig_order.proofs.ToldAt.{each_at}
 
 -- what is not in a list has no place there
 no_place : (v : ℕ) (xs : List ℕ) → ¬ IsAmong v xs → position_or_len (λ w. eqb w v) xs ≡ length xs
@@ -39,11 +40,6 @@ no_number v xs out = let none = no_place v xs out in grind (arith, common_steps,
 -- a variable that has a place has its number
 in_place : (v : ℕ) (xs : List ℕ) → v ≢ 0 → renumbered xs v ≤ length xs → number_in xs v ≡ renumbered xs v
 in_place v xs some fits = let b = ne_eqb v 0 some in grind (arith, common_steps, b, fits)
-
-each_at : (P : Gate → Type 0) (gates : List Gate) → AllByRecursion P gates → (i : ℕ) → i < length gates → P (at gates i)
-each_at P [] all i l = absurd (omega arith)
-each_at P (g ∷ gates) all zero l = all.0
-each_at P (g ∷ gates) all (suc i) l = each_at P gates all.1 i (omega arith)
 
 module _ (c : Circuit) (order : List ℕ) (good : IsWellFormed c) (least : IsLeastReadyOrder c order) where
   abbrev first : List ℕ
@@ -111,7 +107,7 @@ module _ (c : Circuit) (order : List ℕ) (good : IsWellFormed c) (least : IsLea
         → map (new_gate number) (taken c.gates at) ≡ map (gate_image vs) (taken c.gates at)
     same_taken same [] there = refl
     same_taken same (g ∷ at) there =
-        ap₂ (λ (y : Gate) (ys : List Gate). y ∷ ys) (each_at (λ g. new_gate number g ≡ gate_image vs g) c.gates same g there.0) (same_taken same at there.1)
+        ap₂ (λ (y : Gate) (ys : List Gate). y ∷ ys) (each_at (λ h. new_gate number h ≡ gate_image vs h) c.gates no_gate same g there.0) (same_taken same at there.1)
 
     pub by_numbers : (count : ℕ) (gates : List Gate) → count ≡ length vs → gates ≡ taken c.gates order → new_circuit number count c gates c.comment ≡ image_by order c
     by_numbers count gates many are =

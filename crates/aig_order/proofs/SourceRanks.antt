@@ -1,5 +1,5 @@
 -- The gates of the undone circuit are ranked by the places of their variables in the new order.
-use Rattle.std.proofs.Common.{◌≡◌, ◌+◌, ◌*◌, ◌<◌, ◌≤◌, ℕ, zero, suc, List, [], ◌∷◌, eqb, length, length-append}
+use Rattle.std.proofs.Common.{◌≡◌, ◌+◌, ◌<◌, ◌≤◌, ℕ, List, [], ◌∷◌, eqb, length, length-append}
 use Rattle.std.proofs.Common.{get_or, map, sym, ap, subst, ◌∙◌, ⊎_elim, arith}
 use Rattle.std.specs.List.{AllByRecursion, All, position_or_len}
 use Rattle.std.proofs.lemmas.List.{get_or-append-add}
@@ -13,10 +13,12 @@ use Rattle.aig_order.specs.declared.map_block.MappedGate.{MappedGate}
 use Rattle.aig_order.specs.declared.map_block.MapBlock.{MapBlock}
 use Rattle.aig_order.specs.MapReading.{IsWithinBounds}
 use Rattle.aig_order.specs.Undone.{source_variables, source_literal, source_gate}
-use Rattle.aig_order.proofs.GatePlaces.{nothing_told, told_at, variable_there, in_a_row, as_many, row_at}
+use Rattle.aig_order.proofs.GatePlaces.{variable_there, in_a_row, as_many, row_at}
+use Rattle.aig_order.proofs.OneByOne.{ordered_at}
 use Rattle.aig_order.proofs.Placed.{places}
 use Rattle.aig_order.proofs.SourceDefined.{first}
 use Rattle.aig_order.proofs.SourceUses.{IsBefore, literal_before, of_either, place_is}
+use Rattle.aig_order.proofs.ToldAt.{none_told, told_at, each_at}
 
 -- a gate whose variable stands in a list, and those of its operands before it
 pub record StandsIn (vs : List ℕ) (g : Gate) : Type 0 where
@@ -48,23 +50,6 @@ module _ (vs : List ℕ) (once : AreDistinct vs) where
       omega (arith, lower, own, k.1))
       before
 
--- the operands of the gate at a place are over lower variables
-operands_lower : (variable : ℕ) (gates : List Gate) → AreOrderedGates variable gates → (i : ℕ) → i < length gates
-    → ((at gates i).left < 2 * (variable + i)) × ((at gates i).right < 2 * (variable + i))
-operands_lower variable [] ordered i below = absurd (omega arith)
-operands_lower variable (g ∷ gates) ordered zero below =
-    (omega (arith, ordered.0, ordered.1), omega (arith, ordered.0, ordered.1, ordered.2))
-operands_lower variable (g ∷ gates) ordered (suc i) below =
-    let later = operands_lower (suc variable) gates ordered.3 i (omega (arith, below)) in
-    (omega (arith, later.0), omega (arith, later.1))
-
--- what holds of all holds of each
-each_told : (P : MappedGate → Type 0) (gates : List MappedGate) → AllByRecursion P gates
-    → (i : ℕ) → i < length gates → P (told_at gates i)
-each_told P [] all i below = absurd (omega arith)
-each_told P (g ∷ gates) all zero below = all.0
-each_told P (g ∷ gates) all (suc i) below = each_told P gates all.1 i (omega (arith, below))
-
 module _ (b : MapBlock) (bounds : IsWithinBounds b) (once : AreDistinct (places b.gates))
     (below : AllByRecursion (λ (g : MappedGate). g.place < length b.gates) b.gates) (image : List Gate)
     (ordered : AreOrderedGates (1 + length b.inputs + length b.latches) image)
@@ -81,16 +66,17 @@ module _ (b : MapBlock) (bounds : IsWithinBounds b) (once : AreDistinct (places 
       let g : MappedGate = told_at b.gates i in
       let p : ℕ = g.place in
       let n : ℕ = length (first b) + p in
-      let low : p < length b.gates = each_told (λ (h : MappedGate). h.place < length b.gates) b.gates below i there in
-      let range = each_told (λ (h : MappedGate). IsVariableUpTo b.max_var h.var × (h.place < length b.gates))
-      b.gates bounds.gates i there in
+      let low : p < length b.gates =
+      each_at (λ (h : MappedGate). h.place < length b.gates) b.gates none_told below i there in
+      let range = each_at (λ (h : MappedGate). IsVariableUpTo b.max_var h.var × (h.place < length b.gates))
+      b.gates none_told bounds.gates i there in
       let front : length (first b) ≡ length b.inputs + length b.latches = length-append b.inputs b.latches in
-      let lower = operands_lower (1 + length b.inputs + length b.latches) image ordered p (omega (arith, low, many)) in
+      let lower = ordered_at (1 + length b.inputs + length b.latches) image ordered p (omega (arith, low, many)) in
       let l : ℕ = (at image p).left in
       let r : ℕ = (at image p).right in
       let IsUnder : ℕ → Type 0 = λ literal. IsBefore vs n (variable_of (source_literal vs literal)) in
-      let left : IsUnder l = literal_before vs l n (omega (arith, lower.0, front)) in
-      let right : IsUnder r = literal_before vs r n (omega (arith, lower.1, front)) in record {
+      let left : IsUnder l = literal_before vs l n (omega (arith, lower.0, lower.1, front)) in
+      let right : IsUnder r = literal_before vs r n (omega (arith, lower.0, lower.1, lower.2, front)) in record {
         n = n;
         there = omega (arith, low, length-append (first b) row, as_many b.gates once below);
         some = range.0.0;
@@ -104,4 +90,4 @@ module _ (b : MapBlock) (bounds : IsWithinBounds b) (once : AreDistinct (places 
   pub all_stand : All (StandsIn vs) (map (source_gate vs image) b.gates)
   all_stand =
       All-map (StandsIn vs) (source_gate vs image) b.gates
-      (All-from_get_or (λ (g : MappedGate). StandsIn vs (source_gate vs image g)) b.gates nothing_told stands)
+      (All-from_get_or (λ (g : MappedGate). StandsIn vs (source_gate vs image g)) b.gates none_told stands)

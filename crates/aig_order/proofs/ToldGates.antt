@@ -38,7 +38,7 @@ among_told number tell (g ∷ gs) zero below = inl refl
 among_told number tell (g ∷ gs) (suc i) below = inr (among_told number tell gs i (omega arith))
 
 -- what holds of each place
-numbers_all : (P : ℕ → Type 0) (ms : List MappedGate) → AllByRecursion (λ (m : MappedGate). P m.place) ms → AllByRecursion P (map (λ (m : MappedGate). m.place) ms)
+pub numbers_all : (P : ℕ → Type 0) (ms : List MappedGate) → AllByRecursion (λ (m : MappedGate). P m.place) ms → AllByRecursion P (map (λ (m : MappedGate). m.place) ms)
 numbers_all P [] all = tt
 numbers_all P (m ∷ ms) all = (all.0, numbers_all P ms all.1)
 

@@ -19,7 +19,8 @@ use Rattle.aig_order.specs.MapReading.{HasCountsOf}
 use Rattle.aig_order.specs.Parts.Turns.{positions, position_at_place}
 use Rattle.aig_order.specs.Renumbering.{in_new_order, renumbered, taken}
 use Rattle.aig_order.specs.Undone.{source_variables, source_variable, source_gate, undone, variable_at_place}
-use Rattle.aig_order.proofs.ByPlace.{told_at, none_told, has_place, taken_by_place}
+use Rattle.aig_order.proofs.ByPlace.{has_place, taken_by_place}
+use Rattle.aig_order.proofs.ToldAt.{none_told, told_at}
 use Rattle.aig_order.proofs.Carried.{by_order, by_gate}
 use Rattle.aig_order.proofs.Members.{new_once, is_defined, not_more}
 use Rattle.aig_order.proofs.NumbersAgain.{read_off, latch_variables}
