@@ -1,6 +1,6 @@
 -- What came of a request, for a source and what is left of it, and a sink and how it is filled then. Nothing is said of
 -- the bytes of a device that does not tell them.
-use Rattle.std.specs.Prelude.{◌≡◌, ◌+◌, ◌⊎◌, ℕ, List, Option, IfSome, true}
+use Rattle.std.specs.Prelude.{◌≡◌, ◌+◌, ◌⊎◌, ℕ, List, Option, IfSome, true, ⊤}
 use Rattle.std.specs.Io.KnownBytes.{Appends}
 use Rattle.aig_core.specs.Transfer.{GaveAll, GaveSome, TookBeginning}
 use Rattle.aig_text.specs.declared.fault.ReadFault.{ReadFault}
@@ -60,10 +60,19 @@ NotWritten request written error taken sink_failed sink filled =
     ⊎ ((error ≡ faults.Sink) × (sink_failed filled ≡ sink_failed sink + 1)
     × ((text : List ℕ) × IsTextAs request.ascii request.keep_map written text × TookBeginning (taken sink) (taken filled) text))
 
+-- the errors that a conversion can answer
+abbrev pub IsOfConversion : ToolFault → Type 0
+IsOfConversion (faults.Read fault) = ⊤
+IsOfConversion (faults.Map fault) = ⊤
+IsOfConversion faults.Source = ⊤
+IsOfConversion faults.Sink = ⊤
+IsOfConversion faults.OutOfMemory = ⊤
+
 -- what an error of a conversion says of its source and its sink
 pub record NotConverted {R W : Type 0} (request : ToAig) (error : ToolFault)
     (coming : R → Option (List ℕ)) (source_failed : R → ℕ) (source left : R)
     (taken : W → Option (List ℕ)) (sink_failed : W → ℕ) (sink filled : W) : Type 0 where
+  pub possible : IsOfConversion error
   pub gave : GaveSome (coming source) (coming left)
   pub refused : IfSome (text_fault error) (Refused request (coming source) (coming left))
   pub map_refused : IfSome (map_fault error) (MapRefused request (coming source) (coming left))

@@ -1,6 +1,7 @@
 //! `aigtoaig`: conversion of AIGER files.
 ghost use Rattle.std.specs.Io.KnownBytes.{Appends};
-ghost use Rattle.std.specs.Prelude.{◌≡◌, ◌+◌, ◌-◌, ◌^◌, ◌<◌, ◌⊎◌, ℕ, List, false, true, IfErr, IfOk, OnOk};
+ghost use Rattle.std.specs.Prelude.{◌≡◌, ◌+◌, ◌-◌, ◌^◌, ◌<◌, ◌≤◌, ◌⊎◌, max, ℕ, List, false, true, IfErr, IfOk, OnOk};
+ghost use Rattle.aig_core.specs.declared.block.TheConstants.{ROOM};
 ghost use Rattle.aig_order.specs.Undone.{IsMapFault};
 ghost use Rattle.aig_tools.specs.Conversion.{IsImageAs, IsSource, IsTextAs, changed};
 ghost use Rattle.aig_tools.specs.Outcome.{Converted, NotConverted, NotWritten};
@@ -63,6 +64,7 @@ fn write<W: Sink>(
     ensures ok { OnOk result ((text : List ℕ) × IsTextAs request.now.ascii request.now.keep_map circuit text
         × Appends (W.taken sink.old) (W.taken sink.new) text × (W.failed sink.new ≡ W.failed sink.old)) }
     ensures err { IfErr result (λ error. NotWritten request.now circuit error W.taken W.failed sink.old sink.new) }
+    ensures short { W.longest sink.new ≤ max (W.longest sink.old) ROOM }
 {
     if request.ascii {
         write_ascii(&circuit, sink)?;
@@ -92,6 +94,7 @@ pub fn run_toaig<R: Source, W: Sink>(
         R.coming R.failed source.old source.new W.taken W.failed sink.old sink.new) }
     ensures err { IfErr result (λ error. NotConverted request.now error
         R.coming R.failed source.old source.new W.taken W.failed sink.old sink.new) }
+    ensures short { W.longest sink.new ≤ max (W.longest sink.old) ROOM }
 {
     let bytes = read_all(alloc, source)?;
     let limits = Limits {
