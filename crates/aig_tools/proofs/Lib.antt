@@ -1,3 +1,4 @@
 pub mod Files
 pub mod Trips
 pub mod TripsExist
+pub mod Lines

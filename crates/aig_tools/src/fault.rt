@@ -1,5 +1,6 @@
 //! Why a tool did not do what was asked.
-ghost use Rattle.std.specs.Prelude.{◌≡◌, ◌↔◌, IsTrue};
+ghost use Rattle.std.specs.Prelude.{◌≡◌, ◌↔◌, IsTrue, Some};
+ghost use Rattle.aig_tools.specs.Messages.{error_text};
 ghost use Rattle.aig_tools.specs.declared.fault.ToolFault.TheVariants.{Map, OutOfMemory, Read, Sink};
 ghost use Rattle.aig_tools.specs.Blame.{at_fault, Memory};
 ghost use Rattle.aig_tools.specs.Reported.{tool_fault_of};
@@ -7,7 +8,8 @@ ghost use Rattle.aig_tools.specs.Reported.{tool_fault_of};
 use aig_core::ReadError;
 use aig_order::MapFault;
 use aig_text::{ReadFault, ReadKind, WriteFault};
-use thiserror::Error;
+use std::error::Error;
+use std::fmt;
 
 pub(crate) const CANNOT_READ: &str = "cannot read";
 
@@ -16,22 +18,17 @@ pub(crate) const CANNOT_WRITE: &str = "cannot write";
 pub(crate) const OUT_OF_MEMORY: &str = "out of memory";
 
 /// Why a tool did not do what was asked.
-#[derive(Debug, Drop, PartialEq, Error)]
+#[derive(Debug, Drop, PartialEq)]
 pub enum ToolFault {
     /// The source is not the file of a circuit.
-    #[error("{0}")]
     Read(ReadFault),
     /// The source is the file of a circuit that has no undone one.
-    #[error("{0}")]
     Map(MapFault),
     /// The source failed.
-    #[error("{text}", text = CANNOT_READ)]
     Source,
     /// The sink failed.
-    #[error("{text}", text = CANNOT_WRITE)]
     Sink,
     /// A growth of memory was refused, but while a file or a map was judged: that is told as a fault of it.
-    #[error("{text}", text = OUT_OF_MEMORY)]
     OutOfMemory,
 }
 
@@ -48,6 +45,22 @@ impl ToolFault {
         }
     }
 }
+
+impl fmt::Display for ToolFault {
+    ghost output = { λ error. Some (error_text error) };
+
+    fn fmt<W: fmt::Write>(&self, f: &mut fmt::Formatter<W>) -> fmt::Result {
+        match self {
+            ToolFault::Read(fault) => write!(f, "{fault}"),
+            ToolFault::Map(fault) => write!(f, "{fault}"),
+            ToolFault::Source => write!(f, "{CANNOT_READ}"),
+            ToolFault::Sink => write!(f, "{CANNOT_WRITE}"),
+            ToolFault::OutOfMemory => write!(f, "{OUT_OF_MEMORY}"),
+        }
+    }
+}
+
+impl Error for ToolFault {}
 
 impl From<ReadError> for ToolFault {
     ghost from_gives = { λ error fault. fault ≡ tool_fault_of error };

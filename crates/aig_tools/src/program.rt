@@ -1,7 +1,7 @@
 //! What the program does with its words.
-ghost use Rattle.std.specs.Prelude.{◌≡◌, ◌-◌, ◌^◌, ◌<◌, ◌≤◌, ◌↔◌, IfErr, IfSome, None, OnOk};
-ghost use Rattle.aig_tools.specs.Blame.{at_fault};
-ghost use Rattle.aig_tools.specs.Messages.{memory_line, Told, ToldFault, words_line};
+ghost use Rattle.std.specs.Prelude.{◌≡◌, ◌-◌, ◌^◌, ◌<◌, ◌≤◌, ◌↔◌, max, IfErr, IfSome, None, OnOk};
+ghost use Rattle.aig_core.specs.declared.block.TheConstants.{ROOM};
+ghost use Rattle.aig_tools.specs.Messages.{error_line, memory_line, Told, words_line};
 ghost use Rattle.aig_tools.specs.Outcome.{Done, NotDone};
 ghost use Rattle.aig_tools.specs.Possible.{CanAsk};
 ghost use Rattle.aig_tools.specs.Words.{request_of, texts};
@@ -40,6 +40,7 @@ fn run<R: Source, W: Sink>(
         R.coming R.failed input.old input.new W.taken W.failed output.old output.new) }
     ensures err { IfErr result (λ error. NotDone request.now error
         R.coming R.failed input.old input.new W.taken W.failed output.old output.new) }
+    ensures short { W.longest output.new ≤ max (W.longest output.old) ROOM }
 {
     match request {
         Request::ToAig(request) => run_toaig(alloc, request, input, output),
@@ -67,10 +68,12 @@ pub fn start<T: Files, R: Source, W: Sink, E: Sink>(
     ensures done_quietly { result ≡ 0 → errors.new ≡ errors.old }
     ensures failed { result ≡ 1 → IfSome (request_of (texts words.now)) (λ request. (error : Error)
         × NotDone request error R.coming R.failed input.old input.new W.taken W.failed output.old output.new
-        × ToldFault E.taken E.failed errors.old errors.new (at_fault error)) }
+        × Told E.taken E.failed errors.old errors.new (error_line error)) }
     ensures not_understood { (result ≡ 2) ↔ (request_of (texts words.now) ≡ None) }
     ensures words_told { result ≡ 2 → Told E.taken E.failed errors.old errors.new words_line }
     ensures untouched { result ≡ 2 → (input.new ≡ input.old) × (output.new ≡ output.old) }
+    ensures short { W.longest output.new ≤ max (W.longest output.old) ROOM }
+    ensures short_told { E.longest errors.new ≤ max (E.longest errors.old) ROOM }
 {
     let Some(request) = parse(words) else {
         tell_unsupported_words(errors);
