@@ -3,7 +3,8 @@ use Rattle.aig_tools.proofs.message.put_error.Goals as goal
 
 pub returns-in-Read : goal.returns-in-Read
 returns-in-Read g c =
-    rw c.in-Read.is (put_twice _ _ _ _ _ (rw c.message.ensures at c.put.ensures) (rw c.message-in-Read.ensures at c.put-in-Read.ensures))
+    rw c.in-Read.is (put_twice _ _ _ _ _ (rw c.message.ensures at c.put.ensures)
+    (rw c.message-in-Read.ensures at c.put-in-Read.ensures))
 
 pub returns-in-Source : goal.returns-in-Source
 returns-in-Source g c = rw c.in-Source.is (rw c.as_bytes.ensures.value at c.put-in-Source.ensures.put)

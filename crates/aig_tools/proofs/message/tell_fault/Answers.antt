@@ -10,6 +10,7 @@ pub returns-clause-told : goal.returns-clause-told
 returns-clause-told g c =
     let other : ¬ (at_fault c.args.fault.now ≡ Memory) =
     λ e. absurd (false≢true (sym c.if-is_want_of_memory.false ∙ c.is_want_of_memory.ensures.1 e)) in
-    rw (line_of_a_file (at_fault c.args.fault.now) (error_text c.args.fault.now) other) (told_by _ _ _ _ _ refl c.new-block.ensures
+    rw (line_of_a_file (at_fault c.args.fault.now) (error_text c.args.fault.now) other)
+    (told_by _ _ _ _ _ refl c.new-block.ensures
     (put_twice _ _ _ _ _ c.put.ensures.put (put_twice _ _ _ _ _ c.put_error.ensures c.put-2.ensures.put))
     c.flush-sent.ensures.put c.flush-sent.ensures.empty)

@@ -26,7 +26,11 @@ loop-at-preserved g c =
     record {
       within = search rules;
       put = put_next _ _ _ _ _ _ before.put (rw c.split_at.ensures.back at some.put);
-      kept = λ fits. some.kept (room_still start c.loop-at.at _ held first before.left some.moves fits) ∙ before.kept (omega (arith, fits));
+      kept = λ fits.
+          some.kept (room_still start c.loop-at.at c.put_some-at.result held first before.left some.moves fits)
+          ∙ before.kept (omega (arith, fits));
       first = search rules;
-      left = λ _. left_more start c.loop-at.at _ held _ some.held first before.left some.added some.emptied some.moves some.short;
+      left = λ _.
+          left_more start c.loop-at.at c.put_some-at.result held (length c.put_some-at.new.self.bytes) some.held first
+          before.left some.added some.emptied some.moves some.short;
     }
