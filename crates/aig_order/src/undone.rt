@@ -15,8 +15,9 @@ use crate::map_block::{MapBlock, MappedGate};
 use aig_core::{Circuit, Gate, Latch, Listing, Lit, OutOfMemory, Var, copy_symbols};
 use std::alloc::Global;
 
-/// Puts the variables of gates at their places, up to the first gate whose place has a variable. Whether none has.
-fn put_gates(placed: &mut [Var], gates: &[MappedGate]) -> bool
+/// Puts the variable of each gate at its place, up to the first gate whose place has a variable. Returns whether none
+/// has.
+fn fill_places(placed: &mut [Var], gates: &[MappedGate]) -> bool
     requires { AllByRecursion (λ (g : MappedGateRecord). g.place < length placed.old) gates.now }
     ensures all { OnTrue result (with_gates placed.old gates.now ≡ Some placed.new) }
     ensures twice { OnFalse result (with_gates placed.old gates.now ≡ None) }
@@ -39,7 +40,7 @@ fn place_gates(alloc: Global, gates: &[MappedGate]) -> Result<Vec<Var>, MapFault
     ensures err { IfErr result (λ e. (e ≡ IsOutOfMemory) ⊎ ((e ≡ IsForged) × (table_of gates.now ≡ None))) }
 {
     let mut placed = vec![in alloc; Var(0); gates.len()]?;
-    if put_gates(placed.as_mut_slice(), gates) {
+    if fill_places(placed.as_mut_slice(), gates) {
         Ok(placed)
     } else {
         Err(MapFault::Forged)
