@@ -96,12 +96,12 @@ abbrev pub UndefinedExactly : Type 0
 UndefinedExactly = (c : Circuit) (literal : ℕ) → (first_fault c ≡ Some (Undefined literal))
     ↔ (AreDistinct (defined_variables c) × IsFirstUnknown (defined_variables c) (used_literals c) literal)
 
--- it is a cycle exactly where neither is so and the gates' order leaves one out, and then it tells the first such gate
+-- it is a cycle exactly where neither is so and the order leaves out a gate, and then the first such one is reported
 abbrev pub CyclicExactly : Type 0
 CyclicExactly = (c : Circuit) (order : List ℕ) (literal : ℕ) → IsLeastReadyOrder c order
     → (first_fault c ≡ Some (Cyclic literal)) ↔ (IsFullyDefined c × IsFirstLeftOut c.gates order literal)
 
--- and some gate is told so exactly where neither is so and the gates have no rank
+-- it is a cycle, of whichever gate, exactly where neither is so and the gates have no rank
 abbrev pub CycleExactlyWhereNoRank : Type 0
 CycleExactlyWhereNoRank = (c : Circuit)
     → ((literal : ℕ) × (first_fault c ≡ Some (Cyclic literal))) ↔ (IsFullyDefined c × (¬ HasRank c.gates))
