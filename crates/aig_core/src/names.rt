@@ -20,10 +20,13 @@ impl Names {
     pub fn new(alloc: Global, inputs: u32, latches: u32, outputs: u32) -> Result<Self, AllocError>
         ensures { IfOk result (λ names. names ≡ nothing_named) }
     {
+        let inputs = VarSet::new(alloc, inputs as usize, inputs)?;
+        let latches = VarSet::new(alloc, latches as usize, latches)?;
+        let outputs = VarSet::new(alloc, outputs as usize, outputs)?;
         Ok(Names {
-            inputs: VarSet::new(alloc, inputs as usize, inputs)?,
-            latches: VarSet::new(alloc, latches as usize, latches)?,
-            outputs: VarSet::new(alloc, outputs as usize, outputs)?,
+            inputs,
+            latches,
+            outputs,
         })
     }
 
