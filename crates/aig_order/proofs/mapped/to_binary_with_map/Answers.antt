@@ -4,7 +4,7 @@ use Rattle.aig_order.proofs.MappedOrder.{mapped_image_is_ordered}
 use Rattle.aig_order.proofs.mapped.to_binary_with_map.Goals as goal
 
 is_ordered : (c : goal.In_ok-image) → IsWellFormed c.in_ok-image.image × IsInBinaryOrder c.in_ok-image.image
-is_ordered c = mapped_image_is_ordered c.args.checked.now c.in_ok-image.image c.in_ok-image.ensures.well_formed c.in_ok-image.ensures.image
+is_ordered c = mapped_image_is_ordered _ c.in_ok-image.image c.in_ok-image.ensures.well_formed c.in_ok-image.ensures.image
 
 pub from_well_ordered-requires-clause-well_formed :
     goal.from_well_ordered-requires-clause-well_formed
