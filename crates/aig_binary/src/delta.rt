@@ -80,8 +80,8 @@ fn put_long(value: u32) -> Delta
     }
 }
 
-/// The shortest spelling of a number. One and two bytes, which most gates have, are told apart without a branch: in a file
-/// they follow one another without a rule.
+/// The shortest spelling of a number. One and two bytes, which most gates have, are distinguished without a branch: in
+/// a file they follow one another without a rule, so a branch would often be predicted wrongly.
 #[inline(always)]
 pub fn put_delta(value: u32) -> Delta
     ensures { result ≡ shortest_delta value }

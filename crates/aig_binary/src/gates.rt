@@ -16,7 +16,7 @@ fn all_go_on(bytes: &[u8]) -> bool
     bytes.iter().all(|byte| *byte >= 128)
 }
 
-/// Why no delta stands there.
+/// Why these bytes do not begin with a delta.
 #[cold]
 #[inline(never)]
 fn no_delta(bytes: &[u8]) -> ReadKind

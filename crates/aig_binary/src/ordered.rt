@@ -1,4 +1,4 @@
-//! Circuits in binary order, and the test that tells them from the others.
+//! Circuits in binary order, and the test for it.
 ghost use Rattle.std.specs.Prelude.{◌≡◌, ◌↔◌, ◌+◌, ◌^◌, ◌<◌, ◌≤◌, ℕ, length, IsTrue, IsOk, IfOk, IfErr};
 ghost use Rattle.aig_core.specs.Wellformed.{IsWellFormed, IsWithinLimits};
 ghost use Rattle.aig_binary.specs.BinaryOrder.{IsInBinaryOrder};
@@ -26,7 +26,7 @@ impl Model for Ordered {
     ghost invariant = { λ o. IsGood o.checked × IsInOrder o.checked };
 }
 
-/// What stands in a section whose variables are numbered on and on.
+/// An entry of a section whose variables are numbered one after the other.
 trait Numbered {
     /// Whether it is right for this variable.
     ghost is_right: { ℕ → Self → Type 0 };

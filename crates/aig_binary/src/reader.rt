@@ -91,7 +91,7 @@ fn numbered_circuit(
     })
 }
 
-/// The circuit that the lines and the gates of a text tell. Whether it is well formed is not looked at here.
+/// Reads a circuit from the lines and the gates of a text. Whether it is well formed is not checked here.
 fn read_circuit(alloc: Global, bytes: &[u8], limits: Limits) -> Result<Circuit, ReadFault>
     ensures { GivesOrMemory (λ c. c) result (binary_at limits.max_var (lines_of bytes.now)) }
 {
@@ -107,8 +107,7 @@ fn read_circuit(alloc: Global, bytes: &[u8], limits: Limits) -> Result<Circuit, 
     tail(alloc, &header, circuit, Cursor::at_line(at.number, rest))
 }
 
-/// The circuit whose file a text is, within these limits, or the first fault of the text. Where memory is refused, that
-/// is told in place of either.
+/// Reads a binary file, within these limits. The error is the first fault of the text, or that memory ran out.
 pub fn read_binary(alloc: Global, bytes: &[u8], limits: Limits) -> Result<Checked, ReadFault>
     ensures ok { IfOk result (λ c. IsBinaryText bytes.now limits.max_var c) }
     ensures ordered { IfOk result (λ c. IsInBinaryOrder c) }

@@ -14,8 +14,8 @@ use std::marker::Model;
 /// How many bytes a block holds at most, and so how many it hands to its sink in one slice.
 pub const ROOM: usize = 8192;
 
-/// Bytes on their way to a sink. A block keeps in mind that its sink failed: what it holds then, and what is put later,
-/// is dropped, and `flush` tells the failure at the end.
+/// Bytes on their way to a sink. A block remembers that its sink failed: what it holds then, and what is put later, is
+/// dropped, and `flush` reports the failure at the end.
 #[derive(Drop)]
 pub struct Block {
     bytes: [u8; ROOM],
@@ -69,8 +69,8 @@ impl Block {
         self.len = 0;
     }
 
-    /// Sends what is held, and tells whether the sink took all that was put. After a failure it sends nothing, and
-    /// tells the failure again.
+    /// Sends what is held. Ok means that the sink took all that was put. After a failure it sends nothing, and reports
+    /// the failure again.
     pub fn flush<W: Sink>(&mut self, sink: &mut W) -> Result<(), DeviceFault>
         requires { CanFail (out (W.taken sink.old) (W.longest sink.old) (W.failed sink.old) self.old) }
         ensures put { Put (out (W.taken sink.old) (W.longest sink.old) (W.failed sink.old) self.old)

@@ -1,4 +1,4 @@
-//! Circuits that are well formed, and the check that tells them from the others.
+//! Circuits that are well formed, and the check for it.
 ghost use Rattle.std.specs.Prelude.{◌≡◌, ◌≢◌, ◌↔◌, IsTrue, IfOk, IfErr, OnOk, None};
 ghost use Rattle.std.specs.Option.{IfSome};
 ghost use Rattle.aig_core.specs.declared.fault.CheckFault.TheVariants.{OutOfMemory as WantOfMemory};
@@ -53,7 +53,7 @@ impl Checked {
         }
     }
 
-    /// The least ready order of the gates, where the check had to make it: where they stand in order it makes none.
+    /// The least ready order of the gates, if the check had to make it: of gates that stand in order it makes none.
     pub fn order(&self) -> Option<&Order>
         ensures { IfSome result (λ order. IsLeastReadyOrder self.now order.now.list) }
     {
@@ -76,7 +76,7 @@ impl Checked {
         self.circuit
     }
 
-    /// The same circuit in memory of its own, unless memory is refused.
+    /// The same circuit in memory of its own, unless an allocation fails.
     pub fn copy(&self, alloc: Global) -> Result<Checked, OutOfMemory>
         ensures value { IfOk result (λ copy. copy ≡ self.now) }
         ensures well_formed { OnOk result (IsWellFormed self.now) }
@@ -88,8 +88,7 @@ impl Checked {
     }
 }
 
-/// Checks a circuit in form. Where it is not well formed, it is handed back with its first fault;
-/// where memory is refused, with that.
+/// Checks a circuit in form. The error has the circuit as it was, and its first fault or that memory ran out.
 pub fn check(alloc: Global, circuit: Circuit) -> Result<Checked, (Circuit, CheckFault)>
     requires in_form { IsInForm circuit }
     ensures ok { IfOk result (λ checked. checked ≡ circuit) }

@@ -48,8 +48,7 @@ pub struct Symbol {
     pub name: Listing<u8>,
 }
 
-/// What an AIGER file says, in the order of the file. A circuit may hold anything: `in_form` and `check` tell whether it
-/// is right.
+/// What an AIGER file says, in the order of the file. A circuit may hold anything: `in_form` and `check` check it.
 #[derive(Clone, PartialEq, Drop)]
 pub struct Circuit {
     /// The largest variable index; indices up to it may be unused.

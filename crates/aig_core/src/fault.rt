@@ -1,4 +1,4 @@
-//! Why a circuit is refused, and want of memory.
+//! Why a circuit is refused, and running out of memory.
 ghost use Rattle.std.specs.Prelude.{◌≡◌};
 ghost use Rattle.aig_core.specs.declared.fault.CheckFault.TheVariants.{OutOfMemory};
 
@@ -6,7 +6,7 @@ use crate::literal::{Lit, Var};
 use std::alloc::{AllocError, AllocFailed};
 use thiserror::Error;
 
-/// A growth of memory was refused, where nothing else can go wrong.
+/// An allocation failed. It is the error of a call that can fail in no other way.
 #[derive(Debug, Drop, Error)]
 #[error("out of memory")]
 pub struct OutOfMemory;
@@ -20,11 +20,11 @@ pub enum CheckFault {
     /// The literal is used, and nothing defines its variable.
     #[error("literal {0} not defined")]
     Undefined(Lit),
-    /// No variable is defined twice and every used one is defined, but this gate, told by its own literal, depends on a
-    /// cycle of gates: it lies on one, or uses a gate that does.
+    /// The gate with this literal depends on a cycle of gates: it is part of one, or uses a gate that depends on one.
+    /// No variable is defined twice, and every one that is used is defined.
     #[error("gate {0} depends on a cycle")]
     Cyclic(Lit),
-    /// A growth of memory was refused; nothing is known of the circuit.
+    /// An allocation failed; nothing is known of the circuit.
     #[error("out of memory")]
     OutOfMemory,
 }

@@ -1,4 +1,4 @@
-//! What can be told of a circuit part by part, before its definitions and its uses are looked at together.
+//! What can be checked of a circuit part by part, before its definitions and its uses are compared.
 ghost use Rattle.std.specs.Prelude.{◌≡◌, ◌↔◌, ◌^◌, ◌<◌, ◌≤◌, length, map, IsTrue};
 ghost use Rattle.std.specs.List.{All};
 ghost use Rattle.aig_core.specs.Wellformed.{IsWithinLimits, IsVariableUpTo, count_of};
@@ -11,7 +11,7 @@ use crate::entry::Entry;
 use crate::listing::Listing;
 use crate::literal::{Lit, Var};
 
-/// Whether a section is short enough to be told in a file.
+/// Whether a section is short enough for a file.
 fn is_short_enough<T>(items: &Listing<T>) -> bool
     ensures { IsTrue result ↔ (length items.now ≤ LARGEST) }
 {
@@ -115,8 +115,8 @@ fn are_pairs_apart(symbols: &[Symbol]) -> bool
     true
 }
 
-/// Whether nothing is named twice. Symbols in the usual order are told in one pass; where they stand otherwise, all
-/// pairs are compared, since no memory may be taken.
+/// Whether nothing is named twice. Symbols in the usual order are checked in one pass; in any other order all pairs are
+/// compared, since no memory may be taken.
 fn are_apart(symbols: &[Symbol]) -> bool
     ensures { IsTrue result ↔ NameApart symbols.now }
 {
@@ -124,7 +124,7 @@ fn are_apart(symbols: &[Symbol]) -> bool
 }
 
 impl Circuit {
-    /// Whether the largest index and all counts are small enough to be told in a file.
+    /// Whether the largest index and all counts are small enough for a file.
     fn is_within_limits(&self) -> bool
         ensures { IsTrue result ↔ IsWithinLimits self.now }
     {
@@ -184,9 +184,9 @@ impl Circuit {
         self.has_places() && self.has_lines() && are_apart(self.symbols.as_slice())
     }
 
-    /// Whether the circuit is in form: the limits hold, variables and literals are in range, and symbols are good. What
-    /// is defined and used is not compared. It takes no memory. The time grows with the circuit's size; only
-    /// where symbols stand in another order than by kind and rising position, all pairs of them are compared.
+    /// Whether the circuit is in form: the limits hold, variables and literals are in range, and symbols are good.
+    /// Definitions and uses are not compared. It takes no memory. The time is linear in the circuit's size, unless the
+    /// symbols are not sorted by kind and position: then all pairs of them are compared.
     #[tactic(auto, using(crate::proofs::InForm::in_form_by_parts, crate::proofs::InForm::entries_of_form))]
     pub fn in_form(&self) -> bool
         ensures { IsTrue result ↔ IsInForm self.now }

@@ -11,7 +11,7 @@ pub fn faultless_is_well_formed()
     ensures { FaultlessIsWellFormed }
 {}
 
-/// A well-formed circuit defines at most as many variables as its largest index tells.
+/// A well-formed circuit defines at most as many variables as its largest index.
 pub fn definitions_fit()
     ensures { DefinitionsFit }
 {}

@@ -134,7 +134,7 @@ impl Model for MemorySink {
 }
 
 impl MemorySink {
-    /// A sink that reserves its room here, unless memory is refused, and never grows. The call numbered `fails_at`
+    /// A sink that allocates its room here, unless that fails, and never grows. The call numbered `fails_at`
     /// fails, counted from 1; with 0 no call is chosen.
     pub fn new(alloc: Global, room: usize, piece: usize, fails_at: u64) -> Result<Self, AllocError>
         requires { 0 < piece }

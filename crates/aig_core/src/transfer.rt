@@ -16,7 +16,7 @@ pub enum ReadError {
     /// The source failed.
     #[error("cannot read")]
     Source,
-    /// Memory was refused.
+    /// An allocation failed.
     #[error("out of memory")]
     OutOfMemory,
 }
@@ -37,7 +37,7 @@ impl From<AllocError> for ReadError {
     }
 }
 
-/// All bytes that the source still gives, unless it fails or memory is refused. On an error some of them may be gone.
+/// Reads all bytes that the source still gives, unless it or an allocation fails. After an error some may be lost.
 pub fn read_all<R: Source>(alloc: Global, source: &mut R) -> Result<Vec<u8>, ReadError>
     requires { R.failed source.old < 2 ^ 64 - 1 }
     ensures ok { IfOk result (λ all. GaveAll (R.coming source.old) (R.coming source.new) all.items) }

@@ -1,4 +1,4 @@
-//! What a block must tell rightly beside the places of gates, so that it is the one of the mapped image.
+//! What else than the places of gates must be right in a block, for it to be the one of the mapped image.
 ghost use Rattle.std.specs.Prelude.{◌≡◌, ◌<◌, ◌↔◌, length, IsTrue};
 ghost use Rattle.std.specs.List.{AllByRecursion};
 ghost use Rattle.aig_order.specs.declared.map_block.MappedGate.{MappedGate as MappedGateRecord};
@@ -7,7 +7,7 @@ ghost use Rattle.aig_order.specs.Parts.Confirmed.{TellsExchanges, TellsComment};
 use crate::map_block::{MapBlock, MappedGate};
 use aig_core::Gate;
 
-/// Whether no gate with equal operands is told as exchanged.
+/// Whether no gate with equal operands is recorded as exchanged.
 pub(crate) fn tells_exchanges(image: &[Gate], told: &[MappedGate]) -> bool
     requires { AllByRecursion (λ (g : MappedGateRecord). g.place < length image.now) told.now }
     ensures { IsTrue result ↔ TellsExchanges image.now told.now }
@@ -21,7 +21,7 @@ pub(crate) fn tells_exchanges(image: &[Gate], told: &[MappedGate]) -> bool
     true
 }
 
-/// Whether nothing follows a block that tells of no comment section.
+/// Whether nothing follows a block that records no comment section.
 pub(crate) fn tells_comment(block: &MapBlock, rest: &[u8]) -> bool
     ensures { IsTrue result ↔ TellsComment block.now rest.now }
 {

@@ -10,7 +10,8 @@ use std::alloc::{AllocError, AllocFailed};
 use std::error::Error;
 use std::fmt;
 
-/// Why a conversion cannot be undone. The variants stand in the order in which they are looked for.
+/// Why a conversion cannot be undone. The first that applies is reported, in the order of the variants, except that a
+/// bad line after the first one comes after `Mismatch`.
 #[derive(Debug, Drop, PartialEq)]
 pub enum MapFault {
     /// The circuit is not in binary order.
@@ -19,12 +20,12 @@ pub enum MapFault {
     Missing,
     /// This line of the map block, counted from 1, is missing or not of its form. It is the first such line.
     Malformed(u64),
-    /// The map block's counts are not those of the circuit, or its largest index is below their sum. This is told before
-    /// any line but the first is looked at.
+    /// The map block's counts are not those of the circuit, or its largest index is below their sum. This is checked
+    /// after the first line and before all others.
     Mismatch,
     /// The map block is of its form, and the circuit is the mapped image of no circuit.
     Forged,
-    /// Memory was refused. This may come in place of any other.
+    /// An allocation failed. This may be reported in place of any other.
     OutOfMemory,
 }
 

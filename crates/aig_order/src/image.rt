@@ -118,8 +118,8 @@ fn in_this_order(
     Ok((gates, numbers))
 }
 
-/// The gates in their order, and the new numbers of all variables. Where the gates stand in order, as in most files, that
-/// is their order, and none is made.
+/// The gates in their order, and the new numbers of all variables. If the gates stand in order already, as in most
+/// files, no order is made.
 fn in_order(alloc: Global, circuit: &Circuit) -> Result<(Vec<Gate>, Numbers), OutOfMemory>
     requires { IsWellFormed circuit.now }
     ensures { IfOk result (λ r. (order : List ℕ) × IsLeastReadyOrder circuit.now order
@@ -185,8 +185,8 @@ fn image(alloc: Global, checked: &Checked) -> Result<Circuit, OutOfMemory>
     by_numbers(alloc, circuit, gates.as_slice(), &numbers, comment)
 }
 
-/// The binary image of a circuit: the same circuit with its variables numbered anew, inputs first, then latches, then gates
-/// in the least ready order; the larger operand of each gate comes first. It fails for want of memory alone.
+/// The binary image of a circuit: the same circuit with its variables renumbered, inputs first, then latches, then
+/// gates in the least ready order; the larger operand of each gate comes first. It fails only if an allocation fails.
 pub fn to_binary(alloc: Global, checked: &Checked) -> Result<Ordered, OutOfMemory>
     ensures { IfOk result (λ o. IsBinaryImage checked.now o) }
 {
@@ -194,8 +194,8 @@ pub fn to_binary(alloc: Global, checked: &Checked) -> Result<Ordered, OutOfMemor
     Ok(Ordered::from_well_ordered(image))
 }
 
-/// The binary image of a circuit that is not needed any more: the circuit itself, where it is in binary order already. It
-/// fails for want of memory alone.
+/// The binary image of a circuit that is no longer needed: the circuit itself, if it is in binary order already. It
+/// fails only if an allocation fails.
 pub fn into_binary(alloc: Global, checked: Checked) -> Result<Ordered, OutOfMemory>
     ensures { IfOk result (λ o. IsBinaryImage checked o) }
 {

@@ -44,7 +44,7 @@ pub fn only_mapped_images_are_undone()
     ensures { OnlyMappedImagesAreUndone }
 {}
 
-/// A map block is read of a circuit exactly where its text stands at the front of the circuit's comment, what it tells is
+/// A map block is read of a circuit exactly if its text stands at the front of the circuit's comment, its numbers are
 /// within bounds, and its counts are those of the circuit.
 pub fn blocks_are_read_exactly()
     ensures { BlocksAreReadExactly }

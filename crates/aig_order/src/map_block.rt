@@ -1,7 +1,7 @@
-//! What a map block tells.
+//! What a map block records.
 use aig_core::{Listing, Var};
 
-/// What a map block tells of a gate, in the order of the source file.
+/// What a map block records of a gate; it has the gates in the order of the source file.
 #[derive(Clone, Copy)]
 pub struct MappedGate {
     /// The variable that it has there.
@@ -12,7 +12,7 @@ pub struct MappedGate {
     pub exchanged: bool,
 }
 
-/// What a map block tells: what a conversion to binary changes, and what it changed it from.
+/// A map block: what the source had of all that a conversion to binary changes.
 #[derive(Drop)]
 pub struct MapBlock {
     /// The largest variable index of the source.

@@ -8,7 +8,7 @@ ghost use Rattle.aig_order.specs.Parts.Capped.{capped, capped_at, capped_after_s
 
 use core::dec2flt::read_digits;
 
-/// Numbers from here on are all above what may stand in a block, and are not told apart.
+/// Numbers from here on are above all that a block may hold, and are not distinguished.
 const LIMIT: u64 = 1 << 33;
 
 /// How many bytes are read at once.

@@ -25,7 +25,7 @@ fn is_variable(max_var: u64, index: u64) -> bool
     1 <= index && index <= max_var
 }
 
-/// The variable that a line tells, and what follows the line.
+/// Reads the line of a variable; also what follows it.
 #[inline(always)]
 #[tactic(auto, unfolding(crate::specs::Parts::Capped::capped_line_at))]
 fn variable(bytes: &[u8], max_var: u64) -> Option<(Var, &[u8])>
@@ -39,7 +39,7 @@ fn variable(bytes: &[u8], max_var: u64) -> Option<(Var, &[u8])>
     Some((Var(index as u32), rest))
 }
 
-/// The gate, of so many, that a line tells, and what follows the line.
+/// Reads the line of a gate, of which there are `count`; also what follows it.
 #[inline(always)]
 #[tactic(auto, unfolding(crate::specs::Parts::Capped::capped_line_at))]
 fn gate(bytes: &[u8], max_var: u64, count: u64) -> Option<(MappedGate, &[u8])>
@@ -59,12 +59,12 @@ fn gate(bytes: &[u8], max_var: u64, count: u64) -> Option<(MappedGate, &[u8])>
     Some((gate, rest))
 }
 
-/// What a line of a block tells behind the first.
+/// What one line of a block holds, after the first line.
 trait BlockEntry: Drop {
-    /// What the line at the front tells, by the largest index and the count of such lines, and what follows it.
+    /// The entry on the line at the front, given the largest index and the count of such lines; also what follows it.
     ghost entry: { ℕ → ℕ → List ℕ → Option (Self × List ℕ) };
 
-    /// What the line at the front tells, and what follows it.
+    /// Reads the line at the front; also what follows it.
     fn read_entry(bytes: &[u8], max_var: u64, count: u64) -> Option<(Self, &[u8])>
         requires max_var { max_var ≤ largest_index }
         requires count { count ≤ largest_index }
@@ -89,7 +89,7 @@ impl BlockEntry for MappedGate {
     }
 }
 
-/// What so many lines tell, from the line of this number on, and what follows them.
+/// Reads so many lines, of which the first has this number in the block; also what follows them.
 fn entries<'a, T: BlockEntry>(
     alloc: Global,
     bytes: &'a [u8],
@@ -116,7 +116,7 @@ fn entries<'a, T: BlockEntry>(
     Ok((found, rest))
 }
 
-/// What the first line tells behind its word.
+/// What the first line holds after its word.
 #[derive(Clone, Copy)]
 struct BlockFront {
     /// The largest variable index of the source.
@@ -131,7 +131,7 @@ struct BlockFront {
     has_comment: bool,
 }
 
-/// What the first line tells behind its word, and what follows the line.
+/// Reads the first line; also what follows it.
 #[tactic(auto, unfolding(crate::specs::Parts::Capped::capped_line_at))]
 fn first_line(bytes: &[u8]) -> Option<(BlockFront, &[u8])>
     ensures line { Gives (λ x. (front_of x.0, x.1.now)) result (capped_line_at 5 first_line_of bytes.now) }

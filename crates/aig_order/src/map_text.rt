@@ -87,7 +87,7 @@ fn put_variables<T: Defines>(text: &mut Vec<u8>, items: &[T]) -> Result<(), OutO
     Ok(())
 }
 
-/// What is told of a gate, where the first one has this new number.
+/// What the block records of a gate; the first gate of the image has the number `first`.
 fn told_gate(numbers: &Numbers, first: u32, gate: &Gate) -> MappedGate
     requires { AreSmall numbers.now.places.items numbers.now.others }
     ensures { result ≡ told_gate (number_at numbers.now.places.items numbers.now.others) first gate.now }
@@ -141,8 +141,8 @@ fn put_block(text: &mut Vec<u8>, numbers: &Numbers, circuit: &Circuit) -> Result
     Ok(())
 }
 
-/// How many bytes the comment of a mapped image has at most. Room for so many is asked for at once; what is not filled
-/// takes no memory.
+/// How many bytes the comment of a mapped image has at most. Room for them is reserved at once; the system gives no
+/// memory for what is not filled.
 fn most_bytes(circuit: &Circuit) -> usize {
     let variables = circuit.inputs.len().saturating_add(circuit.latches.len());
     let comment = match &circuit.comment {

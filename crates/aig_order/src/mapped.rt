@@ -20,8 +20,8 @@ fn mapped_image(alloc: Global, checked: &Checked) -> Result<Circuit, OutOfMemory
     by_numbers(alloc, circuit, gates.as_slice(), &numbers, Some(comment))
 }
 
-/// The mapped image of a circuit: its binary image, with a map block at the front of the comment that tells what `undo`
-/// needs to give the circuit back. It fails for want of memory alone.
+/// The mapped image of a circuit: its binary image, with a map block at the front of the comment, by which `undo`
+/// restores the circuit. It fails only if an allocation fails.
 pub fn to_binary_with_map(alloc: Global, checked: &Checked) -> Result<Ordered, OutOfMemory>
     ensures { IfOk result (λ o. IsMappedImage checked.now o) }
 {

@@ -194,8 +194,8 @@ impl Numbers {
         Ok(numbers)
     }
 
-    /// The new numbers of a circuit's variables where its gates stand in order, each after those that it is over: then they
-    /// are taken as they stand. None where they do not.
+    /// The new numbers of a circuit's variables if its gates stand in order, each after those that it uses; otherwise
+    /// None.
     pub(crate) fn of_ordered(alloc: Global, circuit: &Circuit) -> Result<Option<Self>, AllocError>
         requires { length circuit.now.inputs + length circuit.now.latches + length circuit.now.gates ≤ LARGEST }
         ensures numbers { IfOk result (λ some. IfSome some (λ n. AreNumbered n.noted n.places.items n.others

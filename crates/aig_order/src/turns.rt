@@ -1,4 +1,5 @@
-//! Whether the places that a block tells are the order in which the gates of its source are taken, by the image alone.
+//! Whether the places in a block are the order in which conversion takes the gates of its source. No order is made for
+//! it.
 ghost use Rattle.std.specs.Prelude.{◌≡◌, ◌<◌, ◌≤◌, ◌↔◌, ℕ, List, Option, length, map, IfOk, IsTrue, MatchOption};
 ghost use Rattle.std.specs.List.{AllByRecursion};
 ghost use Rattle.std.specs.Option.{IfSome};
@@ -79,8 +80,8 @@ pub(crate) fn are_taken_in_turn(
     Ok(true)
 }
 
-/// Whether the places that a block tells are the order in which the gates of its source are taken, where the source
-/// defines no variable twice.
+/// Whether the places in a block are the order in which conversion takes the gates of its source, if the source defines
+/// no variable twice.
 pub(crate) fn tells_order(
     alloc: Global,
     block: &MapBlock,

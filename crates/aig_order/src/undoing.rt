@@ -34,8 +34,8 @@ fn check_source(alloc: Global, source: Circuit) -> Result<Checked, MapFault>
     }
 }
 
-/// Whether the circuit that is undone by the block that was read has this mapped image. That image is not made again: what
-/// the block tells is judged by itself.
+/// Whether this is the mapped image of the circuit that its block gives. The image is not made again to compare: the
+/// block is checked by itself.
 fn has_image(
     alloc: Global,
     image: &Checked,
@@ -119,9 +119,9 @@ fn recover(alloc: Global, image: &Checked) -> Result<Checked, MapFault>
     }
 }
 
-/// The circuit whose mapped image this is. It refuses a circuit that is not in binary order, one without a map block, one
-/// whose block is not of its form, and one that is the mapped image of no circuit, in this order. Of a mapped image it
-/// fails for want of memory alone.
+/// The circuit whose mapped image this is. The errors are, in this order: the argument is not in binary order, has no
+/// map block, has one that is not of its form, or is the mapped image of no circuit. Of a mapped image it fails only if
+/// an allocation fails.
 pub fn undo(alloc: Global, image: &Checked) -> Result<Checked, MapFault>
     ensures ok { IfOk result (λ c. IsUndoneFrom image.now c) }
     ensures only { (c : CircuitRecord) → IsUndoneFrom image.now c

@@ -190,7 +190,7 @@ fn source_comment(
     Ok(Some(Listing::from_vec(Vec::from_slice(alloc, comment)?)))
 }
 
-/// The circuit by these variables, with the order of gates and of operands that a block tells.
+/// The circuit with these variables, and with the orders of gates and operands that a block records.
 fn by_variables(
     alloc: Global,
     variables: &[Var],
@@ -219,8 +219,8 @@ fn by_variables(
     })
 }
 
-/// The circuit by the variables, the order of gates and the order of operands that a block tells, with this comment
-/// behind the block.
+/// The circuit with the variables and the orders of gates and operands that a block records; this comment follows the
+/// block.
 pub(crate) fn make_undone(
     alloc: Global,
     block: &MapBlock,

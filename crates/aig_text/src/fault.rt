@@ -46,17 +46,17 @@ impl fmt::Display for Place {
 pub enum ReadKind {
     /// The first word is not the reader's.
     NotAiger,
-    /// The header is not five numbers, or its counts do not fit below its largest index.
+    /// The header has not exactly five numbers, or its counts do not fit below its largest index.
     BadHeader,
     /// The largest index or a count is above the limit.
     TooLarge,
-    /// A line that has not the form of its place: how many numbers, or other bytes.
+    /// The line does not have the numbers that its section asks for, or has other bytes.
     BadLine,
     /// An odd number, or one below 2, where a definition stands.
     NotVariable,
     /// A literal above the largest index.
     LiteralRange,
-    /// The text ends where a line or a byte of a gate is due.
+    /// The text ends where a line or a byte of a gate should follow.
     Truncated,
     /// A delta of a binary gate that has no end within five bytes, or a value of 2^32 or more; a first delta that is 0;
     /// or a delta above what it is taken from.
@@ -71,9 +71,9 @@ pub enum ReadKind {
     Redefined(Var),
     /// The literal is used, and nothing defines its variable.
     Undefined(Lit),
-    /// The gate, told by its own literal, depends on a cycle of gates: it lies on one, or uses a gate that does.
+    /// The gate with this literal depends on a cycle of gates: it is part of one, or uses a gate that depends on one.
     Cyclic(Lit),
-    /// A growth of memory was refused; nothing is known of the text.
+    /// An allocation failed; nothing is known of the text.
     OutOfMemory,
 }
 
@@ -118,7 +118,7 @@ impl fmt::Display for ReadKind {
 
 impl Error for ReadKind {}
 
-/// The first fault of a text, or want of memory.
+/// The first fault of a text, or that memory ran out.
 #[derive(Clone, Copy, Debug, PartialEq, Eq)]
 pub struct ReadFault {
     /// Where it is.

@@ -14,7 +14,7 @@ use aig_core::LARGEST;
 /// The first word of an ASCII file.
 pub(crate) const ASCII_WORD: &[u8] = b"aag";
 
-/// What a header tells (AIGER report): the largest variable index and the counts.
+/// The numbers of a header (AIGER report): the largest variable index and the counts.
 #[derive(Clone, Copy, Debug, PartialEq, Eq)]
 pub struct Header {
     /// The largest variable index.
@@ -69,7 +69,7 @@ fn within(limit: u32, numbers: [u64; 5]) -> Result<Header, ReadKind>
     })
 }
 
-/// The header that a line tells, which begins with this word.
+/// Reads a header line, which has to begin with this word.
 #[tactic(auto, unfolding(crate::specs::Reading::header_of))]
 pub(crate) fn read_header(word: &[u8], line: Line, limits: Limits) -> Result<Header, ReadKind>
     ensures value { result ≡ header_of word.now limits.max_var (line_of line.entry.text.now line.entry.ended) }

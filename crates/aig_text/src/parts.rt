@@ -17,7 +17,8 @@ use crate::tail_lines::read_tail;
 use aig_core::{Circuit, Listing, Lit};
 use std::alloc::Global;
 
-/// Whether the first word of a text is this one. A word ends at a space, a carriage return or a line feed, or with the text.
+/// Whether the first word of a text is this one. A word ends at a space, a carriage return, a line feed or the end of
+/// the text.
 pub fn first_word_is(bytes: &[u8], word: &[u8]) -> bool
     ensures { result ≡ first_word_is word.now (lines_of bytes.now) }
 {
@@ -27,7 +28,7 @@ pub fn first_word_is(bytes: &[u8], word: &[u8]) -> bool
     }
 }
 
-/// What the header line tells, which begins with this word. Goes behind that line, unless it is not right.
+/// Reads the header line, which has to begin with this word, and moves behind it, unless it is not right.
 pub fn header(word: &[u8], at: &mut Cursor, limits: Limits) -> Result<Header, ReadFault>
     ensures header { GivesOrFails (λ header. (header, at.new.number, lines_of at.new.rest.now)) result
         (header_at word.now limits.max_var at.old.number (lines_of at.old.rest.now)) }
@@ -92,8 +93,7 @@ pub fn literals(
     }
 }
 
-/// The circuit with the symbols and the comment that the lines from here on tell. Where there are none, it takes no
-/// memory.
+/// The circuit with the symbols and the comment of the lines from here on. If there are none, it takes no memory.
 pub fn tail(
     alloc: Global,
     header: &Header,

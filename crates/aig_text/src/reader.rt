@@ -32,7 +32,7 @@ fn empty_circuit(alloc: Global, max_var: u32) -> Circuit
     }
 }
 
-/// The circuit that the lines of a text tell. Its definitions and uses are not looked at here.
+/// Reads a circuit from the lines of a text. Its definitions and uses are not checked here.
 fn read_circuit(alloc: Global, bytes: &[u8], limits: Limits) -> Result<Circuit, ReadFault>
     ensures { GivesOrMemory (λ c. c) result (circuit_at limits.max_var (lines_of bytes.now)) }
 {
@@ -55,8 +55,7 @@ fn kind_of_fault(fault: CheckFault) -> ReadKind
     }
 }
 
-/// The circuit whose file a text is, within these limits, or the first fault of the text. Where memory is refused, that
-/// is told in place of either.
+/// Reads an ASCII file, within these limits. The error is the first fault of the text, or that memory ran out.
 pub fn read_ascii(alloc: Global, bytes: &[u8], limits: Limits) -> Result<Checked, ReadFault>
     ensures ok { IfOk result (λ c. IsAsciiText bytes.now limits.max_var c) }
     ensures only { (c : CircuitRecord) → IsAsciiText bytes.now limits.max_var c

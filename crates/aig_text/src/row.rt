@@ -1,4 +1,4 @@
-//! Rows: what one numbered line tells.
+//! Rows: lines of numbers, and what they mean.
 ghost use Rattle.std.specs.Prelude.{◌≡◌, ◌+◌, ◌*◌, ◌<◌, ◌≤◌, ℕ, List, ◌∷◌, Ok, IfOk, IfSome, OnErr, length, slice_index};
 ghost use Rattle.aig_core.specs.declared.circuit.TheConstants.{LARGEST as largest_index};
 ghost use Rattle.aig_text.specs.Lines.{line as line_of, lines_of};
@@ -21,23 +21,23 @@ pub enum Role {
     Literal,
 }
 
-/// What one numbered line tells.
+/// What one line of numbers means: an entry of a section.
 pub(crate) trait Row: Copy {
     /// What the line has to hold.
     ghost form: { Form };
 
-    /// What its numbers tell.
+    /// The entry that the line's numbers mean.
     ghost told_by: { List ℕ → Self };
 
-    /// What the next line tells, and what follows it, where it is a good row of short numbers in plain spelling. So most
-    /// rows are read.
+    /// Reads the next line, if it is right and has short numbers in plain spelling, as most rows do; also what follows
+    /// it.
     fn read_short(bytes: &[u8], max_var: u32) -> Option<(Self, &[u8])>
         requires { max_var ≤ largest_index }
         ensures row { (number : ℕ) → IfSome result (λ x.
             row_told told_by (row_at form max_var number (lines_of bytes.now)) ≡ Ok (x.0, number + 1, lines_of x.1.now)) }
         ensures shorter { IfSome result (λ x. length x.1.now < length bytes.now) };
 
-    /// What the next line tells. Goes behind that line, unless it is not right.
+    /// Reads the next line, and moves behind it, unless it is not right.
     fn read_row(at: &mut Cursor, max_var: u32) -> Result<Self, ReadFault>
         requires { max_var ≤ largest_index }
         ensures { GivesOrFails (λ row. (row, at.new.number, lines_of at.new.rest.now)) result

@@ -44,7 +44,7 @@ fn behind<'a>(line: Cursor<'a>, rest: &'a [u8]) -> Cursor<'a>
     Cursor { rest, number }
 }
 
-/// Adds what so many lines tell, and goes behind them.
+/// Adds the entries of the next `count` lines, and moves behind them.
 #[inline(never)]
 pub(crate) fn read_rows<T: Row>(
     found: &mut Listing<T>,
@@ -78,7 +78,7 @@ pub(crate) fn read_rows<T: Row>(
     Ok(())
 }
 
-/// Adds what the lines of a section tell, and goes behind them.
+/// Adds the entries of a section, and moves behind its lines.
 fn read_section(
     section: Section,
     header: &Header,
@@ -98,7 +98,7 @@ fn read_section(
     }
 }
 
-/// Adds what the lines of all sections tell, and goes behind them.
+/// Adds the entries of all sections, and moves behind their lines.
 pub(crate) fn read_sections(
     header: &Header,
     circuit: &mut Circuit,

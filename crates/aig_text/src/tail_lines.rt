@@ -14,7 +14,7 @@ use crate::number::{ends_line, number};
 use aig_core::{Circuit, Kind, Listing, Names, Symbol};
 use std::alloc::Global;
 
-/// What a symbol line tells.
+/// What a symbol line holds.
 #[derive(Clone, Copy)]
 struct Naming<'a> {
     kind: Kind,
@@ -35,7 +35,7 @@ fn kind_of_letter(letter: u8) -> Option<Kind>
     }
 }
 
-/// What a symbol line tells.
+/// Reads a symbol line.
 #[tactic(auto, unfolding(crate::specs::Scanning::symbol_at))]
 fn leading_symbol(text: &[u8]) -> Option<Naming>
     ensures { Gives (λ x. symbol x.kind x.position x.name.now) result (kept_symbol (symbol_at text.now)) }
@@ -155,7 +155,7 @@ fn read_tail_lines(
     Ok(())
 }
 
-/// Adds the symbols and the comment that the lines from here on tell. Where there are none, it takes no memory.
+/// Adds the symbols and the comment of the lines from here on. If there are none, it takes no memory.
 pub(crate) fn read_tail(
     alloc: Global,
     header: &Header,

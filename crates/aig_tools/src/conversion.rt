@@ -75,10 +75,9 @@ fn write<W: Sink>(
     Ok(())
 }
 
-/// Reads the source to its end, and writes what the request asks for. Nothing is sent before the whole source was
-/// read and found right. It fails where a device fails, where the bytes are no file of a circuit, where that circuit is
-/// to be undone and has no undone one, and where memory is refused; only a sink that fails may have taken a beginning
-/// of what is written.
+/// Reads the source to its end, and writes what the request asks for. Nothing is sent before the whole source was read
+/// and found right. It fails if a device or an allocation fails, if the bytes are no file of a circuit, or if a map is
+/// to be undone and cannot be. Only a sink that fails may have taken a beginning of what is written.
 pub fn run_toaig<R: Source, W: Sink>(
     alloc: Global,
     request: &ToAig,

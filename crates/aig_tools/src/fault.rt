@@ -28,12 +28,12 @@ pub enum ToolFault {
     Source,
     /// The sink failed.
     Sink,
-    /// A growth of memory was refused, but while a file or a map was judged: that is told as a fault of it.
+    /// An allocation failed. One that fails while a file or a map is checked is in `Read` or `Map`.
     OutOfMemory,
 }
 
 impl ToolFault {
-    /// Whether a growth of memory was refused, whoever tells it.
+    /// Whether an allocation failed, in whichever variant.
     pub fn is_want_of_memory(&self) -> bool
         ensures { IsTrue result ↔ (at_fault self.now ≡ Memory) }
     {

@@ -9,9 +9,8 @@ use aig_core::Checked;
 use aig_text::{Limits, ReadFault, first_word_is, read_ascii};
 use std::alloc::Global;
 
-/// The circuit whose file a text is, within these limits, or the first fault of the text. A text that begins with the word
-/// of binary files is read as one, and any other text as an ASCII file. Where memory is refused, that is told in place of
-/// either.
+/// Reads a file of either kind, within these limits: as a binary file if that is what its first word says, otherwise as
+/// an ASCII file. The error is the first fault of the text, or that memory ran out.
 pub(crate) fn read_file(alloc: Global, bytes: &[u8], limits: Limits) -> Result<Checked, ReadFault>
     ensures ok { IfOk result (λ c. IsFileOf bytes.now limits.max_var c) }
     ensures only { (c : CircuitRecord) → IsFileOf bytes.now limits.max_var c

@@ -1,4 +1,4 @@
-//! The tools: what each does over a source and a sink, and what the program does with its words.
+//! The tools: what each does over a source and a sink, and what the program does with its arguments.
 #![tactic(auto)]
 
 mod conversion;

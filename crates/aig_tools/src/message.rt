@@ -1,5 +1,5 @@
-//! What is told on standard error: one line each. Whether it could be sent changes nothing: there is no other place to
-//! tell it. Formatting and sending take no memory, so that want of memory can be told too.
+//! What is reported on standard error: one line each. Whether it could be sent changes nothing: there is no other place
+//! to report it. Formatting and sending take no memory, so that running out of memory can be reported too.
 ghost use Rattle.std.specs.Prelude.{◌+◌, ◌-◌, ◌^◌, ◌<◌, ◌≤◌, [], max};
 ghost use Rattle.aig_core.specs.Output.{CanFail, out, Put};
 ghost use Rattle.aig_core.specs.declared.block.TheConstants.{ROOM};
@@ -21,7 +21,7 @@ fn send_line<E: Sink>(errors: &mut E, text: &[u8])
     let _sent = block.flush(errors);
 }
 
-/// Tells that a growth of memory was refused. No file is at fault, so none is named.
+/// Reports that an allocation failed. No file is at fault, so none is named.
 pub(crate) fn tell_want_of_memory<E: Sink>(errors: &mut E)
     requires { E.failed errors.old < 2 ^ 64 - 1 }
     ensures told { Told E.taken E.failed errors.old errors.new memory_line }
@@ -30,7 +30,7 @@ pub(crate) fn tell_want_of_memory<E: Sink>(errors: &mut E)
     send_line(errors, OUT_OF_MEMORY.as_bytes());
 }
 
-/// Tells that the words ask for nothing that the program knows.
+/// Reports that the arguments are not supported.
 pub(crate) fn tell_unsupported_words<E: Sink>(errors: &mut E)
     requires { E.failed errors.old < 2 ^ 64 - 1 }
     ensures told { Told E.taken E.failed errors.old errors.new words_line }
@@ -58,7 +58,7 @@ fn put_error<E: Sink>(block: &mut Block, errors: &mut E, fault: &ToolFault)
     }
 }
 
-/// Tells a fault of a run over the standard streams.
+/// Reports a fault of a run over the standard streams.
 pub(crate) fn tell_fault<E: Sink>(errors: &mut E, fault: &ToolFault)
     requires { E.failed errors.old < 2 ^ 64 - 1 }
     ensures told { Told E.taken E.failed errors.old errors.new (error_line fault.now) }

@@ -1,4 +1,4 @@
-//! What the program does with its words.
+//! What the program does with its arguments.
 ghost use Rattle.std.specs.Prelude.{◌≡◌, ◌-◌, ◌^◌, ◌<◌, ◌≤◌, ◌↔◌, max, IfErr, IfSome, None, OnOk};
 ghost use Rattle.aig_core.specs.declared.block.TheConstants.{ROOM};
 ghost use Rattle.aig_tools.specs.Messages.{error_line, memory_line, Told, words_line};
@@ -19,13 +19,13 @@ use std::rt::Files;
 /// Done as asked.
 const DONE: u8 = 0;
 
-/// Refused input, a device that failed, or want of memory.
+/// An error in the input, a device that failed, or out of memory.
 const FAILED: u8 = 1;
 
-/// Words that ask for nothing that the program knows.
+/// A command line that is not supported.
 const NOT_UNDERSTOOD: u8 = 2;
 
-/// Does what is asked for.
+/// Runs the request.
 fn run<R: Source, W: Sink>(
     alloc: Global,
     request: &Request,
@@ -47,9 +47,9 @@ fn run<R: Source, W: Sink>(
     }
 }
 
-/// Does what the words ask for, the program's name first, over the three streams, and answers the status: 0 done,
-/// 1 refused input, device fault or want of memory, 2 words that are not understood. What is wrong is told in one
-/// line on `errors`; whether `errors` takes that line changes nothing.
+/// Does what the arguments request, the program's name first, over the three streams, and answers the status: 0 done, 1
+/// an error in the input, a device that failed or out of memory, 2 a command line that is not supported. An error is
+/// reported in one line on `errors`; whether `errors` takes that line changes nothing.
 pub fn start<T: Files, R: Source, W: Sink, E: Sink>(
     _rt: &T,
     alloc: Global,
@@ -88,7 +88,7 @@ pub fn start<T: Files, R: Source, W: Sink, E: Sink>(
     }
 }
 
-/// Tells that the words are no text, and answers the status.
+/// Reports that an argument is no text, and answers the status.
 pub fn refuse_words<E: Sink>(errors: &mut E) -> u8
     requires { E.failed errors.old < 2 ^ 64 - 1 }
     ensures status { result ≡ 2 }
@@ -98,7 +98,7 @@ pub fn refuse_words<E: Sink>(errors: &mut E) -> u8
     NOT_UNDERSTOOD
 }
 
-/// Tells that memory was refused before the words were there, and answers the status.
+/// Reports that an allocation failed before the arguments were there, and answers the status.
 pub fn refuse_for_memory<E: Sink>(errors: &mut E) -> u8
     requires { E.failed errors.old < 2 ^ 64 - 1 }
     ensures status { result ≡ 1 }

@@ -20,7 +20,7 @@ pub struct ToAig {
     pub destination: Option<String>,
 }
 
-/// What the words of the command line ask for.
+/// What the arguments request.
 #[derive(Drop)]
 pub enum Request {
     /// `aigtoaig`.

@@ -1,4 +1,4 @@
-//! What the words of the command line ask for.
+//! What the arguments request.
 ghost use Rattle.std.specs.Prelude.{◌≡◌, IfSome};
 ghost use Rattle.aig_tools.specs.Possible.{CanAsk};
 ghost use Rattle.aig_tools.specs.Words.{conversion, conversion_by, conversion_of, request_of, texts};
@@ -21,7 +21,7 @@ fn conversion(ascii: bool, keep_map: bool, undo_map: bool) -> ToAig
     }
 }
 
-/// What one word after `aigtoaig` asks for.
+/// What one argument after `aigtoaig` requests.
 fn conversion_by(option: &str) -> Option<Request>
     ensures value { result ≡ conversion_by option.now }
     ensures can_ask { IfSome result CanAsk }
@@ -34,7 +34,7 @@ fn conversion_by(option: &str) -> Option<Request>
     }
 }
 
-/// What the words after `aigtoaig` ask for.
+/// What the arguments after `aigtoaig` request.
 fn conversion_of(options: &[String]) -> Option<Request>
     ensures value { result ≡ conversion_of (texts options.now) }
     ensures can_ask { IfSome result CanAsk }
@@ -49,7 +49,7 @@ fn conversion_of(options: &[String]) -> Option<Request>
     }
 }
 
-/// What the words ask for, the program's name first, where the program knows it.
+/// What the arguments request, the program's name first, if they are supported.
 pub(crate) fn parse(words: &[String]) -> Option<Request>
     ensures value { result ≡ request_of (texts words.now) }
     ensures can_ask { IfSome result CanAsk }

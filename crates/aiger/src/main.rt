@@ -1,4 +1,4 @@
-//! The program: the words and the streams of the process, and the status that `start` answers.
+//! The program: the arguments and the streams of the process, and the status that `start` answers.
 #![tactic(auto)]
 
 use aig_core::{ReadSource, WriteSink};
@@ -33,8 +33,8 @@ impl<R: Env> Env for Nameless<'_, R> {
     }
 }
 
-/// An empty name and the words after the program's. They are pushed one by one, so that a growth that is refused
-/// ends it.
+/// An empty name, and the arguments after the program's. They are pushed one by one, so that it ends when an allocation
+/// fails.
 fn words_of<R: Env>(rt: &R, alloc: Global) -> io::Result<Vec<String>> {
     let mut words = Vec::new(alloc);
     for word in env::args(&(Nameless { rt }, alloc))? {
@@ -51,7 +51,7 @@ fn main(rt: HostRuntime) -> ExitCode {
         Err(error) if error.kind() == io::ErrorKind::OutOfMemory => {
             return ExitCode::from(refuse_for_memory(&mut errors));
         }
-        // A word that is no text asks for nothing that the program knows.
+        // An argument that is no text is not supported.
         Err(_) => return ExitCode::from(refuse_words(&mut errors)),
     };
     let mut input = ReadSource::new(rt.stdin());

@@ -10,7 +10,7 @@ use std::alloc::{AllocError, Global};
 use std::marker::Model;
 
 /// A set of gates, by their positions, that gives the least one first: a tree of words, where below bit b stands word
-/// b + 1. Each bit of the lowest level is a gate, and each above tells whether the word below it has any.
+/// b + 1. Each bit of the lowest level is a gate, and each bit above is set if the word below it has any.
 #[derive(Drop)]
 pub(super) struct Ready {
     words: Vec<u64>,
@@ -42,7 +42,7 @@ fn with_bit(word: u64, place: usize, on: bool) -> u64
     if on { word | mask } else { word & !mask }
 }
 
-/// Sets or clears a bit. Where its word has any for the first time, or none any more, this is told to the bit above.
+/// Sets or clears a bit. If its word was empty before or is empty now, the bit above is set or cleared too.
 fn tell(words: &mut [u64], bit: usize, on: bool)
     requires there { bit / 64 < length words.old }
     requires told { (b : ℕ) → b + 1 < length words.old → b ≢ bit → Tells words.old b }
