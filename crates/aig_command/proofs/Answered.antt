@@ -1,0 +1,118 @@
+-- What is answered where `clap` takes the arguments, and where it does not.
+use Rattle.std.proofs.Common.{◌≡◌, ◌≢◌, ◌∙◌, ◌⊎◌, ◌==◌, Bool, Option, Some, None, Result, Ok, Err, IfOk, IfErr, IfSome}
+use Rattle.std.proofs.Common.{List, [], ◌∷◌, ap, arith, cond, drop, false, inl, inr, is_some, length, refl, subst, sym}
+use Rattle.std.proofs.Common.{true, true≢false}
+use Rattle.std.specs.Prelude.{String, ◌-◌, option_and_then, string_bytes, take}
+use Rattle.std.specs.Global.{Global}
+use Rattle.std.specs.List.{list_any}
+use Rattle.std.proofs.lemmas.List.{take_all}
+use Rattle.clap.specs.Words.{HasMatchesOf, IsAmong, Kinds, Text, is_simple, subcommand_of, subcommand_rows_of, takes}
+use Rattle.clap.specs.declared.error.kind.ErrorKind.{ErrorKind}
+use Rattle.clap.specs.declared.error.kind.ErrorKind.TheVariants as kinds
+use Rattle.clap.specs.declared.parser.matches.ArgMatches.{ArgMatches}
+use Rattle.clap.proofs.OnLiterals.{clap_on_literals}
+use Rattle.clap.proofs.WalkLemmas.{list_any-map}
+use Rattle.aig_command.specs.Aiger.{aiger}
+use Rattle.aig_command.specs.Asked.{Asked, asked_by, command_of, faults}
+use Rattle.aig_command.specs.Answer.{IsAnswer, IsCommand, IsErrorAnswer, IsUsage, IsWrong}
+use Rattle.aig_command.specs.Answer.{asks_for_help, is_help, texts}
+use Rattle.aig_command.specs.declared.request.Command.{Command}
+use Rattle.aig_command.specs.declared.request.Command.TheVariants as commands
+use Rattle.aig_command.specs.declared.usage.Usage.{Usage}
+use Rattle.aig_command.specs.declared.usage.Usage.TheVariants as usage
+use Rattle.aig_command.proofs.Entered.{known}
+
+-- ---- arguments that are taken
+
+simple : is_simple aiger ≡ true
+unfolding clap_on_literals
+simple = refl
+
+abbrev Answers : Option Asked → Result Command Usage → Type 0
+Answers o r = IfSome o (λ asked. IsAnswer asked r)
+
+is_command : (words : List Text) (o : Option Asked) (r : Result Command Usage) → command_of words ≡ o
+    → is_some o ≡ true → Answers o r → IfOk r (IsCommand words)
+is_command words None r is some h = absurd (true≢false (sym some))
+is_command words (Some asked) (Ok (commands.ToAig request)) is some h = is ∙ ap Some h
+is_command words (Some asked) (Ok (commands.Help text)) is some h = absurd h
+is_command words (Some asked) (Err reason) is some h = tt
+
+is_usage : (words : List Text) (o : Option Asked) (r : Result Command Usage) → command_of words ≡ o
+    → is_some o ≡ true → Answers o r → IfErr r (IsUsage words)
+is_usage words None r is some h = absurd (true≢false (sym some))
+is_usage words (Some asked) (Ok command) is some h = tt
+is_usage words (Some asked) (Err usage.OutOfMemory) is some h = tt
+is_usage words (Some asked) (Err (usage.Words text)) is some h = absurd h
+is_usage words (Some asked) (Err usage.KeepMapNeedsBinary) is some h = is ∙ ap Some h
+is_usage words (Some asked) (Err usage.KeepMapExcludesStrip) is some h = is ∙ ap Some h
+is_usage words (Some asked) (Err usage.KeepMapExcludesUndoMap) is some h = is ∙ ap Some h
+is_usage words (Some asked) (Err usage.CompressedOutput) is some h = is ∙ ap Some h
+
+module _ (words : List Text) (m : ArgMatches) (h : HasMatchesOf aiger words m) (e : faults words ≡ []) where
+  pub rows_known : is_some (option_and_then asked_by (subcommand_rows_of m)) ≡ true
+  rows_known = ap (λ o. is_some (option_and_then asked_by o)) (h simple).1 ∙ known words e
+
+  command_is : command_of words ≡ option_and_then asked_by (subcommand_rows_of m)
+  command_is =
+      ap (λ (ks : Kinds). cond (length ks == 0) (option_and_then asked_by (subcommand_of aiger words)) None) e
+      ∙ ap (option_and_then asked_by) (sym (h simple).1)
+
+  pub taken_command : (r : Result Command Usage) → Answers (option_and_then asked_by (subcommand_rows_of m)) r
+      → IfOk r (IsCommand words)
+  taken_command r = is_command words (option_and_then asked_by (subcommand_rows_of m)) r command_is rows_known
+
+  pub taken_usage : (r : Result Command Usage) → Answers (option_and_then asked_by (subcommand_rows_of m)) r
+      → IfErr r (IsUsage words)
+  taken_usage r = is_usage words (option_and_then asked_by (subcommand_rows_of m)) r command_is rows_known
+
+-- ---- arguments that are not taken
+
+abbrev is_memory : ErrorKind → Bool
+is_memory kinds.OutOfMemory = true
+is_memory kind = false
+
+help_is_no_memory : (kind : ErrorKind) → kind ≡ kinds.DisplayHelp → kind ≢ kinds.OutOfMemory
+help_is_no_memory kind e m = true≢false (ap is_memory (sym m ∙ e))
+
+untaken : (b : Bool) (P : Type 0) → (P → ⊥) → (b ≡ true → P) → b ≡ false
+untaken true P never h = absurd (never (h refl))
+untaken false P never h = refl
+
+is_among : (kind : ErrorKind) (ks : Kinds) → kind ≢ kinds.OutOfMemory
+    → (kind ≡ kinds.OutOfMemory) ⊎ IsAmong kind ks → IsAmong kind ks
+is_among kind ks other (inl e) = absurd (other e)
+is_among kind ks other (inr h) = h
+
+module _ (words : List Text) (kind : ErrorKind) (passes : takes aiger words ≡ true → kind ≡ kinds.OutOfMemory)
+    (fails : (kind ≡ kinds.OutOfMemory) ⊎ IsAmong kind (faults words)) where
+  is_wrong : kind ≢ kinds.OutOfMemory → IsWrong words kind
+  is_wrong other =
+      let untaken_words = untaken (takes aiger words) (kind ≡ kinds.OutOfMemory) other passes in
+      (is_among kind (faults words) other fails, untaken_words)
+
+  pub refused_command : (r : Result Command Usage) → IsErrorAnswer kind words r → IfOk r (IsCommand words)
+  refused_command (Ok (commands.Help text)) h =
+      (subst (IsWrong words) h.0 (is_wrong (help_is_no_memory kind h.0)), h.1)
+  refused_command (Ok (commands.ToAig request)) h = absurd h
+  refused_command (Err reason) h = tt
+
+  pub refused_usage : (r : Result Command Usage) → IsErrorAnswer kind words r → IfErr r (IsUsage words)
+  refused_usage (Ok command) h = tt
+  refused_usage (Err usage.OutOfMemory) h = tt
+  refused_usage (Err (usage.Words text)) h = (kind, is_wrong h.0, h.1)
+  refused_usage (Err usage.KeepMapNeedsBinary) h = absurd h
+  refused_usage (Err usage.KeepMapExcludesStrip) h = absurd h
+  refused_usage (Err usage.KeepMapExcludesUndoMap) h = absurd h
+  refused_usage (Err usage.CompressedOutput) h = absurd h
+
+-- ---- an argument that asks for help
+
+abbrev asks : List (String Global) → Bool
+asks = list_any (λ word. is_help (string_bytes word))
+
+pub after_name : (words : List (String Global))
+    → asks (take (length words - 1) (drop 1 words)) ≡ asks_for_help (texts words)
+after_name [] = refl
+after_name (word ∷ words) =
+    ap asks (take_all (length (word ∷ words) - 1) words (omega arith)) ∙ list_any-map is_help string_bytes words

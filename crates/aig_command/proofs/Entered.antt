@@ -1,0 +1,101 @@
+-- A command line that `clap` takes has a subcommand that is one of ours.
+use Rattle.std.proofs.Common.{◌≡◌, ◌&&◌, Bool, Option, Some, None, List, [], ◌∷◌, ap, cond, drop, false}
+use Rattle.std.proofs.Common.{is_some, not, option_map, refl, sym, true, true≢false}
+use Rattle.std.specs.Prelude.{option_and_then}
+use Rattle.std.specs.List.{find, list_all, list_any}
+use Rattle.clap.specs.Words.{Kinds, Row, Rule, Text, subcommand_of}
+use Rattle.clap.specs.Facts.{explicit_source}
+use Rattle.clap.specs.Faults.{check_fault, defaults_fault, entered_fault, level_fault, settle_fault, walk_fault}
+use Rattle.clap.specs.Kinds.{check_kinds, or_else}
+use Rattle.clap.specs.Simple.{App, Shape, built, entered, label_of, names_of, rows_at}
+use Rattle.clap.specs.Takes.{is_given}
+use Rattle.clap.specs.Walk.{Held, Names, answers_to, finished, nothing_held, settled, walk, walk_from}
+use Rattle.aig_command.specs.Aiger.{aiger}
+use Rattle.aig_command.specs.Asked.{asked_by, faults}
+
+-- ---- a subcommand is met
+
+abbrev is_none : Kinds → Bool
+is_none [] = true
+is_none (k ∷ ks) = false
+
+second_empty : (a b : Kinds) → or_else a b ≡ [] → b ≡ []
+second_empty [] b e = e
+second_empty (k ∷ ks) b e = absurd (true≢false (sym (ap is_none e)))
+
+-- the last check of a level passes where the level does
+last_check : (s : Shape) (names : Names) (h : Held) (words : List Text) (has : Bool) (below : Kinds)
+    → level_fault s names h words has below ≡ []
+    → check_fault s (finished s.rules (walk s.rules names h words).held) has ≡ []
+last_check s names h words has below e =
+    let end : Held = (walk s.rules names h words).held in
+    let last : Kinds = check_fault s (finished s.rules end) has in
+    let from_defaults : Kinds = or_else (defaults_fault (settled s.rules end).rows s.rules) last in
+    let from_settling : Kinds = or_else (settle_fault s.rules s.args_override_self end) from_defaults in
+    second_empty (defaults_fault (settled s.rules end).rows s.rules) last
+    (second_empty (settle_fault s.rules s.args_override_self end) from_defaults
+    (second_empty below from_settling
+    (second_empty (walk_fault s names (walk_from h) words) (or_else below from_settling) e)))
+
+missing : (help none more : Bool) → help ≡ false → none ≡ true → check_kinds help none more ≡ [] → ⊥
+missing true none more p q e = true≢false p
+missing false false more p q e = true≢false (sym q)
+missing false true more p q e = true≢false (sym (ap is_none e))
+
+abbrev none_given : List Row → Bool
+none_given rows = not (list_any (λ (r : Row). explicit_source r.source) rows)
+
+-- a command that requires a subcommand has met one
+needs_subcommand : (s : Shape) (rows : List Row) (has : Bool) → s.arg_required_else_help ≡ false
+    → s.subcommand_required ≡ true → check_fault s rows has ≡ [] → has ≡ true
+needs_subcommand s rows true quiet required e = refl
+needs_subcommand s rows false quiet required e =
+    let lacking : Bool = list_any (λ (a : Rule). a.required && not (is_given a.id rows)) s.rules in
+    absurd (missing (s.arg_required_else_help && none_given rows) s.subcommand_required
+    (not (s.subcommand_negates_reqs && false) && lacking)
+    (ap (λ (b : Bool). b && none_given rows) quiet) required e)
+
+abbrev stop_at : List Text → Option (Text × List Text)
+stop_at words = (walk (built aiger).top.rules (names_of (built aiger)) nothing_held (drop 1 words)).stopped
+
+is_entered : (words : List Text) → faults words ≡ [] → is_some (subcommand_of aiger words) ≡ true
+is_entered words e =
+    let a : App = built aiger in
+    let after : List Text = drop 1 words in
+    let has : Bool = is_some (entered a (stop_at words)) in
+    needs_subcommand a.top (finished a.top.rules (walk a.top.rules (names_of a) nothing_held after).held) has refl refl
+    (last_check a.top (names_of a) nothing_held after has (entered_fault a (stop_at words)) e)
+
+-- ---- and it is one of ours
+
+-- a subcommand that is met is known
+abbrev IsKnownIfMet : Option (Text × List Row) → Type 0
+IsKnownIfMet met = is_some met ≡ true → is_some (option_and_then asked_by met) ≡ true
+
+both : (a b : Bool) → (a && b) ≡ true → (a ≡ true) × (b ≡ true)
+both true b e = (refl, e)
+both false b e = absurd (true≢false (sym e))
+
+pick_known : (b : Bool) (s : Shape) (later : Option Shape) (rows : Shape → Text × List Row)
+    → is_some (asked_by (rows s)) ≡ true → IsKnownIfMet (option_map rows later)
+    → IsKnownIfMet (option_map rows (cond b (Some s) later))
+pick_known true s later rows here there e = here
+pick_known false s later rows here there e = there e
+
+-- where each that may be found is known, the one that is found is
+found_known : (test : Shape → Bool) (rows : Shape → Text × List Row) (subs : List Shape)
+    → list_all (λ s. is_some (asked_by (rows s))) subs ≡ true → IsKnownIfMet (option_map rows (find test subs))
+found_known test rows [] all e = e
+found_known test rows (s ∷ subs) all e =
+    let each = both (is_some (asked_by (rows s))) (list_all (λ s. is_some (asked_by (rows s))) subs) all in
+    pick_known (test s) s (find test subs) rows each.0 (found_known test rows subs each.1) e
+
+is_known : (stop : Option (Text × List Text)) → IsKnownIfMet (entered (built aiger) stop)
+is_known None e = e
+is_known (Some p) e =
+    found_known (λ s. answers_to p.0 (label_of s)) (λ s. rows_at s p.1) (built aiger).subs refl e
+
+-- what a command line that is taken asks for is known
+pub known : (words : List Text) → faults words ≡ []
+    → is_some (option_and_then asked_by (subcommand_of aiger words)) ≡ true
+known words e = is_known (stop_at words) (is_entered words e)

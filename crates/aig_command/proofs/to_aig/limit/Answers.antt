@@ -1,0 +1,11 @@
+use Rattle.std.proofs.Common.{◌∙◌, codes}
+use Rattle.clap.specs.Words.{found_of, one_of, rows_of}
+use Rattle.clap.proofs.WalkLemmas.{one_text-rows}
+use Rattle.aig_command.proofs.Read.{limit_is}
+use Rattle.aig_command.proofs.to_aig.limit.Goals as goal
+
+pub returns : goal.returns
+returns c =
+    let same = one_text-rows (found_of c.args.matches.now) (codes "max-var") in
+    c.unwrap_or.ensures ∙ limit_is (one_of (codes "max-var") (rows_of (found_of c.args.matches.now))) c.get_one.result
+    (λ e. c.get_one.ensures.none (same ∙ e)) (λ t e. c.get_one.ensures.value t (same ∙ e))

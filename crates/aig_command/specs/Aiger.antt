@@ -1,0 +1,36 @@
+-- The command lines that the program takes, in the terms of `clap` (this project's profile).
+use Rattle.std.specs.Prelude.{List, [], ◌∷◌, Some, true, pos, fold}
+use Rattle.std.specs.Prelude.{codes}
+use Rattle.clap.specs.Words.{App, Rule, Text, new_app, new_rule, with_rule, with_subcommand}
+use Rattle.clap.specs.declared.builder.action.ArgAction.TheVariants.{Set, SetTrue}
+use Rattle.clap.specs.declared.builder.value_parser.ValueParser.TheVariants as parser
+
+-- an option that is given or not
+abbrev pub flag : Text → Rule
+flag name = record (new_rule name) { long = Some name; action = Some SetTrue }
+
+-- `--max-var N`
+abbrev pub max_var : Rule
+max_var = record (new_rule (codes "max-var")) {
+  long = Some (codes "max-var");
+  action = Some Set;
+  value_names = 1;
+  parser = Some (parser.Signed (pos 0) (pos 2147483647));
+}
+
+abbrev pub with_rules : App → List Rule → App
+with_rules = fold with_rule
+
+-- `aigtoaig`: its options in any order, then the names of the two files, by place
+abbrev pub to_aig : App
+to_aig = with_rules (new_app (codes "aigtoaig"))
+    (flag (codes "ascii") ∷ flag (codes "strip") ∷ flag (codes "keep-map") ∷ flag (codes "undo-map")
+    ∷ max_var ∷ new_rule (codes "source") ∷ new_rule (codes "destination") ∷ [])
+
+-- a command that has to be given a subcommand, and has none for help
+abbrev pub above : App → App
+above a = record a { top = record a.top { subcommand_required = true; disable_help_subcommand = true } }
+
+-- the program, with its subcommands
+abbrev pub aiger : App
+aiger = with_subcommand (above (new_app (codes "aiger"))) to_aig.top

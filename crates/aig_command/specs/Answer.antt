@@ -1,0 +1,92 @@
+-- What is answered to a command line (this project's profile).
+use Rattle.std.specs.Prelude.{◌≡◌, ◌≢◌, ◌||◌, List, Bool, true, false, drop, map, nat_eq, Option, Some, option_map}
+use Rattle.std.specs.Prelude.{Result, Ok, Err, codes, String, string_bytes, ⊤}
+use Rattle.std.specs.Global.{Global}
+use Rattle.std.specs.List.{list_any, starts_with}
+use Rattle.std.specs.Str.{bytes_eq}
+use Rattle.clap.specs.Words.{IsAmong, Text, takes}
+use Rattle.clap.specs.declared.error.kind.ErrorKind.{ErrorKind}
+use Rattle.clap.specs.declared.error.kind.ErrorKind.TheVariants.{DisplayHelp, OutOfMemory}
+use Rattle.aig_command.specs.Aiger.{aiger}
+use Rattle.aig_command.specs.Asked.{Asked, Conversion, command_of, converts, faults, refused}
+use Rattle.aig_command.specs.declared.request.ToAig.{ToAig}
+use Rattle.aig_command.specs.declared.request.Command.{Command}
+use Rattle.aig_command.specs.declared.request.Command.TheVariants as commands
+use Rattle.aig_command.specs.declared.usage.Usage.{Usage}
+use Rattle.aig_command.specs.declared.usage.Usage.TheVariants as usage
+
+-- the bytes of each argument
+abbrev pub texts : List (String Global) → List Text
+texts = map (λ word. string_bytes word)
+
+-- the name of a file, if there is one
+abbrev pub name_of : Option (String Global) → Option Text
+name_of = option_map (λ name. string_bytes name)
+
+-- the conversion that a request is for
+abbrev pub conversion_of : ToAig → Conversion
+conversion_of request = record {
+  ascii = request.ascii;
+  strip = request.strip;
+  keep_map = request.keep_map;
+  undo_map = request.undo_map;
+  max_var = request.max_var;
+  source = name_of request.source;
+  destination = name_of request.destination;
+}
+
+-- the argument asks for help
+abbrev pub is_help : Text → Bool
+is_help word = bytes_eq word (codes "--help") || starts_with nat_eq word (codes "-h")
+
+-- one of the arguments after the program's name asks for help
+abbrev pub asks_for_help : List Text → Bool
+asks_for_help words = list_any is_help (drop 1 words)
+
+-- `clap` does not take the arguments, and this is what it finds wrong with them
+abbrev pub IsWrong : List Text → ErrorKind → Type 0
+IsWrong words kind = IsAmong kind (faults words) × (takes aiger words ≡ false)
+
+-- the command is what the arguments ask for
+abbrev pub IsCommand : List Text → Command → Type 0
+IsCommand words (commands.ToAig request) = command_of words ≡ Some (converts (conversion_of request))
+IsCommand words (commands.Help text) = IsWrong words DisplayHelp × (asks_for_help words ≡ true)
+
+-- the arguments are refused for this reason
+abbrev pub IsUsage : List Text → Usage → Type 0
+IsUsage words usage.OutOfMemory = ⊤
+IsUsage words (usage.Words text) =
+    (kind : ErrorKind) × IsWrong words kind × (kind ≡ DisplayHelp → asks_for_help words ≡ false)
+IsUsage words reason = command_of words ≡ Some (refused reason)
+
+-- A map is kept in binary, of the whole circuit that was read, or not at all.
+abbrev pub IsKeptAlone : ToAig → Type 0
+IsKeptAlone request =
+    request.keep_map ≡ true → (request.ascii ≡ false) × (request.strip ≡ false) × (request.undo_map ≡ false)
+
+-- what the command asks for can be done
+abbrev pub CanDo : Command → Type 0
+CanDo (commands.ToAig request) = IsKeptAlone request
+CanDo (commands.Help text) = ⊤
+
+-- What is answered where `clap` answers with an error of this kind. Only private functions cite it.
+abbrev pub IsErrorAnswer : ErrorKind → List Text → Result Command Usage → Type 0
+IsErrorAnswer kind words (Ok (commands.Help text)) = (kind ≡ DisplayHelp) × (asks_for_help words ≡ true)
+IsErrorAnswer kind words (Err usage.OutOfMemory) = ⊤
+IsErrorAnswer kind words (Err (usage.Words text)) =
+    (kind ≢ OutOfMemory) × (kind ≡ DisplayHelp → asks_for_help words ≡ false)
+IsErrorAnswer kind words answer = ⊥
+
+-- What is answered to arguments that ask for this. Only private functions cite it.
+abbrev pub IsAnswer : Asked → Result Command Usage → Type 0
+IsAnswer asked (Ok (commands.ToAig request)) = asked ≡ converts (conversion_of request)
+IsAnswer asked (Err usage.OutOfMemory) = ⊤
+IsAnswer asked (Err (usage.Words text)) = ⊥
+IsAnswer asked (Err reason) = asked ≡ refused reason
+IsAnswer asked answer = ⊥
+
+-- `clap` takes the arguments, and they are refused for this reason. Only private functions cite it.
+abbrev pub IsReason : Usage → Type 0
+IsReason usage.OutOfMemory = ⊥
+IsReason (usage.Words text) = ⊥
+IsReason reason = ⊤

@@ -1,0 +1,93 @@
+-- What a command line asks for that `clap` takes (this project's profile).
+use Rattle.std.specs.Prelude.{ℕ, List, [], ◌∷◌, ◌==◌, ◌&&◌, ◌||◌, ◌^◌, Bool, false, length, nat_lt, nat_eq}
+use Rattle.std.specs.Prelude.{Option, Some, None, unwrap_or, option_and_then, option_map, find, codes, if◌then◌else◌}
+use Rattle.std.specs.List.{ends_with, list_all}
+use Rattle.std.specs.Option.{option_map_or}
+use Rattle.std.specs.Char.{digit_value}
+use Rattle.std.specs.Str.{bytes_eq}
+use Rattle.std.specs.Str.Parse.{digits_value, without_leading_plus}
+use Rattle.clap.specs.Words.{Kinds, Row, Text, fault_of, first_of, one_of, subcommand_of}
+use Rattle.aig_core.specs.declared.circuit.TheConstants.{LARGEST}
+use Rattle.aig_command.specs.Aiger.{aiger}
+use Rattle.aig_command.specs.declared.usage.Usage.{Usage}
+use Rattle.aig_command.specs.declared.usage.Usage.TheVariants as usage
+
+-- the option is given
+abbrev pub is_set : Text → List Row → Bool
+is_set name rows = option_map_or (λ text. bytes_eq text (codes "true")) (one_of name rows) false
+
+-- the number of 32 bits that the text is in decimal, where it is one; a plus may stand before the digits
+abbrev pub number_in : Text → Option ℕ
+number_in text =
+    let digits = without_leading_plus text in
+    if nat_lt 0 (length digits) && list_all (λ d. nat_lt (digit_value d) 10) digits
+    && nat_lt (digits_value 10 digits) (2 ^ 32)
+    then Some (digits_value 10 digits) else None
+
+-- the limit that `--max-var` sets; `clap` takes no other text than a number
+abbrev pub limit : List Row → ℕ
+limit rows = unwrap_or (option_and_then number_in (one_of (codes "max-var") rows)) LARGEST
+
+-- the file that is named at this place; no name, or `-`, is the standard stream
+abbrev pub file : Text → List Row → Option Text
+file place rows = option_and_then (λ name. if bytes_eq name (codes "-") then None else Some name) (first_of place rows)
+
+-- there is a file whose name has this ending
+abbrev pub ends_in : Text → Option Text → Bool
+ends_in ending named = option_map_or (λ name. ends_with nat_eq name ending) named false
+
+-- a conversion: from which file to which, and how
+pub record Conversion : Type 0 where
+  pub ascii : Bool
+  pub strip : Bool
+  pub keep_map : Bool
+  pub undo_map : Bool
+  pub max_var : ℕ
+  pub source : Option Text
+  pub destination : Option Text
+
+-- the conversion that the arguments of `aigtoaig` name
+abbrev pub conversion : List Row → Conversion
+conversion rows = record {
+  ascii = is_set (codes "ascii") rows || ends_in (codes ".aag") (file (codes "destination") rows);
+  strip = is_set (codes "strip") rows;
+  keep_map = is_set (codes "keep-map") rows;
+  undo_map = is_set (codes "undo-map") rows;
+  max_var = limit rows;
+  source = file (codes "source") rows;
+  destination = file (codes "destination") rows;
+}
+
+-- the first reason to refuse a conversion
+abbrev pub refusal : Conversion → Option Usage
+refusal c =
+    if c.keep_map && c.ascii then Some usage.KeepMapNeedsBinary
+    else if c.keep_map && c.strip then Some usage.KeepMapExcludesStrip
+    else if c.keep_map && c.undo_map then Some usage.KeepMapExcludesUndoMap
+    else if ends_in (codes ".gz") c.destination then Some usage.CompressedOutput
+    else None
+
+-- what is asked for, or why that is refused
+pub data Asked : Type 0 where
+  converts : Conversion → Asked
+  refused : Usage → Asked
+
+-- what the arguments of `aigtoaig` ask for
+abbrev pub to_aig : List Row → Asked
+to_aig rows = option_map_or refused (refusal (conversion rows)) (converts (conversion rows))
+
+-- each subcommand: its name, and what its arguments ask for
+abbrev pub subcommands : List (Text × (List Row → Asked))
+subcommands = (codes "aigtoaig", to_aig) ∷ []
+
+-- what the subcommand of this name with these arguments asks for
+abbrev pub asked_by : Text × List Row → Option Asked
+asked_by met = option_map (λ s. s.1 met.1) (find (λ s. bytes_eq met.0 s.0) subcommands)
+
+-- what `clap` finds wrong with the arguments, the program's name first: nothing where it takes them
+abbrev pub faults : List Text → Kinds
+faults = fault_of aiger
+
+-- what the arguments ask for, the program's name first, where `clap` takes them
+abbrev pub command_of : List Text → Option Asked
+command_of words = if length (faults words) == 0 then option_and_then asked_by (subcommand_of aiger words) else None

@@ -1,0 +1,3 @@
+pub mod Aiger
+pub mod Asked
+pub mod Answer

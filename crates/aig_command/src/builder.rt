@@ -1,0 +1,123 @@
+//! The command line as `clap` takes it, with its help texts.
+ghost use Rattle.std.specs.Prelude.{◌≡◌, IfOk, false};
+ghost use Rattle.clap.specs.Words.{app_of, new_app, new_rule, rule_of};
+ghost use Rattle.clap.specs.declared.builder.command.Command.TheViews.{out-Command as fields_of};
+ghost use Rattle.aig_command.specs.Aiger.{aiger, flag, max_var, to_aig};
+
+use clap::{Arg, ArgAction, Command, value_parser};
+use std::alloc::{AllocError, Global};
+
+const ABOUT: &str = "Tools for circuits in the AIGER format";
+
+const AFTER: &str = "\
+What each command does, and examples: aiger COMMAND --help, and man aiger";
+
+const TO_AIG_ABOUT: &str = "Convert an AIGER file to binary or to ASCII";
+
+const TO_AIG_AFTER: &str = "\
+The output is ASCII where --ascii is given or the name of the destination ends
+in .aag, and else binary. Nothing is written before the whole conversion has
+succeeded, so the destination may be the source.
+
+Exit status:
+  0  done, also for --help
+  1  the input was refused, a file or stream failed, or memory ran out
+  2  the command line was refused
+
+Examples:
+  aiger aigtoaig model.aag model.aig              to binary
+  aiger aigtoaig model.aig model.aag              to ASCII
+  aiger aigtoaig --keep-map model.aag image.aig   to binary, with a map
+  aiger aigtoaig --undo-map image.aig again.aag   undone by that map";
+
+const KEEP_MAP_HELP: &str = "\
+Keep a map of the renumbering in the comment, so that
+--undo-map can give the source back; binary output only";
+
+const MAX_VAR_HELP: &str = "\
+Refuse a source with an index or a count above N:
+0 to 2147483647, which is also the default";
+
+/// A command with its texts, before its arguments.
+fn command<'a>(alloc: Global, name: &'a str, about: &'a str, after: &'a str) -> Command<'a>
+    ensures app { app_of result ≡ new_app name.now }
+    ensures local { (fields_of result).has_globals ≡ false }
+{
+    Command::new(alloc, name).about(about).after_help(after)
+}
+
+/// An option that is given or not.
+fn flag<'a>(alloc: Global, name: &'a str, help: &'a str) -> Arg<'a>
+    ensures rule { rule_of result ≡ flag name.now }
+    ensures local { result.global ≡ false }
+{
+    Arg::new(alloc, name)
+        .long(name)
+        .action(ArgAction::SetTrue)
+        .help(help)
+}
+
+/// The limit on what is read.
+fn max_var<'a>(alloc: Global) -> Arg<'a>
+    ensures rule { rule_of result ≡ max_var }
+    ensures local { result.global ≡ false }
+{
+    Arg::new(alloc, "max-var")
+        .long("max-var")
+        .value_name("N")
+        .action(ArgAction::Set)
+        .value_parser(value_parser!(u32).range(0..=2_147_483_647))
+        .help(MAX_VAR_HELP)
+}
+
+/// The name of a file.
+fn file<'a>(alloc: Global, name: &'a str, help: &'a str) -> Arg<'a>
+    ensures rule { rule_of result ≡ new_rule name.now }
+    ensures local { result.global ≡ false }
+{
+    Arg::new(alloc, name).help(help)
+}
+
+/// `aigtoaig`.
+fn to_aig<'a>(alloc: Global) -> Result<Command<'a>, AllocError>
+    ensures app { IfOk result (λ c. app_of c ≡ to_aig) }
+    ensures local { IfOk result (λ c. (fields_of c).has_globals ≡ false) }
+{
+    let command = command(alloc, "aigtoaig", TO_AIG_ABOUT, TO_AIG_AFTER)
+        .arg(flag(
+            alloc,
+            "ascii",
+            "Write ASCII, whatever the destination is named",
+        ))?
+        .arg(flag(alloc, "strip", "Leave out the symbols and the comment"))?
+        .arg(flag(alloc, "keep-map", KEEP_MAP_HELP))?
+        .arg(flag(
+            alloc,
+            "undo-map",
+            "Give back the source of a conversion with --keep-map",
+        ))?
+        .arg(max_var(alloc))?
+        .arg(file(
+            alloc,
+            "source",
+            "The file to read; - or none is the standard input",
+        ))?
+        .arg(file(
+            alloc,
+            "destination",
+            "The file to write; - or none is the standard output",
+        ))?;
+    Ok(command)
+}
+
+/// The program, with its subcommands.
+pub(crate) fn aiger<'a>(alloc: Global) -> Result<Command<'a>, AllocError>
+    ensures { IfOk result (λ c. app_of c ≡ aiger) }
+{
+    let command = command(alloc, "aiger", ABOUT, AFTER)
+        .bin_name("aiger")?
+        .subcommand_required(true)
+        .disable_help_subcommand(true)
+        .subcommand(to_aig(alloc)?)?;
+    Ok(command)
+}

@@ -1,0 +1,12 @@
+//! The command line: how it is read, and what it asks for.
+#![tactic(auto)]
+
+mod builder;
+mod reader;
+mod request;
+mod to_aig;
+mod usage;
+
+pub use crate::reader::command;
+pub use crate::request::{Command, ToAig};
+pub use crate::usage::Usage;

@@ -1,0 +1,104 @@
+//! What a command line asks for.
+ghost use Rattle.std.specs.Prelude.{◌≡◌, IfErr, IfOk, IfSome, is_some, option_and_then, string_bytes, true};
+ghost use Rattle.std.specs.List.{list_any};
+ghost use Rattle.clap.specs.Words.{FailsBy, HasMatchesOf, kind_of, subcommand_rows_of, takes};
+ghost use Rattle.clap.specs.declared.error.kind.ErrorKind.TheVariants.{OutOfMemory};
+ghost use Rattle.aig_command.specs.Aiger.{aiger};
+ghost use Rattle.aig_command.specs.Answer.{asks_for_help, CanDo, is_help, texts};
+ghost use Rattle.aig_command.specs.Answer.{IsAnswer, IsCommand, IsErrorAnswer, IsUsage};
+ghost use Rattle.aig_command.specs.Asked.{asked_by, faults};
+
+use crate::builder::aiger;
+use crate::request::Command;
+use crate::to_aig::to_aig;
+use crate::usage::Usage;
+use clap::error::ErrorKind;
+use clap::{ArgMatches, Error};
+use std::alloc::{AllocError, Global};
+
+/// What `clap` finds in the arguments, where it takes them.
+fn parse<'a>(alloc: Global, words: &'a [String]) -> Result<ArgMatches<'a>, Error>
+    ensures matches { IfOk result (HasMatchesOf aiger (texts words.now)) }
+    ensures passes { IfErr result (λ e. takes aiger (texts words.now) ≡ true → kind_of e ≡ OutOfMemory) }
+    ensures kinds { FailsBy (faults (texts words.now)) result }
+{
+    aiger(alloc)?.try_get_matches_from(words)
+}
+
+/// What arguments ask for that `clap` takes.
+fn asked(alloc: Global, matches: &ArgMatches<'_>) -> Result<Command, Usage>
+    requires known { is_some (option_and_then asked_by (subcommand_rows_of matches.now)) ≡ true }
+    ensures answer { IfSome (option_and_then asked_by (subcommand_rows_of matches.now)) (λ asked.
+        IsAnswer asked result) }
+    ensures can_do { IfOk result CanDo }
+{
+    let Some((name, words)) = matches.subcommand() else {
+        unreachable!();
+    };
+    match name {
+        "aigtoaig" => to_aig(alloc, words),
+        _ => unreachable!(),
+    }
+}
+
+/// Whether the argument asks for help.
+fn is_help(word: &str) -> bool
+    ensures { result ≡ is_help word.now }
+{
+    word == "--help" || word.starts_with("-h")
+}
+
+/// Whether one of the arguments asks for help.
+fn any_help(words: &[String]) -> bool
+    ensures { result ≡ list_any (λ word. is_help (string_bytes word)) words.now }
+{
+    for word in words {
+        if is_help(word.as_str()) {
+            return true;
+        }
+    }
+    false
+}
+
+/// Whether one of the arguments after the program's name asks for help.
+fn asks_for_help(words: &[String]) -> bool
+    ensures { result ≡ asks_for_help (texts words.now) }
+{
+    match words {
+        [_, rest @ ..] => any_help(rest),
+        [] => false,
+    }
+}
+
+/// The text that `clap` has for the user.
+fn text_of(alloc: Global, error: &Error) -> Result<String, AllocError> {
+    format!(in alloc; "{error}")
+}
+
+/// The answer to arguments that `clap` does not take.
+fn not_taken(alloc: Global, words: &[String], error: &Error) -> Result<Command, Usage>
+    ensures answer { IsErrorAnswer (kind_of error.now) (texts words.now) result }
+    ensures can_do { IfOk result CanDo }
+{
+    match error.kind() {
+        ErrorKind::OutOfMemory => Err(Usage::OutOfMemory),
+        // No contract of `clap` says that only such an argument makes it answer with help.
+        ErrorKind::DisplayHelp if asks_for_help(words) => {
+            Ok(Command::Help(text_of(alloc, error)?))
+        }
+        _ => Err(Usage::Words(text_of(alloc, error)?)),
+    }
+}
+
+/// What a command line asks for, given as its arguments, the program's name first. It is refused where it has not the
+/// form of a command, and where what it asks for cannot be done. No file is looked at.
+pub fn command(alloc: Global, words: &[String]) -> Result<Command, Usage>
+    ensures ok { IfOk result (IsCommand (texts words.now)) }
+    ensures can_do { IfOk result CanDo }
+    ensures err { IfErr result (IsUsage (texts words.now)) }
+{
+    match parse(alloc, words) {
+        Ok(matches) => asked(alloc, &matches),
+        Err(error) => not_taken(alloc, words, &error),
+    }
+}

@@ -1,0 +1,30 @@
+//! What a user asks for.
+
+/// A conversion between AIGER files.
+#[derive(Drop)]
+pub struct ToAig {
+    /// Whether ASCII is written, whether an option or the destination's name decided it.
+    pub ascii: bool,
+    /// Whether symbols and comment are left out.
+    pub strip: bool,
+    /// Whether the comment begins with a map block, by which the conversion can be undone. This stands without `ascii`,
+    /// `strip` and `undo_map`.
+    pub keep_map: bool,
+    /// Whether a conversion is undone by the map block of its image.
+    pub undo_map: bool,
+    /// The limit on the largest variable index and the counts of the source.
+    pub max_var: u32,
+    /// The source's name; `None` is the standard input.
+    pub source: Option<String>,
+    /// The destination's name; `None` is the standard output.
+    pub destination: Option<String>,
+}
+
+/// What a command line asks for.
+#[derive(Drop)]
+pub enum Command {
+    /// `aigtoaig`.
+    ToAig(ToAig),
+    /// Help; this is its text.
+    Help(String),
+}

@@ -1,0 +1,106 @@
+//! What the arguments of `aigtoaig` ask for.
+ghost use Rattle.std.specs.Prelude.{◌≡◌, IfErr, IfOk, None, nat_eq, OnOk, Some};
+ghost use Rattle.std.specs.List.{ends_with};
+ghost use Rattle.clap.specs.Words.{found_of, rows_of};
+ghost use Rattle.aig_command.specs.Answer.{CanDo, conversion_of, IsAnswer, IsKeptAlone, IsReason, name_of};
+ghost use Rattle.aig_command.specs.Asked.{conversion, ends_in, file, is_set, limit, refusal, to_aig};
+
+use crate::request::{Command, ToAig};
+use crate::usage::Usage;
+use aig_core::LARGEST;
+use clap::ArgMatches;
+use std::alloc::{AllocError, Global};
+
+/// Whether the option is given.
+fn is_set(matches: &ArgMatches<'_>, name: &str) -> bool
+    ensures { result ≡ is_set name.now (rows_of (found_of matches.now)) }
+{
+    // The contract of `get_flag` is silent on a text that is neither `true` nor `false`.
+    matches.get_one::<bool>(name).unwrap_or(false)
+}
+
+/// The limit that `--max-var` sets.
+fn limit(matches: &ArgMatches<'_>) -> u32
+    ensures { result ≡ limit (rows_of (found_of matches.now)) }
+{
+    matches.get_one::<u32>("max-var").unwrap_or(LARGEST)
+}
+
+/// The file that is named at this place; no name, or `-`, is the standard stream.
+fn file(alloc: Global, matches: &ArgMatches<'_>, place: &str) -> Result<Option<String>, AllocError>
+    ensures { IfOk result (λ named. name_of named ≡ file place.now (rows_of (found_of matches.now))) }
+{
+    let Some(name) = matches.get_str(place) else {
+        return Ok(None);
+    };
+    if name == "-" {
+        return Ok(None);
+    }
+    Ok(Some(String::from_str(alloc, name)?))
+}
+
+/// Whether the name has this ending.
+fn has_ending(name: &str, ending: &str) -> bool
+    ensures { result ≡ ends_with nat_eq name.now ending.now }
+{
+    name.ends_with(ending)
+}
+
+/// Whether there is a file whose name has this ending.
+fn ends_in(named: &Option<String>, ending: &str) -> bool
+    ensures { result ≡ ends_in ending.now (name_of named.now) }
+{
+    match named {
+        Some(name) => has_ending(name.as_str(), ending),
+        None => false,
+    }
+}
+
+/// The conversion that the arguments name.
+fn conversion(alloc: Global, matches: &ArgMatches<'_>) -> Result<ToAig, AllocError>
+    ensures { IfOk result (λ request. conversion_of request ≡ conversion (rows_of (found_of matches.now))) }
+{
+    let source = file(alloc, matches, "source")?;
+    let destination = file(alloc, matches, "destination")?;
+    Ok(ToAig {
+        ascii: is_set(matches, "ascii") || ends_in(&destination, ".aag"),
+        strip: is_set(matches, "strip"),
+        keep_map: is_set(matches, "keep-map"),
+        undo_map: is_set(matches, "undo-map"),
+        max_var: limit(matches),
+        source,
+        destination,
+    })
+}
+
+/// Refuses a conversion that cannot be done.
+fn check(request: &ToAig) -> Result<(), Usage>
+    ensures ok { OnOk result (refusal (conversion_of request.now) ≡ None) }
+    ensures err { IfErr result (λ reason. IsReason reason
+        × (refusal (conversion_of request.now) ≡ Some reason)) }
+    ensures alone { OnOk result (IsKeptAlone request.now) }
+{
+    if request.keep_map && request.ascii {
+        return Err(Usage::KeepMapNeedsBinary);
+    }
+    if request.keep_map && request.strip {
+        return Err(Usage::KeepMapExcludesStrip);
+    }
+    if request.keep_map && request.undo_map {
+        return Err(Usage::KeepMapExcludesUndoMap);
+    }
+    if ends_in(&request.destination, ".gz") {
+        return Err(Usage::CompressedOutput);
+    }
+    Ok(())
+}
+
+/// What the arguments of `aigtoaig` ask for.
+pub(crate) fn to_aig(alloc: Global, matches: &ArgMatches<'_>) -> Result<Command, Usage>
+    ensures answer { IsAnswer (to_aig (rows_of (found_of matches.now))) result }
+    ensures can_do { IfOk result CanDo }
+{
+    let request = conversion(alloc, matches)?;
+    check(&request)?;
+    Ok(Command::ToAig(request))
+}

@@ -1,0 +1,5 @@
+//! Tests of what command lines ask for.
+#![tactic(auto)]
+
+#[cfg(test)]
+mod rows;

@@ -1,0 +1,165 @@
+//! Command lines and what is answered to them.
+use aig_command::{Command, ToAig, Usage, command};
+use std::alloc::{AllocError, Global};
+use std::test::Fail;
+
+/// Arguments after the program's name, and what they ask for: the options of the conversion, its limit, its source and its
+/// destination. `<>` is a name of no bytes.
+const CONVERSIONS: &str = "\
+aigtoaig => 2147483647 - -;\
+aigtoaig a.aig => 2147483647 a.aig -;\
+aigtoaig - b.aig => 2147483647 - b.aig;\
+aigtoaig a.aag - => 2147483647 a.aag -;\
+aigtoaig a.aig b.aag => ascii 2147483647 a.aig b.aag;\
+aigtoaig a.aag .aag => ascii 2147483647 a.aag .aag;\
+aigtoaig a.aig b.AAG => 2147483647 a.aig b.AAG;\
+aigtoaig a.aig aag => 2147483647 a.aig aag;\
+aigtoaig a.aig b.aag.aig => 2147483647 a.aig b.aag.aig;\
+aigtoaig --ascii - b.aig => ascii 2147483647 - b.aig;\
+aigtoaig - --strip b.aig --ascii => ascii strip 2147483647 - b.aig;\
+aigtoaig --keep-map => keep-map 2147483647 - -;\
+aigtoaig --undo-map --strip a b => strip undo-map 2147483647 a b;\
+aigtoaig --max-var 0 => 0 - -;\
+aigtoaig a --max-var=2147483647 b => 2147483647 a b;\
+aigtoaig --max-var +007 => 7 - -;\
+aigtoaig a.gz => 2147483647 a.gz -;\
+aigtoaig help => 2147483647 help -;\
+aigtoaig a <> => 2147483647 a <>;\
+aigtoaig -- --ascii --help => 2147483647 --ascii --help;\
+aigtoaig --strip -- - -x.aag => ascii strip 2147483647 - -x.aag";
+
+/// Arguments after the program's name, and why they are refused (`words` where `clap` refuses them); or that they ask
+/// for help.
+const REFUSALS: &str = "\
+aigtoaig --keep-map --ascii => --keep-map needs binary output;\
+aigtoaig --keep-map - b.aag => --keep-map needs binary output;\
+aigtoaig --keep-map --ascii --strip => --keep-map needs binary output;\
+aigtoaig --keep-map --strip => --keep-map excludes --strip;\
+aigtoaig --keep-map --strip --undo-map => --keep-map excludes --strip;\
+aigtoaig --undo-map --keep-map => --keep-map excludes --undo-map;\
+aigtoaig --keep-map --undo-map - x.gz => --keep-map excludes --undo-map;\
+aigtoaig - x.aig.gz => compressed output is not supported;\
+aigtoaig --ascii - .gz => compressed output is not supported;\
+aigtoaig --help => help;\
+aigtoaig -h => help;\
+--help => help;\
+-h => help;\
+aigtoaig --keep-map --ascii --help => help;\
+aigtoaig --strip --help a b c => help;\
+aigtoaig a b c => words;\
+aigtoaig --ascii --ascii => words;\
+aigtoaig --max-var => words;\
+aigtoaig --max-var 2147483648 => words;\
+aigtoaig --max-var=-1 => words;\
+aigtoaig --max-var= => words;\
+aigtoaig --max-var x => words;\
+aigtoaig --max-var 1 --max-var 2 => words;\
+aigtoaig --asci => words;\
+aigtoaig --ascii=yes => words;\
+aigtoaig --batch => words;\
+aigtoaig --Help => words;\
+aigtoaig -x => words;\
+aigtoaig --version => words;\
+help => words;\
+help aigtoaig => words;\
+aigtoai => words;\
+AIGTOAIG => words;\
+aigunroll => words;\
+--ascii aigtoaig => words;\
+<> => words";
+
+/// The program's name and the arguments of a line, with one space between them.
+fn words_of(alloc: Global, line: &str) -> Result<Vec<String>, AllocError> {
+    let mut words = Vec::new(alloc);
+    words.push(String::from_str(alloc, "aiger")?)?;
+    for word in line.split(' ') {
+        let word = if word == "<>" { "" } else { word };
+        words.push(String::from_str(alloc, word)?)?;
+    }
+    Ok(words)
+}
+
+/// The file of this name, as a row shows it.
+fn shown(file: &Option<String>) -> &str {
+    match file {
+        Some(name) if name.is_empty() => "<>",
+        Some(name) => name.as_str(),
+        None => "-",
+    }
+}
+
+/// A conversion, as a row shows it.
+fn shown_conversion(alloc: Global, request: &ToAig) -> Result<String, AllocError> {
+    let ascii = if request.ascii { "ascii " } else { "" };
+    let strip = if request.strip { "strip " } else { "" };
+    let keep_map = if request.keep_map { "keep-map " } else { "" };
+    let undo_map = if request.undo_map { "undo-map " } else { "" };
+    let source = shown(&request.source);
+    let destination = shown(&request.destination);
+    let limit = request.max_var;
+    format!(in alloc; "{ascii}{strip}{keep_map}{undo_map}{limit} {source} {destination}")
+}
+
+/// What is answered to arguments, as a row shows it.
+fn answer(alloc: Global, words: &[String]) -> Result<String, AllocError> {
+    match command(alloc, words) {
+        Ok(Command::ToAig(request)) => shown_conversion(alloc, &request),
+        Ok(Command::Help(_)) => String::from_str(alloc, "help"),
+        Err(Usage::Words(_)) => String::from_str(alloc, "words"),
+        Err(usage) => format!(in alloc; "{usage}"),
+    }
+}
+
+/// Whether each row is answered as it says; the first that is not.
+fn first_wrong(alloc: Global, rows: &str) -> Result<Option<String>, Fail> {
+    for row in rows.split(';') {
+        let (line, wanted) = row.split_once(" => ").ok_or("a row has an answer")?;
+        let words = words_of(alloc, line)?;
+        let answer = answer(alloc, words.as_slice())?;
+        if answer.as_str() != wanted {
+            return Ok(Some(format!(in alloc; "{line} => {answer}")?));
+        }
+    }
+    Ok(None)
+}
+
+#[test]
+fn conversions(rt: HostRuntime) -> Result<(), Fail> {
+    let wrong = first_wrong(rt.alloc(), CONVERSIONS)?;
+    assert!(rt; wrong.is_none(), "{wrong:?}");
+    Ok(())
+}
+
+#[test]
+fn refusals(rt: HostRuntime) -> Result<(), Fail> {
+    let wrong = first_wrong(rt.alloc(), REFUSALS)?;
+    assert!(rt; wrong.is_none(), "{wrong:?}");
+    Ok(())
+}
+
+/// The longest line of a text.
+fn longest(text: &str) -> usize {
+    let mut longest = 0;
+    for line in text.split('\n') {
+        longest = longest.max(line.len());
+    }
+    longest
+}
+
+/// The help that a line asks for.
+fn help(alloc: Global, line: &str) -> Result<String, Fail> {
+    let words = words_of(alloc, line)?;
+    match command(alloc, words.as_slice()) {
+        Ok(Command::Help(text)) => Ok(text),
+        _ => Err("no help")?,
+    }
+}
+
+#[test]
+fn help_fits_a_terminal(rt: HostRuntime) -> Result<(), Fail> {
+    for line in ["--help", "aigtoaig --help"].iter() {
+        let text = help(rt.alloc(), line)?;
+        assert!(rt; longest(text.as_str()) <= 80, "{text}");
+    }
+    Ok(())
+}
