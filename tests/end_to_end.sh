@@ -61,9 +61,9 @@ in_pieces | convert > "$work/out" 2> "$work/err"
 judge 'a file that comes in pieces' "${PIPESTATUS[1]}"
 convert < "$work/small" 2> "$work/err" | cat > "$work/out"
 judge 'into a pipe' "${PIPESTATUS[0]}"
-# words that are not supported leave standard input alone, for whoever reads it next
+# arguments that are refused leave standard input alone, for whoever reads it next
 then_read() { errors_closed "$program"; cat; }
-check 'nothing is read for words not supported' then_read < "$work/small"
+check 'nothing is read for arguments that are refused' then_read < "$work/small"
 
 # the program's own path is no word of the command line, and may be no text
 mkdir "$work/"$'d\377'
@@ -190,6 +190,7 @@ for file in "$top"/examples/*.aag "$top"/examples/*.aig; do
     check "the example ${file##*/} comes back by its map" with_map "$canonical"
 done
 
+. "$top/tests/files.sh"
 . "$top/tests/launcher.sh"
 . "$top/tests/other_tools.sh"
 

@@ -34,3 +34,18 @@ check() {
     "$@" > "$work/out" 2> "$work/err"
     judge "$name" $?
 }
+
+# compile_preload NAME: makes $work/NAME.so of tests/NAME.c, with whichever C compiler is there; only what each of them has is
+# used, no header and no library. What they said is in $work/compile.
+compile_preload() {
+    local rt=${RT:-$(command -v rt)} kit
+    kit=$(dirname "$(readlink -f "$rt")")/../toolchain/bin
+    compile_with "$1" gcc || compile_with "$1" cc || compile_with "$1" clang ||
+        compile_with "$1" "$kit/clang" "--ld-path=$kit/ld.lld"
+}
+compile_with() {
+    local name=$1
+    shift
+    command -v "$1" > /dev/null && "$@" -O1 -fno-builtin -shared -fPIC -nostdinc -nostdlib \
+        -o "$work/$name.so" "$top/tests/$name.c" 2>> "$work/compile"
+}

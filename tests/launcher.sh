@@ -5,6 +5,8 @@ tree=$work/tree
 launched=$tree/crates/aiger/out/aiger
 mkdir -p "$tree"/crates/{low,aiger,beside}/{src,specs}
 cp "$top/aiger" "$tree/aiger"
+mkdir "$tree/docs"
+cp "$top/docs/help.txt" "$tree/docs"
 printf '# crates\naiger: low std\nbeside: low\nlow: thiserror\n' > "$tree/crates.txt"
 printf '// one\n' | tee "$tree"/crates/{low,aiger,beside}/src/lib.rt > "$tree/crates/low/specs/More.antt"
 
@@ -53,20 +55,24 @@ aiger: the program is linked
 
 # --- help, while there is no program that could answer ---
 : > "$work/calls"
-# helps NAME WORD..: a launch with these words prints what is to come, and starts nothing
+stored="$(cat "$top/docs/help.txt")\n"
+unlinked='aiger: the program is not linked yet from the sources as they stand; the next command proves and links it first,
+aiger: with rt of the Rattle kit: about ten minutes on four cores the first time, less after a change
+'
+# helps NAME WORD..: a launch with these words prints the stored text and what is to come, and starts nothing
 helps() {
     local name=$1
     shift
-    launch "$@" > "$work/out" 2> "$work/err"
-    echo $? > "$work/status"
-    grep -q '^The program is not linked' "$work/out" && : > "$work/out"
-    cat "$work/calls" >> "$work/err"
-    wants '' '' 0
-    judge "$name before the program is linked" "$(cat "$work/status")"
+    wants "$stored" "$unlinked" 0
+    check "$name before the program is linked" launch "$@"
 }
 for word in -h --help -V --version; do helps "$word" "$word"; done
 helps 'help for a command' aigtoaig --help
-wants '' 'aiger: cannot write the help text\n' 125
+wants '' '' 0
+check 'nothing is started for help' cat "$work/calls"
+wants "$stored" '' 0
+check 'help with a closed standard error' errors_closed launch --help
+wants '' "aiger: cannot print $tree/docs/help.txt\n" 125
 check 'help that cannot be written' output_full launch --help
 
 # --- what it proves, and when ---
@@ -78,9 +84,25 @@ wants "$small" '' 0
 check 'the second launch' launch aigtoaig --ascii < "$work/small"
 wants '' 'aiger: -: line 1: not an AIGER file\n' 1
 check 'a refusal by the launcher' launch aigtoaig --ascii < /dev/null
-wants '' 'aiger: words not supported\n' 2
+wants "$stored" '' 0
+check 'help by the launcher, once the program is linked' launch --help
+again="\n\nUsage: aiger <COMMAND>\n\nFor more information, try '--help'.\n"
+wants '' "error: 'aiger' requires a subcommand but one was not provided\n  [subcommands: aigtoaig]$again" 2
 check 'no words to the launcher' launch
+wants '' "error: unrecognized subcommand 'aigtoaig --ascii'\n\n  tip: a similar subcommand exists: 'aigtoaig'$again" 2
 check 'one word of two to the launcher' launch 'aigtoaig --ascii'
+wants '' 'aiger: an argument is not UTF-8 text\n' 2
+check 'a word that is no text to the launcher' launch aigtoaig $'\377'
+wants '' 'aiger: : cannot read\n' 1
+check 'an empty word to the launcher' launch aigtoaig ''
+mkdir "$work/named"
+by_name() { cd "$work/named" && launch aigtoaig --ascii -- "$odd" -; }
+for odd in 'two  spaces ' $'two\nlines\n' ' * ? [a-z] $HOME `ls` \' -- --help "'" '"'; do
+    cp "$work/small" "$work/named/$odd"
+    wants "$small" '' 0
+    check "the launcher hands on the name '$odd' in a folder" launch aigtoaig --ascii -- "$work/named/$odd" -
+    check "the launcher hands on the name '$odd'" eval '( by_name )'
+done
 ln -s "$tree/aiger" "$work/link"
 by_link() { cd / && RT=$work/rt "$work/link" aigtoaig --ascii; }
 wants "$small" '' 0

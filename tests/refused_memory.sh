@@ -1,57 +1,77 @@
 #!/usr/bin/env bash
 # Runs each row of the table in rows.sh with its Nth growth of memory refused, N from 1 until there is no Nth growth.
 # A run with a refusal answers 'aiger: out of memory', status 1, and writes nothing; the run without one gives the
-# row's own answer. A row counts once.
+# row's own answer. A row counts once. What happens before anything is read is the same for all rows with the same words, so it
+# is refused once, with a folder as standard input.
 . "$(dirname "${BASH_SOURCE[0]}")/rows.sh"
 . "$top/tests/judge.sh"
 need_program
 most=20000   # a row that grows more often than this fails
 
-# compile COMMAND..: only what every C compiler has is used, no header and no library
-compile() {
-    command -v "$1" > /dev/null && "$@" -O1 -fno-builtin -shared -fPIC -nostdinc -nostdlib \
-        -o "$work/refuse_growth.so" "$top/tests/refuse_growth.c" 2>> "$work/compile"
-}
-rt=${RT:-$(command -v rt)}
-kit=$(dirname "$(readlink -f "$rt")")/../toolchain/bin
-if ! compile gcc && ! compile cc && ! compile clang && ! compile "$kit/clang" "--ld-path=$kit/ld.lld"; then
+if ! compile_preload refuse_growth; then
     fail 'tests/refuse_growth.c compiles' \
-        "wanted gcc, cc, clang or $kit/clang" "came   $(cat "$work/compile" 2> /dev/null)"
+        'wanted gcc, cc, clang or that of the kit' "came   $(cat "$work/compile" 2> /dev/null)"
     finish
 fi
 
-# run_refusing N WORD..: one run with the Nth growth refused, which then leaves the file refused
+# run_refusing N WORD..: one run over the file $input with the Nth growth refused, if there is one
 run_refusing() {
     local number=$1
     shift
-    rm -f "$work/refused"
-    REFUSE=$number REFUSED=$work/refused LD_PRELOAD=$work/refuse_growth.so \
-        "$program" "$@" < "$work/in" > "$work/out" 2> "$work/err"
+    REFUSE=$number REFUSED=$work/refused.$number LD_PRELOAD=$work/refuse_growth.so \
+        "$program" "$@" < "$input" > "$work/out" 2> "$work/err"
 }
 
 growths=0
 
-row() {
-    local name=$1 input=$2 output=$3 errors=$4 status=$5 number ended
-    shift 5
-    printf '%b' "$input" > "$work/in"
-    wants '' 'aiger: out of memory\n' 1
-    for ((number = 1; number <= most; number++)); do
+# Whether a run with a refusal that ended with STATUS ran out of memory, and wrote nothing.
+ran_out() {
+    local line= rest=
+    { IFS= read -r line; IFS= read -r rest; } < "$work/err"
+    [ "$1" = 1 ] && [ "$line" = 'aiger: out of memory' ] && [ -z "$rest" ] && [ ! -s "$work/out" ]
+}
+
+# refuse_each FROM WORD..: refuses each growth from number FROM on. Leaves in $number the first that there is not, and in $ended
+# the status without a refusal. Fails where a run goes wrong. Where the words are refused, with status 2 in $status, clap can
+# do without some growths, for which it has no hint or a shorter one: then what comes is as without the refusal.
+refuse_each() {
+    local from=$1
+    shift
+    for ((number = from; number <= most; number++)); do
         run_refusing "$number" "$@"
         ended=$?
-        [ -e "$work/refused" ] || break
+        [ -e "$work/refused.$number" ] || return 0
         growths=$((growths + 1))
-        if ! came "$ended"; then
-            tell "$name, growth $number refused"
-            return
-        fi
+        ran_out "$ended" || { [ "$status" = 2 ] && came "$ended"; } || return
     done
-    if [ "$number" -gt "$most" ]; then
-        fail "$name" "wanted an end within $most growths"
-        return
+}
+
+# how many growths come before anything is read, which are the same in each row with these words
+declare -A before
+
+row() {
+    local name=$1 input=$work status=$5 number ended words
+    printf '%b' "$2" > "$work/in"
+    wants "$3" "$4" "$5"
+    shift 5
+    words="words ${*@Q}"   # which is no empty subscript
+    if [ ! -v "before[$words]" ]; then
+        before[$words]=0
+        if refuse_each 1 "$@" && [ "$(< "$work/err")" = 'aiger: -: cannot read' ]; then
+            before[$words]=$((number - 1))
+        fi
+        rm -f "$work"/refused.*
     fi
-    wants "$output" "$errors" "$status"
-    judge "$name, no growth refused" "$ended"
+    input=$work/in
+    if ! refuse_each $((before[$words] + 1)) "$@"; then
+        came "$ended"
+        tell "$name, growth $number refused"
+    elif [ "$number" -gt "$most" ]; then
+        fail "$name" "wanted an end within $most growths"
+    else
+        judge "$name, no growth refused" "$ended"
+    fi
+    rm -f "$work"/refused.*
 }
 rows
 

@@ -66,7 +66,11 @@ bad_block() { no_undone "$1" "aig 1 1 0 1 0\n3\nc\n$2" "$3"; }
 # a block that is not right, of a circuit with an input, an output and a gate with equal operands
 bad_gate_block() { no_undone "$1" "aig 2 1 0 1 1\n4\n\x02\x00c\n$2" "$3"; }
 refuses() { row "$1" "$2" '' "aiger: -: $3\n" 1 aigtoaig --ascii; }
-unknown() { local name=$1; shift; row "$name" 'aag 0 0 0 0 0\n' '' 'aiger: words not supported\n' 2 "$@"; }
+# arguments that are refused, before anything is read: in clap's words, or in the program's own
+misused() { local name=$1 text=$2; shift 2; row "$name" 'aag 0 0 0 0 0\n' '' "error: $text\n\nFor more information, try '--help'.\n" 2 "$@"; }
+unwanted() { local name=$1 text=$2; shift 2; row "$name" 'aag 0 0 0 0 0\n' '' "aiger: $text\n" 2 "$@"; }
+# a source by its name that is not there
+missing() { local name=$1 file=$2; shift 2; row "$name" 'aag 0 0 0 0 0\n' '' "aiger: $file: cannot read\n" 1 "$@"; }
 
 rows() {
     rows_accepted
@@ -620,23 +624,50 @@ rows_forged() {
 }
 
 rows_words() {
-    unknown 'no words'
-    unknown 'a word after the subcommand' aigtoaig x
-    unknown 'a word too many' aigtoaig --ascii x
-    unknown 'an empty word too many' aigtoaig --ascii ''
-    unknown 'the option twice' aigtoaig --ascii --ascii
-    unknown 'the words the other way round' --ascii aigtoaig
-    unknown 'a part of the option' aigtoaig --asci
-    unknown 'more than the option' aigtoaig --asciix
-    unknown 'capital letters in a word' aigtoaig --ASCII
-    unknown 'one word of two' 'aigtoaig --ascii'
-    unknown 'help' --help
-    unknown 'another subcommand' aigsim --ascii
-    unknown 'another option' aigtoaig --binary
-    unknown 'a map kept in ASCII' aigtoaig --keep-map --ascii
-    unknown 'a map kept and undone' aigtoaig --keep-map --undo-map
-    unknown 'undone to ASCII, the words the other way round' aigtoaig --ascii --undo-map
-    unknown 'a map undone twice' aigtoaig --undo-map --undo-map
-    unknown 'a word behind the map and ASCII' aigtoaig --undo-map --ascii x
-    unknown 'a word that is no text' aigtoaig $'\377'
+    local usage='\n\nUsage: aiger <COMMAND>' one='\n\nUsage: aiger aigtoaig'
+    local every="$one [OPTIONS] [source] [destination]" small='aag 3 1 1 2 0\n6\n2 7\n2\n0\n'
+    local image='aig 1 1 0 1 0\n3\nc\naigmap 1 9 1 0 0 0\n9\naigmap end\n' undone='aag 9 1 0 1 0\n18\n19\n'
+    misused 'no words' "'aiger' requires a subcommand but one was not provided\n  [subcommands: aigtoaig]$usage"
+    missing 'a word after the subcommand' none/x aigtoaig none/x
+    missing 'a word behind ASCII' none/x aigtoaig --ascii none/x
+    missing 'an empty word behind ASCII' '' aigtoaig --ascii ''
+    misused 'a word too many' "unexpected argument 'z' found$every" aigtoaig --ascii x y z
+    misused 'the option twice' "the argument '--ascii' cannot be used multiple times$every" aigtoaig --ascii --ascii
+    misused 'the words the other way round' "unexpected argument '--ascii' found\n\n  tip: 'aigtoaig --ascii' exists$usage" \
+        --ascii aigtoaig
+    misused 'a part of the option' \
+        "unexpected argument '--asci' found\n\n  tip: a similar argument exists: '--ascii'$one --ascii [source] [destination]" \
+        aigtoaig --asci
+    misused 'more than the option' \
+        "unexpected argument '--asciix' found\n\n  tip: a similar argument exists: '--ascii'$one --ascii [source] [destination]" \
+        aigtoaig --asciix
+    misused 'capital letters in a word' "unexpected argument '--ASCII' found\n\n  tip: to pass '--ASCII' as a value, use '-- --ASCII'$every" aigtoaig --ASCII
+    misused 'one word of two' \
+        "unrecognized subcommand 'aigtoaig --ascii'\n\n  tip: a similar subcommand exists: 'aigtoaig'$usage" 'aigtoaig --ascii'
+    row 'help' 'aag 0 0 0 0 0\n' "$(cat "$top/docs/help.txt")\n" '' 0 --help
+    misused 'another subcommand' "unrecognized subcommand 'aigsim'\n\n  tip: a similar subcommand exists: 'aigtoaig'$usage" \
+        aigsim --ascii
+    misused 'another option' "unexpected argument '--binary' found\n\n  tip: to pass '--binary' as a value, use '-- --binary'$every" aigtoaig --binary
+    unwanted 'a map kept in ASCII' '--keep-map needs binary output' aigtoaig --keep-map --ascii
+    unwanted 'a map kept in a stripped file' '--keep-map excludes --strip' aigtoaig --strip --keep-map
+    unwanted 'a map kept and undone' '--keep-map excludes --undo-map' aigtoaig --keep-map --undo-map
+    unwanted 'a compressed destination' 'compressed output is not supported' aigtoaig - none/x.aig.gz
+    row 'undone to ASCII, the words the other way round' "$image" "$undone" '' 0 aigtoaig --ascii --undo-map
+    misused 'a map undone twice' "the argument '--undo-map' cannot be used multiple times$every" aigtoaig --undo-map --undo-map
+    missing 'a word behind the map and ASCII' none/x aigtoaig --undo-map --ascii none/x
+    unwanted 'a word that is no text' 'an argument is not UTF-8 text' aigtoaig $'\377'
+    misused 'a limit without a number' "a value is required for '--max-var <N>' but none was supplied" aigtoaig --max-var
+    misused 'a limit above the largest' "invalid value '2147483648' for '--max-var <N>': 2147483648 is not in 0..=2147483647" aigtoaig --max-var 2147483648
+    row 'a limit that is reached' "$small" "$small" '' 0 aigtoaig --max-var 3 --ascii
+    row 'a limit that is passed' "$small" '' 'aiger: -: line 1: number above the limit\n' 1 aigtoaig --ascii --max-var=2
+    row 'a limit of nothing' 'aag 0 0 0 0 0\n' 'aig 0 0 0 0 0\n' '' 0 aigtoaig --max-var=0
+    row 'symbols and comment left out' 'aag 1 1 0 0 0\n2\ni0 a\nc\nx\n' 'aag 1 1 0 0 0\n2\n' '' 0 aigtoaig --strip --ascii
+    row 'symbols and comment left out of a binary file' 'aag 9 1 0 1 0\n18\n19\ni0 a\nc\n' 'aig 1 1 0 1 0\n3\n' '' 0 aigtoaig --strip
+    row 'undone, and left out' "${image}x" '' 'aiger: -: map does not belong to this circuit\n' 1 aigtoaig --undo-map --strip
+    row 'both streams by -' "$small" "$small" '' 0 aigtoaig --ascii - -
+    row 'both streams behind --' "$small" "$small" '' 0 aigtoaig --ascii -- - -
+    row 'a source by its name' "$small" "$small" '' 0 aigtoaig --ascii "$work/in"
+    row 'a destination by its name' "$small" '' '' 0 aigtoaig - "$work/named.aag"
+    row 'a source and a destination by their names' "$small" '' '' 0 aigtoaig "$work/in" "$work/named.aig" --keep-map
+    row 'a refused source by its name' 'aag 1 1 0 0 0\n' '' "aiger: $work/in: line 2: file ends too early\n" 1 aigtoaig "$work/in"
 }

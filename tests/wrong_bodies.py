@@ -61,7 +61,8 @@ class Function:
 
 def block_name(head):
     """The name of an impl block or a trait: the type, then the trait and what it is applied to."""
-    head = re.sub(r"^impl\s*(<(?:[^<>]|<[^<>]*>)*>)?|^.*\btrait\b", "", head).partition(" where ")[0]
+    head = re.sub(r"^impl\s*(<(?:[^<>]|<[^<>]*>)*>)?|^.*\btrait\b", "", head)
+    head = re.split(r"\swhere\s", head)[0]
     trait, is_for, implementor = head.partition(" for ")
     if not is_for:
         trait, implementor = "", head

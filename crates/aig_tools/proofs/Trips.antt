@@ -19,7 +19,7 @@ use Rattle.aig_order.proofs.One.{image_is_one}
 use Rattle.aig_order.proofs.OneSource.{one_source, undoing_recovers}
 use Rattle.aig_order.proofs.Refused.{one_mapped}
 use Rattle.aig_order.proofs.OwnImage.{own_image}
-use Rattle.aig_tools.specs.declared.request.ToAig.{ToAig}
+use Rattle.aig_command.specs.declared.request.ToAig.{ToAig}
 use Rattle.aig_tools.specs.File.{IsFileOf}
 use Rattle.aig_tools.specs.Conversion.{IsImageAs, IsSource, IsTextAs, IsConversionText, changed}
 use Rattle.aig_tools.specs.Laws.{IsPlain, IsCanonicalBinary, KeepsMap, UndoesMap}

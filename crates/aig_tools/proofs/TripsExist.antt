@@ -15,7 +15,7 @@ use Rattle.aig_order.proofs.MappedOrder.{mapped_image_is_one, mapped_image_is_or
 use Rattle.aig_order.proofs.OneSource.{undoing_recovers}
 use Rattle.aig_order.proofs.OwnImage.{own_image}
 use Rattle.aig_order.proofs.Refused.{only_memory}
-use Rattle.aig_tools.specs.declared.request.ToAig.{ToAig}
+use Rattle.aig_command.specs.declared.request.ToAig.{ToAig}
 use Rattle.aig_tools.specs.File.{IsFileOf, first_fault}
 use Rattle.aig_tools.specs.Conversion.{IsConversionText, IsSource, IsTextAs}
 use Rattle.aig_tools.specs.Laws.{IsCanonicalBinary, IsPlain, KeepsMap, UndoesMap}

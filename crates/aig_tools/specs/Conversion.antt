@@ -6,7 +6,7 @@ use Rattle.aig_binary.specs.BinaryText.{binary_text}
 use Rattle.aig_order.specs.Image.{IsBinaryImage}
 use Rattle.aig_order.specs.MapBlock.{IsMappedImage}
 use Rattle.aig_order.specs.Undone.{IsUndoneFrom}
-use Rattle.aig_tools.specs.declared.request.ToAig.{ToAig}
+use Rattle.aig_command.specs.declared.request.ToAig.{ToAig}
 use Rattle.aig_tools.specs.File.{IsFileOf}
 
 -- the circuit without its symbols and its comment

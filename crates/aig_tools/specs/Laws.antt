@@ -10,7 +10,7 @@ use Rattle.aig_core.specs.declared.circuit.Circuit.{Circuit}
 use Rattle.aig_order.specs.declared.fault.MapFault.{MapFault}
 use Rattle.aig_order.specs.declared.fault.MapFault.TheVariants.{OutOfMemory}
 use Rattle.aig_order.specs.Undone.{IsMapFault}
-use Rattle.aig_tools.specs.declared.request.ToAig.{ToAig}
+use Rattle.aig_command.specs.declared.request.ToAig.{ToAig}
 use Rattle.aig_tools.specs.File.{IsFileOf, file_reading, first_fault}
 use Rattle.aig_tools.specs.Conversion.{IsConversionText}
 

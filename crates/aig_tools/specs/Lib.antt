@@ -1,9 +1,9 @@
-pub mod Words
 pub mod File
 pub mod Conversion
 pub mod Blame
+pub mod Devices
 pub mod Outcome
 pub mod Messages
+pub mod Ending
 pub mod Reported
 pub mod Laws
-pub mod Possible

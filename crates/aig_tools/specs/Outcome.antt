@@ -1,20 +1,21 @@
 -- What came of a request, for a source and what is left of it, and a sink and how it is filled then. Nothing is said of
 -- the bytes of a device that does not tell them.
-use Rattle.std.specs.Prelude.{◌≡◌, ◌+◌, ◌⊎◌, ℕ, List, Option, IfSome, true, ⊤}
+use Rattle.std.specs.Prelude.{◌≡◌, ◌+◌, ◌≤◌, ◌⊎◌, ℕ, List, Option, None, Some, IfSome, max, true, ⊤}
 use Rattle.std.specs.Io.KnownBytes.{Appends}
 use Rattle.aig_core.specs.Transfer.{GaveAll, GaveSome, TookBeginning}
 use Rattle.aig_text.specs.declared.fault.ReadFault.{ReadFault}
 use Rattle.aig_text.specs.Reading.{IsFirstFault}
 use Rattle.aig_tools.specs.declared.fault.ToolFault.{ToolFault}
-use Rattle.aig_tools.specs.declared.request.ToAig.{ToAig}
-use Rattle.aig_tools.specs.declared.request.Request.{Request}
-use Rattle.aig_tools.specs.declared.request.Request.TheVariants as requests
+use Rattle.aig_command.specs.declared.request.ToAig.{ToAig}
 use Rattle.aig_tools.specs.Blame.{at_fault, map_fault, sink_failures, source_failures, text_fault, TheSink}
 use Rattle.aig_order.specs.declared.fault.MapFault.{MapFault}
 use Rattle.aig_order.specs.Undone.{IsMapFault}
 use Rattle.aig_tools.specs.File.{first_fault, IsFileOf}
 use Rattle.aig_tools.specs.declared.fault.ToolFault.TheVariants as faults
 use Rattle.aig_core.specs.declared.circuit.Circuit.{Circuit}
+use Rattle.aig_core.specs.declared.block.TheConstants.{ROOM}
+use Rattle.aig_command.specs.Answer.{name_of}
+use Rattle.aig_tools.specs.Devices.{OfSink, OfSource}
 use Rattle.aig_tools.specs.Conversion.{IsConversionText, IsTextAs}
 
 -- the source gave all its bytes, the sink took the conversion text of them, and neither failed
@@ -84,12 +85,28 @@ pub record NotConverted {R W : Type 0} (request : ToAig) (error : ToolFault)
   pub source_count : source_failed left ≡ source_failed source + source_failures (at_fault error)
   pub sink_count : sink_failed filled ≡ sink_failed sink + sink_failures (at_fault error)
 
--- what was asked for is done
-abbrev pub Done : {R W : Type 0} → Request
-    → (R → Option (List ℕ)) → (R → ℕ) → R → R → (W → Option (List ℕ)) → (W → ℕ) → W → W → Type 0
-Done (requests.ToAig request) = Converted request
+-- a stream in the place of which a file is named is left alone
+abbrev pub IsLeft : {X : Type 0} → Option (List ℕ) → X → X → Type 0
+IsLeft None before after = ⊤
+IsLeft (Some name) before after = after ≡ before
 
--- what an error says where it was not done
-abbrev pub NotDone : {R W : Type 0} → Request → ToolFault
-    → (R → Option (List ℕ)) → (R → ℕ) → R → R → (W → Option (List ℕ)) → (W → ℕ) → W → W → Type 0
-NotDone (requests.ToAig request) error = NotConverted request error
+-- The conversion is done, from the source to the sink that the request names, and a file is closed. No slice that the
+-- sink was handed is longer than a block.
+abbrev pub Done : {R W : Type 0} → ToAig → (List ℕ → Option (List ℕ)) → (List ℕ → Option (List ℕ))
+    → (R → Option (List ℕ)) → (R → ℕ) → R → R
+    → (W → Option (List ℕ)) → (W → ℕ) → (W → ℕ) → W → W → Type 0
+Done request holds made coming source_failed source left taken longest sink_failed sink filled =
+    OfSource holds (name_of request.source) coming source_failed source left (λ R coming source_failed source left.
+    OfSink made (name_of request.destination) taken longest sink_failed sink filled (λ W taken longest sink_failed closed sink filled.
+    Converted request coming source_failed source left taken sink_failed sink filled
+    × (longest filled ≤ max (longest sink) ROOM) × (closed filled ≡ true)))
+
+-- what an error says where it is not done
+abbrev pub NotDone : {R W : Type 0} → ToAig → ToolFault → (List ℕ → Option (List ℕ)) → (List ℕ → Option (List ℕ))
+    → (R → Option (List ℕ)) → (R → ℕ) → R → R
+    → (W → Option (List ℕ)) → (W → ℕ) → (W → ℕ) → W → W → Type 0
+NotDone request error holds made coming source_failed source left taken longest sink_failed sink filled =
+    OfSource holds (name_of request.source) coming source_failed source left (λ R coming source_failed source left.
+    OfSink made (name_of request.destination) taken longest sink_failed sink filled (λ W taken longest sink_failed closed sink filled.
+    NotConverted request error coming source_failed source left taken sink_failed sink filled
+    × (longest filled ≤ max (longest sink) ROOM)))

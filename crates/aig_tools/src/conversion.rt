@@ -8,8 +8,8 @@ ghost use Rattle.aig_tools.specs.Outcome.{Converted, NotConverted, NotWritten};
 
 use crate::fault::ToolFault;
 use crate::file::read_file;
-use crate::request::ToAig;
 use aig_binary::{Ordered, write_binary};
+use aig_command::ToAig;
 use aig_core::{Checked, Circuit, Listing, OutOfMemory, Sink, Source, read_all};
 use aig_order::{MapFault, into_binary, to_binary_with_map, undo};
 use aig_text::{Limits, write_ascii};

@@ -6,11 +6,10 @@ mod fault;
 mod file;
 pub mod laws;
 mod message;
+mod named;
 mod program;
-mod request;
-mod words;
 
 pub use crate::conversion::run_toaig;
 pub use crate::fault::ToolFault;
-pub use crate::program::{refuse_for_memory, refuse_words, start};
-pub use crate::request::{Request, ToAig};
+pub use crate::program::{refuse_for_memory, refuse_words, serve, start};
+pub use aig_command::{Command, ToAig, Usage, command};

@@ -1,14 +1,40 @@
-//! What is reported on standard error: one line each. Whether it could be sent changes nothing: there is no other place
-//! to report it. Formatting and sending take no memory, so that running out of memory can be reported too.
-ghost use Rattle.std.specs.Prelude.{◌+◌, ◌-◌, ◌^◌, ◌<◌, ◌≤◌, [], max};
+//! What is reported on standard error. Whether it could be sent changes nothing: there is no other place to report it.
+//! Formatting and sending take no memory, so that out of memory can be reported too.
+ghost use Rattle.std.specs.Prelude.{◌≡◌, ◌+◌, ◌-◌, ◌^◌, ◌<◌, ◌≤◌, [], codes, max};
 ghost use Rattle.aig_core.specs.Output.{CanFail, out, Put};
 ghost use Rattle.aig_core.specs.declared.block.TheConstants.{ROOM};
-ghost use Rattle.aig_tools.specs.Messages.{error_line, error_text, line_of, memory_line, Told, words_line};
+ghost use Rattle.aig_command.specs.Answer.{name_of};
+ghost use Rattle.aig_tools.specs.Blame.{at_fault};
+ghost use Rattle.aig_tools.specs.Devices.{shown};
+ghost use Rattle.aig_tools.specs.Messages.{error_line, error_text, line_of, memory_line, name_at};
+ghost use Rattle.aig_tools.specs.Messages.{Told, usage_text, words_line};
 
 use crate::fault::{CANNOT_READ, CANNOT_WRITE, OUT_OF_MEMORY, ToolFault};
+use aig_command::{ToAig, Usage};
 use aig_core::{Block, Sink};
 
-/// Sends a line: the program's name, and what is wrong.
+/// A file by its name, and a stream by `-`.
+fn shown(name: &Option<String>) -> &str
+    ensures { result.now ≡ shown (name_of name.now) }
+{
+    match name {
+        Some(name) => name.as_str(),
+        None => "-",
+    }
+}
+
+/// Sends a text.
+pub(crate) fn send<E: Sink>(errors: &mut E, text: &[u8])
+    requires { E.failed errors.old < 2 ^ 64 - 1 }
+    ensures told { Told E.taken E.failed errors.old errors.new text.now }
+    ensures short { E.longest errors.new ≤ max (E.longest errors.old) ROOM }
+{
+    let mut block = Block::new();
+    block.put(errors, text);
+    let _sent = block.flush(errors);
+}
+
+/// Sends a line about no file: the program's name, and what is wrong.
 fn send_line<E: Sink>(errors: &mut E, text: &[u8])
     requires { E.failed errors.old < 2 ^ 64 - 1 }
     ensures told { Told E.taken E.failed errors.old errors.new (line_of [] text.now) }
@@ -21,8 +47,8 @@ fn send_line<E: Sink>(errors: &mut E, text: &[u8])
     let _sent = block.flush(errors);
 }
 
-/// Reports that an allocation failed. No file is at fault, so none is named.
-pub(crate) fn tell_want_of_memory<E: Sink>(errors: &mut E)
+/// Reports that memory ran out. No file is at fault, so none is named.
+pub(crate) fn report_memory<E: Sink>(errors: &mut E)
     requires { E.failed errors.old < 2 ^ 64 - 1 }
     ensures told { Told E.taken E.failed errors.old errors.new memory_line }
     ensures short { E.longest errors.new ≤ max (E.longest errors.old) ROOM }
@@ -30,13 +56,38 @@ pub(crate) fn tell_want_of_memory<E: Sink>(errors: &mut E)
     send_line(errors, OUT_OF_MEMORY.as_bytes());
 }
 
-/// Reports that the arguments are not supported.
-pub(crate) fn tell_unsupported_words<E: Sink>(errors: &mut E)
+/// Reports that an argument is no text.
+pub(crate) fn report_words<E: Sink>(errors: &mut E)
     requires { E.failed errors.old < 2 ^ 64 - 1 }
     ensures told { Told E.taken E.failed errors.old errors.new words_line }
     ensures short { E.longest errors.new ≤ max (E.longest errors.old) ROOM }
 {
-    send_line(errors, b"words not supported");
+    send_line(errors, b"an argument is not UTF-8 text");
+}
+
+/// Reports that the standard output takes no help text.
+pub(crate) fn report_unwritten<E: Sink>(errors: &mut E)
+    requires { E.failed errors.old < 2 ^ 64 - 1 }
+    ensures told { Told E.taken E.failed errors.old errors.new (line_of (codes "-: ") (codes "cannot write")) }
+    ensures short { E.longest errors.new ≤ max (E.longest errors.old) ROOM }
+{
+    send_line(errors, b"-: cannot write");
+}
+
+/// Reports why arguments are refused.
+pub(crate) fn report_usage<E: Sink>(errors: &mut E, usage: &Usage)
+    requires { E.failed errors.old < 2 ^ 64 - 1 }
+    ensures told { Told E.taken E.failed errors.old errors.new (usage_text usage.now) }
+    ensures short { E.longest errors.new ≤ max (E.longest errors.old) ROOM }
+{
+    match usage {
+        Usage::Words(text) => send(errors, text.as_bytes()),
+        Usage::KeepMapNeedsBinary => send_line(errors, b"--keep-map needs binary output"),
+        Usage::KeepMapExcludesStrip => send_line(errors, b"--keep-map excludes --strip"),
+        Usage::KeepMapExcludesUndoMap => send_line(errors, b"--keep-map excludes --undo-map"),
+        Usage::CompressedOutput => send_line(errors, b"compressed output is not supported"),
+        Usage::OutOfMemory => report_memory(errors),
+    }
 }
 
 /// Puts what is wrong.
@@ -58,18 +109,30 @@ fn put_error<E: Sink>(block: &mut Block, errors: &mut E, fault: &ToolFault)
     }
 }
 
-/// Reports a fault of a run over the standard streams.
-pub(crate) fn tell_fault<E: Sink>(errors: &mut E, fault: &ToolFault)
+/// The name of the file or stream that is at fault, unless memory ran out.
+fn name_at_fault<'a>(request: &'a ToAig, fault: &ToolFault) -> &'a str
+    ensures { result.now ≡ name_at request.now (at_fault fault.now) }
+{
+    match fault {
+        ToolFault::Sink => shown(&request.destination),
+        _ => shown(&request.source),
+    }
+}
+
+/// Reports the error of a conversion.
+pub(crate) fn report_error<E: Sink>(errors: &mut E, request: &ToAig, fault: &ToolFault)
     requires { E.failed errors.old < 2 ^ 64 - 1 }
-    ensures told { Told E.taken E.failed errors.old errors.new (error_line fault.now) }
+    ensures told { Told E.taken E.failed errors.old errors.new (error_line request.now fault.now) }
     ensures short { E.longest errors.new ≤ max (E.longest errors.old) ROOM }
 {
     if fault.is_want_of_memory() {
-        tell_want_of_memory(errors);
+        report_memory(errors);
         return;
     }
     let mut block = Block::new();
-    block.put(errors, b"aiger: -: ");
+    block.put(errors, b"aiger: ");
+    block.put(errors, name_at_fault(request, fault).as_bytes());
+    block.put(errors, b": ");
     put_error(&mut block, errors, fault);
     block.put(errors, b"\n");
     let _sent = block.flush(errors);

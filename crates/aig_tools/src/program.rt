@@ -1,57 +1,92 @@
 //! What the program does with its arguments.
-ghost use Rattle.std.specs.Prelude.{◌≡◌, ◌-◌, ◌^◌, ◌<◌, ◌≤◌, ◌↔◌, max, IfErr, IfSome, None, OnOk};
+ghost use Rattle.std.specs.Prelude.{◌≡◌, ◌-◌, ◌^◌, ◌<◌, ◌≤◌, None, max};
 ghost use Rattle.aig_core.specs.declared.block.TheConstants.{ROOM};
-ghost use Rattle.aig_tools.specs.Messages.{error_line, memory_line, Told, words_line};
-ghost use Rattle.aig_tools.specs.Outcome.{Done, NotDone};
-ghost use Rattle.aig_tools.specs.Possible.{CanAsk};
-ghost use Rattle.aig_tools.specs.Words.{request_of, texts};
-ghost use Rattle.aig_tools.specs.declared.fault.ToolFault.{ToolFault as Error};
+ghost use Rattle.aig_command.specs.Answer.{texts};
+ghost use Rattle.aig_tools.specs.Ending.{ConversionEnds, Ends, HelpEnds, RefusalEnds, status_of};
+ghost use Rattle.aig_tools.specs.Messages.{memory_line, Told, usage_text, words_line};
+ghost use Rattle.aig_command.specs.Answer.{IsKeptAlone};
 
-use crate::conversion::run_toaig;
-use crate::fault::ToolFault;
-use crate::message::{tell_fault, tell_unsupported_words, tell_want_of_memory};
-use crate::request::Request;
-use crate::words::parse;
-use aig_core::{Sink, Source};
+use crate::message::{report_error, report_memory, report_unwritten, report_usage, report_words};
+use crate::named::convert;
+use aig_command::{Command, ToAig, Usage, command};
+use aig_core::{Block, Sink, Source};
+use aig_files::{FileAccess, HostFiles};
 use std::alloc::Global;
 use std::rt::Files;
 
 /// Done as asked.
 const DONE: u8 = 0;
 
-/// An error in the input, a device that failed, or out of memory.
+/// Refused input, a device that failed, or out of memory.
 const FAILED: u8 = 1;
 
-/// A command line that is not supported.
-const NOT_UNDERSTOOD: u8 = 2;
+/// Refused arguments.
+const REFUSED: u8 = 2;
 
-/// Runs the request.
-fn run<R: Source, W: Sink>(
+/// Converts as a request asks, reports an error, and answers the status.
+fn run_conversion<A: FileAccess, R: Source, W: Sink, E: Sink>(
     alloc: Global,
-    request: &Request,
+    access: &A,
+    request: &ToAig,
     input: &mut R,
     output: &mut W,
-) -> Result<(), ToolFault>
+    errors: &mut E,
+) -> u8
     requires input { R.failed input.old < 2 ^ 64 - 1 }
     requires output { W.failed output.old < 2 ^ 64 - 1 }
-    requires can_ask { CanAsk request.now }
-
-    ensures ok { OnOk result (Done request.now
-        R.coming R.failed input.old input.new W.taken W.failed output.old output.new) }
-    ensures err { IfErr result (λ error. NotDone request.now error
-        R.coming R.failed input.old input.new W.taken W.failed output.old output.new) }
+    requires errors { E.failed errors.old < 2 ^ 64 - 1 }
+    requires kept_alone { IsKeptAlone request.now }
+    ensures ends { ConversionEnds request.now (A.holds access.now) (A.made access.now)
+        R.coming R.failed input.old input.new W.taken W.longest W.failed output.old output.new
+        E.taken E.failed errors.old errors.new result }
     ensures short { W.longest output.new ≤ max (W.longest output.old) ROOM }
+    ensures short_told { E.longest errors.new ≤ max (E.longest errors.old) ROOM }
 {
-    match request {
-        Request::ToAig(request) => run_toaig(alloc, request, input, output),
+    match convert(alloc, access, request, input, output) {
+        Ok(()) => DONE,
+        Err(fault) => {
+            report_error(errors, request, &fault);
+            FAILED
+        }
     }
 }
 
-/// Does what the arguments request, the program's name first, over the three streams, and answers the status: 0 done, 1
-/// an error in the input, a device that failed or out of memory, 2 a command line that is not supported. An error is
-/// reported in one line on `errors`; whether `errors` takes that line changes nothing.
-pub fn start<T: Files, R: Source, W: Sink, E: Sink>(
-    _rt: &T,
+/// Writes a help text, and answers the status.
+fn help<W: Sink, E: Sink>(text: &str, output: &mut W, errors: &mut E) -> u8
+    requires output { W.failed output.old < 2 ^ 64 - 1 }
+    requires errors { E.failed errors.old < 2 ^ 64 - 1 }
+    ensures ends { HelpEnds text.now W.taken W.failed output.old output.new E.taken E.failed errors.old errors.new result }
+    ensures short { W.longest output.new ≤ max (W.longest output.old) ROOM }
+    ensures short_told { E.longest errors.new ≤ max (E.longest errors.old) ROOM }
+{
+    let mut block = Block::new();
+    block.put(output, text.as_bytes());
+    if block.flush(output).is_ok() {
+        return DONE;
+    }
+    report_unwritten(errors);
+    FAILED
+}
+
+/// Reports why arguments are refused, and answers the status.
+fn refuse<E: Sink>(errors: &mut E, usage: &Usage) -> u8
+    requires { E.failed errors.old < 2 ^ 64 - 1 }
+    ensures status { result ≡ status_of usage.now }
+    ensures told { Told E.taken E.failed errors.old errors.new (usage_text usage.now) }
+    ensures short { E.longest errors.new ≤ max (E.longest errors.old) ROOM }
+{
+    report_usage(errors, usage);
+    match usage {
+        Usage::OutOfMemory => FAILED,
+        _ => REFUSED,
+    }
+}
+
+/// Does what the arguments ask for, the program's name first, over the three streams and the files that they name, and answers
+/// the status: 0 done, 1 refused input, a device that failed or out of memory, 2 refused words. An error is reported on
+/// `errors`; whether `errors` takes that changes nothing.
+pub fn serve<A: FileAccess, R: Source, W: Sink, E: Sink>(
+    access: &A,
     alloc: Global,
     words: &[String],
     input: &mut R,
@@ -61,31 +96,42 @@ pub fn start<T: Files, R: Source, W: Sink, E: Sink>(
     requires input { R.failed input.old < 2 ^ 64 - 1 }
     requires output { W.failed output.old < 2 ^ 64 - 1 }
     requires errors { E.failed errors.old < 2 ^ 64 - 1 }
-
+    ensures ends { Ends (texts words.now) (A.holds access.now) (A.made access.now)
+        R.coming R.failed input.old input.new W.taken W.longest W.failed output.old output.new
+        E.taken E.failed errors.old errors.new result }
     ensures status { result ≤ 2 }
-    ensures done { result ≡ 0 → IfSome (request_of (texts words.now)) (λ request. Done request
-        R.coming R.failed input.old input.new W.taken W.failed output.old output.new) }
-    ensures done_quietly { result ≡ 0 → errors.new ≡ errors.old }
-    ensures failed { result ≡ 1 → IfSome (request_of (texts words.now)) (λ request. (error : Error)
-        × NotDone request error R.coming R.failed input.old input.new W.taken W.failed output.old output.new
-        × Told E.taken E.failed errors.old errors.new (error_line error)) }
-    ensures not_understood { (result ≡ 2) ↔ (request_of (texts words.now) ≡ None) }
-    ensures words_told { result ≡ 2 → Told E.taken E.failed errors.old errors.new words_line }
-    ensures untouched { result ≡ 2 → (input.new ≡ input.old) × (output.new ≡ output.old) }
     ensures short { W.longest output.new ≤ max (W.longest output.old) ROOM }
     ensures short_told { E.longest errors.new ≤ max (E.longest errors.old) ROOM }
 {
-    let Some(request) = parse(words) else {
-        tell_unsupported_words(errors);
-        return NOT_UNDERSTOOD;
-    };
-    match run(alloc, &request, input, output) {
-        Ok(()) => DONE,
-        Err(fault) => {
-            tell_fault(errors, &fault);
-            FAILED
+    match command(alloc, words) {
+        Ok(Command::ToAig(request)) => {
+            run_conversion(alloc, access, &request, input, output, errors)
         }
+        Ok(Command::Help(text)) => help(text.as_str(), output, errors),
+        Err(usage) => refuse(errors, &usage),
     }
+}
+
+/// As `serve`, over the files of the runtime.
+pub fn start<T: Files, R: Source, W: Sink, E: Sink>(
+    rt: &T,
+    alloc: Global,
+    words: &[String],
+    input: &mut R,
+    output: &mut W,
+    errors: &mut E,
+) -> u8
+    requires input { R.failed input.old < 2 ^ 64 - 1 }
+    requires output { W.failed output.old < 2 ^ 64 - 1 }
+    requires errors { E.failed errors.old < 2 ^ 64 - 1 }
+    ensures ends { Ends (texts words.now) (λ _. None) (λ _. None)
+        R.coming R.failed input.old input.new W.taken W.longest W.failed output.old output.new
+        E.taken E.failed errors.old errors.new result }
+    ensures status { result ≤ 2 }
+    ensures short { W.longest output.new ≤ max (W.longest output.old) ROOM }
+    ensures short_told { E.longest errors.new ≤ max (E.longest errors.old) ROOM }
+{
+    serve(&HostFiles::new(rt), alloc, words, input, output, errors)
 }
 
 /// Reports that an argument is no text, and answers the status.
@@ -93,17 +139,19 @@ pub fn refuse_words<E: Sink>(errors: &mut E) -> u8
     requires { E.failed errors.old < 2 ^ 64 - 1 }
     ensures status { result ≡ 2 }
     ensures told { Told E.taken E.failed errors.old errors.new words_line }
+    ensures short { E.longest errors.new ≤ max (E.longest errors.old) ROOM }
 {
-    tell_unsupported_words(errors);
-    NOT_UNDERSTOOD
+    report_words(errors);
+    REFUSED
 }
 
-/// Reports that an allocation failed before the arguments were there, and answers the status.
+/// Reports that memory ran out before the arguments were there, and answers the status.
 pub fn refuse_for_memory<E: Sink>(errors: &mut E) -> u8
     requires { E.failed errors.old < 2 ^ 64 - 1 }
     ensures status { result ≡ 1 }
     ensures told { Told E.taken E.failed errors.old errors.new memory_line }
+    ensures short { E.longest errors.new ≤ max (E.longest errors.old) ROOM }
 {
-    tell_want_of_memory(errors);
+    report_memory(errors);
     FAILED
 }

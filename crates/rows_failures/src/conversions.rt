@@ -1,4 +1,4 @@
-//! Conversions that no words ask for yet.
+//! A conversion whose request is made here, without a command line.
 use aig_core::{LARGEST, MemorySink, MemorySource};
 use aig_tools::{ToAig, run_toaig};
 use std::test::Fail;

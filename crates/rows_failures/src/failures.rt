@@ -99,7 +99,7 @@ fn texts(alloc: Global) -> Result<String, AllocError> {
 }
 
 /// The words of a row, what is read, and what is written.
-fn parts(row: &str) -> (&str, &[u8], &[u8]) {
+pub(crate) fn parts(row: &str) -> (&str, &[u8], &[u8]) {
     let (words, texts) = row
         .split_once('$')
         .unwrap_or(("aiger aigtoaig --ascii", row));

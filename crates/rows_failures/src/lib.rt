@@ -7,6 +7,8 @@ mod conversions;
 #[cfg(test)]
 mod failures;
 #[cfg(test)]
+mod files;
+#[cfg(test)]
 mod run;
 #[cfg(test)]
 mod streams;

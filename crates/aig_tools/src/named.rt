@@ -1,0 +1,97 @@
+//! Conversions between the devices that a request names: streams and files.
+ghost use Rattle.std.specs.Prelude.{◌≡◌, ◌-◌, ◌≤◌, ◌^◌, ◌<◌, IfErr, OnOk, max, true};
+ghost use Rattle.aig_core.specs.declared.block.TheConstants.{ROOM};
+ghost use Rattle.aig_command.specs.Answer.{name_of};
+ghost use Rattle.aig_files.specs.Named.{FileSink, unwritten};
+ghost use Rattle.aig_tools.specs.Devices.{OfSink};
+ghost use Rattle.aig_tools.specs.Outcome.{Converted, Done, IsLeft, NotConverted, NotDone};
+ghost use Rattle.aig_command.specs.Answer.{IsKeptAlone};
+
+use crate::conversion::run_toaig;
+use crate::fault::ToolFault;
+use aig_command::ToAig;
+use aig_core::{Sink, Source};
+use aig_files::{FileAccess, NamedSink, NamedSource};
+use std::alloc::Global;
+
+/// Converts to the file with a name, and closes it.
+fn convert_to_file<A: FileAccess, S: Source>(
+    alloc: Global,
+    access: &A,
+    request: &ToAig,
+    source: &mut S,
+    name: &str,
+) -> Result<(), ToolFault>
+    requires source { S.failed source.old < 2 ^ 64 - 1 }
+    requires kept_alone { IsKeptAlone request.now }
+    ensures ok { OnOk result ((filled : FileSink)
+        × Converted request.now S.coming S.failed source.old source.new
+        (λ s. s.taken) (λ s. s.failures) (unwritten name.now (A.made access.now name.now)) filled
+        × (filled.longest ≤ max 0 ROOM) × (filled.closed ≡ true)) }
+    ensures err { IfErr result (λ error. (filled : FileSink)
+        × NotConverted request.now error S.coming S.failed source.old source.new
+        (λ s. s.taken) (λ s. s.failures) (unwritten name.now (A.made access.now name.now)) filled
+        × (filled.longest ≤ max 0 ROOM)) }
+{
+    let mut file = NamedSink::new(access, name);
+    run_toaig(alloc, request, source, &mut file)?;
+    // What a disk did not keep may show only now.
+    match file.close() {
+        Ok(()) => Ok(()),
+        Err(_) => Err(ToolFault::Sink),
+    }
+}
+
+/// Converts from a source to the destination that the request names.
+fn convert_from<A: FileAccess, S: Source, W: Sink>(
+    alloc: Global,
+    access: &A,
+    request: &ToAig,
+    source: &mut S,
+    output: &mut W,
+) -> Result<(), ToolFault>
+    requires source { S.failed source.old < 2 ^ 64 - 1 }
+    requires output { W.failed output.old < 2 ^ 64 - 1 }
+    requires kept_alone { IsKeptAlone request.now }
+    ensures ok { OnOk result (OfSink (A.made access.now) (name_of request.now.destination)
+        W.taken W.longest W.failed output.old output.new (λ X taken longest failed closed sink filled.
+        Converted request.now S.coming S.failed source.old source.new taken failed sink filled
+        × (longest filled ≤ max (longest sink) ROOM) × (closed filled ≡ true))) }
+    ensures err { IfErr result (λ error. OfSink (A.made access.now) (name_of request.now.destination)
+        W.taken W.longest W.failed output.old output.new (λ X taken longest failed closed sink filled.
+        NotConverted request.now error S.coming S.failed source.old source.new taken failed sink filled
+        × (longest filled ≤ max (longest sink) ROOM))) }
+    ensures output { IsLeft (name_of request.now.destination) output.old output.new }
+{
+    match &request.destination {
+        Some(name) => convert_to_file(alloc, access, request, source, name.as_str()),
+        None => run_toaig(alloc, request, source, output),
+    }
+}
+
+/// Converts from the source to the destination that the request names: `input` and `output` where it names no file.
+pub(crate) fn convert<A: FileAccess, R: Source, W: Sink>(
+    alloc: Global,
+    access: &A,
+    request: &ToAig,
+    input: &mut R,
+    output: &mut W,
+) -> Result<(), ToolFault>
+    requires input { R.failed input.old < 2 ^ 64 - 1 }
+    requires output { W.failed output.old < 2 ^ 64 - 1 }
+    requires kept_alone { IsKeptAlone request.now }
+    ensures ok { OnOk result (Done request.now (A.holds access.now) (A.made access.now)
+        R.coming R.failed input.old input.new W.taken W.longest W.failed output.old output.new) }
+    ensures err { IfErr result (λ error. NotDone request.now error (A.holds access.now) (A.made access.now)
+        R.coming R.failed input.old input.new W.taken W.longest W.failed output.old output.new) }
+    ensures input { IsLeft (name_of request.now.source) input.old input.new }
+    ensures output { IsLeft (name_of request.now.destination) output.old output.new }
+{
+    match &request.source {
+        Some(name) => {
+            let mut file = NamedSource::new(access, name.as_str());
+            convert_from(alloc, access, request, &mut file, output)
+        }
+        None => convert_from(alloc, access, request, input, output),
+    }
+}
