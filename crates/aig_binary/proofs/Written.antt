@@ -5,7 +5,7 @@ use Rattle.std.proofs.lemmas.List.Concat.{flat_map-append}
 use Rattle.std.proofs.lemmas.List.Folds.{flat_map-map}
 use Rattle.std.proofs.lemmas.List.Elements.{All-from_recursion}
 use Rattle.aig_core.specs.Literal.{literal_of}
-use Rattle.aig_core.specs.Output.{Held}
+use Rattle.aig_io.specs.Output.{Held}
 use Rattle.aig_core.specs.Wellformed.{IsWithinLimits}
 use Rattle.aig_core.specs.declared.circuit.TheConstants.{LARGEST}
 use Rattle.aig_core.specs.declared.circuit.Latch.{Latch}

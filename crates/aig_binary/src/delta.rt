@@ -1,6 +1,6 @@
 //! Deltas: the numbers of gates in a binary file, in groups of seven bits, the lowest group first.
 ghost use Rattle.std.specs.Prelude.{◌≡◌, ◌+◌, ◌*◌, ◌%◌, ◌++◌, ◌^◌, ◌<◌, ◌≤◌, ◌↔◌, ℕ, length, drop, min, None, Some, IfSome};
-ghost use Rattle.aig_core.specs.declared.block.TheConstants.{ROOM};
+ghost use Rattle.aig_io.specs.declared.block.TheConstants.{ROOM};
 ghost use Rattle.aig_text.specs.Outcomes.{Gives};
 ghost use Rattle.aig_binary.specs.Delta.{BeginsWithDelta, delta_at, shortest_delta};
 ghost use Rattle.aig_binary.specs.declared.delta.TheConstants.{LONGEST};

@@ -9,15 +9,8 @@ pub mod Cyclic
 pub mod Steps
 pub mod Sets
 pub mod Members
-pub mod Told
 pub mod Trees
 pub mod InForm
-pub mod DigitCounts
-pub mod DigitWords
-pub mod LeadingDigits
-pub mod Outgoing
-pub mod Puts
-pub mod Filled
 pub mod Sections
 pub mod Faultless
 pub mod Reported

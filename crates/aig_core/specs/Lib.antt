@@ -10,10 +10,4 @@ pub mod Users
 pub mod Ready
 pub mod Progress
 pub mod Laws
-pub mod Transfer
-pub mod Output
-pub mod Digits
-pub mod Failures
-pub mod Memory
-pub mod Streams
 pub mod Parts

@@ -4,9 +4,9 @@ use Rattle.std.specs.List.{flat_map}
 use Rattle.std.proofs.lemmas.List.{take_more}
 use Rattle.std.proofs.lemmas.List.Concat.{flat_map-append}
 use Rattle.std.proofs.lemmas.List.Folds.{flat_map-map}
-use Rattle.aig_core.specs.Output.{Out, Put}
+use Rattle.aig_io.specs.Output.{Out, Put}
 use Rattle.aig_core.specs.declared.circuit.Circuit.{Circuit}
-use Rattle.aig_core.proofs.Puts.{put_twice}
+use Rattle.aig_io.proofs.Puts.{put_twice}
 use Rattle.aig_text.specs.AsciiText.{spaced_number, more_numbers_text, numbers_text, line_text}
 use Rattle.aig_text.specs.Rows.{rows_of, row, input_form, latch_form, output_form, gate_form, input_row, latch_row, output_row, gate_row}
 

@@ -1,6 +1,6 @@
 //! What messages are made of.
 ghost use Rattle.std.specs.Prelude.{◌≡◌, ◌++◌, ◌+◌, ◌-◌, ◌^◌, ◌<◌, Some, decimal};
-ghost use Rattle.aig_core.specs.Output.{CanFail, out, Put};
+ghost use Rattle.aig_io.specs.Output.{CanFail, out, Put};
 ghost use Rattle.aig_text.specs.Messages.{message_text, number_text};
 
 use aig_core::{Block, Sink};

@@ -2,9 +2,9 @@
 use Rattle.std.proofs.Common.{◌≡◌, ◌+◌, ◌++◌, ◌⊎◌, ◌∙◌, List, [], ℕ, Bool, true, false, codes, append-nil}
 use Rattle.std.proofs.Common.{Result, Ok, Err, ap, inl, inr, is_err, is_ok, refl, subst, sym}
 use Rattle.std.specs.Io.KnownBytes.{Appends}
-use Rattle.aig_core.specs.Output.{nothing_held, Out, Put}
-use Rattle.aig_core.specs.Transfer.{TookBeginning}
-use Rattle.aig_core.proofs.Puts.{beginning_sent, put_twice}
+use Rattle.aig_io.specs.Output.{nothing_held, Out, Put}
+use Rattle.aig_io.specs.Transfer.{TookBeginning}
+use Rattle.aig_io.proofs.Puts.{beginning_sent, put_twice}
 use Rattle.aig_command.specs.declared.request.ToAig.{ToAig}
 use Rattle.aig_tools.specs.Blame.{Party, TheSource, TheSink, Memory, TheInput}
 use Rattle.aig_tools.specs.Messages.{line_about, line_of, name_at}

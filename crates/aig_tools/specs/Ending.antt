@@ -1,7 +1,7 @@
 -- How a call of the program ends: its status, and what it did to its streams (this project's profile).
 use Rattle.std.specs.Prelude.{◌≡◌, ◌+◌, ◌⊎◌, ℕ, List, Option, Result, Ok, Err, codes, string_bytes}
 use Rattle.std.specs.Io.KnownBytes.{Appends}
-use Rattle.aig_core.specs.Transfer.{TookBeginning}
+use Rattle.aig_io.specs.Transfer.{TookBeginning}
 use Rattle.aig_command.specs.Answer.{IsCommand, IsUsage, name_of}
 use Rattle.aig_command.specs.declared.request.Command.{Command}
 use Rattle.aig_command.specs.declared.request.Command.TheVariants as commands

@@ -1,7 +1,7 @@
 -- What is told on standard error, in one line (this project's profile).
 use Rattle.std.specs.Prelude.{◌≡◌, ◌+◌, ◌++◌, ◌⊎◌, ℕ, List, [], Option, codes, string_bytes}
 use Rattle.std.specs.Io.KnownBytes.{Appends}
-use Rattle.aig_core.specs.Transfer.{TookBeginning}
+use Rattle.aig_io.specs.Transfer.{TookBeginning}
 use Rattle.aig_text.specs.Messages.{fault_text}
 use Rattle.aig_order.specs.Messages.{map_fault_text}
 use Rattle.aig_tools.specs.declared.fault.ToolFault.{ToolFault}

@@ -2,7 +2,7 @@
 -- the bytes of a device that does not tell them.
 use Rattle.std.specs.Prelude.{◌≡◌, ◌+◌, ◌≤◌, ◌⊎◌, ℕ, List, Option, None, Some, IfSome, max, true, ⊤}
 use Rattle.std.specs.Io.KnownBytes.{Appends}
-use Rattle.aig_core.specs.Transfer.{GaveAll, GaveSome, TookBeginning}
+use Rattle.aig_io.specs.Transfer.{GaveAll, GaveSome, TookBeginning}
 use Rattle.aig_text.specs.declared.fault.ReadFault.{ReadFault}
 use Rattle.aig_text.specs.Reading.{IsFirstFault}
 use Rattle.aig_tools.specs.declared.fault.ToolFault.{ToolFault}
@@ -13,7 +13,7 @@ use Rattle.aig_order.specs.Undone.{IsMapFault}
 use Rattle.aig_tools.specs.File.{first_fault, IsFileOf}
 use Rattle.aig_tools.specs.declared.fault.ToolFault.TheVariants as faults
 use Rattle.aig_core.specs.declared.circuit.Circuit.{Circuit}
-use Rattle.aig_core.specs.declared.block.TheConstants.{ROOM}
+use Rattle.aig_io.specs.declared.block.TheConstants.{ROOM}
 use Rattle.aig_command.specs.Answer.{name_of}
 use Rattle.aig_tools.specs.Devices.{OfSink, OfSource}
 use Rattle.aig_tools.specs.Conversion.{IsConversionText, IsTextAs}

@@ -1,6 +1,6 @@
 -- The faults of the parts as faults of a tool.
-use Rattle.aig_core.specs.declared.transfer.ReadError.{ReadError}
-use Rattle.aig_core.specs.declared.transfer.ReadError.TheVariants as errors
+use Rattle.aig_io.specs.declared.transfer.ReadError.{ReadError}
+use Rattle.aig_io.specs.declared.transfer.ReadError.TheVariants as errors
 use Rattle.aig_tools.specs.declared.fault.ToolFault.{ToolFault}
 use Rattle.aig_tools.specs.declared.fault.ToolFault.TheVariants.{Source, OutOfMemory}
 

@@ -1,7 +1,7 @@
 //! `aigtoaig`: conversion of AIGER files.
 ghost use Rattle.std.specs.Io.KnownBytes.{Appends};
 ghost use Rattle.std.specs.Prelude.{◌≡◌, ◌+◌, ◌-◌, ◌^◌, ◌<◌, ◌≤◌, ◌⊎◌, max, ℕ, List, false, true, IfErr, IfOk, OnOk};
-ghost use Rattle.aig_core.specs.declared.block.TheConstants.{ROOM};
+ghost use Rattle.aig_io.specs.declared.block.TheConstants.{ROOM};
 ghost use Rattle.aig_order.specs.Undone.{IsMapFault};
 ghost use Rattle.aig_tools.specs.Conversion.{IsImageAs, IsSource, IsTextAs, changed};
 ghost use Rattle.aig_tools.specs.Outcome.{Converted, NotConverted, NotWritten};

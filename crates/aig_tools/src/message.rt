@@ -1,8 +1,8 @@
 //! What is reported on standard error. Whether it could be sent changes nothing: there is no other place to report it.
 //! Formatting and sending take no memory, so that out of memory can be reported too.
 ghost use Rattle.std.specs.Prelude.{◌≡◌, ◌+◌, ◌-◌, ◌^◌, ◌<◌, ◌≤◌, [], codes, max};
-ghost use Rattle.aig_core.specs.Output.{CanFail, out, Put};
-ghost use Rattle.aig_core.specs.declared.block.TheConstants.{ROOM};
+ghost use Rattle.aig_io.specs.Output.{CanFail, out, Put};
+ghost use Rattle.aig_io.specs.declared.block.TheConstants.{ROOM};
 ghost use Rattle.aig_command.specs.Answer.{name_of};
 ghost use Rattle.aig_tools.specs.Blame.{at_fault};
 ghost use Rattle.aig_tools.specs.Devices.{shown};

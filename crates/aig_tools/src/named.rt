@@ -1,6 +1,6 @@
 //! Conversions between the devices that a request names: streams and files.
 ghost use Rattle.std.specs.Prelude.{◌≡◌, ◌-◌, ◌≤◌, ◌^◌, ◌<◌, IfErr, OnOk, max, true};
-ghost use Rattle.aig_core.specs.declared.block.TheConstants.{ROOM};
+ghost use Rattle.aig_io.specs.declared.block.TheConstants.{ROOM};
 ghost use Rattle.aig_command.specs.Answer.{name_of};
 ghost use Rattle.aig_files.specs.Named.{FileSink, unwritten};
 ghost use Rattle.aig_tools.specs.Devices.{OfSink};

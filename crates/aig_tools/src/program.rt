@@ -1,6 +1,6 @@
 //! What the program does with its arguments.
 ghost use Rattle.std.specs.Prelude.{◌≡◌, ◌-◌, ◌^◌, ◌<◌, ◌≤◌, None, max};
-ghost use Rattle.aig_core.specs.declared.block.TheConstants.{ROOM};
+ghost use Rattle.aig_io.specs.declared.block.TheConstants.{ROOM};
 ghost use Rattle.aig_command.specs.Answer.{texts};
 ghost use Rattle.aig_tools.specs.Ending.{ConversionEnds, Ends, HelpEnds, RefusalEnds, status_of};
 ghost use Rattle.aig_tools.specs.Messages.{memory_line, Told, usage_text, words_line};

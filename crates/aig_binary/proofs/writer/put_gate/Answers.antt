@@ -1,4 +1,4 @@
-use Rattle.aig_core.proofs.Puts.{put_held}
+use Rattle.aig_io.proofs.Puts.{put_held}
 use Rattle.aig_binary.proofs.Written.{filled_gate}
 use Rattle.aig_binary.proofs.writer.put_gate.Goals as goal
 

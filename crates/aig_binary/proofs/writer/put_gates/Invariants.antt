@@ -1,6 +1,6 @@
 use Rattle.std.proofs.Common.{take}
 use Rattle.std.specs.List.{flat_map}
-use Rattle.aig_core.specs.Output.{out, Put}
+use Rattle.aig_io.specs.Output.{out, Put}
 use Rattle.aig_binary.specs.BinaryText.{gate_text}
 use Rattle.aig_binary.proofs.writer.put_gates.Given as goal
 

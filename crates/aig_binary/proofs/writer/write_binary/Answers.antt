@@ -1,5 +1,5 @@
-use Rattle.aig_core.proofs.Outgoing.{failed_by}
-use Rattle.aig_core.proofs.Puts.{beginning_sent}
+use Rattle.aig_io.proofs.Outgoing.{failed_by}
+use Rattle.aig_io.proofs.Puts.{beginning_sent}
 use Rattle.aig_binary.proofs.writer.write_binary.Goals as goal
 
 pub returns-in_err-flush-clause-err : goal.returns-in_err-flush-clause-err

@@ -1,4 +1,4 @@
-use Rattle.aig_core.proofs.Puts.{put_twice}
+use Rattle.aig_io.proofs.Puts.{put_twice}
 use Rattle.aig_text.proofs.writer.put_numbers.Goals as goal
 
 pub returns-else-others-le-FEW : goal.returns-else-others-le-FEW

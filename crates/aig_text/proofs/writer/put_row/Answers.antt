@@ -1,4 +1,4 @@
-use Rattle.aig_core.proofs.Puts.{put_held}
+use Rattle.aig_io.proofs.Puts.{put_held}
 use Rattle.aig_text.proofs.Written.{more_text}
 use Rattle.aig_text.proofs.writer.put_row.Goals as goal
 

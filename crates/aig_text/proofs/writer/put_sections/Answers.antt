@@ -1,4 +1,4 @@
-use Rattle.aig_core.proofs.Puts.{put_twice}
+use Rattle.aig_io.proofs.Puts.{put_twice}
 use Rattle.aig_text.proofs.Written.{sections_text}
 use Rattle.aig_text.proofs.writer.put_sections.Goals as goal
 

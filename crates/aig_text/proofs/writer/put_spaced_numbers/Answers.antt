@@ -1,5 +1,5 @@
 use Rattle.std.proofs.Common.{arith, refl}
-use Rattle.aig_core.proofs.Puts.{can_still, put_nothing}
+use Rattle.aig_io.proofs.Puts.{can_still, put_nothing}
 use Rattle.aig_text.specs.AsciiText.{spaced_number}
 use Rattle.aig_text.proofs.Written.{put_more}
 use Rattle.aig_text.proofs.writer.put_spaced_numbers.Goals as goal

@@ -1,5 +1,5 @@
 use Rattle.std.proofs.Common.{arith}
-use Rattle.aig_core.proofs.Puts.{can_still, put_nothing}
+use Rattle.aig_io.proofs.Puts.{can_still, put_nothing}
 use Rattle.aig_text.specs.AsciiText.{symbol_text}
 use Rattle.aig_text.proofs.Written.{put_more}
 use Rattle.aig_text.proofs.writer.put_symbols.Goals as goal

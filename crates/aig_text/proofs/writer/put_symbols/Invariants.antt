@@ -1,6 +1,6 @@
 use Rattle.std.proofs.Common.{take}
 use Rattle.std.specs.List.{flat_map}
-use Rattle.aig_core.specs.Output.{out, Put}
+use Rattle.aig_io.specs.Output.{out, Put}
 use Rattle.aig_text.specs.AsciiText.{symbol_text}
 use Rattle.aig_text.proofs.writer.put_symbols.Given as goal
 

@@ -1,4 +1,4 @@
-use Rattle.aig_core.proofs.Puts.{put_twice}
+use Rattle.aig_io.proofs.Puts.{put_twice}
 use Rattle.aig_tools.proofs.message.put_error.Goals as goal
 
 pub returns-in-Read : goal.returns-in-Read

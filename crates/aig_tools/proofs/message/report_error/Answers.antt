@@ -1,6 +1,6 @@
 use Rattle.std.proofs.Common.{◌≡◌, ◌∙◌, refl, sym}
 use Rattle.std.proofs.lemmas.Bool.{false≢true}
-use Rattle.aig_core.proofs.Puts.{put_twice}
+use Rattle.aig_io.proofs.Puts.{put_twice}
 use Rattle.aig_tools.specs.Blame.{at_fault, Memory}
 use Rattle.aig_tools.specs.Messages.{error_text}
 use Rattle.aig_tools.proofs.Lines.{line_of_a_file, told_by}

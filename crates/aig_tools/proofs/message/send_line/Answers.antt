@@ -1,5 +1,5 @@
 use Rattle.std.proofs.Common.{refl}
-use Rattle.aig_core.proofs.Puts.{put_twice}
+use Rattle.aig_io.proofs.Puts.{put_twice}
 use Rattle.aig_tools.proofs.Lines.{told_by}
 use Rattle.aig_tools.proofs.message.send_line.Goals as goal
 

@@ -1,0 +1,15 @@
+-- How full a block is after a put.
+use Rattle.std.proofs.Common.{◌≡◌, ◌+◌, ◌-◌, ◌%◌, ◌<◌, ◌≤◌, ℕ, arith}
+use Rattle.aig_io.specs.declared.block.TheConstants.{ROOM}
+
+-- n bytes more were put into a block that held some, or was emptied first since it was full
+pub left_more : (start at n held left : ℕ) → held ≤ ROOM → (at ≡ 0 → held ≡ start)
+    → (0 < at → held ≡ (start + at - 1) % ROOM + 1) → (held < ROOM → left ≡ held + n) → (ROOM ≤ held → left ≡ n)
+    → 0 < n → left ≤ ROOM → left ≡ (start + (at + n) - 1) % ROOM + 1
+left_more start at n held left short first before added emptied some room =
+    grind (arith, short, first, before, added, emptied, some, room)
+
+-- where n bytes more fit as well, the block is not full yet
+pub room_still : (start at n held : ℕ) → (at ≡ 0 → held ≡ start) → (0 < at → held ≡ (start + at - 1) % ROOM + 1)
+    → 0 < n → start + (at + n) ≤ ROOM → held < ROOM
+room_still start at n held first before some fits = grind (arith, first, before, some, fits)

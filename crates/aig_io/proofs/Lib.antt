@@ -1,0 +1,7 @@
+pub mod Told
+pub mod DigitCounts
+pub mod DigitWords
+pub mod LeadingDigits
+pub mod Outgoing
+pub mod Puts
+pub mod Filled

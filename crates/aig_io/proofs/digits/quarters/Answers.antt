@@ -1,0 +1,5 @@
+use Rattle.aig_io.proofs.DigitWords.{quarters_are}
+use Rattle.aig_io.proofs.digits.quarters.Goals as goal
+
+pub returns : goal.returns
+returns c = λ a b. quarters_are a b c.args.halves

@@ -1,0 +1,204 @@
+//! Devices in memory.
+ghost use Rattle.std.specs.Prelude.{◌≡◌, ◌+◌, ◌-◌, ◌^◌, ◌<◌, ◌≤◌, ◌↔◌, ℕ, Some, IsTrue, MatchResult, IfOk, OnErr};
+ghost use Rattle.std.specs.Prelude.{is_ok, true, false, drop, take, length, max, vec_len, vec_capacity};
+ghost use Rattle.std.specs.Prelude.{if◌then◌else◌};
+ghost use Rattle.std.specs.Io.KnownBytes.{WriteAppends, ReadConsumes};
+ghost use Rattle.aig_io.specs.Memory.{accepted, after_failed_fetch, after_failed_send, after_giving};
+ghost use Rattle.aig_io.specs.Memory.{after_taking, given, is_due, new_sink, new_source, one_call_later};
+
+use crate::device::{DeviceFault, Sink, Source};
+use std::alloc::{AllocError, Global};
+use std::marker::Model;
+
+/// A source that gives the bytes of a vector, at most `piece` in each call. One call may be chosen to fail.
+#[derive(Drop)]
+pub struct MemorySource {
+    bytes: Vec<u8>,
+    at: usize,
+    piece: usize,
+    calls_before: Option<u64>,
+    failures: u64,
+}
+
+impl Model for MemorySource {
+    ghost use Rattle.std.specs.Prelude.{drop, vec_len, ◌<◌, ◌≤◌, ◌^◌};
+    ghost use Rattle.aig_io.specs.Memory.{SourceInMemory};
+
+    ghost Value = { SourceInMemory };
+
+    ghost view = { λ s. record {
+      coming = drop s.at s.bytes.items;
+      piece = s.piece;
+      fails_in = s.calls_before;
+      failures = s.failures;
+    } };
+
+    ghost invariant = { λ s. (vec_len s.bytes ≤ 2 ^ 62) × (s.at ≤ vec_len s.bytes) × (0 < s.piece) };
+}
+
+impl MemorySource {
+    /// A source of these bytes. The call numbered `fails_at` fails, counted from 1; with 0 no call fails.
+    pub fn new(bytes: Vec<u8>, piece: usize, fails_at: u64) -> Self
+        requires limited { vec_len bytes ≤ 2 ^ 62 }
+        requires moves { 0 < piece }
+        ensures { result ≡ new_source bytes.items piece fails_at }
+    {
+        MemorySource {
+            bytes,
+            at: 0,
+            piece,
+            calls_before: fails_at.checked_sub(1),
+            failures: 0,
+        }
+    }
+}
+
+/// Whether this call is the one that fails; counts the calls before it down.
+fn fails_now(calls_before: &mut Option<u64>) -> bool
+    ensures answer { result ≡ is_due calls_before.old }
+    ensures counted { calls_before.new ≡ one_call_later calls_before.old }
+{
+    match *calls_before {
+        None => false,
+        Some(calls) => {
+            *calls_before = calls.checked_sub(1);
+            calls == 0
+        }
+    }
+}
+
+impl Source for MemorySource {
+    ghost coming = { λ s. Some s.coming };
+
+    ghost bound = { λ s. length s.coming };
+
+    ghost failed = { λ s. s.failures };
+
+    fn fetch(&mut self, into: &mut [u8]) -> Result<usize, DeviceFault>
+        requires room { 0 < length into.old }
+        requires countable { self.old.failures < 2 ^ 64 - 1 }
+        ensures within { IfOk result (λ n. n ≤ length into.new) }
+        ensures bytes { ReadConsumes (Some self.old.coming) (Some self.new.coming) result into.new }
+        ensures limited { length self.old.coming ≤ 2 ^ 62 }
+        ensures bound { MatchResult result (λ n. length self.new.coming + n ≤ length self.old.coming)
+            (λ _. length self.new.coming ≤ length self.old.coming) }
+        ensures failed { self.new.failures ≡ self.old.failures + (if is_ok result then 0 else 1) }
+        ensures chosen { IsTrue (is_ok result) ↔ (is_due self.old.fails_in ≡ false) }
+        ensures count { IfOk result (λ n. n ≡ given self.old (length into.old)) }
+        ensures ok { IfOk result (λ n. self.new ≡ after_giving self.old n) }
+        ensures err { OnErr result (self.new ≡ after_failed_fetch self.old) }
+    {
+        if fails_now(&mut self.calls_before) {
+            self.failures += 1;
+            return Err(DeviceFault);
+        }
+        let count = self.piece.min(into.len()).min(self.bytes.len() - self.at);
+        into[..count].copy_from_slice(&self.bytes[self.at..self.at + count]);
+        self.at += count;
+        Ok(count)
+    }
+
+    fn failures(&self) -> u64 {
+        self.failures
+    }
+}
+
+/// A sink that keeps what it took. It has room for so many bytes, and takes at most `piece` in each call. One call
+/// may be chosen to fail, and where no room is left each call fails.
+#[derive(Drop)]
+pub struct MemorySink {
+    taken: Vec<u8>,
+    room: usize,
+    piece: usize,
+    longest: usize,
+    calls_before: Option<u64>,
+    failures: u64,
+}
+
+impl Model for MemorySink {
+    ghost use Rattle.std.specs.Prelude.{vec_len, vec_capacity, ◌<◌, ◌≤◌, ◌+◌};
+    ghost use Rattle.aig_io.specs.Memory.{SinkInMemory};
+
+    ghost Value = { SinkInMemory };
+
+    ghost view = { λ s. record {
+      taken = s.taken.items;
+      room = s.room;
+      piece = s.piece;
+      longest = s.longest;
+      fails_in = s.calls_before;
+      failures = s.failures;
+    } };
+
+    ghost invariant = { λ s. (vec_len s.taken + s.room ≤ vec_capacity s.taken) × (0 < s.piece) };
+}
+
+impl MemorySink {
+    /// A sink that allocates its room here, unless that fails, and never grows. The call numbered `fails_at`
+    /// fails, counted from 1; with 0 no call is chosen.
+    pub fn new(alloc: Global, room: usize, piece: usize, fails_at: u64) -> Result<Self, AllocError>
+        requires { 0 < piece }
+        ensures { IfOk result (λ s. s ≡ new_sink room piece fails_at) }
+    {
+        Ok(MemorySink {
+            taken: Vec::with_capacity(alloc, room)?,
+            room,
+            piece,
+            longest: 0,
+            calls_before: fails_at.checked_sub(1),
+            failures: 0,
+        })
+    }
+
+    /// The bytes that it took.
+    pub fn taken(&self) -> &[u8]
+        ensures { result.now ≡ self.now.taken }
+    {
+        self.taken.as_slice()
+    }
+
+    /// How many bytes the longest slice had that it was handed.
+    pub fn longest(&self) -> usize
+        ensures { result ≡ self.now.longest }
+    {
+        self.longest
+    }
+}
+
+impl Sink for MemorySink {
+    ghost taken = { λ s. Some s.taken };
+
+    ghost longest = { λ s. s.longest };
+
+    ghost failed = { λ s. s.failures };
+
+    fn send(&mut self, bytes: &[u8]) -> Result<usize, DeviceFault>
+        requires some { 0 < length bytes.now }
+        requires countable { self.old.failures < 2 ^ 64 - 1 }
+        ensures within { IfOk result (λ n. n ≤ length bytes.now) }
+        ensures moves { IfOk result (λ n. 0 < n) }
+        ensures bytes { WriteAppends (Some self.old.taken) (Some self.new.taken) result bytes.now }
+        ensures longest { self.new.longest ≡ max self.old.longest (length bytes.now) }
+        ensures failed { self.new.failures ≡ self.old.failures + (if is_ok result then 0 else 1) }
+        ensures chosen { IsTrue (is_ok result) ↔ ((is_due self.old.fails_in ≡ false) × (0 < self.old.room)) }
+        ensures count { IfOk result (λ n. n ≡ accepted self.old bytes.now) }
+        ensures ok { IfOk result (λ n. self.new ≡ after_taking self.old bytes.now n) }
+        ensures err { OnErr result (self.new ≡ after_failed_send self.old bytes.now) }
+    {
+        self.longest = self.longest.max(bytes.len());
+        let count = self.piece.min(bytes.len()).min(self.room);
+        if fails_now(&mut self.calls_before) || count == 0 {
+            self.failures += 1;
+            return Err(DeviceFault);
+        }
+        if self.taken.extend_from_slice(&bytes[..count]).is_err() {
+            unreachable!();
+        }
+        self.room -= count;
+        Ok(count)
+    }
+
+    fn failures(&self) -> u64 {
+        self.failures
+    }
+}
