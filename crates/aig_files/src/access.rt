@@ -2,7 +2,7 @@
 ghost use Rattle.std.specs.Io.KnownBytes.{Keeps};
 ghost use Rattle.std.specs.Prelude.{◌≡◌, ℕ, Bool, true, List, Option, None, IfOk, is_none};
 
-use aig_core::DeviceFault;
+use aig_io::DeviceFault;
 use std::fs::OpenFile;
 use std::io::{Read, Write};
 use std::rt::Files;

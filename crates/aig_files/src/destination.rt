@@ -4,7 +4,7 @@ ghost use Rattle.std.specs.Io.KnownBytes.{Keeps, WriteAppends};
 ghost use Rattle.aig_files.specs.Named.{bytes_of, unwritten};
 
 use crate::access::FileAccess;
-use aig_core::{DeviceFault, Sink};
+use aig_io::{DeviceFault, Sink};
 use std::io::Write;
 use std::marker::Model;
 

@@ -4,7 +4,7 @@ ghost use Rattle.std.specs.Io.KnownBytes.{ReadConsumes};
 ghost use Rattle.aig_files.specs.Named.{bytes_of, unread};
 
 use crate::access::FileAccess;
-use aig_core::{DeviceFault, Source};
+use aig_io::{DeviceFault, Source};
 use std::io::Read;
 use std::marker::Model;
 
