@@ -27,12 +27,12 @@ begun_by a b c text end start put sent =
     (beginning_sent a b c text start put sent end, begun.0)
 
 -- an empty block was sent with a line in it
-pub told_by : (a b c : Out) (line : List ℕ) (failed : Bool) → c.held.failed ≡ failed → a.held ≡ nothing_held
+pub reported_by : (a b c : Out) (line : List ℕ) (failed : Bool) → c.held.failed ≡ failed → a.held ≡ nothing_held
     → Put a b line → Put b c [] → c.held.bytes ≡ []
     → (Appends a.taken c.taken line × (c.failures ≡ a.failures))
     ⊎ (TookBeginning a.taken c.taken line × (c.failures ≡ a.failures + 1))
-told_by a b c line true end start put sent empty = inr (begun_by a b c line end start put sent)
-told_by a b c line false end start put sent empty = inl (taken_by a b c line end start put sent empty)
+reported_by a b c line true end start put sent empty = inr (begun_by a b c line end start put sent)
+reported_by a b c line false end start put sent empty = inl (taken_by a b c line end start put sent empty)
 
 -- where memory was not refused, the line names the file
 pub line_of_a_file : (request : ToAig) (party : Party) (text : List ℕ) → ¬ (party ≡ Memory)

@@ -1,5 +1,6 @@
 -- The devices that a command names: each is a stream, or a file with its name (this project's profile).
-use Rattle.std.specs.Prelude.{ℕ, List, Bool, true, Option, None, Some, codes}
+use Rattle.std.specs.Prelude.{◌≤◌, ℕ, List, Bool, true, max, Option, None, Some, codes}
+use Rattle.aig_io.specs.declared.block.TheConstants.{ROOM}
 use Rattle.aig_files.specs.Named.{FileSink, FileSource, unread, unwritten}
 
 -- a file by its name, and a stream by `-`
@@ -7,21 +8,71 @@ abbrev pub shown : Option (List ℕ) → List ℕ
 shown None = codes "-"
 shown (Some name) = name
 
--- What holds of the source that a command names, as it was before and as it is left: of the stream, where no file is
--- named, and else of the file with that name, which holds these bytes, where they are known.
-abbrev pub OfSource : {R : Type 0} → (List ℕ → Option (List ℕ)) → Option (List ℕ)
-    → (R → Option (List ℕ)) → (R → ℕ) → R → R
-    → ((S : Type 0) → (S → Option (List ℕ)) → (S → ℕ) → S → S → Type 0) → Type 0
-OfSource {R} holds None coming failed source left P = P R coming failed source left
-OfSource holds (Some name) coming failed source left P =
-    (rest : FileSource) × P FileSource (λ s. s.coming) (λ s. s.failures) (unread name (holds name)) rest
+-- a call's source, as it was before and as it is left: the bytes that it still gives, where they are known, and how often
+-- it failed
+pub record SourceUse (R : Type 0) : Type 0 where
+  pub coming : R → Option (List ℕ)
+  pub failures : R → ℕ
+  pub before : R
+  pub after : R
 
--- The same of the sink that a command names, and of whether it is closed, which a stream need not be. The file with that
--- name holds these bytes when it was just made, where they are known.
-abbrev pub OfSink : {W : Type 0} → (List ℕ → Option (List ℕ)) → Option (List ℕ)
-    → (W → Option (List ℕ)) → (W → ℕ) → (W → ℕ) → W → W
-    → ((S : Type 0) → (S → Option (List ℕ)) → (S → ℕ) → (S → ℕ) → (S → Bool) → S → S → Type 0) → Type 0
-OfSink {W} made None taken longest failed sink filled P = P W taken longest failed (λ _. true) sink filled
-OfSink made (Some name) taken longest failed sink filled P =
+abbrev pub source_use : {R : Type 0} → (R → Option (List ℕ)) → (R → ℕ) → R → R → SourceUse R
+source_use coming failures before after = record {
+  coming = coming;
+  failures = failures;
+  before = before;
+  after = after;
+}
+
+-- a call's sink, as it was before and as it is left: the bytes that it took, where they are known, the longest slice that it
+-- was handed, and how often it failed
+pub record SinkUse (W : Type 0) : Type 0 where
+  pub taken : W → Option (List ℕ)
+  pub longest : W → ℕ
+  pub failures : W → ℕ
+  pub before : W
+  pub after : W
+
+abbrev pub sink_use : {W : Type 0} → (W → Option (List ℕ)) → (W → ℕ) → (W → ℕ) → W → W → SinkUse W
+sink_use taken longest failures before after = record {
+  taken = taken;
+  longest = longest;
+  failures = failures;
+  before = before;
+  after = after;
+}
+
+-- no slice that the sink was handed is longer than a block
+abbrev pub IsSentInBlocks : {W : Type 0} → SinkUse W → Type 0
+IsSentInBlocks sink = sink.longest sink.after ≤ max (sink.longest sink.before) ROOM
+
+-- the files of the system by their names: the bytes that each holds, and those that it holds when it was just made, where
+-- they are known
+pub record FilesByName : Type 0 where
+  pub holds : List ℕ → Option (List ℕ)
+  pub made : List ℕ → Option (List ℕ)
+
+abbrev pub files_by_name : (List ℕ → Option (List ℕ)) → (List ℕ → Option (List ℕ)) → FilesByName
+files_by_name holds made = record { holds = holds; made = made }
+
+abbrev pub use_of_file_source : FileSource → FileSource → SourceUse FileSource
+use_of_file_source before after = source_use (λ s. s.coming) (λ s. s.failures) before after
+
+abbrev pub use_of_file_sink : FileSink → FileSink → SinkUse FileSink
+use_of_file_sink before after = sink_use (λ s. s.taken) (λ s. s.longest) (λ s. s.failures) before after
+
+-- What holds of the source that a command names: of the stream, where no file is named, and else of the file with that
+-- name, as it is before anything is read of it and as it is left.
+abbrev pub OfSource : {R : Type 0} → FilesByName → Option (List ℕ) → SourceUse R
+    → ((S : Type 0) → SourceUse S → Type 0) → Type 0
+OfSource {R} files None source P = P R source
+OfSource files (Some name) source P =
+    (rest : FileSource) × P FileSource (use_of_file_source (unread name (files.holds name)) rest)
+
+-- The same of the sink that a command names, and of whether it is closed, which a stream need not be.
+abbrev pub OfSink : {W : Type 0} → FilesByName → Option (List ℕ) → SinkUse W
+    → ((S : Type 0) → SinkUse S → (S → Bool) → Type 0) → Type 0
+OfSink {W} files None sink P = P W sink (λ _. true)
+OfSink files (Some name) sink P =
     (written : FileSink)
-    × P FileSink (λ s. s.taken) (λ s. s.longest) (λ s. s.failures) (λ s. s.closed) (unwritten name (made name)) written
+    × P FileSink (use_of_file_sink (unwritten name (files.made name)) written) (λ s. s.closed)

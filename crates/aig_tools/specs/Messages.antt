@@ -1,4 +1,4 @@
--- What is told on standard error, in one line (this project's profile).
+-- What is reported on standard error, in one line (this project's profile).
 use Rattle.std.specs.Prelude.{◌≡◌, ◌+◌, ◌++◌, ◌⊎◌, ℕ, List, [], Option, codes, string_bytes}
 use Rattle.std.specs.Io.KnownBytes.{Appends}
 use Rattle.aig_io.specs.Transfer.{TookBeginning}
@@ -11,7 +11,7 @@ use Rattle.aig_command.specs.declared.request.ToAig.{ToAig}
 use Rattle.aig_command.specs.declared.usage.Usage.{Usage}
 use Rattle.aig_command.specs.declared.usage.Usage.TheVariants as usages
 use Rattle.aig_tools.specs.Blame.{at_fault, Memory, Party, TheSink}
-use Rattle.aig_tools.specs.Devices.{shown}
+use Rattle.aig_tools.specs.Devices.{shown, SinkUse}
 
 -- a line of the program: what it is about, and what is wrong
 abbrev pub line_of : List ℕ → List ℕ → List ℕ
@@ -56,7 +56,9 @@ usage_text usages.CompressedOutput = line_of [] (codes "compressed output is not
 usage_text usages.OutOfMemory = memory_line
 
 -- the sink took the line, or it failed once and took a beginning of it
-abbrev pub Told : {E : Type 0} → (E → Option (List ℕ)) → (E → ℕ) → E → E → List ℕ → Type 0
-Told taken failed before after line =
-    (Appends (taken before) (taken after) line × (failed after ≡ failed before))
-    ⊎ (TookBeginning (taken before) (taken after) line × (failed after ≡ failed before + 1))
+abbrev pub IsReported : {E : Type 0} → SinkUse E → List ℕ → Type 0
+IsReported errors line =
+    (Appends (errors.taken errors.before) (errors.taken errors.after) line
+    × (errors.failures errors.after ≡ errors.failures errors.before))
+    ⊎ (TookBeginning (errors.taken errors.before) (errors.taken errors.after) line
+    × (errors.failures errors.after ≡ errors.failures errors.before + 1))

@@ -1,6 +1,6 @@
 -- What came of a request, for a source and what is left of it, and a sink and how it is filled then. Nothing is said of
 -- the bytes of a device that does not tell them.
-use Rattle.std.specs.Prelude.{◌≡◌, ◌+◌, ◌≤◌, ◌⊎◌, ℕ, List, Option, None, Some, IfSome, max, true, ⊤}
+use Rattle.std.specs.Prelude.{◌≡◌, ◌+◌, ◌⊎◌, ℕ, List, Option, None, Some, IfSome, true, ⊤}
 use Rattle.std.specs.Io.KnownBytes.{Appends}
 use Rattle.aig_io.specs.Transfer.{GaveAll, GaveSome, TookBeginning}
 use Rattle.aig_text.specs.declared.fault.ReadFault.{ReadFault}
@@ -13,22 +13,19 @@ use Rattle.aig_order.specs.Undone.{IsMapFault}
 use Rattle.aig_tools.specs.File.{first_fault, IsFileOf}
 use Rattle.aig_tools.specs.declared.fault.ToolFault.TheVariants as faults
 use Rattle.aig_core.specs.declared.circuit.Circuit.{Circuit}
-use Rattle.aig_io.specs.declared.block.TheConstants.{ROOM}
 use Rattle.aig_command.specs.Answer.{name_of}
-use Rattle.aig_tools.specs.Devices.{OfSink, OfSource}
+use Rattle.aig_tools.specs.Devices.{FilesByName, IsSentInBlocks, OfSink, OfSource, SinkUse, SourceUse}
 use Rattle.aig_tools.specs.Conversion.{IsConversionText, IsTextAs}
 
 -- the source gave all its bytes, the sink took the conversion text of them, and neither failed
-pub record Converted {R W : Type 0} (request : ToAig)
-    (coming : R → Option (List ℕ)) (source_failed : R → ℕ) (source left : R)
-    (taken : W → Option (List ℕ)) (sink_failed : W → ℕ) (sink filled : W) : Type 0 where
+pub record Converted {R W : Type 0} (request : ToAig) (source : SourceUse R) (sink : SinkUse W) : Type 0 where
   pub bytes : List ℕ
   pub text : List ℕ
-  pub gave : GaveAll (coming source) (coming left) bytes
+  pub gave : GaveAll (source.coming source.before) (source.coming source.after) bytes
   pub is_text : IsConversionText request bytes text
-  pub took : Appends (taken sink) (taken filled) text
-  pub source_held : source_failed left ≡ source_failed source
-  pub sink_held : sink_failed filled ≡ sink_failed sink
+  pub took : Appends (sink.taken sink.before) (sink.taken sink.after) text
+  pub source_held : source.failures source.after ≡ source.failures source.before
+  pub sink_held : sink.failures sink.after ≡ sink.failures sink.before
 
 -- the source gave all its bytes, and the sink took a beginning of the conversion text of them
 pub record ConvertedInPart (request : ToAig) (coming left taken filled : Option (List ℕ)) : Type 0 where
@@ -55,11 +52,12 @@ pub record MapRefused (request : ToAig) (coming left : Option (List ℕ)) (fault
   pub is : IsMapFault found fault
 
 -- A circuit is not written: memory was refused and nothing was sent, or the sink failed and took a beginning of the text.
-abbrev pub NotWritten : {W : Type 0} → ToAig → Circuit → ToolFault → (W → Option (List ℕ)) → (W → ℕ) → W → W → Type 0
-NotWritten request written error taken sink_failed sink filled =
-    ((error ≡ faults.OutOfMemory) × (filled ≡ sink))
-    ⊎ ((error ≡ faults.Sink) × (sink_failed filled ≡ sink_failed sink + 1)
-    × ((text : List ℕ) × IsTextAs request.ascii request.keep_map written text × TookBeginning (taken sink) (taken filled) text))
+abbrev pub NotWritten : {W : Type 0} → ToAig → Circuit → ToolFault → SinkUse W → Type 0
+NotWritten request written error sink =
+    ((error ≡ faults.OutOfMemory) × (sink.after ≡ sink.before))
+    ⊎ ((error ≡ faults.Sink) × (sink.failures sink.after ≡ sink.failures sink.before + 1)
+    × ((text : List ℕ) × IsTextAs request.ascii request.keep_map written text
+    × TookBeginning (sink.taken sink.before) (sink.taken sink.after) text))
 
 -- the errors that a conversion can answer
 abbrev pub IsOfConversion : ToolFault → Type 0
@@ -71,42 +69,38 @@ IsOfConversion faults.OutOfMemory = ⊤
 
 -- what an error of a conversion says of its source and its sink
 pub record NotConverted {R W : Type 0} (request : ToAig) (error : ToolFault)
-    (coming : R → Option (List ℕ)) (source_failed : R → ℕ) (source left : R)
-    (taken : W → Option (List ℕ)) (sink_failed : W → ℕ) (sink filled : W) : Type 0 where
+    (source : SourceUse R) (sink : SinkUse W) : Type 0 where
   pub possible : IsOfConversion error
-  pub gave : GaveSome (coming source) (coming left)
-  pub refused : IfSome (text_fault error) (Refused request (coming source) (coming left))
-  pub map_refused : IfSome (map_fault error) (MapRefused request (coming source) (coming left))
+  pub gave : GaveSome (source.coming source.before) (source.coming source.after)
+  pub refused : IfSome (text_fault error)
+      (Refused request (source.coming source.before) (source.coming source.after))
+  pub map_refused : IfSome (map_fault error)
+      (MapRefused request (source.coming source.before) (source.coming source.after))
   -- Nothing is sent before all is read and found right.
-  pub unsent : (at_fault error ≡ TheSink) ⊎ (filled ≡ sink)
+  pub unsent : (at_fault error ≡ TheSink) ⊎ (sink.after ≡ sink.before)
   pub in_part : at_fault error ≡ TheSink
-      → ConvertedInPart request (coming source) (coming left) (taken sink) (taken filled)
+      → ConvertedInPart request (source.coming source.before) (source.coming source.after)
+      (sink.taken sink.before) (sink.taken sink.after)
   -- A device is at fault where its count of failures rose, which is by one.
-  pub source_count : source_failed left ≡ source_failed source + source_failures (at_fault error)
-  pub sink_count : sink_failed filled ≡ sink_failed sink + sink_failures (at_fault error)
+  pub source_count : source.failures source.after ≡ source.failures source.before + source_failures (at_fault error)
+  pub sink_count : sink.failures sink.after ≡ sink.failures sink.before + sink_failures (at_fault error)
 
 -- a stream in the place of which a file is named is left alone
-abbrev pub IsLeft : {X : Type 0} → Option (List ℕ) → X → X → Type 0
-IsLeft None before after = ⊤
-IsLeft (Some name) before after = after ≡ before
+abbrev pub IsUnusedWhere : {X : Type 0} → Option (List ℕ) → X → X → Type 0
+IsUnusedWhere None before after = ⊤
+IsUnusedWhere (Some name) before after = after ≡ before
 
 -- The conversion is done, from the source to the sink that the request names, and a file is closed. No slice that the
 -- sink was handed is longer than a block.
-abbrev pub Done : {R W : Type 0} → ToAig → (List ℕ → Option (List ℕ)) → (List ℕ → Option (List ℕ))
-    → (R → Option (List ℕ)) → (R → ℕ) → R → R
-    → (W → Option (List ℕ)) → (W → ℕ) → (W → ℕ) → W → W → Type 0
-Done request holds made coming source_failed source left taken longest sink_failed sink filled =
-    OfSource holds (name_of request.source) coming source_failed source left (λ R coming source_failed source left.
-    OfSink made (name_of request.destination) taken longest sink_failed sink filled (λ W taken longest sink_failed closed sink filled.
-    Converted request coming source_failed source left taken sink_failed sink filled
-    × (longest filled ≤ max (longest sink) ROOM) × (closed filled ≡ true)))
+abbrev pub Done : {R W : Type 0} → ToAig → FilesByName → SourceUse R → SinkUse W → Type 0
+Done request files source sink =
+    OfSource files (name_of request.source) source (λ R source.
+    OfSink files (name_of request.destination) sink (λ W sink closed.
+    Converted request source sink × IsSentInBlocks sink × (closed sink.after ≡ true)))
 
 -- what an error says where it is not done
-abbrev pub NotDone : {R W : Type 0} → ToAig → ToolFault → (List ℕ → Option (List ℕ)) → (List ℕ → Option (List ℕ))
-    → (R → Option (List ℕ)) → (R → ℕ) → R → R
-    → (W → Option (List ℕ)) → (W → ℕ) → (W → ℕ) → W → W → Type 0
-NotDone request error holds made coming source_failed source left taken longest sink_failed sink filled =
-    OfSource holds (name_of request.source) coming source_failed source left (λ R coming source_failed source left.
-    OfSink made (name_of request.destination) taken longest sink_failed sink filled (λ W taken longest sink_failed closed sink filled.
-    NotConverted request error coming source_failed source left taken sink_failed sink filled
-    × (longest filled ≤ max (longest sink) ROOM)))
+abbrev pub NotDone : {R W : Type 0} → ToAig → ToolFault → FilesByName → SourceUse R → SinkUse W → Type 0
+NotDone request error files source sink =
+    OfSource files (name_of request.source) source (λ R source.
+    OfSink files (name_of request.destination) sink (λ W sink closed.
+    NotConverted request error source sink × IsSentInBlocks sink))

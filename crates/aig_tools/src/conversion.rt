@@ -4,6 +4,7 @@ ghost use Rattle.std.specs.Prelude.{◌≡◌, ◌+◌, ◌-◌, ◌^◌, ◌<�
 ghost use Rattle.aig_io.specs.declared.block.TheConstants.{ROOM};
 ghost use Rattle.aig_order.specs.Undone.{IsMapFault};
 ghost use Rattle.aig_tools.specs.Conversion.{IsImageAs, IsSource, IsTextAs, changed};
+ghost use Rattle.aig_tools.specs.Devices.{sink_use, source_use};
 ghost use Rattle.aig_tools.specs.Outcome.{Converted, NotConverted, NotWritten};
 
 use crate::fault::ToolFault;
@@ -63,7 +64,8 @@ fn write<W: Sink>(
     requires { W.failed sink.old < 2 ^ 64 - 1 }
     ensures ok { OnOk result ((text : List ℕ) × IsTextAs request.now.ascii request.now.keep_map circuit text
         × Appends (W.taken sink.old) (W.taken sink.new) text × (W.failed sink.new ≡ W.failed sink.old)) }
-    ensures err { IfErr result (λ error. NotWritten request.now circuit error W.taken W.failed sink.old sink.new) }
+    ensures err { IfErr result (λ error. NotWritten request.now circuit error
+        (sink_use W.taken W.longest W.failed sink.old sink.new)) }
     ensures short { W.longest sink.new ≤ max (W.longest sink.old) ROOM }
 {
     if request.ascii {
@@ -88,11 +90,11 @@ pub fn run_toaig<R: Source, W: Sink>(
     requires sink { W.failed sink.old < 2 ^ 64 - 1 }
     requires kept_alone { request.now.keep_map ≡ true
         → (request.now.ascii ≡ false) × (request.now.strip ≡ false) × (request.now.undo_map ≡ false) }
-
-    ensures ok { OnOk result (Converted request.now
-        R.coming R.failed source.old source.new W.taken W.failed sink.old sink.new) }
+    ensures ok { OnOk result (Converted request.now (source_use R.coming R.failed source.old source.new)
+        (sink_use W.taken W.longest W.failed sink.old sink.new)) }
     ensures err { IfErr result (λ error. NotConverted request.now error
-        R.coming R.failed source.old source.new W.taken W.failed sink.old sink.new) }
+        (source_use R.coming R.failed source.old source.new)
+        (sink_use W.taken W.longest W.failed sink.old sink.new)) }
     ensures short { W.longest sink.new ≤ max (W.longest sink.old) ROOM }
 {
     let bytes = read_all(alloc, source)?;

@@ -5,9 +5,9 @@ ghost use Rattle.aig_io.specs.Output.{CanFail, out, Put};
 ghost use Rattle.aig_io.specs.declared.block.TheConstants.{ROOM};
 ghost use Rattle.aig_command.specs.Answer.{name_of};
 ghost use Rattle.aig_tools.specs.Blame.{at_fault};
-ghost use Rattle.aig_tools.specs.Devices.{shown};
+ghost use Rattle.aig_tools.specs.Devices.{shown, sink_use};
 ghost use Rattle.aig_tools.specs.Messages.{error_line, error_text, line_of, memory_line, name_at};
-ghost use Rattle.aig_tools.specs.Messages.{Told, usage_text, words_line};
+ghost use Rattle.aig_tools.specs.Messages.{IsReported, usage_text, words_line};
 
 use crate::fault::{CANNOT_READ, CANNOT_WRITE, OUT_OF_MEMORY, ToolFault};
 use aig_command::{ToAig, Usage};
@@ -26,7 +26,8 @@ fn shown(name: &Option<String>) -> &str
 /// Sends a text.
 pub(crate) fn send<E: Sink>(errors: &mut E, text: &[u8])
     requires { E.failed errors.old < 2 ^ 64 - 1 }
-    ensures told { Told E.taken E.failed errors.old errors.new text.now }
+    ensures reported { IsReported (sink_use E.taken E.longest E.failed errors.old errors.new)
+        text.now }
     ensures short { E.longest errors.new ≤ max (E.longest errors.old) ROOM }
 {
     let mut block = Block::new();
@@ -37,7 +38,8 @@ pub(crate) fn send<E: Sink>(errors: &mut E, text: &[u8])
 /// Sends a line about no file: the program's name, and what is wrong.
 fn send_line<E: Sink>(errors: &mut E, text: &[u8])
     requires { E.failed errors.old < 2 ^ 64 - 1 }
-    ensures told { Told E.taken E.failed errors.old errors.new (line_of [] text.now) }
+    ensures reported { IsReported (sink_use E.taken E.longest E.failed errors.old errors.new)
+        (line_of [] text.now) }
     ensures short { E.longest errors.new ≤ max (E.longest errors.old) ROOM }
 {
     let mut block = Block::new();
@@ -50,7 +52,8 @@ fn send_line<E: Sink>(errors: &mut E, text: &[u8])
 /// Reports that memory ran out. No file is at fault, so none is named.
 pub(crate) fn report_memory<E: Sink>(errors: &mut E)
     requires { E.failed errors.old < 2 ^ 64 - 1 }
-    ensures told { Told E.taken E.failed errors.old errors.new memory_line }
+    ensures reported { IsReported (sink_use E.taken E.longest E.failed errors.old errors.new)
+        memory_line }
     ensures short { E.longest errors.new ≤ max (E.longest errors.old) ROOM }
 {
     send_line(errors, OUT_OF_MEMORY.as_bytes());
@@ -59,7 +62,8 @@ pub(crate) fn report_memory<E: Sink>(errors: &mut E)
 /// Reports that an argument is no text.
 pub(crate) fn report_words<E: Sink>(errors: &mut E)
     requires { E.failed errors.old < 2 ^ 64 - 1 }
-    ensures told { Told E.taken E.failed errors.old errors.new words_line }
+    ensures reported { IsReported (sink_use E.taken E.longest E.failed errors.old errors.new)
+        words_line }
     ensures short { E.longest errors.new ≤ max (E.longest errors.old) ROOM }
 {
     send_line(errors, b"an argument is not UTF-8 text");
@@ -68,7 +72,8 @@ pub(crate) fn report_words<E: Sink>(errors: &mut E)
 /// Reports that the standard output takes no help text.
 pub(crate) fn report_unwritten<E: Sink>(errors: &mut E)
     requires { E.failed errors.old < 2 ^ 64 - 1 }
-    ensures told { Told E.taken E.failed errors.old errors.new (line_of (codes "-: ") (codes "cannot write")) }
+    ensures reported { IsReported (sink_use E.taken E.longest E.failed errors.old errors.new)
+        (line_of (codes "-: ") (codes "cannot write")) }
     ensures short { E.longest errors.new ≤ max (E.longest errors.old) ROOM }
 {
     send_line(errors, b"-: cannot write");
@@ -77,7 +82,8 @@ pub(crate) fn report_unwritten<E: Sink>(errors: &mut E)
 /// Reports why arguments are refused.
 pub(crate) fn report_usage<E: Sink>(errors: &mut E, usage: &Usage)
     requires { E.failed errors.old < 2 ^ 64 - 1 }
-    ensures told { Told E.taken E.failed errors.old errors.new (usage_text usage.now) }
+    ensures reported { IsReported (sink_use E.taken E.longest E.failed errors.old errors.new)
+        (usage_text usage.now) }
     ensures short { E.longest errors.new ≤ max (E.longest errors.old) ROOM }
 {
     match usage {
@@ -122,7 +128,8 @@ fn name_at_fault<'a>(request: &'a ToAig, fault: &ToolFault) -> &'a str
 /// Reports the error of a conversion.
 pub(crate) fn report_error<E: Sink>(errors: &mut E, request: &ToAig, fault: &ToolFault)
     requires { E.failed errors.old < 2 ^ 64 - 1 }
-    ensures told { Told E.taken E.failed errors.old errors.new (error_line request.now fault.now) }
+    ensures reported { IsReported (sink_use E.taken E.longest E.failed errors.old errors.new)
+        (error_line request.now fault.now) }
     ensures short { E.longest errors.new ≤ max (E.longest errors.old) ROOM }
 {
     if fault.is_want_of_memory() {

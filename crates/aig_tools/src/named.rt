@@ -3,8 +3,8 @@ ghost use Rattle.std.specs.Prelude.{◌≡◌, ◌-◌, ◌≤◌, ◌^◌, ◌<
 ghost use Rattle.aig_io.specs.declared.block.TheConstants.{ROOM};
 ghost use Rattle.aig_command.specs.Answer.{name_of};
 ghost use Rattle.aig_files.specs.Named.{FileSink, unwritten};
-ghost use Rattle.aig_tools.specs.Devices.{OfSink};
-ghost use Rattle.aig_tools.specs.Outcome.{Converted, Done, IsLeft, NotConverted, NotDone};
+ghost use Rattle.aig_tools.specs.Devices.{files_by_name, IsSentInBlocks, OfSink, sink_use, source_use, use_of_file_sink};
+ghost use Rattle.aig_tools.specs.Outcome.{Converted, Done, IsUnusedWhere, NotConverted, NotDone};
 ghost use Rattle.aig_command.specs.Answer.{IsKeptAlone};
 
 use crate::conversion::run_toaig;
@@ -25,12 +25,12 @@ fn convert_to_file<A: FileAccess, S: Source>(
     requires source { S.failed source.old < 2 ^ 64 - 1 }
     requires kept_alone { IsKeptAlone request.now }
     ensures ok { OnOk result ((filled : FileSink)
-        × Converted request.now S.coming S.failed source.old source.new
-        (λ s. s.taken) (λ s. s.failures) (unwritten name.now (A.made access.now name.now)) filled
+        × Converted request.now (source_use S.coming S.failed source.old source.new)
+        (use_of_file_sink (unwritten name.now (A.made access.now name.now)) filled)
         × (filled.longest ≤ max 0 ROOM) × (filled.closed ≡ true)) }
     ensures err { IfErr result (λ error. (filled : FileSink)
-        × NotConverted request.now error S.coming S.failed source.old source.new
-        (λ s. s.taken) (λ s. s.failures) (unwritten name.now (A.made access.now name.now)) filled
+        × NotConverted request.now error (source_use S.coming S.failed source.old source.new)
+        (use_of_file_sink (unwritten name.now (A.made access.now name.now)) filled)
         × (filled.longest ≤ max 0 ROOM)) }
 {
     let mut file = NamedSink::new(access, name);
@@ -53,15 +53,15 @@ fn convert_from<A: FileAccess, S: Source, W: Sink>(
     requires source { S.failed source.old < 2 ^ 64 - 1 }
     requires output { W.failed output.old < 2 ^ 64 - 1 }
     requires kept_alone { IsKeptAlone request.now }
-    ensures ok { OnOk result (OfSink (A.made access.now) (name_of request.now.destination)
-        W.taken W.longest W.failed output.old output.new (λ X taken longest failed closed sink filled.
-        Converted request.now S.coming S.failed source.old source.new taken failed sink filled
-        × (longest filled ≤ max (longest sink) ROOM) × (closed filled ≡ true))) }
-    ensures err { IfErr result (λ error. OfSink (A.made access.now) (name_of request.now.destination)
-        W.taken W.longest W.failed output.old output.new (λ X taken longest failed closed sink filled.
-        NotConverted request.now error S.coming S.failed source.old source.new taken failed sink filled
-        × (longest filled ≤ max (longest sink) ROOM))) }
-    ensures output { IsLeft (name_of request.now.destination) output.old output.new }
+    ensures ok { OnOk result (OfSink (files_by_name (A.holds access.now) (A.made access.now))
+        (name_of request.now.destination) (sink_use W.taken W.longest W.failed output.old output.new) (λ X sink closed.
+        Converted request.now (source_use S.coming S.failed source.old source.new) sink
+        × IsSentInBlocks sink × (closed sink.after ≡ true))) }
+    ensures err { IfErr result (λ error. OfSink (files_by_name (A.holds access.now) (A.made access.now))
+        (name_of request.now.destination) (sink_use W.taken W.longest W.failed output.old output.new) (λ X sink closed.
+        NotConverted request.now error (source_use S.coming S.failed source.old source.new) sink
+        × IsSentInBlocks sink)) }
+    ensures output { IsUnusedWhere (name_of request.now.destination) output.old output.new }
 {
     match &request.destination {
         Some(name) => convert_to_file(alloc, access, request, source, name.as_str()),
@@ -80,12 +80,15 @@ pub(crate) fn convert<A: FileAccess, R: Source, W: Sink>(
     requires input { R.failed input.old < 2 ^ 64 - 1 }
     requires output { W.failed output.old < 2 ^ 64 - 1 }
     requires kept_alone { IsKeptAlone request.now }
-    ensures ok { OnOk result (Done request.now (A.holds access.now) (A.made access.now)
-        R.coming R.failed input.old input.new W.taken W.longest W.failed output.old output.new) }
-    ensures err { IfErr result (λ error. NotDone request.now error (A.holds access.now) (A.made access.now)
-        R.coming R.failed input.old input.new W.taken W.longest W.failed output.old output.new) }
-    ensures input { IsLeft (name_of request.now.source) input.old input.new }
-    ensures output { IsLeft (name_of request.now.destination) output.old output.new }
+    ensures ok { OnOk result (Done request.now (files_by_name (A.holds access.now) (A.made access.now))
+        (source_use R.coming R.failed input.old input.new)
+        (sink_use W.taken W.longest W.failed output.old output.new)) }
+    ensures err { IfErr result (λ error. NotDone request.now error
+        (files_by_name (A.holds access.now) (A.made access.now))
+        (source_use R.coming R.failed input.old input.new)
+        (sink_use W.taken W.longest W.failed output.old output.new)) }
+    ensures input { IsUnusedWhere (name_of request.now.source) input.old input.new }
+    ensures output { IsUnusedWhere (name_of request.now.destination) output.old output.new }
 {
     match &request.source {
         Some(name) => {

@@ -3,7 +3,8 @@ ghost use Rattle.std.specs.Prelude.{◌≡◌, ◌-◌, ◌^◌, ◌<◌, ◌≤
 ghost use Rattle.aig_io.specs.declared.block.TheConstants.{ROOM};
 ghost use Rattle.aig_command.specs.Answer.{texts};
 ghost use Rattle.aig_tools.specs.Ending.{ConversionEnds, Ends, HelpEnds, RefusalEnds, status_of};
-ghost use Rattle.aig_tools.specs.Messages.{memory_line, Told, usage_text, words_line};
+ghost use Rattle.aig_tools.specs.Devices.{files_by_name, sink_use, source_use};
+ghost use Rattle.aig_tools.specs.Messages.{memory_line, IsReported, usage_text, words_line};
 ghost use Rattle.aig_command.specs.Answer.{IsKeptAlone};
 
 use crate::message::{report_error, report_memory, report_unwritten, report_usage, report_words};
@@ -36,11 +37,12 @@ fn run_conversion<A: FileAccess, R: Source, W: Sink, E: Sink>(
     requires output { W.failed output.old < 2 ^ 64 - 1 }
     requires errors { E.failed errors.old < 2 ^ 64 - 1 }
     requires kept_alone { IsKeptAlone request.now }
-    ensures ends { ConversionEnds request.now (A.holds access.now) (A.made access.now)
-        R.coming R.failed input.old input.new W.taken W.longest W.failed output.old output.new
-        E.taken E.failed errors.old errors.new result }
+    ensures ends { ConversionEnds request.now (files_by_name (A.holds access.now) (A.made access.now))
+        (source_use R.coming R.failed input.old input.new)
+        (sink_use W.taken W.longest W.failed output.old output.new)
+        (sink_use E.taken E.longest E.failed errors.old errors.new) result }
     ensures short { W.longest output.new ≤ max (W.longest output.old) ROOM }
-    ensures short_told { E.longest errors.new ≤ max (E.longest errors.old) ROOM }
+    ensures reported_short { E.longest errors.new ≤ max (E.longest errors.old) ROOM }
 {
     match convert(alloc, access, request, input, output) {
         Ok(()) => DONE,
@@ -55,9 +57,10 @@ fn run_conversion<A: FileAccess, R: Source, W: Sink, E: Sink>(
 fn help<W: Sink, E: Sink>(text: &str, output: &mut W, errors: &mut E) -> u8
     requires output { W.failed output.old < 2 ^ 64 - 1 }
     requires errors { E.failed errors.old < 2 ^ 64 - 1 }
-    ensures ends { HelpEnds text.now W.taken W.failed output.old output.new E.taken E.failed errors.old errors.new result }
+    ensures ends { HelpEnds text.now (sink_use W.taken W.longest W.failed output.old output.new)
+        (sink_use E.taken E.longest E.failed errors.old errors.new) result }
     ensures short { W.longest output.new ≤ max (W.longest output.old) ROOM }
-    ensures short_told { E.longest errors.new ≤ max (E.longest errors.old) ROOM }
+    ensures reported_short { E.longest errors.new ≤ max (E.longest errors.old) ROOM }
 {
     let mut block = Block::new();
     block.put(output, text.as_bytes());
@@ -72,7 +75,8 @@ fn help<W: Sink, E: Sink>(text: &str, output: &mut W, errors: &mut E) -> u8
 fn refuse<E: Sink>(errors: &mut E, usage: &Usage) -> u8
     requires { E.failed errors.old < 2 ^ 64 - 1 }
     ensures status { result ≡ status_of usage.now }
-    ensures told { Told E.taken E.failed errors.old errors.new (usage_text usage.now) }
+    ensures reported { IsReported (sink_use E.taken E.longest E.failed errors.old errors.new)
+        (usage_text usage.now) }
     ensures short { E.longest errors.new ≤ max (E.longest errors.old) ROOM }
 {
     report_usage(errors, usage);
@@ -96,12 +100,13 @@ pub fn serve<A: FileAccess, R: Source, W: Sink, E: Sink>(
     requires input { R.failed input.old < 2 ^ 64 - 1 }
     requires output { W.failed output.old < 2 ^ 64 - 1 }
     requires errors { E.failed errors.old < 2 ^ 64 - 1 }
-    ensures ends { Ends (texts words.now) (A.holds access.now) (A.made access.now)
-        R.coming R.failed input.old input.new W.taken W.longest W.failed output.old output.new
-        E.taken E.failed errors.old errors.new result }
+    ensures ends { Ends (texts words.now) (files_by_name (A.holds access.now) (A.made access.now))
+        (source_use R.coming R.failed input.old input.new)
+        (sink_use W.taken W.longest W.failed output.old output.new)
+        (sink_use E.taken E.longest E.failed errors.old errors.new) result }
     ensures status { result ≤ 2 }
     ensures short { W.longest output.new ≤ max (W.longest output.old) ROOM }
-    ensures short_told { E.longest errors.new ≤ max (E.longest errors.old) ROOM }
+    ensures reported_short { E.longest errors.new ≤ max (E.longest errors.old) ROOM }
 {
     match command(alloc, words) {
         Ok(Command::ToAig(request)) => {
@@ -124,12 +129,13 @@ pub fn start<T: Files, R: Source, W: Sink, E: Sink>(
     requires input { R.failed input.old < 2 ^ 64 - 1 }
     requires output { W.failed output.old < 2 ^ 64 - 1 }
     requires errors { E.failed errors.old < 2 ^ 64 - 1 }
-    ensures ends { Ends (texts words.now) (λ _. None) (λ _. None)
-        R.coming R.failed input.old input.new W.taken W.longest W.failed output.old output.new
-        E.taken E.failed errors.old errors.new result }
+    ensures ends { Ends (texts words.now) (files_by_name (λ _. None) (λ _. None))
+        (source_use R.coming R.failed input.old input.new)
+        (sink_use W.taken W.longest W.failed output.old output.new)
+        (sink_use E.taken E.longest E.failed errors.old errors.new) result }
     ensures status { result ≤ 2 }
     ensures short { W.longest output.new ≤ max (W.longest output.old) ROOM }
-    ensures short_told { E.longest errors.new ≤ max (E.longest errors.old) ROOM }
+    ensures reported_short { E.longest errors.new ≤ max (E.longest errors.old) ROOM }
 {
     serve(&HostFiles::new(rt), alloc, words, input, output, errors)
 }
@@ -138,7 +144,8 @@ pub fn start<T: Files, R: Source, W: Sink, E: Sink>(
 pub fn refuse_words<E: Sink>(errors: &mut E) -> u8
     requires { E.failed errors.old < 2 ^ 64 - 1 }
     ensures status { result ≡ 2 }
-    ensures told { Told E.taken E.failed errors.old errors.new words_line }
+    ensures reported { IsReported (sink_use E.taken E.longest E.failed errors.old errors.new)
+        words_line }
     ensures short { E.longest errors.new ≤ max (E.longest errors.old) ROOM }
 {
     report_words(errors);
@@ -149,7 +156,8 @@ pub fn refuse_words<E: Sink>(errors: &mut E) -> u8
 pub fn refuse_for_memory<E: Sink>(errors: &mut E) -> u8
     requires { E.failed errors.old < 2 ^ 64 - 1 }
     ensures status { result ≡ 1 }
-    ensures told { Told E.taken E.failed errors.old errors.new memory_line }
+    ensures reported { IsReported (sink_use E.taken E.longest E.failed errors.old errors.new)
+        memory_line }
     ensures short { E.longest errors.new ≤ max (E.longest errors.old) ROOM }
 {
     report_memory(errors);

@@ -3,15 +3,15 @@ use Rattle.std.proofs.lemmas.Bool.{false≢true}
 use Rattle.aig_io.proofs.Puts.{put_twice}
 use Rattle.aig_tools.specs.Blame.{at_fault, Memory}
 use Rattle.aig_tools.specs.Messages.{error_text}
-use Rattle.aig_tools.proofs.Lines.{line_of_a_file, told_by}
+use Rattle.aig_tools.proofs.Lines.{line_of_a_file, reported_by}
 use Rattle.aig_tools.proofs.message.report_error.Goals as goal
 
-pub returns-clause-told : goal.returns-clause-told
-returns-clause-told g c =
+pub returns-clause-reported : goal.returns-clause-reported
+returns-clause-reported g c =
     let other : ¬ (at_fault c.args.fault.now ≡ Memory) =
     λ e. absurd (false≢true (sym c.if-is_want_of_memory.false ∙ c.is_want_of_memory.ensures.1 e)) in
     rw (line_of_a_file c.args.request.now (at_fault c.args.fault.now) (error_text c.args.fault.now) other)
-    (told_by _ _ _ _ _ refl c.new-block.ensures
+    (reported_by _ _ _ _ _ refl c.new-block.ensures
     (put_twice _ _ _ _ _ c.put.ensures.put
     (put_twice _ _ _ _ _ (rw (c.as_bytes.ensures.value, c.name_at_fault.ensures) at c.put-2.ensures.put)
     (put_twice _ _ _ _ _ c.put-3.ensures.put

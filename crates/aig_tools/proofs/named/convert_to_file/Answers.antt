@@ -9,4 +9,4 @@ pub returns-clause-err : goal.returns-clause-err
 returns-clause-err g c =
     let closing = c.in-Err.ensures in
     let done = rw c.new-file.ensures at c.in_ok-run_toaig.ensures.ok in
-    (c.close.new.self, kept_in_part _ _ _ _ _ _ c.run_toaig.new.sink c.close.new.self done closing.bytes closing.failed, search rules)
+    (c.close.new.self, kept_in_part _ _ _ c.run_toaig.new.sink c.close.new.self done closing.bytes closing.failed, search rules)
