@@ -13,11 +13,11 @@ use Rattle.aig_text.specs.AsciiText.{header_text, line_text, tail_text}
 use Rattle.aig_text.specs.Rows.{Row, row, output_form, output_row, header_row}
 use Rattle.aig_text.proofs.Canonical.Lines.{IsFullRow, header_line, row_lines, header_is_first, header_line_is_good, rows_are_first, rows_are_good}
 use Rattle.aig_text.proofs.Canonical.Text.{header_is_small, tail_is_good}
-use Rattle.aig_binary.specs.BinaryOrder.{IsInBinaryOrder}
+use Rattle.aig_core.specs.BinaryOrder.{IsInBinaryOrder}
 use Rattle.aig_binary.specs.BinaryGrammar.{IsBinaryText, SpellsGates, binary_word, binary_rows_of, numbered_literals}
 use Rattle.aig_binary.specs.BinaryText.{binary_text, gate_text}
 use Rattle.aig_binary.specs.Delta.{shortest_delta}
-use Rattle.aig_binary.specs.Parts.Numbered.{HasDeltas}
+use Rattle.aig_binary.specs.Parts.Deltas.{HasDeltas}
 use Rattle.aig_binary.proofs.Shortest.{shortest_is_delta}
 use Rattle.aig_binary.proofs.Written.{gates_have_deltas}
 

@@ -6,19 +6,8 @@ use Rattle.aig_core.specs.declared.circuit.Latch.{Latch}
 use Rattle.aig_core.specs.declared.circuit.Gate.{Gate}
 use Rattle.aig_text.specs.declared.header_line.Header.{Header}
 use Rattle.aig_text.specs.Rows.{output_row, output_of}
+use Rattle.aig_core.proofs.Makers.{latch}
 use Rattle.aig_binary.specs.BinaryReading.{latches_from, numbered_circuit}
-
-range_last : (a n : ℕ) → range_with_len a (suc n) ≡ range_with_len a n ++ (a + n) ∷ []
-range_last a zero = let e : a + 0 ≡ a = omega arith in rw e refl
-range_last a (suc n) =
-    let one : a + 1 + n ≡ a + suc n = omega arith in
-    ap (λ (ns : List ℕ). a ∷ ns) (rw one at (range_last (a + 1) n))
-
-pub range_more : (a n : ℕ) → range_with_len a (n + 1) ≡ range_with_len a n ++ (a + n) ∷ []
-range_more a n = ap (range_with_len a) (add-one n) ∙ range_last a n
-
-abbrev pub latch : ℕ → ℕ → Latch
-latch variable next = record { var = variable; next = next }
 
 pub no_latches : (v : ℕ) → latches_from v [] ≡ []
 unfolding latches_from

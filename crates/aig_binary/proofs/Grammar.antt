@@ -1,6 +1,4 @@
 pub mod Gates
-pub mod Ranges
-pub mod Sound
 pub mod Numbered
 pub mod Told
 pub mod Accepted

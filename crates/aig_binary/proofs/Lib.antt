@@ -5,7 +5,6 @@ pub mod Going
 pub mod OneByOne
 pub mod Defined
 pub mod Stages
-pub mod InOrder
 pub mod Grammar
 pub mod Written
 pub mod Canonical

@@ -14,10 +14,10 @@ use Rattle.aig_core.specs.declared.circuit.Circuit.{Circuit}
 use Rattle.aig_text.specs.AsciiText.{line_text, numbers_text}
 use Rattle.aig_text.specs.Rows.{row, output_form, output_row}
 use Rattle.aig_binary.specs.BinaryGrammar.{binary_rows_of, numbered_literals}
-use Rattle.aig_binary.specs.BinaryOrder.{AreOrderedGates, IsInBinaryOrder}
+use Rattle.aig_core.specs.BinaryOrder.{AreOrderedGates, IsInBinaryOrder}
 use Rattle.aig_binary.specs.BinaryText.{gate_text}
 use Rattle.aig_binary.specs.Delta.{shortest_delta}
-use Rattle.aig_binary.specs.Parts.Numbered.{HasDeltas}
+use Rattle.aig_binary.specs.Parts.Deltas.{HasDeltas}
 
 -- two texts, one behind the other, put into the block alone
 filled_twice : (a b c : Held) (t u : List ℕ) → b ≡ record a { bytes = a.bytes ++ t } → c ≡ record b { bytes = b.bytes ++ u } → c ≡ record a { bytes = a.bytes ++ (t ++ u) }

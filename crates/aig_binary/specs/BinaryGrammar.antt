@@ -12,7 +12,7 @@ use Rattle.aig_text.specs.Spelling.{IsHeaderLine}
 use Rattle.aig_text.specs.Tail.{AreTailLines}
 use Rattle.aig_text.specs.Rows.{Row, row, output_form, output_row, header_row}
 use Rattle.aig_text.specs.AsciiGrammar.{IsRowLine}
-use Rattle.aig_binary.specs.BinaryOrder.{IsInBinaryOrder}
+use Rattle.aig_core.specs.BinaryOrder.{IsInBinaryOrder}
 use Rattle.aig_binary.specs.Delta.{IsDelta}
 
 -- the first word of a binary file

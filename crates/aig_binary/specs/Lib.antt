@@ -1,5 +1,4 @@
 pub mod Delta
-pub mod BinaryOrder
 pub mod BinaryGrammar
 pub mod BinaryText
 pub mod BinaryReading

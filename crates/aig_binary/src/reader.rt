@@ -6,7 +6,7 @@ ghost use Rattle.aig_text.specs.Rows.{output_row};
 ghost use Rattle.aig_text.specs.Outcomes.{GivesOrMemory};
 ghost use Rattle.aig_core.specs.declared.circuit.Circuit.{Circuit as CircuitRecord};
 ghost use Rattle.aig_text.specs.Reading.{IsFirstFault, at_line, want_of_memory};
-ghost use Rattle.aig_binary.specs.BinaryOrder.{IsInBinaryOrder};
+ghost use Rattle.aig_core.specs.BinaryOrder.{IsInBinaryOrder};
 ghost use Rattle.aig_binary.specs.BinaryGrammar.{IsBinaryText};
 ghost use Rattle.aig_binary.specs.BinaryReading.{filled, latches_from, numbered_circuit, binary_at, first_binary_fault};
 

@@ -10,14 +10,13 @@ ghost use Rattle.aig_io.specs.declared.block.TheConstants.{ROOM};
 ghost use Rattle.aig_core.specs.declared.circuit.Latch.{Latch as LatchRecord};
 ghost use Rattle.aig_text.specs.AsciiText.{line_text, numbers_text};
 ghost use Rattle.aig_binary.specs.BinaryGrammar.{binary_rows_of};
-ghost use Rattle.aig_binary.specs.BinaryOrder.{IsInBinaryOrder};
+ghost use Rattle.aig_core.specs.BinaryOrder.{IsInBinaryOrder};
 ghost use Rattle.aig_binary.specs.BinaryText.{binary_text, gate_text};
-ghost use Rattle.aig_binary.specs.Parts.Numbered.{HasDeltas};
+ghost use Rattle.aig_binary.specs.Parts.Deltas.{HasDeltas};
 
 use crate::delta::{LONGEST, put_delta};
-use crate::ordered::Ordered;
 use crate::reader::BINARY_WORD;
-use aig_core::{Block, Circuit, Gate, Latch, Lit, Sink};
+use aig_core::{Block, Circuit, Gate, Latch, Lit, Ordered, Sink};
 use aig_text::{WriteFault, header_numbers, put_header, put_numbers, put_tail};
 
 /// The line of each latch: its next literal.

@@ -11,7 +11,7 @@ use Rattle.aig_core.specs.Wellformed.{IsAmong, AreDistinct, IsVariableUpTo, defi
 use Rattle.aig_core.specs.Order.{gate_operands, IsReady, TakesLeast, IsFull, IsLeastReadyOrder, ends_within, depends_on_cycle, first_cyclic, left_over}
 use Rattle.aig_core.proofs.Fitting.{each, at_most_below}
 use Rattle.aig_core.proofs.Ranked.{over_one, all_served, no_gate, at, needed, stands_there}
-use Rattle.aig_core.proofs.Ordered.{none_open, all_in, each_served}
+use Rattle.aig_core.proofs.TakenLeast.{none_open, all_in, each_served}
 use Rattle.std.proofs.lemmas.List.Folds.{find_at}
 use Rattle.std.proofs.lemmas.Bool.{cases_lt, lt-ltb}
 use Rattle.std.proofs.lemmas.List.Sums.{position_or_len_is, fails_before_first}

@@ -4,7 +4,7 @@ pub mod LeastReady
 pub mod Ranked
 pub mod Chains
 pub mod Served
-pub mod Ordered
+pub mod TakenLeast
 pub mod Cyclic
 pub mod Steps
 pub mod Sets
@@ -17,3 +17,7 @@ pub mod Reported
 pub mod Fitting
 pub mod Alike
 pub mod InOrder
+pub mod NumberedOn
+pub mod Makers
+pub mod Ranges
+pub mod WellOrdered

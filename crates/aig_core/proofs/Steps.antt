@@ -16,7 +16,7 @@ use Rattle.aig_core.specs.Literal.{variable_of}
 use Rattle.aig_core.specs.Order.{gate_of, gates_under, gate_operands, operands_over}
 use Rattle.aig_core.specs.Operands.{over, operands_of, operands_at, AreOverGates}
 use Rattle.aig_core.proofs.Ranked.{over_one, needed, no_gate}
-use Rattle.aig_core.proofs.Ordered.{Stands, no_longer, listed, open_ones, open_less}
+use Rattle.aig_core.proofs.TakenLeast.{Stands, no_longer, listed, open_ones, open_less}
 
 -- what holds of each holds of all
 pub all_of : (P : ℕ → Type 0) (xs : List ℕ) → ((x : ℕ) → IsAmong x xs → P x) → AllByRecursion P xs

@@ -9,5 +9,6 @@ pub mod Operands
 pub mod Users
 pub mod Ready
 pub mod Progress
+pub mod BinaryOrder
 pub mod Laws
 pub mod Parts

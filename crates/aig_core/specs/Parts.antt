@@ -2,3 +2,4 @@
 pub mod SymbolOrder
 pub mod Marks
 pub mod InOrder
+pub mod Numbered

@@ -13,6 +13,7 @@ mod literal;
 mod names;
 mod operands;
 mod order;
+mod ordered;
 mod var_set;
 
 pub use crate::checked::{Checked, check, copy_comment, copy_symbols, is_defined_once, same};
@@ -23,6 +24,8 @@ pub use crate::listing::Listing;
 pub use crate::literal::{Lit, Var};
 pub use crate::names::Names;
 pub use crate::order::Order;
-pub use aig_io::{Block, MOST_DIGITS, ROOM};
-pub use aig_io::{DeviceFault, MemorySink, MemorySource, ReadError, ReadSource, Sink, Source, WriteSink};
-pub use aig_io::read_all;
+pub use crate::ordered::{Ordered, is_in_binary_order};
+pub use aig_io::{
+    Block, DeviceFault, MOST_DIGITS, MemorySink, MemorySource, ROOM, ReadError, ReadSource, Sink,
+    Source, WriteSink, read_all,
+};

@@ -12,7 +12,7 @@ use Rattle.aig_core.specs.Wellformed.{HasGoodSymbols, HasRank, IsWellFormed}
 use Rattle.aig_core.specs.Wellformed.{count_of, defined_variables, used_literals, operands}
 use Rattle.aig_core.proofs.Fitting.{well_formed_in_form}
 use Rattle.aig_core.proofs.InForm.{joined, front, back}
-use Rattle.aig_binary.specs.BinaryOrder.{AreOrderedGates, IsInBinaryOrder}
+use Rattle.aig_core.specs.BinaryOrder.{AreOrderedGates, IsInBinaryOrder}
 use Rattle.aig_order.specs.declared.map_block.MappedGate.{MappedGate}
 use Rattle.aig_order.specs.declared.map_block.MapBlock.{MapBlock}
 use Rattle.aig_order.specs.MapReading.{HasCountsOf, IsWithinBounds}

@@ -8,7 +8,7 @@ use Rattle.aig_core.specs.declared.circuit.Circuit.{Circuit}
 use Rattle.aig_core.specs.Order.{IsLeastReadyOrder}
 use Rattle.aig_core.specs.Wellformed.{IsWellFormed}
 use Rattle.aig_core.proofs.Ranked.{at, no_gate}
-use Rattle.aig_binary.specs.BinaryOrder.{IsInBinaryOrder}
+use Rattle.aig_core.specs.BinaryOrder.{IsInBinaryOrder}
 use Rattle.aig_order.specs.declared.map_block.MappedGate.{MappedGate}
 use Rattle.aig_order.specs.declared.map_block.MapBlock.{MapBlock}
 use Rattle.aig_order.specs.Image.{gate_image}

@@ -13,7 +13,7 @@ use Rattle.aig_core.specs.Wellformed.{IsVariableUpTo, IsWellFormed, operands}
 use Rattle.aig_core.proofs.Fitting.{well_formed_in_form}
 use Rattle.aig_core.proofs.InForm.{front, back}
 use Rattle.aig_core.proofs.Ranked.{variables}
-use Rattle.aig_binary.specs.BinaryOrder.{IsInBinaryOrder}
+use Rattle.aig_core.specs.BinaryOrder.{IsInBinaryOrder}
 use Rattle.aig_order.specs.declared.map_block.MapBlock.{MapBlock}
 use Rattle.aig_order.specs.Image.{latch_image, gate_image}
 use Rattle.aig_order.specs.MapBlock.{block_text, mapped_gate, map_block, mapped_by}

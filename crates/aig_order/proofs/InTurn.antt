@@ -9,7 +9,7 @@ use Rattle.aig_core.proofs.Counted.{among_either}
 use Rattle.aig_core.proofs.Cyclic.{among_last}
 use Rattle.aig_core.proofs.Fitting.{each}
 use Rattle.aig_core.proofs.Ranked.{at, needed_by, variables}
-use Rattle.aig_binary.specs.BinaryOrder.{AreOrderedGates}
+use Rattle.aig_core.specs.BinaryOrder.{AreOrderedGates}
 use Rattle.aig_order.specs.Image.{gate_image}
 use Rattle.aig_order.specs.Renumbering.{renumbered, taken}
 use Rattle.aig_order.proofs.Distinct.{among_first}

@@ -6,7 +6,7 @@ use Rattle.aig_core.specs.declared.circuit.Kind.TheVariants as kinds
 use Rattle.aig_core.specs.declared.circuit.Circuit.{Circuit}
 use Rattle.aig_core.specs.Wellformed.{IsWellFormed, count_of}
 use Rattle.aig_core.proofs.LeastReady.{a_least_ready_order, one_least_ready_order}
-use Rattle.aig_binary.specs.BinaryOrder.{IsInBinaryOrder}
+use Rattle.aig_core.specs.BinaryOrder.{IsInBinaryOrder}
 use Rattle.aig_order.specs.Image.{image_by}
 use Rattle.aig_order.specs.MapBlock.{mapped_by, IsMappedImage}
 use Rattle.aig_order.proofs.Ordered.{positions_kept, image_is_ordered}

@@ -9,7 +9,7 @@ use Rattle.aig_core.specs.declared.circuit.Latch.{Latch}
 use Rattle.aig_core.specs.Form.{IsLiteralUpTo}
 use Rattle.aig_core.specs.Literal.{variable_of}
 use Rattle.aig_core.specs.Wellformed.{IsAmong, AreDistinct, IsVariableUpTo}
-use Rattle.aig_binary.proofs.Defined.{latch}
+use Rattle.aig_core.proofs.Makers.{latch}
 use Rattle.aig_order.specs.Image.{latch_image}
 use Rattle.aig_order.specs.Renumbering.{renumbered, renumbered_literal}
 use Rattle.aig_order.specs.Undone.{source_variable, source_literal, source_latch}

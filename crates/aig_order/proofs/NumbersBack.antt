@@ -10,8 +10,8 @@ use Rattle.aig_core.specs.declared.circuit.Circuit.{Circuit}
 use Rattle.aig_core.specs.Wellformed.{IsAmong, AreDistinct, IsVariableUpTo}
 use Rattle.aig_core.proofs.Cyclic.{among_last}
 use Rattle.aig_core.proofs.Ranked.{at, no_gate, variables, distinct_back, stands_there}
-use Rattle.aig_binary.specs.BinaryOrder.{IsInBinaryOrder}
-use Rattle.aig_binary.proofs.Grammar.Ranges.{among}
+use Rattle.aig_core.specs.BinaryOrder.{IsInBinaryOrder}
+use Rattle.aig_core.proofs.Ranges.{among}
 use Rattle.aig_order.specs.declared.map_block.MappedGate.{MappedGate}
 use Rattle.aig_order.specs.declared.map_block.MapBlock.{MapBlock}
 use Rattle.aig_order.specs.MapReading.{HasCountsOf, IsWithinBounds}

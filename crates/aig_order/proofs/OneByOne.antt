@@ -8,8 +8,8 @@ use Rattle.aig_core.specs.Literal.{variable_of}
 use Rattle.aig_core.specs.Wellformed.{IsAmong}
 use Rattle.aig_core.specs.Order.{IsLeastReadyOrder, IsReady, TakesLeast, IsFull, gate_operands}
 use Rattle.aig_core.proofs.Ranked.{at, over_one, all_served}
-use Rattle.aig_binary.specs.BinaryOrder.{AreOrderedGates, IsInBinaryOrder}
-use Rattle.aig_binary.proofs.Grammar.Ranges.{among}
+use Rattle.aig_core.specs.BinaryOrder.{AreOrderedGates, IsInBinaryOrder}
+use Rattle.aig_core.proofs.Ranges.{among}
 
 -- where each gate needs only those before it, they are taken one after another
 module _ (count : ℕ) (needs : ℕ → List ℕ) (falls : (g h : ℕ) → g < count → IsAmong h (needs g) → h < g) where

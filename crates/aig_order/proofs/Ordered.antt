@@ -11,8 +11,8 @@ use Rattle.aig_core.specs.Wellformed.{IsKnown, IsWellFormed, IsWithinLimits, Has
 use Rattle.aig_core.specs.Form.{IsLiteralUpTo}
 use Rattle.aig_core.specs.Order.{IsLeastReadyOrder}
 use Rattle.aig_core.proofs.InForm.{front, back}
-use Rattle.aig_binary.specs.BinaryOrder.{IsInBinaryOrder}
-use Rattle.aig_binary.proofs.Grammar.Sound.{HasLiteralsUpTo, well_formed}
+use Rattle.aig_core.specs.BinaryOrder.{IsInBinaryOrder}
+use Rattle.aig_core.proofs.WellOrdered.{HasLiteralsUpTo, well_formed}
 use Rattle.aig_order.specs.Image.{IsBinaryImage, latch_image, gate_image, image_by}
 use Rattle.aig_order.specs.Renumbering.{renumbered, renumbered_literal, taken}
 use Rattle.aig_order.proofs.Members.{new, new_fits, not_more, new_literal}

@@ -11,8 +11,8 @@ use Rattle.aig_core.specs.Form.{IsInForm, IsLiteralUpTo}
 use Rattle.aig_core.proofs.Fitting.{well_formed_in_form}
 use Rattle.aig_core.proofs.InForm.{front, back}
 use Rattle.aig_core.proofs.Ranked.{no_gate, variables}
-use Rattle.aig_binary.specs.BinaryOrder.{IsInBinaryOrder}
-use Rattle.aig_binary.proofs.Grammar.Ranges.{variables_are}
+use Rattle.aig_core.specs.BinaryOrder.{IsInBinaryOrder}
+use Rattle.aig_core.proofs.Ranges.{variables_are}
 use Rattle.aig_order.specs.Image.{IsBinaryImage, latch_image, gate_image}
 use Rattle.aig_order.specs.Renumbering.{in_new_order, renumbered, renumbered_literal, taken}
 use Rattle.aig_order.proofs.OneByOne.{in_order}

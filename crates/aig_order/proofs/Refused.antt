@@ -5,7 +5,7 @@ use Rattle.aig_core.specs.Form.{IsInForm}
 use Rattle.aig_core.specs.Wellformed.{AreDistinct, IsWellFormed}
 use Rattle.aig_core.proofs.Fitting.{well_formed_in_form}
 use Rattle.aig_core.proofs.LeastReady.{one_least_ready_order}
-use Rattle.aig_binary.specs.BinaryOrder.{IsInBinaryOrder}
+use Rattle.aig_core.specs.BinaryOrder.{IsInBinaryOrder}
 use Rattle.aig_order.specs.declared.fault.MapFault.{MapFault}
 use Rattle.aig_order.specs.declared.fault.MapFault.TheVariants.{Missing, Malformed, Mismatch, Forged, OutOfMemory, NotOrdered}
 use Rattle.aig_order.specs.declared.map_block.MappedGate.{MappedGate}

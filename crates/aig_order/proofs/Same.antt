@@ -10,8 +10,8 @@ use Rattle.aig_core.specs.declared.circuit.Latch.{Latch}
 use Rattle.aig_core.specs.declared.circuit.Gate.{Gate}
 use Rattle.aig_core.specs.Wellformed.{IsVariableUpTo, operands}
 use Rattle.aig_core.specs.Form.{IsLiteralUpTo}
-use Rattle.aig_binary.specs.BinaryOrder.{AreOrderedGates}
-use Rattle.aig_binary.proofs.Defined.{latch}
+use Rattle.aig_core.specs.BinaryOrder.{AreOrderedGates}
+use Rattle.aig_core.proofs.Makers.{latch}
 use Rattle.aig_order.specs.Image.{latch_image, gate_image}
 use Rattle.aig_order.specs.Renumbering.{renumbered, renumbered_literal}
 

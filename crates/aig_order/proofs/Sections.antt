@@ -11,7 +11,7 @@ use Rattle.aig_core.proofs.Cyclic.{among_last}
 use Rattle.aig_core.proofs.Fitting.{each, all_weaker}
 use Rattle.aig_core.proofs.InForm.{front, back}
 use Rattle.aig_core.proofs.Ranked.{at, variables, stands_there}
-use Rattle.aig_binary.specs.BinaryOrder.{AreOrderedGates, IsInBinaryOrder}
+use Rattle.aig_core.specs.BinaryOrder.{AreOrderedGates, IsInBinaryOrder}
 use Rattle.aig_order.specs.Image.{latch_image, gate_image, image_by}
 use Rattle.aig_order.specs.Renumbering.{renumbered, taken}
 use Rattle.aig_order.proofs.InTurn.{in_turn}

@@ -12,7 +12,7 @@ use Rattle.aig_core.specs.Wellformed.{IsAmong, AreDistinct, defined_variables}
 use Rattle.aig_core.proofs.Counted.{among_either}
 use Rattle.aig_core.proofs.Cyclic.{among_last}
 use Rattle.aig_core.proofs.Ranked.{distinct_back}
-use Rattle.aig_binary.specs.BinaryOrder.{IsInBinaryOrder}
+use Rattle.aig_core.specs.BinaryOrder.{IsInBinaryOrder}
 use Rattle.aig_order.specs.declared.map_block.MappedGate.{MappedGate}
 use Rattle.aig_order.specs.declared.map_block.MapBlock.{MapBlock}
 use Rattle.aig_order.specs.MapReading.{HasCountsOf}

@@ -8,7 +8,7 @@ use Rattle.aig_core.specs.declared.circuit.Gate.{Gate}
 use Rattle.aig_core.specs.Literal.{variable_of}
 use Rattle.aig_core.specs.Wellformed.{IsAmong, AreDistinct, IsVariableUpTo, IsRank}
 use Rattle.aig_core.proofs.Ranked.{at}
-use Rattle.aig_binary.specs.BinaryOrder.{AreOrderedGates}
+use Rattle.aig_core.specs.BinaryOrder.{AreOrderedGates}
 use Rattle.aig_order.specs.declared.map_block.MappedGate.{MappedGate}
 use Rattle.aig_order.specs.declared.map_block.MapBlock.{MapBlock}
 use Rattle.aig_order.specs.MapReading.{IsWithinBounds}

@@ -12,7 +12,7 @@ use Rattle.aig_core.specs.Order.{IsLeastReadyOrder}
 use Rattle.aig_core.specs.Wellformed.{IsAmong, AreDistinct, IsVariableUpTo, IsWellFormed, defined_variables}
 use Rattle.aig_core.proofs.Fitting.{each}
 use Rattle.aig_core.proofs.Ranked.{at, no_gate, variables}
-use Rattle.aig_binary.specs.BinaryOrder.{AreOrderedGates, IsInBinaryOrder}
+use Rattle.aig_core.specs.BinaryOrder.{AreOrderedGates, IsInBinaryOrder}
 use Rattle.aig_order.specs.declared.map_block.MapBlock.{MapBlock}
 use Rattle.aig_order.specs.Image.{latch_image, gate_image, image_by}
 use Rattle.aig_order.specs.MapReading.{HasCountsOf}

@@ -4,7 +4,7 @@ use Rattle.std.specs.List.{range_with_len}
 use Rattle.aig_core.specs.declared.circuit.Circuit.{Circuit}
 use Rattle.aig_core.specs.Wellformed.{IsAmong, IsVariableUpTo, IsWellFormed, defined_variables}
 use Rattle.aig_core.specs.Order.{IsLeastReadyOrder}
-use Rattle.aig_binary.specs.BinaryOrder.{IsInBinaryOrder}
+use Rattle.aig_core.specs.BinaryOrder.{IsInBinaryOrder}
 use Rattle.aig_order.specs.Renumbering.{in_new_order, renumbered}
 use Rattle.aig_order.specs.Image.{IsBinaryImage}
 use Rattle.aig_order.specs.declared.map_block.MapBlock.{MapBlock}

@@ -8,7 +8,7 @@ use Rattle.aig_core.specs.declared.circuit.Gate.{Gate}
 use Rattle.aig_core.specs.declared.circuit.Circuit.{Circuit}
 use Rattle.aig_core.specs.Literal.{variable_of}
 use Rattle.aig_core.specs.Wellformed.{AreDistinct, IsWellFormed}
-use Rattle.aig_binary.specs.BinaryOrder.{IsInBinaryOrder}
+use Rattle.aig_core.specs.BinaryOrder.{IsInBinaryOrder}
 use Rattle.aig_order.specs.declared.fault.MapFault.{MapFault}
 use Rattle.aig_order.specs.declared.fault.MapFault.TheVariants.{NotOrdered, Missing, Malformed, Mismatch, Forged, OutOfMemory}
 use Rattle.aig_order.specs.declared.map_block.MappedGate.{MappedGate}

@@ -6,7 +6,7 @@ ghost use Rattle.std.specs.Option.{IfSome};
 ghost use Rattle.aig_core.specs.declared.circuit.TheConstants.{LARGEST};
 ghost use Rattle.aig_core.specs.Order.{IsLeastReadyOrder};
 ghost use Rattle.aig_core.specs.Wellformed.{AreDistinct, defined_variables};
-ghost use Rattle.aig_binary.specs.BinaryOrder.{IsInBinaryOrder};
+ghost use Rattle.aig_core.specs.BinaryOrder.{IsInBinaryOrder};
 ghost use Rattle.aig_order.specs.declared.map_block.MappedGate.{MappedGate as MappedGateRecord};
 ghost use Rattle.aig_order.specs.MapReading.{HasCountsOf, IsWithinBounds};
 ghost use Rattle.aig_order.specs.Undone.{undone};

@@ -8,7 +8,7 @@ use Rattle.aig_core.proofs.Fitting.{definitions_fit, well_formed_in_form}
 use Rattle.aig_text.specs.AsciiText.{ascii_text}
 use Rattle.aig_text.proofs.Canonical.Text.{canonical_text}
 use Rattle.aig_text.specs.AsciiGrammar.{IsAsciiText}
-use Rattle.aig_binary.specs.BinaryOrder.{IsInBinaryOrder}
+use Rattle.aig_core.specs.BinaryOrder.{IsInBinaryOrder}
 use Rattle.aig_binary.specs.BinaryText.{binary_text}
 use Rattle.aig_binary.proofs.Canonical.{canonical_binary}
 use Rattle.aig_order.specs.Image.{IsBinaryImage}

@@ -16,10 +16,10 @@ use Rattle.aig_text.proofs.Grammar.Pieces.{lines_again, first_ended, ended_befor
 use Rattle.aig_text.proofs.Grammar.Sections.{zips_joined}
 use Rattle.aig_text.proofs.Grammar.Tail.{with_tail}
 use Rattle.aig_text.proofs.Grammar.WholeTail.{left_of, tail_holds, good_symbols}
-use Rattle.aig_binary.specs.BinaryOrder.{IsInBinaryOrder}
+use Rattle.aig_core.specs.BinaryOrder.{IsInBinaryOrder}
 use Rattle.aig_binary.specs.BinaryGrammar.{binary_word, binary_rows_of, SpellsGates, EndsBefore, IsBinaryText}
 use Rattle.aig_binary.specs.BinaryReading.{numbered_circuit, binary_at, binary_reading}
-use Rattle.aig_binary.proofs.Grammar.Sound.{HasLiteralsUpTo, well_formed}
+use Rattle.aig_core.proofs.WellOrdered.{HasLiteralsUpTo, well_formed}
 use Rattle.aig_binary.proofs.Grammar.Numbered.{rows_are, literals_are, counts_are, order_is}
 use Rattle.aig_binary.proofs.Grammar.Told.{TellsBinary, binary_told}
 

@@ -9,10 +9,10 @@ use Rattle.aig_text.specs.declared.header_line.Header.{Header}
 use Rattle.aig_text.specs.Rows.{row, output_form, output_row, output_of}
 use Rattle.aig_text.proofs.Grammar.Entries.{IsGoodRow, IsLiteralUpTo, output_entry, rows_again, all_mapped}
 use Rattle.aig_text.proofs.Grammar.Headers.{HasCounts}
-use Rattle.aig_binary.specs.BinaryOrder.{AreOrderedGates, IsInBinaryOrder}
+use Rattle.aig_core.specs.BinaryOrder.{AreOrderedGates, IsInBinaryOrder}
 use Rattle.aig_binary.specs.BinaryGrammar.{binary_rows_of}
 use Rattle.aig_binary.specs.BinaryReading.{latches_from, numbered_circuit}
-use Rattle.aig_binary.proofs.Grammar.Sound.{HasLiteralsUpTo}
+use Rattle.aig_core.proofs.WellOrdered.{HasLiteralsUpTo}
 
 -- latches by the rows of their next literals
 nexts_are : (variable : ℕ) (rows : List (List ℕ)) → map (λ (l : Latch). l.next) (latches_from variable rows) ≡ map output_of rows

@@ -22,7 +22,7 @@ use Rattle.aig_text.proofs.Grammar.Pieces.{lines_joined}
 use Rattle.aig_text.proofs.Grammar.Rows.{ReadsRows, rows_are_told}
 use Rattle.aig_text.proofs.Grammar.Sections.{ZipsTwo, zips_split, bare}
 use Rattle.aig_text.proofs.Grammar.WholeTail.{left_of, right_of, own_tail}
-use Rattle.aig_binary.specs.BinaryOrder.{IsInBinaryOrder}
+use Rattle.aig_core.specs.BinaryOrder.{IsInBinaryOrder}
 use Rattle.aig_binary.specs.BinaryGrammar.{binary_word, EndsBefore, IsBinaryText}
 use Rattle.aig_binary.specs.BinaryReading.{filled, latches_from, gates_at, numbered_circuit, binary_at, binary_reading}
 use Rattle.aig_binary.proofs.Grammar.Gates.{gates_told}

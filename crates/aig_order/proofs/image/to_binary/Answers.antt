@@ -1,5 +1,5 @@
 use Rattle.aig_core.specs.Wellformed.{IsWellFormed}
-use Rattle.aig_binary.specs.BinaryOrder.{IsInBinaryOrder}
+use Rattle.aig_core.specs.BinaryOrder.{IsInBinaryOrder}
 use Rattle.aig_order.proofs.Ordered.{image_is_ordered}
 use Rattle.aig_order.proofs.image.to_binary.Goals as goal
 

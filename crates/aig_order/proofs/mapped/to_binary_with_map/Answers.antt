@@ -1,5 +1,5 @@
 use Rattle.aig_core.specs.Wellformed.{IsWellFormed}
-use Rattle.aig_binary.specs.BinaryOrder.{IsInBinaryOrder}
+use Rattle.aig_core.specs.BinaryOrder.{IsInBinaryOrder}
 use Rattle.aig_order.proofs.MappedOrder.{mapped_image_is_ordered}
 use Rattle.aig_order.proofs.mapped.to_binary_with_map.Goals as goal
 

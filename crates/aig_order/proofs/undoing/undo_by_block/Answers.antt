@@ -1,7 +1,7 @@
 use Rattle.std.proofs.Common.{◌∙◌, ap, subst, sym}
 use Rattle.aig_core.specs.declared.circuit.Circuit.{Circuit}
 use Rattle.aig_core.specs.Wellformed.{AreDistinct, IsWellFormed, defined_variables}
-use Rattle.aig_binary.specs.BinaryOrder.{IsInBinaryOrder}
+use Rattle.aig_core.specs.BinaryOrder.{IsInBinaryOrder}
 use Rattle.aig_order.specs.MapReading.{HasCountsOf}
 use Rattle.aig_order.specs.Undone.{comment_behind, undone}
 use Rattle.aig_order.proofs.BlockRead.{read_is_within}

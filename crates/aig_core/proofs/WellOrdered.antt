@@ -9,10 +9,10 @@ use Rattle.aig_core.specs.declared.circuit.Circuit.{Circuit}
 use Rattle.aig_core.specs.Literal.{literal_of}
 use Rattle.aig_core.specs.Wellformed.{AreDistinct, IsKnown, IsRank, IsVariableUpTo, IsWithinLimits, HasGoodSymbols, IsWellFormed, operands, used_literals}
 use Rattle.aig_core.proofs.Fitting.{all_weaker}
-use Rattle.aig_text.proofs.Grammar.Entries.{IsLiteralUpTo}
-use Rattle.aig_text.proofs.Grammar.Sections.{all_append}
-use Rattle.aig_binary.specs.BinaryOrder.{AreOrderedGates, IsInBinaryOrder}
-use Rattle.aig_binary.proofs.Grammar.Ranges.{each_in_range, distinct, known, variables_are}
+use Rattle.aig_core.specs.Form.{IsLiteralUpTo}
+use Rattle.aig_core.proofs.InForm.{joined}
+use Rattle.aig_core.specs.BinaryOrder.{AreOrderedGates, IsInBinaryOrder}
+use Rattle.aig_core.proofs.Ranges.{each_in_range, distinct, known, variables_are}
 
 abbrev IsOverLower : Gate → Type 0
 IsOverLower g = (g.left < literal_of g.var) × (g.right ≤ g.left)
@@ -46,8 +46,8 @@ HasLiteralsUpTo c = AllByRecursion (IsLiteralUpTo c.max_var) (map (λ (l : Latch
 all_up_to : (c : Circuit) → IsInBinaryOrder c → HasLiteralsUpTo c → AllByRecursion (IsLiteralUpTo c.max_var) (used_literals c)
 all_up_to c o literals =
     let all : c.max_var ≡ length c.inputs + length c.latches + length c.gates = o.all in
-    all_append (IsLiteralUpTo c.max_var) (map (λ (l : Latch). l.next) c.latches ++ c.outputs) (flat_map operands c.gates)
-    (all_append (IsLiteralUpTo c.max_var) (map (λ (l : Latch). l.next) c.latches) c.outputs literals.0 literals.1)
+    joined (IsLiteralUpTo c.max_var) (map (λ (l : Latch). l.next) c.latches ++ c.outputs) (flat_map operands c.gates)
+    (joined (IsLiteralUpTo c.max_var) (map (λ (l : Latch). l.next) c.latches) c.outputs literals.0 literals.1)
     (operands_up_to (1 + length c.inputs + length c.latches) c.max_var c.gates o.gates (omega arith))
 
 pub well_formed : (c : Circuit) → IsInBinaryOrder c → HasLiteralsUpTo c → IsWithinLimits c → HasGoodSymbols c → IsWellFormed c

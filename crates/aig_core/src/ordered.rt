@@ -1,10 +1,12 @@
 //! Circuits in binary order, and the test for it.
 ghost use Rattle.std.specs.Prelude.{◌≡◌, ◌↔◌, ◌+◌, ◌^◌, ◌<◌, ◌≤◌, ℕ, length, IsTrue, IsOk, IfOk, IfErr};
 ghost use Rattle.aig_core.specs.Wellformed.{IsWellFormed, IsWithinLimits};
-ghost use Rattle.aig_binary.specs.BinaryOrder.{IsInBinaryOrder};
-ghost use Rattle.aig_binary.specs.Parts.Numbered.{AreNumbered, AreSectionsInOrder, IsGateOf, IsInputOf, IsLatchOf};
+ghost use Rattle.aig_core.specs.BinaryOrder.{IsInBinaryOrder};
+ghost use Rattle.aig_core.specs.Parts.Numbered.{AreNumbered, AreSectionsInOrder, IsGateOf, IsInputOf, IsLatchOf};
 
-use aig_core::{Checked, Circuit, Gate, Latch, Var};
+use crate::checked::Checked;
+use crate::circuit::{Circuit, Gate, Latch};
+use crate::literal::Var;
 use std::marker::Model;
 
 /// A circuit that is well formed and in binary order. `try_from_checked` makes one of any circuit that is,
@@ -17,7 +19,7 @@ pub struct Ordered {
 impl Model for Ordered {
     ghost use Rattle.aig_core.specs.declared.circuit.Circuit.{Circuit as CircuitRecord};
     ghost use Rattle.aig_core.specs.Wellformed.{IsWellFormed as IsGood};
-    ghost use Rattle.aig_binary.specs.BinaryOrder.{IsInBinaryOrder as IsInOrder};
+    ghost use Rattle.aig_core.specs.BinaryOrder.{IsInBinaryOrder as IsInOrder};
 
     ghost Value = { CircuitRecord };
 
@@ -95,7 +97,7 @@ fn are_sections_in_order(circuit: &Circuit) -> bool
 }
 
 /// Whether a circuit is in binary order. It is gone over once, and no memory is taken.
-#[tactic(auto, using(crate::proofs::InOrder::by_sections, crate::proofs::InOrder::all_sections))]
+#[tactic(auto, using(crate::proofs::NumberedOn::by_sections, crate::proofs::NumberedOn::all_sections))]
 pub fn is_in_binary_order(checked: &Checked) -> bool
     ensures { IsTrue result ↔ IsInBinaryOrder checked.now }
 {

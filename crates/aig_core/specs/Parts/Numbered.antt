@@ -3,7 +3,6 @@ use Rattle.std.specs.Prelude.{◌≡◌, ◌+◌, ◌<◌, ◌≤◌, ℕ, suc, 
 use Rattle.aig_core.specs.declared.circuit.Latch.{Latch}
 use Rattle.aig_core.specs.declared.circuit.Gate.{Gate}
 use Rattle.aig_core.specs.declared.circuit.Circuit.{Circuit}
-use Rattle.aig_core.specs.declared.circuit.TheConstants.{LARGEST}
 use Rattle.aig_core.specs.Literal.{literal_of}
 
 -- each entry is right for its variable: the first for this one, and each other one for the next
@@ -26,9 +25,3 @@ pub record AreSectionsInOrder (c : Circuit) : Type 0 where
   pub inputs : AreNumbered IsInputOf 1 c.inputs
   pub latches : AreNumbered IsLatchOf (1 + length c.inputs) c.latches
   pub gates : AreNumbered IsGateOf (1 + length c.inputs + length c.latches) c.gates
-
--- how much each literal is below the one before it is a number below 2^32
-pub record HasDeltas (g : Gate) : Type 0 where
-  pub small : g.var ≤ LARGEST
-  pub first : g.left < literal_of g.var
-  pub second : g.right ≤ g.left

@@ -1,6 +1,6 @@
 use Rattle.std.proofs.Common.{◌≡◌, ◌↔◌, ◌+◌, drop}
-use Rattle.aig_binary.specs.Parts.Numbered.{AreNumbered}
-use Rattle.aig_binary.proofs.ordered.are_in_order.Given as goal
+use Rattle.aig_core.specs.Parts.Numbered.{AreNumbered}
+use Rattle.aig_core.proofs.ordered.are_in_order.Given as goal
 
 abbrev pub invariant-loop-item : goal.invariant-loop-item
 invariant-loop-item g l = record {

@@ -5,8 +5,8 @@ use Rattle.std.proofs.lemmas.List.{map-id}
 use Rattle.aig_core.specs.declared.circuit.Latch.{Latch}
 use Rattle.aig_core.specs.declared.circuit.Gate.{Gate}
 use Rattle.aig_core.specs.declared.circuit.Circuit.{Circuit}
-use Rattle.aig_binary.specs.BinaryOrder.{AreOrderedGates, IsInBinaryOrder}
-use Rattle.aig_binary.specs.Parts.Numbered.{AreNumbered, AreSectionsInOrder, IsGateOf}
+use Rattle.aig_core.specs.BinaryOrder.{AreOrderedGates, IsInBinaryOrder}
+use Rattle.aig_core.specs.Parts.Numbered.{AreNumbered, AreSectionsInOrder, IsGateOf}
 
 -- entries whose variables are numbered on
 module _ {X : Type 0} (f : X → ℕ) where

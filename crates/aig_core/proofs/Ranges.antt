@@ -5,7 +5,7 @@ use Rattle.std.proofs.lemmas.Bool.{cases_lt}
 use Rattle.aig_core.specs.declared.circuit.Gate.{Gate}
 use Rattle.aig_core.specs.declared.circuit.Circuit.{Circuit}
 use Rattle.aig_core.specs.Wellformed.{IsAmong, AreDistinct, IsKnown, defined_variables}
-use Rattle.aig_binary.specs.BinaryOrder.{AreOrderedGates, IsInBinaryOrder}
+use Rattle.aig_core.specs.BinaryOrder.{AreOrderedGates, IsInBinaryOrder}
 
 -- numbers, and the next ones behind them
 pub ranges_joined : (a m n : ℕ) → range_with_len a m ++ range_with_len (a + m) n ≡ range_with_len a (m + n)
@@ -16,6 +16,16 @@ ranges_joined a (suc m) n =
     ap (λ (k : ℕ). a ∷ (range_with_len (a + 1) m ++ range_with_len k n)) next
     ∙ ap (λ (ns : List ℕ). a ∷ ns) (ranges_joined (a + 1) m n)
     ∙ ap (range_with_len a) all
+
+-- one number more
+range_last : (a n : ℕ) → range_with_len a (suc n) ≡ range_with_len a n ++ (a + n) ∷ []
+range_last a zero = let e : a + 0 ≡ a = omega arith in rw e refl
+range_last a (suc n) =
+    let one : a + 1 + n ≡ a + suc n = omega arith in
+    ap (λ (ns : List ℕ). a ∷ ns) (rw one at (range_last (a + 1) n))
+
+pub range_more : (a n : ℕ) → range_with_len a (n + 1) ≡ range_with_len a n ++ (a + n) ∷ []
+range_more a n = ap (range_with_len a) (add-one n) ∙ range_last a n
 
 -- what holds of each of them
 pub each_in_range : (P : ℕ → Type 0) (a n : ℕ) → ((x : ℕ) → a ≤ x → x < a + n → P x) → AllByRecursion P (range_with_len a n)
