@@ -23,7 +23,7 @@ all_weaker P Q weaker [] all = tt
 all_weaker P Q weaker (x ∷ xs) all = (weaker x all.0, all_weaker P Q weaker xs all.1)
 
 -- a list that has a number, by a test, has it
-among_from_test : (x : ℕ) (xs : List ℕ) → list_any (eqb x) xs ≡ true → IsAmong x xs
+pub among_from_test : (x : ℕ) (xs : List ℕ) → list_any (eqb x) xs ≡ true → IsAmong x xs
 among_from_test x [] h = cc
 among_from_test x (y ∷ ys) h =
     elim (eqb x y) as (λ b. eqb x y ≡ b → (b || list_any (eqb x) ys) ≡ true → (x ≡ y) ⊎ IsAmong x ys) [
@@ -37,7 +37,7 @@ differs x [] h = tt
 differs x (y ∷ ys) h =
     (⊎_elim (λ (t : (eqb x y ≡ true) × (x ≡ y)). absurd (h (inl t.1))) (λ (f : (eqb x y ≡ false) × (x ≢ y)). f.0) (eqb_tells x y), differs x ys (λ a. h (inr a)))
 
-distinct_by_test : (xs : List ℕ) → AreDistinct xs → IsDistinct eqb xs
+pub distinct_by_test : (xs : List ℕ) → AreDistinct xs → IsDistinct eqb xs
 unfolding IsDistinct
 distinct_by_test [] d = tt
 distinct_by_test (x ∷ xs) d = IsDistinct-cons eqb x xs (differs x xs d.0) (distinct_by_test xs d.1)

@@ -1,10 +1,15 @@
 -- Numbers one after another: the variables that a circuit in binary order defines.
-use Rattle.std.proofs.Common.{◌≡◌, ◌+◌, ◌*◌, ◌/◌, ◌<◌, ◌≤◌, ℕ, zero, suc, List, [], ◌∷◌, ◌++◌, length, map, refl, sym, ap, ap₂, ◌∙◌, arith, inl, inr, ⊎_elim, add-one}
-use Rattle.std.specs.List.{AllByRecursion, range_with_len}
+use Rattle.std.proofs.Common.{◌≡◌, ◌+◌, ◌*◌, ◌/◌, ◌<◌, ◌≤◌, ◌||◌, ℕ, zero, suc, List, [], ◌∷◌, ◌++◌, true, false, eqb, length, map, refl, sym, ap, ap₂, ◌∙◌, arith, inl, inr, ⊎_elim, add-one}
+use Rattle.std.specs.List.{AllByRecursion, list_any, range_with_len}
 use Rattle.std.proofs.lemmas.Bool.{cases_lt}
+use Rattle.std.proofs.lemmas.Bool.Decides.{Decides-eqb}
+use Rattle.std.proofs.lemmas.Cmp.{nat_eq_equiv}
+use Rattle.std.proofs.lemmas.List.FromFn.{length-range_with_len}
+use Rattle.std.proofs.lemmas.Map.Made.{length-le_from_is_member}
 use Rattle.aig_core.specs.declared.circuit.Gate.{Gate}
 use Rattle.aig_core.specs.declared.circuit.Circuit.{Circuit}
 use Rattle.aig_core.specs.Wellformed.{IsAmong, AreDistinct, IsKnown, defined_variables}
+use Rattle.aig_core.proofs.Fitting.{each, among_from_test, distinct_by_test}
 use Rattle.aig_core.specs.BinaryOrder.{AreOrderedGates, IsInBinaryOrder}
 
 -- numbers, and the next ones behind them
@@ -69,3 +74,21 @@ variables_are c o =
     (gates_define (1 + i + l) c.gates o.gates ∙ ap (λ (k : ℕ). range_with_len k (length c.gates)) next)
     ∙ ranges_joined 1 (i + l) (length c.gates)
     ∙ ap (range_with_len 1) (sym o.all)
+
+-- a test finds what stands in a list
+test_from_among : (x : ℕ) (xs : List ℕ) → IsAmong x xs → list_any (eqb x) xs ≡ true
+test_from_among x [] a = absurd a
+test_from_among x (y ∷ ys) a =
+    ⊎_elim (λ (e : x ≡ y). rw ((Decides-eqb x y).1 e) refl)
+    (λ (i : IsAmong x ys). ap (λ b. eqb x y || b) (test_from_among x ys i) ∙ elim (eqb x y) as (λ b. (b || true) ≡ true) [ true ↦ refl | false ↦ refl ]) a
+
+-- a list that has all numbers below n has n numbers at least
+pub at_least_below : (n : ℕ) (xs : List ℕ) → ((x : ℕ) → x < n → IsAmong x xs) → n ≤ length xs
+at_least_below n xs all =
+    let numbers : List ℕ = range_with_len 0 n in
+    let below : (q : ℕ) → IsAmong q numbers → q < n =
+    each (λ q. q < n) numbers (each_in_range (λ q. q < n) 0 n (λ q low high. omega (arith, high))) in
+    let fits : length numbers ≤ length xs =
+    length-le_from_is_member nat_eq_equiv numbers xs (distinct_by_test numbers (distinct 0 n))
+    (λ q h. test_from_among q xs (all q (below q (among_from_test q numbers h)))) in
+    omega (arith, fits, length-range_with_len 0 n)

@@ -15,17 +15,18 @@ use Rattle.aig_core.proofs.InForm.{front, back}
 use Rattle.aig_core.proofs.Ranked.{at}
 use Rattle.aig_core.proofs.Steps.{all_of}
 use Rattle.aig_order.specs.declared.map_block.MapBlock.{MapBlock}
-use Rattle.aig_order.specs.Image.{latch_image, gate_image}
+use Rattle.aig_image.specs.Image.{latch_image, gate_image}
 use Rattle.aig_order.specs.MapBlock.{map_block, mapped_by}
-use Rattle.aig_order.specs.Renumbering.{in_new_order, renumbered, renumbered_literal, taken}
-use Rattle.aig_order.specs.Undone.{source_variables, source_variable, source_literal, source_latch, source_gate, undone, comment_behind}
+use Rattle.aig_image.specs.Renumbering.{in_new_order, renumbered, renumbered_literal, taken, source_variable}
+use Rattle.aig_order.specs.Undone.{source_variables, source_literal, source_latch, source_gate, undone, comment_behind}
 use Rattle.aig_order.proofs.Back.{back_variables, back_literals, back_latches}
-use Rattle.aig_order.proofs.Distinct.{among_first}
+use Rattle.aig_image.proofs.Distinct.{among_first}
 use Rattle.aig_order.proofs.GatesBack.{gates_back}
-use Rattle.aig_order.proofs.InPlace.{here, place_taken, taken_in_place}
-use Rattle.aig_order.proofs.Members.{new_once, not_more, there, listed, has_defined}
-use Rattle.aig_order.proofs.Sections.{some_gate, known}
-use Rattle.aig_order.proofs.Taken.{taken_variables}
+use Rattle.aig_image.proofs.Places.{here}
+use Rattle.aig_order.proofs.InPlace.{place_taken, taken_in_place}
+use Rattle.aig_image.proofs.Members.{new_once, not_more, there, listed, has_defined}
+use Rattle.aig_image.proofs.Sections.{some_gate, known}
+use Rattle.aig_image.proofs.Taken.{taken_variables}
 use Rattle.aig_order.proofs.ToldGates.{variables_back, image_there}
 
 -- the comment behind a block is that of the circuit

@@ -11,9 +11,9 @@ use Rattle.aig_order.specs.declared.map_block.MappedGate.{MappedGate}
 use Rattle.aig_order.specs.Parts.Turns.{position_at_place}
 use Rattle.aig_order.specs.Undone.{variable_at_place}
 use Rattle.aig_order.proofs.GatePlaces.{all_below, place_at, same_place}
-use Rattle.aig_order.proofs.InPlace.{somewhere}
+use Rattle.aig_image.proofs.Places.{somewhere, each_at}
 use Rattle.aig_order.proofs.Placed.{places}
-use Rattle.aig_order.proofs.ToldAt.{none_told, told_at, each_at}
+use Rattle.aig_order.proofs.ToldAt.{none_told, told_at}
 use Rattle.aig_order.proofs.ToldGates.{numbers_all}
 
 -- one place further, behind one more

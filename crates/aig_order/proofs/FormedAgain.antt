@@ -7,18 +7,17 @@ use Rattle.aig_core.specs.declared.circuit.Latch.{Latch}
 use Rattle.aig_core.specs.declared.circuit.Kind.{Kind}
 use Rattle.aig_core.specs.declared.circuit.Kind.TheVariants as kinds
 use Rattle.aig_core.specs.declared.circuit.Circuit.{Circuit}
-use Rattle.aig_core.specs.Wellformed.{IsAmong, AreDistinct, IsVariableUpTo, IsKnown, IsWithinLimits}
-use Rattle.aig_core.specs.Wellformed.{HasGoodSymbols, HasRank, IsWellFormed}
-use Rattle.aig_core.specs.Wellformed.{count_of, defined_variables, used_literals, operands}
+use Rattle.aig_core.specs.Wellformed.{IsAmong, AreDistinct, IsVariableUpTo, IsKnown, IsWithinLimits, HasGoodSymbols, HasRank, IsWellFormed, count_of, defined_variables, used_literals, operands}
 use Rattle.aig_core.proofs.Fitting.{well_formed_in_form}
 use Rattle.aig_core.proofs.InForm.{joined, front, back}
 use Rattle.aig_core.specs.BinaryOrder.{AreOrderedGates, IsInBinaryOrder}
 use Rattle.aig_order.specs.declared.map_block.MappedGate.{MappedGate}
 use Rattle.aig_order.specs.declared.map_block.MapBlock.{MapBlock}
 use Rattle.aig_order.specs.MapReading.{HasCountsOf, IsWithinBounds}
-use Rattle.aig_order.specs.Undone.{source_variables, source_variable, source_literal, source_latch, source_gate, undone}
+use Rattle.aig_image.specs.Renumbering.{source_variable}
+use Rattle.aig_order.specs.Undone.{source_variables, source_literal, source_latch, source_gate, undone}
 use Rattle.aig_order.proofs.GatePlaces.{told_variables, in_a_row, as_many}
-use Rattle.aig_order.proofs.Ordered.{positions_kept}
+use Rattle.aig_image.proofs.Ordered.{positions_kept}
 use Rattle.aig_order.proofs.Placed.{places}
 use Rattle.aig_order.proofs.SourceDefined.{first, told, told_is_defined, source_is_told, source_once}
 use Rattle.aig_order.proofs.SourceRanks.{rank, places_rank, all_stand}

@@ -8,9 +8,9 @@ use Rattle.aig_core.specs.declared.circuit.Gate.{Gate}
 use Rattle.aig_core.specs.Wellformed.{IsAmong, AreDistinct}
 use Rattle.aig_core.proofs.Ranked.{no_gate}
 use Rattle.aig_order.specs.declared.map_block.MappedGate.{MappedGate}
-use Rattle.aig_order.specs.Image.{gate_image}
+use Rattle.aig_image.specs.Image.{gate_image}
 use Rattle.aig_order.specs.MapBlock.{mapped_gate}
-use Rattle.aig_order.specs.Renumbering.{renumbered, renumbered_literal}
+use Rattle.aig_image.specs.Renumbering.{renumbered, renumbered_literal}
 use Rattle.aig_order.specs.Undone.{source_literal, source_gate}
 use Rattle.aig_order.proofs.NumbersAgain.{literal_again}
 

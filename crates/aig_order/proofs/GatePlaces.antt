@@ -11,7 +11,7 @@ use Rattle.aig_core.proofs.Fitting.{at_most_below}
 use Rattle.aig_core.proofs.LeastReady.{among_or_not}
 use Rattle.aig_order.specs.declared.map_block.MappedGate.{MappedGate}
 use Rattle.aig_order.specs.Undone.{variable_at_place}
-use Rattle.aig_order.proofs.InPlace.{somewhere, here}
+use Rattle.aig_image.proofs.Places.{somewhere, here}
 use Rattle.aig_order.proofs.Placed.{places, variable_here, variable_later}
 use Rattle.aig_order.proofs.ToldAt.{none_told, told_at}
 use Rattle.aig_order.proofs.ToldGates.{distinct_by_places, numbers_all}

@@ -11,19 +11,19 @@ use Rattle.aig_core.proofs.Ranked.{at, no_gate}
 use Rattle.aig_core.specs.BinaryOrder.{IsInBinaryOrder}
 use Rattle.aig_order.specs.declared.map_block.MappedGate.{MappedGate}
 use Rattle.aig_order.specs.declared.map_block.MapBlock.{MapBlock}
-use Rattle.aig_order.specs.Image.{gate_image}
+use Rattle.aig_image.specs.Image.{gate_image}
 use Rattle.aig_order.specs.MapBlock.{mapped_gate}
 use Rattle.aig_order.specs.MapReading.{HasCountsOf}
 use Rattle.aig_order.specs.Parts.Confirmed.{HasTwoOperands, TellsExchanges}
 use Rattle.aig_order.specs.Parts.Turns.{positions, position_at_place}
-use Rattle.aig_order.specs.Renumbering.{renumbered, taken}
-use Rattle.aig_order.specs.Undone.{source_variable, source_latch}
+use Rattle.aig_image.specs.Renumbering.{renumbered, taken, source_variable}
+use Rattle.aig_order.specs.Undone.{source_latch}
 use Rattle.aig_order.proofs.ByPlace.{has_place}
 use Rattle.aig_order.proofs.GateAgain.{gate_again, told_again}
-use Rattle.aig_order.proofs.OneByOne.{ordered_at}
-use Rattle.aig_order.proofs.ToldAt.{none_told, told_at, each_at}
-use Rattle.aig_order.proofs.Turned.{vs, source, as_many, gates_many, order_many, order_at, once, some, one_there}
-use Rattle.aig_order.proofs.Turned.{number_is, source_gate_at}
+use Rattle.aig_image.proofs.OneByOne.{ordered_at}
+use Rattle.aig_image.proofs.Places.{each_at}
+use Rattle.aig_order.proofs.ToldAt.{none_told, told_at}
+use Rattle.aig_order.proofs.Turned.{vs, source, as_many, gates_many, order_many, order_at, once, some, one_there, number_is, source_gate_at}
 
 module _ (x : Circuit) (b : MapBlock) (comment : Option (List ℕ)) (ordered : IsInBinaryOrder x)
     (counts : HasCountsOf b x) where

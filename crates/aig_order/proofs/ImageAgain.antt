@@ -15,12 +15,12 @@ use Rattle.aig_core.proofs.InForm.{front, back}
 use Rattle.aig_core.proofs.Ranked.{variables}
 use Rattle.aig_core.specs.BinaryOrder.{IsInBinaryOrder}
 use Rattle.aig_order.specs.declared.map_block.MapBlock.{MapBlock}
-use Rattle.aig_order.specs.Image.{latch_image, gate_image}
+use Rattle.aig_image.specs.Image.{latch_image, gate_image}
 use Rattle.aig_order.specs.MapBlock.{block_text, mapped_gate, map_block, mapped_by}
 use Rattle.aig_order.specs.MapReading.{HasCountsOf}
 use Rattle.aig_order.specs.Parts.Confirmed.{TellsExchanges, TellsComment}
 use Rattle.aig_order.specs.Parts.Turns.{positions}
-use Rattle.aig_order.specs.Renumbering.{in_new_order, renumbered, renumbered_literal, taken}
+use Rattle.aig_image.specs.Renumbering.{in_new_order, renumbered, renumbered_literal, taken}
 use Rattle.aig_order.specs.Undone.{undone, comment_behind}
 use Rattle.aig_order.proofs.GatesAgain.{gates_again, told_gates_again}
 use Rattle.aig_order.proofs.NumbersAgain.{variables_again, literals_again, latches_again}

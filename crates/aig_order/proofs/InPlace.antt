@@ -5,22 +5,9 @@ use Rattle.std.proofs.lemmas.List.{length-map, map-append, length-take-le}
 use Rattle.aig_core.specs.declared.circuit.Gate.{Gate}
 use Rattle.aig_core.specs.Wellformed.{IsAmong, AreDistinct}
 use Rattle.aig_core.proofs.Ranked.{at}
-use Rattle.aig_order.specs.Renumbering.{renumbered, taken}
-use Rattle.aig_order.proofs.Places.{number_of}
-use Rattle.aig_order.proofs.Taken.{taken_variables}
-
--- what is in a list stands somewhere
-pub somewhere : (x : ℕ) (xs : List ℕ) → IsAmong x xs → (j : ℕ) × (j < length xs) × (get_or xs j 0 ≡ x)
-somewhere x [] a = absurd a
-somewhere x (y ∷ xs) a =
-    ⊎_elim (λ (e : x ≡ y). (zero, omega arith, sym e))
-    (λ (i : IsAmong x xs). let later = somewhere x xs i in let below : later.0 < length xs = later.1 in (suc later.0, omega (arith, below), later.2)) a
-
--- what stands at a place is in the list
-pub here : (xs : List ℕ) (j : ℕ) → j < length xs → IsAmong (get_or xs j 0) xs
-here [] j below = absurd (omega arith)
-here (x ∷ xs) zero below = inl refl
-here (x ∷ xs) (suc j) below = inr (here xs j (omega arith))
+use Rattle.aig_image.specs.Renumbering.{renumbered, taken}
+use Rattle.aig_image.proofs.Places.{here, number_of, somewhere}
+use Rattle.aig_image.proofs.Taken.{taken_variables}
 
 module _ (gates : List Gate) (first order : List ℕ) (once : AreDistinct (first ++ taken_variables gates order)) (start : ℕ) (starts : start ≡ 1 + length first)
     (there : (g : ℕ) → IsAmong g order → g < length gates) (listed : (g : ℕ) → g < length gates → IsAmong g order) (some : (g : ℕ) → g < length gates → 1 ≤ (at gates g).var) where

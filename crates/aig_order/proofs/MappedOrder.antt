@@ -7,9 +7,9 @@ use Rattle.aig_core.specs.declared.circuit.Circuit.{Circuit}
 use Rattle.aig_core.specs.Wellformed.{IsWellFormed, count_of}
 use Rattle.aig_core.proofs.LeastReady.{a_least_ready_order, one_least_ready_order}
 use Rattle.aig_core.specs.BinaryOrder.{IsInBinaryOrder}
-use Rattle.aig_order.specs.Image.{image_by}
+use Rattle.aig_image.specs.Image.{image_by}
 use Rattle.aig_order.specs.MapBlock.{mapped_by, IsMappedImage}
-use Rattle.aig_order.proofs.Ordered.{positions_kept, image_is_ordered}
+use Rattle.aig_image.proofs.Ordered.{positions_kept, image_is_ordered}
 
 -- the same circuit with another comment
 module _ (c : Circuit) (comment : Option (List ℕ)) where

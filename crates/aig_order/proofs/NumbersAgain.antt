@@ -10,12 +10,10 @@ use Rattle.aig_core.specs.Form.{IsLiteralUpTo}
 use Rattle.aig_core.specs.Literal.{variable_of}
 use Rattle.aig_core.specs.Wellformed.{IsAmong, AreDistinct, IsVariableUpTo}
 use Rattle.aig_core.proofs.Makers.{latch}
-use Rattle.aig_order.specs.Image.{latch_image}
-use Rattle.aig_order.specs.Renumbering.{renumbered, renumbered_literal}
-use Rattle.aig_order.specs.Undone.{source_variable, source_literal, source_latch}
-use Rattle.aig_order.proofs.Back.{by_place}
-use Rattle.aig_order.proofs.InPlace.{here}
-use Rattle.aig_order.proofs.Places.{number_of}
+use Rattle.aig_image.specs.Image.{latch_image}
+use Rattle.aig_image.specs.Renumbering.{renumbered, renumbered_literal, source_variable}
+use Rattle.aig_order.specs.Undone.{source_literal, source_latch}
+use Rattle.aig_image.proofs.Back.{back_again, by_place}
 
 -- numbers in a row, carried back to the variables that have them
 pub read_off : (vs pre mid post : List ℕ) → vs ≡ pre ++ (mid ++ post)
@@ -36,16 +34,8 @@ latch_variables vs [] = refl
 latch_variables vs (l ∷ ls) = ap (λ (ns : List ℕ). source_variable vs l.var ∷ ns) (latch_variables vs ls)
 
 module _ (vs : List ℕ) (once : AreDistinct vs) (some : (v : ℕ) → IsAmong v vs → 1 ≤ v) where
-  pub variable_again : (n : ℕ) → n ≤ length vs → renumbered vs (source_variable vs n) ≡ n
-  variable_again zero fits = refl
-  variable_again (suc k) fits =
-      let below : k < length vs = omega (arith, fits) in
-      let v : ℕ = get_or vs k 0 in
-      let same : suc k ≡ 1 + k = omega arith in
-      ap (λ n. renumbered vs (source_variable vs n)) same
-      ∙ ap (renumbered vs) (by_place vs k)
-      ∙ number_of vs (take k vs) (drop (suc k) vs) v once (some v (here vs k below)) (split_at vs k 0 below)
-      ∙ omega (arith, length-take-le k vs (omega (arith, below)))
+  abbrev variable_again : (n : ℕ) → n ≤ length vs → renumbered vs (source_variable vs n) ≡ n
+  variable_again = back_again vs once some
 
   pub literal_again : (l : ℕ) → l ≤ 2 * length vs + 1 → renumbered_literal vs (source_literal vs l) ≡ l
   literal_again l fits =

@@ -16,15 +16,17 @@ use Rattle.aig_order.specs.declared.map_block.MappedGate.{MappedGate}
 use Rattle.aig_order.specs.declared.map_block.MapBlock.{MapBlock}
 use Rattle.aig_order.specs.MapReading.{HasCountsOf, IsWithinBounds}
 use Rattle.aig_order.specs.Parts.Turns.{position_at_place}
-use Rattle.aig_order.specs.Undone.{source_variables, source_variable, source_latch, source_gate, variable_at_place}
-use Rattle.aig_order.proofs.Back.{by_place as by_number}
-use Rattle.aig_order.proofs.Distinct.{among_first, apart}
+use Rattle.aig_image.specs.Renumbering.{source_variable}
+use Rattle.aig_order.specs.Undone.{source_variables, source_latch, source_gate, variable_at_place}
+use Rattle.aig_image.proofs.Back.{by_place as by_number}
+use Rattle.aig_image.proofs.Distinct.{among_first, apart}
 use Rattle.aig_order.proofs.EachPlace.{variable_by_position, by_gate, by_place}
 use Rattle.aig_order.proofs.OperandsHad.{latch_variables, inputs_had, latches_had}
 use Rattle.aig_order.proofs.Placed.{places}
 use Rattle.aig_order.proofs.SourceVariables.{places_there}
-use Rattle.aig_order.proofs.Taken.{same_gate}
-use Rattle.aig_order.proofs.ToldAt.{none_told, told_at, each_at}
+use Rattle.aig_image.proofs.Taken.{same_gate}
+use Rattle.aig_image.proofs.Places.{each_at}
+use Rattle.aig_order.proofs.ToldAt.{none_told, told_at}
 
 -- a circuit in binary order, and a block that fits it
 pub record IsFit (b : MapBlock) (x : Circuit) : Type 0 where

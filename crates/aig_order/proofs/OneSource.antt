@@ -14,14 +14,14 @@ use Rattle.aig_core.proofs.Ranked.{variables}
 use Rattle.aig_order.specs.declared.fault.MapFault.{MapFault}
 use Rattle.aig_order.specs.declared.map_block.MappedGate.{MappedGate}
 use Rattle.aig_order.specs.declared.map_block.MapBlock.{MapBlock}
-use Rattle.aig_order.specs.Image.{latch_image, gate_image}
+use Rattle.aig_image.specs.Image.{latch_image, gate_image}
 use Rattle.aig_order.specs.MapBlock.{mapped_gate, map_block, mapped_by, IsMappedImage}
 use Rattle.aig_order.specs.MapReading.{block_reading, HasCountsOf, IsWithinBounds}
-use Rattle.aig_order.specs.Renumbering.{in_new_order, renumbered, taken}
+use Rattle.aig_image.specs.Renumbering.{in_new_order, renumbered, taken}
 use Rattle.aig_order.specs.Undone.{undone, comment_behind, IsUndoneFrom}
 use Rattle.aig_order.proofs.BlockText.{block_is_read}
 use Rattle.aig_order.proofs.Carried.{by_order, by_gate, carried_back}
-use Rattle.aig_order.proofs.Members.{not_more}
+use Rattle.aig_image.proofs.Members.{not_more}
 use Rattle.aig_order.proofs.ToldGates.{as_many, places_below, places_distinct}
 
 -- what is told of gates is within bounds, where their variables and their places are

@@ -4,7 +4,8 @@ use Rattle.std.proofs.Common.{sym, ap, ◌∙◌, ◌⊎◌, inl, inr, ⊎_elim,
 use Rattle.aig_core.specs.declared.circuit.Latch.{Latch}
 use Rattle.aig_core.specs.Literal.{variable_of}
 use Rattle.aig_core.specs.Wellformed.{IsAmong}
-use Rattle.aig_order.specs.Undone.{source_variable, source_literal, source_latch}
+use Rattle.aig_image.specs.Renumbering.{source_variable}
+use Rattle.aig_order.specs.Undone.{source_literal, source_latch}
 
 -- the variables of a list of latches
 abbrev pub latch_variables : List Latch → List ℕ

@@ -16,10 +16,10 @@ use Rattle.aig_order.specs.declared.map_block.MapBlock.{MapBlock}
 use Rattle.aig_order.specs.MapBlock.{mapped_gate, map_block, IsMappedImage}
 use Rattle.aig_order.specs.MapReading.{block_reading}
 use Rattle.aig_order.specs.Parts.Turns.{positions, position_at_place}
-use Rattle.aig_order.specs.Renumbering.{in_new_order}
+use Rattle.aig_image.specs.Renumbering.{in_new_order}
 use Rattle.aig_order.proofs.ToldAt.{none_told}
 use Rattle.aig_order.proofs.Carried.{by_order, by_gate}
-use Rattle.aig_order.proofs.Members.{not_more}
+use Rattle.aig_image.proofs.Members.{not_more}
 use Rattle.aig_order.proofs.OneSource.{mapped_reading, one_reading}
 use Rattle.aig_order.proofs.ToldGates.{as_many}
 

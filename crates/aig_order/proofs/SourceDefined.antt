@@ -16,10 +16,11 @@ use Rattle.aig_core.specs.BinaryOrder.{IsInBinaryOrder}
 use Rattle.aig_order.specs.declared.map_block.MappedGate.{MappedGate}
 use Rattle.aig_order.specs.declared.map_block.MapBlock.{MapBlock}
 use Rattle.aig_order.specs.MapReading.{HasCountsOf}
-use Rattle.aig_order.specs.Undone.{source_variables, source_variable, source_latch, source_gate, undone}
-use Rattle.aig_order.proofs.Back.{by_place}
+use Rattle.aig_image.specs.Renumbering.{source_variable}
+use Rattle.aig_order.specs.Undone.{source_variables, source_latch, source_gate, undone}
+use Rattle.aig_image.proofs.Back.{by_place}
 use Rattle.aig_order.proofs.GatePlaces.{told_variables, in_a_row, row_is_told, row_once}
-use Rattle.aig_order.proofs.Distinct.{among_first, apart, front, joined}
+use Rattle.aig_image.proofs.Distinct.{among_first, apart, front, joined}
 use Rattle.aig_order.proofs.Placed.{places}
 
 -- numbers that follow on one another, carried back, are the variables that follow on one another in the list

@@ -14,11 +14,12 @@ use Rattle.aig_order.specs.declared.map_block.MapBlock.{MapBlock}
 use Rattle.aig_order.specs.MapReading.{IsWithinBounds}
 use Rattle.aig_order.specs.Undone.{source_variables, source_literal, source_gate}
 use Rattle.aig_order.proofs.GatePlaces.{variable_there, in_a_row, as_many, row_at}
-use Rattle.aig_order.proofs.OneByOne.{ordered_at}
+use Rattle.aig_image.proofs.OneByOne.{ordered_at}
 use Rattle.aig_order.proofs.Placed.{places}
 use Rattle.aig_order.proofs.SourceDefined.{first}
 use Rattle.aig_order.proofs.SourceUses.{IsBefore, literal_before, of_either, place_is}
-use Rattle.aig_order.proofs.ToldAt.{none_told, told_at, each_at}
+use Rattle.aig_image.proofs.Places.{each_at}
+use Rattle.aig_order.proofs.ToldAt.{none_told, told_at}
 
 -- a gate whose variable stands in a list, and those of its operands before it
 pub record StandsIn (vs : List ℕ) (g : Gate) : Type 0 where

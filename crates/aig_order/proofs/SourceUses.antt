@@ -12,10 +12,11 @@ use Rattle.aig_core.specs.Literal.{variable_of}
 use Rattle.aig_core.specs.Wellformed.{IsAmong, AreDistinct, IsKnown, operands}
 use Rattle.aig_core.proofs.Ranked.{at}
 use Rattle.aig_order.specs.declared.map_block.MappedGate.{MappedGate}
-use Rattle.aig_order.specs.Undone.{source_variable, source_literal, source_latch, source_gate}
+use Rattle.aig_image.specs.Renumbering.{source_variable}
+use Rattle.aig_order.specs.Undone.{source_literal, source_latch, source_gate}
 use Rattle.aig_order.proofs.GatePlaces.{same_place}
-use Rattle.aig_order.proofs.InPlace.{here}
-use Rattle.aig_order.proofs.Sections.{of_gate}
+use Rattle.aig_image.proofs.Places.{here}
+use Rattle.aig_image.proofs.Sections.{of_gate}
 
 -- in a list without repeats, the first place of a number is the one where it stands
 pub place_is : (xs : List ℕ) → AreDistinct xs → (i : ℕ) → i < length xs

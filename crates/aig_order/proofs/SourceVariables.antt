@@ -11,7 +11,8 @@ use Rattle.aig_order.specs.declared.map_block.MappedGate.{MappedGate}
 use Rattle.aig_order.specs.declared.map_block.MapBlock.{MapBlock}
 use Rattle.aig_order.specs.MapReading.{IsWithinBounds}
 use Rattle.aig_order.specs.Parts.Placed.{FitIntoLiterals}
-use Rattle.aig_order.specs.Undone.{variable_at_place, source_variables, source_variable}
+use Rattle.aig_image.specs.Renumbering.{source_variable}
+use Rattle.aig_order.specs.Undone.{variable_at_place, source_variables}
 use Rattle.aig_order.proofs.Placed.{IsGood, variable_here, variable_later}
 
 module _ (most count : ℕ) where

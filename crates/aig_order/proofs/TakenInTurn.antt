@@ -12,11 +12,12 @@ use Rattle.aig_core.proofs.Ranked.{at, over_one, needed_by}
 use Rattle.aig_order.specs.declared.map_block.MappedGate.{MappedGate}
 use Rattle.aig_order.specs.declared.map_block.MapBlock.{MapBlock}
 use Rattle.aig_order.specs.Parts.Turns.{positions, ready_at, AreTakenInTurn}
-use Rattle.aig_order.specs.Undone.{source_variables, source_variable, source_gate, undone}
+use Rattle.aig_image.specs.Renumbering.{source_variable}
+use Rattle.aig_order.specs.Undone.{source_variables, source_gate, undone}
 use Rattle.aig_order.proofs.LeastFirst as least
 use Rattle.aig_order.proofs.NumbersBack as back
 use Rattle.aig_order.proofs.NumbersBack.{IsFit, gates_had, start_of}
-use Rattle.aig_order.proofs.OneByOne.{ordered_at}
+use Rattle.aig_image.proofs.OneByOne.{ordered_at}
 use Rattle.aig_order.proofs.OperandsHad.{from_either, by_left}
 
 module _ (b : MapBlock) (x : Circuit) (comment : Option (List ℕ)) (fit : IsFit b x)

@@ -17,13 +17,13 @@ use Rattle.aig_core.proofs.InForm.{back}
 use Rattle.aig_core.proofs.Ranked.{variables}
 use Rattle.aig_order.specs.declared.map_block.MappedGate.{MappedGate}
 use Rattle.aig_order.specs.declared.map_block.MapBlock.{MapBlock}
-use Rattle.aig_order.specs.Image.{image_by}
+use Rattle.aig_image.specs.Image.{image_by}
 use Rattle.aig_order.specs.MapBlock.{block_text, mapped_gate, map_block, mapped_by, IsMappedImage}
-use Rattle.aig_order.specs.Parts.Renewed.{new_circuit}
-use Rattle.aig_order.specs.Parts.Numbers.{number_at, number_in, AreNumbered, AreSmall}
+use Rattle.aig_image.specs.Parts.Renewed.{new_circuit}
+use Rattle.aig_image.specs.Parts.Numbers.{number_at, number_in, AreNumbered, AreSmall}
 use Rattle.aig_order.specs.Parts.Told.{told_gate, told_block, told_comment}
-use Rattle.aig_order.specs.Renumbering.{in_new_order, taken}
-use Rattle.aig_order.proofs.Renewed.{same_literal, same_variable, by_numbers}
+use Rattle.aig_image.specs.Renumbering.{in_new_order, taken}
+use Rattle.aig_image.proofs.Renewed.{same_literal, same_variable, by_numbers}
 
 module _ (c : Circuit) (order : List ℕ) (good : IsWellFormed c) (least : IsLeastReadyOrder c order)
     (number : ℕ → ℕ) (told : (v : ℕ) → number v ≡ number_in (in_new_order c order) v) where

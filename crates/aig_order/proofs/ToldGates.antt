@@ -9,12 +9,12 @@ use Rattle.aig_core.specs.Wellformed.{IsAmong, AreDistinct}
 use Rattle.aig_core.proofs.Fitting.{at_most_below}
 use Rattle.aig_core.proofs.Ranked.{at, no_gate}
 use Rattle.aig_order.specs.declared.map_block.MappedGate.{MappedGate}
-use Rattle.aig_order.specs.Image.{gate_image}
+use Rattle.aig_image.specs.Image.{gate_image}
 use Rattle.aig_order.specs.MapBlock.{mapped_gate}
-use Rattle.aig_order.specs.Renumbering.{renumbered, taken}
+use Rattle.aig_image.specs.Renumbering.{renumbered, taken}
 use Rattle.aig_order.specs.Undone.{variable_at_place}
-use Rattle.aig_order.proofs.InPlace.{somewhere}
-use Rattle.aig_order.proofs.Taken.{taken_variables}
+use Rattle.aig_image.proofs.Places.{somewhere}
+use Rattle.aig_image.proofs.Taken.{taken_variables}
 
 -- the variable at a place, where all gates with that place have this variable and there is one
 told_at : (k v : ℕ) (ms : List MappedGate) → AllByRecursion (λ (m : MappedGate). m.place ≡ k → m.var ≡ v) ms → IsAmong k (map (λ (m : MappedGate). m.place) ms) → variable_at_place ms k ≡ v

@@ -13,13 +13,13 @@ use Rattle.aig_core.specs.Wellformed.{IsWellFormed}
 use Rattle.aig_core.proofs.Ranked.{at, no_gate}
 use Rattle.aig_order.specs.declared.map_block.MappedGate.{MappedGate}
 use Rattle.aig_order.specs.declared.map_block.MapBlock.{MapBlock}
-use Rattle.aig_order.specs.Image.{gate_image}
+use Rattle.aig_image.specs.Image.{gate_image}
 use Rattle.aig_order.specs.MapBlock.{mapped_gate, map_block, mapped_by, IsMappedImage}
 use Rattle.aig_order.specs.MapReading.{block_reading}
 use Rattle.aig_order.specs.Parts.Confirmed.{HasTwoOperands, TellsExchanges, TellsComment}
-use Rattle.aig_order.specs.Renumbering.{in_new_order, renumbered_literal, taken}
+use Rattle.aig_image.specs.Renumbering.{in_new_order, renumbered_literal, taken}
 use Rattle.aig_order.proofs.Carried.{by_order, by_gate}
-use Rattle.aig_order.proofs.Members.{not_more}
+use Rattle.aig_image.proofs.Members.{not_more}
 use Rattle.aig_order.proofs.OneSource.{mapped_reading, one_reading}
 use Rattle.aig_order.proofs.ToldGates.{all_told, image_there}
 

@@ -14,18 +14,18 @@ use Rattle.aig_core.proofs.Fitting.{each}
 use Rattle.aig_core.proofs.Ranked.{at, no_gate, variables}
 use Rattle.aig_core.specs.BinaryOrder.{AreOrderedGates, IsInBinaryOrder}
 use Rattle.aig_order.specs.declared.map_block.MapBlock.{MapBlock}
-use Rattle.aig_order.specs.Image.{latch_image, gate_image, image_by}
+use Rattle.aig_image.specs.Image.{latch_image, gate_image, image_by}
 use Rattle.aig_order.specs.MapReading.{HasCountsOf}
 use Rattle.aig_order.specs.Parts.Turns.{positions, position_at_place}
-use Rattle.aig_order.specs.Renumbering.{in_new_order, renumbered, taken}
-use Rattle.aig_order.specs.Undone.{source_variables, source_variable, source_gate, undone, variable_at_place}
+use Rattle.aig_image.specs.Renumbering.{in_new_order, renumbered, taken, source_variable}
+use Rattle.aig_order.specs.Undone.{source_variables, source_gate, undone, variable_at_place}
 use Rattle.aig_order.proofs.ByPlace.{has_place, taken_by_place}
 use Rattle.aig_order.proofs.ToldAt.{none_told, told_at}
 use Rattle.aig_order.proofs.Carried.{by_order, by_gate}
-use Rattle.aig_order.proofs.Members.{new_once, is_defined, not_more}
+use Rattle.aig_image.proofs.Members.{new_once, is_defined, not_more}
 use Rattle.aig_order.proofs.NumbersAgain.{read_off, latch_variables}
-use Rattle.aig_order.proofs.OneByOne.{ordered_at}
-use Rattle.aig_order.proofs.Sections.{in_binary_order}
+use Rattle.aig_image.proofs.OneByOne.{ordered_at}
+use Rattle.aig_image.proofs.Sections.{in_binary_order}
 use Rattle.aig_order.proofs.ToldGates.{image_there}
 
 module _ (x : Circuit) (b : MapBlock) (comment : Option (List ℕ)) (ordered : IsInBinaryOrder x)

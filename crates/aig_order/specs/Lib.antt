@@ -1,5 +1,3 @@
-pub mod Renumbering
-pub mod Image
 pub mod MapBlock
 pub mod MapSpelling
 pub mod MapReading

@@ -11,8 +11,8 @@ use Rattle.aig_core.specs.Order.{IsLeastReadyOrder}
 use Rattle.aig_text.specs.AsciiText.{header_text, numbers_text}
 use Rattle.aig_order.specs.declared.map_block.MappedGate.{MappedGate}
 use Rattle.aig_order.specs.declared.map_block.MapBlock.{MapBlock}
-use Rattle.aig_order.specs.Renumbering.{in_new_order, renumbered, renumbered_literal}
-use Rattle.aig_order.specs.Image.{image_by}
+use Rattle.aig_image.specs.Renumbering.{in_new_order, renumbered, renumbered_literal}
+use Rattle.aig_image.specs.Image.{image_by}
 
 abbrev pub one_if : Bool → ℕ
 one_if b = if b then 1 else 0

@@ -3,9 +3,6 @@ pub mod Capped
 pub mod Confirmed
 pub mod MapFront
 pub mod MapOutcomes
-pub mod Numbers
 pub mod Placed
-pub mod Renewed
 pub mod Told
 pub mod Turns
-pub mod InOrder

@@ -9,6 +9,7 @@ use Rattle.aig_core.specs.declared.circuit.Circuit.{Circuit}
 use Rattle.aig_core.specs.Literal.{variable_of}
 use Rattle.aig_core.specs.Wellformed.{AreDistinct, IsWellFormed}
 use Rattle.aig_core.specs.BinaryOrder.{IsInBinaryOrder}
+use Rattle.aig_image.specs.Renumbering.{source_variable}
 use Rattle.aig_order.specs.declared.fault.MapFault.{MapFault}
 use Rattle.aig_order.specs.declared.fault.MapFault.TheVariants.{NotOrdered, Missing, Malformed, Mismatch, Forged, OutOfMemory}
 use Rattle.aig_order.specs.declared.map_block.MappedGate.{MappedGate}
@@ -23,10 +24,6 @@ variable_at_place gates place = unwrap_or (option_map (λ (g : MappedGate). g.va
 -- the variables of the source in their new order: inputs, latches, and gates by their places
 abbrev pub source_variables : MapBlock → List ℕ
 source_variables b = b.inputs ++ b.latches ++ map (variable_at_place b.gates) (range_with_len 0 (length b.gates))
-
--- the variable that had a number before, where the numbers follow on one another in this order; the constant stays
-abbrev pub source_variable : List ℕ → ℕ → ℕ
-source_variable variables number = if number == 0 then 0 else slice_index_or variables (number - 1) 0
 
 -- the literal with the sign that it has
 abbrev pub source_literal : List ℕ → ℕ → ℕ

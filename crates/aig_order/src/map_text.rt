@@ -3,12 +3,12 @@ ghost use Rattle.std.specs.Prelude.{◌≡◌, ◌+◌, ◌++◌, ◌∷◌, ◌
 ghost use Rattle.std.specs.List.{flat_map};
 ghost use Rattle.aig_text.specs.AsciiText.{spaced_number, more_numbers_text, numbers_text, header_text};
 ghost use Rattle.aig_order.specs.MapBlock.{variable_row, gate_row, map_word, block_text};
-ghost use Rattle.aig_order.specs.Parts.Numbers.{number_at, AreSmall};
+ghost use Rattle.aig_image.specs.Parts.Numbers.{number_at, AreSmall};
 ghost use Rattle.aig_order.specs.Parts.Told.{counted_row, told_gate, told_block, told_comment};
 
 use crate::map_block::MappedGate;
-use crate::numbers::{Defines, Numbers};
 use aig_core::{Circuit, Gate, LARGEST, Listing, OutOfMemory};
+use aig_image::{Defines, Numbers};
 use itoa::Buffer;
 use std::alloc::Global;
 

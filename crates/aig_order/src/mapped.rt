@@ -3,10 +3,9 @@ ghost use Rattle.std.specs.Prelude.{IfOk, OnOk};
 ghost use Rattle.aig_core.specs.Wellformed.{IsWellFormed};
 ghost use Rattle.aig_order.specs.MapBlock.{IsMappedImage};
 
-use crate::image::{by_numbers, in_checked_order};
 use crate::map_text::map_comment;
-use aig_binary::Ordered;
-use aig_core::{Checked, Circuit, OutOfMemory};
+use aig_core::{Checked, Circuit, Ordered, OutOfMemory};
+use aig_image::{by_numbers, in_checked_order};
 use std::alloc::Global;
 
 /// The mapped image of a circuit.

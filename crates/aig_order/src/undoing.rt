@@ -15,8 +15,7 @@ use crate::map_block::MapBlock;
 use crate::map_reading::read_block;
 use crate::turns::tells_order;
 use crate::undone::make_undone;
-use aig_binary::is_in_binary_order;
-use aig_core::{Checked, Circuit, OutOfMemory, is_defined_once};
+use aig_core::{Checked, Circuit, OutOfMemory, is_defined_once, is_in_binary_order};
 use std::alloc::Global;
 
 /// The source, which is forged where it is not well formed. Nothing else can be wrong with it than that a variable is

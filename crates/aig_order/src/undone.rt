@@ -7,7 +7,8 @@ ghost use Rattle.aig_order.specs.declared.fault.MapFault.TheVariants.{Forged as 
 ghost use Rattle.aig_order.specs.declared.map_block.MappedGate.{MappedGate as MappedGateRecord};
 ghost use Rattle.aig_order.specs.MapReading.{HasCountsOf, IsWithinBounds};
 ghost use Rattle.aig_order.specs.Parts.Placed.{table_of, with_gates, FitIntoLiterals};
-ghost use Rattle.aig_order.specs.Undone.{comment_behind, source_gate, source_latch, source_literal, source_variable};
+ghost use Rattle.aig_image.specs.Renumbering.{source_variable};
+ghost use Rattle.aig_order.specs.Undone.{comment_behind, source_gate, source_latch, source_literal};
 ghost use Rattle.aig_order.specs.Undone.{source_variables, undone};
 
 use crate::fault::MapFault;

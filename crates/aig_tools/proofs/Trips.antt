@@ -11,14 +11,14 @@ use Rattle.aig_text.specs.AsciiGrammar.{IsAsciiText}
 use Rattle.aig_core.specs.BinaryOrder.{IsInBinaryOrder}
 use Rattle.aig_binary.specs.BinaryText.{binary_text}
 use Rattle.aig_binary.proofs.Canonical.{canonical_binary}
-use Rattle.aig_order.specs.Image.{IsBinaryImage}
+use Rattle.aig_image.specs.Image.{IsBinaryImage}
 use Rattle.aig_order.specs.MapBlock.{IsMappedImage}
 use Rattle.aig_order.specs.Undone.{IsUndoneFrom}
 use Rattle.aig_order.proofs.MappedOrder.{mapped_image_is_ordered}
-use Rattle.aig_order.proofs.One.{image_is_one}
+use Rattle.aig_image.proofs.One.{image_is_one}
 use Rattle.aig_order.proofs.OneSource.{one_source, undoing_recovers}
 use Rattle.aig_order.proofs.Refused.{one_mapped}
-use Rattle.aig_order.proofs.OwnImage.{own_image}
+use Rattle.aig_image.proofs.OwnImage.{own_image}
 use Rattle.aig_command.specs.declared.request.ToAig.{ToAig}
 use Rattle.aig_tools.specs.File.{IsFileOf}
 use Rattle.aig_tools.specs.Conversion.{IsImageAs, IsSource, IsTextAs, IsConversionText, changed}

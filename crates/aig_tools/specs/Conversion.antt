@@ -3,7 +3,7 @@ use Rattle.std.specs.Prelude.{◌≡◌, ℕ, List, [], Bool, true, false, None,
 use Rattle.aig_core.specs.declared.circuit.Circuit.{Circuit}
 use Rattle.aig_text.specs.AsciiText.{ascii_text}
 use Rattle.aig_binary.specs.BinaryText.{binary_text}
-use Rattle.aig_order.specs.Image.{IsBinaryImage}
+use Rattle.aig_image.specs.Image.{IsBinaryImage}
 use Rattle.aig_order.specs.MapBlock.{IsMappedImage}
 use Rattle.aig_order.specs.Undone.{IsUndoneFrom}
 use Rattle.aig_command.specs.declared.request.ToAig.{ToAig}

@@ -3,7 +3,7 @@ use Rattle.std.specs.Prelude.{◌≤◌, ◌==◌, ℕ, List, [], ◌∷◌, len
 use Rattle.std.specs.Prelude.{Option, Some, None, slice_index, slice_set, if◌then◌else◌}
 use Rattle.aig_core.specs.declared.circuit.TheConstants.{LARGEST}
 use Rattle.aig_order.specs.declared.map_block.MappedGate.{MappedGate}
-use Rattle.aig_order.specs.Undone.{source_variable}
+use Rattle.aig_image.specs.Renumbering.{source_variable}
 
 -- A table has variables by place, 0 where there is none yet: the table with the variables of these gates too, unless
 -- one of them is put where there is one already.

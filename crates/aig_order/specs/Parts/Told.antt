@@ -7,7 +7,7 @@ use Rattle.aig_core.specs.declared.circuit.Circuit.{Circuit}
 use Rattle.aig_order.specs.declared.map_block.MappedGate.{MappedGate}
 use Rattle.aig_order.specs.declared.map_block.MapBlock.{MapBlock}
 use Rattle.aig_order.specs.MapBlock.{block_text, one_if}
-use Rattle.aig_order.specs.Parts.Renewed.{new_literal}
+use Rattle.aig_image.specs.Parts.Renewed.{new_literal}
 
 -- the numbers of the first line
 abbrev pub counted_row : Circuit → List ℕ

@@ -1,5 +1,5 @@
 use Rattle.std.proofs.Common.{arith}
-use Rattle.aig_order.specs.Parts.Numbers.{number_at}
+use Rattle.aig_image.specs.Parts.Numbers.{number_at}
 use Rattle.aig_order.proofs.Added.{block_added}
 use Rattle.aig_order.proofs.map_text.put_block.Goals as goal
 

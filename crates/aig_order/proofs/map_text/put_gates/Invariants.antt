@@ -2,7 +2,7 @@ use Rattle.std.proofs.Common.{◌≡◌, ◌++◌, take}
 use Rattle.std.specs.List.{flat_map}
 use Rattle.aig_text.specs.AsciiText.{numbers_text}
 use Rattle.aig_order.specs.MapBlock.{gate_row}
-use Rattle.aig_order.specs.Parts.Numbers.{number_at}
+use Rattle.aig_image.specs.Parts.Numbers.{number_at}
 use Rattle.aig_order.specs.Parts.Told.{told_gate}
 use Rattle.aig_order.proofs.map_text.put_gates.Given as goal
 

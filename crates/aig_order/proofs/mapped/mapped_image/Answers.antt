@@ -3,8 +3,8 @@ use Rattle.std.proofs.lemmas.Result.{IfOk-weaker}
 use Rattle.aig_core.specs.declared.circuit.Circuit.{Circuit}
 use Rattle.aig_core.specs.Wellformed.{IsWellFormed}
 use Rattle.aig_order.specs.MapBlock.{IsMappedImage}
-use Rattle.aig_order.specs.Parts.Renewed.{new_circuit}
-use Rattle.aig_order.specs.Parts.Numbers.{number_at}
+use Rattle.aig_image.specs.Parts.Renewed.{new_circuit}
+use Rattle.aig_image.specs.Parts.Numbers.{number_at}
 use Rattle.aig_order.specs.Parts.Told.{told_comment}
 use Rattle.aig_order.proofs.Told.{few_before_gates, is_mapped_image}
 use Rattle.aig_order.proofs.mapped.mapped_image.Goals as goal

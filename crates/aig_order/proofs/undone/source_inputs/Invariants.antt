@@ -1,5 +1,5 @@
 use Rattle.std.proofs.Common.{◌≡◌, map, take}
-use Rattle.aig_order.specs.Undone.{source_variable}
+use Rattle.aig_image.specs.Renumbering.{source_variable}
 use Rattle.aig_order.proofs.undone.source_inputs.Given as goal
 
 abbrev pub invariant-loop-input : goal.invariant-loop-input

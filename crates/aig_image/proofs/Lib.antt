@@ -1,0 +1,17 @@
+pub mod Distinct
+pub mod Places
+pub mod Taken
+pub mod Back
+pub mod InTurn
+pub mod Members
+pub mod Sections
+pub mod Ordered
+pub mod One
+pub mod OneByOne
+pub mod Same
+pub mod OwnImage
+pub mod OneToOne
+pub mod Noted
+pub mod KnownBefore
+pub mod StandInOrder
+pub mod Renewed

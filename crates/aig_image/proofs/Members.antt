@@ -1,0 +1,83 @@
+-- The least ready order of a well-formed circuit has each gate once, so its new order has each variable once.
+use Rattle.std.proofs.Common.{◌≡◌, ◌+◌, ◌<◌, ◌≤◌, ◌*◌, ℕ, List, [], ◌++◌, length, map, sym, subst, inl, inr, ⊎_elim, append-nil, arith}
+use Rattle.std.specs.List.{AllByRecursion}
+use Rattle.aig_core.specs.declared.circuit.Latch.{Latch}
+use Rattle.aig_core.specs.declared.circuit.Circuit.{Circuit}
+use Rattle.aig_core.specs.Literal.{variable_of}
+use Rattle.aig_core.specs.Wellformed.{IsAmong, AreDistinct, IsKnown, IsVariableUpTo, IsWellFormed, defined_variables}
+use Rattle.aig_core.specs.Order.{IsLeastReadyOrder, gate_operands}
+use Rattle.aig_core.proofs.Counted.{among_either}
+use Rattle.aig_core.proofs.Cyclic.{among_last}
+use Rattle.aig_core.proofs.Fitting.{each, at_most, at_most_below}
+use Rattle.aig_core.proofs.Ranked.{variables, stands_there, distinct_back, rank_exactly_where_all_are_ordered}
+use Rattle.aig_core.proofs.Ranges.{at_least_below}
+use Rattle.aig_core.proofs.Steps.{all_of}
+use Rattle.aig_image.specs.Renumbering.{in_new_order, renumbered, renumbered_literal}
+use Rattle.aig_image.proofs.Distinct.{among_first, apart, front, joined}
+use Rattle.aig_image.proofs.Places.{number_within}
+use Rattle.aig_image.proofs.Taken.{each_once, all_there, place_there, taken_variables, among_taken, taken_has, taken_once}
+
+module _ (c : Circuit) (order : List ℕ) (good : IsWellFormed c) (least : IsLeastReadyOrder c order) where
+  abbrev pub first : List ℕ
+  first = c.inputs ++ map (λ (l : Latch). l.var) c.latches
+
+  abbrev last : List ℕ
+  last = taken_variables c.gates order
+
+  abbrev pub new : List ℕ
+  new = in_new_order c order
+
+  order_once : AreDistinct order
+  order_once = each_once (length c.gates) (gate_operands c.gates) [] order least.in_turn
+
+  order_there : AllByRecursion (λ g. g < length c.gates) order
+  order_there = all_there (length c.gates) (gate_operands c.gates) [] order least.in_turn
+
+  pub there : (h : ℕ) → IsAmong h order → h < length c.gates
+  there h a = each (λ g. g < length c.gates) order order_there h a
+
+  pub not_more : length order ≤ length c.gates
+  not_more = at_most_below (length c.gates) order order_once order_there
+
+  pub listed : (h : ℕ) → h < length c.gates → IsAmong h order
+  listed = (rank_exactly_where_all_are_ordered c order good.once least).0 good.ranked
+
+  -- every gate is taken
+  pub all_taken : length order ≡ length c.gates
+  all_taken =
+      let many : length c.gates ≤ length order = at_least_below (length c.gates) order listed in
+      omega (arith, many, not_more)
+
+  pub gates_once : AreDistinct (variables c.gates)
+  gates_once = distinct_back first (variables c.gates) good.once
+
+  -- the variables of taken gates are those of all gates
+  of_gates : (v : ℕ) → IsAmong v last → IsAmong v (variables c.gates)
+  of_gates v a = let h = among_taken c.gates order v a in subst (λ x. IsAmong x (variables c.gates)) h.2 (stands_there c.gates h.0 (there h.0 h.1))
+
+  of_taken : (v : ℕ) → IsAmong v (variables c.gates) → IsAmong v last
+  of_taken v a = let p = place_there c.gates v a in subst (λ x. IsAmong x last) p.2 (taken_has c.gates order p.0 (listed p.0 p.1))
+
+  pub new_once : AreDistinct new
+  new_once =
+      joined first last (front first (variables c.gates) good.once) (taken_once c.gates gates_once order order_once there)
+      (λ x a b. apart first (variables c.gates) good.once x a (of_gates x b))
+
+  -- the new order has exactly the defined variables
+  pub has_defined : (v : ℕ) → IsAmong v (defined_variables c) → IsAmong v new
+  has_defined v a =
+      ⊎_elim (λ (i : IsAmong v first). among_first first last v i) (λ (i : IsAmong v (variables c.gates)). among_last first last v (of_taken v i)) (among_either v first (variables c.gates) a)
+
+  pub is_defined : (v : ℕ) → IsAmong v new → IsAmong v (defined_variables c)
+  is_defined v a =
+      ⊎_elim (λ (i : IsAmong v first). among_first first (variables c.gates) v i) (λ (i : IsAmong v last). among_last first (variables c.gates) v (of_gates v i)) (among_either v first last a)
+
+  pub new_fits : length new ≤ c.max_var
+  new_fits = at_most c.max_var new new_once (all_of (IsVariableUpTo c.max_var) new (λ v a. each (IsVariableUpTo c.max_var) (defined_variables c) good.in_range v (is_defined v a)))
+
+  -- a literal that may be used has a new one in range
+  pub new_literal : (l : ℕ) → IsKnown (defined_variables c) l → renumbered_literal new l ≤ 2 * length new + 1
+  new_literal l known =
+      let within : renumbered new (variable_of l) ≤ length new =
+      number_within new new [] (variable_of l) (sym (append-nil new)) (⊎_elim (λ (z : variable_of l ≡ 0). inl z) (λ (a : IsAmong (variable_of l) (defined_variables c)). inr (has_defined (variable_of l) a)) known) in
+      omega (arith, within)

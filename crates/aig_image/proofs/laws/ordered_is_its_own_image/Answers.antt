@@ -1,0 +1,5 @@
+use Rattle.aig_image.proofs.OwnImage.{own_image}
+use Rattle.aig_image.proofs.laws.ordered_is_its_own_image.Goals as goal
+
+pub returns : goal.returns
+returns c = own_image

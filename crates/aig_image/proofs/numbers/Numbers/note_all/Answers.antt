@@ -1,0 +1,16 @@
+use Rattle.std.proofs.Common.{◌++◌, [], ◌∷◌, ap, ◌∙◌, arith, subst, take, map}
+use Rattle.aig_image.specs.Parts.Numbers.{AreNumbered}
+use Rattle.aig_image.proofs.Noted.{one_more, variables_more}
+use Rattle.aig_image.proofs.numbers.Numbers.note_all.Goals as goal
+
+pub loop-item-preserved : goal.loop-item-preserved
+loop-item-preserved g c = record {
+  count = omega (arith, c.in_ok-note.ensures.count, c.loop-item.invariant.count);
+  numbers = λ variables numbered.
+      let before = variables ++ map g.T.Defines.variable (take c.loop-item.item-index c.args.items.now) in
+      let numbers = AreNumbered c.note.new.self.noted c.note.new.self.places.items c.note.new.self.others in
+      subst numbers (variables_more g.T.Defines.variable variables c.args.items.now c.loop-item.item-index c.item-item.result c.loop-item-test.true)
+      (subst (λ x. numbers (before ++ x ∷ [])) (c.variable.ensures ∙ ap g.T.Defines.variable c.item-item.is)
+      (one_more c.loop-item.self.noted c.note.new.self.noted c.loop-item.self.places.items c.note.new.self.places.items c.loop-item.self.others c.note.new.self.others c.variable.result
+      c.in_ok-note.ensures.count c.in_ok-note.ensures.numbers before (c.loop-item.invariant.numbers variables numbered)));
+}

@@ -1,0 +1,10 @@
+use Rattle.std.proofs.Common.{◌≡◌, ◌+◌, ◌++◌, ℕ, List, map, take}
+use Rattle.aig_image.specs.Parts.Numbers.{AreNumbered}
+use Rattle.aig_image.proofs.numbers.Numbers.note_all.Given as goal
+
+abbrev pub invariant-loop-item : goal.invariant-loop-item
+invariant-loop-item g l = record {
+  count : l.self.noted ≡ l.fn.self.noted + l.item-index;
+  numbers : (variables : List ℕ) → AreNumbered l.fn.self.noted l.fn.self.places.items l.fn.self.others variables
+      → AreNumbered l.self.noted l.self.places.items l.self.others (variables ++ map g.T.Defines.variable (take l.item-index l.items));
+}

@@ -1,0 +1,31 @@
+use Rattle.std.proofs.Common.{[], ◌∷◌, ◌++◌, subst, take, take_all, ap, arith}
+use Rattle.aig_core.specs.declared.circuit.Gate.{Gate}
+use Rattle.aig_core.proofs.Ranked.{variables}
+use Rattle.aig_image.specs.Parts.Numbers.{AreNumbered}
+use Rattle.aig_image.proofs.KnownBefore.{next_over_known}
+use Rattle.aig_image.proofs.Noted.{one_more, variables_more}
+use Rattle.aig_image.proofs.numbers.Numbers.note_in_order.Goals as goal
+
+pub loop-gate-preserved : goal.loop-gate-preserved
+loop-gate-preserved c = record {
+  count = omega (arith, c.in_ok-note.ensures.count, c.loop-gate.invariant.count);
+  numbers = λ before numbered.
+      let was = c.loop-gate.invariant.numbers before numbered in
+      let gate = c.gate-item.result in
+      let i = c.loop-gate.gate-index in
+      let old = c.loop-gate.self in
+      let now = c.note.new.self in (
+        subst (AreNumbered now.noted now.places.items now.others) (variables_more (λ (g : Gate). g.var) before c.args.gates.now i gate c.loop-gate-test.true)
+            (subst (λ x. AreNumbered now.noted now.places.items now.others ((before ++ variables (take i c.args.gates.now)) ++ x ∷ [])) (ap (λ (g : Gate). g.var) c.gate-item.is)
+            (one_more old.noted now.noted old.places.items now.places.items old.others now.others gate.var c.in_ok-note.ensures.count c.in_ok-note.ensures.numbers (before ++ variables (take i c.args.gates.now)) was.0)),
+        next_over_known before c.args.gates.now old.noted old.places.items old.others i gate was.0 c.loop-gate-test.true c.gate-item.is (c.knows.ensures.0 c.if-not-knows.false)
+            (c.knows-in-loop-gate.ensures.0 c.if-not-knows-2.false) was.1,
+      );
+}
+
+pub returns : goal.returns
+returns c = λ _ before numbered.
+    let was = c.loop-gate.invariant.numbers before numbered in (
+      subst (λ gates. AreNumbered c.loop-gate.self.noted c.loop-gate.self.places.items c.loop-gate.self.others (before ++ variables gates)) (take_all c.loop-gate.gate-index c.args.gates.now c.loop-gate-test.false) was.0,
+      λ k there. was.1 k (omega (arith, there, c.loop-gate-test.false)),
+    )

@@ -1,0 +1,39 @@
+-- What the definitions of this crate say of one another.
+use Rattle.std.specs.Prelude.{◌≡◌, ◌+◌, ℕ, List, length}
+use Rattle.std.specs.List.{range_with_len}
+use Rattle.aig_core.specs.declared.circuit.Circuit.{Circuit}
+use Rattle.aig_core.specs.Wellformed.{IsAmong, IsVariableUpTo, IsWellFormed, defined_variables}
+use Rattle.aig_core.specs.Order.{IsLeastReadyOrder}
+use Rattle.aig_core.specs.BinaryOrder.{IsInBinaryOrder}
+use Rattle.aig_image.specs.Renumbering.{in_new_order, renumbered}
+use Rattle.aig_image.specs.Image.{IsBinaryImage}
+
+-- the variables get numbers from 1 up to the count, each another one, and each number is that of a variable
+pub record IsOneToOneOnto (number : ℕ → ℕ) (variables : List ℕ) (count : ℕ) : Type 0 where
+  pub within : (v : ℕ) → IsAmong v variables → IsVariableUpTo count (number v)
+  pub apart : (v w : ℕ) → IsAmong v variables → IsAmong w variables → number v ≡ number w → v ≡ w
+  pub reached : (n : ℕ) → IsVariableUpTo count n → (v : ℕ) × IsAmong v variables × (number v ≡ n)
+
+-- Renumbering is one to one from the variables that a well-formed circuit defines onto 1 up to the count of its inputs,
+-- latches and gates.
+abbrev pub RenumberingIsOneToOne : Type 0
+RenumberingIsOneToOne = (c : Circuit) (order : List ℕ) → IsWellFormed c → IsLeastReadyOrder c order
+    → IsOneToOneOnto (renumbered (in_new_order c order)) (defined_variables c)
+    (length c.inputs + length c.latches + length c.gates)
+
+-- the least ready order of a circuit in binary order is 0, 1, 2 and so on
+abbrev pub OrderedGatesAreTakenAsTheyStand : Type 0
+OrderedGatesAreTakenAsTheyStand =
+    (c : Circuit) → IsInBinaryOrder c → IsLeastReadyOrder c (range_with_len 0 (length c.gates))
+
+-- the image of a well-formed circuit is well formed and in binary order
+abbrev pub ImageIsOrdered : Type 0
+ImageIsOrdered = (c image : Circuit) → IsWellFormed c → IsBinaryImage c image → IsWellFormed image × IsInBinaryOrder image
+
+-- a well-formed circuit has exactly one image
+abbrev pub ImageIsOne : Type 0
+ImageIsOne = (c : Circuit) → IsWellFormed c → (image : Circuit) × IsBinaryImage c image × ((other : Circuit) → IsBinaryImage c other → other ≡ image)
+
+-- a well-formed circuit in binary order is its own image
+abbrev pub OrderedIsItsOwnImage : Type 0
+OrderedIsItsOwnImage = (c : Circuit) → IsWellFormed c → IsInBinaryOrder c → IsBinaryImage c c

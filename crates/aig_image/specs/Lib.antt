@@ -1,0 +1,4 @@
+pub mod Renumbering
+pub mod Image
+pub mod Laws
+pub mod Parts

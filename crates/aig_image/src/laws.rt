@@ -1,0 +1,29 @@
+//! Laws: facts about the definitions alone, each the contract of a function with an empty body.
+ghost use Rattle.aig_image.specs.Laws.{RenumberingIsOneToOne, OrderedGatesAreTakenAsTheyStand};
+ghost use Rattle.aig_image.specs.Laws.{ImageIsOrdered, ImageIsOne, OrderedIsItsOwnImage};
+
+/// Renumbering is one to one from the variables that a well-formed circuit defines onto the numbers from 1 up to the count
+/// of its inputs, latches and gates.
+pub fn renumbering_is_one_to_one()
+    ensures { RenumberingIsOneToOne }
+{}
+
+/// The gates of a circuit in binary order are taken as they stand: their least ready order is 0, 1, 2 and so on.
+pub fn ordered_gates_are_taken_as_they_stand()
+    ensures { OrderedGatesAreTakenAsTheyStand }
+{}
+
+/// The binary image of a well-formed circuit is well formed and in binary order.
+pub fn image_is_ordered()
+    ensures { ImageIsOrdered }
+{}
+
+/// A well-formed circuit has exactly one binary image.
+pub fn image_is_one()
+    ensures { ImageIsOne }
+{}
+
+/// A well-formed circuit in binary order is its own binary image.
+pub fn ordered_is_its_own_image()
+    ensures { OrderedIsItsOwnImage }
+{}

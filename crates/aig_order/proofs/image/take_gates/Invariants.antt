@@ -1,6 +1,0 @@
-use Rattle.std.proofs.Common.{◌≡◌, take}
-use Rattle.aig_order.specs.Renumbering.{taken}
-use Rattle.aig_order.proofs.image.take_gates.Given as goal
-
-abbrev pub invariant-loop-at : goal.invariant-loop-at
-invariant-loop-at l = l.found.items ≡ taken l.gates (take l.at-index l.order)

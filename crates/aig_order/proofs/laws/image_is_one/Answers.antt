@@ -1,5 +1,0 @@
-use Rattle.aig_order.proofs.One.{image_is_one}
-use Rattle.aig_order.proofs.laws.image_is_one.Goals as goal
-
-pub returns : goal.returns
-returns _ c good = image_is_one c

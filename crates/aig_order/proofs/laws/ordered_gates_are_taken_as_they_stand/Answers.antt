@@ -1,5 +1,0 @@
-use Rattle.aig_order.proofs.OneByOne.{in_order}
-use Rattle.aig_order.proofs.laws.ordered_gates_are_taken_as_they_stand.Goals as goal
-
-pub returns : goal.returns
-returns c = in_order
