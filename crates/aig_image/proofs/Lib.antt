@@ -15,3 +15,4 @@ pub mod Noted
 pub mod KnownBefore
 pub mod StandInOrder
 pub mod Renewed
+pub mod Relabelling

@@ -1,6 +1,7 @@
-//! The binary image of a circuit: the same circuit with new numbers for its variables.
+//! The binary image of a circuit: the same circuit by other variables and in another order.
 #![tactic(auto)]
 
+pub mod algebra;
 mod image;
 pub mod laws;
 mod numbers;

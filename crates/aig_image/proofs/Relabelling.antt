@@ -1,0 +1,10 @@
+pub mod Lists
+pub mod Standing
+pub mod Relabelled
+pub mod Reordered
+pub mod Restored
+pub mod Named
+pub mod Formed
+pub mod Permuted
+pub mod Exchanged
+pub mod Positions

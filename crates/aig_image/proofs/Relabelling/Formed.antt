@@ -1,0 +1,184 @@
+-- A well-formed circuit stays well formed by other variables from which there is a way back.
+use Rattle.std.proofs.Common.{◌≡◌, ◌+◌, ◌*◌, ◌/◌, ◌%◌, ◌<◌, ◌≤◌, ℕ, zero, suc, List, [], ◌∷◌, ◌++◌, map, Option}
+use Rattle.std.proofs.Common.{refl, sym, ap, ap₂, subst, ◌∙◌, inl, inr, ⊎_elim, arith}
+use Rattle.std.specs.List.{AllByRecursion, flat_map, Contains}
+use Rattle.std.proofs.lemmas.List.{map-append, length-map}
+use Rattle.std.proofs.lemmas.Simd.{map-map}
+use Rattle.aig_core.specs.declared.circuit.Kind.{Kind}
+use Rattle.aig_core.specs.declared.circuit.Kind.TheVariants as kinds
+use Rattle.aig_core.specs.declared.circuit.Symbol.{Symbol}
+use Rattle.aig_core.specs.declared.circuit.Latch.{Latch}
+use Rattle.aig_core.specs.declared.circuit.Gate.{Gate}
+use Rattle.aig_core.specs.declared.circuit.Circuit.{Circuit}
+use Rattle.aig_core.specs.declared.circuit.TheConstants.{LARGEST}
+use Rattle.aig_core.specs.Literal.{variable_of}
+use Rattle.aig_core.specs.Wellformed.{IsAmong, AreDistinct, IsKnown, IsRank, IsVariableUpTo}
+use Rattle.aig_core.specs.Wellformed.{HasGoodSymbols, NameApart, IsWellFormed}
+use Rattle.aig_core.specs.Wellformed.{count_of, defined_variables, line_feed, operands, used_literals}
+use Rattle.aig_core.proofs.InForm.{joined}
+use Rattle.aig_core.proofs.Ranked.{variables}
+use Rattle.aig_image.specs.Relabelled.{relabelled_literal, relabelled_latch, relabelled_gate, relabelled}
+use Rattle.aig_image.specs.Relabelled.{LatchNames, GateNames, NamesOnly}
+
+-- the symbols of a circuit are good in another that has as much of each kind
+module _ (c d : Circuit) (same : (k : Kind) → count_of c k ≡ count_of d k) where
+  positions_there : (ss : List Symbol) → AllByRecursion (λ (s : Symbol). s.position < count_of c s.kind) ss
+      → AllByRecursion (λ (s : Symbol). s.position < count_of d s.kind) ss
+  positions_there [] all = tt
+  positions_there (s ∷ ss) all = (subst (λ n. s.position < n) (same s.kind) all.0, positions_there ss all.1)
+
+  pub symbols_kept : c.symbols ≡ d.symbols → HasGoodSymbols c → HasGoodSymbols d
+  symbols_kept are good = record {
+    positions =
+        subst (AllByRecursion (λ (s : Symbol). s.position < count_of d s.kind)) are
+        (positions_there c.symbols good.positions);
+    apart = subst NameApart are good.apart;
+    lines = subst (AllByRecursion (λ (s : Symbol). ¬ IsAmong line_feed s.name)) are good.lines;
+  }
+
+module _ {X Y : Type 0} where
+  -- what holds of elements, for what holds of those that a map gives
+  pub all_through : (P : X → Type 0) (Q : Y → Type 0) (h : X → Y) → ((x : X) → P x → Q (h x))
+      → (xs : List X) → AllByRecursion P xs → AllByRecursion Q (map h xs)
+  all_through P Q h follows [] all = tt
+  all_through P Q h follows (x ∷ xs) all = (follows x all.0, all_through P Q h follows xs all.1)
+
+  -- what a mapped list contains was made of an element
+  made_of : (P : X → Type 0) (h : X → Y) (xs : List X) (y : Y) → AllByRecursion P xs → Contains (map h xs) y
+      → (x : X) × Contains xs x × P x × (h x ≡ y)
+  made_of P h [] y all (k, below, is) = absurd (omega (arith, below))
+  made_of P h (x ∷ xs) y all (zero, below, is) = (x, (zero, omega arith, refl), all.0, is)
+  made_of P h (x ∷ xs) y all (suc k, below, is) =
+      let later = made_of P h xs y all.1 (k, omega (arith, below), is) in
+      let within = later.1.1 in
+      (later.0, (suc later.1.0, omega (arith, within), later.1.2), later.2, later.3)
+
+abbrev latch_variables : List Latch → List ℕ
+latch_variables ls = map (λ (l : Latch). l.var) ls
+
+-- what holds of the names holds of what is defined
+defined_have : (P : ℕ → Type 0) (c : Circuit) → NamesOnly P c → AllByRecursion P (defined_variables c)
+defined_have P c names =
+    joined P (c.inputs ++ latch_variables c.latches) (variables c.gates)
+    (joined P c.inputs (latch_variables c.latches) names.inputs
+    (all_through (LatchNames P) P (λ (l : Latch). l.var) (λ l e. e.0) c.latches names.latches))
+    (all_through (GateNames P) P (λ (g : Gate). g.var) (λ g e. e.0) c.gates names.gates)
+
+-- a map over three lists end to end
+map_three : (h : ℕ → ℕ) (xs ys zs : List ℕ) → map h (xs ++ ys ++ zs) ≡ map h xs ++ map h ys ++ map h zs
+map_three h xs ys zs = map-append h (xs ++ ys) zs ∙ ap (λ ws. ws ++ map h zs) (map-append h xs ys)
+
+module _ (f : ℕ → ℕ) where
+  pub variable_there : (l : ℕ) → variable_of (relabelled_literal f l) ≡ f (variable_of l)
+  variable_there l = let n : ℕ = f (variable_of l) in let half : (2 * n + l % 2) / 2 ≡ n = omega arith in half
+
+  -- the variables of latches, by other variables
+  pub latches_there : (ls : List Latch) → latch_variables (map (relabelled_latch f) ls) ≡ map f (latch_variables ls)
+  latches_there ls = map-map (λ (l : Latch). l.var) (relabelled_latch f) ls ∙ sym (map-map f (λ (l : Latch). l.var) ls)
+
+  pub gates_there : (gs : List Gate) → variables (map (relabelled_gate f) gs) ≡ map f (variables gs)
+  gates_there gs = map-map (λ (g : Gate). g.var) (relabelled_gate f) gs ∙ sym (map-map f (λ (g : Gate). g.var) gs)
+
+  pub defined_relabelled : (c : Circuit) → defined_variables (relabelled f c) ≡ map f (defined_variables c)
+  defined_relabelled c =
+      ap₂ (λ ls gs. map f c.inputs ++ ls ++ gs) (latches_there c.latches) (gates_there c.gates)
+      ∙ sym (map_three f c.inputs (latch_variables c.latches) (variables c.gates))
+
+  operands_relabelled : (gs : List Gate)
+      → flat_map operands (map (relabelled_gate f) gs) ≡ map (relabelled_literal f) (flat_map operands gs)
+  operands_relabelled [] = refl
+  operands_relabelled (g ∷ gs) =
+      ap (λ (ls : List ℕ). relabelled_literal f g.left ∷ relabelled_literal f g.right ∷ ls) (operands_relabelled gs)
+
+  used_relabelled : (c : Circuit) → used_literals (relabelled f c) ≡ map (relabelled_literal f) (used_literals c)
+  used_relabelled c =
+      let nexts =
+      map-map (λ (l : Latch). l.next) (relabelled_latch f) c.latches
+      ∙ sym (map-map (relabelled_literal f) (λ (l : Latch). l.next) c.latches) in
+      ap₂ (λ ls os. ls ++ map (relabelled_literal f) c.outputs ++ os) nexts (operands_relabelled c.gates)
+      ∙ sym (map_three (relabelled_literal f) (map (λ (l : Latch). l.next) c.latches) c.outputs
+      (flat_map operands c.gates))
+
+  among_there : (v : ℕ) (xs : List ℕ) → IsAmong v xs → IsAmong (f v) (map f xs)
+  among_there v [] a = absurd a
+  among_there v (x ∷ xs) a = ⊎_elim (λ (e : v ≡ x). inl (ap f e)) (λ (i : IsAmong v xs). inr (among_there v xs i)) a
+
+  known_there : f 0 ≡ 0 → (vs : List ℕ) (l : ℕ) → IsKnown vs l → IsKnown (map f vs) (relabelled_literal f l)
+  known_there constant vs l known =
+      ⊎_elim (λ (e : variable_of l ≡ 0). inl (variable_there l ∙ ap f e ∙ constant))
+      (λ (i : IsAmong (variable_of l) vs).
+      inr (subst (λ v. IsAmong v (map f vs)) (sym (variable_there l)) (among_there (variable_of l) vs i)))
+      known
+
+module _ (f g : ℕ → ℕ) where
+  abbrev Back : ℕ → Type 0
+  Back v = g (f v) ≡ v
+
+  -- names that go back are one where their new names are
+  one : (v w : ℕ) → Back v → Back w → f v ≡ f w → v ≡ w
+  one v w v_back w_back e = sym v_back ∙ ap g e ∙ w_back
+
+  among_back : (v : ℕ) (xs : List ℕ) → Back v → AllByRecursion Back xs → IsAmong (f v) (map f xs) → IsAmong v xs
+  among_back v [] back all a = absurd a
+  among_back v (x ∷ xs) back all a =
+      ⊎_elim (λ (e : f v ≡ f x). inl (one v x back all.0 e))
+      (λ (i : IsAmong (f v) (map f xs)). inr (among_back v xs back all.1 i)) a
+
+  once_there : (xs : List ℕ) → AllByRecursion Back xs → AreDistinct xs → AreDistinct (map f xs)
+  once_there [] all once = tt
+  once_there (x ∷ xs) all once = (λ a. once.0 (among_back x xs all.0 all.1 a), once_there xs all.1 once.1)
+
+  ranked_pair : (rank : ℕ → ℕ) (a b : Gate) → GateNames Back a → GateNames Back b
+      → (IsAmong b.var (map variable_of (operands a)) → rank b.var < rank a.var)
+      → IsAmong (f b.var) (map variable_of (operands (relabelled_gate f a))) → rank (g (f b.var)) < rank (g (f a.var))
+  ranked_pair rank a b a_back b_back below among =
+      let same : map variable_of (operands (relabelled_gate f a)) ≡ map f (map variable_of (operands a)) =
+      ap₂ (λ (l r : ℕ). l ∷ r ∷ []) (variable_there f a.left) (variable_there f a.right) in
+      let low : rank b.var < rank a.var =
+      below (among_back b.var (map variable_of (operands a)) b_back.0 (a_back.1, (a_back.2, tt))
+      (subst (IsAmong (f b.var)) same among)) in
+      omega (arith, low, ap rank a_back.0, ap rank b_back.0)
+
+  ranked_there : (rank : ℕ → ℕ) (gates : List Gate) → AllByRecursion (GateNames Back) gates
+      → IsRank rank gates → IsRank (λ v. rank (g v)) (map (relabelled_gate f) gates)
+  ranked_there rank gates all ranks x y x_in y_in =
+      let a = made_of (GateNames Back) (relabelled_gate f) gates x all x_in in
+      let b = made_of (GateNames Back) (relabelled_gate f) gates y all y_in in
+      subst (λ (h : Gate). IsAmong h.var (map variable_of (operands x)) → rank (g h.var) < rank (g x.var)) b.3
+      (subst (λ (h : Gate). IsAmong (f b.0.var) (map variable_of (operands h)) → rank (g (f b.0.var)) < rank (g h.var))
+      a.3 (ranked_pair rank a.0 b.0 a.2 b.2 (ranks a.0 b.0 a.1 b.1)))
+
+same_counts : (f : ℕ → ℕ) (c : Circuit) (k : Kind) → count_of c k ≡ count_of (relabelled f c) k
+same_counts f c kinds.Input = sym (length-map c.inputs f)
+same_counts f c kinds.Latch = sym (length-map c.latches (relabelled_latch f))
+same_counts f c kinds.Output = sym (length-map c.outputs (relabelled_literal f))
+
+pub form_is_kept : (f g : ℕ → ℕ) (max_var : ℕ) (comment : Option (List ℕ)) (c : Circuit) → IsWellFormed c
+    → f 0 ≡ 0 → NamesOnly (λ v. g (f v) ≡ v) c → max_var ≤ LARGEST
+    → AllByRecursion (λ v. IsVariableUpTo max_var (f v)) (defined_variables c)
+    → IsWellFormed (record (relabelled f c) { max_var = max_var; comment = comment })
+form_is_kept f g max_var comment c good constant back low range =
+    let new : Circuit = record (relabelled f c) { max_var = max_var; comment = comment } in
+    let vs : List ℕ = defined_variables c in
+    let defined = sym (defined_relabelled f c) in
+    let literals = relabelled_literal f in
+    let fits : AllByRecursion (IsVariableUpTo max_var) (map f vs) =
+    all_through (λ v. IsVariableUpTo max_var (f v)) (IsVariableUpTo max_var) f (λ v e. e) vs range in
+    record {
+      limits = record {
+        max_var = low;
+        inputs = omega (arith, length-map c.inputs f, good.limits.inputs);
+        latches = omega (arith, length-map c.latches (relabelled_latch f), good.limits.latches);
+        outputs = omega (arith, length-map c.outputs literals, good.limits.outputs);
+        gates = omega (arith, length-map c.gates (relabelled_gate f), good.limits.gates);
+      };
+      in_range = subst (AllByRecursion (IsVariableUpTo max_var)) defined fits;
+      once = subst AreDistinct defined (once_there f g vs (defined_have (λ v. g (f v) ≡ v) c back) good.once);
+      known =
+          subst (λ ds. AllByRecursion (IsKnown ds) (used_literals (relabelled f c))) defined
+          (subst (AllByRecursion (IsKnown (map f vs))) (sym (used_relabelled f c))
+          (all_through (IsKnown vs) (IsKnown (map f vs)) literals (known_there f constant vs) (used_literals c)
+          good.known));
+      symbols = symbols_kept c new (same_counts f c) refl good.symbols;
+      ranked = (λ v. good.ranked.0 (g v), ranked_there f g good.ranked.0 c.gates back.gates good.ranked.1);
+    }

@@ -1,0 +1,61 @@
+-- Distinct places below their count are each that of one position.
+use Rattle.std.proofs.Common.{◌≡◌, ◌<◌, ◌≤◌, ℕ, List, ◌∷◌, eqb, length, get_or, refl, sym, ap, ◌∙◌, ⊎_elim, arith}
+use Rattle.std.specs.List.{AllByRecursion, position_or_len}
+use Rattle.std.proofs.lemmas.Bool.{ne_eqb, eq-eqb}
+use Rattle.std.proofs.lemmas.List.FromFn.{length-map-range_with_len, get_or-map-range_with_len}
+use Rattle.std.proofs.lemmas.List.Sums.{position_or_len_is}
+use Rattle.aig_core.specs.Wellformed.{IsAmong, AreDistinct}
+use Rattle.aig_core.proofs.Fitting.{each, at_most_below}
+use Rattle.aig_core.proofs.LeastReady.{among_or_not}
+use Rattle.aig_image.specs.Reordered.{ArePlaces, positions_of}
+use Rattle.aig_image.proofs.Relabelling.Standing.{here, somewhere, same_place}
+
+-- in a list without repeats, the first place of a number is the one where it stands
+pub place_is : (xs : List ℕ) → AreDistinct xs → (i : ℕ) → i < length xs
+    → position_or_len (λ w. eqb w (get_or xs i 0)) xs ≡ i
+place_is xs once i below =
+    let x : ℕ = get_or xs i 0 in
+    position_or_len_is (λ w. eqb w x) xs i 0 (omega (arith, below))
+    (λ k before. ne_eqb (get_or xs k 0) x (λ e.
+    let same : k ≡ i = same_place xs once k i (omega (arith, before, below)) below e in omega (arith, same, before)))
+    (λ _. eq-eqb x x refl)
+
+-- distinct numbers below n, as many as n, are all of them
+pub all_below : (n : ℕ) (ps : List ℕ) → AreDistinct ps → AllByRecursion (λ p. p < n) ps → length ps ≡ n
+    → (p : ℕ) → p < n → IsAmong p ps
+all_below n ps once below many p low =
+    ⊎_elim (λ (i : IsAmong p ps). i)
+    (λ (out : ¬ IsAmong p ps).
+    let fit : length (p ∷ ps) ≤ n = at_most_below n (p ∷ ps) (out, once) (low, below) in
+    absurd (omega (arith, fit, many)))
+    (among_or_not p ps)
+
+module _ (places : List ℕ) (once : AreDistinct places) (all : AllByRecursion (λ p. p < length places) places) where
+  abbrev position : ℕ → ℕ
+  position place = position_or_len (λ p. eqb p place) places
+
+  read : (p : ℕ) → p < length places → get_or (positions_of places) p 0 ≡ position p
+  read p below = get_or-map-range_with_len position 0 (length places) p p 0 below (omega arith)
+
+  pub places_have_positions : ArePlaces (positions_of places) places (length places)
+      × ArePlaces places (positions_of places) (length places)
+  places_have_positions =
+      let long : length (positions_of places) ≡ length places =
+      length-map-range_with_len position 0 (length places) in (
+        (
+          refl,
+          λ i below.
+              let low : get_or places i 0 < length places =
+              each (λ p. p < length places) places all (get_or places i 0) (here places i below) in
+              (omega (arith, low, long), read (get_or places i 0) low ∙ place_is places once i below),
+        ),
+        (
+          long,
+          λ p below.
+              let stands = somewhere p places (all_below (length places) places once all refl p below) in
+              let same : get_or (positions_of places) p 0 ≡ stands.0 =
+              read p below ∙ ap position (sym stands.2) ∙ place_is places once stands.0 stands.1 in
+              let low : stands.0 < length places = stands.1 in
+              (omega (arith, low, same), ap (λ k. get_or places k 0) same ∙ stands.2),
+        ),
+      )

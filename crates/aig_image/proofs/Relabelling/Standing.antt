@@ -1,0 +1,73 @@
+-- Numbers by where they stand in lists, and lists without repeats.
+use Rattle.std.proofs.Common.{◌≡◌, ◌<◌, ℕ, zero, suc, List, [], ◌∷◌, ◌++◌, length, get_or, refl, sym, ap, subst, inl}
+use Rattle.std.proofs.Common.{inr, ⊎_elim, arith}
+use Rattle.std.specs.List.{AllByRecursion}
+use Rattle.aig_core.specs.Wellformed.{IsAmong, AreDistinct}
+use Rattle.aig_core.proofs.Counted.{among_either}
+use Rattle.aig_core.proofs.Cyclic.{among_last}
+
+pub among_first : (xs ys : List ℕ) (x : ℕ) → IsAmong x xs → IsAmong x (xs ++ ys)
+among_first [] ys x a = absurd a
+among_first (z ∷ xs) ys x a = ⊎_elim (λ e. inl e) (λ (i : IsAmong x xs). inr (among_first xs ys x i)) a
+
+-- what is in a list stands somewhere
+pub somewhere : (x : ℕ) (xs : List ℕ) → IsAmong x xs → (j : ℕ) × (j < length xs) × (get_or xs j 0 ≡ x)
+somewhere x [] a = absurd a
+somewhere x (y ∷ xs) a =
+    ⊎_elim (λ (e : x ≡ y). (zero, omega arith, sym e))
+    (λ (i : IsAmong x xs).
+    let later = somewhere x xs i in
+    let below : later.0 < length xs = later.1 in
+    (suc later.0, omega (arith, below), later.2)) a
+
+-- what stands at a place is in the list
+pub here : (xs : List ℕ) (j : ℕ) → j < length xs → IsAmong (get_or xs j 0) xs
+here [] j below = absurd (omega arith)
+here (x ∷ xs) zero below = inl refl
+here (x ∷ xs) (suc j) below = inr (here xs j (omega arith))
+
+module _ {X : Type 0} (P : X → Type 0) (default : X) where
+  -- what holds of all holds of what stands at a place, and the other way about
+  pub at_place : (xs : List X) → AllByRecursion P xs → (i : ℕ) → i < length xs → P (get_or xs i default)
+  at_place [] all i below = absurd (omega arith)
+  at_place (x ∷ xs) all zero below = all.0
+  at_place (x ∷ xs) all (suc i) below = at_place xs all.1 i (omega (arith, below))
+
+  pub by_places : (xs : List X) → ((i : ℕ) → i < length xs → P (get_or xs i default)) → AllByRecursion P xs
+  by_places [] each = tt
+  by_places (x ∷ xs) each = (each zero (omega arith), by_places xs (λ i below. each (suc i) (omega (arith, below))))
+
+-- numbers are distinct exactly where each stands at one place
+pub same_place : (xs : List ℕ) → AreDistinct xs → (i k : ℕ) → i < length xs → k < length xs
+    → get_or xs i 0 ≡ get_or xs k 0 → i ≡ k
+same_place [] once i k below below_too e = absurd (omega (arith, below))
+same_place (x ∷ xs) once zero zero below below_too e = refl
+same_place (x ∷ xs) once zero (suc k) below below_too e =
+    absurd (once.0 (subst (λ v. IsAmong v xs) (sym e) (here xs k (omega (arith, below_too)))))
+same_place (x ∷ xs) once (suc i) zero below below_too e =
+    absurd (once.0 (subst (λ v. IsAmong v xs) e (here xs i (omega (arith, below)))))
+same_place (x ∷ xs) once (suc i) (suc k) below below_too e =
+    ap suc (same_place xs once.1 i k (omega (arith, below)) (omega (arith, below_too)) e)
+
+pub distinct_by_places : (xs : List ℕ)
+    → ((i k : ℕ) → i < length xs → k < length xs → get_or xs i 0 ≡ get_or xs k 0 → i ≡ k) → AreDistinct xs
+distinct_by_places [] once = tt
+distinct_by_places (x ∷ xs) once = (
+  λ a. let later = somewhere x xs a in
+      let below : later.0 < length xs = later.1 in
+      let same : zero ≡ suc later.0 = once zero (suc later.0) (omega arith) (omega (arith, below)) (sym later.2) in
+      omega (arith, same),
+  distinct_by_places xs (λ i k below below_too e.
+      let same : suc i ≡ suc k = once (suc i) (suc k) (omega (arith, below)) (omega (arith, below_too)) e in
+      omega (arith, same)),
+)
+
+-- other numbers behind the same front, all of which stood there
+pub swapped_last : (xs ys zs : List ℕ) → AreDistinct (xs ++ ys) → AreDistinct zs
+    → ((x : ℕ) → IsAmong x zs → IsAmong x ys) → AreDistinct (xs ++ zs)
+swapped_last [] ys zs once last within = last
+swapped_last (x ∷ xs) ys zs once last within = (
+  λ a. ⊎_elim (λ (i : IsAmong x xs). once.0 (among_first xs ys x i))
+      (λ (i : IsAmong x zs). once.0 (among_last xs ys x (within x i))) (among_either x xs zs a),
+  swapped_last xs ys zs once.1 last within,
+)
