@@ -12,9 +12,11 @@ use Rattle.aig_core.proofs.Fitting.{each, at_most, at_most_below}
 use Rattle.aig_core.proofs.Ranked.{variables, stands_there, distinct_back, rank_exactly_where_all_are_ordered}
 use Rattle.aig_core.proofs.Ranges.{at_least_below}
 use Rattle.aig_core.proofs.Steps.{all_of}
+use Rattle.aig_image.specs.Reordered.{ArePlaces, positions_of}
 use Rattle.aig_image.specs.Renumbering.{in_new_order, renumbered, renumbered_literal}
 use Rattle.aig_image.proofs.Distinct.{among_first, apart, front, joined}
 use Rattle.aig_image.proofs.Places.{number_within}
+use Rattle.aig_image.proofs.Relabelling.Positions.{places_have_positions}
 use Rattle.aig_image.proofs.Taken.{each_once, all_there, place_there, taken_variables, among_taken, taken_has, taken_once}
 
 module _ (c : Circuit) (order : List ℕ) (good : IsWellFormed c) (least : IsLeastReadyOrder c order) where
@@ -47,6 +49,13 @@ module _ (c : Circuit) (order : List ℕ) (good : IsWellFormed c) (least : IsLea
   all_taken =
       let many : length c.gates ≤ length order = at_least_below (length c.gates) order listed in
       omega (arith, many, not_more)
+
+  -- so each gate has a place in the order, and each place of it a gate
+  pub order_is_places : ArePlaces (positions_of order) order (length c.gates) × ArePlaces order (positions_of order) (length c.gates)
+  order_is_places =
+      let below : AllByRecursion (λ g. g < length order) order = subst (λ n. AllByRecursion (λ g. g < n) order) (sym all_taken) order_there in
+      subst (λ n. ArePlaces (positions_of order) order n × ArePlaces order (positions_of order) n) all_taken
+      (places_have_positions order order_once below)
 
   pub gates_once : AreDistinct (variables c.gates)
   gates_once = distinct_back first (variables c.gates) good.once

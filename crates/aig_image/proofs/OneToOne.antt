@@ -10,11 +10,11 @@ use Rattle.aig_core.specs.Order.{IsLeastReadyOrder}
 use Rattle.aig_core.proofs.Fitting.{each}
 use Rattle.aig_core.proofs.Ranked.{at}
 use Rattle.aig_image.specs.Laws.{IsOneToOneOnto}
-use Rattle.aig_image.specs.Renumbering.{in_new_order, renumbered, taken, source_variable}
-use Rattle.aig_image.proofs.Back.{back_variable, by_place}
+use Rattle.aig_image.specs.Reordered.{taken}
+use Rattle.aig_image.specs.Renumbering.{in_new_order, renumbered, source_variable}
+use Rattle.aig_image.proofs.Back.{back_variable, by_place, back_again}
 use Rattle.aig_image.proofs.Places.{here, somewhere}
 use Rattle.aig_image.proofs.Members.{new_once, has_defined, is_defined, all_taken}
-use Rattle.aig_image.proofs.Back.{back_again}
 use Rattle.aig_image.proofs.Taken.{taken_variables}
 
 module _ (c : Circuit) (order : List ℕ) (good : IsWellFormed c) (least : IsLeastReadyOrder c order) where
@@ -24,7 +24,7 @@ module _ (c : Circuit) (order : List ℕ) (good : IsWellFormed c) (least : IsLea
   abbrev count : ℕ
   count = length c.inputs + length c.latches + length c.gates
 
-  many : length vs ≡ count
+  pub many : length vs ≡ count
   many =
       let latches : List ℕ = map (λ (l : Latch). l.var) c.latches in
       let gates : List ℕ = taken_variables c.gates order in
@@ -56,7 +56,7 @@ module _ (c : Circuit) (order : List ℕ) (good : IsWellFormed c) (least : IsLea
       (omega (arith, number), omega (arith, number, below, many))
 
   -- what has a number is found again by it
-  back : (v : ℕ) → IsAmong v (defined_variables c) → source_variable vs (renumbered vs v) ≡ v
+  pub back : (v : ℕ) → IsAmong v (defined_variables c) → source_variable vs (renumbered vs v) ≡ v
   back v defined = back_variable vs v (inr (has_defined c order good least v defined))
 
   reached : (n : ℕ) → IsVariableUpTo count n → (v : ℕ) × IsAmong v (defined_variables c) × (renumbered vs v ≡ n)

@@ -1,74 +1,59 @@
--- The image of a well-formed circuit is well formed.
-use Rattle.std.proofs.Common.{◌≡◌, ◌<◌, ℕ, List, [], ◌∷◌, ◌++◌, length, map, sym, subst, ◌∙◌, arith}
-use Rattle.std.specs.List.{AllByRecursion, flat_map}
+-- The image of a well-formed circuit is well formed, since each step to it keeps a circuit well formed.
+use Rattle.std.proofs.Common.{◌≡◌, ◌+◌, ℕ, List, length, map, refl, sym, subst, arith}
 use Rattle.std.proofs.lemmas.List.{length-map}
-use Rattle.aig_core.specs.declared.circuit.Latch.{Latch}
-use Rattle.aig_core.specs.declared.circuit.Kind.{Kind}
-use Rattle.aig_core.specs.declared.circuit.Kind.TheVariants as kinds
-use Rattle.aig_core.specs.declared.circuit.Symbol.{Symbol}
+use Rattle.aig_core.specs.declared.circuit.Gate.{Gate}
 use Rattle.aig_core.specs.declared.circuit.Circuit.{Circuit}
-use Rattle.aig_core.specs.Wellformed.{IsKnown, IsWellFormed, IsWithinLimits, HasGoodSymbols, count_of, defined_variables, operands}
-use Rattle.aig_core.specs.Form.{IsLiteralUpTo}
-use Rattle.aig_core.specs.Order.{IsLeastReadyOrder}
-use Rattle.aig_core.proofs.InForm.{front, back}
+use Rattle.aig_core.specs.Wellformed.{IsVariableUpTo, IsWellFormed, defined_variables}
 use Rattle.aig_core.specs.BinaryOrder.{IsInBinaryOrder}
-use Rattle.aig_core.proofs.WellOrdered.{HasLiteralsUpTo, well_formed}
-use Rattle.aig_image.specs.Image.{IsBinaryImage, latch_image, gate_image, image_by}
-use Rattle.aig_image.specs.Renumbering.{renumbered, renumbered_literal, taken}
-use Rattle.aig_image.proofs.Members.{new, new_fits, not_more, new_literal}
+use Rattle.aig_core.specs.Order.{IsLeastReadyOrder}
+use Rattle.aig_core.proofs.Steps.{all_of}
+use Rattle.aig_image.specs.Image.{IsBinaryImage, image_by}
+use Rattle.aig_image.specs.Laws.{IsOneToOneOnto}
+use Rattle.aig_image.specs.Relabelled.{relabelled, relabelled_gate, NamesOnly}
+use Rattle.aig_image.specs.Reordered.{reordered, has_smaller_first, ArePlaces, positions_of}
+use Rattle.aig_image.specs.Renumbering.{in_new_order, renumbered, source_variable}
+use Rattle.aig_image.proofs.Members.{new_fits, order_is_places}
+use Rattle.aig_image.proofs.OneToOne.{back, one_to_one, many}
+use Rattle.aig_image.proofs.Relabelling.Exchanged.{exchange_keeps_form, sorted_by_flags}
+use Rattle.aig_image.proofs.Relabelling.Formed.{form_is_kept}
+use Rattle.aig_image.proofs.Relabelling.Named.{names_only}
+use Rattle.aig_image.proofs.Relabelling.Permuted.{order_keeps_form}
+use Rattle.aig_image.proofs.Relabelling.Relabelled.{with_gates}
 use Rattle.aig_image.proofs.Sections.{in_binary_order}
 
--- what holds of literals, for what holds of the new ones
-module _ (vs : List ℕ) (P Q : ℕ → Type 0) (new_one : (l : ℕ) → P l → Q (renumbered_literal vs l)) where
-  new_literals : (ls : List ℕ) → AllByRecursion P ls → AllByRecursion Q (map (renumbered_literal vs) ls)
-  new_literals [] all = tt
-  new_literals (l ∷ ls) all = (new_one l all.0, new_literals ls all.1)
+module _ (c : Circuit) (order : List ℕ) (good : IsWellFormed c) (least : IsLeastReadyOrder c order) where
+  abbrev vs : List ℕ
+  vs = in_new_order c order
 
-  new_nexts : (ls : List Latch) → AllByRecursion P (map (λ (l : Latch). l.next) ls) → AllByRecursion Q (map (λ (l : Latch). l.next) (map (latch_image vs) ls))
-  new_nexts [] all = tt
-  new_nexts (l ∷ ls) all = (new_one l.next all.0, new_nexts ls all.1)
+  -- each new number goes back to its variable
+  names_go_back : NamesOnly (λ v. source_variable vs (renumbered vs v) ≡ v) c
+  names_go_back =
+      let Back : ℕ → Type 0 = λ v. source_variable vs (renumbered vs v) ≡ v in
+      names_only Back c refl (all_of Back (defined_variables c) (back c order good least)) good
 
--- where there is as much of each kind, symbols name what is there
-pub positions_kept : (c d : Circuit) → ((k : Kind) → count_of c k ≡ count_of d k) → (ss : List Symbol)
-    → AllByRecursion (λ (s : Symbol). s.position < count_of c s.kind) ss → AllByRecursion (λ (s : Symbol). s.position < count_of d s.kind) ss
-positions_kept c d same [] all = tt
-positions_kept c d same (s ∷ ss) all = (subst (λ n. s.position < n) (same s.kind) all.0, positions_kept c d same ss all.1)
+  abbrev new : Circuit
+  new = record (relabelled (renumbered vs) c) { max_var = length vs }
 
-module _ (c : Circuit) (order : List ℕ) where
-  same_counts : (k : Kind) → count_of c k ≡ count_of (image_by order c) k
-  same_counts kinds.Input = sym (length-map c.inputs _)
-  same_counts kinds.Latch = sym (length-map c.latches _)
-  same_counts kinds.Output = sym (length-map c.outputs _)
+  new_is_well_formed : IsWellFormed new
+  new_is_well_formed =
+      let onto : IsOneToOneOnto (renumbered vs) (defined_variables c) (length c.inputs + length c.latches + length c.gates) =
+      one_to_one c order good least in
+      let all : length vs ≡ length c.inputs + length c.latches + length c.gates = many c order good least in
+      let InRange : ℕ → Type 0 = λ v. IsVariableUpTo (length vs) (renumbered vs v) in
+      form_is_kept (renumbered vs) (source_variable vs) (length vs) c.comment c good refl names_go_back
+      (omega (arith, new_fits c order good least, good.limits.max_var))
+      (all_of InRange (defined_variables c) (λ v a. subst (λ n. IsVariableUpTo n (renumbered vs v)) (sym all) (onto.within v a)))
 
-  symbols_kept : HasGoodSymbols c → HasGoodSymbols (image_by order c)
-  symbols_kept symbols = record { positions = positions_kept c (image_by order c) same_counts c.symbols symbols.positions; apart = symbols.apart; lines = symbols.lines }
-
-  module _ (good : IsWellFormed c) (least : IsLeastReadyOrder c order) where
-    abbrev vs : List ℕ
-    vs = new c order good least
-
-    limits : IsWithinLimits (image_by order c)
-    limits = record {
-      max_var = omega (arith, new_fits c order good least, good.limits.max_var);
-      inputs = omega (arith, length-map c.inputs (renumbered vs), good.limits.inputs);
-      latches = omega (arith, length-map c.latches (latch_image vs), good.limits.latches);
-      outputs = omega (arith, length-map c.outputs (renumbered_literal vs), good.limits.outputs);
-      gates =
-          let many : length (map (gate_image vs) (taken c.gates order)) ≡ length order = length-map (taken c.gates order) (gate_image vs) ∙ length-map order _ in
-          omega (arith, many, not_more c order good least, good.limits.gates);
-    }
-
-    literals : HasLiteralsUpTo (image_by order c)
-    literals =
-        let Known : ℕ → Type 0 = IsKnown (defined_variables c) in
-        let nexts : List ℕ = map (λ (l : Latch). l.next) c.latches in
-        let known : AllByRecursion Known (nexts ++ c.outputs) = front Known (nexts ++ c.outputs) (flat_map operands c.gates) good.known in (
-          new_nexts vs Known (IsLiteralUpTo (length vs)) (new_literal c order good least) c.latches (front Known nexts c.outputs known),
-          new_literals vs Known (IsLiteralUpTo (length vs)) (new_literal c order good least) c.outputs (back Known nexts c.outputs known),
-        )
-
-    image_is_well_formed : IsWellFormed (image_by order c)
-    image_is_well_formed = well_formed (image_by order c) (in_binary_order c order good least) literals limits (symbols_kept good.symbols)
+  image_is_well_formed : IsWellFormed (image_by order c)
+  image_is_well_formed =
+      let are = order_is_places c order good least in
+      let as_many : length c.gates ≡ length new.gates = sym (length-map c.gates (relabelled_gate (renumbered vs))) in
+      let placed : Circuit = reordered order new in
+      let good_placed : IsWellFormed placed =
+      order_keeps_form order (positions_of order) new (subst (ArePlaces order (positions_of order)) as_many are.1)
+      (subst (ArePlaces (positions_of order) order) as_many are.0) new_is_well_formed in
+      subst (λ (gs : List Gate). IsWellFormed (with_gates gs placed)) (sym (sorted_by_flags placed.gates))
+      (exchange_keeps_form (map has_smaller_first placed.gates) placed good_placed)
 
 pub image_is_ordered : (c image : Circuit) → IsWellFormed c → IsBinaryImage c image → IsWellFormed image × IsInBinaryOrder image
 image_is_ordered c image good is =

@@ -21,9 +21,12 @@ use Rattle.aig_core.proofs.Ranked.{at, no_gate, variables, stands_there}
 use Rattle.aig_image.specs.Image.{latch_image, gate_image, image_by, IsBinaryImage}
 use Rattle.aig_image.specs.Parts.Renewed.{new_literal, new_latch, new_gate, new_circuit}
 use Rattle.aig_image.specs.Parts.Numbers.{number_at, number_in, AreNumbered, AreSmall}
-use Rattle.aig_image.specs.Renumbering.{in_new_order, renumbered, renumbered_literal, taken}
+use Rattle.aig_image.specs.Reordered.{taken}
+use Rattle.aig_image.specs.Renumbering.{in_new_order, renumbered, renumbered_literal}
 use Rattle.aig_image.proofs.Distinct.{among_first}
 use Rattle.aig_image.proofs.Members.{new_literal as known_fits, not_more}
+use Rattle.aig_image.proofs.Relabelling.Relabelled.{with_gates}
+use Rattle.aig_image.proofs.Sections.{image_gates}
 use Rattle.aig_image.proofs.Taken.{all_there, among_taken, taken_variables}
 use Rattle.aig_image.proofs.Places.{each_at}
 
@@ -118,7 +121,8 @@ module _ (c : Circuit) (order : List ℕ) (good : IsWellFormed c) (least : IsLea
         let inputs = same_inputs c.inputs (λ v a. variables_first v (among_first c.inputs (map (λ (l : Latch). l.var) c.latches) v a)) in
         let latches = same_latches c.latches (λ v a. variables_first v (among_last c.inputs (map (λ (l : Latch). l.var) c.latches) v a)) (front Known nexts c.outputs known_first) in
         let outputs = same_outputs c.outputs (back Known nexts c.outputs known_first) in
-        rw (many, are, inputs, latches, outputs, same_taken of_gates order order_there) refl
+        rw (many, are, inputs, latches, outputs, same_taken of_gates order order_there)
+        (ap (λ gs. with_gates gs (image_by order c)) (sym (image_gates vs c.gates order)))
 
 -- a well-formed circuit has few enough definitions, in any order of its gates
 pub fits : (c : Circuit) (order : List ℕ) → IsWellFormed c → IsLeastReadyOrder c order → (gates : List Gate) → gates ≡ taken c.gates order

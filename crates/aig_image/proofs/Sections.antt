@@ -2,6 +2,7 @@
 use Rattle.std.proofs.Common.{◌≡◌, ◌+◌, ◌<◌, ◌≤◌, ℕ, zero, suc, List, [], ◌∷◌, ◌++◌, length, length-append, map, refl, sym, ap, ap₂, subst, ◌∙◌, append_assoc, arith}
 use Rattle.std.specs.List.{AllByRecursion, range_with_len, flat_map}
 use Rattle.std.proofs.lemmas.List.{length-map}
+use Rattle.std.proofs.lemmas.Simd.{map-map}
 use Rattle.aig_core.specs.declared.circuit.Latch.{Latch}
 use Rattle.aig_core.specs.declared.circuit.Gate.{Gate}
 use Rattle.aig_core.specs.declared.circuit.Circuit.{Circuit}
@@ -13,15 +14,23 @@ use Rattle.aig_core.proofs.InForm.{front, back}
 use Rattle.aig_core.proofs.Ranked.{at, variables, stands_there}
 use Rattle.aig_core.specs.BinaryOrder.{AreOrderedGates, IsInBinaryOrder}
 use Rattle.aig_image.specs.Image.{latch_image, gate_image, image_by}
-use Rattle.aig_image.specs.Renumbering.{renumbered, taken}
+use Rattle.aig_image.specs.Relabelled.{relabelled_gate}
+use Rattle.aig_image.specs.Reordered.{operands_sorted}
+use Rattle.aig_image.specs.Reordered.{taken}
+use Rattle.aig_image.specs.Renumbering.{renumbered}
 use Rattle.aig_image.proofs.InTurn.{in_turn}
 use Rattle.aig_image.proofs.Members.{new, gates_once, new_once}
 use Rattle.aig_image.proofs.Places.{numbered_on}
+use Rattle.aig_image.proofs.Relabelling.Formed.{latches_there}
+use Rattle.aig_image.proofs.Relabelling.Reordered.{taken_mapped}
 use Rattle.aig_image.proofs.Taken.{taken_variables}
 
-latch_numbers : (vs : List ℕ) (ls : List Latch) → map (λ (l : Latch). l.var) (map (latch_image vs) ls) ≡ map (renumbered vs) (map (λ (l : Latch). l.var) ls)
-latch_numbers vs [] = refl
-latch_numbers vs (l ∷ ls) = ap (λ (ns : List ℕ). renumbered vs l.var ∷ ns) (latch_numbers vs ls)
+-- the gates of an image, one by one
+pub image_gates : (vs : List ℕ) (gates : List Gate) (order : List ℕ)
+    → map operands_sorted (taken (map (relabelled_gate (renumbered vs)) gates) order) ≡ map (gate_image vs) (taken gates order)
+image_gates vs gates order =
+    ap (map operands_sorted) (sym (taken_mapped (relabelled_gate (renumbered vs)) refl gates order))
+    ∙ map-map operands_sorted (relabelled_gate (renumbered vs)) (taken gates order)
 
 -- what holds of all operands holds of those of each gate
 pub of_gate : (P : ℕ → Type 0) (gates : List Gate) → AllByRecursion P (flat_map operands gates) → (i l : ℕ) → i < length gates → IsAmong l (operands (at gates i)) → P l
@@ -60,8 +69,13 @@ module _ (c : Circuit) (order : List ℕ) (good : IsWellFormed c) (least : IsLea
       length-append c.inputs latches
       ∙ ap₂ (λ a b. a + b) (sym (length-map c.inputs (renumbered vs))) (length-map c.latches (λ (l : Latch). l.var) ∙ sym (length-map c.latches (latch_image vs)))
 
-  gates_many : length last ≡ length (map (gate_image vs) (taken c.gates order))
-  gates_many = length-map (taken c.gates order) (λ (g : Gate). g.var) ∙ sym (length-map (taken c.gates order) (gate_image vs))
+  abbrev new_gates : List Gate
+  new_gates = map operands_sorted (taken (map (relabelled_gate (renumbered vs)) c.gates) order)
+
+  gates_many : length last ≡ length new_gates
+  gates_many =
+      length-map (taken c.gates order) (λ (g : Gate). g.var) ∙ sym (length-map (taken c.gates order) (gate_image vs))
+      ∙ ap length (sym (image_gates vs c.gates order))
 
   pub in_binary_order : IsInBinaryOrder (image_by order c)
   in_binary_order =
@@ -72,9 +86,12 @@ module _ (c : Circuit) (order : List ℕ) (good : IsWellFormed c) (least : IsLea
             numbered_on vs [] c.inputs (latches ++ last) once (some c.inputs (front InRange c.inputs latches first_in_range)) (append_assoc c.inputs latches last)
             ∙ ap (range_with_len 1) (sym (length-map c.inputs (renumbered vs)));
         latches =
-            latch_numbers vs c.latches
+            latches_there (renumbered vs) c.latches
             ∙ numbered_on vs c.inputs latches last once (some latches (back InRange c.inputs latches first_in_range)) (append_assoc c.inputs latches last)
             ∙ ap₂ (λ a b. range_with_len (1 + a) b) (sym (length-map c.inputs (renumbered vs))) (length-map c.latches (λ (l : Latch). l.var) ∙ sym (length-map c.latches (latch_image vs)));
-        gates = subst (λ n. AreOrderedGates n (map (gate_image vs) (taken c.gates order))) (omega (arith, many)) gates;
+        gates =
+            subst (AreOrderedGates (1 + length (map (renumbered vs) c.inputs) + length (map (latch_image vs) c.latches)))
+            (sym (image_gates vs c.gates order))
+            (subst (λ n. AreOrderedGates n (map (gate_image vs) (taken c.gates order))) (omega (arith, many)) gates);
         all = omega (arith, many, gates_many, length-append (c.inputs ++ latches) last);
       }

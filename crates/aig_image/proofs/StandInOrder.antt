@@ -16,7 +16,8 @@ use Rattle.aig_core.proofs.Fitting.{each, definitions_fit}
 use Rattle.aig_core.proofs.Ranked.{at, no_gate, over_one, variables, stands_there, distinct_back}
 use Rattle.aig_image.specs.Parts.InOrder.{StandInOrder}
 use Rattle.aig_image.specs.Parts.Numbers.{AreNumbered, AreSmall}
-use Rattle.aig_image.specs.Renumbering.{taken, in_new_order}
+use Rattle.aig_image.specs.Reordered.{taken}
+use Rattle.aig_image.specs.Renumbering.{in_new_order}
 use Rattle.aig_image.proofs.Distinct.{apart}
 use Rattle.aig_image.proofs.OneByOne.{one_by_one, all_of_them}
 use Rattle.aig_image.proofs.Taken.{same_gate}

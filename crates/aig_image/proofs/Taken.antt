@@ -5,7 +5,7 @@ use Rattle.aig_core.specs.declared.circuit.Gate.{Gate}
 use Rattle.aig_core.specs.Wellformed.{IsAmong, AreDistinct}
 use Rattle.aig_core.specs.Order.{TakesLeast, gate_of}
 use Rattle.aig_core.proofs.Ranked.{at, gate_here, variables}
-use Rattle.aig_image.specs.Renumbering.{taken}
+use Rattle.aig_image.specs.Reordered.{taken}
 
 -- what is taken in turn is there, and is taken once
 module _ (count : ℕ) (needs : ℕ → List ℕ) where

@@ -1,15 +1,12 @@
 -- The variables of a circuit by numbers that follow on one another (this project's profile): inputs, then latches, both in
 -- the order of the file, then gates in the order in which they are taken.
-use Rattle.std.specs.Prelude.{◌+◌, ◌-◌, ◌*◌, ◌%◌, ◌==◌, ℕ, List, ◌++◌, map, slice_index_or, if◌then◌else◌}
+use Rattle.std.specs.Prelude.{◌+◌, ◌-◌, ◌==◌, ℕ, List, ◌++◌, map, slice_index_or, if◌then◌else◌}
 use Rattle.std.specs.List.{position_or_len}
 use Rattle.aig_core.specs.declared.circuit.Latch.{Latch}
 use Rattle.aig_core.specs.declared.circuit.Gate.{Gate}
 use Rattle.aig_core.specs.declared.circuit.Circuit.{Circuit}
-use Rattle.aig_core.specs.Literal.{variable_of}
-
--- the gates in an order of their positions
-abbrev pub taken : List Gate → List ℕ → List Gate
-taken gates order = map (λ at. slice_index_or gates at (record { var = 0; left = 0; right = 0 })) order
+use Rattle.aig_image.specs.Relabelled.{relabelled_literal}
+use Rattle.aig_image.specs.Reordered.{taken}
 
 -- the variables in their new order, where the gates are taken in this one
 abbrev pub in_new_order : Circuit → List ℕ → List ℕ
@@ -21,7 +18,7 @@ renumbered variables v = if v == 0 then 0 else 1 + position_or_len (λ w. w == v
 
 -- the literal of the new number, with the sign that it had
 abbrev pub renumbered_literal : List ℕ → ℕ → ℕ
-renumbered_literal variables literal = 2 * renumbered variables (variable_of literal) + literal % 2
+renumbered_literal variables = relabelled_literal (renumbered variables)
 
 -- the variable that had a number before, where the numbers follow on one another in this order; the constant stays
 abbrev pub source_variable : List ℕ → ℕ → ℕ

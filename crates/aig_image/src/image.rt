@@ -5,7 +5,8 @@ ghost use Rattle.aig_core.specs.Wellformed.{IsWellFormed};
 ghost use Rattle.aig_core.specs.Order.{IsLeastReadyOrder};
 ghost use Rattle.aig_image.specs.Parts.Numbers.{number_at, AreNumbered, AreSmall};
 ghost use Rattle.aig_image.specs.Parts.Renewed.{new_literal, new_latch, new_gate, new_circuit};
-ghost use Rattle.aig_image.specs.Renumbering.{taken, in_new_order};
+ghost use Rattle.aig_image.specs.Reordered.{taken};
+ghost use Rattle.aig_image.specs.Renumbering.{in_new_order};
 ghost use Rattle.aig_image.specs.Image.{IsBinaryImage};
 
 use crate::numbers::Numbers;

@@ -1,8 +1,6 @@
 -- New numbers carried back give what they were made of.
-use Rattle.std.proofs.Common.{◌≡◌, ◌≢◌, ◌+◌, ◌-◌, ◌*◌, ◌/◌, ◌%◌, ℕ, suc, List, [], ◌∷◌, true, false, eqb, get_or, map, refl, sym, ap, ap₂, ◌∙◌, ◌⊎◌, inr, ⊎_elim, arith}
-use Rattle.std.specs.List.{AllByRecursion, position_or_len}
-use Rattle.std.proofs.lemmas.Bool.{ne_eqb}
-use Rattle.std.proofs.lemmas.Bool.Decides.{eqb_tells}
+use Rattle.std.proofs.Common.{◌≡◌, ◌+◌, ◌*◌, ◌/◌, ◌%◌, ℕ, List, [], ◌∷◌, map, refl, ap, ap₂, ◌∙◌, inr, arith}
+use Rattle.std.specs.List.{AllByRecursion}
 use Rattle.aig_core.specs.declared.circuit.Latch.{Latch}
 use Rattle.aig_core.specs.Literal.{variable_of}
 use Rattle.aig_core.specs.Wellformed.{IsAmong, IsKnown}

@@ -11,7 +11,7 @@ use Rattle.std.proofs.lemmas.Option.{slice_get-get_or}
 use Rattle.aig_core.specs.declared.circuit.Gate.{Gate}
 use Rattle.aig_core.proofs.Ranked.{no_gate, variables}
 use Rattle.aig_order.specs.declared.map_block.MappedGate.{MappedGate}
-use Rattle.aig_image.specs.Renumbering.{taken}
+use Rattle.aig_image.specs.Reordered.{taken}
 use Rattle.aig_order.specs.Parts.Turns.{position_at_place}
 use Rattle.aig_order.specs.Undone.{variable_at_place}
 use Rattle.aig_order.proofs.ToldAt.{none_told, told_at}

@@ -15,9 +15,9 @@ use Rattle.aig_core.proofs.InForm.{front, back}
 use Rattle.aig_core.proofs.Ranked.{at}
 use Rattle.aig_core.proofs.Steps.{all_of}
 use Rattle.aig_order.specs.declared.map_block.MapBlock.{MapBlock}
-use Rattle.aig_image.specs.Image.{latch_image, gate_image}
+use Rattle.aig_image.specs.Image.{latch_image, image_by}
 use Rattle.aig_order.specs.MapBlock.{map_block, mapped_by}
-use Rattle.aig_image.specs.Renumbering.{in_new_order, renumbered, renumbered_literal, taken, source_variable}
+use Rattle.aig_image.specs.Renumbering.{in_new_order, renumbered, renumbered_literal, source_variable}
 use Rattle.aig_order.specs.Undone.{source_variables, source_literal, source_latch, source_gate, undone, comment_behind}
 use Rattle.aig_order.proofs.Back.{back_variables, back_literals, back_latches}
 use Rattle.aig_image.proofs.Distinct.{among_first}
@@ -86,7 +86,7 @@ module _ (c : Circuit) (order : List ℕ) (good : IsWellFormed c) (least : IsLea
     inputs = map (source_variable xs) (map (renumbered vs) c.inputs);
     latches = map (source_latch xs) (map (latch_image vs) c.latches);
     outputs = map (source_literal xs) (map (renumbered_literal vs) c.outputs);
-    gates = map (source_gate xs (map (gate_image vs) (taken c.gates order))) (map_block order c).gates;
+    gates = map (source_gate xs (image_by order c).gates) (map_block order c).gates;
     symbols = c.symbols;
     comment = comment_behind (map_block order c) (unwrap_or c.comment []);
   }
@@ -103,7 +103,7 @@ module _ (c : Circuit) (order : List ℕ) (good : IsWellFormed c) (least : IsLea
       let inputs = back_variables vs c.inputs (all_of (λ v. IsAmong v vs) c.inputs (λ v a. first_there v (among_first c.inputs latches v a))) in
       let are_latches = back_latches vs c.latches (all_of (λ v. IsAmong v vs) latches (λ v a. first_there v (among_last c.inputs latches v a))) (all_new nexts (front Known nexts c.outputs known_first)) in
       let outputs = back_literals vs c.outputs (all_new c.outputs (back Known nexts c.outputs known_first)) in
-      let gates = gates_back vs start (map (gate_image vs) (taken c.gates order)) c.gates (image_there c.gates order vs start (not_more c order good least) by_order by_gate) operands_known in
+      let gates = gates_back vs start (image_by order c).gates c.gates (image_there c.gates order vs start (not_more c order good least) by_order by_gate) operands_known in
       let comment = comment_kept c.comment (map_block order c) refl in
       λ i. record { max_var = c.max_var; inputs = inputs i; latches = are_latches i; outputs = outputs i; gates = gates i; symbols = c.symbols; comment = comment i }
 

@@ -1,6 +1,6 @@
 -- A circuit that is undone from a well-formed one in binary order is well formed, where no variable is defined twice.
 use Rattle.std.proofs.Common.{◌≡◌, ◌+◌, ◌*◌, ◌<◌, ◌≤◌, ℕ, List, [], ◌∷◌, ◌++◌, Option, length, length-append, map}
-use Rattle.std.proofs.Common.{sym, subst, arith}
+use Rattle.std.proofs.Common.{refl, sym, subst, arith}
 use Rattle.std.specs.List.{AllByRecursion, flat_map}
 use Rattle.std.proofs.lemmas.List.{length-map}
 use Rattle.aig_core.specs.declared.circuit.Latch.{Latch}
@@ -17,7 +17,7 @@ use Rattle.aig_order.specs.MapReading.{HasCountsOf, IsWithinBounds}
 use Rattle.aig_image.specs.Renumbering.{source_variable}
 use Rattle.aig_order.specs.Undone.{source_variables, source_literal, source_latch, source_gate, undone}
 use Rattle.aig_order.proofs.GatePlaces.{told_variables, in_a_row, as_many}
-use Rattle.aig_image.proofs.Ordered.{positions_kept}
+use Rattle.aig_image.proofs.Relabelling.Formed.{symbols_kept}
 use Rattle.aig_order.proofs.Placed.{places}
 use Rattle.aig_order.proofs.SourceDefined.{first, told, told_is_defined, source_is_told, source_once}
 use Rattle.aig_order.proofs.SourceRanks.{rank, places_rank, all_stand}
@@ -115,11 +115,7 @@ module _ (x : Circuit) (b : MapBlock) (comment : Option (List ℕ)) (good : IsWe
   same_counts kinds.Output = sym (length-map x.outputs (source_literal vs))
 
   symbols : HasGoodSymbols source
-  symbols = record {
-    positions = positions_kept x source same_counts x.symbols good.symbols.positions;
-    apart = good.symbols.apart;
-    lines = good.symbols.lines;
-  }
+  symbols = symbols_kept x source same_counts refl good.symbols
 
   -- a gate is ranked by the place of its variable
   ranked : HasRank source.gates

@@ -16,7 +16,8 @@ use Rattle.aig_order.specs.MapBlock.{mapped_gate}
 use Rattle.aig_order.specs.MapReading.{HasCountsOf}
 use Rattle.aig_order.specs.Parts.Confirmed.{HasTwoOperands, TellsExchanges}
 use Rattle.aig_order.specs.Parts.Turns.{positions, position_at_place}
-use Rattle.aig_image.specs.Renumbering.{renumbered, taken, source_variable}
+use Rattle.aig_image.specs.Reordered.{taken}
+use Rattle.aig_image.specs.Renumbering.{renumbered, source_variable}
 use Rattle.aig_order.specs.Undone.{source_latch}
 use Rattle.aig_order.proofs.ByPlace.{has_place}
 use Rattle.aig_order.proofs.GateAgain.{gate_again, told_again}

@@ -14,13 +14,15 @@ use Rattle.aig_core.proofs.Fitting.{well_formed_in_form}
 use Rattle.aig_core.proofs.InForm.{front, back}
 use Rattle.aig_core.proofs.Ranked.{variables}
 use Rattle.aig_core.specs.BinaryOrder.{IsInBinaryOrder}
+use Rattle.aig_image.proofs.Sections.{image_gates}
 use Rattle.aig_order.specs.declared.map_block.MapBlock.{MapBlock}
 use Rattle.aig_image.specs.Image.{latch_image, gate_image}
 use Rattle.aig_order.specs.MapBlock.{block_text, mapped_gate, map_block, mapped_by}
 use Rattle.aig_order.specs.MapReading.{HasCountsOf}
 use Rattle.aig_order.specs.Parts.Confirmed.{TellsExchanges, TellsComment}
 use Rattle.aig_order.specs.Parts.Turns.{positions}
-use Rattle.aig_image.specs.Renumbering.{in_new_order, renumbered, renumbered_literal, taken}
+use Rattle.aig_image.specs.Reordered.{taken}
+use Rattle.aig_image.specs.Renumbering.{in_new_order, renumbered, renumbered_literal}
 use Rattle.aig_order.specs.Undone.{undone, comment_behind}
 use Rattle.aig_order.proofs.GatesAgain.{gates_again, told_gates_again}
 use Rattle.aig_order.proofs.NumbersAgain.{variables_again, literals_again, latches_again}
@@ -112,7 +114,8 @@ module _ (x : Circuit) (b : MapBlock) (rest : List ℕ) (good : IsWellFormed x) 
         ∙ literals_again us distinct positive x.outputs
         (literals_fit x.outputs (back MayUse nexts x.outputs literals)) in
         let gates =
-        ap (λ ns. map (gate_image ns) (taken from.gates (positions b.gates))) same_variables
+        image_gates (in_new_order from (positions b.gates)) from.gates (positions b.gates)
+        ∙ ap (λ ns. map (gate_image ns) (taken from.gates (positions b.gates))) same_variables
         ∙ gates_again x b comment ordered counts from_good least in
         let text =
         ap₂ (λ (told : MapBlock) (behind : List ℕ). Some (block_text told ++ behind)) block_again

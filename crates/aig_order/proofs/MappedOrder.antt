@@ -9,7 +9,8 @@ use Rattle.aig_core.proofs.LeastReady.{a_least_ready_order, one_least_ready_orde
 use Rattle.aig_core.specs.BinaryOrder.{IsInBinaryOrder}
 use Rattle.aig_image.specs.Image.{image_by}
 use Rattle.aig_order.specs.MapBlock.{mapped_by, IsMappedImage}
-use Rattle.aig_image.proofs.Ordered.{positions_kept, image_is_ordered}
+use Rattle.aig_image.proofs.Ordered.{image_is_ordered}
+use Rattle.aig_image.proofs.Relabelling.Formed.{symbols_kept}
 
 -- the same circuit with another comment
 module _ (c : Circuit) (comment : Option (List ℕ)) where
@@ -35,11 +36,7 @@ module _ (c : Circuit) (comment : Option (List ℕ)) where
     in_range = good.in_range;
     once = good.once;
     known = good.known;
-    symbols = record {
-      positions = positions_kept c commented same_counts c.symbols good.symbols.positions;
-      apart = good.symbols.apart;
-      lines = good.symbols.lines;
-    };
+    symbols = symbols_kept c commented same_counts refl good.symbols;
     ranked = good.ranked;
   }
 

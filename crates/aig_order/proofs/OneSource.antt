@@ -15,9 +15,11 @@ use Rattle.aig_order.specs.declared.fault.MapFault.{MapFault}
 use Rattle.aig_order.specs.declared.map_block.MappedGate.{MappedGate}
 use Rattle.aig_order.specs.declared.map_block.MapBlock.{MapBlock}
 use Rattle.aig_image.specs.Image.{latch_image, gate_image}
+use Rattle.aig_image.proofs.Sections.{image_gates}
 use Rattle.aig_order.specs.MapBlock.{mapped_gate, map_block, mapped_by, IsMappedImage}
 use Rattle.aig_order.specs.MapReading.{block_reading, HasCountsOf, IsWithinBounds}
-use Rattle.aig_image.specs.Renumbering.{in_new_order, renumbered, taken}
+use Rattle.aig_image.specs.Reordered.{taken}
+use Rattle.aig_image.specs.Renumbering.{in_new_order, renumbered}
 use Rattle.aig_order.specs.Undone.{undone, comment_behind, IsUndoneFrom}
 use Rattle.aig_order.proofs.BlockText.{block_is_read}
 use Rattle.aig_order.proofs.Carried.{by_order, by_gate, carried_back}
@@ -61,7 +63,8 @@ module _ (c : Circuit) (order : List ℕ) (good : IsWellFormed c) (least : IsLea
     inputs = sym (length-map c.inputs (renumbered vs));
     latches = length-map c.latches (λ (l : Latch). l.var) ∙ sym (length-map c.latches (latch_image vs));
     gates =
-        length-map c.gates (mapped_gate vs start) ∙ sym all_taken ∙ sym (length-map (taken c.gates order) (gate_image vs) ∙ length-map order _);
+        length-map c.gates (mapped_gate vs start) ∙ sym all_taken
+        ∙ sym (ap length (image_gates vs c.gates order) ∙ length-map (taken c.gates order) (gate_image vs) ∙ length-map order _);
   }
 
   -- what the block tells is within bounds

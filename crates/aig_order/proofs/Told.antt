@@ -22,7 +22,8 @@ use Rattle.aig_order.specs.MapBlock.{block_text, mapped_gate, map_block, mapped_
 use Rattle.aig_image.specs.Parts.Renewed.{new_circuit}
 use Rattle.aig_image.specs.Parts.Numbers.{number_at, number_in, AreNumbered, AreSmall}
 use Rattle.aig_order.specs.Parts.Told.{told_gate, told_block, told_comment}
-use Rattle.aig_image.specs.Renumbering.{in_new_order, taken}
+use Rattle.aig_image.specs.Reordered.{taken}
+use Rattle.aig_image.specs.Renumbering.{in_new_order}
 use Rattle.aig_image.proofs.Renewed.{same_literal, same_variable, by_numbers}
 
 module _ (c : Circuit) (order : List ℕ) (good : IsWellFormed c) (least : IsLeastReadyOrder c order)

@@ -1,6 +1,5 @@
 -- What stands at a position of a list, and what a block tells of the gate at a position.
-use Rattle.std.proofs.Common.{ℕ, zero, suc, ◌<◌, List, [], ◌∷◌, false, length, get_or, arith}
-use Rattle.std.specs.List.{AllByRecursion}
+use Rattle.std.proofs.Common.{ℕ, List, false, get_or}
 use Rattle.aig_order.specs.declared.map_block.MappedGate.{MappedGate}
 
 abbrev pub none_told : MappedGate

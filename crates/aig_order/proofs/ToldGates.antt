@@ -11,9 +11,13 @@ use Rattle.aig_core.proofs.Ranked.{at, no_gate}
 use Rattle.aig_order.specs.declared.map_block.MappedGate.{MappedGate}
 use Rattle.aig_image.specs.Image.{gate_image}
 use Rattle.aig_order.specs.MapBlock.{mapped_gate}
-use Rattle.aig_image.specs.Renumbering.{renumbered, taken}
+use Rattle.aig_image.specs.Reordered.{taken}
+use Rattle.aig_image.specs.Renumbering.{renumbered}
 use Rattle.aig_order.specs.Undone.{variable_at_place}
 use Rattle.aig_image.proofs.Places.{somewhere}
+use Rattle.aig_image.specs.Relabelled.{relabelled_gate}
+use Rattle.aig_image.specs.Reordered.{operands_sorted}
+use Rattle.aig_image.proofs.Sections.{image_gates}
 use Rattle.aig_image.proofs.Taken.{taken_variables}
 
 -- the variable at a place, where all gates with that place have this variable and there is one
@@ -114,9 +118,11 @@ module _ (gates : List Gate) (order vs : List ℕ) (start : ℕ) (not_more : len
       ∙ sym (get_or-map (λ (g : Gate). g.var) (taken gates order) k no_gate 0 (omega (arith, there, length-map order (at gates)))))
 
   -- the image of a gate stands at its place
-  pub image_there : (g : ℕ) → g < length gates → get_or (map (gate_image vs) (taken gates order)) (place g) no_gate ≡ gate_image vs (at gates g)
+  pub image_there : (g : ℕ) → g < length gates
+      → get_or (map operands_sorted (taken (map (relabelled_gate (renumbered vs)) gates) order)) (place g) no_gate ≡ gate_image vs (at gates g)
   image_there g below =
       let here = by_gate g below in
       let there : place g < length order = here.0 in
-      get_or-map (gate_image vs) (taken gates order) (place g) no_gate no_gate (omega (arith, there, length-map order (at gates)))
+      ap (λ gs. get_or gs (place g) no_gate) (image_gates vs gates order)
+      ∙ get_or-map (gate_image vs) (taken gates order) (place g) no_gate no_gate (omega (arith, there, length-map order (at gates)))
       ∙ ap (gate_image vs) (get_or-map (at gates) order (place g) 0 no_gate there ∙ ap (at gates) here.1)

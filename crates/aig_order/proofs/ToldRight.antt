@@ -1,5 +1,5 @@
 -- The block of a mapped image tells no exchange of equal operands, and of a comment section where a comment follows.
-use Rattle.std.proofs.Common.{◌≡◌, ◌≢◌, ◌+◌, ◌<◌, ℕ, List, [], true, ltb, Option, None, Some, Ok, length, get_or, map}
+use Rattle.std.proofs.Common.{◌≡◌, ◌≢◌, ◌+◌, ◌<◌, ℕ, List, [], true, ltb, Option, None, Some, Ok, length, get_or}
 use Rattle.std.proofs.Common.{max, min}
 use Rattle.std.proofs.Common.{refl, sym, ap, subst, ◌∙◌, ◌⊎◌, inl, inr, arith}
 use Rattle.std.specs.Prelude.{is_some}
@@ -13,11 +13,11 @@ use Rattle.aig_core.specs.Wellformed.{IsWellFormed}
 use Rattle.aig_core.proofs.Ranked.{at, no_gate}
 use Rattle.aig_order.specs.declared.map_block.MappedGate.{MappedGate}
 use Rattle.aig_order.specs.declared.map_block.MapBlock.{MapBlock}
-use Rattle.aig_image.specs.Image.{gate_image}
+use Rattle.aig_image.specs.Image.{gate_image, image_by}
 use Rattle.aig_order.specs.MapBlock.{mapped_gate, map_block, mapped_by, IsMappedImage}
 use Rattle.aig_order.specs.MapReading.{block_reading}
 use Rattle.aig_order.specs.Parts.Confirmed.{HasTwoOperands, TellsExchanges, TellsComment}
-use Rattle.aig_image.specs.Renumbering.{in_new_order, renumbered_literal, taken}
+use Rattle.aig_image.specs.Renumbering.{in_new_order, renumbered_literal}
 use Rattle.aig_order.proofs.Carried.{by_order, by_gate}
 use Rattle.aig_image.proofs.Members.{not_more}
 use Rattle.aig_order.proofs.OneSource.{mapped_reading, one_reading}
@@ -48,7 +48,7 @@ module _ (c : Circuit) (order : List ℕ) (good : IsWellFormed c) (least : IsLea
   start = 1 + length c.inputs + length c.latches
 
   abbrev images : List Gate
-  images = map (gate_image vs) (taken c.gates order)
+  images = (image_by order c).gates
 
   abbrev tell : Gate → MappedGate
   tell = mapped_gate vs start

@@ -17,7 +17,8 @@ use Rattle.aig_order.specs.declared.map_block.MapBlock.{MapBlock}
 use Rattle.aig_image.specs.Image.{latch_image, gate_image, image_by}
 use Rattle.aig_order.specs.MapReading.{HasCountsOf}
 use Rattle.aig_order.specs.Parts.Turns.{positions, position_at_place}
-use Rattle.aig_image.specs.Renumbering.{in_new_order, renumbered, taken, source_variable}
+use Rattle.aig_image.specs.Reordered.{taken}
+use Rattle.aig_image.specs.Renumbering.{in_new_order, renumbered, source_variable}
 use Rattle.aig_order.specs.Undone.{source_variables, source_gate, undone, variable_at_place}
 use Rattle.aig_order.proofs.ByPlace.{has_place, taken_by_place}
 use Rattle.aig_order.proofs.ToldAt.{none_told, told_at}
@@ -25,7 +26,7 @@ use Rattle.aig_order.proofs.Carried.{by_order, by_gate}
 use Rattle.aig_image.proofs.Members.{new_once, is_defined, not_more}
 use Rattle.aig_order.proofs.NumbersAgain.{read_off, latch_variables}
 use Rattle.aig_image.proofs.OneByOne.{ordered_at}
-use Rattle.aig_image.proofs.Sections.{in_binary_order}
+use Rattle.aig_image.proofs.Sections.{image_gates, in_binary_order}
 use Rattle.aig_order.proofs.ToldGates.{image_there}
 
 module _ (x : Circuit) (b : MapBlock) (comment : Option (List ℕ)) (ordered : IsInBinaryOrder x)
@@ -122,7 +123,8 @@ module _ (x : Circuit) (b : MapBlock) (comment : Option (List ℕ)) (ordered : I
     image_number p below =
         let image : Circuit = image_by order source in
         let many : length image.gates ≡ length order =
-        length-map (taken source.gates order) (gate_image new) ∙ length-map order (at source.gates) in
+        ap length (image_gates new source.gates order)
+        ∙ length-map (taken source.gates order) (gate_image new) ∙ length-map order (at source.gates) in
         let inputs : length image.inputs ≡ length source.inputs = length-map source.inputs (renumbered new) in
         let latches : length image.latches ≡ length source.latches = length-map source.latches (latch_image new) in
         let first : ℕ = 1 + length image.inputs + length image.latches in

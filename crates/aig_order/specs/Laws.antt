@@ -1,12 +1,8 @@
 -- What the definitions of this crate say of one another.
-use Rattle.std.specs.Prelude.{◌≡◌, ◌↔◌, ◌+◌, ◌++◌, ℕ, List, length, Some, Ok}
-use Rattle.std.specs.List.{range_with_len}
+use Rattle.std.specs.Prelude.{◌≡◌, ◌↔◌, ◌++◌, ℕ, List, Some, Ok}
 use Rattle.aig_core.specs.declared.circuit.Circuit.{Circuit}
-use Rattle.aig_core.specs.Wellformed.{IsAmong, IsVariableUpTo, IsWellFormed, defined_variables}
-use Rattle.aig_core.specs.Order.{IsLeastReadyOrder}
+use Rattle.aig_core.specs.Wellformed.{IsWellFormed}
 use Rattle.aig_core.specs.BinaryOrder.{IsInBinaryOrder}
-use Rattle.aig_image.specs.Renumbering.{in_new_order, renumbered}
-use Rattle.aig_image.specs.Image.{IsBinaryImage}
 use Rattle.aig_order.specs.declared.map_block.MapBlock.{MapBlock}
 use Rattle.aig_order.specs.MapBlock.{block_text, IsMappedImage}
 use Rattle.aig_order.specs.MapReading.{block_reading, HasCountsOf, IsWithinBounds}

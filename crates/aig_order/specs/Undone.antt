@@ -1,6 +1,6 @@
 -- The undone circuit (this project's profile): what a circuit in binary order was before its conversion, by the map block
 -- at the front of its comment.
-use Rattle.std.specs.Prelude.{◌≡◌, ◌+◌, ◌-◌, ◌*◌, ◌%◌, ◌==◌, ◌++◌, ℕ, List, length, map, Option, None, Some, Err, if◌then◌else◌, slice_index_or, IsOk}
+use Rattle.std.specs.Prelude.{◌≡◌, ◌+◌, ◌*◌, ◌%◌, ◌==◌, ◌++◌, ℕ, List, length, map, Option, None, Some, Err, if◌then◌else◌, slice_index_or, IsOk}
 use Rattle.std.specs.List.{range_with_len, find}
 use Rattle.std.specs.Option.{option_map, unwrap_or}
 use Rattle.aig_core.specs.declared.circuit.Latch.{Latch}

@@ -3,7 +3,7 @@ use Rattle.std.specs.List.{AllByRecursion}
 use Rattle.aig_core.specs.declared.circuit.Latch.{Latch}
 use Rattle.aig_core.specs.declared.circuit.Gate.{Gate}
 use Rattle.aig_image.specs.Parts.Numbers.{AreNumbered}
-use Rattle.aig_image.specs.Renumbering.{taken}
+use Rattle.aig_image.specs.Reordered.{taken}
 use Rattle.aig_image.proofs.Renewed.{fits, order_there}
 use Rattle.aig_image.proofs.image.in_this_order.Goals as goal
 

@@ -1,5 +1,5 @@
 use Rattle.std.proofs.Common.{◌≡◌, take}
-use Rattle.aig_image.specs.Renumbering.{taken}
+use Rattle.aig_image.specs.Reordered.{taken}
 use Rattle.aig_image.proofs.image.take_gates.Given as goal
 
 abbrev pub invariant-loop-at : goal.invariant-loop-at
