@@ -1,9 +1,10 @@
 -- A circuit by other variables (this project's profile): each variable v becomes f v, and each literal keeps its sign.
-use Rattle.std.specs.Prelude.{◌+◌, ◌*◌, ◌%◌, ℕ, map}
+use Rattle.std.specs.Prelude.{◌+◌, ◌*◌, ◌%◌, ◌≤◌, ℕ, map}
 use Rattle.std.specs.List.{AllByRecursion}
 use Rattle.aig_core.specs.declared.circuit.Latch.{Latch}
 use Rattle.aig_core.specs.declared.circuit.Gate.{Gate}
 use Rattle.aig_core.specs.declared.circuit.Circuit.{Circuit}
+use Rattle.aig_core.specs.declared.circuit.TheConstants.{LARGEST}
 use Rattle.aig_core.specs.Literal.{variable_of}
 
 abbrev pub relabelled_literal : (ℕ → ℕ) → ℕ → ℕ
@@ -37,3 +38,7 @@ pub record NamesOnly (P : ℕ → Type 0) (c : Circuit) : Type 0 where
   pub latches : AllByRecursion (LatchNames P) c.latches
   pub outputs : AllByRecursion (λ literal. P (variable_of literal)) c.outputs
   pub gates : AllByRecursion (GateNames P) c.gates
+
+-- no label is too large for a literal
+abbrev pub FitIntoLiterals : (ℕ → ℕ) → Type 0
+FitIntoLiterals label = (v : ℕ) → label v ≤ LARGEST
