@@ -93,6 +93,12 @@ exchange_keeps_form flags c good =
       ranked = (good.ranked.0, same_rank good.ranked.0 flags c.gates good.ranked.1);
     }
 
+-- gates that are made with their flags
+pub exchanged_each : {X : Type 0} (e : X → Bool) (h : X → Gate) (xs : List X)
+    → exchanged_by (map e xs) (map h xs) ≡ map (λ x. exchanged_if (e x) (h x)) xs
+exchanged_each e h [] = refl
+exchanged_each e h (x ∷ xs) = ap (λ (gs : List Gate). exchanged_if (e x) (h x) ∷ gs) (exchanged_each e h xs)
+
 -- sorting is an exchange by the gates' own flags
 twice_exchanged : (e : Bool) (g : Gate) → exchanged_if e (exchanged_if e g) ≡ g
 twice_exchanged true g = refl

@@ -11,6 +11,7 @@ use Rattle.aig_core.specs.declared.circuit.Gate.{Gate}
 use Rattle.aig_core.specs.declared.circuit.Circuit.{Circuit}
 use Rattle.aig_core.specs.Literal.{variable_of}
 use Rattle.aig_core.specs.Wellformed.{IsAmong, AreDistinct, IsKnown, IsVariableUpTo, IsWellFormed, count_of, operands}
+use Rattle.aig_core.specs.Wellformed.{defined_variables}
 use Rattle.aig_core.proofs.Counted.{among_either}
 use Rattle.aig_core.proofs.Cyclic.{among_last}
 use Rattle.aig_core.proofs.Fitting.{each, all_weaker}
@@ -111,6 +112,25 @@ same_counts order c kinds.Input = refl
 same_counts order c kinds.Latch = refl
 same_counts order c kinds.Output = refl
 
+-- the circuit defines the same variables, each once where it did
+module _ (order places : List ℕ) (c : Circuit) (are : ArePlaces order places (length c.gates))
+    (too : ArePlaces places order (length c.gates)) where
+  abbrev front_variables : List ℕ
+  front_variables = c.inputs ++ map (λ (l : Latch). l.var) c.latches
+
+  pub order_keeps_once : AreDistinct (defined_variables c) → AreDistinct (defined_variables (reordered order c))
+  order_keeps_once once =
+      swapped_last front_variables (variables c.gates) (variables (taken c.gates order)) once
+      (once_now c.gates order places are too (distinct_back front_variables (variables c.gates) once))
+      (among_then c.gates order places are too)
+
+  pub order_keeps_defined : (v : ℕ) → IsAmong v (defined_variables c)
+      → IsAmong v (defined_variables (reordered order c))
+  order_keeps_defined v a =
+      ⊎_elim (λ i. among_first front_variables (variables (taken c.gates order)) v i)
+      (λ i. among_last front_variables (variables (taken c.gates order)) v (among_now c.gates order places are too v i))
+      (among_either v front_variables (variables c.gates) a)
+
 module _ (order places : List ℕ) (c : Circuit) (are : ArePlaces order places (length c.gates))
     (too : ArePlaces places order (length c.gates)) (good : IsWellFormed c) where
   abbrev first : List ℕ
@@ -132,9 +152,8 @@ module _ (order places : List ℕ) (c : Circuit) (are : ArePlaces order places (
   known_now l known =
       let v : ℕ = variable_of l in
       ⊎_elim (λ (e : v ≡ 0). inl e) (λ (a : IsAmong v (first ++ then)).
-      inr (⊎_elim (λ i. among_first first (variables current) v i)
-      (λ i. among_last first (variables current) v (among_now c.gates order places are too v i))
-      (among_either v first then a))) known
+      inr (order_keeps_defined order places c are too v a))
+      known
 
   all_known : AllByRecursion Now (map (λ (l : Latch). l.next) c.latches ++ c.outputs ++ flat_map operands current)
   all_known =
@@ -161,10 +180,7 @@ module _ (order places : List ℕ) (c : Circuit) (are : ArePlaces order places (
           gates = omega (arith, long c.gates order places are too, good.limits.gates);
         };
         in_range = joined InRange first (variables current) (front InRange first then good.in_range) gates;
-        once =
-            swapped_last first then (variables current) good.once
-            (once_now c.gates order places are too (distinct_back first then good.once))
-            (among_then c.gates order places are too);
+        once = order_keeps_once order places c are too good.once;
         known = all_known;
         symbols = symbols_kept c (reordered order c) (same_counts order c) refl good.symbols;
         ranked = (

@@ -2,13 +2,14 @@
 use Rattle.std.proofs.Common.{◌≡◌, ◌<◌, ◌≤◌, ℕ, List, ◌∷◌, eqb, length, get_or, refl, sym, ap, ◌∙◌, ⊎_elim, arith}
 use Rattle.std.specs.List.{AllByRecursion, position_or_len}
 use Rattle.std.proofs.lemmas.Bool.{ne_eqb, eq-eqb}
+use Rattle.std.proofs.lemmas.List.{ext_get_or}
 use Rattle.std.proofs.lemmas.List.FromFn.{length-map-range_with_len, get_or-map-range_with_len}
 use Rattle.std.proofs.lemmas.List.Sums.{position_or_len_is}
 use Rattle.aig_core.specs.Wellformed.{IsAmong, AreDistinct}
 use Rattle.aig_core.proofs.Fitting.{each, at_most_below}
 use Rattle.aig_core.proofs.LeastReady.{among_or_not}
 use Rattle.aig_image.specs.Reordered.{ArePlaces, positions_of}
-use Rattle.aig_image.proofs.Relabelling.Standing.{here, somewhere, same_place}
+use Rattle.aig_image.proofs.Relabelling.Standing.{here, somewhere, same_place, distinct_by_places}
 
 -- in a list without repeats, the first place of a number is the one where it stands
 pub place_is : (xs : List ℕ) → AreDistinct xs → (i : ℕ) → i < length xs
@@ -59,3 +60,21 @@ module _ (places : List ℕ) (once : AreDistinct places) (all : AllByRecursion (
               (omega (arith, low, same), ap (λ k. get_or places k 0) same ∙ stands.2),
         ),
       )
+
+-- what has places has distinct ones
+pub places_apart : (order places : List ℕ) (count : ℕ) → ArePlaces order places count → AreDistinct places
+places_apart order places count are = distinct_by_places places (λ i k i_in k_in e.
+    sym (are.1 i (omega (arith, i_in, are.0))).1 ∙ ap (λ p. get_or order p 0) e
+    ∙ (are.1 k (omega (arith, k_in, are.0))).1)
+
+-- where places are those of an order, and the other way about, their positions are the order
+pub positions_are : (order places : List ℕ) (count : ℕ) → ArePlaces order places count → ArePlaces places order count
+    → positions_of places ≡ order
+positions_are order places count are too =
+    let position : ℕ → ℕ = λ place. position_or_len (λ p. eqb p place) places in
+    let long : length (positions_of places) ≡ length places = length-map-range_with_len position 0 (length places) in
+    ext_get_or 0 (positions_of places) order (omega (arith, long, are.0, too.0)) (λ p below.
+    let here = too.1 p (omega (arith, below, long, are.0)) in
+    get_or-map-range_with_len position 0 (length places) p p 0 (omega (arith, below, long)) (omega arith)
+    ∙ ap position (sym here.1)
+    ∙ place_is places (places_apart order places count are) (get_or order p 0) here.0)

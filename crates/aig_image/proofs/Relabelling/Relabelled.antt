@@ -70,6 +70,14 @@ module _ (f g : ℕ → ℕ) where
       (map_where (GateNames Same) (relabelled_gate f) (relabelled_gate g)
       (λ h e. gates_alike e.0 (same_literal h.left e.1) (same_literal h.right e.2)) c.gates same.gates)
 
+-- a gate that is relabelled and then by the way back
+pub gate_back : (f g : ℕ → ℕ) (h : Gate) → GateNames (λ v. f (g v) ≡ v) h
+    → relabelled_gate f (relabelled_gate g h) ≡ h
+gate_back f g h back =
+    let literal : (l : ℕ) → f (g (variable_of l)) ≡ variable_of l → relabelled_literal f (relabelled_literal g l) ≡ l =
+    λ l e. literal_twice g f l ∙ ap (λ v. 2 * v + l % 2) e ∙ omega arith in
+    gates_alike back.0 (literal h.left back.1) (literal h.right back.2)
+
 -- each name for itself
 abbrev self : ℕ → ℕ
 self v = v
