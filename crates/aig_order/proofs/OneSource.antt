@@ -1,8 +1,9 @@
 -- A mapped image is that of one circuit, which is undone from it.
-use Rattle.std.proofs.Common.{◌≡◌, ◌+◌, ◌<◌, ℕ, List, [], ◌∷◌, ◌++◌, length, map, Result, Ok, refl, sym, ap, subst, ◌∙◌, arith}
+use Rattle.std.proofs.Common.{◌≡◌, ◌+◌, ◌<◌, ℕ, List, [], ◌++◌, length, map, Result, Ok, refl, sym, ap, subst, ◌∙◌}
+use Rattle.std.proofs.Common.{arith}
 use Rattle.std.specs.List.{AllByRecursion}
 use Rattle.std.specs.Option.{unwrap_or}
-use Rattle.std.proofs.lemmas.List.{length-map}
+use Rattle.std.proofs.lemmas.List.{length-map, get_or-map}
 use Rattle.aig_core.specs.declared.circuit.Latch.{Latch}
 use Rattle.aig_core.specs.declared.circuit.Gate.{Gate}
 use Rattle.aig_core.specs.declared.circuit.Circuit.{Circuit}
@@ -10,27 +11,22 @@ use Rattle.aig_core.specs.Wellformed.{AreDistinct, IsVariableUpTo, IsWellFormed}
 use Rattle.aig_core.specs.Order.{IsLeastReadyOrder}
 use Rattle.aig_core.proofs.Fitting.{definitions_fit}
 use Rattle.aig_core.proofs.InForm.{front, back}
-use Rattle.aig_core.proofs.Ranked.{variables}
+use Rattle.aig_core.proofs.Ranked.{at, no_gate, variables}
+use Rattle.aig_image.specs.Relabelled.{relabelled_gate, relabelled_latch}
+use Rattle.aig_image.specs.Renumbering.{in_new_order, renumbered}
+use Rattle.aig_image.specs.Reordered.{operands_sorted, taken}
+use Rattle.aig_image.proofs.Members.{all_taken}
+use Rattle.aig_image.proofs.Relabelling.Formed.{all_through}
+use Rattle.aig_image.proofs.Relabelling.Positions.{places_apart}
+use Rattle.aig_image.proofs.Relabelling.Standing.{at_place, by_places}
 use Rattle.aig_order.specs.declared.fault.MapFault.{MapFault}
 use Rattle.aig_order.specs.declared.map_block.MappedGate.{MappedGate}
 use Rattle.aig_order.specs.declared.map_block.MapBlock.{MapBlock}
-use Rattle.aig_image.specs.Image.{latch_image, gate_image}
-use Rattle.aig_image.proofs.Sections.{image_gates}
 use Rattle.aig_order.specs.MapBlock.{mapped_gate, map_block, mapped_by, IsMappedImage}
 use Rattle.aig_order.specs.MapReading.{block_reading, HasCountsOf, IsWithinBounds}
-use Rattle.aig_image.specs.Reordered.{taken}
-use Rattle.aig_image.specs.Renumbering.{in_new_order, renumbered}
 use Rattle.aig_order.specs.Undone.{undone, comment_behind, IsUndoneFrom}
 use Rattle.aig_order.proofs.BlockText.{block_is_read}
-use Rattle.aig_order.proofs.Carried.{by_order, by_gate, carried_back}
-use Rattle.aig_image.proofs.Members.{not_more}
-use Rattle.aig_order.proofs.ToldGates.{as_many, places_below, places_distinct}
-
--- what is told of gates is within bounds, where their variables and their places are
-told_within : (max_var count : ℕ) (tell : Gate → MappedGate) → ((g : Gate) → (tell g).var ≡ g.var) → (gates : List Gate) → AllByRecursion (IsVariableUpTo max_var) (variables gates)
-    → AllByRecursion (λ (m : MappedGate). m.place < count) (map tell gates) → AllByRecursion (λ (m : MappedGate). IsVariableUpTo max_var m.var × (m.place < count)) (map tell gates)
-told_within max_var count tell same [] vars places = tt
-told_within max_var count tell same (g ∷ gs) vars places = ((subst (IsVariableUpTo max_var) (sym (same g)) vars.0, places.0), told_within max_var count tell same gs vars.1 places.1)
+use Rattle.aig_order.proofs.Restoring.Recovered.{are, carried_back, place_at, places}
 
 -- the circuit is undone from x by the block that is read of it
 pub record IsRecovered (x c : Circuit) : Type 0 where
@@ -41,47 +37,63 @@ pub record IsRecovered (x c : Circuit) : Type 0 where
   pub is : c ≡ undone block (comment_behind block rest) x
 
 module _ (c : Circuit) (order : List ℕ) (good : IsWellFormed c) (least : IsLeastReadyOrder c order) where
-  abbrev vs : List ℕ
-  vs = in_new_order c order
+  abbrev f : ℕ → ℕ
+  f = renumbered (in_new_order c order)
 
   abbrev latches : List ℕ
   latches = map (λ (l : Latch). l.var) c.latches
 
-  abbrev start : ℕ
-  start = 1 + length c.inputs + length c.latches
+  abbrev tell : Gate → MappedGate
+  tell = mapped_gate (in_new_order c order) (1 + length c.inputs + length c.latches)
+
+  abbrev told : List MappedGate
+  told = map tell c.gates
 
   abbrev InRange : ℕ → Type 0
   InRange = IsVariableUpTo c.max_var
 
-  -- every gate is taken
-  pub all_taken : length order ≡ length c.gates
-  all_taken = as_many c.gates order vs start (not_more c order good least) (by_order c order good least) (by_gate c order good least)
+  told_many : length told ≡ length c.gates
+  told_many = length-map c.gates tell
 
   -- the block tells of as many inputs, latches and gates as the image has
   counts : HasCountsOf (map_block order c) (mapped_by order c)
-  counts = record {
-    inputs = sym (length-map c.inputs (renumbered vs));
-    latches = length-map c.latches (λ (l : Latch). l.var) ∙ sym (length-map c.latches (latch_image vs));
-    gates =
-        length-map c.gates (mapped_gate vs start) ∙ sym all_taken
-        ∙ sym (ap length (image_gates vs c.gates order) ∙ length-map (taken c.gates order) (gate_image vs) ∙ length-map order _);
-  }
+  counts =
+      let new : List Gate = taken (map (relabelled_gate f) c.gates) order in
+      let many : length (map operands_sorted new) ≡ length order =
+      length-map new operands_sorted ∙ length-map order (at (map (relabelled_gate f) c.gates)) in
+      record {
+        inputs = sym (length-map c.inputs f);
+        latches = length-map c.latches (λ (l : Latch). l.var) ∙ sym (length-map c.latches (relabelled_latch f));
+        gates = omega (arith, told_many, many, all_taken c order good least);
+      }
 
   -- what the block tells is within bounds
   within : IsWithinBounds (map_block order c)
   within =
-      let before : AllByRecursion InRange (c.inputs ++ latches) = front InRange (c.inputs ++ latches) (variables c.gates) good.in_range in
-      let told : length (map (mapped_gate vs start) c.gates) ≡ length c.gates = length-map c.gates (mapped_gate vs start) in
-      let places : AllByRecursion (λ (m : MappedGate). m.place < length order) (map (mapped_gate vs start) c.gates) =
-      places_below c.gates order vs start (not_more c order good least) (by_order c order good least) (by_gate c order good least) in
+      let before : AllByRecursion InRange (c.inputs ++ latches) =
+      front InRange (c.inputs ++ latches) (variables c.gates) good.in_range in
+      let vars : AllByRecursion InRange (variables c.gates) =
+      back InRange (c.inputs ++ latches) (variables c.gates) good.in_range in
+      let IsGood : MappedGate → Type 0 = λ m. InRange m.var × (m.place < length told) in
+      let gates : AllByRecursion (λ h. IsGood (tell h)) c.gates =
+      by_places (λ h. IsGood (tell h)) no_gate c.gates (λ i low. (
+        subst InRange (get_or-map (λ (h : Gate). h.var) c.gates i no_gate 0 low)
+            (at_place InRange 0 (variables c.gates) vars i
+            (omega (arith, low, length-map c.gates (λ (h : Gate). h.var)))),
+        omega (
+          arith,
+          ((are c order good least).1 i low).0,
+          place_at c order good least i low,
+          told_many,
+          all_taken c order good least,
+        ),
+      )) in
       record {
         max_var = good.limits.max_var;
-        counts = omega (arith, definitions_fit c good, told, length-map c.latches (λ (l : Latch). l.var));
+        counts = omega (arith, definitions_fit c good, told_many, length-map c.latches (λ (l : Latch). l.var));
         inputs = front InRange c.inputs latches before;
         latches = back InRange c.inputs latches before;
-        gates =
-            told_within c.max_var (length (map (mapped_gate vs start) c.gates)) (mapped_gate vs start) (λ g. refl) c.gates (back InRange (c.inputs ++ latches) (variables c.gates) good.in_range)
-            (subst (λ n. AllByRecursion (λ (m : MappedGate). m.place < n) (map (mapped_gate vs start) c.gates)) (all_taken ∙ sym told) places);
+        gates = all_through (λ h. IsGood (tell h)) IsGood tell (λ h e. e) c.gates gates;
       }
 
   -- the circuit is undone from its mapped image
@@ -91,7 +103,7 @@ module _ (c : Circuit) (order : List ℕ) (good : IsWellFormed c) (least : IsLea
     rest = unwrap_or c.comment [];
     begins = refl;
     counts = counts;
-    places = places_distinct c.gates order vs start (not_more c order good least) (by_order c order good least) (by_gate c order good least);
+    places = places_apart order (places c order good least) (length c.gates) (are c order good least);
     is = sym (carried_back c order good least);
     well_formed = good;
     image = (order, least, refl);
@@ -117,7 +129,8 @@ pub recovered : (c x : Circuit) → IsWellFormed c → IsMappedImage c x → IsR
 recovered c x good is = subst (λ (y : Circuit). IsRecovered y c) (sym is.2) (recovered_from_mapped c is.0 good is.1)
 
 -- one thing is read
-pub one_reading : (reading : Result (MapBlock × List ℕ) MapFault) (told other : MapBlock × List ℕ) → reading ≡ Ok told → reading ≡ Ok other → told ≡ other
+pub one_reading : (reading : Result (MapBlock × List ℕ) MapFault) (told other : MapBlock × List ℕ)
+    → reading ≡ Ok told → reading ≡ Ok other → told ≡ other
 one_reading reading told other is is_too = cc
 
 -- no two well-formed circuits have one mapped image
@@ -125,13 +138,19 @@ pub one_source : (c d x : Circuit) → IsWellFormed c → IsWellFormed d → IsM
 one_source c d x good good_too is is_too =
     let first = recovered c x good is in
     let second = recovered d x good_too is_too in
-    let read : (first.block, first.rest) ≡ (second.block, second.rest) = one_reading (block_reading x) (first.block, first.rest) (second.block, second.rest) first.read second.read in
+    let read : (first.block, first.rest) ≡ (second.block, second.rest) =
+    one_reading (block_reading x) (first.block, first.rest) (second.block, second.rest) first.read second.read in
     first.is ∙ ap (λ (told : MapBlock × List ℕ). undone told.0 (comment_behind told.0 told.1) x) read ∙ sym second.is
 
-pub undoing_recovers : (c image : Circuit) → IsWellFormed c → IsMappedImage c image → IsUndoneFrom image c × ((other : Circuit) → IsUndoneFrom image other → other ≡ c)
-undoing_recovers c image good is =
-    (subst (λ (x : Circuit). IsUndoneFrom x c) (sym is.2) (undone_from_mapped c is.0 good is.1), λ other from. one_source other c image from.well_formed good from.image is)
+pub undoing_recovers : (c image : Circuit) → IsWellFormed c → IsMappedImage c image
+    → IsUndoneFrom image c × ((other : Circuit) → IsUndoneFrom image other → other ≡ c)
+undoing_recovers c image good is = (
+  subst (λ (x : Circuit). IsUndoneFrom x c) (sym is.2) (undone_from_mapped c is.0 good is.1),
+  λ other from. one_source other c image from.well_formed good from.image is,
+)
 
-pub only_mapped_images_are_undone : (image c d : Circuit) → (IsUndoneFrom image c → IsWellFormed c × IsMappedImage c image)
+pub only_mapped_images_are_undone : (image c d : Circuit)
+    → (IsUndoneFrom image c → IsWellFormed c × IsMappedImage c image)
     × (IsWellFormed c → IsWellFormed d → IsMappedImage c image → IsMappedImage d image → c ≡ d)
-only_mapped_images_are_undone image c d = (λ from. (from.well_formed, from.image), λ good good_too is is_too. one_source c d image good good_too is is_too)
+only_mapped_images_are_undone image c d =
+    (λ from. (from.well_formed, from.image), λ good good_too is is_too. one_source c d image good good_too is is_too)

@@ -10,7 +10,7 @@ use Rattle.aig_core.proofs.InForm.{joined}
 use Rattle.aig_order.specs.declared.map_block.MappedGate.{MappedGate}
 use Rattle.aig_order.specs.declared.map_block.MapBlock.{MapBlock}
 use Rattle.aig_order.specs.MapReading.{IsWithinBounds}
-use Rattle.aig_order.specs.Parts.Placed.{FitIntoLiterals}
+use Rattle.aig_image.specs.Relabelled.{FitIntoLiterals}
 use Rattle.aig_image.specs.Renumbering.{source_variable}
 use Rattle.aig_order.specs.Undone.{variable_at_place, source_variables}
 use Rattle.aig_order.proofs.Placed.{IsGood, variable_here, variable_later}
@@ -54,7 +54,7 @@ variable_fits most vs all number =
     zero_or_less true v less = omega arith
     zero_or_less false v less = less
 
-pub they_fit : (b : MapBlock) → IsWithinBounds b → FitIntoLiterals (source_variables b)
+pub they_fit : (b : MapBlock) → IsWithinBounds b → FitIntoLiterals (source_variable (source_variables b))
 they_fit b bounds number =
     let top : ℕ → Type 0 = λ v. v ≤ b.max_var in
     let inputs = all_weaker (IsVariableUpTo b.max_var) top (λ v is. is.1) b.inputs bounds.inputs in

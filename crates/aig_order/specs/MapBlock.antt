@@ -1,7 +1,8 @@
 -- The map block and the mapped image (this project's profile). Conversion to binary gives variables new numbers, gates a new
 -- order, and may exchange the operands of a gate. The block is a text that tells all of this, and the mapped image is the
 -- binary image with it at the front of its comment.
-use Rattle.std.specs.Prelude.{◌≡◌, ◌+◌, ◌-◌, ◌++◌, ℕ, List, [], ◌∷◌, length, map, Bool, Some, nat_lt, codes, if◌then◌else◌}
+use Rattle.std.specs.Prelude.{◌≡◌, ◌+◌, ◌-◌, ◌++◌, ℕ, List, [], ◌∷◌, length, map, Bool, Some, nat_lt, codes}
+use Rattle.std.specs.Prelude.{if◌then◌else◌}
 use Rattle.std.specs.List.{flat_map}
 use Rattle.std.specs.Option.{unwrap_or, is_some}
 use Rattle.aig_core.specs.declared.circuit.Latch.{Latch}

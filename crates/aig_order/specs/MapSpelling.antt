@@ -1,6 +1,7 @@
 -- How the lines of a map block are spelled (this project's profile), read from left to right: canonical numbers with single
 -- spaces between them, and a line feed.
-use Rattle.std.specs.Prelude.{◌==◌, ◌&&◌, ◌||◌, ℕ, zero, suc, List, [], ◌∷◌, take, drop, slice_index, Bool, not, nat_le, nat_lt, Option, None, Some, if◌then◌else◌}
+use Rattle.std.specs.Prelude.{◌==◌, ◌&&◌, ◌||◌, ℕ, zero, suc, List, [], ◌∷◌, take, drop, slice_index, Bool, not, nat_le}
+use Rattle.std.specs.Prelude.{nat_lt, Option, None, Some, if◌then◌else◌}
 use Rattle.std.specs.List.{prefix_len}
 use Rattle.aig_core.specs.declared.circuit.TheConstants.{LARGEST}
 use Rattle.aig_text.specs.Spelling.{is_digit, value_of}

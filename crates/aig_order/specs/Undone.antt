@@ -1,17 +1,16 @@
--- The undone circuit (this project's profile): what a circuit in binary order was before its conversion, by the map block
--- at the front of its comment.
-use Rattle.std.specs.Prelude.{◌≡◌, ◌+◌, ◌*◌, ◌%◌, ◌==◌, ◌++◌, ℕ, List, length, map, Option, None, Some, Err, if◌then◌else◌, slice_index_or, IsOk}
+-- The undone circuit (this project's profile): what a circuit in binary order was before its conversion, by the map
+-- block at the front of its comment.
+use Rattle.std.specs.Prelude.{◌≡◌, ◌==◌, ◌++◌, ℕ, List, length, map, Bool, Option, None, Some, Err, if◌then◌else◌, IsOk}
 use Rattle.std.specs.List.{range_with_len, find}
 use Rattle.std.specs.Option.{option_map, unwrap_or}
-use Rattle.aig_core.specs.declared.circuit.Latch.{Latch}
-use Rattle.aig_core.specs.declared.circuit.Gate.{Gate}
 use Rattle.aig_core.specs.declared.circuit.Circuit.{Circuit}
-use Rattle.aig_core.specs.Literal.{variable_of}
 use Rattle.aig_core.specs.Wellformed.{AreDistinct, IsWellFormed}
 use Rattle.aig_core.specs.BinaryOrder.{IsInBinaryOrder}
 use Rattle.aig_image.specs.Renumbering.{source_variable}
+use Rattle.aig_image.specs.Reordered.{restored}
 use Rattle.aig_order.specs.declared.fault.MapFault.{MapFault}
-use Rattle.aig_order.specs.declared.fault.MapFault.TheVariants.{NotOrdered, Missing, Malformed, Mismatch, Forged, OutOfMemory}
+use Rattle.aig_order.specs.declared.fault.MapFault.TheVariants.{NotOrdered, Missing, Malformed, Mismatch, Forged}
+use Rattle.aig_order.specs.declared.fault.MapFault.TheVariants.{OutOfMemory}
 use Rattle.aig_order.specs.declared.map_block.MappedGate.{MappedGate}
 use Rattle.aig_order.specs.declared.map_block.MapBlock.{MapBlock}
 use Rattle.aig_order.specs.MapBlock.{block_text, IsMappedImage}
@@ -19,39 +18,27 @@ use Rattle.aig_order.specs.MapReading.{block_reading, HasCountsOf}
 
 -- the variable of the gate that has this place, 0 where none has it
 abbrev pub variable_at_place : List MappedGate → ℕ → ℕ
-variable_at_place gates place = unwrap_or (option_map (λ (g : MappedGate). g.var) (find (λ (g : MappedGate). g.place == place) gates)) 0
+variable_at_place gates place =
+    unwrap_or (option_map (λ (g : MappedGate). g.var) (find (λ (g : MappedGate). g.place == place) gates)) 0
 
 -- the variables of the source in their new order: inputs, latches, and gates by their places
 abbrev pub source_variables : MapBlock → List ℕ
 source_variables b = b.inputs ++ b.latches ++ map (variable_at_place b.gates) (range_with_len 0 (length b.gates))
 
--- the literal with the sign that it has
-abbrev pub source_literal : List ℕ → ℕ → ℕ
-source_literal variables literal = 2 * source_variable variables (variable_of literal) + literal % 2
+-- the places of the gates that a block tells of, and whose operands are exchanged
+abbrev pub places_told : List MappedGate → List ℕ
+places_told gates = map (λ (g : MappedGate). g.place) gates
 
-abbrev pub source_latch : List ℕ → Latch → Latch
-source_latch variables l = record { var = source_variable variables l.var; next = source_literal variables l.next }
+abbrev pub exchanges_told : List MappedGate → List Bool
+exchanges_told gates = map (λ (g : MappedGate). g.exchanged) gates
 
--- the gate that stands at the place, with its operands in the order that they had
-abbrev pub source_gate : List ℕ → List Gate → MappedGate → Gate
-source_gate variables gates told =
-    let g = slice_index_or gates told.place (record { var = 0; left = 0; right = 0 }) in record {
-      var = told.var;
-      left = source_literal variables (if told.exchanged then g.right else g.left);
-      right = source_literal variables (if told.exchanged then g.left else g.right);
-    }
-
--- the circuit by the variables, the order of gates and the order of operands that a block tells, with this comment
+-- The gates from the places, their operands exchanged, and all by the variables of the source; with this comment.
 abbrev pub undone : MapBlock → Option (List ℕ) → Circuit → Circuit
-undone b comment x = let variables = source_variables b in record {
-  max_var = b.max_var;
-  inputs = map (source_variable variables) x.inputs;
-  latches = map (source_latch variables) x.latches;
-  outputs = map (source_literal variables) x.outputs;
-  gates = map (source_gate variables x.gates) b.gates;
-  symbols = x.symbols;
-  comment = comment;
-}
+undone b comment x =
+    record (restored (source_variable (source_variables b)) (places_told b.gates) (exchanges_told b.gates) x) {
+      max_var = b.max_var;
+      comment = comment;
+    }
 
 -- the comment behind a block, where there was a comment section
 abbrev pub comment_behind : MapBlock → List ℕ → Option (List ℕ)

@@ -1,5 +1,6 @@
 //! Laws: facts about the definitions alone, each the contract of a function with an empty body.
-ghost use Rattle.aig_order.specs.Laws.{BlocksAreReadExactly, MappedImageIsOne, UndoingRecovers, OnlyMappedImagesAreUndone};
+ghost use Rattle.aig_order.specs.Laws.{BlocksAreReadExactly, MappedImageIsOne, UndoingRecovers};
+ghost use Rattle.aig_order.specs.Laws.{OnlyMappedImagesAreUndone};
 
 pub use aig_image::laws::{
     image_is_one, image_is_ordered, ordered_gates_are_taken_as_they_stand,

@@ -3,17 +3,18 @@ ghost use Rattle.std.specs.Prelude.{◌≡◌, ◌<◌, ◌⊎◌, Some, None, l
 ghost use Rattle.std.specs.Bool.{OnTrue, OnFalse};
 ghost use Rattle.std.specs.List.{AllByRecursion};
 ghost use Rattle.aig_core.specs.Wellformed.{AreDistinct};
+ghost use Rattle.aig_image.specs.Renumbering.{source_variable};
 ghost use Rattle.aig_order.specs.declared.fault.MapFault.TheVariants.{Forged as IsForged, OutOfMemory as IsOutOfMemory};
 ghost use Rattle.aig_order.specs.declared.map_block.MappedGate.{MappedGate as MappedGateRecord};
 ghost use Rattle.aig_order.specs.MapReading.{HasCountsOf, IsWithinBounds};
-ghost use Rattle.aig_order.specs.Parts.Placed.{table_of, with_gates, FitIntoLiterals};
-ghost use Rattle.aig_image.specs.Renumbering.{source_variable};
-ghost use Rattle.aig_order.specs.Undone.{comment_behind, source_gate, source_latch, source_literal};
-ghost use Rattle.aig_order.specs.Undone.{source_variables, undone};
+ghost use Rattle.aig_order.specs.Parts.Placed.{table_of, with_gates};
+ghost use Rattle.aig_order.specs.Parts.Had.{gate_had, in_order_had};
+ghost use Rattle.aig_order.specs.Undone.{comment_behind, source_variables, undone};
 
 use crate::fault::MapFault;
 use crate::map_block::{MapBlock, MappedGate};
-use aig_core::{Circuit, Gate, Latch, Listing, Lit, OutOfMemory, Var, copy_symbols};
+use aig_core::{Circuit, Gate, Listing, OutOfMemory, Var, copy_symbols};
+use aig_image::{Labels, relabel};
 use std::alloc::Global;
 
 /// Puts the variable of each gate at its place, up to the first gate whose place has a variable. Returns whether none
@@ -49,9 +50,31 @@ fn place_gates(alloc: Global, gates: &[MappedGate]) -> Result<Vec<Var>, MapFault
 }
 
 /// The variables of the source in their new order: inputs, latches, and gates by their places.
-fn source_variables(alloc: Global, block: &MapBlock) -> Result<Vec<Var>, MapFault>
+#[derive(Drop)]
+struct SourceVariables {
+    variables: Vec<Var>,
+}
+
+/// A number has the label of the variable that it was given to; the constant stays.
+impl Labels for SourceVariables {
+    ghost label = { λ source. source_variable source.variables.items };
+
+    #[inline(always)]
+    fn label(&self, var: Var) -> Var {
+        if var.0 == 0 {
+            return Var(0);
+        }
+        match self.variables.get(var.0 as usize - 1) {
+            Some(variable) => *variable,
+            None => Var(0),
+        }
+    }
+}
+
+/// The variables of the source in their new order.
+fn source_variables(alloc: Global, block: &MapBlock) -> Result<SourceVariables, MapFault>
     requires bounds { IsWithinBounds block.now }
-    ensures ok { IfOk result (λ r. r.items ≡ source_variables block.now) }
+    ensures ok { IfOk result (λ r. r.variables.items ≡ source_variables block.now) }
     ensures places { IfOk result (λ _. AreDistinct (map (λ (g : MappedGateRecord). g.place) block.now.gates)) }
     ensures err { IfErr result (λ e. (e ≡ IsOutOfMemory)
         ⊎ ((e ≡ IsForged) × (¬ AreDistinct (map (λ (g : MappedGateRecord). g.place) block.now.gates)))) }
@@ -62,117 +85,38 @@ fn source_variables(alloc: Global, block: &MapBlock) -> Result<Vec<Var>, MapFaul
     variables.extend_from_slice(block.inputs.as_slice())?;
     variables.extend_from_slice(block.latches.as_slice())?;
     variables.extend_from_slice(placed.as_slice())?;
-    Ok(variables)
+    Ok(SourceVariables { variables })
 }
 
-/// The variable that had a number before; the constant stays.
-fn source_variable(variables: &[Var], number: Var) -> Var
-    ensures { result ≡ source_variable variables.now number }
+/// The gate at the place that is recorded, with its operands in the order that they had.
+#[inline(always)]
+fn gate_had(gates: &[Gate], recorded: &MappedGate) -> Gate
+    requires { recorded.now.place < length gates.now }
+    ensures { result ≡ gate_had gates.now recorded.now }
 {
-    if number.0 == 0 {
-        return Var(0);
-    }
-    match variables.get(number.0 as usize - 1) {
-        Some(variable) => *variable,
-        None => Var(0),
-    }
-}
-
-/// The literal of the variable that had its variable's number before, with the sign that it has.
-fn source_literal(variables: &[Var], literal: Lit) -> Lit
-    requires { FitIntoLiterals variables.now }
-    ensures { result ≡ source_literal variables.now literal }
-{
-    Lit(2 * source_variable(variables, literal.var()).0 + literal.0 % 2)
-}
-
-/// The inputs by the variables that they had.
-fn source_inputs(
-    alloc: Global,
-    variables: &[Var],
-    inputs: &[Var],
-) -> Result<Listing<Var>, OutOfMemory>
-    ensures { IfOk result (λ r. r ≡ map (source_variable variables.now) inputs.now) }
-{
-    let mut found = Vec::with_capacity(alloc, inputs.len())?;
-    for input in inputs {
-        found.push(source_variable(variables, *input))?;
-    }
-    Ok(Listing::from_vec(found))
-}
-
-/// The latches by the variables that they had.
-fn source_latches(
-    alloc: Global,
-    variables: &[Var],
-    latches: &[Latch],
-) -> Result<Listing<Latch>, OutOfMemory>
-    requires { FitIntoLiterals variables.now }
-    ensures { IfOk result (λ r. r ≡ map (source_latch variables.now) latches.now) }
-{
-    let mut found = Vec::with_capacity(alloc, latches.len())?;
-    for latch in latches {
-        found.push(Latch {
-            var: source_variable(variables, latch.var),
-            next: source_literal(variables, latch.next),
-        })?;
-    }
-    Ok(Listing::from_vec(found))
-}
-
-/// The outputs by the variables that they had.
-fn source_outputs(
-    alloc: Global,
-    variables: &[Var],
-    outputs: &[Lit],
-) -> Result<Listing<Lit>, OutOfMemory>
-    requires { FitIntoLiterals variables.now }
-    ensures { IfOk result (λ r. r ≡ map (source_literal variables.now) outputs.now) }
-{
-    let mut found = Vec::with_capacity(alloc, outputs.len())?;
-    for output in outputs {
-        found.push(source_literal(variables, *output))?;
-    }
-    Ok(Listing::from_vec(found))
-}
-
-/// The gate that stands at the place, with its operands in the order that they had.
-fn source_gate(variables: &[Var], gates: &[Gate], told: &MappedGate) -> Gate
-    requires fit { FitIntoLiterals variables.now }
-    requires there { told.now.place < length gates.now }
-    ensures { result ≡ source_gate variables.now gates.now told.now }
-{
-    let gate = gates[told.place as usize];
-    let left = source_literal(variables, gate.left);
-    let right = source_literal(variables, gate.right);
-    if told.exchanged {
-        return Gate {
-            var: told.var,
-            left: right,
-            right: left,
-        };
+    let gate = gates[recorded.place as usize];
+    if !recorded.exchanged {
+        return gate;
     }
     Gate {
-        var: told.var,
-        left,
-        right,
+        var: gate.var,
+        left: gate.right,
+        right: gate.left,
     }
 }
 
-/// The gates in the order that they had, by the variables that they had.
-fn source_gates(
+/// The gates in the order that they had, and so their operands.
+fn gates_had(
     alloc: Global,
-    variables: &[Var],
     gates: &[Gate],
-    told: &[MappedGate],
+    recorded: &[MappedGate],
 ) -> Result<Listing<Gate>, OutOfMemory>
-    requires fit { FitIntoLiterals variables.now }
-    requires there { AllByRecursion (λ (g : MappedGateRecord). g.place < length gates.now) told.now }
-    ensures { IfOk result (λ r. r ≡ map (source_gate variables.now gates.now) told.now) }
+    requires { AllByRecursion (λ (g : MappedGateRecord). g.place < length gates.now) recorded.now }
+    ensures { IfOk result (λ r. r ≡ map (gate_had gates.now) recorded.now) }
 {
-    let mut found = Vec::with_capacity(alloc, told.len())?;
-    for gate in told {
-        found.push(source_gate(variables, gates, gate))?;
+    let mut found = Vec::with_capacity(alloc, recorded.len())?;
+    for gate in recorded {
+        found.push(gate_had(gates, gate))?;
     }
     Ok(Listing::from_vec(found))
 }
@@ -191,30 +135,22 @@ fn source_comment(
     Ok(Some(Listing::from_vec(Vec::from_slice(alloc, comment)?)))
 }
 
-/// The circuit with these variables, and with the orders of gates and operands that a block records.
-fn by_variables(
+/// The circuit by the numbers of the image, in the orders of gates and operands that a block records.
+fn in_order_had(
     alloc: Global,
-    variables: &[Var],
     block: &MapBlock,
     comment: &[u8],
     image: &Circuit,
 ) -> Result<Circuit, OutOfMemory>
-    requires fit { FitIntoLiterals variables.now }
-    requires there { AllByRecursion (λ (g : MappedGateRecord). g.place < length image.now.gates) block.now.gates }
-    requires are { variables.now ≡ source_variables block.now }
-    ensures { IfOk result (λ c. c ≡ undone block.now (comment_behind block.now comment.now) image.now) }
+    requires { AllByRecursion (λ (g : MappedGateRecord). g.place < length image.now.gates) block.now.gates }
+    ensures { IfOk result (λ c. c ≡ in_order_had block.now (comment_behind block.now comment.now) image.now) }
 {
     Ok(Circuit {
         max_var: block.max_var,
-        inputs: source_inputs(alloc, variables, image.inputs.as_slice())?,
-        latches: source_latches(alloc, variables, image.latches.as_slice())?,
-        outputs: source_outputs(alloc, variables, image.outputs.as_slice())?,
-        gates: source_gates(
-            alloc,
-            variables,
-            image.gates.as_slice(),
-            block.gates.as_slice(),
-        )?,
+        inputs: image.inputs.copy(alloc)?,
+        latches: image.latches.copy(alloc)?,
+        outputs: image.outputs.copy(alloc)?,
+        gates: gates_had(alloc, image.gates.as_slice(), block.gates.as_slice())?,
         symbols: copy_symbols(alloc, &image.symbols)?,
         comment: source_comment(alloc, block, comment)?,
     })
@@ -236,6 +172,6 @@ pub(crate) fn make_undone(
         ⊎ ((e ≡ IsForged) × (¬ AreDistinct (map (λ (g : MappedGateRecord). g.place) block.now.gates)))) }
 {
     let variables = source_variables(alloc, block)?;
-    let undone = by_variables(alloc, variables.as_slice(), block, comment, image)?;
-    Ok(undone)
+    let moved = in_order_had(alloc, block, comment, image)?;
+    Ok(relabel(&variables, moved))
 }

@@ -1,9 +1,7 @@
--- How the variables of the source are found by their new numbers.
-use Rattle.std.specs.Prelude.{◌≤◌, ◌==◌, ℕ, List, [], ◌∷◌, length, replicate}
+-- How the variables of gates are put at their places.
+use Rattle.std.specs.Prelude.{◌==◌, ℕ, List, [], ◌∷◌, length, replicate}
 use Rattle.std.specs.Prelude.{Option, Some, None, slice_index, slice_set, if◌then◌else◌}
-use Rattle.aig_core.specs.declared.circuit.TheConstants.{LARGEST}
 use Rattle.aig_order.specs.declared.map_block.MappedGate.{MappedGate}
-use Rattle.aig_image.specs.Renumbering.{source_variable}
 
 -- A table has variables by place, 0 where there is none yet: the table with the variables of these gates too, unless
 -- one of them is put where there is one already.
@@ -15,7 +13,3 @@ with_gates placed (g ∷ gates) =
 -- the variables of gates by place, unless two have one place
 abbrev pub table_of : List MappedGate → Option (List ℕ)
 table_of gates = with_gates (replicate (length gates) 0) gates
-
--- no variable is too large for a literal
-abbrev pub FitIntoLiterals : List ℕ → Type 0
-FitIntoLiterals variables = (number : ℕ) → source_variable variables number ≤ LARGEST

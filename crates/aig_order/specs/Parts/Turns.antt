@@ -1,17 +1,14 @@
 -- Whether the places that a block tells are the order in which the gates of its source are taken, by the image alone.
-use Rattle.std.specs.Prelude.{◌==◌, ◌-◌, ◌<◌, ◌≤◌, ℕ, suc, List, length, map, slice_index_or}
-use Rattle.std.specs.List.{position_or_len, range_with_len}
+use Rattle.std.specs.Prelude.{◌-◌, ◌<◌, ◌≤◌, ℕ, suc, List, length, slice_index_or}
 use Rattle.aig_core.specs.declared.circuit.Gate.{Gate}
 use Rattle.aig_core.specs.Literal.{variable_of}
+use Rattle.aig_image.specs.Reordered.{positions_of}
 use Rattle.aig_order.specs.declared.map_block.MappedGate.{MappedGate}
-
--- the position in the source of the gate that has this place
-abbrev pub position_at_place : List MappedGate → ℕ → ℕ
-position_at_place gates place = position_or_len (λ (g : MappedGate). g.place == place) gates
+use Rattle.aig_order.specs.Undone.{places_told}
 
 -- the positions in the source, place by place
 abbrev pub positions : List MappedGate → List ℕ
-positions gates = map (position_at_place gates) (range_with_len 0 (length gates))
+positions gates = positions_of (places_told gates)
 
 -- The first place that a gate of the image may have, where the first gate has this variable: the one behind the gate
 -- that its larger operand is over, or 0 where that is over none.

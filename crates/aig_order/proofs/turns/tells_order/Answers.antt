@@ -1,9 +1,9 @@
 use Rattle.std.proofs.Common.{◌≡◌, ◌+◌, ◌↔◌, length, IsTrue, ap, sym, ◌∙◌, arith}
-use Rattle.std.proofs.lemmas.List.FromFn.{length-map-range_with_len}
 use Rattle.std.proofs.lemmas.Result.{IfOk-weaker}
 use Rattle.aig_core.specs.Order.{IsLeastReadyOrder}
-use Rattle.aig_order.specs.Parts.Turns.{positions, position_at_place, AreTakenInTurn}
+use Rattle.aig_order.specs.Parts.Turns.{positions, AreTakenInTurn}
 use Rattle.aig_order.specs.Undone.{undone}
+use Rattle.aig_order.proofs.PositionsPut.{positions_many}
 use Rattle.aig_order.proofs.TakenInTurn.{tells_order}
 use Rattle.aig_order.proofs.turns.tells_order.Goals as goal
 
@@ -13,7 +13,7 @@ are_taken_in_turn-requires-clause-few c =
     let are : c.as_slice-3.result.now ≡ positions gates =
     c.as_slice-3.ensures.value ∙ c.in_ok-places.ensures ∙ ap positions c.as_slice.ensures in
     let many : length c.as_slice-3.result.now ≡ length gates =
-    ap length are ∙ length-map-range_with_len (position_at_place gates) 0 (length gates) in
+    ap length are ∙ positions_many gates in
     omega (arith, many, c.requires.bounds.counts, c.requires.bounds.max_var)
 
 pub are_taken_in_turn-requires-clause-many : goal.are_taken_in_turn-requires-clause-many
@@ -21,7 +21,7 @@ are_taken_in_turn-requires-clause-many c =
     let gates = c.args.block.now.gates in
     let are : c.as_slice-3.result.now ≡ positions gates =
     c.as_slice-3.ensures.value ∙ c.in_ok-places.ensures ∙ ap positions c.as_slice.ensures in
-    ap length are ∙ length-map-range_with_len (position_at_place gates) 0 (length gates)
+    ap length are ∙ positions_many gates
     ∙ c.requires.counts.gates ∙ ap length (sym c.as_slice-2.ensures)
 
 pub returns : goal.returns

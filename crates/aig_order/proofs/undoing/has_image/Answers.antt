@@ -17,7 +17,7 @@ use Rattle.aig_order.proofs.undoing.has_image.Goals as goal
 
 pub returns-then-not-tells_comment : goal.returns-then-not-tells_comment
 returns-then-not-tells_comment c =
-    by_comment c.args.image.now c.args.block.now c.args.comment.now c.circuit-circuit.ensures.well_formed c.requires.ordered c.requires.read c.requires.formed
+    by_comment c.args.image.now c.args.block.now c.args.comment.now c.circuit-circuit.ensures.well_formed c.requires.ordered c.requires.read c.requires.once c.requires.formed
     c.tells_comment.result c.tells_comment.ensures c.if-not-tells_comment.true
 
 pub tells_exchanges-requires : goal.tells_exchanges-requires
@@ -30,7 +30,7 @@ tells_exchanges-requires c =
 
 pub returns-then-not-tells_exchanges : goal.returns-then-not-tells_exchanges
 returns-then-not-tells_exchanges c =
-    by_exchanges c.args.image.now c.args.block.now c.args.comment.now c.circuit-circuit.ensures.well_formed c.requires.ordered c.requires.read c.requires.formed
+    by_exchanges c.args.image.now c.args.block.now c.args.comment.now c.circuit-circuit.ensures.well_formed c.requires.ordered c.requires.read c.requires.once c.requires.formed
     c.tells_exchanges.result
     (told_of_same TellsExchanges c.tells_exchanges.result c.as_slice.result.now c.args.image.now.gates c.as_slice-2.result.now c.args.block.now.gates
     (c.as_slice.ensures ∙ ap (λ (d : Circuit). d.gates) c.circuit-circuit.ensures.value) c.as_slice-2.ensures c.tells_exchanges.ensures)
@@ -54,6 +54,6 @@ returns c =
     c.circuit-circuit.ensures.value c.tells_order.ensures in
     IfOk-weaker c.tells_order.result (λ (t : Bool). IsTrue t ↔ IsLeastReadyOrder (undone b comment c.args.image.now) (positions b.gates))
     (λ (t : Bool). IsTrue t ↔ IsMappedImage (undone b comment c.args.image.now) c.args.image.now)
-    (by_order c.args.image.now b c.args.comment.now c.circuit-circuit.ensures.well_formed c.requires.ordered c.requires.read c.requires.formed
+    (by_order c.args.image.now b c.args.comment.now c.circuit-circuit.ensures.well_formed c.requires.ordered c.requires.read c.requires.once c.requires.formed
     (c.tells_comment.ensures.0 c.if-not-tells_comment.false) (exchanges.0 c.if-not-tells_exchanges.false))
     (told comment c.requires.formed.once)

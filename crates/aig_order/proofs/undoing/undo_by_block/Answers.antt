@@ -5,7 +5,7 @@ use Rattle.aig_core.specs.BinaryOrder.{IsInBinaryOrder}
 use Rattle.aig_order.specs.MapReading.{HasCountsOf}
 use Rattle.aig_order.specs.Undone.{comment_behind, undone}
 use Rattle.aig_order.proofs.BlockRead.{read_is_within}
-use Rattle.aig_order.proofs.FormedAgain.{well_formed_again}
+use Rattle.aig_order.proofs.Restoring.Formed.{well_formed_again}
 use Rattle.aig_order.proofs.Refused.{of_places, of_source, of_confirmed}
 use Rattle.aig_order.proofs.undoing.undo_by_block.Goals as goal
 
@@ -35,5 +35,10 @@ check_source-requires c =
     let within = read_is_within c.args.image.now c.args.block c.args.comment.now c.requires.read in
     let good = subst IsWellFormed (sym c.circuit.ensures.value) c.circuit.ensures.well_formed in
     subst (λ (source : Circuit). AreDistinct (defined_variables source) → IsWellFormed source) (sym c.in-Ok.ensures.ok)
-    (well_formed_again x c.args.block (comment_behind c.args.block c.args.comment.now) good
-    (subst IsInBinaryOrder (sym c.circuit.ensures.value) c.requires.ordered) (subst (HasCountsOf c.args.block) (sym c.circuit.ensures.value) within.0) within.1 c.in-Ok.ensures.places)
+    (well_formed_again c.args.block x (comment_behind c.args.block c.args.comment.now) good
+    (record {
+      ordered = subst IsInBinaryOrder (sym c.circuit.ensures.value) c.requires.ordered;
+      counts = subst (HasCountsOf c.args.block) (sym c.circuit.ensures.value) within.0;
+      bounds = within.1;
+      once = c.in-Ok.ensures.places;
+    }))
