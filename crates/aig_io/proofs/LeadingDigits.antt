@@ -1,5 +1,7 @@
 -- The zeros before a number in its eight digits.
-use Rattle.std.proofs.Common.{◌≡◌, ◌+◌, ◌-◌, ◌*◌, ◌/◌, ◌%◌, ◌^◌, ◌<◌, ◌≤◌, ℕ, zero, suc, List, [], ◌∷◌, ◌++◌, length, map, take, get_or, arith, refl, sym, ap, ◌∙◌, append_assoc, length-append, eq-zero-or-pos, inl, inr}
+use Rattle.std.proofs.Common.{◌≡◌, ◌+◌, ◌-◌, ◌*◌, ◌/◌, ◌%◌, ◌^◌, ◌<◌, ◌≤◌, ℕ, zero, suc, List, [], ◌∷◌, ◌++◌, length}
+use Rattle.std.proofs.Common.{map, take, get_or, arith, refl, sym, ap, ◌∙◌, append_assoc, length-append, eq-zero-or-pos}
+use Rattle.std.proofs.Common.{inl, inr}
 use Rattle.std.proofs.lemmas.Nat.{mod-pow-add, shr-shr, le_bytes_8}
 use Rattle.std.proofs.Math.Nat.{pow-suc}
 use Rattle.std.proofs.lemmas.Bool.{cases_lt}
@@ -83,7 +85,8 @@ no_digits : (count : ℕ) → last_digits count 0 ≡ replicate count 0
 no_digits zero = refl
 no_digits (suc count) =
     let more : suc count ≡ count + 1 = omega arith in
-    ap (λ (ds : List ℕ). ds ++ 0 ∷ []) (no_digits count) ∙ sym (replicate_next count 0) ∙ ap (λ k. replicate k 0) (sym more)
+    ap (λ (ds : List ℕ). ds ++ 0 ∷ []) (no_digits count) ∙ sym (replicate_next count 0)
+    ∙ ap (λ k. replicate k 0) (sym more)
 
 leads_one : (count n : ℕ) → 0 < n → n < 10 → Leads (suc count) n
 leads_one count n some one =
@@ -109,10 +112,12 @@ leads_more count n more fits p =
       zeros = p.zeros;
       first = p.first;
       rest = p.rest ++ last ∷ [];
-      digits = ap (λ (ds : List ℕ). ds ++ last ∷ []) p.digits ∙ append_assoc (replicate p.zeros 0) (p.first ∷ p.rest) (last ∷ []);
+      digits = ap (λ (ds : List ℕ). ds ++ last ∷ []) p.digits
+          ∙ append_assoc (replicate p.zeros 0) (p.first ∷ p.rest) (last ∷ []);
       some = p.some;
       low = p.low;
-      text = step ∙ ap (λ (ds : List ℕ). ds ++ (48 + last) ∷ []) p.text ∙ sym (map-append (λ d. 48 + d) (p.first ∷ p.rest) (last ∷ []));
+      text = step ∙ ap (λ (ds : List ℕ). ds ++ (48 + last) ∷ []) p.text
+          ∙ sym (map-append (λ d. 48 + d) (p.first ∷ p.rest) (last ∷ []));
       long = omega (arith, ap length step, length-append (decimal (n / 10)) ((48 + last) ∷ []), p.long);
     }
 
@@ -121,11 +126,12 @@ leads zero n some low fits = absurd (omega arith)
 leads (suc count) n some low fits =
     elim (cases_lt n 10) [
       | inl one ↦ leads_one count n some one
-      | inr more ↦ leads_more count n more fits (leads count (n / 10) (omega arith) (omega (arith, pow-suc 10 count)) (omega arith))
+      | inr more ↦ leads_more count n more fits (leads count (n / 10) (omega arith) (omega (arith, pow-suc 10 count))
+          (omega arith))
     ]
 
--- The eight digits of a number below 10 ^ 8: so many zeros and then its text. They are where the word's lowest 1 is, once
--- its last byte is marked.
+-- The eight digits of a number below 10 ^ 8: so many zeros and then its text. They are where the word's lowest 1 is,
+-- once its last byte is marked.
 pub record IsPadded (n zeros : ℕ) : Type 0 where
   pub long : zeros + length (decimal n) ≡ 8
   pub text : map (λ d. 48 + d) (last_digits 8 n) ≡ replicate zeros 48 ++ decimal n
@@ -135,8 +141,10 @@ text_of_zeros : (count : ℕ) → map (λ d. 48 + d) (replicate count 0) ≡ rep
 text_of_zeros zero = refl
 text_of_zeros (suc count) = ap (λ (ds : List ℕ). 48 ∷ ds) (text_of_zeros count)
 
-text_of_digits : (zeros : ℕ) (ds text : List ℕ) → text ≡ map (λ d. 48 + d) ds → map (λ d. 48 + d) (replicate zeros 0 ++ ds) ≡ replicate zeros 48 ++ text
-text_of_digits zeros ds text e = map-append (λ d. 48 + d) (replicate zeros 0) ds ∙ (λ i. text_of_zeros zeros i ++ sym e i)
+text_of_digits : (zeros : ℕ) (ds text : List ℕ) → text ≡ map (λ d. 48 + d) ds
+    → map (λ d. 48 + d) (replicate zeros 0 ++ ds) ≡ replicate zeros 48 ++ text
+text_of_digits zeros ds text e = map-append (λ d. 48 + d) (replicate zeros 0) ds
+    ∙ (λ i. text_of_zeros zeros i ++ sym e i)
 
 -- a mark on the last of eight bytes
 marked : (n : ℕ) → number_l 256 (last_digits 8 n) + 2 ^ 60 ≡ number_l 256 (last_digits 7 (n / 10) ++ (n % 10 + 16) ∷ [])
@@ -147,7 +155,8 @@ trailing_zeros : (zeros n first : ℕ) (rest : List ℕ) → zeros ≤ 7 → 0 <
     → count_trailing_zeros 64 (number_l 256 (last_digits 8 n) + 2 ^ 60) / 8 ≡ zeros
 trailing_zeros zeros n first rest few some low e =
     let long : 64 ≡ zeros * 8 + (8 + (56 - zeros * 8)) = omega arith in
-    (λ i. count_trailing_zeros (long i) ((marked n ∙ ap (number_l 256) e) i) / 8) ∙ zero_bytes zeros (56 - zeros * 8) first rest some low
+    (λ i. count_trailing_zeros (long i) ((marked n ∙ ap (number_l 256) e) i) / 8)
+    ∙ zero_bytes zeros (56 - zeros * 8) first rest some low
 
 padded_one : (n : ℕ) → n < 10 → IsPadded n 7
 padded_one n one =
@@ -169,8 +178,10 @@ padded_more n more fits p =
       long = all.long;
       text = ap (map (λ d. 48 + d)) all.digits ∙ text_of_digits p.zeros (all.first ∷ all.rest) (decimal n) all.text;
       trailing =
-          trailing_zeros p.zeros n p.first (p.rest ++ (last + 16) ∷ []) (omega (arith, p.long)) p.some (omega (arith, p.low))
-          (ap (λ (ds : List ℕ). ds ++ (last + 16) ∷ []) p.digits ∙ append_assoc (replicate p.zeros 0) (p.first ∷ p.rest) ((last + 16) ∷ []));
+          trailing_zeros p.zeros n p.first (p.rest ++ (last + 16) ∷ []) (omega (arith, p.long)) p.some
+          (omega (arith, p.low))
+          (ap (λ (ds : List ℕ). ds ++ (last + 16) ∷ []) p.digits
+          ∙ append_assoc (replicate p.zeros 0) (p.first ∷ p.rest) ((last + 16) ∷ []));
     }
 
 pub padded : (n : ℕ) → n < 10 ^ 8 → (zeros : ℕ) × IsPadded n zeros
@@ -191,7 +202,8 @@ shifted (suc zeros) text =
     let word = number_l 256 (replicate zeros 48 ++ text) in
     let long : 8 * suc zeros ≡ 8 + 8 * zeros = omega arith in
     let byte : (48 + 256 * word) / 2 ^ 8 ≡ word = omega arith in
-    ap (λ k. (48 + 256 * word) / 2 ^ k) long ∙ sym (shr-shr (48 + 256 * word) 8 (8 * zeros)) ∙ ap (λ w. w / 2 ^ (8 * zeros)) byte ∙ shifted zeros text
+    ap (λ k. (48 + 256 * word) / 2 ^ k) long ∙ sym (shr-shr (48 + 256 * word) 8 (8 * zeros))
+    ∙ ap (λ w. w / 2 ^ (8 * zeros)) byte ∙ shifted zeros text
 
 -- zeros behind the text do not change the word
 zeros_behind : (text : List ℕ) (count : ℕ) → number_l 256 (text ++ replicate count 0) ≡ number_l 256 text
@@ -219,21 +231,28 @@ word_is (a ∷ b ∷ c ∷ d ∷ e ∷ f ∷ g ∷ h ∷ []) long = omega arith
 word_is (a ∷ b ∷ c ∷ d ∷ e ∷ f ∷ g ∷ h ∷ i ∷ bytes) long = absurd (omega arith)
 
 -- the bytes of the word from which the zeros in front were shifted out
-pub text_bytes : (n digits zeros : ℕ) → n < 10 ^ 8 → digits ≡ number_l 256 (last_digits 8 n) → zeros + length (decimal n) ≡ 8
+pub text_bytes : (n digits zeros : ℕ) → n < 10 ^ 8 → digits ≡ number_l 256 (last_digits 8 n)
+    → zeros + length (decimal n) ≡ 8
     → to_le_bytes w64 ((digits + 0x3030_3030_3030_3030) / 2 ^ (8 * zeros)) ≡ decimal n ++ replicate zeros 0
 text_bytes n digits zeros low e long =
     let p = padded n low in
     let same : p.0 ≡ zeros = omega (arith, p.1.long) in
     let glyphs : digits + 0x3030_3030_3030_3030 ≡ number_l 256 (map (λ d. 48 + d) (last_digits 8 n)) = omega arith in
-    let text : map (λ d. 48 + d) (last_digits 8 n) ≡ replicate zeros 48 ++ decimal n = p.1.text ∙ ap (λ k. replicate k 48 ++ decimal n) same in
-    let all : length (decimal n ++ replicate zeros 0) ≡ 8 = omega (arith, length-append (decimal n) (replicate zeros 0), length-replicate {A = ℕ} zeros 0) in
+    let text : map (λ d. 48 + d) (last_digits 8 n) ≡ replicate zeros 48 ++ decimal n =
+    p.1.text ∙ ap (λ k. replicate k 48 ++ decimal n) same in
+    let all : length (decimal n ++ replicate zeros 0) ≡ 8 =
+    omega (arith, length-append (decimal n) (replicate zeros 0), length-replicate {A = ℕ} zeros 0) in
     let word : (digits + 0x3030_3030_3030_3030) / 2 ^ (8 * zeros) ≡ number_l 256 (decimal n) =
     ap (λ w. w / 2 ^ (8 * zeros)) (glyphs ∙ ap (number_l 256) text) ∙ shifted zeros (decimal n) in
-    le_bytes_8 (decimal n ++ replicate zeros 0) _ all (fit (decimal n) zeros (IsAscii-decimal n (omega arith))) (word ∙ sym (zeros_behind (decimal n) zeros) ∙ word_is _ all)
+    le_bytes_8 (decimal n ++ replicate zeros 0) _ all (fit (decimal n) zeros (IsAscii-decimal n (omega arith)))
+    (word ∙ sym (zeros_behind (decimal n) zeros) ∙ word_is _ all)
 
 -- a text behind a beginning, and what follows it
-pub text_stands : (at m : ℕ) (front text behind after : List ℕ) → length front ≡ at → m ≡ at + length text → take m (front ++ ((text ++ behind) ++ after)) ≡ front ++ text
+pub text_stands : (at m : ℕ) (front text behind after : List ℕ) → length front ≡ at → m ≡ at + length text
+    → take m (front ++ ((text ++ behind) ++ after)) ≡ front ++ text
 text_stands at m front text behind after long end =
     let place : m ≡ length front + length text = omega arith in
-    ap (λ k. take k (front ++ ((text ++ behind) ++ after))) place ∙ take-append-add front ((text ++ behind) ++ after) (length text)
-    ∙ ap (λ (xs : List ℕ). front ++ xs) (ap (take (length text)) (append_assoc text behind after) ∙ take-append_seam text (behind ++ after))
+    ap (λ k. take k (front ++ ((text ++ behind) ++ after))) place
+    ∙ take-append-add front ((text ++ behind) ++ after) (length text)
+    ∙ ap (λ (xs : List ℕ). front ++ xs) (ap (take (length text)) (append_assoc text behind after)
+    ∙ take-append_seam text (behind ++ after))

@@ -1,5 +1,6 @@
 -- Texts that go out through a block, one after another. A writer of several texts joins their contracts by these.
-use Rattle.std.proofs.Common.{◌≡◌, ℕ, ◌+◌, List, [], ◌++◌, Option, None, Some, Result, Ok, Err, OnErr, take, min, length, refl, sym, ap, subst, ◌∙◌, append_assoc}
+use Rattle.std.proofs.Common.{◌≡◌, ℕ, ◌+◌, List, [], ◌++◌, Option, None, Some, Result, Ok, Err, OnErr, take, min}
+use Rattle.std.proofs.Common.{length, refl, sym, ap, subst, ◌∙◌, append_assoc}
 use Rattle.std.proofs.lemmas.List.{append-nil, take_min, take-append-le}
 use Rattle.std.proofs.Math.Seq.{take-append-add}
 use Rattle.std.proofs.Math.Nat.{min-le_right}
@@ -8,12 +9,14 @@ use Rattle.aig_io.specs.Transfer.{WentOut, TookBeginning}
 use Rattle.aig_io.proofs.Told.{appends_twice}
 
 -- what was sent, then what is left, are what was held and both texts
-joined : (h0 h1 h2 s1 s2 xs ys : List ℕ) → h0 ++ xs ≡ s1 ++ h1 → h1 ++ ys ≡ s2 ++ h2 → h0 ++ (xs ++ ys) ≡ (s1 ++ s2) ++ h2
+joined : (h0 h1 h2 s1 s2 xs ys : List ℕ) → h0 ++ xs ≡ s1 ++ h1 → h1 ++ ys ≡ s2 ++ h2
+    → h0 ++ (xs ++ ys) ≡ (s1 ++ s2) ++ h2
 joined h0 h1 h2 s1 s2 xs ys p q =
     sym (append_assoc h0 xs ys) ∙ ap (λ (zs : List ℕ). zs ++ ys) p ∙ append_assoc s1 h1 ys
     ∙ ap (λ (zs : List ℕ). s1 ++ zs) q ∙ sym (append_assoc s1 s2 h2)
 
-pub went_out_twice : (a b c : Option (List ℕ)) (h0 h1 h2 xs ys : List ℕ) → WentOut a b h0 h1 xs → WentOut b c h1 h2 ys → WentOut a c h0 h2 (xs ++ ys)
+pub went_out_twice : (a b c : Option (List ℕ)) (h0 h1 h2 xs ys : List ℕ) → WentOut a b h0 h1 xs → WentOut b c h1 h2 ys
+    → WentOut a c h0 h2 (xs ++ ys)
 went_out_twice a b c h0 h1 h2 xs ys p q = record {
   sent = p.sent ++ q.sent;
   took = appends_twice a b c p.sent q.sent p.took q.took;
@@ -21,16 +24,19 @@ went_out_twice a b c h0 h1 h2 xs ys p q = record {
 }
 
 -- what the sink took before, and then the first n bytes of a text
-took_before : (a b c : Option (List ℕ)) (sent h : List ℕ) (n : ℕ) → Appends a b sent → Appends b c (take n h) → Appends a c (take (length sent + n) (sent ++ h))
+took_before : (a b c : Option (List ℕ)) (sent h : List ℕ) (n : ℕ) → Appends a b sent → Appends b c (take n h)
+    → Appends a c (take (length sent + n) (sent ++ h))
 took_before a b c sent h n p q = rw take-append-add (appends_twice a b c sent (take n h) p q)
 
-pub beginning_after : (a b c : Option (List ℕ)) (h0 h1 xs ys : List ℕ) → WentOut a b h0 h1 xs → TookBeginning b c (h1 ++ ys) → TookBeginning a c (h0 ++ (xs ++ ys))
+pub beginning_after : (a b c : Option (List ℕ)) (h0 h1 xs ys : List ℕ) → WentOut a b h0 h1 xs
+    → TookBeginning b c (h1 ++ ys) → TookBeginning a c (h0 ++ (xs ++ ys))
 beginning_after a b c h0 h1 xs ys p q =
     let all : p.sent ++ (h1 ++ ys) ≡ h0 ++ (xs ++ ys) =
     sym (sym (append_assoc h0 xs ys) ∙ ap (λ (zs : List ℕ). zs ++ ys) p.order ∙ append_assoc p.sent h1 ys) in
     record {
       count = length p.sent + q.count;
-      took = subst (λ (zs : List ℕ). Appends a c (take (length p.sent + q.count) zs)) all (took_before a b c p.sent (h1 ++ ys) q.count p.took q.took);
+      took = subst (λ (zs : List ℕ). Appends a c (take (length p.sent + q.count) zs)) all
+          (took_before a b c p.sent (h1 ++ ys) q.count p.took q.took);
     }
 
 -- a beginning of a text is one of each longer text
@@ -40,7 +46,8 @@ beginning_of_more a b xs ys p =
     take-append-le (min p.count (length xs)) xs ys (min-le_right p.count (length xs)) ∙ take_min p.count xs in
     record { count = min p.count (length xs); took = subst (λ (zs : List ℕ). Appends a b zs) (sym same) p.took }
 
-pub beginning_longer : (a b : Option (List ℕ)) (h xs ys : List ℕ) → TookBeginning a b (h ++ xs) → TookBeginning a b (h ++ (xs ++ ys))
+pub beginning_longer : (a b : Option (List ℕ)) (h xs ys : List ℕ) → TookBeginning a b (h ++ xs)
+    → TookBeginning a b (h ++ (xs ++ ys))
 beginning_longer a b h xs ys p =
     subst (λ (zs : List ℕ). TookBeginning a b zs) (append_assoc h xs ys) (beginning_of_more a b (h ++ xs) ys p)
 

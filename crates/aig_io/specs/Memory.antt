@@ -1,14 +1,17 @@
 -- Devices in memory, as their callers see them (this project's devices).
-use Rattle.std.specs.Prelude.{◌+◌, ◌-◌, ◌==◌, ◌++◌, ℕ, List, [], Bool, false, Option, None, Some, min, max, length, take, drop, if◌then◌else◌}
+use Rattle.std.specs.Prelude.{◌+◌, ◌-◌, ◌==◌, ◌++◌, ℕ, List, [], Bool, false, Option, None, Some, min, max, length}
+use Rattle.std.specs.Prelude.{take, drop, if◌then◌else◌}
 
--- `coming` are the bytes that it still gives, at most `piece` in a call; `fails_in` counts the calls before the one that fails
+-- `coming` are the bytes that it still gives, at most `piece` in a call; `fails_in` counts the calls before the one that
+-- fails
 pub record SourceInMemory : Type 0 where
   pub coming : List ℕ
   pub piece : ℕ
   pub fails_in : Option ℕ
   pub failures : ℕ
 
--- it has room for `room` more bytes, and takes at most `piece` in a call; `longest` is the longest slice that it was handed
+-- it has room for `room` more bytes, and takes at most `piece` in a call; `longest` is the longest slice that it was
+-- handed
 pub record SinkInMemory : Type 0 where
   pub taken : List ℕ
   pub room : ℕ
@@ -32,7 +35,12 @@ one_call_later None = None
 one_call_later (Some calls) = calls_before calls
 
 abbrev pub new_source : List ℕ → ℕ → ℕ → SourceInMemory
-new_source bytes piece fails_at = record { coming = bytes; piece = piece; fails_in = calls_before fails_at; failures = 0 }
+new_source bytes piece fails_at = record {
+  coming = bytes;
+  piece = piece;
+  fails_in = calls_before fails_at;
+  failures = 0;
+}
 
 -- how many bytes a call gives that does not fail
 abbrev pub given : SourceInMemory → ℕ → ℕ
@@ -45,7 +53,14 @@ abbrev pub after_failed_fetch : SourceInMemory → SourceInMemory
 after_failed_fetch s = record s { fails_in = one_call_later s.fails_in; failures = s.failures + 1 }
 
 abbrev pub new_sink : ℕ → ℕ → ℕ → SinkInMemory
-new_sink room piece fails_at = record { taken = []; room = room; piece = piece; longest = 0; fails_in = calls_before fails_at; failures = 0 }
+new_sink room piece fails_at = record {
+  taken = [];
+  room = room;
+  piece = piece;
+  longest = 0;
+  fails_in = calls_before fails_at;
+  failures = 0;
+}
 
 -- how many of the bytes a call takes that does not fail
 abbrev pub accepted : SinkInMemory → List ℕ → ℕ
@@ -60,4 +75,8 @@ after_taking s bytes count = record s {
 }
 
 abbrev pub after_failed_send : SinkInMemory → List ℕ → SinkInMemory
-after_failed_send s bytes = record s { longest = max s.longest (length bytes); fails_in = one_call_later s.fails_in; failures = s.failures + 1 }
+after_failed_send s bytes = record s {
+  longest = max s.longest (length bytes);
+  fails_in = one_call_later s.fails_in;
+  failures = s.failures + 1;
+}

@@ -113,8 +113,8 @@ impl Block {
         count
     }
 
-    /// Takes the first of some bytes, so many, where there is room for all of them. All are copied, so that the length of
-    /// the copy may be known before it runs.
+    /// Takes the first of some bytes, so many, where there is room for all of them. All are copied, so that the length
+    /// of the copy may be known before it runs.
     #[inline(always)]
     pub fn fill_first(&mut self, bytes: &[u8], count: usize)
         requires room { length self.old.bytes + length bytes.now ≤ ROOM }

@@ -1,5 +1,6 @@
 //! Numbers in decimal, written straight to where they are wanted.
-ghost use Rattle.std.specs.Prelude.{◌≡◌, ◌+◌, ◌*◌, ◌/◌, ◌%◌, ◌^◌, ◌<◌, ◌≤◌, ℕ, [], ◌∷◌, ◌++◌, length, decimal, codes, take};
+ghost use Rattle.std.specs.Prelude.{◌≡◌, ◌+◌, ◌*◌, ◌/◌, ◌%◌, ◌^◌, ◌<◌, ◌≤◌, ℕ, [], ◌∷◌, ◌++◌, length, decimal, codes};
+ghost use Rattle.std.specs.Prelude.{take};
 ghost use Rattle.std.specs.Simd.Lanes.{number_l};
 ghost use Rattle.aig_io.specs.Digits.{last_digits};
 ghost use Rattle.aig_io.specs.Output.{row_text};

@@ -5,4 +5,5 @@ pub returns : goal.returns
 returns c =
     let n = c.args.number in
     let halves = c.quarters.ensures (n / 10000) (n % 10000) (omega arith) (omega arith) (omega arith) in
-    c.eighths.ensures (n / 10000 / 100) (n / 10000 % 100) (n % 10000 / 100) (n % 10000 % 100) (omega arith) (omega arith) (omega arith) (omega arith) halves ∙ omega arith
+    c.eighths.ensures (n / 10000 / 100) (n / 10000 % 100) (n % 10000 / 100) (n % 10000 % 100) (omega arith)
+    (omega arith) (omega arith) (omega arith) halves ∙ omega arith

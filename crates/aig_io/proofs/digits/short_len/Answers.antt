@@ -1,5 +1,6 @@
 use Rattle.std.proofs.Common.{arith, sym}
-use Rattle.aig_io.proofs.DigitCounts.{length_1, length_2, length_3, length_4, length_5, length_6, length_7, length_8, length_9, length_10}
+use Rattle.aig_io.proofs.DigitCounts.{length_1, length_2, length_3, length_4, length_5, length_6, length_7, length_8}
+use Rattle.aig_io.proofs.DigitCounts.{length_9, length_10}
 use Rattle.aig_io.proofs.digits.short_len.Goals as goal
 
 pub returns-then-number-lt10-clause-value : goal.returns-then-number-lt10-clause-value

@@ -7,5 +7,6 @@ abbrev pub invariant-loop-number : goal.invariant-loop-number
 invariant-loop-number l = record {
   within : l.end ≤ l.at + MOST_DIGITS + l.number-index * (MOST_DIGITS + 1);
   len : length l.bytes ≡ length l.fn.bytes;
-  text : take l.end l.bytes ≡ take l.at l.fn.bytes ++ (decimal l.first ++ flat_map (λ n. codes " " ++ decimal n) (take l.number-index l.others));
+  text : take l.end l.bytes ≡ take l.at l.fn.bytes
+      ++ (decimal l.first ++ flat_map (λ n. codes " " ++ decimal n) (take l.number-index l.others));
 }

@@ -7,6 +7,7 @@ use Rattle.aig_io.proofs.memory.MemorySourceSource.fetch.Goals as goal
 pub returns-clause-bytes : goal.returns-clause-bytes
 returns-clause-bytes c = (
   ap (λ (s : SourceInMemory). s.coming) (sym c.self.view_is)
-      ∙ gives_next _ c.deref.result.now _ c.copy_from_slice.new.self c.self.inside.at c.min-count.result (omega arith) c.deref.ensures.value c.copy_from_slice.ensures.after,
+      ∙ gives_next _ c.deref.result.now _ c.copy_from_slice.new.self c.self.inside.at c.min-count.result
+      (omega arith) c.deref.ensures.value c.copy_from_slice.ensures.after,
   λ none room. drop_all (c.self.inside.at + c.min-count.result) c.self.inside.bytes.items (omega arith),
 )
