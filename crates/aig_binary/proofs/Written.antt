@@ -5,7 +5,7 @@ use Rattle.std.proofs.lemmas.List.Concat.{flat_map-append}
 use Rattle.std.proofs.lemmas.List.Folds.{flat_map-map}
 use Rattle.std.proofs.lemmas.List.Elements.{All-from_recursion}
 use Rattle.aig_core.specs.Literal.{literal_of}
-use Rattle.aig_io.specs.Output.{Held}
+use Rattle.aig_io.specs.Output.{Out}
 use Rattle.aig_core.specs.Wellformed.{IsWithinLimits}
 use Rattle.aig_core.specs.declared.circuit.TheConstants.{LARGEST}
 use Rattle.aig_core.specs.declared.circuit.Latch.{Latch}
@@ -19,15 +19,22 @@ use Rattle.aig_binary.specs.BinaryText.{gate_text}
 use Rattle.aig_binary.specs.Delta.{shortest_delta}
 use Rattle.aig_binary.specs.Parts.Deltas.{HasDeltas}
 
--- two texts, one behind the other, put into the block alone
-filled_twice : (a b c : Held) (t u : List ℕ) → b ≡ record a { bytes = a.bytes ++ t } → c ≡ record b { bytes = b.bytes ++ u } → c ≡ record a { bytes = a.bytes ++ (t ++ u) }
-filled_twice a b c t u p q =
-    q ∙ ap (λ (h : Held). record h { bytes = h.bytes ++ u }) p ∙ ap (λ (bytes : List ℕ). record a { bytes = bytes }) (append_assoc a.bytes t u)
+module _ {W : Type 0} where
+  -- two texts, one behind the other, put into the block alone
+  filled_twice : (a b c : Out W) (t u : List ℕ) → b ≡ record a { held = a.held ++ t } → c ≡ record b { held = b.held ++ u }
+      → c ≡ record a { held = a.held ++ (t ++ u) }
+  filled_twice a b c t u p q =
+      q ∙ ap (λ (o : Out W). record o { held = o.held ++ u }) p
+      ∙ ap (λ (bytes : List ℕ). record a { held = bytes }) (append_assoc a.held t u)
 
--- the deltas of a gate, put into the block alone
-pub filled_gate : (a b c : Held) (t u : List ℕ) (g h : Gate) → g ≡ h → t ≡ shortest_delta (literal_of g.var - g.left) → u ≡ shortest_delta (g.left - g.right) → b ≡ record a { bytes = a.bytes ++ t } → c ≡ record b { bytes = b.bytes ++ u } → c ≡ record a { bytes = a.bytes ++ gate_text h }
-filled_gate a b c t u g h e first second p q =
-    filled_twice a b c t u p q ∙ ap (λ (text : List ℕ). record a { bytes = a.bytes ++ text }) (ap₂ (λ (x y : List ℕ). x ++ y) first second ∙ ap gate_text e)
+  -- the deltas of a gate, put into the block alone
+  pub filled_gate : (a b c : Out W) (t u : List ℕ) (g h : Gate) → g ≡ h → t ≡ shortest_delta (literal_of g.var - g.left)
+      → u ≡ shortest_delta (g.left - g.right) → b ≡ record a { held = a.held ++ t } → c ≡ record b { held = b.held ++ u }
+      → c ≡ record a { held = a.held ++ gate_text h }
+  filled_gate a b c t u g h e first second p q =
+      filled_twice a b c t u p q
+      ∙ ap (λ (text : List ℕ). record a { held = a.held ++ text })
+      (ap₂ (λ (x y : List ℕ). x ++ y) first second ∙ ap gate_text e)
 
 -- the line of a literal
 abbrev text_of_literal : ℕ → List ℕ

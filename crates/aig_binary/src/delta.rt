@@ -5,7 +5,7 @@ ghost use Rattle.aig_text.specs.Outcomes.{Gives};
 ghost use Rattle.aig_binary.specs.Delta.{BeginsWithDelta, delta_at, shortest_delta};
 ghost use Rattle.aig_binary.specs.declared.delta.TheConstants.{LONGEST};
 
-use aig_core::Block;
+use aig_core::{Output, Sink};
 use std::marker::Model;
 
 /// How many bytes spell a number at most.
@@ -40,13 +40,13 @@ impl Delta {
         &self.bytes[..self.len]
     }
 
-    /// Adds the bytes to a block that has room for the longest spelling.
+    /// Adds the bytes to an output that has room for the longest spelling.
     #[inline(always)]
-    pub(crate) fn fill(&self, block: &mut Block)
-        requires { length block.old.bytes + LONGEST ≤ ROOM }
-        ensures { block.new ≡ record block.old { bytes = block.old.bytes ++ self.now } }
+    pub(crate) fn fill<W: Sink>(&self, output: &mut Output<W>)
+        requires { length output.old.held + LONGEST ≤ ROOM }
+        ensures { output.new ≡ record output.old { held = output.old.held ++ self.now } }
     {
-        block.fill_first(&self.bytes, self.len);
+        output.fill_first(&self.bytes, self.len);
     }
 }
 

@@ -26,6 +26,6 @@ pub use crate::names::Names;
 pub use crate::order::Order;
 pub use crate::ordered::{Ordered, is_in_binary_order};
 pub use aig_io::{
-    Block, DeviceFault, MOST_DIGITS, MemorySink, MemorySource, ROOM, ReadError, ReadSource, Sink,
-    Source, WriteSink, read_all,
+    Block, DeviceFault, MOST_DIGITS, MemorySink, MemorySource, Output, ROOM, ReadError, ReadSource,
+    Sink, Source, WriteSink, read_all,
 };

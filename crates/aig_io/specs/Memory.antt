@@ -2,8 +2,8 @@
 use Rattle.std.specs.Prelude.{◌+◌, ◌-◌, ◌==◌, ◌++◌, ℕ, List, [], Bool, false, Option, None, Some, min, max, length}
 use Rattle.std.specs.Prelude.{take, drop, if◌then◌else◌}
 
--- `coming` are the bytes that it still gives, at most `piece` in a call; `fails_in` counts the calls before the one that
--- fails
+-- `coming` are the bytes that it still gives, at most `piece` in a call; `fails_in` counts the calls before the one
+-- that fails
 pub record SourceInMemory : Type 0 where
   pub coming : List ℕ
   pub piece : ℕ

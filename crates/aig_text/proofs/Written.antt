@@ -11,14 +11,18 @@ use Rattle.aig_text.specs.AsciiText.{spaced_number, more_numbers_text, numbers_t
 use Rattle.aig_text.specs.Rows.{rows_of, row, input_form, latch_form, output_form, gate_form, input_row, latch_row, output_row, gate_row}
 
 -- the texts of one item more
-text_of_more : {X : Type 0} (f : X → List ℕ) (xs : List X) (i : ℕ) (d : X) → i < length xs → flat_map f (take i xs) ++ f (get_or xs i d) ≡ flat_map f (take (i + 1) xs)
+text_of_more : {X : Type 0} (f : X → List ℕ) (xs : List X) (i : ℕ) (d : X) → i < length xs
+    → flat_map f (take i xs) ++ f (get_or xs i d) ≡ flat_map f (take (i + 1) xs)
 text_of_more f xs i d h =
-    sym (ap (flat_map f) (take_more xs i d h) ∙ flat_map-append f (take i xs) (get_or xs i d ∷ []) ∙ ap (λ (ys : List ℕ). flat_map f (take i xs) ++ ys) (append-nil (f (get_or xs i d))))
+    sym (ap (flat_map f) (take_more xs i d h) ∙ flat_map-append f (take i xs) (get_or xs i d ∷ [])
+    ∙ ap (λ (ys : List ℕ). flat_map f (take i xs) ++ ys) (append-nil (f (get_or xs i d))))
 
 -- one item more was put
-pub put_more : {X : Type 0} (f : X → List ℕ) (xs : List X) (i : ℕ) (d x : X) (a b c : Out) → i < length xs → x ≡ get_or xs i d → Put a b (flat_map f (take i xs)) → Put b c (f x) → Put a c (flat_map f (take (i + 1) xs))
+pub put_more : {X W : Type 0} (f : X → List ℕ) (xs : List X) (i : ℕ) (d x : X) (a b c : Out W) → i < length xs
+    → x ≡ get_or xs i d → Put a b (flat_map f (take i xs)) → Put b c (f x) → Put a c (flat_map f (take (i + 1) xs))
 put_more f xs i d x a b c low is p q =
-    subst (λ (text : List ℕ). Put a c text) (text_of_more f xs i d low) (put_twice a b c (flat_map f (take i xs)) (f (get_or xs i d)) p (subst (λ y. Put b c (f y)) is q))
+    subst (λ (text : List ℕ). Put a c text) (text_of_more f xs i d low)
+    (put_twice a b c (flat_map f (take i xs)) (f (get_or xs i d)) p (subst (λ y. Put b c (f y)) is q))
 
 -- numbers after spaces, and the line feed
 pub more_text : (ns : List ℕ) → flat_map spaced_number ns ++ codes "\n" ≡ more_numbers_text ns

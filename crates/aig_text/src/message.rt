@@ -1,9 +1,9 @@
 //! What messages are made of.
 ghost use Rattle.std.specs.Prelude.{◌≡◌, ◌++◌, ◌+◌, ◌-◌, ◌^◌, ◌<◌, Some, decimal};
-ghost use Rattle.aig_io.specs.Output.{CanFail, out, Put};
+ghost use Rattle.aig_io.specs.Output.{Put};
 ghost use Rattle.aig_text.specs.Messages.{message_text, number_text};
 
-use aig_core::{Block, Sink};
+use aig_core::{Output, Sink};
 use std::fmt;
 
 /// A text that stands in the program, with a number in it or without one.
@@ -37,28 +37,22 @@ impl Message {
         }
     }
 
-    /// Puts the text into a block.
-    pub fn put<W: Sink>(&self, block: &mut Block, sink: &mut W)
-        requires { CanFail (out (W.taken sink.old) (W.longest sink.old) (W.failed sink.old) block.old) }
-        ensures { Put (out (W.taken sink.old) (W.longest sink.old) (W.failed sink.old) block.old)
-            (out (W.taken sink.new) (W.longest sink.new) (W.failed sink.new) block.new)
-            (message_text self.now) }
+    /// Puts the text.
+    pub fn put<W: Sink>(&self, output: &mut Output<W>)
+        ensures { Put output.old output.new (message_text self.now) }
     {
-        block.put(sink, self.before.as_bytes());
-        put_any_number(block, sink, self.number);
-        block.put(sink, self.after.as_bytes());
+        output.put(self.before.as_bytes());
+        put_any_number(output, self.number);
+        output.put(self.after.as_bytes());
     }
 }
 
 /// A number, where there is one.
-fn put_any_number<W: Sink>(block: &mut Block, sink: &mut W, number: Option<u64>)
-    requires { CanFail (out (W.taken sink.old) (W.longest sink.old) (W.failed sink.old) block.old) }
-    ensures { Put (out (W.taken sink.old) (W.longest sink.old) (W.failed sink.old) block.old)
-        (out (W.taken sink.new) (W.longest sink.new) (W.failed sink.new) block.new)
-        (number_text number) }
+fn put_any_number<W: Sink>(output: &mut Output<W>, number: Option<u64>)
+    ensures { Put output.old output.new (number_text number) }
 {
     if let Some(number) = number {
-        block.put_number(sink, number);
+        output.put_number(number);
     }
 }
 

@@ -1,9 +1,9 @@
-//! The canonical ASCII text of a circuit, written to a sink through a block.
+//! The canonical ASCII text of a circuit, written to a sink in blocks.
 ghost use Rattle.std.specs.Io.KnownBytes.{Appends};
 ghost use Rattle.std.specs.List.{flat_map};
 ghost use Rattle.std.specs.Prelude.{◌≡◌, ◌+◌, ◌-◌, ◌^◌, ◌<◌, ◌≤◌, ◌∷◌, ℕ, List, length, max, is_ok, OnErr, OnOk};
 ghost use Rattle.std.specs.Prelude.{if◌then◌else◌};
-ghost use Rattle.aig_io.specs.Output.{CanFail, out, Put};
+ghost use Rattle.aig_io.specs.Output.{Put};
 ghost use Rattle.aig_io.specs.Transfer.{TookBeginning};
 ghost use Rattle.aig_io.specs.declared.block.TheConstants.{ROOM};
 ghost use Rattle.aig_text.specs.AsciiText.{ascii_text, comment_text, header_text, kind_letter, line_text};
@@ -15,8 +15,7 @@ ghost use Rattle.aig_text.specs.declared.writer.WriteFault.TheVariants.{Device};
 
 use crate::header_line::ASCII_WORD;
 use aig_core::{
-    Block, Checked, Circuit, DeviceFault, Gate, Kind, Latch, Listing, Lit, MOST_DIGITS, Sink,
-    Symbol, Var,
+    Checked, Circuit, DeviceFault, Gate, Kind, Latch, Listing, Lit, Output, Sink, Symbol, Var,
 };
 use thiserror::Error;
 
@@ -40,77 +39,49 @@ impl From<DeviceFault> for WriteFault {
 const FEW: usize = 8;
 
 /// A space and a number.
-fn put_spaced_number<W: Sink>(block: &mut Block, sink: &mut W, number: u64)
-    requires { CanFail (out (W.taken sink.old) (W.longest sink.old) (W.failed sink.old) block.old) }
-    ensures { Put (out (W.taken sink.old) (W.longest sink.old) (W.failed sink.old) block.old)
-        (out (W.taken sink.new) (W.longest sink.new) (W.failed sink.new) block.new)
-        (spaced_number number) }
+fn put_spaced_number<W: Sink>(output: &mut Output<W>, number: u64)
+    ensures { Put output.old output.new (spaced_number number) }
 {
-    block.put(sink, b" ");
-    block.put_number(sink, number);
+    output.put(b" ");
+    output.put_number(number);
 }
 
 /// Each number after a space.
-fn put_spaced_numbers<W: Sink>(block: &mut Block, sink: &mut W, numbers: &[u64])
-    requires { CanFail (out (W.taken sink.old) (W.longest sink.old) (W.failed sink.old) block.old) }
-    ensures { Put (out (W.taken sink.old) (W.longest sink.old) (W.failed sink.old) block.old)
-        (out (W.taken sink.new) (W.longest sink.new) (W.failed sink.new) block.new)
-        (flat_map spaced_number numbers.now) }
+fn put_spaced_numbers<W: Sink>(output: &mut Output<W>, numbers: &[u64])
+    ensures { Put output.old output.new (flat_map spaced_number numbers.now) }
 {
     for number in numbers {
-        put_spaced_number(block, sink, *number);
+        put_spaced_number(output, *number);
     }
 }
 
 /// Each number after a space, and the line feed.
-fn put_more_numbers<W: Sink>(block: &mut Block, sink: &mut W, numbers: &[u64])
-    requires { CanFail (out (W.taken sink.old) (W.longest sink.old) (W.failed sink.old) block.old) }
-    ensures { Put (out (W.taken sink.old) (W.longest sink.old) (W.failed sink.old) block.old)
-        (out (W.taken sink.new) (W.longest sink.new) (W.failed sink.new) block.new)
-        (more_numbers_text numbers.now) }
+fn put_more_numbers<W: Sink>(output: &mut Output<W>, numbers: &[u64])
+    ensures { Put output.old output.new (more_numbers_text numbers.now) }
 {
-    put_spaced_numbers(block, sink, numbers);
-    block.put(sink, b"\n");
+    put_spaced_numbers(output, numbers);
+    output.put(b"\n");
 }
 
-/// A numbered line with few numbers: room is made for all of it, and then it is filled in.
+/// Puts a numbered line: its first number and the others.
 #[inline(always)]
-fn put_row<W: Sink>(block: &mut Block, sink: &mut W, first: u64, others: &[u64])
-    requires countable { CanFail (out (W.taken sink.old) (W.longest sink.old) (W.failed sink.old) block.old) }
-    requires few { length others.now ≤ FEW }
-    ensures { Put (out (W.taken sink.old) (W.longest sink.old) (W.failed sink.old) block.old)
-        (out (W.taken sink.new) (W.longest sink.new) (W.failed sink.new) block.new)
-        (numbers_text (first ∷ others.now)) }
-{
-    block.make_room(sink, (others.len() + 1) * (MOST_DIGITS + 1));
-    block.fill_row(first, others);
-}
-
-/// Puts a numbered line into a block: its first number and the others.
-#[inline(always)]
-pub fn put_numbers<W: Sink>(block: &mut Block, sink: &mut W, first: u64, others: &[u64])
-    requires { CanFail (out (W.taken sink.old) (W.longest sink.old) (W.failed sink.old) block.old) }
-    ensures { Put (out (W.taken sink.old) (W.longest sink.old) (W.failed sink.old) block.old)
-        (out (W.taken sink.new) (W.longest sink.new) (W.failed sink.new) block.new)
-        (numbers_text (first ∷ others.now)) }
+pub fn put_numbers<W: Sink>(output: &mut Output<W>, first: u64, others: &[u64])
+    ensures { Put output.old output.new (numbers_text (first ∷ others.now)) }
 {
     if others.len() <= FEW {
-        put_row(block, sink, first, others);
+        output.put_row(first, others);
     } else {
-        block.put_number(sink, first);
-        put_more_numbers(block, sink, others);
+        output.put_number(first);
+        put_more_numbers(output, others);
     }
 }
 
-/// Puts the header line into a block: its word and its numbers.
-pub fn put_header<W: Sink>(block: &mut Block, sink: &mut W, word: &[u8], numbers: &[u64])
-    requires { CanFail (out (W.taken sink.old) (W.longest sink.old) (W.failed sink.old) block.old) }
-    ensures { Put (out (W.taken sink.old) (W.longest sink.old) (W.failed sink.old) block.old)
-        (out (W.taken sink.new) (W.longest sink.new) (W.failed sink.new) block.new)
-        (header_text word.now numbers.now) }
+/// Puts the header line: its word and its numbers.
+pub fn put_header<W: Sink>(output: &mut Output<W>, word: &[u8], numbers: &[u64])
+    ensures { Put output.old output.new (header_text word.now numbers.now) }
 {
-    block.put(sink, word);
-    put_more_numbers(block, sink, numbers);
+    output.put(word);
+    put_more_numbers(output, numbers);
 }
 
 /// What has a numbered line of its own.
@@ -119,19 +90,16 @@ trait NumberedLine {
     ghost line_numbers: { Self → List ℕ };
 
     /// Adds the line.
-    fn put_line<W: Sink>(&self, block: &mut Block, sink: &mut W)
-        requires { CanFail (out (W.taken sink.old) (W.longest sink.old) (W.failed sink.old) block.old) }
-        ensures { Put (out (W.taken sink.old) (W.longest sink.old) (W.failed sink.old) block.old)
-            (out (W.taken sink.new) (W.longest sink.new) (W.failed sink.new) block.new)
-            (numbers_text (line_numbers self.now)) };
+    fn put_line<W: Sink>(&self, output: &mut Output<W>)
+        ensures { Put output.old output.new (numbers_text (line_numbers self.now)) };
 }
 
 impl NumberedLine for Var {
     ghost line_numbers = { input_row };
 
     #[inline(always)]
-    fn put_line<W: Sink>(&self, block: &mut Block, sink: &mut W) {
-        put_numbers(block, sink, 2 * u64::from(self.0), &[]);
+    fn put_line<W: Sink>(&self, output: &mut Output<W>) {
+        put_numbers(output, 2 * u64::from(self.0), &[]);
     }
 }
 
@@ -139,13 +107,8 @@ impl NumberedLine for Latch {
     ghost line_numbers = { latch_row };
 
     #[inline(always)]
-    fn put_line<W: Sink>(&self, block: &mut Block, sink: &mut W) {
-        put_numbers(
-            block,
-            sink,
-            2 * u64::from(self.var.0),
-            &[u64::from(self.next.0)],
-        );
+    fn put_line<W: Sink>(&self, output: &mut Output<W>) {
+        put_numbers(output, 2 * u64::from(self.var.0), &[u64::from(self.next.0)]);
     }
 }
 
@@ -153,8 +116,8 @@ impl NumberedLine for Lit {
     ghost line_numbers = { output_row };
 
     #[inline(always)]
-    fn put_line<W: Sink>(&self, block: &mut Block, sink: &mut W) {
-        put_numbers(block, sink, u64::from(self.0), &[]);
+    fn put_line<W: Sink>(&self, output: &mut Output<W>) {
+        put_numbers(output, u64::from(self.0), &[]);
     }
 }
 
@@ -162,22 +125,19 @@ impl NumberedLine for Gate {
     ghost line_numbers = { gate_row };
 
     #[inline(always)]
-    fn put_line<W: Sink>(&self, block: &mut Block, sink: &mut W) {
+    fn put_line<W: Sink>(&self, output: &mut Output<W>) {
         let operands = [u64::from(self.left.0), u64::from(self.right.0)];
-        put_numbers(block, sink, 2 * u64::from(self.var.0), &operands);
+        put_numbers(output, 2 * u64::from(self.var.0), &operands);
     }
 }
 
 /// The numbered lines of a section.
 #[inline(never)]
-fn put_lines<T: NumberedLine, W: Sink>(block: &mut Block, sink: &mut W, items: &[T])
-    requires { CanFail (out (W.taken sink.old) (W.longest sink.old) (W.failed sink.old) block.old) }
-    ensures { Put (out (W.taken sink.old) (W.longest sink.old) (W.failed sink.old) block.old)
-        (out (W.taken sink.new) (W.longest sink.new) (W.failed sink.new) block.new)
-        (flat_map (λ x. numbers_text (T.line_numbers x)) items.now) }
+fn put_lines<T: NumberedLine, W: Sink>(output: &mut Output<W>, items: &[T])
+    ensures { Put output.old output.new (flat_map (λ x. numbers_text (T.line_numbers x)) items.now) }
 {
     for item in items {
-        item.put_line(block, sink);
+        item.put_line(output);
     }
 }
 
@@ -193,76 +153,58 @@ fn letter(kind: Kind) -> &'static [u8]
 }
 
 /// A space, a name and the line feed.
-fn put_name<W: Sink>(block: &mut Block, sink: &mut W, name: &[u8])
-    requires { CanFail (out (W.taken sink.old) (W.longest sink.old) (W.failed sink.old) block.old) }
-    ensures { Put (out (W.taken sink.old) (W.longest sink.old) (W.failed sink.old) block.old)
-        (out (W.taken sink.new) (W.longest sink.new) (W.failed sink.new) block.new)
-        (name_text name.now) }
+fn put_name<W: Sink>(output: &mut Output<W>, name: &[u8])
+    ensures { Put output.old output.new (name_text name.now) }
 {
-    block.put(sink, b" ");
-    block.put(sink, name);
-    block.put(sink, b"\n");
+    output.put(b" ");
+    output.put(name);
+    output.put(b"\n");
 }
 
 /// A symbol line.
-fn put_symbol<W: Sink>(block: &mut Block, sink: &mut W, symbol: &Symbol)
-    requires { CanFail (out (W.taken sink.old) (W.longest sink.old) (W.failed sink.old) block.old) }
-    ensures { Put (out (W.taken sink.old) (W.longest sink.old) (W.failed sink.old) block.old)
-        (out (W.taken sink.new) (W.longest sink.new) (W.failed sink.new) block.new)
-        (symbol_text symbol.now) }
+fn put_symbol<W: Sink>(output: &mut Output<W>, symbol: &Symbol)
+    ensures { Put output.old output.new (symbol_text symbol.now) }
 {
-    block.put(sink, letter(symbol.kind));
-    block.put_number(sink, u64::from(symbol.position));
-    put_name(block, sink, symbol.name.as_slice());
+    output.put(letter(symbol.kind));
+    output.put_number(u64::from(symbol.position));
+    put_name(output, symbol.name.as_slice());
 }
 
 /// The symbol lines.
-fn put_symbols<W: Sink>(block: &mut Block, sink: &mut W, symbols: &[Symbol])
-    requires { CanFail (out (W.taken sink.old) (W.longest sink.old) (W.failed sink.old) block.old) }
-    ensures { Put (out (W.taken sink.old) (W.longest sink.old) (W.failed sink.old) block.old)
-        (out (W.taken sink.new) (W.longest sink.new) (W.failed sink.new) block.new)
-        (flat_map symbol_text symbols.now) }
+fn put_symbols<W: Sink>(output: &mut Output<W>, symbols: &[Symbol])
+    ensures { Put output.old output.new (flat_map symbol_text symbols.now) }
 {
     for symbol in symbols {
-        put_symbol(block, sink, symbol);
+        put_symbol(output, symbol);
     }
 }
 
 /// The comment section, where there is one.
-fn put_comment<W: Sink>(block: &mut Block, sink: &mut W, comment: &Option<Listing<u8>>)
-    requires { CanFail (out (W.taken sink.old) (W.longest sink.old) (W.failed sink.old) block.old) }
-    ensures { Put (out (W.taken sink.old) (W.longest sink.old) (W.failed sink.old) block.old)
-        (out (W.taken sink.new) (W.longest sink.new) (W.failed sink.new) block.new)
-        (comment_text comment.now) }
+fn put_comment<W: Sink>(output: &mut Output<W>, comment: &Option<Listing<u8>>)
+    ensures { Put output.old output.new (comment_text comment.now) }
 {
     if let Some(bytes) = comment {
-        block.put(sink, b"c\n");
-        block.put(sink, bytes.as_slice());
+        output.put(b"c\n");
+        output.put(bytes.as_slice());
     }
 }
 
-/// Puts what follows the gates into a block: the symbols, and the comment section where there is one.
-pub fn put_tail<W: Sink>(block: &mut Block, sink: &mut W, circuit: &Circuit)
-    requires { CanFail (out (W.taken sink.old) (W.longest sink.old) (W.failed sink.old) block.old) }
-    ensures { Put (out (W.taken sink.old) (W.longest sink.old) (W.failed sink.old) block.old)
-        (out (W.taken sink.new) (W.longest sink.new) (W.failed sink.new) block.new)
-        (tail_text circuit.now) }
+/// Puts what follows the gates: the symbols, and the comment section where there is one.
+pub fn put_tail<W: Sink>(output: &mut Output<W>, circuit: &Circuit)
+    ensures { Put output.old output.new (tail_text circuit.now) }
 {
-    put_symbols(block, sink, circuit.symbols.as_slice());
-    put_comment(block, sink, &circuit.comment);
+    put_symbols(output, circuit.symbols.as_slice());
+    put_comment(output, &circuit.comment);
 }
 
 /// The numbered lines of all sections.
-fn put_sections<W: Sink>(block: &mut Block, sink: &mut W, circuit: &Circuit)
-    requires { CanFail (out (W.taken sink.old) (W.longest sink.old) (W.failed sink.old) block.old) }
-    ensures { Put (out (W.taken sink.old) (W.longest sink.old) (W.failed sink.old) block.old)
-        (out (W.taken sink.new) (W.longest sink.new) (W.failed sink.new) block.new)
-        (flat_map line_text (rows_of circuit.now)) }
+fn put_sections<W: Sink>(output: &mut Output<W>, circuit: &Circuit)
+    ensures { Put output.old output.new (flat_map line_text (rows_of circuit.now)) }
 {
-    put_lines(block, sink, circuit.inputs.as_slice());
-    put_lines(block, sink, circuit.latches.as_slice());
-    put_lines(block, sink, circuit.outputs.as_slice());
-    put_lines(block, sink, circuit.gates.as_slice());
+    put_lines(output, circuit.inputs.as_slice());
+    put_lines(output, circuit.latches.as_slice());
+    put_lines(output, circuit.outputs.as_slice());
+    put_lines(output, circuit.gates.as_slice());
 }
 
 /// The numbers of the header: the largest index, and the counts.
@@ -279,15 +221,12 @@ pub fn header_numbers(circuit: &Circuit) -> [u64; 5]
 }
 
 /// The whole text.
-fn put_text<W: Sink>(block: &mut Block, sink: &mut W, circuit: &Circuit)
-    requires { CanFail (out (W.taken sink.old) (W.longest sink.old) (W.failed sink.old) block.old) }
-    ensures { Put (out (W.taken sink.old) (W.longest sink.old) (W.failed sink.old) block.old)
-        (out (W.taken sink.new) (W.longest sink.new) (W.failed sink.new) block.new)
-        (ascii_text circuit.now) }
+fn put_text<W: Sink>(output: &mut Output<W>, circuit: &Circuit)
+    ensures { Put output.old output.new (ascii_text circuit.now) }
 {
-    put_header(block, sink, ASCII_WORD, &header_numbers(circuit));
-    put_sections(block, sink, circuit);
-    put_tail(block, sink, circuit);
+    put_header(output, ASCII_WORD, &header_numbers(circuit));
+    put_sections(output, circuit);
+    put_tail(output, circuit);
 }
 
 /// Writes the canonical ASCII text of a circuit, in slices of at most 8,192 bytes. It takes no memory and fails
@@ -299,8 +238,9 @@ pub fn write_ascii<W: Sink>(circuit: &Checked, sink: &mut W) -> Result<(), Write
     ensures failed { W.failed sink.new ≡ W.failed sink.old + (if is_ok result then 0 else 1) }
     ensures short { W.longest sink.new ≤ max (W.longest sink.old) ROOM }
 {
-    let mut block = Block::new();
-    put_text(&mut block, sink, circuit.circuit());
-    block.flush(sink)?;
+    let mut output = Output::new(sink);
+    put_text(&mut output, circuit.circuit());
+    let (sent, _sink) = output.finish();
+    sent?;
     Ok(())
 }

@@ -1,5 +1,5 @@
 -- A file that took a whole text and cannot be closed.
-use Rattle.std.proofs.Common.{◌≡◌, ◌+◌, ◌++◌, ◌∙◌, ℕ, List, Option, None, Some, add-zero, ap, inl, length, refl, rules, sym, take}
+use Rattle.std.proofs.Common.{◌≡◌, ◌+◌, ◌∙◌, ℕ, List, Option, None, Some, add-zero, ap, inl, length, refl, sym}
 use Rattle.std.specs.Io.KnownBytes.{Appends, Keeps}
 use Rattle.aig_command.specs.declared.request.ToAig.{ToAig}
 use Rattle.aig_files.specs.Named.{FileSink}

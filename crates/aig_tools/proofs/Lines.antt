@@ -1,38 +1,46 @@
--- A line that was put into an empty block and sent.
+-- A line that was put into an output and sent.
 use Rattle.std.proofs.Common.{◌≡◌, ◌+◌, ◌++◌, ◌⊎◌, ◌∙◌, List, [], ℕ, Bool, true, false, codes, append-nil}
 use Rattle.std.proofs.Common.{Result, Ok, Err, ap, inl, inr, is_err, is_ok, refl, subst, sym}
 use Rattle.std.specs.Io.KnownBytes.{Appends}
-use Rattle.aig_io.specs.Output.{nothing_held, Out, Put}
+use Rattle.aig_io.specs.Output.{Out, Put}
 use Rattle.aig_io.specs.Transfer.{TookBeginning}
 use Rattle.aig_io.proofs.Puts.{beginning_sent, put_twice}
 use Rattle.aig_command.specs.declared.request.ToAig.{ToAig}
 use Rattle.aig_tools.specs.Blame.{Party, TheSource, TheSink, Memory, TheInput}
 use Rattle.aig_tools.specs.Messages.{line_about, line_of, name_at}
 
--- an empty block was sent with a text in it, and the sink did not fail
-pub taken_by : (a b c : Out) (text : List ℕ) → c.held.failed ≡ false → a.held ≡ nothing_held
-    → Put a b text → Put b c [] → c.held.bytes ≡ [] → Appends a.taken c.taken text × (c.failures ≡ a.failures)
-taken_by a b c text end start put sent empty =
-    let went = (put_twice a b c text [] put sent).went end in
-    let all : text ≡ went.2.sent =
-    sym (append-nil text) ∙ sym (ap (λ h. h.bytes ++ (text ++ [])) start) ∙ went.2.order
-    ∙ ap (λ left. went.2.sent ++ left) empty ∙ append-nil went.2.sent in
-    (subst (λ text. Appends a.taken c.taken text) (sym all) went.2.took, went.1)
+module _ {W : Type 0} where
+  -- an output of a text was finished, and the sink did not fail
+  pub taken_by : (o a b c : Out W) (text : List ℕ) → a ≡ o → o.held ≡ [] → Put a b text → Put b c [] → c.held ≡ []
+      → c.failed ≡ false → Appends o.taken c.taken text × (c.failures ≡ o.failures)
+  taken_by o a b c text same start put sent empty end =
+      let went = (put_twice a b c text [] put sent).went end in
+      let all : text ≡ went.2.sent =
+      sym (append-nil text) ∙ sym (ap (λ (x : Out W). x.held ++ (text ++ [])) same ∙ ap (λ (h : List ℕ). h ++ (text ++ [])) start)
+      ∙ went.2.order ∙ ap (λ (left : List ℕ). went.2.sent ++ left) empty ∙ append-nil went.2.sent in (
+        subst (λ (text : List ℕ). Appends o.taken c.taken text) (sym all)
+            (subst (λ (x : Out W). Appends x.taken c.taken went.2.sent) same went.2.took),
+        went.1 ∙ ap (λ (x : Out W). x.failures) same,
+      )
 
--- the same where it failed
-pub begun_by : (a b c : Out) (text : List ℕ) → c.held.failed ≡ true → a.held ≡ nothing_held
-    → Put a b text → Put b c [] → TookBeginning a.taken c.taken text × (c.failures ≡ a.failures + 1)
-begun_by a b c text end start put sent =
-    let begun = (put_twice a b c text [] put sent).begun (ap (λ h. h.failed) start) end in
-    (beginning_sent a b c text start put sent end, begun.0)
+  -- the same where it failed
+  pub begun_by : (o a b c : Out W) (text : List ℕ) → a ≡ o → o.held ≡ [] → o.failed ≡ false → Put a b text → Put b c []
+      → c.failed ≡ true → TookBeginning o.taken c.taken text × (c.failures ≡ o.failures + 1)
+  begun_by o a b c text same empty start put sent end =
+      let begun = (put_twice a b c text [] put sent).begun (ap (λ (x : Out W). x.failed) same ∙ start) end in (
+        beginning_sent o a b c text same empty start put sent end,
+        begun.0 ∙ ap (λ (x : Out W). x.failures + 1) same,
+      )
 
--- an empty block was sent with a line in it
-pub reported_by : (a b c : Out) (line : List ℕ) (failed : Bool) → c.held.failed ≡ failed → a.held ≡ nothing_held
-    → Put a b line → Put b c [] → c.held.bytes ≡ []
-    → (Appends a.taken c.taken line × (c.failures ≡ a.failures))
-    ⊎ (TookBeginning a.taken c.taken line × (c.failures ≡ a.failures + 1))
-reported_by a b c line true end start put sent empty = inr (begun_by a b c line end start put sent)
-reported_by a b c line false end start put sent empty = inl (taken_by a b c line end start put sent empty)
+  -- an output of a line was finished
+  pub reported_by : (o a b c : Out W) (line : List ℕ) (failed : Bool) → c.failed ≡ failed → a ≡ o → o.held ≡ []
+      → o.failed ≡ false → Put a b line → Put b c [] → c.held ≡ []
+      → (Appends o.taken c.taken line × (c.failures ≡ o.failures))
+      ⊎ (TookBeginning o.taken c.taken line × (c.failures ≡ o.failures + 1))
+  reported_by o a b c line true end same start whole put sent empty =
+      inr (begun_by o a b c line same start whole put sent end)
+  reported_by o a b c line false end same start whole put sent empty =
+      inl (taken_by o a b c line same start put sent empty end)
 
 -- where memory was not refused, the line names the file
 pub line_of_a_file : (request : ToAig) (party : Party) (text : List ℕ) → ¬ (party ≡ Memory)

@@ -1,7 +1,7 @@
 //! What is reported on standard error. Whether it could be sent changes nothing: there is no other place to report it.
 //! Formatting and sending take no memory, so that out of memory can be reported too.
 ghost use Rattle.std.specs.Prelude.{◌≡◌, ◌+◌, ◌-◌, ◌^◌, ◌<◌, ◌≤◌, [], codes, max};
-ghost use Rattle.aig_io.specs.Output.{CanFail, out, Put};
+ghost use Rattle.aig_io.specs.Output.{Put};
 ghost use Rattle.aig_io.specs.declared.block.TheConstants.{ROOM};
 ghost use Rattle.aig_command.specs.Answer.{name_of};
 ghost use Rattle.aig_tools.specs.Blame.{at_fault};
@@ -11,7 +11,7 @@ ghost use Rattle.aig_tools.specs.Messages.{IsReported, usage_text, words_line};
 
 use crate::fault::{CANNOT_READ, CANNOT_WRITE, OUT_OF_MEMORY, ToolFault};
 use aig_command::{ToAig, Usage};
-use aig_core::{Block, Sink};
+use aig_core::{Output, Sink};
 
 /// A file by its name, and a stream by `-`.
 fn shown(name: &Option<String>) -> &str
@@ -30,9 +30,9 @@ pub(crate) fn send<E: Sink>(errors: &mut E, text: &[u8])
         text.now }
     ensures short { E.longest errors.new ≤ max (E.longest errors.old) ROOM }
 {
-    let mut block = Block::new();
-    block.put(errors, text);
-    let _sent = block.flush(errors);
+    let mut output = Output::new(errors);
+    output.put(text);
+    let (_sent, _errors) = output.finish();
 }
 
 /// Sends a line about no file: the program's name, and what is wrong.
@@ -42,11 +42,11 @@ fn send_line<E: Sink>(errors: &mut E, text: &[u8])
         (line_of [] text.now) }
     ensures short { E.longest errors.new ≤ max (E.longest errors.old) ROOM }
 {
-    let mut block = Block::new();
-    block.put(errors, b"aiger: ");
-    block.put(errors, text);
-    block.put(errors, b"\n");
-    let _sent = block.flush(errors);
+    let mut output = Output::new(errors);
+    output.put(b"aiger: ");
+    output.put(text);
+    output.put(b"\n");
+    let (_sent, _errors) = output.finish();
 }
 
 /// Reports that memory ran out. No file is at fault, so none is named.
@@ -97,21 +97,18 @@ pub(crate) fn report_usage<E: Sink>(errors: &mut E, usage: &Usage)
 }
 
 /// Puts what is wrong.
-fn put_error<E: Sink>(block: &mut Block, errors: &mut E, fault: &ToolFault)
-    requires { CanFail (out (E.taken errors.old) (E.longest errors.old) (E.failed errors.old) block.old) }
-    ensures { Put (out (E.taken errors.old) (E.longest errors.old) (E.failed errors.old) block.old)
-        (out (E.taken errors.new) (E.longest errors.new) (E.failed errors.new) block.new)
-        (error_text fault.now) }
+fn put_error<E: Sink>(output: &mut Output<E>, fault: &ToolFault)
+    ensures { Put output.old output.new (error_text fault.now) }
 {
     match fault {
         ToolFault::Read(fault) => {
-            fault.place.message().put(block, errors);
-            fault.kind.message().put(block, errors);
+            fault.place.message().put(output);
+            fault.kind.message().put(output);
         }
-        ToolFault::Map(fault) => fault.message().put(block, errors),
-        ToolFault::Source => block.put(errors, CANNOT_READ.as_bytes()),
-        ToolFault::Sink => block.put(errors, CANNOT_WRITE.as_bytes()),
-        ToolFault::OutOfMemory => block.put(errors, OUT_OF_MEMORY.as_bytes()),
+        ToolFault::Map(fault) => fault.message().put(output),
+        ToolFault::Source => output.put(CANNOT_READ.as_bytes()),
+        ToolFault::Sink => output.put(CANNOT_WRITE.as_bytes()),
+        ToolFault::OutOfMemory => output.put(OUT_OF_MEMORY.as_bytes()),
     }
 }
 
@@ -136,11 +133,11 @@ pub(crate) fn report_error<E: Sink>(errors: &mut E, request: &ToAig, fault: &Too
         report_memory(errors);
         return;
     }
-    let mut block = Block::new();
-    block.put(errors, b"aiger: ");
-    block.put(errors, name_at_fault(request, fault).as_bytes());
-    block.put(errors, b": ");
-    put_error(&mut block, errors, fault);
-    block.put(errors, b"\n");
-    let _sent = block.flush(errors);
+    let mut output = Output::new(errors);
+    output.put(b"aiger: ");
+    output.put(name_at_fault(request, fault).as_bytes());
+    output.put(b": ");
+    put_error(&mut output, fault);
+    output.put(b"\n");
+    let (_sent, _errors) = output.finish();
 }

@@ -10,7 +10,7 @@ ghost use Rattle.aig_command.specs.Answer.{IsKeptAlone};
 use crate::message::{report_error, report_memory, report_unwritten, report_usage, report_words};
 use crate::named::convert;
 use aig_command::{Command, ToAig, Usage, command};
-use aig_core::{Block, Sink, Source};
+use aig_core::{Output, Sink, Source};
 use aig_files::{FileAccess, HostFiles};
 use std::alloc::Global;
 use std::rt::Files;
@@ -62,9 +62,10 @@ fn help<W: Sink, E: Sink>(text: &str, output: &mut W, errors: &mut E) -> u8
     ensures short { W.longest output.new ≤ max (W.longest output.old) ROOM }
     ensures reported_short { E.longest errors.new ≤ max (E.longest errors.old) ROOM }
 {
-    let mut block = Block::new();
-    block.put(output, text.as_bytes());
-    if block.flush(output).is_ok() {
+    let mut blocks = Output::new(output);
+    blocks.put(text.as_bytes());
+    let (sent, _output) = blocks.finish();
+    if sent.is_ok() {
         return DONE;
     }
     report_unwritten(errors);

@@ -1,6 +1,6 @@
 //! Calls that are given what they need.
 use crate::forms::{numbers_of, symbols_of};
-use aig_core::{Block, Circuit, Listing, Lit, MemorySink, MemorySource, Names, Var, read_all};
+use aig_core::{Circuit, Listing, Lit, MemorySink, MemorySource, Names, Output, Var, read_all};
 use aig_text::{Limits, read_ascii};
 use std::alloc::Global;
 use std::test::Fail;
@@ -84,9 +84,10 @@ fn devices_in_memory(rt: HostRuntime) -> Result<(), Fail> {
     let rest = read_all(alloc, &mut source)?;
     assert!(rt; rest.as_slice() == b"efghij".as_slice());
     let mut sink = MemorySink::new(alloc, 100, 4, 2)?;
-    let mut block = Block::new();
-    block.put(&mut sink, &rest);
-    assert!(rt; block.flush(&mut sink).is_err());
+    let mut output = Output::new(&mut sink);
+    output.put(&rest);
+    let (sent, _sink) = output.finish();
+    assert!(rt; sent.is_err());
     assert!(rt; sink.taken() == b"efgh".as_slice());
     assert_eq!(rt; sink.longest(), 6);
     Ok(())

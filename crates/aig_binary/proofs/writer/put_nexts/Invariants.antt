@@ -1,11 +1,9 @@
 use Rattle.std.proofs.Common.{[], ◌∷◌, take}
 use Rattle.std.specs.List.{flat_map}
-use Rattle.aig_io.specs.Output.{out, Put}
+use Rattle.aig_io.specs.Output.{Put}
 use Rattle.aig_core.specs.declared.circuit.Latch.{Latch}
 use Rattle.aig_text.specs.AsciiText.{numbers_text}
 use Rattle.aig_binary.proofs.writer.put_nexts.Given as goal
 
 abbrev pub invariant-loop-latch : goal.invariant-loop-latch
-invariant-loop-latch g l =
-    let d = g.W.Sink in
-    Put (out (d.taken l.fn.sink) (d.longest l.fn.sink) (d.failed l.fn.sink) l.fn.block) (out (d.taken l.sink) (d.longest l.sink) (d.failed l.sink) l.block) (flat_map (λ (l : Latch). numbers_text (l.next ∷ [])) (take l.latch-index l.latches))
+invariant-loop-latch g l = Put l.fn.output l.output (flat_map (λ (l : Latch). numbers_text (l.next ∷ [])) (take l.latch-index l.latches))

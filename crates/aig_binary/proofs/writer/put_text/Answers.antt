@@ -3,8 +3,8 @@ use Rattle.aig_binary.specs.BinaryText.{binary_text}
 use Rattle.aig_binary.proofs.Written.{has_deltas}
 use Rattle.aig_binary.proofs.writer.put_text.Goals as goal
 
-pub put_gates-requires-clause-deltas : goal.put_gates-requires-clause-deltas
-put_gates-requires-clause-deltas g c = rw c.as_slice.ensures (has_deltas c.args.circuit.now c.requires.within c.requires.ordered)
+pub put_gates-requires : goal.put_gates-requires
+put_gates-requires g c = rw c.as_slice.ensures (has_deltas c.args.circuit.now c.requires.within c.requires.ordered)
 
 pub returns : goal.returns
 unfolding binary_text

@@ -1,9 +1,11 @@
-use Rattle.std.proofs.Common.{◌∙◌, inr, refl, sym}
+use Rattle.std.proofs.Common.{inr, refl, rules, sym}
 use Rattle.aig_tools.proofs.Lines.{begun_by, is_error}
 use Rattle.aig_tools.proofs.program.help.Goals as goal
 
 pub returns-clause-ends : goal.returns-clause-ends
 returns-clause-ends g c =
-    let failed = c.flush.ensures.told ∙ is_error c.flush.result (sym c.if-is_ok.ensures.value) in
-    let begun = begun_by _ _ _ _ failed c.new-block.ensures (rw c.as_bytes.ensures.value at c.put.ensures.put) c.flush.ensures.put in
-    inr (refl, begun.0, begun.1, c.report_unwritten.ensures.reported)
+    let failed = is_error c.finish-sent.result.0 (sym c.if-is_ok.ensures.value) in
+    let begun =
+    begun_by _ _ _ _ _ c.new-blocks.ensures refl refl (rw c.as_bytes.ensures.value at c.put.ensures.put)
+    c.finish-sent.ensures.put failed in
+    inr (refl, search rules, search rules, c.report_unwritten.ensures.reported)

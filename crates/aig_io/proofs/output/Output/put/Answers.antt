@@ -1,11 +1,8 @@
 use Rattle.std.proofs.Common.{◌≡◌, ◌∙◌, rules, arith, ap, length}
-use Rattle.aig_io.specs.Output.{Held}
-use Rattle.aig_io.proofs.Puts.{can_still, put_next, put_nothing}
+use Rattle.aig_io.specs.Output.{Out}
+use Rattle.aig_io.proofs.Puts.{put_next, put_nothing}
 use Rattle.aig_io.proofs.Filled.{left_more, room_still}
-use Rattle.aig_io.proofs.block.Block.put.Goals as goal
-
-pub put_some-at-requires-clause-countable : goal.put_some-at-requires-clause-countable
-put_some-at-requires-clause-countable g c = can_still _ _ _ c.requires c.loop-at.invariant.put
+use Rattle.aig_io.proofs.output.Output.put.Goals as goal
 
 pub loop-at-init : goal.loop-at-init
 loop-at-init g c = record {
@@ -18,11 +15,11 @@ loop-at-init g c = record {
 
 pub loop-at-preserved : goal.loop-at-preserved
 loop-at-preserved g c =
-    let start = length c.args.self.now.bytes in
-    let held = length c.loop-at.self.bytes in
+    let start = length c.args.self.now.held in
+    let held = length c.loop-at.self.held in
     let before = c.loop-at.invariant in
     let some = c.put_some-at.ensures in
-    let first : c.loop-at.at ≡ 0 → held ≡ start = λ e. ap (λ (h : Held). length h.bytes) (before.first e) in
+    let first : c.loop-at.at ≡ 0 → held ≡ start = λ e. ap (λ (o : Out _). length o.held) (before.first e) in
     record {
       within = search rules;
       put = put_next _ _ _ _ _ _ before.put (rw c.split_at.ensures.back at some.put);
@@ -31,6 +28,6 @@ loop-at-preserved g c =
           ∙ before.kept (omega (arith, fits));
       first = search rules;
       left = λ _.
-          left_more start c.loop-at.at c.put_some-at.result held (length c.put_some-at.new.self.bytes) some.held first
+          left_more start c.loop-at.at c.put_some-at.result held (length c.put_some-at.new.self.held) some.held first
           before.left some.added some.emptied some.moves some.short;
     }

@@ -1,0 +1,160 @@
+//! Output in blocks.
+ghost use Rattle.std.specs.Prelude.{◌≡◌, ◌+◌, ◌-◌, ◌*◌, ◌%◌, ◌^◌, ◌<◌, ◌≤◌, [], ◌++◌, length, take, false, decimal};
+ghost use Rattle.std.specs.Prelude.{is_err};
+ghost use Rattle.aig_io.specs.Output.{output_to, Put, row_text};
+ghost use Rattle.aig_io.specs.declared.block.TheConstants.{ROOM};
+ghost use Rattle.aig_io.specs.declared.digits.TheConstants.{MOST_DIGITS};
+
+use crate::block::{Block, ROOM};
+use crate::device::{DeviceFault, Sink};
+use crate::digits::MOST_DIGITS;
+use crate::transfer::send_all;
+use std::marker::Model;
+
+/// A sink, and the bytes that are on their way to it. An output remembers that its sink failed: what it holds then, and
+/// what is put later, is dropped, and `flush` reports the failure at the end.
+#[derive(Drop)]
+pub struct Output<'a, W: Sink> {
+    block: Block,
+    failed: bool,
+    sink: &'a mut W,
+}
+
+impl<'a, W: Sink> Model for Output<'a, W> {
+    ghost use Rattle.std.specs.Prelude.{◌≡◌, false, ◌<◌, ◌-◌, ◌^◌};
+    ghost use Rattle.aig_io.specs.Output.{Out, output_to};
+
+    ghost Value = { Out W };
+
+    ghost view = { λ o. output_to W.taken W.longest W.failed o.sink o.block o.failed };
+
+    ghost invariant = { λ o. o.failed ≡ false → W.failed o.sink.now < 2 ^ 64 - 1 };
+}
+
+impl<'a, W: Sink> Output<'a, W> {
+    /// Nothing is on its way yet.
+    pub fn new(sink: &'a mut W) -> Self
+        requires { W.failed sink.old < 2 ^ 64 - 1 }
+        ensures { result ≡ output_to W.taken W.longest W.failed sink.entry [] false }
+    {
+        Output {
+            block: Block::new(),
+            failed: false,
+            sink,
+        }
+    }
+
+    /// Sends what is held, unless the sink failed before.
+    #[inline(never)]
+    fn send_held(&mut self)
+        ensures put { Put self.old self.new [] }
+        ensures empty { self.new.held ≡ [] }
+    {
+        if !self.failed {
+            self.failed = send_all(self.sink, self.block.as_slice()).is_err();
+        }
+        self.block.clear();
+    }
+
+    /// Sends what is held. Ok means that the sink took all that was put. After a failure it sends nothing, and reports
+    /// the failure again.
+    pub fn flush(&mut self) -> Result<(), DeviceFault>
+        ensures put { Put self.old self.new [] }
+        ensures empty { self.new.held ≡ [] }
+        ensures told { self.new.failed ≡ is_err result }
+    {
+        self.send_held();
+        if self.failed {
+            return Err(DeviceFault);
+        }
+        Ok(())
+    }
+
+    /// Sends what is held, and hands the sink back. Ok means that the sink took all that was put.
+    pub fn finish(mut self) -> (Result<(), DeviceFault>, &'a mut W)
+        ensures same { result.1.ghost_name ≡ self.entry.name }
+        ensures put { Put self.entry (output_to W.taken W.longest W.failed result.1 [] (is_err result.0)) [] }
+    {
+        let sent = self.flush();
+        let Output {
+            block: _,
+            failed: _,
+            sink,
+        } = self;
+        (sent, sink)
+    }
+
+    /// Sends what is held where fewer bytes than these fit, and nothing where they fit.
+    #[inline(always)]
+    pub fn make_room(&mut self, room: usize)
+        requires { room ≤ ROOM }
+        ensures put { Put self.old self.new [] }
+        ensures short { length self.old.held ≤ ROOM }
+        ensures room { length self.new.held + room ≤ ROOM }
+        ensures kept { length self.old.held + room ≤ ROOM → self.new ≡ self.old }
+        ensures emptied { ROOM < length self.old.held + room → self.new.held ≡ [] }
+    {
+        if !self.block.has_room(room) {
+            self.send_held();
+        }
+    }
+
+    /// Takes the first of some bytes, so many, where there is room for all of them.
+    #[inline(always)]
+    pub fn fill_first(&mut self, bytes: &[u8], count: usize)
+        requires room { length self.old.held + length bytes.now ≤ ROOM }
+        requires within { count ≤ length bytes.now }
+        ensures { self.new ≡ record self.old { held = self.old.held ++ take count bytes.now } }
+    {
+        self.block.fill_first(bytes, count);
+    }
+
+    /// Takes some of the bytes, and answers how many; sends what is held first where the block is full.
+    fn put_some(&mut self, bytes: &[u8]) -> usize
+        requires { 0 < length bytes.now }
+        ensures within { result ≤ length bytes.now }
+        ensures moves { 0 < result }
+        ensures held { length self.old.held ≤ ROOM }
+        ensures kept { length self.old.held < ROOM → self.new.sink ≡ self.old.sink }
+        ensures added { length self.old.held < ROOM → length self.new.held ≡ length self.old.held + result }
+        ensures emptied { ROOM ≤ length self.old.held → length self.new.held ≡ result }
+        ensures short { length self.new.held ≤ ROOM }
+        ensures put { Put self.old self.new (take result bytes.now) }
+    {
+        self.make_room(1);
+        self.block.fill(bytes)
+    }
+
+    /// Adds bytes. What is held is sent each time that the block is full and another byte comes, and no sooner.
+    pub fn put(&mut self, bytes: &[u8])
+        ensures put { Put self.old self.new bytes.now }
+        ensures kept { length self.old.held + length bytes.now ≤ ROOM → self.new.sink ≡ self.old.sink }
+        ensures left { 0 < length bytes.now
+            → length self.new.held ≡ (length self.old.held + length bytes.now - 1) % ROOM + 1 }
+    {
+        let mut at = 0;
+        while at < bytes.len() {
+            at += self.put_some(bytes.split_at(at).1);
+        }
+    }
+
+    /// Adds a number in decimal. What is held is sent first where a number of the most digits would not fit.
+    pub fn put_number(&mut self, number: u64)
+        ensures put { Put self.old self.new (decimal number) }
+        ensures kept { length self.old.held + MOST_DIGITS ≤ ROOM → self.new.sink ≡ self.old.sink }
+        ensures left { ROOM < length self.old.held + MOST_DIGITS → self.new.held ≡ decimal number }
+    {
+        self.make_room(MOST_DIGITS);
+        self.block.fill_number(number);
+    }
+
+    /// Adds a line of few numbers: room is made for all of it, and then it is filled in.
+    #[inline(always)]
+    pub fn put_row(&mut self, first: u64, others: &[u64])
+        requires { (length others.now + 1) * (MOST_DIGITS + 1) ≤ ROOM }
+        ensures { Put self.old self.new (row_text first others.now) }
+    {
+        self.make_room((others.len() + 1) * (MOST_DIGITS + 1));
+        self.block.fill_row(first, others);
+    }
+}
