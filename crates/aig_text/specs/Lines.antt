@@ -10,6 +10,14 @@ pub record Line : Type 0 where
 abbrev pub line : List ℕ → Bool → Line
 line text ended = record { text = text; ended = ended }
 
+-- what a reader has in front of it: lines, and the number of the first of them
+pub record Ahead : Type 0 where
+  pub number : ℕ
+  pub lines : List Line
+
+abbrev pub ahead : ℕ → List Line → Ahead
+ahead number lines = record { number = number; lines = lines }
+
 -- the lines, with one more byte at the front of the first
 abbrev pub begun_by : ℕ → List Line → List Line
 begun_by b [] = line (b ∷ []) false ∷ []

@@ -1,5 +1,5 @@
 -- How what a function of the reader returned is compared with what is read: seen by a view, and unless memory was refused.
-use Rattle.std.specs.Prelude.{◌≡◌, ◌++◌, ◌⊎◌, ℕ, List, map, Option, None, Some, Result, Ok, Err}
+use Rattle.std.specs.Prelude.{◌≡◌, ◌+◌, ◌*◌, ◌≤◌, ◌++◌, ◌⊎◌, ℕ, List, map, slice_index, Option, None, Some, Result, Ok, Err}
 use Rattle.aig_text.specs.declared.fault.ReadFault.{ReadFault}
 use Rattle.aig_text.specs.Reading.{want_of_memory, Told}
 
@@ -18,12 +18,16 @@ abbrev pub GivesOrMemory : {X Y : Type 0} → (X → Y) → Result X ReadFault �
 GivesOrMemory view (Ok x) read = read ≡ Ok (view x)
 GivesOrMemory view (Err e) read = (e ≡ want_of_memory) ⊎ (read ≡ Err e)
 
--- what the next row tells, and where the line after it is
+-- what the next row tells, and what is ahead behind it
 abbrev pub row_told : {A : Type 0} → (List ℕ → A) → Told (List ℕ) → Told A
-row_told tell (Ok x) = Ok (tell x.0, x.1, x.2)
+row_told tell (Ok x) = Ok (tell x.0, x.1)
 row_told tell (Err e) = Err e
 
--- what rows tell behind what was found before, and where the line after them is
+-- what rows tell behind what was found before, and what is ahead behind them
 abbrev pub rows_told : {A : Type 0} → (List ℕ → A) → List A → Told (List (List ℕ)) → Told (List A)
-rows_told tell found (Ok x) = Ok (found ++ map tell x.0, x.1, x.2)
+rows_told tell found (Ok x) = Ok (found ++ map tell x.0, x.1)
 rows_told tell found (Err e) = Err e
+
+-- a number and others are all literals over variables up to this one, also where a number is left out
+abbrev pub AreLiterals : ℕ → ℕ → List ℕ → Type 0
+AreLiterals max_var first others = (first ≤ 2 * max_var + 1) × ((k : ℕ) → slice_index others k ≤ 2 * max_var + 1)

@@ -17,7 +17,7 @@ use Rattle.aig_core.specs.declared.circuit.Kind.TheVariants as named
 use Rattle.aig_core.specs.declared.circuit.Symbol.{Symbol}
 use Rattle.aig_core.specs.declared.names.Names.{Names}
 use Rattle.aig_core.specs.Names.{nothing_named, is_named, with_name}
-use Rattle.aig_text.specs.Lines.{Line, lines_of, bytes_of}
+use Rattle.aig_text.specs.Lines.{Line, Ahead, ahead, lines_of, bytes_of}
 use Rattle.aig_text.specs.Scanning.{numbers_at, more_numbers_at, symbol_at, is_comment_line}
 use Rattle.aig_text.specs.Rows.{ascii_word, Header, Role, Form, roles_of, Section, sections, form_of, count_in, with_rows}
 use Rattle.aig_text.specs.declared.row.Role.TheVariants as roles
@@ -109,36 +109,40 @@ checked_row form max_var (Some ns) = unless_wrong ns (fault_in_row max_var (role
 unfoldable pub row_of : Form → ℕ → Line → Result (List ℕ) ReadKind
 row_of form max_var l = checked_row form max_var (numbers_at l.ended form.least (length form.others) l.text)
 
--- What is told by the lines from line n on, the number of the line after them, and the lines from there on.
+-- what is told by the lines ahead, and what is ahead behind those
 abbrev pub Told : Type 0 → Type 0
-Told A = Result (A × ℕ × List Line) ReadFault
+Told A = Result (A × Ahead) ReadFault
+
+-- what the first of these lines tells, or that none is left
+abbrev pub line_told : {A : Type 0} → ReadKind → (Line → Result A ReadKind) → ℕ → List Line → Told A
+line_told missing tell n [] = Err (fault_at n missing)
+line_told missing tell n (l ∷ ls) = do
+  told ← at_line n (tell l)
+  Ok (told, ahead (n + 1) ls)
 
 -- the row of the next line
-abbrev pub row_at : Form → ℕ → ℕ → List Line → Told (List ℕ)
-row_at form max_var n [] = Err (fault_at n kinds.Truncated)
-row_at form max_var n (l ∷ ls) = do
-  told ← at_line n (row_of form max_var l)
-  Ok (told, n + 1, ls)
+abbrev pub row_at : Form → ℕ → Ahead → Told (List ℕ)
+row_at form max_var at = line_told kinds.Truncated (row_of form max_var) at.number at.lines
 
 -- so many rows
-unfoldable pub rows_at : Form → ℕ → ℕ → ℕ → List Line → Told (List (List ℕ))
-rows_at form max_var zero n ls = Ok ([], n, ls)
-rows_at form max_var (suc count) n ls = do
-  first ← row_at form max_var n ls
-  others ← rows_at form max_var count first.1 first.2
-  Ok (first.0 ∷ others.0, others.1, others.2)
+unfoldable pub rows_at : Form → ℕ → ℕ → Ahead → Told (List (List ℕ))
+rows_at form max_var zero at = Ok ([], at)
+rows_at form max_var (suc count) at = do
+  first ← row_at form max_var at
+  others ← rows_at form max_var count first.1
+  Ok (first.0 ∷ others.0, others.1)
 
 -- the circuit with the rows of a section, of all sections
-abbrev pub section_at : Header → Section → Circuit → ℕ → List Line → Told Circuit
-section_at h s c n ls = do
-  told ← rows_at (form_of s) h.max_var (count_in h s) n ls
-  Ok (with_rows s told.0 c, told.1, told.2)
+abbrev pub section_at : Header → Section → Circuit → Ahead → Told Circuit
+section_at h s c at = do
+  told ← rows_at (form_of s) h.max_var (count_in h s) at
+  Ok (with_rows s told.0 c, told.1)
 
-unfoldable pub sections_at : Header → List Section → Circuit → ℕ → List Line → Told Circuit
-sections_at h [] c n ls = Ok (c, n, ls)
-sections_at h (s ∷ ss) c n ls = do
-  told ← section_at h s c n ls
-  sections_at h ss told.0 told.1 told.2
+unfoldable pub sections_at : Header → List Section → Circuit → Ahead → Told Circuit
+sections_at h [] c at = Ok (c, at)
+sections_at h (s ∷ ss) c at = do
+  told ← section_at h s c at
+  sections_at h ss told.0 told.1
 
 -- a circuit that has nothing in it
 abbrev pub empty_circuit : ℕ → Circuit
@@ -185,18 +189,15 @@ tail_at h before c n (l ∷ ls) =
       tail_at h (with_name before s.kind s.position) (with_symbol c s) (n + 1) ls)
 
 -- the header that the next line tells
-abbrev pub header_at : List ℕ → ℕ → ℕ → List Line → Told Header
-header_at word limit n [] = Err (fault_at n kinds.NotAiger)
-header_at word limit n (l ∷ ls) = do
-  told ← at_line n (header_of word limit l)
-  Ok (told, n + 1, ls)
+abbrev pub header_at : List ℕ → ℕ → Ahead → Told Header
+header_at word limit at = line_told kinds.NotAiger (header_of word limit) at.number at.lines
 
 -- the circuit that the lines of a text tell, judged line by line
 unfoldable pub circuit_at : ℕ → List Line → Result Circuit ReadFault
 circuit_at limit ls = do
-  header ← header_at ascii_word limit 1 ls
-  numbered ← sections_at header.0 sections (empty_circuit header.0.max_var) header.1 header.2
-  tail_at header.0 nothing_named numbered.0 numbered.1 numbered.2
+  header ← header_at ascii_word limit (ahead 1 ls)
+  numbered ← sections_at header.0 sections (empty_circuit header.0.max_var) header.1
+  tail_at header.0 nothing_named numbered.0 numbered.1.number numbered.1.lines
 
 -- a structural fault as the fault of a text
 abbrev pub kind_of : CheckFault → ReadKind

@@ -23,7 +23,7 @@ pub use crate::line::Cursor;
 pub use crate::message::Message;
 pub use crate::parts::{first_word_is, header, literals, numbers, tail};
 pub use crate::reader::read_ascii;
-pub use crate::row::Role;
+pub use crate::row::{Role, RowForm};
 pub use crate::writer::{
     WriteFault, header_numbers, put_header, put_numbers, put_tail, write_ascii,
 };

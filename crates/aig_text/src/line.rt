@@ -1,8 +1,9 @@
 //! Lines of a text.
 ghost use Rattle.std.specs.Prelude.{◌≡◌, ◌+◌, ◌^◌, ◌<◌, [], ◌∷◌, length, MatchOption};
-ghost use Rattle.aig_text.specs.Lines.{line, lines_of};
+ghost use Rattle.aig_text.specs.Lines.{ahead, line, lines_of};
 
 use memchr::memchr;
+use std::marker::Model;
 
 /// A line without its line feed.
 #[derive(Clone, Copy)]
@@ -14,21 +15,32 @@ pub(crate) struct Line<'a> {
 }
 
 /// A place in a text where a line begins.
-#[derive(Clone, Copy)]
+#[derive(Drop)]
 pub struct Cursor<'a> {
     /// What is left of the text.
     pub rest: &'a [u8],
     /// The number of the line that begins here, counted from 1.
     pub number: u64,
+}
+
+impl<'a> Model for Cursor<'a> {
+    ghost use Rattle.aig_text.specs.Lines.{Ahead};
+
+    ghost Value = { Ahead };
+
+    ghost use Rattle.std.specs.Prelude.{◌+◌, ◌^◌, ◌<◌, length};
+    ghost use Rattle.aig_text.specs.Lines.{ahead, lines_of};
+
+    ghost view = { λ at. ahead at.number (lines_of at.rest.now) };
+
     // Each line has a byte, so no number is too large to be counted.
-    ghost countable: { number + length rest.now < 2 ^ 64 },
+    ghost invariant = { λ at. at.number + length at.rest.now < 2 ^ 64 };
 }
 
 impl<'a> Cursor<'a> {
     /// The beginning of a text.
     pub fn new(text: &'a [u8]) -> Self
-        ensures rest { result.rest.now ≡ text.now }
-        ensures number { result.number ≡ 1 }
+        ensures { result ≡ ahead 1 (lines_of text.now) }
     {
         Cursor::at_line(1, text)
     }
@@ -36,8 +48,7 @@ impl<'a> Cursor<'a> {
     /// A place behind which this is left of the text, and where this line begins.
     pub fn at_line(number: u64, rest: &'a [u8]) -> Self
         requires { number + length rest.now < 2 ^ 64 }
-        ensures rest { result.rest.now ≡ rest.now }
-        ensures number { result.number ≡ number }
+        ensures { result ≡ ahead number (lines_of rest.now) }
     {
         Cursor { rest, number }
     }

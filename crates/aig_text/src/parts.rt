@@ -1,17 +1,17 @@
 //! The parts that ASCII and binary files have in common: the header, numbered lines, and the tail.
-ghost use Rattle.std.specs.Prelude.{◌≡◌, ◌+◌, ◌*◌, ◌≤◌, ℕ, ◌∷◌, [], IfOk, OnErr, length, slice_index};
+ghost use Rattle.std.specs.Prelude.{◌≡◌, ◌≤◌, ◌∷◌, [], IfOk, OnErr};
 ghost use Rattle.aig_core.specs.declared.circuit.TheConstants.{LARGEST as largest_index};
 ghost use Rattle.aig_core.specs.Names.{nothing_named};
 ghost use Rattle.aig_text.specs.Lines.{lines_of};
 ghost use Rattle.aig_text.specs.Rows.{output_form, output_of};
-ghost use Rattle.aig_text.specs.Outcomes.{GivesOrFails, GivesOrMemory, rows_told};
+ghost use Rattle.aig_text.specs.Outcomes.{AreLiterals, GivesOrFails, GivesOrMemory, rows_told};
 ghost use Rattle.aig_text.specs.Reading.{first_word_is, header_at, row_at, rows_at, tail_at};
 
 use crate::fault::{Place, ReadFault, ReadKind};
 use crate::header_line::{Header, begins_with_word, read_header};
 use crate::limits::Limits;
 use crate::line::{Cursor, split_line};
-use crate::row::{Role, next_row};
+use crate::row::{RowForm, next_row};
 use crate::section::read_rows;
 use crate::tail_lines::read_tail;
 use aig_core::{Circuit, Listing, Lit};
@@ -30,8 +30,7 @@ pub fn first_word_is(bytes: &[u8], word: &[u8]) -> bool
 
 /// Reads the header line, which has to begin with this word, and moves behind it, unless it is not right.
 pub fn header(word: &[u8], at: &mut Cursor, limits: Limits) -> Result<Header, ReadFault>
-    ensures header { GivesOrFails (λ header. (header, at.new.number, lines_of at.new.rest.now)) result
-        (header_at word.now limits.max_var at.old.number (lines_of at.old.rest.now)) }
+    ensures header { GivesOrFails (λ header. (header, at.new)) result (header_at word.now limits.max_var at.old) }
     ensures limited { IfOk result (λ header. header.max_var ≤ largest_index) }
     ensures err { OnErr result (at.new ≡ at.old) }
 {
@@ -52,26 +51,18 @@ pub fn header(word: &[u8], at: &mut Cursor, limits: Limits) -> Result<Header, Re
     }
 }
 
-/// The numbers of the row that the next line holds: one of the first role, and then `least` or more of the others, with 0
-/// for each that is left out. Goes behind that line, unless it is not right.
+/// The numbers of the row of this form that the next line holds. Goes behind that line, unless it is not right.
 pub fn numbers<const N: usize>(
-    role: Role,
-    others: [Role; N],
-    least: usize,
+    form: RowForm<N>,
     at: &mut Cursor,
     max_var: u32,
 ) -> Result<(u64, [u64; N]), ReadFault>
-    requires max_var { max_var ≤ largest_index }
-    requires least { least ≤ N }
-    requires others { length others ≡ N }
-    ensures row { GivesOrFails (λ x. (x.0 ∷ x.1, at.new.number, lines_of at.new.rest.now)) result
-        (row_at (record { first = role; others = others.entry; least = least }) max_var at.old.number
-        (lines_of at.old.rest.now)) }
-    ensures first { IfOk result (λ x. x.0 ≤ 2 * max_var + 1) }
-    ensures others { IfOk result (λ x. (k : ℕ) → slice_index x.1 k ≤ 2 * max_var + 1) }
+    requires { max_var ≤ largest_index }
+    ensures row { GivesOrFails (λ x. (x.0 ∷ x.1, at.new)) result (row_at form.entry max_var at.old) }
+    ensures literals { IfOk result (λ x. AreLiterals max_var x.0 x.1) }
     ensures err { OnErr result (at.new ≡ at.old) }
 {
-    next_row::<N>(role, others, least, at, max_var)
+    next_row::<N>(form, at, max_var)
 }
 
 /// The literals that so many lines hold, one on each. Goes behind them, unless one is not right.
@@ -82,8 +73,8 @@ pub fn literals(
     max_var: u32,
 ) -> Result<Listing<Lit>, ReadFault>
     requires { max_var ≤ largest_index }
-    ensures literals { GivesOrMemory (λ found. (found, at.new.number, lines_of at.new.rest.now)) result
-        (rows_told output_of [] (rows_at output_form max_var count at.old.number (lines_of at.old.rest.now))) }
+    ensures literals { GivesOrMemory (λ found. (found, at.new)) result
+        (rows_told output_of [] (rows_at output_form max_var count at.old)) }
     ensures err { OnErr result (at.new ≡ at.old) }
 {
     let mut found = Listing::new(alloc);
@@ -101,10 +92,9 @@ pub fn tail(
     at: Cursor,
 ) -> Result<Circuit, ReadFault>
     ensures { GivesOrMemory (λ c. c) result
-        (tail_at header.now nothing_named circuit at.entry.number (lines_of at.entry.rest.now)) }
+        (tail_at header.now nothing_named circuit at.entry.number at.entry.lines) }
 {
     let mut circuit = circuit;
-    let mut at = at;
-    read_tail(alloc, header, &mut circuit, &mut at)?;
+    read_tail(alloc, header, &mut circuit, at)?;
     Ok(circuit)
 }

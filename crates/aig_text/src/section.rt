@@ -1,7 +1,6 @@
 //! Sections: rows of one kind, one to a line.
-ghost use Rattle.std.specs.Prelude.{◌≡◌, ◌+◌, ◌<◌, ◌≤◌, OnErr, length};
+ghost use Rattle.std.specs.Prelude.{◌≡◌, ◌≤◌, OnErr};
 ghost use Rattle.aig_core.specs.declared.circuit.TheConstants.{LARGEST as largest_index};
-ghost use Rattle.aig_text.specs.Lines.{lines_of};
 ghost use Rattle.aig_text.specs.Rows.{sections};
 ghost use Rattle.aig_text.specs.Outcomes.{GivesOrMemory, rows_told};
 ghost use Rattle.aig_text.specs.Reading.{rows_at, section_at, sections_at};
@@ -33,17 +32,6 @@ const SECTIONS: [Section; 4] = [
     Section::Gates,
 ];
 
-/// The place behind a line, where this is left of the text.
-#[inline(always)]
-fn behind<'a>(line: Cursor<'a>, rest: &'a [u8]) -> Cursor<'a>
-    requires { length rest.now < length line.rest.now }
-    ensures rest { result.rest.now ≡ rest.now }
-    ensures number { result.number ≡ line.entry.number + 1 }
-{
-    let number = line.number + 1;
-    Cursor { rest, number }
-}
-
 /// Adds the entries of the next `count` lines, and moves behind them.
 #[inline(never)]
 pub(crate) fn read_rows<T: Row>(
@@ -53,28 +41,31 @@ pub(crate) fn read_rows<T: Row>(
     at: &mut Cursor,
 ) -> Result<(), ReadFault>
     requires { max_var ≤ largest_index }
-    ensures rows { GivesOrMemory (λ _. (found.new, at.new.number, lines_of at.new.rest.now)) result
-        (rows_told T.told_by found.old (rows_at T.form max_var count at.old.number (lines_of at.old.rest.now))) }
+    ensures rows { GivesOrMemory (λ _. (found.new, at.new)) result
+        (rows_told T.told_by found.old (rows_at T.form max_var count at.old)) }
     ensures err { OnErr result (at.new ≡ at.old) }
 {
-    let mut place = *at;
+    // Out of the cursor, so that both can stay in registers; only where a row is read slowly, one is lent.
+    let mut rest = at.rest;
+    let mut number = at.number;
     for _ in 0..count {
-        let row = match T::read_short(place.rest, max_var) {
+        let row = match T::read_short(rest, max_var) {
             Some(found) => {
-                place = behind(place, found.1);
+                rest = found.1;
+                number += 1;
                 found.0
             }
             None => {
-                // a copy is lent, so that the place itself can stay in registers
-                let mut from = place;
+                let mut from = Cursor { rest, number };
                 let row = T::read_row(&mut from, max_var)?;
-                place = from;
+                rest = from.rest;
+                number = from.number;
                 row
             }
         };
         found.push(row)?;
     }
-    *at = place;
+    *at = Cursor { rest, number };
     Ok(())
 }
 
@@ -86,8 +77,7 @@ fn read_section(
     at: &mut Cursor,
 ) -> Result<(), ReadFault>
     requires { header.now.max_var ≤ largest_index }
-    ensures { GivesOrMemory (λ _. (circuit.new, at.new.number, lines_of at.new.rest.now)) result
-        (section_at header.now section circuit.old at.old.number (lines_of at.old.rest.now)) }
+    ensures { GivesOrMemory (λ _. (circuit.new, at.new)) result (section_at header.now section circuit.old at.old) }
 {
     let max_var = header.max_var;
     match section {
@@ -105,8 +95,7 @@ pub(crate) fn read_sections(
     at: &mut Cursor,
 ) -> Result<(), ReadFault>
     requires { header.now.max_var ≤ largest_index }
-    ensures { GivesOrMemory (λ _. (circuit.new, at.new.number, lines_of at.new.rest.now)) result
-        (sections_at header.now sections circuit.old at.old.number (lines_of at.old.rest.now)) }
+    ensures { GivesOrMemory (λ _. (circuit.new, at.new)) result (sections_at header.now sections circuit.old at.old) }
 {
     for section in SECTIONS {
         // For a `?` here the kit's borrow checker makes no proof.

@@ -1,7 +1,7 @@
 //! The tail of a file: symbols and comment.
 ghost use Rattle.std.specs.Prelude.{◌≡◌, IfErr, IfOk, OnOk};
 ghost use Rattle.aig_core.specs.Names.{nothing_named, with_name};
-ghost use Rattle.aig_text.specs.Lines.{line as line_of, lines_of};
+ghost use Rattle.aig_text.specs.Lines.{line as line_of};
 ghost use Rattle.aig_text.specs.Parts.Kept.{kept_symbol};
 ghost use Rattle.aig_text.specs.Outcomes.{Gives, GivesOrMemory};
 ghost use Rattle.aig_text.specs.Scanning.{is_comment_line, kind_at, symbol, symbol_at};
@@ -138,19 +138,21 @@ fn read_tail_lines(
     header: &Header,
     names: &mut Names,
     circuit: &mut Circuit,
-    at: &mut Cursor,
+    at: Cursor,
 ) -> Result<(), ReadFault>
     ensures { GivesOrMemory (λ _. circuit.new) result
-        (tail_at header.now names.old circuit.old at.old.number (lines_of at.old.rest.now)) }
+        (tail_at header.now names.old circuit.old at.entry.number at.entry.lines) }
 {
-    while let Some((line, rest)) = split_line(at.rest) {
+    let mut rest = at.rest;
+    let mut number = at.number;
+    while let Some((line, after)) = split_line(rest) {
         if is_comment_line(line) {
-            return put_comment(alloc, circuit, rest);
+            return put_comment(alloc, circuit, after);
         }
-        let symbol = read_symbol(alloc, header, names, line, at.number)?;
+        let symbol = read_symbol(alloc, header, names, line, number)?;
         put_symbol(circuit, symbol)?;
-        let number = at.number + 1;
-        *at = Cursor { rest, number };
+        rest = after;
+        number += 1;
     }
     Ok(())
 }
@@ -160,10 +162,10 @@ pub(crate) fn read_tail(
     alloc: Global,
     header: &Header,
     circuit: &mut Circuit,
-    at: &mut Cursor,
+    at: Cursor,
 ) -> Result<(), ReadFault>
     ensures { GivesOrMemory (λ _. circuit.new) result
-        (tail_at header.now nothing_named circuit.old at.old.number (lines_of at.old.rest.now)) }
+        (tail_at header.now nothing_named circuit.old at.entry.number at.entry.lines) }
 {
     if at.rest.is_empty() {
         return Ok(());

@@ -5,7 +5,7 @@ use Rattle.std.specs.List.{before_first}
 use Rattle.aig_core.specs.declared.circuit.Circuit.{Circuit}
 use Rattle.aig_text.specs.declared.header_line.Header.{Header}
 use Rattle.aig_text.specs.declared.fault.ReadFault.{ReadFault}
-use Rattle.aig_text.specs.Lines.{Line, lines_of}
+use Rattle.aig_text.specs.Lines.{Line, Ahead, ahead, lines_of}
 use Rattle.aig_text.specs.Rows.{ascii_word}
 use Rattle.aig_text.specs.Reading.{at_line, ends_word, begins_with_word, first_word_is, header_of, header_at, circuit_at, reading}
 use Rattle.aig_text.specs.AsciiGrammar.{IsAsciiText}
@@ -18,24 +18,24 @@ use Rattle.aig_binary.proofs.Grammar.Accepted.{reading_is_accepted as binary_is_
 use Rattle.aig_tools.specs.File.{IsFileOf, file_reading}
 
 -- a header that is read begins with its word
-header_begins : (word : List ℕ) (limit n : ℕ) (ls : List Line) (p : Header × ℕ × List Line) → header_at word limit n ls ≡ Ok p → first_word_is word ls ≡ true
+header_begins : (word : List ℕ) (limit n : ℕ) (ls : List Line) (p : Header × Ahead) → header_at word limit (ahead n ls) ≡ Ok p → first_word_is word ls ≡ true
 unfolding header_of
 header_begins word limit n [] p h = cc
 header_begins word limit n (l ∷ ls) p h =
-    let r = both_ok (at_line n (header_of word limit l)) (λ (told : Header). Ok (told, n + 1, ls)) p h in
+    let r = both_ok (at_line n (header_of word limit l)) (λ (told : Header). Ok (told, ahead (n + 1) ls)) p h in
     (let_through (begins_with_word word l.text) _ _ r.0 (ok_at_line n (header_of word limit l) r.0 r.1)).0
 
 ascii_begins : (text : List ℕ) (limit : ℕ) (c : Circuit) → IsAsciiText text limit c → first_word_is ascii_word (lines_of text) ≡ true
 unfolding circuit_at reading
 ascii_begins text limit c is =
     let whole = both_ok (circuit_at limit (lines_of text)) _ c (accepted_is_read limit text c is) in
-    let head = both_ok (header_at ascii_word limit 1 (lines_of text)) _ whole.0 whole.1 in
+    let head = both_ok (header_at ascii_word limit (ahead 1 (lines_of text))) _ whole.0 whole.1 in
     header_begins ascii_word limit 1 (lines_of text) head.0 head.1
 
 binary_begins : (text : List ℕ) (limit : ℕ) (c : Circuit) → IsBinaryText text limit c → first_word_is binary_word (lines_of text) ≡ true
 unfolding binary_at
 binary_begins text limit c is =
-    let head = both_ok (header_at binary_word limit 1 (lines_of text)) _ c (binary_accepted text limit c is) in
+    let head = both_ok (header_at binary_word limit (ahead 1 (lines_of text))) _ c (binary_accepted text limit c is) in
     header_begins binary_word limit 1 (lines_of text) head.0 head.1
 
 -- one word

@@ -1,16 +1,18 @@
 -- Rows that are read spell the grammar's, and the other way round.
-use Rattle.std.proofs.Common.{◌≡◌, ℕ, zero, suc, ◌+◌, ◌*◌, ◌≤◌, ◌%◌, false, List, [], ◌∷◌, ◌++◌, map, length, Option, None, Some, Ok, refl, ap, subst, sym, arith}
+use Rattle.std.proofs.Common.{◌≡◌, ℕ, zero, suc, ◌+◌, ◌*◌, ◌≤◌, ◌%◌, false, List, [], ◌∷◌, ◌++◌, map, length, Option, None, Some, Result, Ok, refl, ap, subst, sym, arith}
 use Rattle.std.specs.List.{AllByRecursion, AllZip}
 use Rattle.std.proofs.lemmas.Slice.Zip.{AllZip-long}
 use Rattle.std.proofs.lemmas.Bool.{ltb-false, le-ltb, eqb-false, ne_eqb, or_parts, or_from}
 use Rattle.std.proofs.Math.Dec.{ltb, eqb}
 use Rattle.aig_text.specs.declared.fault.ReadFault.{ReadFault}
+use Rattle.aig_text.specs.declared.fault.ReadKind.{ReadKind}
+use Rattle.aig_text.specs.declared.fault.ReadKind.TheVariants as kinds
 use Rattle.aig_text.specs.declared.row.Role.TheVariants as roles
-use Rattle.aig_text.specs.Lines.{Line}
+use Rattle.aig_text.specs.Lines.{Line, Ahead, ahead}
 use Rattle.aig_text.specs.Scanning.{numbers_at}
 use Rattle.aig_text.specs.Rows.{Role, Form, roles_of, row}
 use Rattle.aig_text.specs.AsciiGrammar.{IsRowLine}
-use Rattle.aig_text.specs.Reading.{◌>>=◌, Told, at_line, is_no_variable, misdefines, exceeds, any_number, fault_in_row, unless_wrong, checked_row, row_of, row_at, rows_at}
+use Rattle.aig_text.specs.Reading.{◌>>=◌, Told, at_line, is_no_variable, misdefines, exceeds, any_number, fault_in_row, unless_wrong, checked_row, row_of, line_told, row_at, rows_at}
 use Rattle.aig_text.proofs.Steps.{both_ok, ok_at_line, ok_same}
 use Rattle.aig_text.proofs.Kept.Checks.{right_parts}
 use Rattle.aig_text.proofs.Grammar.NumberLines.{row_reads, row_is_read}
@@ -102,34 +104,43 @@ one_row form m count l ls ns rows rest h a = record {
   counted = ap suc a.counted;
 }
 
-abbrev with_first : List ℕ → List (List ℕ) × ℕ × List Line → Told (List (List ℕ))
-with_first first others = Ok (first ∷ others.0, others.1, others.2)
+abbrev with_first : List ℕ → List (List ℕ) × Ahead → Told (List (List ℕ))
+with_first first others = Ok (first ∷ others.0, others.1)
 
-abbrev then_rows : Form → ℕ → ℕ → List ℕ × ℕ × List Line → Told (List (List ℕ))
-then_rows form m count first = rows_at form m count first.1 first.2 >>= with_first first.0
+abbrev then_rows : Form → ℕ → ℕ → List ℕ × Ahead → Told (List (List ℕ))
+then_rows form m count first = rows_at form m count first.1 >>= with_first first.0
 
-pub rows_told : (form : Form) (m count n : ℕ) (ls : List Line) (p : List (List ℕ) × ℕ × List Line) → IsSound form → rows_at form m count n ls ≡ Ok p → AreRows form m count ls p.0 p.2
+-- what a line tells, and what is ahead behind it
+pub first_told : {A : Type 0} (missing : ReadKind) (tell : Line → Result A ReadKind) (n : ℕ) (l : Line) (ls : List Line) (p : A × Ahead)
+    → line_told missing tell n (l ∷ ls) ≡ Ok p → (x : A) × (tell l ≡ Ok x) × ((x, ahead (n + 1) ls) ≡ p)
+first_told missing tell n l ls p h =
+    let r = both_ok (at_line n (tell l)) (λ x. Ok (x, ahead (n + 1) ls)) p h in
+    (r.0, ok_at_line n (tell l) r.0 r.1, ok_same {E = ReadFault} _ _ r.2)
+
+rows_from : (form : Form) (m count n : ℕ) (ls : List Line) (p : List (List ℕ) × Ahead) → IsSound form → rows_at form m count (ahead n ls) ≡ Ok p → AreRows form m count ls p.0 p.1.lines
 unfolding rows_at
-rows_told form m zero n ls p s h =
-    let e : ([], n, ls) ≡ p = ok_same {E = ReadFault} _ _ h in
-    subst (λ (q : List (List ℕ) × ℕ × List Line). AreRows form m 0 ls q.0 q.2) e (no_rows form m ls)
-rows_told form m (suc count) n [] p s h = cc
-rows_told form m (suc count) n (l ∷ ls) p s h =
-    let f = both_ok (row_at form m n (l ∷ ls)) (then_rows form m count) p h in
-    let r = both_ok (at_line n (row_of form m l)) (λ (ns : List ℕ). Ok (ns, n + 1, ls)) f.0 f.1 in
-    let o = both_ok (rows_at form m count f.0.1 f.0.2) (with_first f.0.0) p f.2 in
-    let first : (r.0, n + 1, ls) ≡ f.0 = ok_same {E = ReadFault} _ _ r.2 in
-    let whole : (f.0.0 ∷ o.0.0, o.0.1, o.0.2) ≡ p = ok_same {E = ReadFault} _ _ o.2 in
-    let others : AreRows form m count f.0.2 o.0.0 o.0.2 = rows_told form m count f.0.1 f.0.2 o.0 s o.1 in
+rows_from form m zero n ls p s h =
+    let e : ([], ahead n ls) ≡ p = ok_same {E = ReadFault} _ _ h in
+    subst (λ (q : List (List ℕ) × Ahead). AreRows form m 0 ls q.0 q.1.lines) e (no_rows form m ls)
+rows_from form m (suc count) n [] p s h = cc
+rows_from form m (suc count) n (l ∷ ls) p s h =
+    let f = both_ok (row_at form m (ahead n (l ∷ ls))) (then_rows form m count) p h in
+    let r = first_told kinds.Truncated (row_of form m) n l ls f.0 f.1 in
+    let o = both_ok (rows_at form m count f.0.1) (with_first f.0.0) p f.2 in
+    let whole : (f.0.0 ∷ o.0.0, o.0.1) ≡ p = ok_same {E = ReadFault} _ _ o.2 in
+    let others : AreRows form m count f.0.1.lines o.0.0 o.0.1.lines = rows_from form m count f.0.1.number f.0.1.lines o.0 s o.1 in
     let here : IsRowLine l (row form f.0.0) × IsGoodRow form m f.0.0 =
-    subst (λ (q : List ℕ × ℕ × List Line). IsRowLine l (row form q.0) × IsGoodRow form m q.0) first (row_tells form m l r.0 s (ok_at_line n (row_of form m l) r.0 r.1)) in
-    let after : ls ≡ f.0.2 = ap (λ (q : List ℕ × ℕ × List Line). q.2) first in
-    subst (λ (q : List (List ℕ) × ℕ × List Line). AreRows form m (suc count) (l ∷ ls) q.0 q.2) whole
-    (one_row form m count l ls f.0.0 o.0.0 o.0.2 here (subst (λ (ks : List Line). AreRows form m count ks o.0.0 o.0.2) (sym after) others))
+    subst (λ (q : List ℕ × Ahead). IsRowLine l (row form q.0) × IsGoodRow form m q.0) r.2 (row_tells form m l r.0 s r.1) in
+    let after : ls ≡ f.0.1.lines = ap (λ (q : List ℕ × Ahead). q.1.lines) r.2 in
+    subst (λ (q : List (List ℕ) × Ahead). AreRows form m (suc count) (l ∷ ls) q.0 q.1.lines) whole
+    (one_row form m count l ls f.0.0 o.0.0 o.0.1.lines here (subst (λ (ks : List Line). AreRows form m count ks o.0.0 o.0.1.lines) (sym after) others))
+
+pub rows_told : (form : Form) (m count : ℕ) (at : Ahead) (p : List (List ℕ) × Ahead) → IsSound form → rows_at form m count at ≡ Ok p → AreRows form m count at.lines p.0 p.1.lines
+rows_told form m count at p s h = rows_from form m count at.number at.lines p s h
 
 -- and lines that hold good rows are read as them
 abbrev pub ReadsRows : Form → ℕ → ℕ → ℕ → List Line → List (List ℕ) → List Line → Type 0
-ReadsRows form m count n ls rows rest = (k : ℕ) × (rows_at form m count n ls ≡ Ok (rows, k, rest))
+ReadsRows form m count n ls rows rest = (k : ℕ) × (rows_at form m count (ahead n ls) ≡ Ok (rows, ahead k rest))
 
 pub rows_are_told : (form : Form) (m n : ℕ) (front rest : List Line) (rows : List (List ℕ)) → AllZip IsRowLine front (map (row form) rows) → AllByRecursion (IsGoodRow form m) rows → ReadsRows form m (length rows) n (front ++ rest) rows rest
 unfolding rows_at

@@ -10,7 +10,7 @@ use Rattle.aig_core.specs.Wellformed.{IsWithinLimits, IsVariableUpTo, operands}
 use Rattle.aig_core.specs.Form.{IsInForm}
 use Rattle.aig_text.specs.declared.fault.ReadFault.{ReadFault}
 use Rattle.aig_text.specs.declared.section.Section.TheVariants.{Inputs, Latches, Outputs, Gates}
-use Rattle.aig_text.specs.Lines.{Line}
+use Rattle.aig_text.specs.Lines.{Line, Ahead, ahead}
 use Rattle.aig_text.specs.Rows.{Header, Section, sections, form_of, count_in, rows_in, with_rows, Row, row, rows_of, header_row, input_row, latch_row, output_row, gate_row, input_of, latch_of, output_of, gate_of, input_form, latch_form, output_form, gate_form}
 use Rattle.aig_text.specs.AsciiGrammar.{IsRowLine}
 use Rattle.aig_text.specs.Reading.{Told, rows_at, section_at, sections_at, header_of_row, empty_circuit}
@@ -67,25 +67,25 @@ one_section h s ss c d rows ls between rest a o = record {
 }
 
 module _ (h : Header) where
-  abbrev after_rows : Section → Circuit → List (List ℕ) × ℕ × List Line → Told Circuit
-  after_rows s c told = Ok (with_rows s told.0 c, told.1, told.2)
+  abbrev after_rows : Section → Circuit → List (List ℕ) × Ahead → Told Circuit
+  after_rows s c told = Ok (with_rows s told.0 c, told.1)
 
-  abbrev then_sections : List Section → Circuit × ℕ × List Line → Told Circuit
-  then_sections ss told = sections_at h ss told.0 told.1 told.2
+  abbrev then_sections : List Section → Circuit × Ahead → Told Circuit
+  then_sections ss told = sections_at h ss told.0 told.1
 
-  pub sections_told : (ss : List Section) (c : Circuit) (n : ℕ) (ls : List Line) (p : Circuit × ℕ × List Line) → sections_at h ss c n ls ≡ Ok p → AreSections h ss c p.0 ls p.2
+  pub sections_told : (ss : List Section) (c : Circuit) (at : Ahead) (p : Circuit × Ahead) → sections_at h ss c at ≡ Ok p → AreSections h ss c p.0 at.lines p.1.lines
   unfolding sections_at
-  sections_told [] c n ls p is =
-      let e : (c, n, ls) ≡ p = ok_same {E = ReadFault} _ _ is in
-      subst (λ (q : Circuit × ℕ × List Line). AreSections h [] c q.0 ls q.2) e (record { told = []; front = []; lines = refl; spelled = tt; fit = tt; circuit = refl })
-  sections_told (s ∷ ss) c n ls p is =
-      let f = both_ok (section_at h s c n ls) (then_sections ss) p is in
-      let r = both_ok (rows_at (form_of s) h.max_var (count_in h s) n ls) (after_rows s c) f.0 f.1 in
-      let e : (with_rows s r.0.0 c, r.0.1, r.0.2) ≡ f.0 = ok_same {E = ReadFault} _ _ r.2 in
-      let rows : AreRows (form_of s) h.max_var (count_in h s) ls r.0.0 r.0.2 = rows_told (form_of s) h.max_var (count_in h s) n ls r.0 (sound s) r.1 in
-      let others : AreSections h ss f.0.0 p.0 f.0.2 p.2 = sections_told ss f.0.0 f.0.1 f.0.2 p f.2 in
-      one_section h s ss c p.0 r.0.0 ls r.0.2 p.2 rows
-      (subst (λ (q : Circuit × ℕ × List Line). AreSections h ss q.0 p.0 q.2 p.2) (sym e) others)
+  sections_told [] c at p is =
+      let e : (c, at) ≡ p = ok_same {E = ReadFault} _ _ is in
+      subst (λ (q : Circuit × Ahead). AreSections h [] c q.0 at.lines q.1.lines) e (record { told = []; front = []; lines = refl; spelled = tt; fit = tt; circuit = refl })
+  sections_told (s ∷ ss) c at p is =
+      let f = both_ok (section_at h s c at) (then_sections ss) p is in
+      let r = both_ok (rows_at (form_of s) h.max_var (count_in h s) at) (after_rows s c) f.0 f.1 in
+      let e : (with_rows s r.0.0 c, r.0.1) ≡ f.0 = ok_same {E = ReadFault} _ _ r.2 in
+      let rows : AreRows (form_of s) h.max_var (count_in h s) at.lines r.0.0 r.0.1.lines = rows_told (form_of s) h.max_var (count_in h s) at r.0 (sound s) r.1 in
+      let others : AreSections h ss f.0.0 p.0 f.0.1.lines p.1.lines = sections_told ss f.0.0 f.0.1 p f.2 in
+      one_section h s ss c p.0 r.0.0 at.lines r.0.1.lines p.1.lines rows
+      (subst (λ (q : Circuit × Ahead). AreSections h ss q.0 p.0 q.1.lines p.1.lines) (sym e) others)
 
 -- the circuit of four lists of rows
 abbrev pub circuit_of : ℕ → List (List ℕ) → List (List ℕ) → List (List ℕ) → List (List ℕ) → Circuit
@@ -134,10 +134,10 @@ four h c ls rest front (i ∷ l ∷ o ∷ g ∷ []) lines spelled fit is = recor
 }
 four h c ls rest front (i ∷ l ∷ o ∷ g ∷ x ∷ told) lines spelled fit is = absurd fit.1.1.1.1
 
-pub four_told : (h : Header) (n : ℕ) (ls : List Line) (p : Circuit × ℕ × List Line) → sections_at h sections (empty_circuit h.max_var) n ls ≡ Ok p → FourSections h p.0 ls p.2
-four_told h n ls p is =
-    let a = sections_told h sections (empty_circuit h.max_var) n ls p is in
-    four h p.0 ls p.2 a.front a.told a.lines a.spelled a.fit a.circuit
+pub four_told : (h : Header) (at : Ahead) (p : Circuit × Ahead) → sections_at h sections (empty_circuit h.max_var) at ≡ Ok p → FourSections h p.0 at.lines p.1.lines
+four_told h at p is =
+    let a = sections_told h sections (empty_circuit h.max_var) at p is in
+    four h p.0 at.lines p.1.lines a.front a.told a.lines a.spelled a.fit a.circuit
 
 -- the rows of the circuit are those that were read
 pub rows_read : (h : Header) (c : Circuit) (ls rest : List Line) (f : FourSections h c ls rest) → rows_under sections (f.inputs ∷ f.latches ∷ f.outputs ∷ f.gates ∷ []) ≡ rows_of c
@@ -267,11 +267,11 @@ module _ (c : Circuit) (form : IsInForm c) where
   rows_under_own ss = flat_map (λ s. map (row (form_of s)) (rows_in c s)) ss
 
   abbrev ReadsSections : List Section → Circuit → ℕ → List Line → List Line → Type 0
-  ReadsSections ss d n ls rest = (k : ℕ) × (sections_at own_header ss d n ls ≡ Ok (with_all ss (map (rows_in c) ss) d, k, rest))
+  ReadsSections ss d n ls rest = (k : ℕ) × (sections_at own_header ss d (ahead n ls) ≡ Ok (with_all ss (map (rows_in c) ss) d, ahead k rest))
 
-  one_is_read : (s : Section) (ss : List Section) (d : Circuit) (n k j : ℕ) (ls between rest : List Line) → rows_at (form_of s) c.max_var (count_in own_header s) n ls ≡ Ok (rows_in c s, k, between)
-      → sections_at own_header ss (with_rows s (rows_in c s) d) k between ≡ Ok (with_all ss (map (rows_in c) ss) (with_rows s (rows_in c s) d), j, rest)
-      → sections_at own_header (s ∷ ss) d n ls ≡ Ok (with_all (s ∷ ss) (map (rows_in c) (s ∷ ss)) d, j, rest)
+  one_is_read : (s : Section) (ss : List Section) (d : Circuit) (n k j : ℕ) (ls between rest : List Line) → rows_at (form_of s) c.max_var (count_in own_header s) (ahead n ls) ≡ Ok (rows_in c s, ahead k between)
+      → sections_at own_header ss (with_rows s (rows_in c s) d) (ahead k between) ≡ Ok (with_all ss (map (rows_in c) ss) (with_rows s (rows_in c s) d), ahead j rest)
+      → sections_at own_header (s ∷ ss) d (ahead n ls) ≡ Ok (with_all (s ∷ ss) (map (rows_in c) (s ∷ ss)) d, ahead j rest)
   unfolding sections_at
   one_is_read s ss d n k j ls between rest r o = rw (r, o) refl
 
@@ -284,8 +284,8 @@ module _ (c : Circuit) (form : IsInForm c) where
       let r = rows_are_told (form_of s) c.max_var n z.first (z.second ++ rest) (rows_in c s) z.first_zips (rows_good c form s) in
       let o = sections_are_told ss (with_rows s (rows_in c s) d) r.0 z.second rest z.second_zips in
       let lines : front ++ rest ≡ z.first ++ (z.second ++ rest) = ap (λ (ks : List Line). ks ++ rest) z.are ∙ append_assoc z.first z.second rest in
-      let here : rows_at (form_of s) c.max_var (count_in own_header s) n (front ++ rest) ≡ Ok (rows_in c s, r.0, z.second ++ rest) =
-      rw lines (subst (λ count. rows_at (form_of s) c.max_var count n (z.first ++ (z.second ++ rest)) ≡ Ok (rows_in c s, r.0, z.second ++ rest)) (counted c s) r.1) in
+      let here : rows_at (form_of s) c.max_var (count_in own_header s) (ahead n (front ++ rest)) ≡ Ok (rows_in c s, ahead r.0 (z.second ++ rest)) =
+      rw lines (subst (λ count. rows_at (form_of s) c.max_var count (ahead n (z.first ++ (z.second ++ rest))) ≡ Ok (rows_in c s, ahead r.0 (z.second ++ rest))) (counted c s) r.1) in
       (o.0, one_is_read s ss d n r.0 o.0 (front ++ rest) (z.second ++ rest) rest here o.1)
 
   -- the rows of the circuit tell the circuit, but for its tail
@@ -299,7 +299,7 @@ module _ (c : Circuit) (form : IsInForm c) where
       ≡ whole c.max_var c.inputs c.latches c.outputs c.gates [] None = cc in
       t
 
-  pub sections_are_read : (n : ℕ) (front rest : List Line) → AllZip IsRowLine front (rows_of c) → (k : ℕ) × (sections_at own_header sections (empty_circuit c.max_var) n (front ++ rest) ≡ Ok (bare c, k, rest))
+  pub sections_are_read : (n : ℕ) (front rest : List Line) → AllZip IsRowLine front (rows_of c) → (k : ℕ) × (sections_at own_header sections (empty_circuit c.max_var) (ahead n (front ++ rest)) ≡ Ok (bare c, ahead k rest))
   sections_are_read n front rest h =
       let t = sections_are_told sections (empty_circuit c.max_var) n front rest h in
-      (t.0, t.1 ∙ ap (λ (d : Circuit). Ok (d, t.0, rest)) rows_tell)
+      (t.0, t.1 ∙ ap (λ (d : Circuit). Ok (d, ahead t.0 rest)) rows_tell)

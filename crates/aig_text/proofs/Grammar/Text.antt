@@ -11,12 +11,14 @@ use Rattle.aig_core.specs.Names.{nothing_named}
 use Rattle.aig_core.specs.Wellformed.{IsWellFormed, IsWithinLimits, IsVariableUpTo, HasGoodSymbols, defined_variables, used_literals}
 use Rattle.aig_core.specs.Form.{IsInForm}
 use Rattle.aig_text.specs.declared.fault.ReadFault.{ReadFault}
-use Rattle.aig_text.specs.Lines.{Line, lines_of}
+use Rattle.aig_text.specs.declared.fault.ReadKind.TheVariants as kinds
+use Rattle.aig_text.specs.Lines.{Line, Ahead, ahead, lines_of}
 use Rattle.aig_text.specs.Rows.{ascii_word, Header, header_row, rows_of, sections}
 use Rattle.aig_text.specs.Laws.{IsOneLine}
 use Rattle.aig_text.specs.AsciiGrammar.{IsRowLine, IsAsciiText}
-use Rattle.aig_text.specs.Reading.{◌>>=◌, at_line, header_of, tail_at, header_at, sections_at, empty_circuit, circuit_at, unless_faulty, reading}
-use Rattle.aig_text.proofs.Steps.{both_ok, ok_at_line, ok_same}
+use Rattle.aig_text.specs.Reading.{◌>>=◌, header_of, tail_at, header_at, sections_at, empty_circuit, circuit_at, unless_faulty, reading}
+use Rattle.aig_text.proofs.Steps.{both_ok, ok_same}
+use Rattle.aig_text.proofs.Grammar.Rows.{first_told}
 use Rattle.aig_text.proofs.Grammar.Sections.{FourSections, four_told, rows_read, counts_read, in_form, sections_are_read, bare}
 use Rattle.aig_text.proofs.Grammar.Headers.{TellsHeader, HasCounts, own_header, header_tells, header_is_told, heads, limited, definitions_counted, within_limits}
 use Rattle.aig_text.proofs.Grammar.WholeTail.{right_of, tail_holds, good_symbols, own_tail}
@@ -35,11 +37,11 @@ record TellCircuit (limit : ℕ) (ls : List Line) (c : Circuit) : Type 0 where
   pub sections : FourSections header numbered others rest
   pub tail : TellsTail header nothing_named numbered c rest
 
-abbrev then_tail : Header → Circuit × ℕ × List Line → Result Circuit ReadFault
-then_tail h numbered = tail_at h nothing_named numbered.0 numbered.1 numbered.2
+abbrev then_tail : Header → Circuit × Ahead → Result Circuit ReadFault
+then_tail h numbered = tail_at h nothing_named numbered.0 numbered.1.number numbered.1.lines
 
-abbrev then_sections : Header × ℕ × List Line → Result Circuit ReadFault
-then_sections header = sections_at header.0 sections (empty_circuit header.0.max_var) header.1 header.2 >>= then_tail header.0
+abbrev then_sections : Header × Ahead → Result Circuit ReadFault
+then_sections header = sections_at header.0 sections (empty_circuit header.0.max_var) header.1 >>= then_tail header.0
 
 no_comment : (h : Header) (c : Circuit) (ls rest : List Line) → FourSections h c ls rest → c.comment ≡ None
 no_comment h c ls rest f = subst (λ (d : Circuit). d.comment ≡ None) f.circuit refl
@@ -48,23 +50,22 @@ circuit_told : (limit : ℕ) (ls : List Line) (c : Circuit) → circuit_at limit
 unfolding circuit_at
 circuit_told limit [] c is = cc
 circuit_told limit (l ∷ ls) c is =
-    let a = both_ok (header_at ascii_word limit 1 (l ∷ ls)) then_sections c is in
-    let f = both_ok (at_line 1 (header_of ascii_word limit l)) (λ (h : Header). Ok (h, 2, ls)) a.0 a.1 in
-    let g : header_of ascii_word limit l ≡ Ok f.0 = ok_at_line 1 (header_of ascii_word limit l) f.0 f.1 in
-    let e : (f.0, 2, ls) ≡ a.0 = ok_same {E = ReadFault} _ _ f.2 in
-    let b = both_ok (sections_at a.0.0 sections (empty_circuit a.0.0.max_var) a.0.1 a.0.2) (then_tail a.0.0) c a.2 in
-    let s : FourSections a.0.0 b.0.0 a.0.2 b.0.2 = four_told a.0.0 a.0.1 a.0.2 b.0 b.1 in
-    let t : TellsTail a.0.0 nothing_named b.0.0 c b.0.2 = tail_tells a.0.0 nothing_named b.0.0 b.0.1 b.0.2 c (no_comment a.0.0 b.0.0 a.0.2 b.0.2 s) b.2 in
+    let a = both_ok (header_at ascii_word limit (ahead 1 (l ∷ ls))) then_sections c is in
+    let f = first_told kinds.NotAiger (header_of ascii_word limit) 1 l ls a.0 a.1 in
+    let b = both_ok (sections_at a.0.0 sections (empty_circuit a.0.0.max_var) a.0.1) (then_tail a.0.0) c a.2 in
+    let s : FourSections a.0.0 b.0.0 a.0.1.lines b.0.1.lines = four_told a.0.0 a.0.1 b.0 b.1 in
+    let t : TellsTail a.0.0 nothing_named b.0.0 c b.0.1.lines =
+    tail_tells a.0.0 nothing_named b.0.0 b.0.1.number b.0.1.lines c (no_comment a.0.0 b.0.0 a.0.1.lines b.0.1.lines s) b.2 in
     record {
       first = l;
       others = ls;
       are = refl;
       header = f.0;
-      heads = header_tells ascii_word limit l f.0 g;
+      heads = header_tells ascii_word limit l f.0 f.1;
       numbered = b.0.0;
-      rest = b.0.2;
-      sections = subst (λ (q : Header × ℕ × List Line). FourSections q.0 b.0.0 q.2 b.0.2) (sym e) s;
-      tail = subst (λ (q : Header × ℕ × List Line). TellsTail q.0 nothing_named b.0.0 c b.0.2) (sym e) t;
+      rest = b.0.1.lines;
+      sections = subst (λ (q : Header × Ahead). FourSections q.0 b.0.0 q.1.lines b.0.1.lines) (sym f.2) s;
+      tail = subst (λ (q : Header × Ahead). TellsTail q.0 nothing_named b.0.0 c b.0.1.lines) (sym f.2) t;
     }
 
 -- what the tail adds changes no row and no count
@@ -137,7 +138,7 @@ reading_is_accepted limit text c h =
 
 -- the lines of a circuit's file are read as the circuit
 steps : (limit k : ℕ) (l : Line) (others rest : List Line) (c : Circuit) → header_of ascii_word limit l ≡ Ok (own_header c)
-    → sections_at (own_header c) sections (empty_circuit c.max_var) 2 others ≡ Ok (bare c, k, rest) → tail_at (own_header c) nothing_named (bare c) k rest ≡ Ok c → circuit_at limit (l ∷ others) ≡ Ok c
+    → sections_at (own_header c) sections (empty_circuit c.max_var) (ahead 2 others) ≡ Ok (bare c, ahead k rest) → tail_at (own_header c) nothing_named (bare c) k rest ≡ Ok c → circuit_at limit (l ∷ others) ≡ Ok c
 unfolding circuit_at
 steps limit k l others rest c h s t = rw (h, s) t
 

@@ -12,6 +12,7 @@ use Rattle.aig_text.specs.Lines.{Line, line}
 use Rattle.aig_text.specs.Scanning.{more_numbers_at, numbers_at}
 use Rattle.aig_text.specs.Rows.{Role, Form, roles_of}
 use Rattle.aig_text.specs.Reading.{header_within, header_of, ends_word, is_no_variable, misdefines, exceeds, any_number, fault_in_row, unless_wrong, checked_row, row_of}
+use Rattle.aig_text.specs.Outcomes.{AreLiterals}
 use Rattle.aig_text.specs.Parts.Kept.{kept, kept_numbers}
 use Rattle.aig_text.proofs.Grammar.NumberLines.{row_reads}
 use Rattle.aig_text.proofs.Kept.Numbers.{kept_small, kept_large}
@@ -156,8 +157,15 @@ pub right_parts : (m : ℕ) (rs : List Role) (ns : List ℕ) → fault_in_row m 
 right_parts m rs ns h = by_tests (any_number misdefines rs ns) (any_number (exceeds m) rs ns) h
 
 -- no number of a row that passes is above the largest literal
-pub all_below : (m : ℕ) (rs : List Role) (ns : List ℕ) → length ns ≡ length rs → any_number (exceeds m) rs ns ≡ false → (k : ℕ) → get_or ns k 0 ≤ 2 * m + 1
+all_below : (m : ℕ) (rs : List Role) (ns : List ℕ) → length ns ≡ length rs → any_number (exceeds m) rs ns ≡ false → (k : ℕ) → get_or ns k 0 ≤ 2 * m + 1
 all_below m rs [] long h k = omega arith
 all_below m [] (n ∷ ns) long h k = absurd (omega arith)
 all_below m (r ∷ rs) (n ∷ ns) long h zero = not_above m r n (or_false (exceeds m r n) (any_number (exceeds m) rs ns) h).0
 all_below m (r ∷ rs) (n ∷ ns) long h (suc k) = all_below m rs ns (omega arith) (or_false (exceeds m r n) (any_number (exceeds m) rs ns) h).1 k
+
+-- the numbers of a row that passes are literals
+pub literals_are : (m : ℕ) (r : Role) (rs : List Role) (n : ℕ) (ns : List ℕ) → length ns ≡ length rs → fault_in_row m (r ∷ rs) (n ∷ ns) ≡ None
+    → AreLiterals m n ns
+literals_are m r rs n ns long right =
+    let within : (k : ℕ) → get_or (n ∷ ns) k 0 ≤ 2 * m + 1 = all_below m (r ∷ rs) (n ∷ ns) (ap suc long) (right_parts m (r ∷ rs) (n ∷ ns) right).1 in
+    (within 0, λ k. within (suc k))

@@ -10,7 +10,7 @@ use Rattle.std.proofs.lemmas.Bool.{ne_eqb}
 use Rattle.std.proofs.lemmas.List.{length-append, length-take-le, take_all, take_more_set, take-take}
 use Rattle.std.proofs.Math.ListN.{set}
 use Rattle.std.proofs.Common.{inl, None}
-use Rattle.aig_text.specs.Lines.{line, lines_of}
+use Rattle.aig_text.specs.Lines.{ahead, line, lines_of}
 use Rattle.aig_text.specs.Rows.{Form, roles_of, row}
 use Rattle.aig_text.specs.AsciiGrammar.{IsRowLine}
 use Rattle.aig_text.specs.Reading.{fault_in_row, row_at}
@@ -180,7 +180,7 @@ module _ (bytes rest after more : List ℕ) (first : ℕ) (b : BeginsWithNumber 
   }
 
   pub plain_row_is : (form : Form) (max_var number : ℕ) → form.least ≤ length form.others → length more ≡ length form.others → fault_in_row max_var (roles_of form) (first ∷ more) ≡ None
-      → row_at form max_var number (lines_of bytes) ≡ Ok (first ∷ more, number + 1, lines_of after)
+      → row_at form max_var (ahead number (lines_of bytes)) ≡ Ok (first ∷ more, ahead (number + 1) (lines_of after))
   plain_row_is form max_var number small long right =
       let p = right_parts max_var (roles_of form) (first ∷ more) right in
       let good : IsGoodRow form max_var (first ∷ more) = all_may_stand max_var (roles_of form) (first ∷ more) (ap suc long) p.0 p.1 in

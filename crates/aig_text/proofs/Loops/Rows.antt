@@ -3,57 +3,57 @@ use Rattle.std.proofs.Common.{◌≡◌, ◌+◌, ◌-◌, ◌<◌, ◌≤◌, �
 use Rattle.std.proofs.Math.Seq.{drop-cons, drop-nil}
 use Rattle.aig_core.specs.declared.circuit.Circuit.{Circuit}
 use Rattle.aig_text.specs.declared.fault.ReadFault.{ReadFault}
-use Rattle.aig_text.specs.Lines.{Line}
+use Rattle.aig_text.specs.Lines.{Ahead}
 use Rattle.aig_text.specs.Rows.{Header, Form, Section, sections}
 use Rattle.aig_text.specs.Outcomes.{row_told, rows_told}
 use Rattle.aig_text.specs.Reading.{◌>>=◌, Told, row_at, rows_at, section_at, sections_at, want_of_memory}
 
 -- what comes behind a row that is right
-abbrev with_first : {X : Type 0} → X → List X × ℕ × List Line → Told (List X)
-with_first x others = Ok (x ∷ others.0, others.1, others.2)
+abbrev with_first : {X : Type 0} → X → List X × Ahead → Told (List X)
+with_first x others = Ok (x ∷ others.0, others.1)
 
-told_first : {A : Type 0} (tell : List ℕ → A) (found : List A) (ns : List ℕ) (r : Told (List (List ℕ))) → rows_told tell (found ++ tell ns ∷ []) r ≡ rows_told tell found (◌>>=◌ {B = List (List ℕ) × ℕ × List Line} r (with_first ns))
-told_first tell found ns (Ok x) = ap (λ (xs : List _). Ok (xs, x.1, x.2)) (append_assoc found (tell ns ∷ []) (map tell x.0))
+told_first : {A : Type 0} (tell : List ℕ → A) (found : List A) (ns : List ℕ) (r : Told (List (List ℕ))) → rows_told tell (found ++ tell ns ∷ []) r ≡ rows_told tell found (◌>>=◌ {B = List (List ℕ) × Ahead} r (with_first ns))
+told_first tell found ns (Ok x) = ap (λ (xs : List _). Ok (xs, x.1)) (append_assoc found (tell ns ∷ []) (map tell x.0))
 told_first tell found ns (Err e) = refl
 
 module _ {A : Type 0} (tell : List ℕ → A) (form : Form) (m : ℕ) where
-  abbrev then_rows : ℕ → List ℕ × ℕ × List Line → Told (List (List ℕ))
-  then_rows count first = ◌>>=◌ {B = List (List ℕ) × ℕ × List Line} (rows_at form m count first.1 first.2) (with_first first.0)
+  abbrev then_rows : ℕ → List ℕ × Ahead → Told (List (List ℕ))
+  then_rows count first = ◌>>=◌ {B = List (List ℕ) × Ahead} (rows_at form m count first.1) (with_first first.0)
 
-  right_row : (count n : ℕ) (after : List Line) (found : List A) (x : A) (r : Told (List ℕ)) → row_told tell r ≡ Ok (x, n, after)
-      → rows_told tell (found ++ x ∷ []) (rows_at form m count n after) ≡ rows_told tell found (r >>= then_rows count)
-  right_row count n after found x (Err e) h = cc
-  right_row count n after found x (Ok y) h =
-      let p : (tell y.0, y.1, y.2) ≡ (x, n, after) = cc in
-      subst (λ (q : A × ℕ × List Line). rows_told tell (found ++ q.0 ∷ []) (rows_at form m count q.1 q.2) ≡ rows_told tell found (then_rows count y)) p
-      (told_first tell found y.0 (rows_at form m count y.1 y.2))
+  right_row : (count : ℕ) (after : Ahead) (found : List A) (x : A) (r : Told (List ℕ)) → row_told tell r ≡ Ok (x, after)
+      → rows_told tell (found ++ x ∷ []) (rows_at form m count after) ≡ rows_told tell found (r >>= then_rows count)
+  right_row count after found x (Err e) h = cc
+  right_row count after found x (Ok y) h =
+      let p : (tell y.0, y.1) ≡ (x, after) = cc in
+      subst (λ (q : A × Ahead). rows_told tell (found ++ q.0 ∷ []) (rows_at form m count q.1) ≡ rows_told tell found (then_rows count y)) p
+      (told_first tell found y.0 (rows_at form m count y.1))
 
   wrong_row : (count : ℕ) (found : List A) (e : ReadFault) (r : Told (List ℕ)) → row_told tell r ≡ Err e → rows_told tell found (r >>= then_rows count) ≡ Err e
   wrong_row count found e (Ok y) h = cc
   wrong_row count found e (Err f) h = let same : f ≡ e = cc in ap (λ (g : ReadFault). Err g) same
 
   -- one more row
-  pub rows_more : (i count n k : ℕ) (ls after : List Line) (found : List A) (x : A) → i < count → row_told tell (row_at form m n ls) ≡ Ok (x, k, after)
-      → rows_told tell (found ++ x ∷ []) (rows_at form m (count - (i + 1)) k after) ≡ rows_told tell found (rows_at form m (count - i) n ls)
+  pub rows_more : (i count : ℕ) (at after : Ahead) (found : List A) (x : A) → i < count → row_told tell (row_at form m at) ≡ Ok (x, after)
+      → rows_told tell (found ++ x ∷ []) (rows_at form m (count - (i + 1)) after) ≡ rows_told tell found (rows_at form m (count - i) at)
   unfolding rows_at
-  rows_more i count n k ls after found x l h =
+  rows_more i count at after found x l h =
       let one : count - i ≡ suc (count - (i + 1)) = omega arith in
-      rw one (right_row (count - (i + 1)) k after found x (row_at form m n ls) h)
+      rw one (right_row (count - (i + 1)) after found x (row_at form m at) h)
 
   -- a row that is not right
-  pub rows_wrong : (i count n : ℕ) (ls : List Line) (found : List A) (e : ReadFault) (whole : Told (List A)) → i < count → row_told tell (row_at form m n ls) ≡ Err e
-      → rows_told tell found (rows_at form m (count - i) n ls) ≡ whole → whole ≡ Err e
+  pub rows_wrong : (i count : ℕ) (at : Ahead) (found : List A) (e : ReadFault) (whole : Told (List A)) → i < count → row_told tell (row_at form m at) ≡ Err e
+      → rows_told tell found (rows_at form m (count - i) at) ≡ whole → whole ≡ Err e
   unfolding rows_at
-  rows_wrong i count n ls found e whole l h w =
+  rows_wrong i count at found e whole l h w =
       let one : count - i ≡ suc (count - (i + 1)) = omega arith in
-      sym w ∙ rw one (wrong_row (count - (i + 1)) found e (row_at form m n ls) h)
+      sym w ∙ rw one (wrong_row (count - (i + 1)) found e (row_at form m at) h)
 
   -- no row is left
-  pub rows_done : (i count n : ℕ) (ls : List Line) (found : List A) (whole : Told (List A)) → count ≤ i → rows_told tell found (rows_at form m (count - i) n ls) ≡ whole → whole ≡ Ok (found, n, ls)
+  pub rows_done : (i count : ℕ) (at : Ahead) (found : List A) (whole : Told (List A)) → count ≤ i → rows_told tell found (rows_at form m (count - i) at) ≡ whole → whole ≡ Ok (found, at)
   unfolding rows_at
-  rows_done i count n ls found whole l w =
+  rows_done i count at found whole l w =
       let none : count - i ≡ 0 = omega arith in
-      sym w ∙ rw none (ap (λ (xs : List A). Ok (xs, n, ls)) (append-nil found))
+      sym w ∙ rw none (ap (λ (xs : List A). Ok (xs, at)) (append-nil found))
 
 rest_none : {X : Type 0} (xs : List X) (i : ℕ) → length xs ≤ i → drop i xs ≡ []
 rest_none [] i l = drop-nil i
@@ -65,24 +65,24 @@ abbrev pub left_from : ℕ → List Section
 left_from i = drop i sections
 
 module _ (h : Header) where
-  then_sections : List Section → Circuit × ℕ × List Line → Told Circuit
-  then_sections ss told = sections_at h ss told.0 told.1 told.2
+  then_sections : List Section → Circuit × Ahead → Told Circuit
+  then_sections ss told = sections_at h ss told.0 told.1
 
-  next_section : (i : ℕ) (d : Section) (c : Circuit) (n : ℕ) (ls : List Line) → i < length sections
-      → sections_at h (left_from i) c n ls ≡ section_at h (get_or sections i d) c n ls >>= then_sections (left_from (i + 1))
+  next_section : (i : ℕ) (d : Section) (c : Circuit) (at : Ahead) → i < length sections
+      → sections_at h (left_from i) c at ≡ section_at h (get_or sections i d) c at >>= then_sections (left_from (i + 1))
   unfolding sections_at then_sections
-  next_section i d c n ls l = rw (add-one, drop-cons sections i d l) refl
+  next_section i d c at l = rw (add-one, drop-cons sections i d l) refl
 
-  pub sections_more : (i : ℕ) (s : Section) (c d : Circuit) (n k : ℕ) (ls after : List Line) → i < length sections → section_at h (get_or sections i s) c n ls ≡ Ok (d, k, after)
-      → sections_at h (left_from (i + 1)) d k after ≡ sections_at h (left_from i) c n ls
+  pub sections_more : (i : ℕ) (s : Section) (c d : Circuit) (at after : Ahead) → i < length sections → section_at h (get_or sections i s) c at ≡ Ok (d, after)
+      → sections_at h (left_from (i + 1)) d after ≡ sections_at h (left_from i) c at
   unfolding then_sections
-  sections_more i s c d n k ls after l r = sym (next_section i s c n ls l ∙ rw r refl)
+  sections_more i s c d at after l r = sym (next_section i s c at l ∙ rw r refl)
 
-  pub sections_wrong : (i : ℕ) (s : Section) (c : Circuit) (n : ℕ) (ls : List Line) (e : ReadFault) (whole : Told Circuit) → i < length sections
-      → (e ≡ want_of_memory) ⊎ (section_at h (get_or sections i s) c n ls ≡ Err e) → sections_at h (left_from i) c n ls ≡ whole → (e ≡ want_of_memory) ⊎ (whole ≡ Err e)
-  sections_wrong i s c n ls e whole l (inl m) w = inl m
-  sections_wrong i s c n ls e whole l (inr r) w = inr (sym w ∙ next_section i s c n ls l ∙ rw r refl)
+  pub sections_wrong : (i : ℕ) (s : Section) (c : Circuit) (at : Ahead) (e : ReadFault) (whole : Told Circuit) → i < length sections
+      → (e ≡ want_of_memory) ⊎ (section_at h (get_or sections i s) c at ≡ Err e) → sections_at h (left_from i) c at ≡ whole → (e ≡ want_of_memory) ⊎ (whole ≡ Err e)
+  sections_wrong i s c at e whole l (inl m) w = inl m
+  sections_wrong i s c at e whole l (inr r) w = inr (sym w ∙ next_section i s c at l ∙ rw r refl)
 
-  pub sections_done : (i : ℕ) (c : Circuit) (n : ℕ) (ls : List Line) (whole : Told Circuit) → length sections ≤ i → sections_at h (left_from i) c n ls ≡ whole → whole ≡ Ok (c, n, ls)
+  pub sections_done : (i : ℕ) (c : Circuit) (at : Ahead) (whole : Told Circuit) → length sections ≤ i → sections_at h (left_from i) c at ≡ whole → whole ≡ Ok (c, at)
   unfolding sections_at
-  sections_done i c n ls whole l w = let none : left_from i ≡ [] = rest_none sections i l in sym w ∙ rw none refl
+  sections_done i c at whole l w = let none : left_from i ≡ [] = rest_none sections i l in sym w ∙ rw none refl

@@ -1,10 +1,8 @@
 use Rattle.std.proofs.Common.{◌≡◌, drop}
-use Rattle.aig_text.specs.Lines.{lines_of}
 use Rattle.aig_text.specs.Rows.{sections}
 use Rattle.aig_text.specs.Reading.{sections_at}
 use Rattle.aig_text.proofs.section.read_sections.Given as goal
 
 abbrev pub invariant-loop-section : goal.invariant-loop-section
 invariant-loop-section l =
-    sections_at l.header (drop l.section-index sections) l.circuit l.at.number (lines_of l.at.rest.now)
-    ≡ sections_at l.header sections l.fn.circuit l.fn.at.number (lines_of l.fn.at.rest.now)
+    sections_at l.header (drop l.section-index sections) l.circuit l.at ≡ sections_at l.header sections l.fn.circuit l.fn.at

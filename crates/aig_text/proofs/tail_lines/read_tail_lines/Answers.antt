@@ -1,4 +1,4 @@
-use Rattle.std.proofs.Common.{◌∙◌, sym}
+use Rattle.std.proofs.Common.{◌∙◌, sym, arith}
 use Rattle.std.proofs.lemmas.Result.{err_from_is_err_and}
 use Rattle.aig_text.specs.Lines.{line}
 use Rattle.aig_text.proofs.Loops.Tail.{no_tail, comment_tail, wrong_symbol, one_symbol, done_or_memory}
@@ -9,8 +9,8 @@ returns-then-is_comment_line c =
     let at = c.loop-line in
     let first = line c.in-Some.line.text.now c.in-Some.line.ended in
     done_or_memory c.put_comment.result _ _ _
-    (sym at.invariant
-    ∙ comment_tail c.args.header.now at.names at.circuit at.at.number at.at.rest.now c.in-Some.rest.now first
+    (sym at.invariant.0
+    ∙ comment_tail c.args.header.now at.names at.circuit at.number at.rest.now c.in-Some.after.now first
     c.in-Some.ensures.lines (sym c.is_comment_line.ensures ∙ c.if-is_comment_line.true))
     c.put_comment.ensures.ok c.put_comment.ensures.err
 
@@ -19,8 +19,8 @@ returns-in_err-symbol c =
     let at = c.loop-line in
     let first = line c.in-Some.line.text.now c.in-Some.line.ended in
     let h = err_from_is_err_and c.from_residual.result c.from_residual.ensures.1 in
-    rw (h.1, h.2, ← at.invariant) (
-    wrong_symbol c.args.header.now at.names at.circuit at.at.number at.at.rest.now c.in-Some.rest.now first
+    rw (h.1, h.2, ← at.invariant.0) (
+    wrong_symbol c.args.header.now at.names at.circuit at.number at.rest.now c.in-Some.after.now first
     c.in_err-symbol.field-0.0 c.in-Some.ensures.lines (sym c.is_comment_line.ensures ∙ c.if-is_comment_line.false)
     c.in_err-symbol.ensures.symbol
     )
@@ -28,13 +28,14 @@ returns-in_err-symbol c =
 pub loop-line-preserved : goal.loop-line-preserved
 loop-line-preserved c =
     let at = c.loop-line in
-    let first = line c.in-Some.line.text.now c.in-Some.line.ended in
-    rw (c.in_ok-symbol.ensures.named, c.in_ok-put_symbol.ensures.ok) (
-    one_symbol c.args.header.now at.names at.circuit at.at.number at.at.rest.now c.in-Some.rest.now first
-    c.in_ok-symbol.symbol c.in-Some.ensures.lines (sym c.is_comment_line.ensures ∙ c.if-is_comment_line.false)
-    c.in_ok-symbol.ensures.symbol
-    ∙ at.invariant
+    let first = line c.in-Some.line.text.now c.in-Some.line.ended in (
+      rw (c.in_ok-symbol.ensures.named, c.in_ok-put_symbol.ensures.ok) (
+          one_symbol c.args.header.now at.names at.circuit at.number at.rest.now c.in-Some.after.now first
+          c.in_ok-symbol.symbol c.in-Some.ensures.lines (sym c.is_comment_line.ensures ∙ c.if-is_comment_line.false)
+          c.in_ok-symbol.ensures.symbol
+          ∙ at.invariant.0),
+      omega (arith, at.invariant.1, c.in-Some.ensures.shorter),
     )
 
 pub returns : goal.returns
-returns c = sym c.loop-line.invariant ∙ no_tail _ _ _ _ c.loop-line.at.rest.now c.in_default.ensures.lines
+returns c = sym c.loop-line.invariant.0 ∙ no_tail _ _ _ _ c.loop-line.rest.now c.in_default.ensures.lines
