@@ -19,7 +19,7 @@ use Rattle.aig_core.specs.declared.names.Names.{Names}
 use Rattle.aig_core.specs.Names.{nothing_named, is_named, with_name}
 use Rattle.aig_text.specs.Lines.{Line, Ahead, ahead, lines_of, bytes_of}
 use Rattle.aig_text.specs.Scanning.{numbers_at, more_numbers_at, symbol_at, is_comment_line}
-use Rattle.aig_text.specs.Rows.{ascii_word, Header, Role, Form, roles_of, Section, sections, form_of, count_in, with_rows}
+use Rattle.aig_text.specs.Rows.{ascii_word, Header, Role, Form, roles_of, Section, sections, Listed, in_ascii}
 use Rattle.aig_text.specs.declared.row.Role.TheVariants as roles
 
 infixl 10 ◌>>=◌
@@ -133,16 +133,16 @@ rows_at form max_var (suc count) at = do
   Ok (first.0 ∷ others.0, others.1)
 
 -- the circuit with the rows of a section, of all sections
-abbrev pub section_at : Header → Section → Circuit → Ahead → Told Circuit
-section_at h s c at = do
-  told ← rows_at (form_of s) h.max_var (count_in h s) at
-  Ok (with_rows s told.0 c, told.1)
+abbrev pub section_at : Listed → Header → Circuit → Ahead → Told Circuit
+section_at listed h c at = do
+  told ← rows_at listed.form h.max_var (listed.count h c) at
+  Ok (listed.with_rows h told.0 c, told.1)
 
-unfoldable pub sections_at : Header → List Section → Circuit → Ahead → Told Circuit
-sections_at h [] c at = Ok (c, at)
-sections_at h (s ∷ ss) c at = do
-  told ← section_at h s c at
-  sections_at h ss told.0 told.1
+unfoldable pub sections_at : (Section → Listed) → Header → List Section → Circuit → Ahead → Told Circuit
+sections_at listed h [] c at = Ok (c, at)
+sections_at listed h (s ∷ ss) c at = do
+  told ← section_at (listed s) h c at
+  sections_at listed h ss told.0 told.1
 
 -- a circuit that has nothing in it
 abbrev pub empty_circuit : ℕ → Circuit
@@ -196,7 +196,7 @@ header_at word limit at = line_told kinds.NotAiger (header_of word limit) at.num
 unfoldable pub circuit_at : ℕ → List Line → Result Circuit ReadFault
 circuit_at limit ls = do
   header ← header_at ascii_word limit (ahead 1 ls)
-  numbered ← sections_at header.0 sections (empty_circuit header.0.max_var) header.1
+  numbered ← sections_at in_ascii header.0 sections (empty_circuit header.0.max_var) header.1
   tail_at header.0 nothing_named numbered.0 numbered.1.number numbered.1.lines
 
 -- a structural fault as the fault of a text

@@ -1,6 +1,6 @@
 -- What the numbered lines of a file hold (AIGER report): a section for the inputs, the latches, the outputs and the gates,
 -- and a row of numbers for each of them.
-use Rattle.std.specs.Prelude.{◌++◌, ℕ, List, [], ◌∷◌, map, length, slice_index, codes}
+use Rattle.std.specs.Prelude.{◌+◌, ◌++◌, ℕ, suc, List, [], ◌∷◌, map, length, slice_index, codes}
 use Rattle.std.specs.List.{flat_map}
 use Rattle.aig_core.specs.declared.circuit.Latch.{Latch}
 use Rattle.aig_core.specs.declared.circuit.Gate.{Gate}
@@ -69,31 +69,61 @@ gate_of ns = record { var = variable_of (slice_index ns 0); left = slice_index n
 abbrev pub sections : List Section
 sections = Inputs ∷ Latches ∷ Outputs ∷ Gates ∷ []
 
--- of each section: the form of its lines, how many of them the header tells, the rows that a circuit has there, and the
--- circuit with these rows more
-abbrev pub form_of : Section → Form
-form_of Inputs = input_form
-form_of Latches = latch_form
-form_of Outputs = output_form
-form_of Gates = gate_form
+-- How the lines of a file list a section: their form, how many they are where the header and what was read before them
+-- are these, the rows that a circuit has there, and what such rows make of what was read before.
+pub record Listed : Type 0 where
+  pub form : Form
+  pub count : Header → Circuit → ℕ
+  pub rows : Circuit → List (List ℕ)
+  pub with_rows : Header → List (List ℕ) → Circuit → Circuit
 
-abbrev pub count_in : Header → Section → ℕ
-count_in h Inputs = h.inputs
-count_in h Latches = h.latches
-count_in h Outputs = h.outputs
-count_in h Gates = h.gates
+-- each section in an ASCII file
+abbrev pub in_ascii : Section → Listed
+in_ascii Inputs = record {
+  form = input_form;
+  count = λ h c. h.inputs;
+  rows = λ c. map input_row c.inputs;
+  with_rows = λ h rows c. record c { inputs = c.inputs ++ map input_of rows };
+}
+in_ascii Latches = record {
+  form = latch_form;
+  count = λ h c. h.latches;
+  rows = λ c. map latch_row c.latches;
+  with_rows = λ h rows c. record c { latches = c.latches ++ map latch_of rows };
+}
+in_ascii Outputs = record {
+  form = output_form;
+  count = λ h c. h.outputs;
+  rows = λ c. map output_row c.outputs;
+  with_rows = λ h rows c. record c { outputs = c.outputs ++ map output_of rows };
+}
+in_ascii Gates = record {
+  form = gate_form;
+  count = λ h c. h.gates;
+  rows = λ c. map gate_row c.gates;
+  with_rows = λ h rows c. record c { gates = c.gates ++ map gate_of rows };
+}
 
-abbrev pub rows_in : Circuit → Section → List (List ℕ)
-rows_in c Inputs = map input_row c.inputs
-rows_in c Latches = map latch_row c.latches
-rows_in c Outputs = map output_row c.outputs
-rows_in c Gates = map gate_row c.gates
+-- a section without lines
+abbrev pub no_lines : Listed
+no_lines = record { form = output_form; count = λ h c. 0; rows = λ c. []; with_rows = λ h rows c. c }
 
-abbrev pub with_rows : Section → List (List ℕ) → Circuit → Circuit
-with_rows Inputs rows c = record c { inputs = c.inputs ++ map input_of rows }
-with_rows Latches rows c = record c { latches = c.latches ++ map latch_of rows }
-with_rows Outputs rows c = record c { outputs = c.outputs ++ map output_of rows }
-with_rows Gates rows c = record c { gates = c.gates ++ map gate_of rows }
+-- latches of this variable and the next ones, by the rows of their next literals
+unfoldable pub latches_from : ℕ → List (List ℕ) → List Latch
+latches_from variable [] = []
+latches_from variable (next ∷ nexts) = record { var = variable; next = output_of next } ∷ latches_from (suc variable) nexts
+
+-- each section in a binary file: its inputs are the first variables, its latches the next ones, and its gates are no lines
+abbrev pub in_binary : Section → Listed
+in_binary Inputs = no_lines
+in_binary Latches = record {
+  form = output_form;
+  count = λ h c. h.latches;
+  rows = λ c. map (λ (l : Latch). output_row l.next) c.latches;
+  with_rows = λ h rows c. record c { latches = latches_from (1 + h.inputs) rows };
+}
+in_binary Outputs = in_ascii Outputs
+in_binary Gates = no_lines
 
 -- a row and the form of its line
 pub record Row : Type 0 where
@@ -104,8 +134,12 @@ abbrev pub row : Form → List ℕ → Row
 row form numbers = record { form = form; numbers = numbers }
 
 -- the rows of all sections, in the order of the file
+abbrev pub listed_rows : (Section → Listed) → Circuit → List Row
+listed_rows listed c = flat_map (λ s. map (row (listed s).form) ((listed s).rows c)) sections
+
+-- the rows of an ASCII file
 abbrev pub rows_of : Circuit → List Row
-rows_of c = flat_map (λ s. map (row (form_of s)) (rows_in c s)) sections
+rows_of c = listed_rows in_ascii c
 
 -- the numbers of the header: the largest index, and the counts
 abbrev pub header_row : Circuit → List ℕ

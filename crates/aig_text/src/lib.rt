@@ -22,8 +22,9 @@ pub use crate::limits::Limits;
 pub use crate::line::Cursor;
 pub use crate::message::Message;
 pub use crate::parts::{first_word_is, header, literals, numbers, tail};
-pub use crate::reader::read_ascii;
+pub use crate::reader::{empty_circuit, read_ascii};
 pub use crate::row::{Role, RowForm};
+pub use crate::section::{SECTIONS, Section, read_section};
 pub use crate::writer::{
     WriteFault, header_numbers, put_header, put_numbers, put_tail, write_ascii,
 };

@@ -18,7 +18,7 @@ use aig_core::{CheckFault, Checked, Circuit, Listing, check};
 use std::alloc::Global;
 
 /// A circuit that has nothing in it.
-fn empty_circuit(alloc: Global, max_var: u32) -> Circuit
+pub fn empty_circuit(alloc: Global, max_var: u32) -> Circuit
     ensures { result ≡ empty_circuit max_var }
 {
     Circuit {

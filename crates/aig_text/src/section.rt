@@ -1,7 +1,7 @@
 //! Sections: rows of one kind, one to a line.
 ghost use Rattle.std.specs.Prelude.{◌≡◌, ◌≤◌, OnErr};
 ghost use Rattle.aig_core.specs.declared.circuit.TheConstants.{LARGEST as largest_index};
-ghost use Rattle.aig_text.specs.Rows.{sections};
+ghost use Rattle.aig_text.specs.Rows.{in_ascii, sections};
 ghost use Rattle.aig_text.specs.Outcomes.{GivesOrMemory, rows_told};
 ghost use Rattle.aig_text.specs.Reading.{rows_at, section_at, sections_at};
 
@@ -13,7 +13,7 @@ use aig_core::{Circuit, Listing};
 
 /// What a file lists.
 #[derive(Clone, Copy)]
-pub(crate) enum Section {
+pub enum Section {
     /// The variable of each input.
     Inputs,
     /// The variable and the next state of each latch.
@@ -24,8 +24,8 @@ pub(crate) enum Section {
     Gates,
 }
 
-/// The sections, in the order of the file.
-const SECTIONS: [Section; 4] = [
+/// The sections, in the order of a file.
+pub const SECTIONS: [Section; 4] = [
     Section::Inputs,
     Section::Latches,
     Section::Outputs,
@@ -69,15 +69,16 @@ pub(crate) fn read_rows<T: Row>(
     Ok(())
 }
 
-/// Adds the entries of a section, and moves behind its lines.
-fn read_section(
+/// Adds the entries of a section as an ASCII file lists them, and moves behind its lines.
+pub fn read_section(
     section: Section,
     header: &Header,
     circuit: &mut Circuit,
     at: &mut Cursor,
 ) -> Result<(), ReadFault>
     requires { header.now.max_var ≤ largest_index }
-    ensures { GivesOrMemory (λ _. (circuit.new, at.new)) result (section_at header.now section circuit.old at.old) }
+    ensures { GivesOrMemory (λ _. (circuit.new, at.new)) result
+        (section_at (in_ascii section) header.now circuit.old at.old) }
 {
     let max_var = header.max_var;
     match section {
@@ -95,7 +96,8 @@ pub(crate) fn read_sections(
     at: &mut Cursor,
 ) -> Result<(), ReadFault>
     requires { header.now.max_var ≤ largest_index }
-    ensures { GivesOrMemory (λ _. (circuit.new, at.new)) result (sections_at header.now sections circuit.old at.old) }
+    ensures { GivesOrMemory (λ _. (circuit.new, at.new)) result
+        (sections_at in_ascii header.now sections circuit.old at.old) }
 {
     for section in SECTIONS {
         // For a `?` here the kit's borrow checker makes no proof.

@@ -19,7 +19,7 @@ use Rattle.aig_core.specs.declared.circuit.Symbol.{Symbol}
 use Rattle.std.proofs.lemmas.Bool.{ne_eqb}
 use Rattle.std.specs.Prelude.{decimal}
 use Rattle.aig_text.proofs.Loops.Cutting.{pieces}
-use Rattle.aig_text.specs.Rows.{ascii_word, header_row, rows_of, Role, roles_of, Section, sections, form_of, rows_in, row}
+use Rattle.aig_text.specs.Rows.{ascii_word, header_row, rows_of, Role, roles_of, Section, sections, in_ascii, row}
 use Rattle.aig_text.proofs.Grammar.Entries.{MayStand, IsGoodRow, all_mapped}
 use Rattle.aig_text.proofs.Grammar.Sections.{rows_good}
 use Rattle.aig_text.proofs.Kept.Plain.{all_joined, digits_have_no_line_feed, first_line}
@@ -36,20 +36,20 @@ small_numbers m h (r ∷ rs) [] g = absurd g
 small_numbers m h (r ∷ rs) (n ∷ ns) g = (small_number m h r n g.0, small_numbers m h rs ns g.1)
 
 -- a row that has a number for each role has enough of them
-long : (s : Section) (ns : List ℕ) → length ns ≡ length (roles_of (form_of s)) → (form_of s).least < length ns
+long : (s : Section) (ns : List ℕ) → length ns ≡ length (roles_of (in_ascii s).form) → (in_ascii s).form.least < length ns
 long Inputs ns h = omega arith
 long Latches ns h = omega arith
 long Outputs ns h = omega arith
 long Gates ns h = omega arith
 
-full_row : (m : ℕ) → m ≤ LARGEST → (s : Section) (ns : List ℕ) → IsGoodRow (form_of s) m ns → IsFullRow (row (form_of s) ns)
-full_row m h s ns g = record { some = long s ns (AllZip-long (MayStand m) (roles_of (form_of s)) ns g); small = small_numbers m h (roles_of (form_of s)) ns g }
+full_row : (m : ℕ) → m ≤ LARGEST → (s : Section) (ns : List ℕ) → IsGoodRow (in_ascii s).form m ns → IsFullRow (row (in_ascii s).form ns)
+full_row m h s ns g = record { some = long s ns (AllZip-long (MayStand m) (roles_of (in_ascii s).form) ns g); small = small_numbers m h (roles_of (in_ascii s).form) ns g }
 
-sections_full : (c : Circuit) → IsInForm c → (ss : List Section) → AllByRecursion IsFullRow (flat_map (λ s. map (row (form_of s)) (rows_in c s)) ss)
+sections_full : (c : Circuit) → IsInForm c → (ss : List Section) → AllByRecursion IsFullRow (flat_map (λ s. map (row (in_ascii s).form) ((in_ascii s).rows c)) ss)
 sections_full c form [] = tt
 sections_full c form (s ∷ ss) =
-    all_joined IsFullRow (map (row (form_of s)) (rows_in c s)) (flat_map (λ s. map (row (form_of s)) (rows_in c s)) ss)
-    (all_mapped (IsGoodRow (form_of s) c.max_var) IsFullRow (row (form_of s)) (full_row c.max_var form.limits.max_var s) (rows_in c s) (rows_good c form s))
+    all_joined IsFullRow (map (row (in_ascii s).form) ((in_ascii s).rows c)) (flat_map (λ s. map (row (in_ascii s).form) ((in_ascii s).rows c)) ss)
+    (all_mapped (IsGoodRow (in_ascii s).form c.max_var) IsFullRow (row (in_ascii s).form) (full_row c.max_var form.limits.max_var s) ((in_ascii s).rows c) (rows_good c form s))
     (sections_full c form ss)
 
 pub header_is_small : (c : Circuit) → IsWithinLimits c → AreSmall (header_row c)

@@ -11,43 +11,17 @@ use Rattle.aig_core.specs.Form.{IsInForm}
 use Rattle.aig_text.specs.declared.fault.ReadFault.{ReadFault}
 use Rattle.aig_text.specs.declared.section.Section.TheVariants.{Inputs, Latches, Outputs, Gates}
 use Rattle.aig_text.specs.Lines.{Line, Ahead, ahead}
-use Rattle.aig_text.specs.Rows.{Header, Section, sections, form_of, count_in, rows_in, with_rows, Row, row, rows_of, header_row, input_row, latch_row, output_row, gate_row, input_of, latch_of, output_of, gate_of, input_form, latch_form, output_form, gate_form}
+use Rattle.aig_text.specs.Rows.{Header, Section, sections, Listed, in_ascii, Form, Row, row, rows_of, header_row, input_row, latch_row, output_row, gate_row, input_of, latch_of, output_of, gate_of, input_form, latch_form, output_form, gate_form}
 use Rattle.aig_text.specs.AsciiGrammar.{IsRowLine}
 use Rattle.aig_text.specs.Reading.{Told, rows_at, section_at, sections_at, header_of_row, empty_circuit}
 use Rattle.aig_text.proofs.Steps.{both_ok, ok_same}
 use Rattle.aig_text.proofs.Grammar.Entries.{IsGoodRow, IsLiteralUpTo, IsLatchUpTo, IsGateUpTo, input_entry, latch_entry, output_entry, gate_entry, all_again, rows_again, all_mapped}
 use Rattle.aig_text.proofs.Grammar.Rows.{IsSound, AreRows, rows_told, rows_are_told}
 
--- the rows of these sections, and the circuit with them
-abbrev pub rows_under : List Section → List (List (List ℕ)) → List Row
-rows_under [] told = []
-rows_under (s ∷ ss) [] = []
-rows_under (s ∷ ss) (rows ∷ told) = map (row (form_of s)) rows ++ rows_under ss told
-
-abbrev pub with_all : List Section → List (List (List ℕ)) → Circuit → Circuit
-with_all [] told c = c
-with_all (s ∷ ss) [] c = c
-with_all (s ∷ ss) (rows ∷ told) c = with_all ss told (with_rows s rows c)
-
--- the rows that a section may have under this header
-pub record FitSection (h : Header) (s : Section) (rows : List (List ℕ)) : Type 0 where
-  pub good : AllByRecursion (IsGoodRow (form_of s) h.max_var) rows
-  pub counted : length rows ≡ count_in h s
-
--- lines that hold the rows of sections
-pub record AreSections (h : Header) (ss : List Section) (c d : Circuit) (ls rest : List Line) : Type 0 where
-  pub told : List (List (List ℕ))
-  pub front : List Line
-  pub lines : ls ≡ front ++ rest
-  pub spelled : AllZip IsRowLine front (rows_under ss told)
-  pub fit : AllZip (FitSection h) ss told
-  pub circuit : with_all ss told c ≡ d
-
-sound : (s : Section) → IsSound (form_of s)
-sound Inputs = omega arith
-sound Latches = omega arith
-sound Outputs = omega arith
-sound Gates = omega arith
+-- rows that a section may have, and as many as it has
+pub record FitRows (form : Form) (m count : ℕ) (rows : List (List ℕ)) : Type 0 where
+  pub good : AllByRecursion (IsGoodRow form m) rows
+  pub counted : length rows ≡ count
 
 pub zips_joined : {A B : Type 0} (R : A → B → Type 0) (us vs : List A) (ys zs : List B) → AllZip R us ys → AllZip R vs zs → AllZip R (us ++ vs) (ys ++ zs)
 zips_joined R [] vs [] zs g h = h
@@ -55,37 +29,118 @@ zips_joined R [] vs (y ∷ ys) zs g h = absurd g
 zips_joined R (u ∷ us) vs [] zs g h = absurd g
 zips_joined R (u ∷ us) vs (y ∷ ys) zs g h = (g.0, zips_joined R us vs ys zs g.1 h)
 
--- one section at the front
-one_section : (h : Header) (s : Section) (ss : List Section) (c d : Circuit) (rows : List (List ℕ)) (ls between rest : List Line) → AreRows (form_of s) h.max_var (count_in h s) ls rows between → AreSections h ss (with_rows s rows c) d between rest → AreSections h (s ∷ ss) c d ls rest
-one_section h s ss c d rows ls between rest a o = record {
-  told = rows ∷ o.told;
-  front = a.front ++ o.front;
-  lines = a.lines ∙ ap (λ (ks : List Line). a.front ++ ks) o.lines ∙ sym (append_assoc a.front o.front rest);
-  spelled = zips_joined IsRowLine a.front o.front (map (row (form_of s)) rows) (rows_under ss o.told) a.spelled o.spelled;
-  fit = (record { good = a.good; counted = a.counted }, o.fit);
-  circuit = o.circuit;
-}
+-- two lists that go together, split where one is joined of two
+pub record ZipsTwo {A B : Type 0} (R : A → B → Type 0) (xs : List A) (ys zs : List B) : Type 0 where
+  pub first : List A
+  pub second : List A
+  pub are : xs ≡ first ++ second
+  pub first_zips : AllZip R first ys
+  pub second_zips : AllZip R second zs
 
-module _ (h : Header) where
+pub zips_split : {A B : Type 0} (R : A → B → Type 0) (xs : List A) (ys zs : List B) → AllZip R xs (ys ++ zs) → ZipsTwo R xs ys zs
+zips_split R xs [] zs h = record { first = []; second = xs; are = refl; first_zips = tt; second_zips = h }
+zips_split R [] (y ∷ ys) zs h = absurd h
+zips_split R (x ∷ xs) (y ∷ ys) zs h =
+    let t = zips_split R xs ys zs h.1 in
+    record { first = x ∷ t.first; second = t.second; are = ap (λ (l : List _). x ∷ l) t.are; first_zips = (h.0, t.first_zips); second_zips = t.second_zips }
+
+-- sections as a file of some format lists them, under a header
+module _ (listed : Section → Listed) (h : Header) where
+  -- the rows of these sections, the circuit with them, and whether they may stand there
+  abbrev pub rows_under : List Section → List (List (List ℕ)) → List Row
+  rows_under [] told = []
+  rows_under (s ∷ ss) [] = []
+  rows_under (s ∷ ss) (rows ∷ told) = map (row (listed s).form) rows ++ rows_under ss told
+
+  abbrev pub with_all : List Section → List (List (List ℕ)) → Circuit → Circuit
+  with_all [] told c = c
+  with_all (s ∷ ss) [] c = c
+  with_all (s ∷ ss) (rows ∷ told) c = with_all ss told ((listed s).with_rows h rows c)
+
+  abbrev pub AllFit : List Section → List (List (List ℕ)) → Circuit → Type 0
+  AllFit [] [] c = Unit {0}
+  AllFit [] (rows ∷ told) c = ⊥
+  AllFit (s ∷ ss) [] c = ⊥
+  AllFit (s ∷ ss) (rows ∷ told) c =
+      FitRows (listed s).form h.max_var ((listed s).count h c) rows × AllFit ss told ((listed s).with_rows h rows c)
+
+  -- lines that hold the rows of sections
+  pub record AreSections (ss : List Section) (c d : Circuit) (ls rest : List Line) : Type 0 where
+    pub told : List (List (List ℕ))
+    pub front : List Line
+    pub lines : ls ≡ front ++ rest
+    pub spelled : AllZip IsRowLine front (rows_under ss told)
+    pub fit : AllFit ss told c
+    pub circuit : with_all ss told c ≡ d
+
+  -- one section at the front
+  one_section : (s : Section) (ss : List Section) (c d : Circuit) (rows : List (List ℕ)) (ls between rest : List Line)
+      → AreRows (listed s).form h.max_var ((listed s).count h c) ls rows between
+      → AreSections ss ((listed s).with_rows h rows c) d between rest → AreSections (s ∷ ss) c d ls rest
+  one_section s ss c d rows ls between rest a o = record {
+    told = rows ∷ o.told;
+    front = a.front ++ o.front;
+    lines = a.lines ∙ ap (λ (ks : List Line). a.front ++ ks) o.lines ∙ sym (append_assoc a.front o.front rest);
+    spelled = zips_joined IsRowLine a.front o.front (map (row (listed s).form) rows) (rows_under ss o.told) a.spelled o.spelled;
+    fit = (record { good = a.good; counted = a.counted }, o.fit);
+    circuit = o.circuit;
+  }
+
   abbrev after_rows : Section → Circuit → List (List ℕ) × Ahead → Told Circuit
-  after_rows s c told = Ok (with_rows s told.0 c, told.1)
+  after_rows s c told = Ok ((listed s).with_rows h told.0 c, told.1)
 
   abbrev then_sections : List Section → Circuit × Ahead → Told Circuit
-  then_sections ss told = sections_at h ss told.0 told.1
+  then_sections ss told = sections_at listed h ss told.0 told.1
 
-  pub sections_told : (ss : List Section) (c : Circuit) (at : Ahead) (p : Circuit × Ahead) → sections_at h ss c at ≡ Ok p → AreSections h ss c p.0 at.lines p.1.lines
+  pub sections_told : ((s : Section) → IsSound (listed s).form) → (ss : List Section) (c : Circuit) (at : Ahead) (p : Circuit × Ahead)
+      → sections_at listed h ss c at ≡ Ok p → AreSections ss c p.0 at.lines p.1.lines
   unfolding sections_at
-  sections_told [] c at p is =
+  sections_told sound [] c at p is =
       let e : (c, at) ≡ p = ok_same {E = ReadFault} _ _ is in
-      subst (λ (q : Circuit × Ahead). AreSections h [] c q.0 at.lines q.1.lines) e (record { told = []; front = []; lines = refl; spelled = tt; fit = tt; circuit = refl })
-  sections_told (s ∷ ss) c at p is =
-      let f = both_ok (section_at h s c at) (then_sections ss) p is in
-      let r = both_ok (rows_at (form_of s) h.max_var (count_in h s) at) (after_rows s c) f.0 f.1 in
-      let e : (with_rows s r.0.0 c, r.0.1) ≡ f.0 = ok_same {E = ReadFault} _ _ r.2 in
-      let rows : AreRows (form_of s) h.max_var (count_in h s) at.lines r.0.0 r.0.1.lines = rows_told (form_of s) h.max_var (count_in h s) at r.0 (sound s) r.1 in
-      let others : AreSections h ss f.0.0 p.0 f.0.1.lines p.1.lines = sections_told ss f.0.0 f.0.1 p f.2 in
-      one_section h s ss c p.0 r.0.0 at.lines r.0.1.lines p.1.lines rows
-      (subst (λ (q : Circuit × Ahead). AreSections h ss q.0 p.0 q.1.lines p.1.lines) (sym e) others)
+      subst (λ (q : Circuit × Ahead). AreSections [] c q.0 at.lines q.1.lines) e
+      (record { told = []; front = []; lines = refl; spelled = tt; fit = tt; circuit = refl })
+  sections_told sound (s ∷ ss) c at p is =
+      let f = both_ok (section_at (listed s) h c at) (then_sections ss) p is in
+      let r = both_ok (rows_at (listed s).form h.max_var ((listed s).count h c) at) (after_rows s c) f.0 f.1 in
+      let e : ((listed s).with_rows h r.0.0 c, r.0.1) ≡ f.0 = ok_same {E = ReadFault} _ _ r.2 in
+      let rows : AreRows (listed s).form h.max_var ((listed s).count h c) at.lines r.0.0 r.0.1.lines =
+      rows_told (listed s).form h.max_var ((listed s).count h c) at r.0 (sound s) r.1 in
+      let others : AreSections ss f.0.0 p.0 f.0.1.lines p.1.lines = sections_told sound ss f.0.0 f.0.1 p f.2 in
+      one_section s ss c p.0 r.0.0 at.lines r.0.1.lines p.1.lines rows
+      (subst (λ (q : Circuit × Ahead). AreSections ss q.0 p.0 q.1.lines p.1.lines) (sym e) others)
+
+  -- and lines that hold such rows are read as them
+  abbrev ReadsSections : List Section → List (List (List ℕ)) → Circuit → ℕ → List Line → List Line → Type 0
+  ReadsSections ss told c n ls rest = (k : ℕ) × (sections_at listed h ss c (ahead n ls) ≡ Ok (with_all ss told c, ahead k rest))
+
+  one_is_read : (s : Section) (ss : List Section) (c : Circuit) (rows : List (List ℕ)) (told : List (List (List ℕ))) (n k j : ℕ) (ls between rest : List Line)
+      → rows_at (listed s).form h.max_var ((listed s).count h c) (ahead n ls) ≡ Ok (rows, ahead k between)
+      → sections_at listed h ss ((listed s).with_rows h rows c) (ahead k between) ≡ Ok (with_all ss told ((listed s).with_rows h rows c), ahead j rest)
+      → sections_at listed h (s ∷ ss) c (ahead n ls) ≡ Ok (with_all (s ∷ ss) (rows ∷ told) c, ahead j rest)
+  unfolding sections_at
+  one_is_read s ss c rows told n k j ls between rest r o = rw (r, o) refl
+
+  pub sections_are_told : (ss : List Section) (told : List (List (List ℕ))) (c : Circuit) (n : ℕ) (front rest : List Line)
+      → AllZip IsRowLine front (rows_under ss told) → AllFit ss told c → ReadsSections ss told c n (front ++ rest) rest
+  unfolding sections_at
+  sections_are_told [] [] c n [] rest z fit = (n, refl)
+  sections_are_told [] [] c n (l ∷ ls) rest z fit = absurd z
+  sections_are_told [] (rows ∷ told) c n front rest z fit = absurd fit
+  sections_are_told (s ∷ ss) [] c n front rest z fit = absurd fit
+  sections_are_told (s ∷ ss) (rows ∷ told) c n front rest z fit =
+      let two = zips_split IsRowLine front (map (row (listed s).form) rows) (rows_under ss told) z in
+      let r = rows_are_told (listed s).form h.max_var n two.first (two.second ++ rest) rows two.first_zips fit.0.good in
+      let o = sections_are_told ss told ((listed s).with_rows h rows c) r.0 two.second rest two.second_zips fit.1 in
+      let lines : front ++ rest ≡ two.first ++ (two.second ++ rest) = ap (λ (ks : List Line). ks ++ rest) two.are ∙ append_assoc two.first two.second rest in
+      let here : rows_at (listed s).form h.max_var ((listed s).count h c) (ahead n (front ++ rest)) ≡ Ok (rows, ahead r.0 (two.second ++ rest)) =
+      rw lines (subst (λ count. rows_at (listed s).form h.max_var count (ahead n (two.first ++ (two.second ++ rest))) ≡ Ok (rows, ahead r.0 (two.second ++ rest))) fit.0.counted r.1) in
+      (o.0, one_is_read s ss c rows told n r.0 o.0 (front ++ rest) (two.second ++ rest) rest here o.1)
+
+sound : (s : Section) → IsSound (in_ascii s).form
+sound Inputs = omega arith
+sound Latches = omega arith
+sound Outputs = omega arith
+sound Gates = omega arith
 
 -- the circuit of four lists of rows
 abbrev pub circuit_of : ℕ → List (List ℕ) → List (List ℕ) → List (List ℕ) → List (List ℕ) → Circuit
@@ -106,14 +161,16 @@ pub record FourSections (h : Header) (c : Circuit) (ls rest : List Line) : Type 
   pub gates : List (List ℕ)
   pub front : List Line
   pub lines : ls ≡ front ++ rest
-  pub spelled : AllZip IsRowLine front (rows_under sections (inputs ∷ latches ∷ outputs ∷ gates ∷ []))
-  pub fit_inputs : FitSection h Inputs inputs
-  pub fit_latches : FitSection h Latches latches
-  pub fit_outputs : FitSection h Outputs outputs
-  pub fit_gates : FitSection h Gates gates
+  pub spelled : AllZip IsRowLine front (rows_under in_ascii h sections (inputs ∷ latches ∷ outputs ∷ gates ∷ []))
+  pub fit_inputs : FitRows input_form h.max_var h.inputs inputs
+  pub fit_latches : FitRows latch_form h.max_var h.latches latches
+  pub fit_outputs : FitRows output_form h.max_var h.outputs outputs
+  pub fit_gates : FitRows gate_form h.max_var h.gates gates
   pub circuit : circuit_of h.max_var inputs latches outputs gates ≡ c
 
-four : (h : Header) (c : Circuit) (ls rest front : List Line) (told : List (List (List ℕ))) → ls ≡ front ++ rest → AllZip IsRowLine front (rows_under sections told) → AllZip (FitSection h) sections told → with_all sections told (empty_circuit h.max_var) ≡ c → FourSections h c ls rest
+four : (h : Header) (c : Circuit) (ls rest front : List Line) (told : List (List (List ℕ))) → ls ≡ front ++ rest
+    → AllZip IsRowLine front (rows_under in_ascii h sections told) → AllFit in_ascii h sections told (empty_circuit h.max_var)
+    → with_all in_ascii h sections told (empty_circuit h.max_var) ≡ c → FourSections h c ls rest
 four h c ls rest front [] lines spelled fit is = absurd fit
 four h c ls rest front (i ∷ []) lines spelled fit is = absurd fit.1
 four h c ls rest front (i ∷ l ∷ []) lines spelled fit is = absurd fit.1.1
@@ -134,19 +191,21 @@ four h c ls rest front (i ∷ l ∷ o ∷ g ∷ []) lines spelled fit is = recor
 }
 four h c ls rest front (i ∷ l ∷ o ∷ g ∷ x ∷ told) lines spelled fit is = absurd fit.1.1.1.1
 
-pub four_told : (h : Header) (at : Ahead) (p : Circuit × Ahead) → sections_at h sections (empty_circuit h.max_var) at ≡ Ok p → FourSections h p.0 at.lines p.1.lines
+pub four_told : (h : Header) (at : Ahead) (p : Circuit × Ahead) → sections_at in_ascii h sections (empty_circuit h.max_var) at ≡ Ok p → FourSections h p.0 at.lines p.1.lines
 four_told h at p is =
-    let a = sections_told h sections (empty_circuit h.max_var) at p is in
+    let a = sections_told in_ascii h sound sections (empty_circuit h.max_var) at p is in
     four h p.0 at.lines p.1.lines a.front a.told a.lines a.spelled a.fit a.circuit
 
 -- the rows of the circuit are those that were read
-pub rows_read : (h : Header) (c : Circuit) (ls rest : List Line) (f : FourSections h c ls rest) → rows_under sections (f.inputs ∷ f.latches ∷ f.outputs ∷ f.gates ∷ []) ≡ rows_of c
+pub rows_read : (h : Header) (c : Circuit) (ls rest : List Line) (f : FourSections h c ls rest)
+    → rows_under in_ascii h sections (f.inputs ∷ f.latches ∷ f.outputs ∷ f.gates ∷ []) ≡ rows_of c
 rows_read h c ls rest f =
     let i = rows_again (IsGoodRow input_form h.max_var) input_row input_of (input_entry.row_again h.max_var) f.inputs f.fit_inputs.good in
     let l = rows_again (IsGoodRow latch_form h.max_var) latch_row latch_of (latch_entry.row_again h.max_var) f.latches f.fit_latches.good in
     let o = rows_again (IsGoodRow output_form h.max_var) output_row output_of (output_entry.row_again h.max_var) f.outputs f.fit_outputs.good in
     let g = rows_again (IsGoodRow gate_form h.max_var) gate_row gate_of (gate_entry.row_again h.max_var) f.gates f.fit_gates.good in
-    let here : rows_under sections (f.inputs ∷ f.latches ∷ f.outputs ∷ f.gates ∷ []) ≡ rows_of (circuit_of h.max_var f.inputs f.latches f.outputs f.gates) = sym (rw (i, l, o, g) refl) in
+    let here : rows_under in_ascii h sections (f.inputs ∷ f.latches ∷ f.outputs ∷ f.gates ∷ [])
+    ≡ rows_of (circuit_of h.max_var f.inputs f.latches f.outputs f.gates) = sym (rw (i, l, o, g) refl) in
     here ∙ ap rows_of f.circuit
 
 -- and so are their numbers
@@ -210,7 +269,7 @@ gates_up_to : (m : ℕ) (gs : List Gate) → AllByRecursion (IsVariableUpTo m) (
 gates_up_to m [] v n = tt
 gates_up_to m (g ∷ gs) v n = ((v.0, n.0, n.1.0), gates_up_to m gs v.1 n.1.1)
 
-pub rows_good : (c : Circuit) → IsInForm c → (s : Section) → AllByRecursion (IsGoodRow (form_of s) c.max_var) (rows_in c s)
+pub rows_good : (c : Circuit) → IsInForm c → (s : Section) → AllByRecursion (IsGoodRow (in_ascii s).form c.max_var) ((in_ascii s).rows c)
 rows_good c form Inputs =
     all_mapped (IsVariableUpTo c.max_var) (IsGoodRow input_form c.max_var) input_row (input_entry.good c.max_var) c.inputs
     (all_left (IsVariableUpTo c.max_var) c.inputs (map (λ (l : Latch). l.var) c.latches) (all_left (IsVariableUpTo c.max_var) (c.inputs ++ map (λ (l : Latch). l.var) c.latches) (map (λ (g : Gate). g.var) c.gates) form.variables))
@@ -228,28 +287,6 @@ rows_good c form Gates =
     (all_right (IsVariableUpTo c.max_var) (c.inputs ++ map (λ (l : Latch). l.var) c.latches) (map (λ (g : Gate). g.var) c.gates) form.variables)
     (all_right (IsLiteralUpTo c.max_var) (map (λ (l : Latch). l.next) c.latches ++ c.outputs) (flat_map operands c.gates) form.literals))
 
--- as many rows as the header tells
-counted : (c : Circuit) (s : Section) → length (rows_in c s) ≡ count_in (header_of_row (header_row c)) s
-counted c Inputs = length-map c.inputs input_row
-counted c Latches = length-map c.latches latch_row
-counted c Outputs = length-map c.outputs output_row
-counted c Gates = length-map c.gates gate_row
-
--- two lists that go together, split where one is joined of two
-pub record ZipsTwo {A B : Type 0} (R : A → B → Type 0) (xs : List A) (ys zs : List B) : Type 0 where
-  pub first : List A
-  pub second : List A
-  pub are : xs ≡ first ++ second
-  pub first_zips : AllZip R first ys
-  pub second_zips : AllZip R second zs
-
-pub zips_split : {A B : Type 0} (R : A → B → Type 0) (xs : List A) (ys zs : List B) → AllZip R xs (ys ++ zs) → ZipsTwo R xs ys zs
-zips_split R xs [] zs h = record { first = []; second = xs; are = refl; first_zips = tt; second_zips = h }
-zips_split R [] (y ∷ ys) zs h = absurd h
-zips_split R (x ∷ xs) (y ∷ ys) zs h =
-    let t = zips_split R xs ys zs h.1 in
-    record { first = x ∷ t.first; second = t.second; are = ap (λ (l : List _). x ∷ l) t.are; first_zips = (h.0, t.first_zips); second_zips = t.second_zips }
-
 -- a circuit without its tail
 abbrev pub bare : Circuit → Circuit
 bare c = record c { symbols = []; comment = None }
@@ -263,33 +300,16 @@ module _ (c : Circuit) (form : IsInForm c) where
   abbrev own_header : Header
   own_header = header_of_row (header_row c)
 
-  abbrev rows_under_own : List Section → List Row
-  rows_under_own ss = flat_map (λ s. map (row (form_of s)) (rows_in c s)) ss
-
-  abbrev ReadsSections : List Section → Circuit → ℕ → List Line → List Line → Type 0
-  ReadsSections ss d n ls rest = (k : ℕ) × (sections_at own_header ss d (ahead n ls) ≡ Ok (with_all ss (map (rows_in c) ss) d, ahead k rest))
-
-  one_is_read : (s : Section) (ss : List Section) (d : Circuit) (n k j : ℕ) (ls between rest : List Line) → rows_at (form_of s) c.max_var (count_in own_header s) (ahead n ls) ≡ Ok (rows_in c s, ahead k between)
-      → sections_at own_header ss (with_rows s (rows_in c s) d) (ahead k between) ≡ Ok (with_all ss (map (rows_in c) ss) (with_rows s (rows_in c s) d), ahead j rest)
-      → sections_at own_header (s ∷ ss) d (ahead n ls) ≡ Ok (with_all (s ∷ ss) (map (rows_in c) (s ∷ ss)) d, ahead j rest)
-  unfolding sections_at
-  one_is_read s ss d n k j ls between rest r o = rw (r, o) refl
-
-  sections_are_told : (ss : List Section) (d : Circuit) (n : ℕ) (front rest : List Line) → AllZip IsRowLine front (rows_under_own ss) → ReadsSections ss d n (front ++ rest) rest
-  unfolding sections_at
-  sections_are_told [] d n [] rest h = (n, refl)
-  sections_are_told [] d n (l ∷ ls) rest h = absurd h
-  sections_are_told (s ∷ ss) d n front rest h =
-      let z = zips_split IsRowLine front (map (row (form_of s)) (rows_in c s)) (rows_under_own ss) h in
-      let r = rows_are_told (form_of s) c.max_var n z.first (z.second ++ rest) (rows_in c s) z.first_zips (rows_good c form s) in
-      let o = sections_are_told ss (with_rows s (rows_in c s) d) r.0 z.second rest z.second_zips in
-      let lines : front ++ rest ≡ z.first ++ (z.second ++ rest) = ap (λ (ks : List Line). ks ++ rest) z.are ∙ append_assoc z.first z.second rest in
-      let here : rows_at (form_of s) c.max_var (count_in own_header s) (ahead n (front ++ rest)) ≡ Ok (rows_in c s, ahead r.0 (z.second ++ rest)) =
-      rw lines (subst (λ count. rows_at (form_of s) c.max_var count (ahead n (z.first ++ (z.second ++ rest))) ≡ Ok (rows_in c s, ahead r.0 (z.second ++ rest))) (counted c s) r.1) in
-      (o.0, one_is_read s ss d n r.0 o.0 (front ++ rest) (z.second ++ rest) rest here o.1)
+  own_rows : AllFit in_ascii own_header sections (map (λ s. (in_ascii s).rows c) sections) (empty_circuit c.max_var)
+  own_rows = (
+    record { good = rows_good c form Inputs; counted = length-map c.inputs input_row },
+    (record { good = rows_good c form Latches; counted = length-map c.latches latch_row },
+    (record { good = rows_good c form Outputs; counted = length-map c.outputs output_row },
+    (record { good = rows_good c form Gates; counted = length-map c.gates gate_row }, tt))),
+  )
 
   -- the rows of the circuit tell the circuit, but for its tail
-  rows_tell : with_all sections (map (rows_in c) sections) (empty_circuit c.max_var) ≡ bare c
+  rows_tell : with_all in_ascii own_header sections (map (λ s. (in_ascii s).rows c) sections) (empty_circuit c.max_var) ≡ bare c
   rows_tell =
       let i = all_again input_row input_of input_entry.again c.inputs in
       let l = all_again latch_row latch_of latch_entry.again c.latches in
@@ -299,7 +319,8 @@ module _ (c : Circuit) (form : IsInForm c) where
       ≡ whole c.max_var c.inputs c.latches c.outputs c.gates [] None = cc in
       t
 
-  pub sections_are_read : (n : ℕ) (front rest : List Line) → AllZip IsRowLine front (rows_of c) → (k : ℕ) × (sections_at own_header sections (empty_circuit c.max_var) (ahead n (front ++ rest)) ≡ Ok (bare c, ahead k rest))
-  sections_are_read n front rest h =
-      let t = sections_are_told sections (empty_circuit c.max_var) n front rest h in
+  pub sections_are_read : (n : ℕ) (front rest : List Line) → AllZip IsRowLine front (rows_of c)
+      → (k : ℕ) × (sections_at in_ascii own_header sections (empty_circuit c.max_var) (ahead n (front ++ rest)) ≡ Ok (bare c, ahead k rest))
+  sections_are_read n front rest z =
+      let t = sections_are_told in_ascii own_header sections (map (λ s. (in_ascii s).rows c) sections) (empty_circuit c.max_var) n front rest z own_rows in
       (t.0, t.1 ∙ ap (λ (d : Circuit). Ok (d, ahead t.0 rest)) rows_tell)

@@ -13,7 +13,7 @@ use Rattle.aig_core.specs.Form.{IsInForm}
 use Rattle.aig_text.specs.declared.fault.ReadFault.{ReadFault}
 use Rattle.aig_text.specs.declared.fault.ReadKind.TheVariants as kinds
 use Rattle.aig_text.specs.Lines.{Line, Ahead, ahead, lines_of}
-use Rattle.aig_text.specs.Rows.{ascii_word, Header, header_row, rows_of, sections}
+use Rattle.aig_text.specs.Rows.{ascii_word, Header, header_row, rows_of, sections, in_ascii}
 use Rattle.aig_text.specs.Laws.{IsOneLine}
 use Rattle.aig_text.specs.AsciiGrammar.{IsRowLine, IsAsciiText}
 use Rattle.aig_text.specs.Reading.{◌>>=◌, header_of, tail_at, header_at, sections_at, empty_circuit, circuit_at, unless_faulty, reading}
@@ -41,7 +41,7 @@ abbrev then_tail : Header → Circuit × Ahead → Result Circuit ReadFault
 then_tail h numbered = tail_at h nothing_named numbered.0 numbered.1.number numbered.1.lines
 
 abbrev then_sections : Header × Ahead → Result Circuit ReadFault
-then_sections header = sections_at header.0 sections (empty_circuit header.0.max_var) header.1 >>= then_tail header.0
+then_sections header = sections_at in_ascii header.0 sections (empty_circuit header.0.max_var) header.1 >>= then_tail header.0
 
 no_comment : (h : Header) (c : Circuit) (ls rest : List Line) → FourSections h c ls rest → c.comment ≡ None
 no_comment h c ls rest f = subst (λ (d : Circuit). d.comment ≡ None) f.circuit refl
@@ -52,7 +52,7 @@ circuit_told limit [] c is = cc
 circuit_told limit (l ∷ ls) c is =
     let a = both_ok (header_at ascii_word limit (ahead 1 (l ∷ ls))) then_sections c is in
     let f = first_told kinds.NotAiger (header_of ascii_word limit) 1 l ls a.0 a.1 in
-    let b = both_ok (sections_at a.0.0 sections (empty_circuit a.0.0.max_var) a.0.1) (then_tail a.0.0) c a.2 in
+    let b = both_ok (sections_at in_ascii a.0.0 sections (empty_circuit a.0.0.max_var) a.0.1) (then_tail a.0.0) c a.2 in
     let s : FourSections a.0.0 b.0.0 a.0.1.lines b.0.1.lines = four_told a.0.0 a.0.1 b.0 b.1 in
     let t : TellsTail a.0.0 nothing_named b.0.0 c b.0.1.lines =
     tail_tells a.0.0 nothing_named b.0.0 b.0.1.number b.0.1.lines c (no_comment a.0.0 b.0.0 a.0.1.lines b.0.1.lines s) b.2 in
@@ -138,7 +138,7 @@ reading_is_accepted limit text c h =
 
 -- the lines of a circuit's file are read as the circuit
 steps : (limit k : ℕ) (l : Line) (others rest : List Line) (c : Circuit) → header_of ascii_word limit l ≡ Ok (own_header c)
-    → sections_at (own_header c) sections (empty_circuit c.max_var) (ahead 2 others) ≡ Ok (bare c, ahead k rest) → tail_at (own_header c) nothing_named (bare c) k rest ≡ Ok c → circuit_at limit (l ∷ others) ≡ Ok c
+    → sections_at in_ascii (own_header c) sections (empty_circuit c.max_var) (ahead 2 others) ≡ Ok (bare c, ahead k rest) → tail_at (own_header c) nothing_named (bare c) k rest ≡ Ok c → circuit_at limit (l ∷ others) ≡ Ok c
 unfolding circuit_at
 steps limit k l others rest c h s t = rw (h, s) t
 

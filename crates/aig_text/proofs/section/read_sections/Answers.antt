@@ -1,19 +1,20 @@
 use Rattle.std.proofs.Common.{◌∙◌}
+use Rattle.aig_text.specs.Rows.{in_ascii}
 use Rattle.aig_text.proofs.Loops.Rows.{sections_more, sections_wrong, sections_done}
 use Rattle.aig_text.proofs.section.read_sections.Goals as goal
 
 pub returns-in-Err : goal.returns-in-Err
 returns-in-Err c =
-    sections_wrong c.args.header.now c.loop-section.section-index _ c.loop-section.circuit c.loop-section.at c.in-Err.fault _
+    sections_wrong in_ascii c.args.header.now c.loop-section.section-index _ c.loop-section.circuit c.loop-section.at c.in-Err.fault _
     c.loop-section-test.true c.in-Err.ensures c.loop-section.invariant
 
 pub loop-section-preserved : goal.loop-section-preserved
 loop-section-preserved c =
-    sections_more c.args.header.now c.loop-section.section-index _ c.loop-section.circuit c.read_section.new.circuit c.loop-section.at
+    sections_more in_ascii c.args.header.now c.loop-section.section-index _ c.loop-section.circuit c.read_section.new.circuit c.loop-section.at
     c.read_section.new.at c.loop-section-test.true c.in_default.ensures
     ∙ c.loop-section.invariant
 
 pub returns : goal.returns
 returns c =
-    sections_done c.args.header.now c.loop-section.section-index c.loop-section.circuit c.loop-section.at _
+    sections_done in_ascii c.args.header.now c.loop-section.section-index c.loop-section.circuit c.loop-section.at _
     c.loop-section-test.false c.loop-section.invariant
