@@ -3,6 +3,7 @@ use Rattle.std.proofs.Common.{◌≡◌, ◌+◌, ◌-◌, ◌*◌, ◌<◌, ◌
 use Rattle.std.specs.List.{AllByRecursion, flat_map}
 use Rattle.aig_core.specs.declared.circuit.TheConstants.{LARGEST}
 use Rattle.aig_core.specs.declared.circuit.Gate.{Gate}
+use Rattle.aig_core.specs.declared.circuit.Latch.{Latch}
 use Rattle.aig_core.specs.declared.circuit.Circuit.{Circuit}
 use Rattle.aig_core.specs.Literal.{literal_of}
 use Rattle.aig_core.specs.Wellformed.{IsWellFormed, operands}
@@ -12,9 +13,12 @@ use Rattle.aig_text.specs.Lines.{Line, lines_of}
 use Rattle.aig_text.specs.AsciiText.{header_text, line_text, tail_text}
 use Rattle.aig_text.specs.Rows.{Row, row, output_form, output_row, header_row}
 use Rattle.aig_text.proofs.Canonical.Lines.{IsFullRow, header_line, row_lines, header_is_first, header_line_is_good, rows_are_first, rows_are_good}
+use Rattle.aig_text.proofs.Kept.Plain.{all_joined}
+use Rattle.aig_text.proofs.Grammar.WholeTail.{left_of, right_of}
+use Rattle.aig_binary.proofs.Grammar.Numbered.{next_row}
 use Rattle.aig_text.proofs.Canonical.Text.{header_is_small, tail_is_good}
 use Rattle.aig_core.specs.BinaryOrder.{IsInBinaryOrder}
-use Rattle.aig_binary.specs.BinaryGrammar.{IsBinaryText, SpellsGates, binary_word, binary_rows_of, numbered_literals}
+use Rattle.aig_binary.specs.BinaryGrammar.{IsBinaryText, SpellsGates, binary_word, binary_rows_of}
 use Rattle.aig_binary.specs.BinaryText.{binary_text, gate_text}
 use Rattle.aig_binary.specs.Delta.{shortest_delta}
 use Rattle.aig_binary.specs.Parts.Deltas.{HasDeltas}
@@ -34,14 +38,26 @@ all_ended : (rows : List Row) → AllByRecursion (λ (l : Line). l.ended ≡ tru
 all_ended [] = tt
 all_ended (r ∷ rows) = (refl, all_ended rows)
 
-literals_full : (m : ℕ) → m ≤ LARGEST → (ls : List ℕ) → AllByRecursion (IsLiteralUpTo m) ls → AllByRecursion IsFullRow (map (row output_form) (map output_row ls))
-literals_full m top [] h = tt
-literals_full m top (l ∷ ls) h =
-    let low : l ≤ 2 * m + 1 = h.0 in
-    (record { some = omega arith; small = (omega arith, tt) }, literals_full m top ls h.1)
+literals_full : {X : Type 0} (m : ℕ) → m ≤ LARGEST → (literal : X → ℕ) (xs : List X) → AllByRecursion (IsLiteralUpTo m) (map literal xs)
+    → AllByRecursion IsFullRow (map (row output_form) (map (λ x. output_row (literal x)) xs))
+literals_full m top literal [] h = tt
+literals_full m top literal (x ∷ xs) h =
+    let low : literal x ≤ 2 * m + 1 = h.0 in
+    (record { some = omega arith; small = (omega arith, tt) }, literals_full m top literal xs h.1)
+
+outputs_full : (m : ℕ) → m ≤ LARGEST → (os : List ℕ) → AllByRecursion (IsLiteralUpTo m) os → AllByRecursion IsFullRow (map (row output_form) (map output_row os) ++ [])
+outputs_full m top [] h = tt
+outputs_full m top (o ∷ os) h =
+    let low : o ≤ 2 * m + 1 = h.0 in
+    (record { some = omega arith; small = (omega arith, tt) }, outputs_full m top os h.1)
 
 rows_full : (c : Circuit) → IsInForm c → AllByRecursion IsFullRow (binary_rows_of c)
-rows_full c form = literals_full c.max_var form.limits.max_var (numbered_literals c) (front (IsLiteralUpTo c.max_var) (numbered_literals c) (flat_map operands c.gates) form.literals)
+rows_full c form =
+    let nexts = map (λ (l : Latch). l.next) c.latches in
+    let all : AllByRecursion (IsLiteralUpTo c.max_var) (nexts ++ c.outputs) = front (IsLiteralUpTo c.max_var) (nexts ++ c.outputs) (flat_map operands c.gates) form.literals in
+    all_joined IsFullRow (map (row output_form) (map next_row c.latches)) (map (row output_form) (map output_row c.outputs) ++ [])
+    (literals_full c.max_var form.limits.max_var (λ (l : Latch). l.next) c.latches (left_of (IsLiteralUpTo c.max_var) nexts c.outputs all))
+    (outputs_full c.max_var form.limits.max_var c.outputs (right_of (IsLiteralUpTo c.max_var) nexts c.outputs all))
 
 gates_spelled : (gs : List Gate) → AllByRecursion HasDeltas gs → SpellsGates (flat_map gate_text gs) gs
 gates_spelled [] h = refl

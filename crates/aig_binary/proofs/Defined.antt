@@ -1,13 +1,9 @@
--- The definitions that a binary file does not spell: its inputs and its latches, by their places.
-use Rattle.std.proofs.Common.{◌≡◌, ◌+◌, ◌<◌, ℕ, zero, suc, List, [], ◌∷◌, ◌++◌, map, take, length, get_or, refl, ap, ◌∙◌, arith, add-one}
-use Rattle.std.specs.List.{range_with_len}
+-- Latches by their places, and by the rows of their next literals.
+use Rattle.std.proofs.Common.{◌≡◌, ◌+◌, ◌<◌, ℕ, suc, List, [], ◌∷◌, ◌++◌, map, take, length, get_or, refl, ap, ◌∙◌, arith}
 use Rattle.std.proofs.lemmas.List.{take_more, length-take-le}
 use Rattle.aig_core.specs.declared.circuit.Latch.{Latch}
-use Rattle.aig_core.specs.declared.circuit.Gate.{Gate}
-use Rattle.aig_text.specs.declared.header_line.Header.{Header}
-use Rattle.aig_text.specs.Rows.{output_row, output_of}
+use Rattle.aig_text.specs.Rows.{output_row, output_of, latches_from}
 use Rattle.aig_core.proofs.Makers.{latch}
-use Rattle.aig_binary.specs.BinaryReading.{latches_from, numbered_circuit}
 
 pub no_latches : (v : ℕ) → latches_from v [] ≡ []
 unfolding latches_from
@@ -32,11 +28,3 @@ pub latches_of_rows : (v : ℕ) (rows : List (List ℕ)) → latches_from v (map
 unfolding latches_from
 latches_of_rows v [] = refl
 latches_of_rows v (r ∷ rows) = ap (λ (ls : List Latch). latch v (output_of r) ∷ ls) (latches_of_rows (suc v) rows)
-
-pub literals_of_rows : (ns : List ℕ) → map output_of (map output_row ns) ≡ ns
-literals_of_rows [] = refl
-literals_of_rows (n ∷ ns) = ap (λ (ms : List ℕ). n ∷ ms) (literals_of_rows ns)
-
-pub circuit_of_rows : (h : Header) (nexts outputs : List (List ℕ)) (gates : List Gate)
-    → numbered_circuit h (map output_row (map output_of nexts)) (map output_row (map output_of outputs)) gates ≡ numbered_circuit h nexts outputs gates
-circuit_of_rows h nexts outputs gates = rw (latches_of_rows (1 + h.inputs) nexts, literals_of_rows (map output_of outputs)) refl

@@ -1,5 +1,5 @@
 -- What the binary writer has put, part by part.
-use Rattle.std.proofs.Common.{◌≡◌, ◌+◌, ◌-◌, ◌≤◌, ℕ, suc, List, [], ◌∷◌, ◌++◌, length, map, sym, ap, ap₂, ◌∙◌, append_assoc, arith}
+use Rattle.std.proofs.Common.{◌≡◌, ◌+◌, ◌-◌, ◌≤◌, ℕ, suc, List, [], ◌∷◌, ◌++◌, length, map, refl, sym, ap, ap₂, ◌∙◌, append_assoc, arith}
 use Rattle.std.specs.List.{All, AllByRecursion, flat_map}
 use Rattle.std.proofs.lemmas.List.Concat.{flat_map-append}
 use Rattle.std.proofs.lemmas.List.Folds.{flat_map-map}
@@ -13,7 +13,7 @@ use Rattle.aig_core.specs.declared.circuit.Gate.{Gate}
 use Rattle.aig_core.specs.declared.circuit.Circuit.{Circuit}
 use Rattle.aig_text.specs.AsciiText.{line_text, numbers_text}
 use Rattle.aig_text.specs.Rows.{row, output_form, output_row}
-use Rattle.aig_binary.specs.BinaryGrammar.{binary_rows_of, numbered_literals}
+use Rattle.aig_binary.specs.BinaryGrammar.{binary_rows_of}
 use Rattle.aig_core.specs.BinaryOrder.{AreOrderedGates, IsInBinaryOrder}
 use Rattle.aig_binary.specs.BinaryText.{gate_text}
 use Rattle.aig_binary.specs.Delta.{shortest_delta}
@@ -40,18 +40,18 @@ module _ {W : Type 0} where
 abbrev text_of_literal : ℕ → List ℕ
 text_of_literal literal = numbers_text (literal ∷ [])
 
-literals_text : (ls : List ℕ) → flat_map text_of_literal ls ≡ flat_map line_text (map (row output_form) (map output_row ls))
-literals_text ls = simp (flat_map-map)
-
-nexts_text : (ls : List Latch) → flat_map (λ (l : Latch). text_of_literal l.next) ls ≡ flat_map text_of_literal (map (λ (l : Latch). l.next) ls)
+nexts_text : (ls : List Latch) → flat_map (λ (l : Latch). text_of_literal l.next) ls ≡ flat_map line_text (map (row output_form) (map (λ (l : Latch). output_row l.next) ls))
 nexts_text ls = simp (flat_map-map)
+
+outputs_text : (os : List ℕ) → flat_map text_of_literal os ≡ flat_map line_text (map (row output_form) (map output_row os) ++ [])
+outputs_text [] = refl
+outputs_text (o ∷ os) = ap (λ (text : List ℕ). text_of_literal o ++ text) (outputs_text os)
 
 -- the lines of latches and outputs
 pub lines_text : (c : Circuit) → flat_map (λ (l : Latch). numbers_text (l.next ∷ [])) c.latches ++ flat_map (λ (l : ℕ). numbers_text (l ∷ [])) c.outputs ≡ flat_map line_text (binary_rows_of c)
 lines_text c =
-    ap (λ (text : List ℕ). text ++ flat_map text_of_literal c.outputs) (nexts_text c.latches)
-    ∙ sym (flat_map-append text_of_literal (map (λ (l : Latch). l.next) c.latches) c.outputs)
-    ∙ literals_text (numbered_literals c)
+    ap₂ (λ (xs ys : List ℕ). xs ++ ys) (nexts_text c.latches) (outputs_text c.outputs)
+    ∙ sym (flat_map-append line_text (map (row output_form) (map (λ (l : Latch). output_row l.next) c.latches)) (map (row output_form) (map output_row c.outputs) ++ []))
 
 deltas_from : (n : ℕ) (gs : List Gate) → AreOrderedGates n gs → n + length gs ≤ LARGEST + 1 → AllByRecursion HasDeltas gs
 deltas_from n [] h top = tt

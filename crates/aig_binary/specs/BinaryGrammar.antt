@@ -1,8 +1,7 @@
 -- Which texts are binary AIGER files of which circuits (AIGER report, with the lenient spellings and the limits of this
 -- project's profile). A relation that knows of no reading from left to right.
-use Rattle.std.specs.Prelude.{◌≡◌, ◌≤◌, ◌-◌, ◌⊎◌, ℕ, List, [], ◌∷◌, ◌++◌, map, true, codes}
+use Rattle.std.specs.Prelude.{◌≡◌, ◌≤◌, ◌-◌, ◌⊎◌, ℕ, List, [], ◌∷◌, ◌++◌, true, codes}
 use Rattle.std.specs.List.{AllByRecursion, AllZip}
-use Rattle.aig_core.specs.declared.circuit.Latch.{Latch}
 use Rattle.aig_core.specs.declared.circuit.Gate.{Gate}
 use Rattle.aig_core.specs.declared.circuit.Circuit.{Circuit}
 use Rattle.aig_core.specs.Literal.{literal_of}
@@ -10,7 +9,7 @@ use Rattle.aig_core.specs.Wellformed.{IsWellFormed}
 use Rattle.aig_text.specs.Lines.{Line, lines_of}
 use Rattle.aig_text.specs.Spelling.{IsHeaderLine}
 use Rattle.aig_text.specs.Tail.{AreTailLines}
-use Rattle.aig_text.specs.Rows.{Row, row, output_form, output_row, header_row}
+use Rattle.aig_text.specs.Rows.{Row, listed_rows, in_binary, header_row}
 use Rattle.aig_text.specs.AsciiGrammar.{IsRowLine}
 use Rattle.aig_core.specs.BinaryOrder.{IsInBinaryOrder}
 use Rattle.aig_binary.specs.Delta.{IsDelta}
@@ -19,12 +18,9 @@ use Rattle.aig_binary.specs.Delta.{IsDelta}
 abbrev pub binary_word : List ℕ
 binary_word = codes "aig"
 
--- the numbered lines: the next literal of each latch, and then the outputs
-abbrev pub numbered_literals : Circuit → List ℕ
-numbered_literals c = map (λ (l : Latch). l.next) c.latches ++ c.outputs
-
+-- the rows of the numbered lines: the next literal of each latch, and then the outputs
 abbrev pub binary_rows_of : Circuit → List Row
-binary_rows_of c = map (row output_form) (map output_row (numbered_literals c))
+binary_rows_of c = listed_rows in_binary c
 
 -- a gate is spelled as how much its first operand is below its own literal, and the second one below the first
 pub record SpellsGate (bytes : List ℕ) (g : Gate) : Type 0 where

@@ -1,8 +1,7 @@
 -- What a text is read as, as a binary file, or its first fault (this project's profile): the first line or gate that is not
 -- right for its place, with the first kind that applies. A binary file has no fault of structure.
-use Rattle.std.specs.Prelude.{◌+◌, ◌-◌, ◌==◌, ◌&&◌, ◌||◌, ℕ, zero, suc, List, [], ◌∷◌, map, length, nat_lt, nat_le, Option, None, Some, Result, Ok, Err, if◌then◌else◌}
+use Rattle.std.specs.Prelude.{◌+◌, ◌-◌, ◌==◌, ◌&&◌, ◌||◌, ℕ, zero, suc, List, [], ◌∷◌, length, nat_lt, nat_le, Option, None, Some, Result, Ok, Err, if◌then◌else◌}
 use Rattle.std.specs.List.{list_all, range_with_len}
-use Rattle.aig_core.specs.declared.circuit.Latch.{Latch}
 use Rattle.aig_core.specs.declared.circuit.Gate.{Gate}
 use Rattle.aig_core.specs.declared.circuit.Circuit.{Circuit}
 use Rattle.aig_core.specs.Literal.{literal_of}
@@ -11,10 +10,10 @@ use Rattle.aig_text.specs.declared.fault.Place.TheVariants as places
 use Rattle.aig_text.specs.declared.fault.ReadKind.{ReadKind}
 use Rattle.aig_text.specs.declared.fault.ReadKind.TheVariants as kinds
 use Rattle.aig_text.specs.declared.fault.ReadFault.{ReadFault}
-use Rattle.aig_text.specs.Lines.{Line, lines_of, bytes_of}
+use Rattle.aig_text.specs.Lines.{Line, ahead, lines_of, bytes_of}
 use Rattle.aig_text.specs.declared.header_line.Header.{Header}
-use Rattle.aig_text.specs.Rows.{output_form, output_of}
-use Rattle.aig_text.specs.Reading.{◌>>=◌, at_line, header_at, rows_at, tail_at, fault_of}
+use Rattle.aig_text.specs.Rows.{sections, in_binary}
+use Rattle.aig_text.specs.Reading.{◌>>=◌, at_line, header_at, sections_at, empty_circuit, tail_at, fault_of}
 use Rattle.aig_binary.specs.BinaryGrammar.{binary_word}
 use Rattle.aig_binary.specs.Delta.{delta_at}
 
@@ -55,32 +54,18 @@ gates_at variable n (suc count) bytes = do
   others ← gates_at (suc variable) (suc n) count first.1
   Ok (first.0 ∷ others.0, others.1)
 
--- latches of this variable and the next ones, by the rows of their next literals
-unfoldable pub latches_from : ℕ → List (List ℕ) → List Latch
-latches_from variable [] = []
-latches_from variable (next ∷ nexts) = record { var = variable; next = output_of next } ∷ latches_from (suc variable) nexts
-
--- the circuit without its tail
-abbrev pub numbered_circuit : Header → List (List ℕ) → List (List ℕ) → List Gate → Circuit
-numbered_circuit h nexts outputs gates = record {
-  max_var = h.max_var;
-  inputs = range_with_len 1 h.inputs;
-  latches = latches_from (1 + h.inputs) nexts;
-  outputs = map output_of outputs;
-  gates = gates;
-  symbols = [];
-  comment = None;
-}
+-- the circuit with the definitions that no line tells
+abbrev pub with_definitions : Header → List Gate → Circuit → Circuit
+with_definitions h gates c = record c { inputs = range_with_len 1 h.inputs; gates = gates }
 
 -- the circuit that the lines of a text tell, with the bytes of gates behind the numbered ones
 unfoldable pub binary_at : ℕ → List Line → Result Circuit ReadFault
 binary_at limit ls = do
-  header ← header_at binary_word limit 1 ls
+  header ← header_at binary_word limit (ahead 1 ls)
   h ← at_line 1 (filled header.0)
-  nexts ← rows_at output_form h.max_var h.latches header.1 header.2
-  outputs ← rows_at output_form h.max_var h.outputs nexts.1 nexts.2
-  gates ← gates_at (1 + h.inputs + h.latches) 1 h.gates (bytes_of outputs.2)
-  tail_at h nothing_named (numbered_circuit h nexts.0 outputs.0 gates.0) outputs.1 (lines_of gates.1)
+  numbered ← sections_at in_binary h sections (empty_circuit h.max_var) header.1
+  gates ← gates_at (1 + h.inputs + h.latches) 1 h.gates (bytes_of numbered.1.lines)
+  tail_at h nothing_named (with_definitions h gates.0 numbered.0) numbered.1.number (lines_of gates.1)
 
 abbrev pub binary_reading : ℕ → List ℕ → Result Circuit ReadFault
 binary_reading limit text = binary_at limit (lines_of text)

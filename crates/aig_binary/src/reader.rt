@@ -1,18 +1,23 @@
 //! The reader of binary files.
-ghost use Rattle.std.specs.Prelude.{◌≡◌, ◌+◌, ◌^◌, ◌<◌, ◌≤◌, IfOk, IfErr, MatchResult, map, length};
+ghost use Rattle.std.specs.Prelude.{◌≡◌, ◌+◌, ◌^◌, ◌<◌, ◌≤◌, IfOk, IfErr, MatchResult, OnOk, map, length};
 ghost use Rattle.std.specs.List.{range_with_len};
+ghost use Rattle.aig_core.specs.declared.circuit.TheConstants.{LARGEST as largest_index};
 ghost use Rattle.aig_text.specs.Lines.{lines_of};
-ghost use Rattle.aig_text.specs.Rows.{output_row};
+ghost use Rattle.aig_text.specs.declared.section.Section.TheVariants.{Latches};
+ghost use Rattle.aig_text.specs.Rows.{in_binary, latches_from, output_row, sections};
 ghost use Rattle.aig_text.specs.Outcomes.{GivesOrMemory};
 ghost use Rattle.aig_core.specs.declared.circuit.Circuit.{Circuit as CircuitRecord};
-ghost use Rattle.aig_text.specs.Reading.{IsFirstFault, at_line, want_of_memory};
+ghost use Rattle.aig_text.specs.Reading.{IsFirstFault, at_line, section_at, sections_at, want_of_memory};
 ghost use Rattle.aig_core.specs.BinaryOrder.{IsInBinaryOrder};
 ghost use Rattle.aig_binary.specs.BinaryGrammar.{IsBinaryText};
-ghost use Rattle.aig_binary.specs.BinaryReading.{filled, latches_from, numbered_circuit, binary_at, first_binary_fault};
+ghost use Rattle.aig_binary.specs.BinaryReading.{filled, with_definitions, binary_at, first_binary_fault};
 
 use crate::gates::read_gates;
 use aig_core::{Checked, Circuit, Gate, Latch, Listing, Lit, Var};
-use aig_text::{Cursor, Header, Limits, Place, ReadFault, ReadKind, header, literals, tail};
+use aig_text::{
+    Cursor, Header, Limits, Place, ReadFault, ReadKind, SECTIONS, Section, empty_circuit, header,
+    literals, read_section, tail,
+};
 use std::alloc::Global;
 
 /// The first word of a binary file.
@@ -65,30 +70,78 @@ fn latches(alloc: Global, variable: u32, nexts: &Listing<Lit>) -> Result<Listing
     Ok(found)
 }
 
-/// The circuit that has no tail.
-fn numbered_circuit(
+/// Makes the latches those of the next literals that the lines from here on hold, and moves behind these lines.
+fn read_latches(
     alloc: Global,
-    header: Header,
-    nexts: &Listing<Lit>,
-    outputs: Listing<Lit>,
+    header: &Header,
+    circuit: &mut Circuit,
+    at: &mut Cursor,
+) -> Result<(), ReadFault>
+    requires max_var { header.now.max_var ≤ largest_index }
+    requires definitions { header.now.inputs + header.now.latches ≤ header.now.max_var }
+    ensures { GivesOrMemory (λ _. (circuit.new, at.new)) result
+        (section_at (in_binary Latches) header.now circuit.old at.old) }
+{
+    let nexts = literals(alloc, header.latches, at, header.max_var)?;
+    circuit.latches = latches(alloc, 1 + header.inputs, &nexts)?;
+    Ok(())
+}
+
+/// Adds what the lines of a section tell of it, and moves behind these lines.
+fn read_lines(
+    alloc: Global,
+    section: Section,
+    header: &Header,
+    circuit: &mut Circuit,
+    at: &mut Cursor,
+) -> Result<(), ReadFault>
+    requires max_var { header.now.max_var ≤ largest_index }
+    requires definitions { header.now.inputs + header.now.latches ≤ header.now.max_var }
+    ensures { GivesOrMemory (λ _. (circuit.new, at.new)) result
+        (section_at (in_binary section) header.now circuit.old at.old) }
+{
+    match section {
+        Section::Inputs | Section::Gates => Ok(()),
+        Section::Latches => read_latches(alloc, header, circuit, at),
+        Section::Outputs => read_section(section, header, circuit, at),
+    }
+}
+
+/// Adds what the lines of all sections tell, and moves behind these lines.
+fn read_sections(
+    alloc: Global,
+    header: &Header,
+    circuit: &mut Circuit,
+    at: &mut Cursor,
+) -> Result<(), ReadFault>
+    requires max_var { header.now.max_var ≤ largest_index }
+    requires definitions { header.now.inputs + header.now.latches ≤ header.now.max_var }
+    ensures { GivesOrMemory (λ _. (circuit.new, at.new)) result
+        (sections_at in_binary header.now sections circuit.old at.old) }
+{
+    for section in SECTIONS {
+        // For a `?` here the kit's borrow checker makes no proof.
+        if let Err(fault) = read_lines(alloc, section, header, circuit, at) {
+            return Err(fault);
+        }
+    }
+    Ok(())
+}
+
+/// Adds the definitions that no line tells.
+fn define(
+    alloc: Global,
+    header: &Header,
     gates: Listing<Gate>,
-) -> Result<Circuit, ReadFault>
-    requires inputs { header.inputs < 2 ^ 31 }
-    requires nexts { 1 + header.inputs + length nexts.now < 2 ^ 32 }
-    ensures ok { IfOk result (λ c. c ≡ numbered_circuit header (map output_row nexts.now) (map output_row outputs) gates) }
+    circuit: &mut Circuit,
+) -> Result<(), ReadFault>
+    requires { header.now.inputs < 2 ^ 31 }
+    ensures ok { OnOk result (circuit.new ≡ with_definitions header.now gates circuit.old) }
     ensures err { IfErr result (λ e. e ≡ want_of_memory) }
 {
-    let inputs = inputs(alloc, header.inputs)?;
-    let latches = latches(alloc, 1 + header.inputs, nexts)?;
-    Ok(Circuit {
-        max_var: header.max_var,
-        inputs,
-        latches,
-        outputs,
-        gates,
-        symbols: Listing::new(alloc),
-        comment: None,
-    })
+    circuit.inputs = inputs(alloc, header.inputs)?;
+    circuit.gates = gates;
+    Ok(())
 }
 
 /// Reads a circuit from the lines and the gates of a text. Whether it is well formed is not checked here.
@@ -98,12 +151,12 @@ fn read_circuit(alloc: Global, bytes: &[u8], limits: Limits) -> Result<Circuit, 
     let mut at = Cursor::new(bytes);
     let promised = header(BINARY_WORD, &mut at, limits)?;
     let header = filled(promised)?;
-    let nexts = literals(alloc, header.latches, &mut at, header.max_var)?;
-    let outputs = literals(alloc, header.outputs, &mut at, header.max_var)?;
+    let mut circuit = empty_circuit(alloc, header.max_var);
+    read_sections(alloc, &header, &mut circuit, &mut at)?;
     let first = 1 + header.inputs + header.latches;
     let (gates, rest) = read_gates(alloc, first, header.gates, at.rest)?;
     // The inputs that a header promises take memory only where all that is due of lines and gates was there.
-    let circuit = numbered_circuit(alloc, header, &nexts, outputs, gates)?;
+    define(alloc, &header, gates, &mut circuit)?;
     tail(alloc, &header, circuit, Cursor::at_line(at.number, rest))
 }
 

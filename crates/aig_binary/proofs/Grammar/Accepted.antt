@@ -1,5 +1,5 @@
 -- A text that is read as a binary file is the file of the circuit, which is well formed and in binary order.
-use Rattle.std.proofs.Common.{◌≡◌, ℕ, List, ◌∷◌, ◌++◌, map, Option, Ok, refl, sym, ap, subst, ◌∙◌, append_assoc}
+use Rattle.std.proofs.Common.{◌≡◌, ℕ, List, ◌∷◌, ◌++◌, Option, Ok, refl, sym, ap, subst, ◌∙◌}
 use Rattle.std.specs.List.{AllByRecursion, AllZip}
 use Rattle.aig_core.specs.declared.circuit.Symbol.{Symbol}
 use Rattle.aig_core.specs.declared.circuit.Gate.{Gate}
@@ -8,19 +8,18 @@ use Rattle.aig_core.specs.Names.{nothing_named}
 use Rattle.aig_core.specs.Wellformed.{IsWellFormed}
 use Rattle.aig_text.specs.Lines.{Line, lines_of, bytes_of}
 use Rattle.aig_text.specs.Laws.{IsOneLine, EndInLineFeeds}
-use Rattle.aig_text.specs.Rows.{Row, row, output_form, header_row}
+use Rattle.aig_text.specs.Rows.{Row, header_row}
 use Rattle.aig_text.specs.AsciiGrammar.{IsRowLine}
 use Rattle.aig_text.proofs.Loops.Cutting.{pieces}
 use Rattle.aig_text.proofs.Grammar.Headers.{HasCounts, heads, limited, within_limits}
 use Rattle.aig_text.proofs.Grammar.Pieces.{lines_again, first_ended, ended_before, bytes_joined}
-use Rattle.aig_text.proofs.Grammar.Sections.{zips_joined}
 use Rattle.aig_text.proofs.Grammar.Tail.{with_tail}
 use Rattle.aig_text.proofs.Grammar.WholeTail.{left_of, tail_holds, good_symbols}
 use Rattle.aig_core.specs.BinaryOrder.{IsInBinaryOrder}
 use Rattle.aig_binary.specs.BinaryGrammar.{binary_word, binary_rows_of, SpellsGates, EndsBefore, IsBinaryText}
-use Rattle.aig_binary.specs.BinaryReading.{numbered_circuit, binary_at, binary_reading}
+use Rattle.aig_binary.specs.BinaryReading.{binary_at, binary_reading}
 use Rattle.aig_core.proofs.WellOrdered.{HasLiteralsUpTo, well_formed}
-use Rattle.aig_binary.proofs.Grammar.Numbered.{rows_are, literals_are, counts_are, order_is}
+use Rattle.aig_binary.proofs.Grammar.Numbered.{numbered_circuit, rows_are, literals_are, counts_are, order_is}
 use Rattle.aig_binary.proofs.Grammar.Told.{TellsBinary, binary_told}
 
 -- what the tail adds changes no order
@@ -34,15 +33,15 @@ module _ (limit : ℕ) (ls : List Line) (c : Circuit) (t : TellsBinary limit ls 
   counts : HasCounts t.header c
   counts =
       sym (ap header_row t.numbers.tail.circuit)
-      ∙ counts_are t.header t.numbers.nexts t.numbers.outputs t.numbers.gates t.numbers.next_rows.counted t.numbers.output_rows.counted t.numbers.are_gates.counted
+      ∙ counts_are t.header t.numbers.nexts t.numbers.outputs t.numbers.gates t.numbers.fit_nexts.counted t.numbers.fit_outputs.counted t.numbers.are_gates.counted
 
   pub ordered : IsInBinaryOrder c
   ordered =
       subst IsInBinaryOrder t.numbers.tail.circuit (order_kept numbered t.numbers.tail.symbols t.numbers.tail.comment
-      (order_is t.header t.numbers.nexts t.numbers.outputs t.numbers.gates t.numbers.next_rows.counted t.numbers.are_gates.counted t.full t.numbers.are_gates.ordered))
+      (order_is t.header t.numbers.nexts t.numbers.outputs t.numbers.gates t.numbers.fit_nexts.counted t.numbers.are_gates.counted t.full t.numbers.are_gates.ordered))
 
   literals : HasLiteralsUpTo c
-  literals = subst HasLiteralsUpTo t.numbers.tail.circuit (literals_are t.header t.numbers.nexts t.numbers.outputs t.numbers.gates t.numbers.next_rows.good t.numbers.output_rows.good)
+  literals = subst HasLiteralsUpTo t.numbers.tail.circuit (literals_are t.header t.numbers.nexts t.numbers.outputs t.numbers.gates t.numbers.fit_nexts.good t.numbers.fit_outputs.good)
 
   pub sound : IsWellFormed c
   sound =
@@ -50,23 +49,17 @@ module _ (limit : ℕ) (ls : List Line) (c : Circuit) (t : TellsBinary limit ls 
       (good_symbols t.header numbered c (lines_of t.numbers.rest) t.numbers.tail refl counts (pieces t.numbers.rest).one_each)
 
   -- the lines in front of the gates
-  abbrev rows : List Line
-  rows = t.numbers.next_rows.front ++ t.numbers.output_rows.front
-
   abbrev front : List Line
-  front = t.first ∷ rows
+  front = t.first ∷ t.numbers.front
 
   lines : ls ≡ front ++ t.numbers.last
-  lines =
-      t.are ∙ ap (λ (ks : List Line). t.first ∷ ks) (t.numbers.next_rows.lines
-      ∙ ap (λ (ks : List Line). t.numbers.next_rows.front ++ ks) t.numbers.output_rows.lines
-      ∙ sym (append_assoc t.numbers.next_rows.front t.numbers.output_rows.front t.numbers.last))
+  lines = t.are ∙ ap (λ (ks : List Line). t.first ∷ ks) t.numbers.lines
 
-  rows_spelled : AllZip IsRowLine rows (binary_rows_of c)
+  rows_spelled : AllZip IsRowLine t.numbers.front (binary_rows_of c)
   rows_spelled =
-      subst (λ (rs : List Row). AllZip IsRowLine rows rs)
-      (rows_are t.header t.numbers.nexts t.numbers.outputs t.numbers.gates t.numbers.next_rows.good t.numbers.output_rows.good ∙ ap binary_rows_of t.numbers.tail.circuit)
-      (zips_joined IsRowLine t.numbers.next_rows.front t.numbers.output_rows.front (map (row output_form) t.numbers.nexts) (map (row output_form) t.numbers.outputs) t.numbers.next_rows.spelled t.numbers.output_rows.spelled)
+      subst (λ (rs : List Row). AllZip IsRowLine t.numbers.front rs)
+      (rows_are t.header t.numbers.nexts t.numbers.outputs t.numbers.gates t.numbers.fit_nexts.good t.numbers.fit_outputs.good ∙ ap binary_rows_of t.numbers.tail.circuit)
+      t.numbers.spelled
 
 -- a text whose lines tell a circuit is its file
 told_is_accepted : (limit : ℕ) (text : List ℕ) (c : Circuit) → TellsBinary limit (lines_of text) c → IsBinaryText text limit c
@@ -80,7 +73,7 @@ told_is_accepted limit text c t =
       gates = t.numbers.are_gates.spelling;
       rest = t.numbers.rest;
       header = t.first;
-      numbered = rows limit ls c t;
+      numbered = t.numbers.front;
       text_is =
           sym (pieces text).joined ∙ ap bytes_of cut ∙ bytes_joined (front limit ls c t) t.numbers.last
           ∙ ap (λ (bytes : List ℕ). bytes_of (front limit ls c t) ++ bytes) t.numbers.are_gates.are;

@@ -1,18 +1,32 @@
 -- The numbered lines of a binary file: latches by their next literals, outputs, and what they make of a circuit.
 use Rattle.std.proofs.Common.{◌≡◌, ◌+◌, ℕ, suc, List, [], ◌∷◌, ◌++◌, length, map, refl, sym, ap, ap₂, subst, ◌∙◌, add-one}
 use Rattle.std.specs.List.{AllByRecursion, range_with_len}
-use Rattle.std.proofs.lemmas.List.{length-map, map-append}
+use Rattle.std.proofs.lemmas.List.{length-map}
 use Rattle.std.proofs.lemmas.List.FromFn.{length-range_with_len}
 use Rattle.aig_core.specs.declared.circuit.Latch.{Latch}
 use Rattle.aig_core.specs.declared.circuit.Gate.{Gate}
+use Rattle.aig_core.specs.declared.circuit.Circuit.{Circuit}
 use Rattle.aig_text.specs.declared.header_line.Header.{Header}
-use Rattle.aig_text.specs.Rows.{row, output_form, output_row, output_of}
+use Rattle.aig_text.specs.Rows.{row, output_form, output_row, output_of, latches_from, sections, in_binary}
+use Rattle.aig_text.specs.Reading.{empty_circuit}
 use Rattle.aig_text.proofs.Grammar.Entries.{IsGoodRow, IsLiteralUpTo, output_entry, rows_again, all_mapped}
 use Rattle.aig_text.proofs.Grammar.Headers.{HasCounts}
+use Rattle.aig_text.proofs.Grammar.Sections.{rows_under, with_all}
 use Rattle.aig_core.specs.BinaryOrder.{AreOrderedGates, IsInBinaryOrder}
 use Rattle.aig_binary.specs.BinaryGrammar.{binary_rows_of}
-use Rattle.aig_binary.specs.BinaryReading.{latches_from, numbered_circuit}
+use Rattle.aig_binary.specs.BinaryReading.{with_definitions}
 use Rattle.aig_core.proofs.WellOrdered.{HasLiteralsUpTo}
+
+-- the rows of all sections: next literals and outputs alone
+abbrev pub own_rows : List (List ℕ) → List (List ℕ) → List (List (List ℕ))
+own_rows nexts outputs = [] ∷ nexts ∷ outputs ∷ [] ∷ []
+
+-- the circuit with them, and with what no line tells
+abbrev pub with_lines : Header → List (List ℕ) → List (List ℕ) → Circuit
+with_lines h nexts outputs = with_all in_binary h sections (own_rows nexts outputs) (empty_circuit h.max_var)
+
+abbrev pub numbered_circuit : Header → List (List ℕ) → List (List ℕ) → List Gate → Circuit
+numbered_circuit h nexts outputs gates = with_definitions h gates (with_lines h nexts outputs)
 
 -- latches by the rows of their next literals
 nexts_are : (variable : ℕ) (rows : List (List ℕ)) → map (λ (l : Latch). l.next) (latches_from variable rows) ≡ map output_of rows
@@ -31,7 +45,16 @@ unfolding latches_from
 as_many variable [] = refl
 as_many variable (ns ∷ rows) = ap suc (as_many (suc variable) rows)
 
-pub latches_again : (variable : ℕ) (ls : List Latch) → map (λ (l : Latch). l.var) ls ≡ range_with_len variable (length ls) → latches_from variable (map output_row (map (λ (l : Latch). l.next) ls)) ≡ ls
+-- the row of a latch
+abbrev pub next_row : Latch → List ℕ
+next_row l = output_row l.next
+
+next_rows_are : (variable : ℕ) (rows : List (List ℕ)) → map next_row (latches_from variable rows) ≡ map output_row (map output_of rows)
+unfolding latches_from
+next_rows_are variable [] = refl
+next_rows_are variable (ns ∷ rows) = ap (λ (ms : List (List ℕ)). output_row (output_of ns) ∷ ms) (next_rows_are (suc variable) rows)
+
+pub latches_again : (variable : ℕ) (ls : List Latch) → map (λ (l : Latch). l.var) ls ≡ range_with_len variable (length ls) → latches_from variable (map next_row ls) ≡ ls
 unfolding latches_from
 latches_again variable [] e = refl
 latches_again variable (l ∷ ls) e =
@@ -39,10 +62,6 @@ latches_again variable (l ∷ ls) e =
     let others : map (λ (l : Latch). l.var) ls ≡ range_with_len (variable + 1) (length ls) = cc in
     ap₂ (λ (v : ℕ) (ms : List Latch). record { var = v; next = l.next } ∷ ms) (sym here)
     (latches_again (suc variable) ls (others ∙ ap (λ (k : ℕ). range_with_len k (length ls)) (add-one variable)))
-
--- the rows of two lists of literals
-pub rows_apart : (ns os : List ℕ) → map (row output_form) (map output_row (ns ++ os)) ≡ map (row output_form) (map output_row ns) ++ map (row output_form) (map output_row os)
-rows_apart ns os = ap (map (row output_form)) (map-append output_row ns os) ∙ map-append (row output_form) (map output_row ns) (map output_row os)
 
 -- rows of one literal
 literals_again : (m : ℕ) (rows : List (List ℕ)) → AllByRecursion (IsGoodRow output_form m) rows → map output_row (map output_of rows) ≡ rows
@@ -53,11 +72,11 @@ up_to m rows good = all_mapped (IsGoodRow output_form m) (IsLiteralUpTo m) outpu
 
 -- what a header, rows and gates make of a circuit
 module _ (h : Header) (nexts outputs : List (List ℕ)) (gates : List Gate) where
-  pub rows_are : AllByRecursion (IsGoodRow output_form h.max_var) nexts → AllByRecursion (IsGoodRow output_form h.max_var) outputs → map (row output_form) nexts ++ map (row output_form) outputs ≡ binary_rows_of (numbered_circuit h nexts outputs gates)
+  pub rows_are : AllByRecursion (IsGoodRow output_form h.max_var) nexts → AllByRecursion (IsGoodRow output_form h.max_var) outputs
+      → rows_under in_binary h sections (own_rows nexts outputs) ≡ binary_rows_of (numbered_circuit h nexts outputs gates)
   rows_are n o =
-      sym (ap (λ (ms : List ℕ). map (row output_form) (map output_row (ms ++ map output_of outputs))) (nexts_are (1 + h.inputs) nexts)
-      ∙ rows_apart (map output_of nexts) (map output_of outputs)
-      ∙ ap₂ (λ (xs ys : List (List ℕ)). map (row output_form) xs ++ map (row output_form) ys) (literals_again h.max_var nexts n) (literals_again h.max_var outputs o))
+      sym (ap₂ (λ (xs ys : List (List ℕ)). map (row output_form) xs ++ (map (row output_form) ys ++ []))
+      (next_rows_are (1 + h.inputs) nexts ∙ literals_again h.max_var nexts n) (literals_again h.max_var outputs o))
 
   pub literals_are : AllByRecursion (IsGoodRow output_form h.max_var) nexts → AllByRecursion (IsGoodRow output_form h.max_var) outputs → HasLiteralsUpTo (numbered_circuit h nexts outputs gates)
   literals_are n o =

@@ -1,5 +1,6 @@
 -- What the lines of a binary file tell, step by step.
-use Rattle.std.proofs.Common.{◌≡◌, ◌+◌, ℕ, List, [], ◌∷◌, Result, Ok, refl, sym, subst, arith, ap, eqb, ◌∙◌}
+use Rattle.std.proofs.Common.{◌≡◌, ◌+◌, ℕ, List, [], ◌∷◌, ◌++◌, Result, Ok, refl, sym, subst, arith, ap, eqb, ◌∙◌}
+use Rattle.std.specs.List.{AllZip}
 use Rattle.std.proofs.lemmas.Bool.{eqb-true}
 use Rattle.aig_core.specs.declared.circuit.Gate.{Gate}
 use Rattle.aig_core.specs.declared.circuit.Circuit.{Circuit}
@@ -7,16 +8,21 @@ use Rattle.aig_core.specs.Names.{nothing_named}
 use Rattle.aig_text.specs.declared.fault.ReadKind.{ReadKind}
 use Rattle.aig_text.specs.declared.fault.ReadKind.TheVariants as kinds
 use Rattle.aig_text.specs.declared.fault.ReadFault.{ReadFault}
-use Rattle.aig_text.specs.Lines.{Line, lines_of, bytes_of}
+use Rattle.aig_text.specs.Lines.{Line, Ahead, ahead, lines_of, bytes_of}
 use Rattle.aig_text.specs.declared.header_line.Header.{Header}
-use Rattle.aig_text.specs.Rows.{output_form}
-use Rattle.aig_text.specs.Reading.{◌>>=◌, at_line, header_of, header_at, rows_at, tail_at}
+use Rattle.aig_text.specs.Rows.{output_form, sections, in_binary}
+use Rattle.aig_text.specs.declared.section.Section.{Section}
+use Rattle.aig_text.specs.declared.section.Section.TheVariants.{Inputs, Latches, Outputs, Gates}
+use Rattle.aig_text.specs.AsciiGrammar.{IsRowLine}
+use Rattle.aig_text.specs.Reading.{◌>>=◌, at_line, header_of, header_at, sections_at, empty_circuit, tail_at}
 use Rattle.aig_text.proofs.Steps.{both_ok, ok_at_line, ok_same, let_through}
 use Rattle.aig_text.proofs.Grammar.Headers.{TellsHeader, header_tells}
-use Rattle.aig_text.proofs.Grammar.Rows.{AreRows, rows_told}
+use Rattle.aig_text.proofs.Grammar.Rows.{IsSound, first_told}
+use Rattle.aig_text.proofs.Grammar.Sections.{FitRows, rows_under, with_all, AllFit, sections_told}
 use Rattle.aig_text.proofs.Grammar.Tail.{TellsTail, tail_tells}
 use Rattle.aig_binary.specs.BinaryGrammar.{binary_word}
-use Rattle.aig_binary.specs.BinaryReading.{filled, gates_at, numbered_circuit, binary_at}
+use Rattle.aig_binary.specs.BinaryReading.{filled, gates_at, with_definitions, binary_at}
+use Rattle.aig_binary.proofs.Grammar.Numbered.{own_rows, with_lines, numbered_circuit}
 use Rattle.aig_binary.proofs.Grammar.Gates.{AreGates, gates_are}
 
 -- lines that tell rows, with gates and the lines of a tail behind them
@@ -24,11 +30,13 @@ pub record TellsNumbers (h : Header) (ls : List Line) (c : Circuit) : Type 0 whe
   pub nexts : List (List ℕ)
   pub outputs : List (List ℕ)
   pub gates : List Gate
-  pub between : List Line
+  pub front : List Line
   pub last : List Line
   pub rest : List ℕ
-  pub next_rows : AreRows output_form h.max_var h.latches ls nexts between
-  pub output_rows : AreRows output_form h.max_var h.outputs between outputs last
+  pub lines : ls ≡ front ++ last
+  pub spelled : AllZip IsRowLine front (rows_under in_binary h sections (own_rows nexts outputs))
+  pub fit_nexts : FitRows output_form h.max_var h.latches nexts
+  pub fit_outputs : FitRows output_form h.max_var h.outputs outputs
   pub are_gates : AreGates (1 + h.inputs + h.latches) h.gates (bytes_of last) gates rest
   pub tail : TellsTail h nothing_named (numbered_circuit h nexts outputs gates) c (lines_of rest)
 
@@ -41,46 +49,68 @@ pub record TellsBinary (limit : ℕ) (ls : List Line) (c : Circuit) : Type 0 whe
   pub full : header.max_var ≡ header.inputs + header.latches + header.gates
   pub numbers : TellsNumbers header others c
 
-abbrev Rows : Type 0
-Rows = List (List ℕ) × ℕ × List Line
+abbrev then_tail : Header → Circuit × Ahead → List Gate × List ℕ → Result Circuit ReadFault
+then_tail h numbered gates = tail_at h nothing_named (with_definitions h gates.0 numbered.0) numbered.1.number (lines_of gates.1)
 
-abbrev then_tail : Header → Rows → Rows → List Gate × List ℕ → Result Circuit ReadFault
-then_tail h nexts outputs gates = tail_at h nothing_named (numbered_circuit h nexts.0 outputs.0 gates.0) outputs.1 (lines_of gates.1)
+abbrev then_gates : Header → Circuit × Ahead → Result Circuit ReadFault
+then_gates h numbered = gates_at (1 + h.inputs + h.latches) 1 h.gates (bytes_of numbered.1.lines) >>= then_tail h numbered
 
-abbrev then_gates : Header → Rows → Rows → Result Circuit ReadFault
-then_gates h nexts outputs = gates_at (1 + h.inputs + h.latches) 1 h.gates (bytes_of outputs.2) >>= then_tail h nexts outputs
+abbrev numbers_at : Header → Ahead → Result Circuit ReadFault
+numbers_at h at = sections_at in_binary h sections (empty_circuit h.max_var) at >>= then_gates h
 
-abbrev then_outputs : Header → Rows → Result Circuit ReadFault
-then_outputs h nexts = rows_at output_form h.max_var h.outputs nexts.1 nexts.2 >>= then_gates h nexts
+abbrev then_numbers : Header × Ahead → Header → Result Circuit ReadFault
+then_numbers header h = numbers_at h header.1
 
-abbrev numbers_at : Header → ℕ → List Line → Result Circuit ReadFault
-numbers_at h n ls = rows_at output_form h.max_var h.latches n ls >>= then_outputs h
-
-abbrev then_numbers : Header × ℕ × List Line → Header → Result Circuit ReadFault
-then_numbers header h = numbers_at h header.1 header.2
-
-abbrev then_filled : Header × ℕ × List Line → Result Circuit ReadFault
+abbrev then_filled : Header × Ahead → Result Circuit ReadFault
 then_filled header = at_line 1 (filled header.0) >>= then_numbers header
 
-tail_told : (h : Header) (nexts outputs : List (List ℕ)) (gates : List Gate) (n : ℕ) (ls : List Line) (c : Circuit) → tail_at h nothing_named (numbered_circuit h nexts outputs gates) n ls ≡ Ok c → TellsTail h nothing_named (numbered_circuit h nexts outputs gates) c ls
-tail_told h nexts outputs gates n ls c is = tail_tells h nothing_named (numbered_circuit h nexts outputs gates) n ls c refl is
+sound : (s : Section) → IsSound (in_binary s).form
+sound Inputs = omega arith
+sound Latches = omega arith
+sound Outputs = omega arith
+sound Gates = omega arith
 
-numbers_told : (h : Header) (n : ℕ) (ls : List Line) (c : Circuit) → numbers_at h n ls ≡ Ok c → TellsNumbers h ls c
-numbers_told h n ls c is =
-    let a = both_ok (rows_at output_form h.max_var h.latches n ls) (then_outputs h) c is in
-    let b = both_ok (rows_at output_form h.max_var h.outputs a.0.1 a.0.2) (then_gates h a.0) c a.2 in
-    let d = both_ok (gates_at (1 + h.inputs + h.latches) 1 h.gates (bytes_of b.0.2)) (then_tail h a.0 b.0) c b.2 in
+-- next literals and outputs have lines, and the other sections none
+record TwoSections (h : Header) (c : Circuit) (told : List (List (List ℕ))) : Type 0 where
+  pub nexts : List (List ℕ)
+  pub outputs : List (List ℕ)
+  pub told_is : told ≡ own_rows nexts outputs
+  pub fit_nexts : FitRows output_form h.max_var h.latches nexts
+  pub fit_outputs : FitRows output_form h.max_var h.outputs outputs
+  pub circuit : with_lines h nexts outputs ≡ c
+
+two : (h : Header) (c : Circuit) (told : List (List (List ℕ))) → AllFit in_binary h sections told (empty_circuit h.max_var)
+    → with_all in_binary h sections told (empty_circuit h.max_var) ≡ c → TwoSections h c told
+two h c [] fit is = absurd fit
+two h c (i ∷ []) fit is = absurd fit.1
+two h c (i ∷ l ∷ []) fit is = absurd fit.1.1
+two h c (i ∷ l ∷ o ∷ []) fit is = absurd fit.1.1.1
+two h c ((i ∷ is) ∷ l ∷ o ∷ g ∷ []) fit e = absurd (omega (arith, fit.0.counted))
+two h c ([] ∷ l ∷ o ∷ (g ∷ gs) ∷ []) fit e = absurd (omega (arith, fit.1.1.1.0.counted))
+two h c ([] ∷ l ∷ o ∷ [] ∷ []) fit is = record { nexts = l; outputs = o; told_is = refl; fit_nexts = fit.1.0; fit_outputs = fit.1.1.0; circuit = is }
+two h c (i ∷ l ∷ o ∷ g ∷ x ∷ told) fit is = absurd fit.1.1.1.1
+
+numbers_told : (h : Header) (at : Ahead) (c : Circuit) → numbers_at h at ≡ Ok c → TellsNumbers h at.lines c
+numbers_told h at c is =
+    let a = both_ok (sections_at in_binary h sections (empty_circuit h.max_var) at) (then_gates h) c is in
+    let b = both_ok (gates_at (1 + h.inputs + h.latches) 1 h.gates (bytes_of a.0.1.lines)) (then_tail h a.0) c a.2 in
+    let s = sections_told in_binary h sound sections (empty_circuit h.max_var) at a.0 a.1 in
+    let t = two h a.0.0 s.told s.fit s.circuit in
+    let tail : tail_at h nothing_named (numbered_circuit h t.nexts t.outputs b.0.0) a.0.1.number (lines_of b.0.1) ≡ Ok c =
+    ap (λ (d : Circuit). tail_at h nothing_named (with_definitions h b.0.0 d) a.0.1.number (lines_of b.0.1)) t.circuit ∙ b.2 in
     record {
-      nexts = a.0.0;
-      outputs = b.0.0;
-      gates = d.0.0;
-      between = a.0.2;
-      last = b.0.2;
-      rest = d.0.1;
-      next_rows = rows_told output_form h.max_var h.latches n ls a.0 (omega arith) a.1;
-      output_rows = rows_told output_form h.max_var h.outputs a.0.1 a.0.2 b.0 (omega arith) b.1;
-      are_gates = gates_are (1 + h.inputs + h.latches) 1 h.gates (bytes_of b.0.2) d.0 d.1;
-      tail = tail_told h a.0.0 b.0.0 d.0.0 b.0.1 (lines_of d.0.1) c d.2;
+      nexts = t.nexts;
+      outputs = t.outputs;
+      gates = b.0.0;
+      front = s.front;
+      last = a.0.1.lines;
+      rest = b.0.1;
+      lines = s.lines;
+      spelled = subst (λ (told : List (List (List ℕ))). AllZip IsRowLine s.front (rows_under in_binary h sections told)) t.told_is s.spelled;
+      fit_nexts = t.fit_nexts;
+      fit_outputs = t.fit_outputs;
+      are_gates = gates_are (1 + h.inputs + h.latches) 1 h.gates (bytes_of a.0.1.lines) b.0 b.1;
+      tail = tail_tells h nothing_named (numbered_circuit h t.nexts t.outputs b.0.0) a.0.1.number (lines_of b.0.1) c refl tail;
     }
 
 -- a header whose definitions are all the variables
@@ -96,19 +126,18 @@ pub binary_told : (limit : ℕ) (ls : List Line) (c : Circuit) → binary_at lim
 unfolding binary_at
 binary_told limit [] c is = cc
 binary_told limit (l ∷ ls) c is =
-    let a = both_ok (header_at binary_word limit 1 (l ∷ ls)) then_filled c is in
-    let f = both_ok (at_line 1 (header_of binary_word limit l)) (λ (h : Header). Ok (h, 2, ls)) a.0 a.1 in
-    let e : (f.0, 2, ls) ≡ a.0 = ok_same {E = ReadFault} _ _ f.2 in
+    let a = both_ok (header_at binary_word limit (ahead 1 (l ∷ ls))) then_filled c is in
+    let f = first_told kinds.NotAiger (header_of binary_word limit) 1 l ls a.0 a.1 in
     let b = both_ok (at_line 1 (filled a.0.0)) (then_numbers a.0) c a.2 in
     let full = filled_is a.0.0 b.0 (ok_at_line 1 (filled a.0.0) b.0 b.1) in
-    let same : f.0 ≡ b.0 = ap (λ (q : Header × ℕ × List Line). q.0) e ∙ full.0 in
-    let numbers : TellsNumbers b.0 a.0.2 c = numbers_told b.0 a.0.1 a.0.2 c b.2 in
+    let same : f.0 ≡ b.0 = ap (λ (q : Header × Ahead). q.0) f.2 ∙ full.0 in
+    let numbers : TellsNumbers b.0 a.0.1.lines c = numbers_told b.0 a.0.1 c b.2 in
     record {
       first = l;
       others = ls;
       are = refl;
       header = b.0;
-      heads = subst (λ (h : Header). TellsHeader binary_word limit l h) same (header_tells binary_word limit l f.0 (ok_at_line 1 (header_of binary_word limit l) f.0 f.1));
+      heads = subst (λ (h : Header). TellsHeader binary_word limit l h) same (header_tells binary_word limit l f.0 f.1);
       full = subst IsFull full.0 full.1;
-      numbers = subst (λ (q : Header × ℕ × List Line). TellsNumbers b.0 q.2 c) (sym e) numbers;
+      numbers = subst (λ (q : Header × Ahead). TellsNumbers b.0 q.1.lines c) (sym f.2) numbers;
     }

@@ -1,6 +1,5 @@
 use Rattle.std.proofs.Common.{◌≡◌, ◌+◌, map, take}
-use Rattle.aig_text.specs.Rows.{output_row}
-use Rattle.aig_binary.specs.BinaryReading.{latches_from}
+use Rattle.aig_text.specs.Rows.{output_row, latches_from}
 use Rattle.aig_binary.proofs.reader.latches.Given as goal
 
 abbrev pub invariant-loop-next : goal.invariant-loop-next
