@@ -21,6 +21,7 @@ use Rattle.aig_core.specs.BinaryOrder.{IsInBinaryOrder}
 use Rattle.aig_binary.specs.BinaryGrammar.{IsBinaryText, SpellsGates, binary_word, binary_rows_of}
 use Rattle.aig_binary.specs.BinaryText.{binary_text, gate_text}
 use Rattle.aig_binary.specs.Delta.{shortest_delta}
+use Rattle.aig_text.specs.declared.header_line.TheConstants.{HEADER_NUMBERS}
 use Rattle.aig_binary.specs.Parts.Deltas.{HasDeltas}
 use Rattle.aig_binary.proofs.Shortest.{shortest_is_delta}
 use Rattle.aig_binary.proofs.Written.{gates_have_deltas}
@@ -92,7 +93,7 @@ canonical_binary c good form ordered = record {
   text_is = parts c;
   lines = front_lines (header_row c) (binary_rows_of c) (header_is_small c form.limits) (rows_full c form);
   cut = inr (refl, all_ended (binary_rows_of c));
-  is_header = header_line_is_good binary_word 5 (header_row c) (omega arith) (header_is_small c form.limits);
+  is_header = header_line_is_good binary_word HEADER_NUMBERS (header_row c) (omega arith) (header_is_small c form.limits);
   are_rows = rows_are_good (binary_rows_of c) (rows_full c form);
   are_gates = gates_spelled c.gates (gates_have_deltas c form.limits ordered);
   is_tail = tail_is_good c form;

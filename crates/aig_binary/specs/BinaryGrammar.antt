@@ -6,6 +6,7 @@ use Rattle.aig_core.specs.declared.circuit.Gate.{Gate}
 use Rattle.aig_core.specs.declared.circuit.Circuit.{Circuit}
 use Rattle.aig_core.specs.Literal.{literal_of}
 use Rattle.aig_core.specs.Wellformed.{IsWellFormed}
+use Rattle.aig_text.specs.declared.header_line.TheConstants.{HEADER_NUMBERS}
 use Rattle.aig_text.specs.Lines.{Line, lines_of}
 use Rattle.aig_text.specs.Spelling.{IsHeaderLine}
 use Rattle.aig_text.specs.Tail.{AreTailLines}
@@ -49,7 +50,7 @@ pub record IsBinaryText (text : List ℕ) (limit : ℕ) (c : Circuit) : Type 0 w
   pub text_is : text ≡ front ++ (gates ++ rest)
   pub lines : lines_of front ≡ header ∷ numbered
   pub cut : EndsBefore (header ∷ numbered) (gates ++ rest)
-  pub is_header : IsHeaderLine binary_word 5 header (header_row c)
+  pub is_header : IsHeaderLine binary_word HEADER_NUMBERS header (header_row c)
   pub are_rows : AllZip IsRowLine numbered (binary_rows_of c)
   pub are_gates : SpellsGates gates c.gates
   pub is_tail : AreTailLines (lines_of rest) c

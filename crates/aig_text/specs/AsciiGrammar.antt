@@ -4,6 +4,7 @@ use Rattle.std.specs.Prelude.{◌≡◌, ◌≤◌, ◌+◌, ℕ, List, ◌∷�
 use Rattle.std.specs.List.{AllByRecursion, AllZip}
 use Rattle.aig_core.specs.declared.circuit.Circuit.{Circuit}
 use Rattle.aig_core.specs.Wellformed.{IsWellFormed}
+use Rattle.aig_text.specs.declared.header_line.TheConstants.{HEADER_NUMBERS}
 use Rattle.aig_text.specs.Lines.{Line, lines_of}
 use Rattle.aig_text.specs.Spelling.{IsNumberLine, IsHeaderLine}
 use Rattle.aig_text.specs.Tail.{AreTailLines}
@@ -19,7 +20,7 @@ pub record IsAsciiText (text : List ℕ) (limit : ℕ) (c : Circuit) : Type 0 wh
   pub tail : List Line
   -- The first line is the header, the next ones are the rows of the circuit, and the others are its tail.
   pub lines : lines_of text ≡ header ∷ (numbered ++ tail)
-  pub is_header : IsHeaderLine ascii_word 5 header (header_row c)
+  pub is_header : IsHeaderLine ascii_word HEADER_NUMBERS header (header_row c)
   pub are_rows : AllZip IsRowLine numbered (rows_of c)
   pub is_tail : AreTailLines tail c
   -- The largest index and the counts are within the limit, and the definitions fit below the largest index.

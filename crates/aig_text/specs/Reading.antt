@@ -12,6 +12,7 @@ use Rattle.aig_text.specs.declared.fault.Place.TheVariants as places
 use Rattle.aig_text.specs.declared.fault.ReadKind.{ReadKind}
 use Rattle.aig_text.specs.declared.fault.ReadKind.TheVariants as kinds
 use Rattle.aig_text.specs.declared.fault.ReadFault.{ReadFault}
+use Rattle.aig_text.specs.declared.header_line.TheConstants.{HEADER_NUMBERS}
 use Rattle.aig_core.specs.declared.circuit.Kind.{Kind}
 use Rattle.aig_core.specs.declared.circuit.Kind.TheVariants as named
 use Rattle.aig_core.specs.declared.circuit.Symbol.{Symbol}
@@ -68,7 +69,7 @@ header_within limit (Some ns) =
 unfoldable pub header_of : List ℕ → ℕ → Line → Result Header ReadKind
 header_of word limit l =
     if begins_with_word word l.text
-    then header_within (min limit LARGEST) (more_numbers_at l.ended 5 5 (drop (length word) l.text))
+    then header_within (min limit LARGEST) (more_numbers_at l.ended HEADER_NUMBERS HEADER_NUMBERS (drop (length word) l.text))
     else Err kinds.NotAiger
 
 -- a number that cannot be a definition: an odd one or a constant

@@ -14,6 +14,9 @@ use aig_core::LARGEST;
 /// The first word of an ASCII file.
 pub(crate) const ASCII_WORD: &[u8] = b"aag";
 
+/// How many numbers a header has.
+pub const HEADER_NUMBERS: usize = 5;
+
 /// The numbers of a header (AIGER report): the largest variable index and the counts.
 #[derive(Clone, Copy, Debug, PartialEq, Eq)]
 pub struct Header {
@@ -49,7 +52,7 @@ pub(crate) fn begins_with_word(text: &[u8], word: &[u8]) -> bool
 
 /// The header of its numbers.
 #[tactic(auto, unfolding(crate::specs::Reading::header_within))]
-fn within(limit: u32, numbers: [u64; 5]) -> Result<Header, ReadKind>
+fn within(limit: u32, numbers: [u64; HEADER_NUMBERS]) -> Result<Header, ReadKind>
     ensures value { result ≡ header_within limit (Some numbers) }
     ensures limited { IfOk result (λ h. h.max_var ≤ limit) }
 {
@@ -79,7 +82,7 @@ pub(crate) fn read_header(word: &[u8], line: Line, limits: Limits) -> Result<Hea
         return Err(ReadKind::NotAiger);
     }
     let (_, rest) = line.text.split_at(word.len());
-    match more_numbers::<5>(rest, line.ended, 5) {
+    match more_numbers::<HEADER_NUMBERS>(rest, line.ended, HEADER_NUMBERS) {
         Some(numbers) => within(limits.max_var.min(LARGEST), numbers),
         None => Err(ReadKind::BadHeader),
     }

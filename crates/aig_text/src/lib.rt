@@ -17,7 +17,7 @@ mod word;
 mod writer;
 
 pub use crate::fault::{Place, ReadFault, ReadKind};
-pub use crate::header_line::Header;
+pub use crate::header_line::{HEADER_NUMBERS, Header};
 pub use crate::limits::Limits;
 pub use crate::line::Cursor;
 pub use crate::message::Message;

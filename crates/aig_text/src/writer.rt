@@ -13,7 +13,7 @@ ghost use Rattle.aig_text.specs.Rows.{ascii_word, gate_row, header_row, input_ro
 ghost use Rattle.aig_text.specs.declared.writer.TheConstants.{FEW};
 ghost use Rattle.aig_text.specs.declared.writer.WriteFault.TheVariants.{Device};
 
-use crate::header_line::ASCII_WORD;
+use crate::header_line::{ASCII_WORD, HEADER_NUMBERS};
 use aig_core::{
     Checked, Circuit, DeviceFault, Gate, Kind, Latch, Listing, Lit, Output, Sink, Symbol, Var,
 };
@@ -208,7 +208,7 @@ fn put_sections<W: Sink>(output: &mut Output<W>, circuit: &Circuit)
 }
 
 /// The numbers of the header: the largest index, and the counts.
-pub fn header_numbers(circuit: &Circuit) -> [u64; 5]
+pub fn header_numbers(circuit: &Circuit) -> [u64; HEADER_NUMBERS]
     ensures { result ≡ header_row circuit.now }
 {
     [

@@ -7,6 +7,7 @@ use Rattle.aig_core.specs.declared.circuit.TheConstants.{LARGEST}
 use Rattle.aig_core.specs.Wellformed.{IsWellFormed, IsWithinLimits, IsAmong, count_of}
 use Rattle.aig_core.specs.Form.{IsInForm}
 use Rattle.aig_text.specs.declared.row.Role.TheVariants as roles
+use Rattle.aig_text.specs.declared.header_line.TheConstants.{HEADER_NUMBERS}
 use Rattle.aig_text.specs.declared.section.Section.TheVariants.{Inputs, Latches, Outputs, Gates}
 use Rattle.aig_text.specs.Lines.{Line, line, lines_of}
 use Rattle.aig_text.specs.AsciiGrammar.{IsAsciiText}
@@ -157,7 +158,7 @@ canonical_text c good form fits = record {
   numbered = row_lines (rows_of c);
   tail = lines_of (tail_text c);
   lines = canonical_lines c form;
-  is_header = header_line_is_good ascii_word 5 (header_row c) (omega arith) (header_is_small c form.limits);
+  is_header = header_line_is_good ascii_word HEADER_NUMBERS (header_row c) (omega arith) (header_is_small c form.limits);
   are_rows = rows_are_good (rows_of c) (sections_full c form sections);
   is_tail = tail_is_good c form;
   limited = (form.limits.max_var, (form.limits.inputs, (form.limits.latches, (form.limits.outputs, (form.limits.gates, tt)))));

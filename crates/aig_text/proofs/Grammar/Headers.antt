@@ -10,6 +10,7 @@ use Rattle.aig_core.proofs.Fitting.{all_weaker}
 use Rattle.aig_core.specs.Wellformed.{IsWithinLimits}
 use Rattle.aig_text.specs.declared.fault.ReadKind.{ReadKind}
 use Rattle.aig_text.specs.declared.fault.ReadKind.TheVariants as kinds
+use Rattle.aig_text.specs.declared.header_line.TheConstants.{HEADER_NUMBERS}
 use Rattle.aig_text.specs.Lines.{Line}
 use Rattle.aig_text.specs.Spelling.{IsHeaderLine}
 use Rattle.aig_text.specs.Scanning.{more_numbers_at}
@@ -37,7 +38,7 @@ within_at b (n ∷ ns) (suc k) h = within_at b ns k h.1
 pub record TellsHeader (word : List ℕ) (limit : ℕ) (l : Line) (h : Header) : Type 0 where
   pub numbers : List ℕ
   pub begins : bytes_eq (before_first ends_word l.text) word ≡ true
-  pub read : more_numbers_at l.ended 5 5 (drop (length word) l.text) ≡ Some numbers
+  pub read : more_numbers_at l.ended HEADER_NUMBERS HEADER_NUMBERS (drop (length word) l.text) ≡ Some numbers
   pub is : header_of_row numbers ≡ h
   pub within : AllByRecursion (λ n. n ≤ min limit LARGEST) numbers
   pub counted : get_or numbers 1 0 + get_or numbers 2 0 + get_or numbers 4 0 ≤ get_or numbers 0 0
@@ -45,7 +46,7 @@ pub record TellsHeader (word : List ℕ) (limit : ℕ) (l : Line) (h : Header) :
 abbrev counts_fit : List ℕ → Result Header ReadKind
 counts_fit ns = cond (ltb (get_or ns 0 0) (get_or ns 1 0 + get_or ns 2 0 + get_or ns 4 0)) (Err kinds.BadHeader) (Ok (header_of_row ns))
 
-within_tells : (word : List ℕ) (limit : ℕ) (l : Line) (h : Header) (o : Option (List ℕ)) → bytes_eq (before_first ends_word l.text) word ≡ true → more_numbers_at l.ended 5 5 (drop (length word) l.text) ≡ o → header_within (min limit LARGEST) o ≡ Ok h → TellsHeader word limit l h
+within_tells : (word : List ℕ) (limit : ℕ) (l : Line) (h : Header) (o : Option (List ℕ)) → bytes_eq (before_first ends_word l.text) word ≡ true → more_numbers_at l.ended HEADER_NUMBERS HEADER_NUMBERS (drop (length word) l.text) ≡ o → header_within (min limit LARGEST) o ≡ Ok h → TellsHeader word limit l h
 unfolding header_within
 within_tells word limit l h None begins read is = cc
 within_tells word limit l h (Some ns) begins read is =
@@ -63,8 +64,8 @@ within_tells word limit l h (Some ns) begins read is =
 pub header_tells : (word : List ℕ) (limit : ℕ) (l : Line) (h : Header) → header_of word limit l ≡ Ok h → TellsHeader word limit l h
 unfolding header_of
 header_tells word limit l h is =
-    let p = let_through (bytes_eq (before_first ends_word l.text) word) kinds.NotAiger (header_within (min limit LARGEST) (more_numbers_at l.ended 5 5 (drop (length word) l.text))) h is in
-    within_tells word limit l h (more_numbers_at l.ended 5 5 (drop (length word) l.text)) p.0 refl p.1
+    let p = let_through (bytes_eq (before_first ends_word l.text) word) kinds.NotAiger (header_within (min limit LARGEST) (more_numbers_at l.ended HEADER_NUMBERS HEADER_NUMBERS (drop (length word) l.text))) h is in
+    within_tells word limit l h (more_numbers_at l.ended HEADER_NUMBERS HEADER_NUMBERS (drop (length word) l.text)) p.0 refl p.1
 
 pub told_header : (word : List ℕ) (limit : ℕ) (l : Line) (h : Header) → TellsHeader word limit l h → header_of word limit l ≡ Ok h
 unfolding header_of header_within
@@ -72,14 +73,14 @@ told_header word limit l h t =
     rw (t.begins, t.read, all_within (min limit LARGEST) t.numbers t.within, le-ltb (get_or t.numbers 0 0) (get_or t.numbers 1 0 + get_or t.numbers 2 0 + get_or t.numbers 4 0) t.counted, t.is) refl
 
 -- the header's row, and its limits
-five : (ns : List ℕ) → length ns ≡ 5 → row_of_header (header_of_row ns) ≡ ns
-five [] h = absurd (omega arith)
-five (a ∷ []) h = absurd (omega arith)
-five (a ∷ b ∷ []) h = absurd (omega arith)
-five (a ∷ b ∷ d ∷ []) h = absurd (omega arith)
-five (a ∷ b ∷ d ∷ e ∷ []) h = absurd (omega arith)
-five (a ∷ b ∷ d ∷ e ∷ f ∷ []) h = refl
-five (a ∷ b ∷ d ∷ e ∷ f ∷ g ∷ ns) h = absurd (omega arith)
+all_numbers : (ns : List ℕ) → length ns ≡ HEADER_NUMBERS → row_of_header (header_of_row ns) ≡ ns
+all_numbers [] h = absurd (omega arith)
+all_numbers (a ∷ []) h = absurd (omega arith)
+all_numbers (a ∷ b ∷ []) h = absurd (omega arith)
+all_numbers (a ∷ b ∷ d ∷ []) h = absurd (omega arith)
+all_numbers (a ∷ b ∷ d ∷ e ∷ []) h = absurd (omega arith)
+all_numbers (a ∷ b ∷ d ∷ e ∷ f ∷ []) h = refl
+all_numbers (a ∷ b ∷ d ∷ e ∷ f ∷ g ∷ ns) h = absurd (omega arith)
 
 abbrev AreLimits : List ℕ → Type 0
 AreLimits ns = (get_or ns 0 0 ≤ LARGEST) × (get_or ns 1 0 ≤ LARGEST) × (get_or ns 2 0 ≤ LARGEST) × (get_or ns 3 0 ≤ LARGEST) × (get_or ns 4 0 ≤ LARGEST)
@@ -92,13 +93,13 @@ HasCounts h c = header_row c ≡ row_of_header h
 module _ (word : List ℕ) (limit : ℕ) (l : Line) (h : Header) (c : Circuit) (t : TellsHeader word limit l h) (counts : HasCounts h c) where
   numbers_are : header_row c ≡ t.numbers
   numbers_are =
-      let s = header_reads word l 5 5 t.numbers (omega arith) t.begins t.read in
-      counts ∙ ap row_of_header (sym t.is) ∙ five t.numbers s.1
+      let s = header_reads word l HEADER_NUMBERS HEADER_NUMBERS t.numbers (omega arith) t.begins t.read in
+      counts ∙ ap row_of_header (sym t.is) ∙ all_numbers t.numbers s.1
 
-  pub heads : IsHeaderLine word 5 l (header_row c)
+  pub heads : IsHeaderLine word HEADER_NUMBERS l (header_row c)
   heads =
-      let s = header_reads word l 5 5 t.numbers (omega arith) t.begins t.read in
-      subst (λ (ns : List ℕ). IsHeaderLine word 5 l ns) (sym numbers_are) s.0
+      let s = header_reads word l HEADER_NUMBERS HEADER_NUMBERS t.numbers (omega arith) t.begins t.read in
+      subst (λ (ns : List ℕ). IsHeaderLine word HEADER_NUMBERS l ns) (sym numbers_are) s.0
 
   pub limited : AllByRecursion (λ n. n ≤ limit) (header_row c)
   limited = subst (λ (ns : List ℕ). AllByRecursion (λ n. n ≤ limit) ns) (sym numbers_are) (all_weaker (λ n. n ≤ min limit LARGEST) (λ n. n ≤ limit) (λ n h. omega arith) t.numbers t.within)
@@ -125,10 +126,10 @@ abbrev pub own_header : Circuit → Header
 own_header c = header_of_row (header_row c)
 
 -- and a line that spells the circuit's header row tells its header
-pub header_is_told : (word : List ℕ) (limit : ℕ) (l : Line) (c : Circuit) → AllByRecursion (λ b. ends_word b ≡ false) word → IsHeaderLine word 5 l (header_row c) → AllByRecursion (λ n. n ≤ limit) (header_row c) → IsWithinLimits c
+pub header_is_told : (word : List ℕ) (limit : ℕ) (l : Line) (c : Circuit) → AllByRecursion (λ b. ends_word b ≡ false) word → IsHeaderLine word HEADER_NUMBERS l (header_row c) → AllByRecursion (λ n. n ≤ limit) (header_row c) → IsWithinLimits c
     → length c.inputs + length c.latches + length c.gates ≤ c.max_var → header_of word limit l ≡ Ok (own_header c)
 header_is_told word limit l c plain line small limits fits =
-    let s = header_is_read word l 5 5 (header_row c) (omega arith) plain line refl in
+    let s = header_is_read word l HEADER_NUMBERS HEADER_NUMBERS (header_row c) (omega arith) plain line refl in
     told_header word limit l (own_header c) (record {
       numbers = header_row c;
       begins = s.0;

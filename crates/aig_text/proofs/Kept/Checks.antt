@@ -6,6 +6,7 @@ use Rattle.std.proofs.lemmas.Bool.{lt-ltb, le-ltb, ltb-false, cases_lt, cases_Bo
 use Rattle.aig_core.specs.declared.circuit.TheConstants.{LARGEST}
 use Rattle.aig_text.specs.declared.fault.ReadKind.{ReadKind}
 use Rattle.aig_text.specs.declared.fault.ReadKind.TheVariants as kinds
+use Rattle.aig_text.specs.declared.header_line.TheConstants.{HEADER_NUMBERS}
 use Rattle.aig_text.specs.declared.row.Role.TheVariants as roles
 use Rattle.std.proofs.lemmas.List.{length-map}
 use Rattle.aig_text.specs.Lines.{Line, line}
@@ -48,14 +49,14 @@ header_kept limit (Some ns) l = elim (cases_Bool (list_any (λ n. ltb limit n) n
 ]
 
 pub header_told : (word text rest : List ℕ) (limit : ℕ) (ended : Bool) (read : Option (List ℕ))
-    → bytes_eq (before_first ends_word text) word ≡ true → rest ≡ drop (length word) text → kept_numbers (more_numbers_at ended 5 5 rest) ≡ read
+    → bytes_eq (before_first ends_word text) word ≡ true → rest ≡ drop (length word) text → kept_numbers (more_numbers_at ended HEADER_NUMBERS HEADER_NUMBERS rest) ≡ read
     → header_within (min limit LARGEST) read ≡ header_of word limit (line text ended)
 unfolding header_of
 header_told word text rest limit ended read same is h =
-    rw (same, ← is, ← h) (header_kept (min limit LARGEST) (more_numbers_at ended 5 5 rest) (omega arith))
+    rw (same, ← is, ← h) (header_kept (min limit LARGEST) (more_numbers_at ended HEADER_NUMBERS HEADER_NUMBERS rest) (omega arith))
 
 pub no_header_told : (word text rest : List ℕ) (limit : ℕ) (ended : Bool)
-    → bytes_eq (before_first ends_word text) word ≡ true → rest ≡ drop (length word) text → kept_numbers (more_numbers_at ended 5 5 rest) ≡ None
+    → bytes_eq (before_first ends_word text) word ≡ true → rest ≡ drop (length word) text → kept_numbers (more_numbers_at ended HEADER_NUMBERS HEADER_NUMBERS rest) ≡ None
     → Err kinds.BadHeader ≡ header_of word limit (line text ended)
 unfolding header_within
 no_header_told word text rest limit ended same is h = header_told word text rest limit ended None same is h
