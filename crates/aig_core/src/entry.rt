@@ -6,6 +6,14 @@ ghost use Rattle.aig_core.specs.Wellformed.{operands};
 use crate::circuit::{Gate, Latch};
 use crate::literal::{Lit, Var};
 
+/// The literals that an entry uses, in the order of the file: up to two that it names, and a list.
+#[derive(Clone, Copy)]
+pub(crate) struct Uses<'a> {
+    pub first: Option<Lit>,
+    pub second: Option<Lit>,
+    pub others: &'a [Lit],
+}
+
 /// An entry of a section: an input by its variable, a latch, an output by its literal, or a gate.
 pub(crate) trait Entry {
     ghost defined: { Self → List ℕ };
@@ -16,9 +24,9 @@ pub(crate) trait Entry {
     fn definition(&self) -> Option<Var>
         ensures { option_to_list result ≡ defined self.now };
 
-    /// The literals that it uses, at most two, in the order of the file.
-    fn uses(&self) -> (Option<Lit>, Option<Lit>)
-        ensures { option_to_list result.0 ++ option_to_list result.1 ≡ used self.now };
+    /// The literals that it uses.
+    fn uses(&self) -> Uses
+        ensures { option_to_list result.first ++ (option_to_list result.second ++ result.others.now) ≡ used self.now };
 }
 
 impl Entry for Var {
@@ -30,8 +38,13 @@ impl Entry for Var {
         Some(*self)
     }
 
-    fn uses(&self) -> (Option<Lit>, Option<Lit>) {
-        (None, None)
+    #[inline(always)]
+    fn uses(&self) -> Uses {
+        Uses {
+            first: None,
+            second: None,
+            others: &[],
+        }
     }
 }
 
@@ -44,8 +57,13 @@ impl Entry for Latch {
         Some(self.var)
     }
 
-    fn uses(&self) -> (Option<Lit>, Option<Lit>) {
-        (Some(self.next), None)
+    #[inline(always)]
+    fn uses(&self) -> Uses {
+        Uses {
+            first: Some(self.next),
+            second: None,
+            others: &[],
+        }
     }
 }
 
@@ -58,8 +76,13 @@ impl Entry for Lit {
         None
     }
 
-    fn uses(&self) -> (Option<Lit>, Option<Lit>) {
-        (Some(*self), None)
+    #[inline(always)]
+    fn uses(&self) -> Uses {
+        Uses {
+            first: Some(*self),
+            second: None,
+            others: &[],
+        }
     }
 }
 
@@ -72,7 +95,12 @@ impl Entry for Gate {
         Some(self.var)
     }
 
-    fn uses(&self) -> (Option<Lit>, Option<Lit>) {
-        (Some(self.left), Some(self.right))
+    #[inline(always)]
+    fn uses(&self) -> Uses {
+        Uses {
+            first: Some(self.left),
+            second: Some(self.right),
+            others: &[],
+        }
     }
 }

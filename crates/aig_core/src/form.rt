@@ -1,6 +1,6 @@
 //! What can be checked of a circuit part by part, before its definitions and its uses are compared.
 ghost use Rattle.std.specs.Prelude.{◌≡◌, ◌↔◌, ◌^◌, ◌<◌, ◌≤◌, length, map, IsTrue};
-ghost use Rattle.std.specs.List.{All};
+ghost use Rattle.std.specs.List.{All, AllByRecursion};
 ghost use Rattle.aig_core.specs.Wellformed.{IsWithinLimits, IsVariableUpTo, count_of};
 ghost use Rattle.aig_core.specs.Wellformed.{HasGoodSymbols, NameApart, NameTheSame, IsAmong, line_feed};
 ghost use Rattle.aig_core.specs.Form.{IsInForm, HasEntriesInRange, AreInRange, IsLiteralUpTo};
@@ -32,16 +32,33 @@ fn is_literal_up_to(max_var: u32, literal: Lit) -> bool
     literal.var().0 <= max_var
 }
 
+/// Whether a circuit with this largest index may use all of these literals.
+fn are_literals_up_to(max_var: u32, literals: &[Lit]) -> bool
+    ensures { IsTrue result ↔ AllByRecursion (IsLiteralUpTo max_var) literals.now }
+{
+    for literal in literals {
+        if !is_literal_up_to(max_var, *literal) {
+            return false;
+        }
+    }
+    true
+}
+
 /// Whether what an entry defines and uses is in range.
 fn is_in_range<T: Entry>(max_var: u32, entry: &T) -> bool
     ensures { IsTrue result ↔ AreInRange max_var (T.defined entry.now) (T.used entry.now) }
 {
-    let (first, second) = entry.uses();
+    let uses = entry.uses();
     entry
         .definition()
         .is_none_or(|variable| is_variable_up_to(max_var, variable))
-        && first.is_none_or(|literal| is_literal_up_to(max_var, literal))
-        && second.is_none_or(|literal| is_literal_up_to(max_var, literal))
+        && uses
+            .first
+            .is_none_or(|literal| is_literal_up_to(max_var, literal))
+        && uses
+            .second
+            .is_none_or(|literal| is_literal_up_to(max_var, literal))
+        && are_literals_up_to(max_var, uses.others)
 }
 
 /// Whether what each entry of a section defines and uses is in range.

@@ -65,12 +65,27 @@ fn unknown(variables: &VarSet, literal: Option<Lit>) -> Option<Lit>
     literal.filter(|literal| !knows(variables, *literal))
 }
 
+/// The first of these literals that is no constant and over none of the variables.
+fn unknown_among(variables: &VarSet, literals: &[Lit]) -> Option<Lit>
+    ensures { result ≡ first_unknown variables.now literals.now }
+{
+    for literal in literals {
+        if !knows(variables, *literal) {
+            return Some(*literal);
+        }
+    }
+    None
+}
+
 /// The first literal of an entry that is no constant and over none of the variables.
+#[inline(always)]
 fn unknown_use<T: Entry>(variables: &VarSet, entry: &T) -> Option<Lit>
     ensures { result ≡ first_unknown variables.now (T.used entry.now) }
 {
-    let (first, second) = entry.uses();
-    unknown(variables, first).or_else(|| unknown(variables, second))
+    let uses = entry.uses();
+    unknown(variables, uses.first)
+        .or_else(|| unknown(variables, uses.second))
+        .or_else(|| unknown_among(variables, uses.others))
 }
 
 /// The first literal of a section that is no constant and over none of the variables.
