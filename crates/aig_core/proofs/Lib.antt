@@ -8,7 +8,9 @@ pub mod TakenLeast
 pub mod Cyclic
 pub mod Steps
 pub mod Sets
-pub mod Members
+pub mod Maps
+pub mod Buckets
+pub mod Bits
 pub mod Trees
 pub mod InForm
 pub mod Sections

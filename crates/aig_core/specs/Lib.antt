@@ -2,6 +2,7 @@ pub mod Literal
 pub mod Wellformed
 pub mod Form
 pub mod Names
+pub mod VarMap
 pub mod Order
 pub mod Fault
 pub mod GateIndex

@@ -14,6 +14,7 @@ mod names;
 mod operands;
 mod order;
 mod ordered;
+mod var_map;
 mod var_set;
 
 pub use crate::checked::{Checked, check, copy_comment, copy_symbols, is_defined_once, same};
@@ -25,6 +26,7 @@ pub use crate::literal::{Lit, Var};
 pub use crate::names::Names;
 pub use crate::order::Order;
 pub use crate::ordered::{Ordered, is_in_binary_order};
+pub use crate::var_map::VarMap;
 pub use aig_io::{
     Block, DeviceFault, MOST_DIGITS, MemorySink, MemorySource, Output, ROOM, ReadError, ReadSource,
     Sink, Source, WriteSink, read_all,

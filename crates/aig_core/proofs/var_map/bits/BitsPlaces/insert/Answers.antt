@@ -1,0 +1,8 @@
+use Rattle.std.proofs.Common.{◌/◌, ◌<◌, length, arith}
+use Rattle.aig_core.proofs.Bits.{more_marks}
+use Rattle.aig_core.proofs.var_map.bits.BitsPlaces.insert.Goals as goal
+
+pub returns-clause-held : goal.returns-clause-held
+returns-clause-held c =
+    let below : c.args.index / 64 < length c.args.self.now.words.items = omega (arith, c.requires.covered) in
+    more_marks c.args.self.now.words.items c.args.index c.index_mut.result.now below c.index_mut.ensures.value

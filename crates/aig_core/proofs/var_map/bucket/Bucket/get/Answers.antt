@@ -1,0 +1,19 @@
+use Rattle.std.proofs.Common.{ap, ◌∙◌, sym, arith, take}
+use Rattle.std.specs.Ordering.{nat_cmp}
+use Rattle.std.specs.FinMap.{find}
+use Rattle.aig_core.proofs.Buckets.{found_here, found_later, found_nowhere}
+use Rattle.aig_core.proofs.var_map.bucket.Bucket.get.Goals as goal
+
+pub loop-entry-init : goal.loop-entry-init
+loop-entry-init g c = ap (find nat_cmp c.args.index) (sym c.self.view_is)
+
+pub returns-then-entry-index : goal.returns-then-entry-index
+returns-then-entry-index g c =
+    sym (c.loop-entry.invariant ∙ found_here _ _ c.args.index c.entry-item.result c.loop-entry-test.true c.entry-item.is c.if-entry-index.true)
+
+pub loop-entry-preserved : goal.loop-entry-preserved
+loop-entry-preserved g c =
+    c.loop-entry.invariant ∙ found_later _ _ c.args.index c.entry-item.result c.loop-entry-test.true c.entry-item.is c.if-entry-index.false
+
+pub returns : goal.returns
+returns g c = sym (c.loop-entry.invariant ∙ found_nowhere (take c.self.inside.len c.self.inside.entries) c.loop-entry.entry-index c.args.index (omega (arith, c.loop-entry-test.false)))

@@ -1,0 +1,57 @@
+-- Where the values of variables are kept: in places by their indices, in buckets, and in trees.
+use Rattle.std.specs.Prelude.{ℕ, zero, suc, ◌≡◌, ◌==◌, ◌*◌, ◌-◌, ◌/◌, ◌%◌, ◌^◌, ◌<◌, ◌≤◌, List, [], ◌∷◌, true, Option, None, Some, length, slice_index_or, nat_lt, if◌then◌else◌}
+use Rattle.std.specs.Option.{is_some, option_or}
+use Rattle.std.specs.Ordering.{nat_cmp}
+use Rattle.std.specs.BTreeMap.{BTreeMap, get}
+use Rattle.std.specs.FinMap as map
+use Rattle.aig_core.specs.declared.var_map.bucket.TheConstants.{ROOM}
+use Rattle.aig_core.specs.declared.var_map.spread.TheConstants.{MULTIPLIER}
+use Rattle.aig_core.specs.Parts.Marks.{is_marked}
+
+-- nothing more is known of an index than that its bit is set
+abbrev pub mark_of : List ℕ → ℕ → Option (Unit {0})
+mark_of words index = if is_marked words index then Some tt else None
+
+-- a place has one more than the number, and 0 where there is none
+abbrev pub told_by : ℕ → Option ℕ
+told_by place = if place == 0 then None else Some (place - 1)
+
+-- the number that the place of an index tells
+abbrev pub number_of : List ℕ → ℕ → Option ℕ
+number_of places index = told_by (slice_index_or places index 0)
+
+-- which of so many buckets an index belongs to: multiples of this odd number spread over all of them
+abbrev pub bucket_of : ℕ → ℕ → ℕ
+bucket_of count index = index * MULTIPLIER % 2 ^ 32 * count / 2 ^ 32
+
+-- the bucket that an index belongs to
+abbrev pub bucket_at : {T : Type 0} → List (List (ℕ × T)) → ℕ → List (ℕ × T)
+bucket_at buckets index = slice_index_or buckets (bucket_of (length buckets) index) []
+
+-- what an index's bucket has for it, or the tree
+abbrev pub spread_at : {T : Type 0} → List (List (ℕ × T)) → BTreeMap ℕ T → ℕ → Option T
+spread_at buckets others index = option_or (map.find nat_cmp index (bucket_at buckets index)) (get nat_cmp others index)
+
+-- there are buckets, and the tree has only indices whose bucket is full
+pub record IsSpread {T : Type 0} (buckets : List (List (ℕ × T))) (others : BTreeMap ℕ T) : Type 0 where
+  pub some : 0 < length buckets
+  pub few : length buckets < 2 ^ 32
+  pub full : (index : ℕ) → is_some (get nat_cmp others index) ≡ true → ROOM ≤ length (bucket_at buckets index)
+
+-- what the place of an index holds where it has one, and else what the others have
+abbrev pub kept_at : {T : Type 0} → ℕ → (ℕ → Option T) → map.FinMap nat_cmp T → ℕ → Option T
+kept_at places held others index = if nat_lt index places then held index else map.get others index
+
+-- an entry in front, where there is a value
+abbrev pub with_entry : {T : Type 0} → ℕ → Option T → List (ℕ × T) → List (ℕ × T)
+with_entry index None entries = entries
+with_entry index (Some value) entries = (index, value) ∷ entries
+
+-- the values of the indices below a bound
+unfoldable pub entries_below : {T : Type 0} → (ℕ → Option T) → ℕ → List (ℕ × T)
+entries_below value zero = []
+entries_below value (suc n) = with_entry n (value n) (entries_below value n)
+
+-- the map of all indices that have values
+unfoldable pub map_of : {T : Type 0} → (ℕ → Option T) → map.FinMap nat_cmp T
+map_of value = map.from_entries (entries_below value (2 ^ 32))

@@ -1,0 +1,84 @@
+//! Maps from variables.
+ghost use Rattle.std.specs.Prelude.{◌≡◌, IfOk, OnOk, OnErr, not};
+ghost use Rattle.std.specs.Ordering.{nat_cmp};
+ghost use Rattle.std.specs.FinMap as map;
+ghost use Rattle.std.specs.Coded.{coded_ℕ};
+ghost use Rattle.aig_core.specs.VarMap.{with_new};
+ghost use Rattle.aig_core.specs.Parts.Places.{map_of, kept_at};
+
+use crate::literal::Var;
+use crate::var_map::places::{Kept, Places};
+use crate::var_map::spread::Spread;
+use std::alloc::{AllocError, Global};
+use std::marker::Model;
+
+mod bits;
+mod bucket;
+mod places;
+mod spread;
+mod table;
+
+/// Values of variables. Where the largest index is not far above their number, which is most often, each index has its
+/// place. Otherwise few variables of large indices take little memory.
+#[derive(Drop)]
+pub struct VarMap<T: Kept> {
+    places: T::Table,
+    spread: Spread<T>,
+}
+
+impl<T: Kept> Model for VarMap<T> {
+    ghost Value = { map.FinMap nat_cmp T };
+
+    ghost coded = { map.code coded_ℕ T.code };
+
+    ghost view = { λ a. map_of (kept_at (T.Table.bound a.places) (T.Table.held a.places) a.spread) };
+}
+
+impl<T: Kept> VarMap<T> {
+    /// An empty map that is fast for about so many variables, of indices up to the largest one. Its memory grows with
+    /// their number, and not with the largest index.
+    pub fn new(alloc: Global, expected: usize, largest: u32) -> Result<Self, AllocError>
+        ensures { IfOk result (λ values. values ≡ map.empty) }
+    {
+        let largest = largest as usize;
+        let is_dense = largest < expected.saturating_mul(T::PLACES_PER_VARIABLE);
+        let (places, spread) = if is_dense {
+            (largest + 1, 0)
+        } else {
+            (0, expected)
+        };
+        Ok(VarMap {
+            places: T::Table::new(alloc, places)?,
+            spread: Spread::new(alloc, spread)?,
+        })
+    }
+
+    /// The value of a variable.
+    #[inline(always)]
+    pub fn get(&self, var: Var) -> Option<T>
+        ensures { result ≡ map.get self.now var }
+    {
+        let index = var.0 as usize;
+        if self.places.covers(index) {
+            self.places.get(index)
+        } else {
+            self.spread.get(var)
+        }
+    }
+
+    /// Gives a variable its value, unless it has one, and answers whether it had none.
+    #[inline(always)]
+    pub fn insert(&mut self, var: Var, value: T) -> Result<bool, AllocError>
+        requires { T.Table.fits value }
+        ensures added { IfOk result (λ added. added ≡ not (map.contains_key self.old var)) }
+        ensures ok { OnOk result (self.new ≡ with_new self.old var value) }
+        ensures err { OnErr result (self.new ≡ self.old) }
+    {
+        let index = var.0 as usize;
+        if self.places.covers(index) {
+            Ok(self.places.insert(index, value))
+        } else {
+            self.spread.insert(var, value)
+        }
+    }
+}

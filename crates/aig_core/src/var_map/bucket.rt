@@ -1,0 +1,71 @@
+//! A few variables and their values that lie together.
+ghost use Rattle.std.specs.Prelude.{◌≡◌, ◌↔◌, ◌<◌, ◌≤◌, [], ◌∷◌, ◌++◌, length, IsTrue};
+ghost use Rattle.std.specs.Ordering.{nat_cmp};
+ghost use Rattle.std.specs.FinMap.{find};
+
+use std::marker::Model;
+
+/// How many variables a bucket has room for. With numbers as values, and their count, they fill a line of the
+/// processor's cache.
+const ROOM: usize = 7;
+
+/// A few variables and their values that lie together.
+#[derive(Drop)]
+pub(super) struct Bucket<T: Copy> {
+    entries: [(u32, T); ROOM],
+    len: u32,
+}
+
+impl<T: Copy> Model for Bucket<T> {
+    ghost use Rattle.std.specs.Prelude.{ℕ, List, take, length, ◌≡◌, ◌≤◌};
+    ghost use Rattle.aig_core.specs.declared.var_map.bucket.TheConstants.{ROOM as MOST};
+
+    ghost Value = { List (ℕ × T) };
+
+    ghost view = { λ b. take b.len b.entries };
+
+    ghost invariant = { λ b. (b.len ≤ MOST) × (length b.entries ≡ MOST) };
+}
+
+impl<T: Copy> Bucket<T> {
+    /// An empty bucket. What stands where there is no entry yet is never read.
+    pub(super) fn new(any: T) -> Self
+        ensures { result ≡ [] }
+    {
+        Bucket {
+            entries: [(0, any); ROOM],
+            len: 0,
+        }
+    }
+
+    /// The value of an index.
+    #[inline(always)]
+    pub(super) fn get(&self, index: u32) -> Option<T>
+        ensures { result ≡ find nat_cmp index self.now }
+    {
+        for entry in &self.entries[..self.len as usize] {
+            if entry.0 == index {
+                return Some(entry.1);
+            }
+        }
+        None
+    }
+
+    /// Whether there is no room.
+    #[inline(always)]
+    pub(super) fn is_full(&self) -> bool
+        ensures { IsTrue result ↔ (ROOM ≤ length self.now) }
+    {
+        self.len as usize == ROOM
+    }
+
+    /// Puts one more entry there.
+    #[inline(always)]
+    pub(super) fn put(&mut self, index: u32, value: T)
+        requires { length self.old < ROOM }
+        ensures { self.new ≡ self.old ++ (index, value) ∷ [] }
+    {
+        self.entries[self.len as usize] = (index, value);
+        self.len += 1;
+    }
+}
