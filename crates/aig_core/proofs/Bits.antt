@@ -1,5 +1,6 @@
 -- Tables of bits, read as what they have of indices.
-use Rattle.std.proofs.Common.{◌≡◌, ◌≢◌, ◌<◌, ◌*◌, ◌/◌, ◌%◌, ◌^◌, ℕ, List, Bool, true, false, cond, eqb, length, get_or, None, Some, refl, sym, ap, ◌∙◌, ⊎_elim, arith}
+use Rattle.std.proofs.Common.{◌≡◌, ◌≢◌, ◌<◌, ◌*◌, ◌/◌, ◌%◌, ◌^◌, ℕ, List, Bool, true, false, cond, eqb, length, get_or}
+use Rattle.std.proofs.Common.{None, Some, refl, sym, ap, ◌∙◌, ⊎_elim, arith}
 use mathlib.Core.Bool.{◌||◌}
 use Rattle.std.specs.Int.{w64, bit_at}
 use Rattle.std.specs.Int.Bits.{bit_or}
@@ -13,7 +14,8 @@ use Rattle.aig_core.specs.Parts.Marks.{is_marked}
 use Rattle.aig_core.specs.Parts.Places.{mark_of}
 use Rattle.aig_core.proofs.Maps.{HasNew}
 
-either : {T : Type 0} (a b : Bool) (v : T) → cond (a || b) (Some v) None ≡ option_or (cond b (Some v) None) (cond a (Some v) None)
+either : {T : Type 0} (a b : Bool) (v : T)
+    → cond (a || b) (Some v) None ≡ option_or (cond b (Some v) None) (cond a (Some v) None)
 either true true v = refl
 either true false v = refl
 either false true v = refl
@@ -31,7 +33,8 @@ module _ (words : List ℕ) (k word : ℕ) (below : k / 64 < length words) (is :
   marked_more : (i : ℕ) → is_marked (put words (k / 64) (with_bit word (k % 64))) i ≡ (eqb i k || is_marked words i)
   marked_more i =
       ⊎_elim (λ (t : (eqb (i / 64) (k / 64) ≡ true) × (i / 64 ≡ k / 64)).
-      let old_word : word ≡ get_or words (i / 64) 0 = is ∙ get_or_default words (k / 64) word 0 below ∙ ap (λ j. get_or words j 0) (sym t.1) in
+      let old_word : word ≡ get_or words (i / 64) 0 = is ∙ get_or_default words (k / 64) word 0 below
+      ∙ ap (λ j. get_or words j 0) (sym t.1) in
       let new_word : get_or (put words (k / 64) (with_bit word (k % 64))) (i / 64) 0 ≡ with_bit word (k % 64) =
       rw t.1 (get_or-set_same words (k / 64) (with_bit word (k % 64)) 0 below) in
       ⊎_elim (λ (u : (eqb (i % 64) (k % 64) ≡ true) × (i % 64 ≡ k % 64)).

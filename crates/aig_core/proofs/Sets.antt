@@ -25,7 +25,8 @@ module _ {T : Type 0} where
   pub one_more_key : (m : FinMap nat_cmp T) (k : ℕ) (v : T) → keys_of (with_new m k v) ≡ set.insert (keys_of m) k
   one_more_key m k v = same_set nat_cmp_total nat_cmp-IsAntisymmetric _ _ (λ q.
       has_key (with_new m k v) q ∙ ap is_some (get-with_new m k v q) ∙ some_or (map.get m q) (eqb q k) v
-      ∙ ap₂ (λ a b. a || b) (sym (unsigned_tied q k)) (sym (has_key m q)) ∙ sym (contains-insert nat_cmp_total (keys_of m) k q))
+      ∙ ap₂ (λ a b. a || b) (sym (unsigned_tied q k)) (sym (has_key m q))
+      ∙ sym (contains-insert nat_cmp_total (keys_of m) k q))
 
   pub no_keys : (m : FinMap nat_cmp T) → m ≡ map.empty → keys_of m ≡ set.empty
   no_keys m none = same_set nat_cmp_total nat_cmp-IsAntisymmetric _ _ (λ q.

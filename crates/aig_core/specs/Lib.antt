@@ -5,7 +5,6 @@ pub mod Names
 pub mod VarMap
 pub mod Order
 pub mod Fault
-pub mod GateIndex
 pub mod Operands
 pub mod Users
 pub mod Ready

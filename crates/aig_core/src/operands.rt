@@ -1,14 +1,13 @@
 //! Which gates the operands of gates are over.
 ghost use Rattle.std.specs.Prelude.{◌≡◌, ◌≤◌, ℕ, length, map, IfOk};
+ghost use Rattle.std.specs.FinMap.{get};
 ghost use Rattle.aig_core.specs.Literal.{variable_of};
-ghost use Rattle.aig_core.specs.GateIndex.{found_at};
+ghost use Rattle.aig_core.specs.Order.{gate_of};
 ghost use Rattle.aig_core.specs.Operands.{operands_of, how_many};
 
 use crate::circuit::{Circuit, Gate, LARGEST};
-use crate::operands::gate_index::GateIndex;
+use crate::var_map::VarMap;
 use std::alloc::{AllocError, Global};
-
-mod gate_index;
 
 /// The positions of the gates that a gate's operands are over, where they are over gates.
 #[derive(Clone, Copy)]
@@ -26,16 +25,28 @@ impl Operands {
     }
 }
 
+/// The positions of gates by the variables that they define. Of two gates that define one, it has the first.
+fn gate_index(alloc: Global, gates: &[Gate], max_var: u32) -> Result<VarMap<u32>, AllocError>
+    requires { length gates.now ≤ LARGEST }
+    ensures { IfOk result (λ index. (v : ℕ) → get index v ≡ gate_of gates.now v) }
+{
+    let mut index = VarMap::new(alloc, gates.len(), max_var)?;
+    for position in 0..gates.len() {
+        index.insert(gates[position].var, position as u32)?;
+    }
+    Ok(index)
+}
+
 /// The operands of one gate.
-fn look_up(index: &GateIndex, gate: &Gate) -> Operands
+fn look_up(index: &VarMap<u32>, gate: &Gate) -> Operands
     ensures { result ≡ record {
-      left = found_at index.now.places.items index.now.others (variable_of gate.now.left);
-      right = found_at index.now.places.items index.now.others (variable_of gate.now.right);
+      left = get index.now (variable_of gate.now.left);
+      right = get index.now (variable_of gate.now.right);
     } }
 {
     Operands {
-        left: index.find(gate.left.var()),
-        right: index.find(gate.right.var()),
+        left: index.get(gate.left.var()),
+        right: index.get(gate.right.var()),
     }
 }
 
@@ -45,7 +56,7 @@ pub(crate) fn all_operands(alloc: Global, circuit: &Circuit) -> Result<Vec<Opera
     ensures { IfOk result (λ all. all.items ≡ map (operands_of circuit.now.gates) circuit.now.gates) }
 {
     let gates = circuit.gates.as_slice();
-    let index = GateIndex::new(alloc, gates, circuit.max_var)?;
+    let index = gate_index(alloc, gates, circuit.max_var)?;
     let mut all = Vec::with_capacity(alloc, gates.len())?;
     for gate in gates {
         all.push(look_up(&index, gate))?;

@@ -1,5 +1,6 @@
 //! Places by index.
-ghost use Rattle.std.specs.Prelude.{◌≡◌, ◌==◌, ◌↔◌, ◌<◌, ◌≤◌, ◌^◌, ℕ, Option, None, Some, not, is_some, IfOk, IsTrue, if◌then◌else◌};
+ghost use Rattle.std.specs.Prelude.{◌≡◌, ◌==◌, ◌↔◌, ◌<◌, ℕ, Option, None, Some, not, is_some, IfOk, IsTrue};
+ghost use Rattle.std.specs.Prelude.{if◌then◌else◌};
 ghost use Rattle.std.specs.Option.{option_or};
 ghost use Rattle.std.specs.Mem.{FitsInMemory};
 ghost use Rattle.aig_core.specs.contracts.var_map.bucket.Bucket.{the_row as bucket_row};
@@ -38,7 +39,8 @@ pub trait Places {
         requires covered { index < bound self.old }
         requires fits { fits value }
         ensures added { result ≡ not (is_some (held self.old index)) }
-        ensures held { (i : ℕ) → held self.new i ≡ option_or (held self.old i) (if i == index then Some value else None) }
+        ensures held { (i : ℕ) → held self.new i
+            ≡ option_or (held self.old i) (if i == index then Some value else None) }
         ensures bound { bound self.new ≡ bound self.old };
 }
 

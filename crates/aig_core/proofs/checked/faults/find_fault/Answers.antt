@@ -1,10 +1,10 @@
 use Rattle.std.proofs.Common.{◌∙◌, sym, ap, not}
-use Rattle.aig_core.proofs.Gates.{not_found}
+use Rattle.aig_core.proofs.Buckets.{none_of}
 use Rattle.aig_core.proofs.InOrder.{in_order_faultless}
 use Rattle.aig_core.proofs.checked.faults.find_fault.Goals as goal
 
 pub returns-then-is_none-clause-ok : goal.returns-then-is_none-clause-ok
 returns-then-is_none-clause-ok c =
     let told = c.in_ok-variables.ensures in
-    let none = not_found c.first_undefined_end.result _ (sym c.is_none.ensures) (ap not c.if-is_none.true) in
+    let none = none_of c.first_undefined_end.result (c.is_none.ensures ∙ ap not c.if-is_none.true) in
     in_order_faultless c.args.circuit.now told.ok (sym told.in_order ∙ c.if-in_order.true) c.requires (rw (← told.variables, ← c.first_undefined_end.ensures) none)

@@ -11,7 +11,9 @@ returns-then-covers-clause-added g c =
     let held = g.T.Table.Places.held c.self.inside.places in
     rw (← c.self.view_is, ← c.var.view_is) (
     c.insert.ensures.added
-    ∙ ap (λ o. not (is_some o)) (sym (map_has _ c.var.inside.0 (search rules) ∙ in_place _ held c.self.inside.spread c.var.inside.0 (c.covers.ensures.0 c.if-covers.true))))
+    ∙ ap (λ o. not (is_some o))
+    (sym (map_has _ c.var.inside.0 (search rules)
+    ∙ in_place _ held c.self.inside.spread c.var.inside.0 (c.covers.ensures.0 c.if-covers.true))))
 
 pub returns-then-covers-clause-ok : goal.returns-then-covers-clause-ok
 returns-then-covers-clause-ok g c =
@@ -22,17 +24,20 @@ returns-then-covers-clause-ok g c =
     rw (← c.self.view_is, ← c.var.view_is) (
     ap (λ n. map_of (kept_at n more others)) c.insert.ensures.bound
     ∙ grown (kept_at places held others) (kept_at places more others) c.var.inside.0 c.args.value (search rules)
-    (more_in_place places held others c.var.inside.0 c.args.value more (c.covers.ensures.0 c.if-covers.true) c.insert.ensures.held))
+    (more_in_place places held others c.var.inside.0 c.args.value more (c.covers.ensures.0 c.if-covers.true)
+    c.insert.ensures.held))
 
 pub returns-else-covers-clause-added : goal.returns-else-covers-clause-added
 returns-else-covers-clause-added g c =
     let held = g.T.Table.Places.held c.self.inside.places in
     let above : g.T.Table.Places.bound c.self.inside.places ≤ c.args.var =
-    ⊎_elim (λ below. absurd (true≢false (sym (c.covers.ensures.1 (rw c.var.view_is below)) ∙ c.if-covers.false))) (λ above. above)
+    ⊎_elim (λ below. absurd (true≢false (sym (c.covers.ensures.1 (rw c.var.view_is below)) ∙ c.if-covers.false)))
+    (λ above. above)
     (cases_lt c.args.var (g.T.Table.Places.bound c.self.inside.places)) in
     rw (← c.self.view_is) (
     subst (λ o. IfOk c.insert-else-covers.result (λ added. added ≡ not (is_some o)))
-    (sym (map_has _ c.args.var (search rules) ∙ in_others _ held c.self.inside.spread c.args.var above)) c.insert-else-covers.ensures.added)
+    (sym (map_has _ c.args.var (search rules) ∙ in_others _ held c.self.inside.spread c.args.var above))
+    c.insert-else-covers.ensures.added)
 
 pub returns-else-covers-clause-ok : goal.returns-else-covers-clause-ok
 returns-else-covers-clause-ok g c =
@@ -41,9 +46,11 @@ returns-else-covers-clause-ok g c =
     let others = c.self.inside.spread in
     let more = c.insert-else-covers.new.self in
     let above : g.T.Table.Places.bound c.self.inside.places ≤ c.args.var =
-    ⊎_elim (λ below. absurd (true≢false (sym (c.covers.ensures.1 (rw c.var.view_is below)) ∙ c.if-covers.false))) (λ above. above)
+    ⊎_elim (λ below. absurd (true≢false (sym (c.covers.ensures.1 (rw c.var.view_is below)) ∙ c.if-covers.false)))
+    (λ above. above)
     (cases_lt c.args.var (g.T.Table.Places.bound c.self.inside.places)) in
     rw (← c.self.view_is) (
     on_ok_weaker c.insert-else-covers.result (λ is.
-    grown (kept_at places held others) (kept_at places held more) c.args.var c.args.value (search rules) (more_elsewhere places held others c.args.var c.args.value more above is))
+    grown (kept_at places held others) (kept_at places held more) c.args.var c.args.value (search rules)
+    (more_elsewhere places held others c.args.var c.args.value more above is))
     c.insert-else-covers.ensures.ok)

@@ -6,9 +6,11 @@ use Rattle.aig_core.proofs.var_set.VarSet.insert.Goals as goal
 
 pub returns-clause-added : goal.returns-clause-added
 returns-clause-added c =
-    rw (← c.self.view_is) (subst (λ b. IfOk c.insert.result (λ added. added ≡ not b)) (sym (has_key c.self.inside.marks c.args.var)) c.insert.ensures.added)
+    rw (← c.self.view_is) (subst (λ b. IfOk c.insert.result (λ added. added ≡ not b))
+    (sym (has_key c.self.inside.marks c.args.var)) c.insert.ensures.added)
 
 pub returns-clause-ok : goal.returns-clause-ok
 returns-clause-ok c =
     rw (← c.self.view_is) (
-    on_ok_weaker c.insert.result (λ is. ap keys_of is ∙ one_more_key c.self.inside.marks c.args.var tt) c.insert.ensures.ok)
+    on_ok_weaker c.insert.result (λ is. ap keys_of is ∙ one_more_key c.self.inside.marks c.args.var tt)
+    c.insert.ensures.ok)

@@ -9,11 +9,15 @@ loop-entry-init g c = ap (find nat_cmp c.args.index) (sym c.self.view_is)
 
 pub returns-then-entry-index : goal.returns-then-entry-index
 returns-then-entry-index g c =
-    sym (c.loop-entry.invariant ∙ found_here _ _ c.args.index c.entry-item.result c.loop-entry-test.true c.entry-item.is c.if-entry-index.true)
+    sym (c.loop-entry.invariant
+    ∙ found_here _ _ c.args.index c.entry-item.result c.loop-entry-test.true c.entry-item.is c.if-entry-index.true)
 
 pub loop-entry-preserved : goal.loop-entry-preserved
 loop-entry-preserved g c =
-    c.loop-entry.invariant ∙ found_later _ _ c.args.index c.entry-item.result c.loop-entry-test.true c.entry-item.is c.if-entry-index.false
+    c.loop-entry.invariant ∙ found_later _ _ c.args.index c.entry-item.result c.loop-entry-test.true c.entry-item.is
+    c.if-entry-index.false
 
 pub returns : goal.returns
-returns g c = sym (c.loop-entry.invariant ∙ found_nowhere (take c.self.inside.len c.self.inside.entries) c.loop-entry.entry-index c.args.index (omega (arith, c.loop-entry-test.false)))
+returns g c = sym (c.loop-entry.invariant
+    ∙ found_nowhere (take c.self.inside.len c.self.inside.entries) c.loop-entry.entry-index c.args.index
+    (omega (arith, c.loop-entry-test.false)))

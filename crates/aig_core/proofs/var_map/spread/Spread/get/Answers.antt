@@ -13,7 +13,8 @@ returns-then-is_some g c =
     let all = c.self.inside.buckets.items in
     let tree = c.self.inside.others in
     let k = c.var.inside.0 in
-    let own = own_bucket all c.bucket_of.result c.len.result k c.index-bucket.result.now (c.len.ensures ∙ c.self.inside.buckets.ok.0)
+    let own = own_bucket all c.bucket_of.result c.len.result k c.index-bucket.result.now
+    (c.len.ensures ∙ c.self.inside.buckets.ok.0)
     c.bucket_of.ensures.value c.bucket_of.ensures.below c.index-bucket.ensures in
     let found = c.get-found.result in
     let first = some_first found (tree_map.get nat_cmp tree k) (sym c.is_some.ensures ∙ c.if-is_some.true) in
@@ -26,7 +27,8 @@ returns-then-is_full g c =
     let all = c.self.inside.buckets.items in
     let tree = c.self.inside.others in
     let k = c.var.inside.0 in
-    let own = own_bucket all c.bucket_of.result c.len.result k c.index-bucket.result.now (c.len.ensures ∙ c.self.inside.buckets.ok.0)
+    let own = own_bucket all c.bucket_of.result c.len.result k c.index-bucket.result.now
+    (c.len.ensures ∙ c.self.inside.buckets.ok.0)
     c.bucket_of.ensures.value c.bucket_of.ensures.below c.index-bucket.ensures in
     let found = c.get-found.result in
     let none : found ≡ None = none_of found (sym c.is_some.ensures ∙ c.if-is_some.false) in
@@ -42,7 +44,8 @@ returns-else-is_full g c =
     let all = c.self.inside.buckets.items in
     let tree = c.self.inside.others in
     let k = c.var.inside.0 in
-    let own = own_bucket all c.bucket_of.result c.len.result k c.index-bucket.result.now (c.len.ensures ∙ c.self.inside.buckets.ok.0)
+    let own = own_bucket all c.bucket_of.result c.len.result k c.index-bucket.result.now
+    (c.len.ensures ∙ c.self.inside.buckets.ok.0)
     c.bucket_of.ensures.value c.bucket_of.ensures.below c.index-bucket.ensures in
     let found = c.get-found.result in
     let none : found ≡ None = none_of found (sym c.is_some.ensures ∙ c.if-is_some.false) in

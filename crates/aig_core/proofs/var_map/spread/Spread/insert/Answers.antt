@@ -5,7 +5,8 @@ use Rattle.std.specs.BTreeMap as tree_map
 use Rattle.aig_core.specs.declared.var_map.bucket.TheConstants.{ROOM}
 use Rattle.aig_core.specs.Parts.Places.{bucket_at, spread_at}
 use Rattle.aig_core.proofs.Maps.{map_has, grown}
-use Rattle.aig_core.proofs.Buckets.{own_bucket, none_of, both_none, more_in_bucket, still_spread, more_in_tree, spread_in_tree}
+use Rattle.aig_core.proofs.Buckets.{own_bucket, none_of, both_none, more_in_bucket, still_spread, more_in_tree}
+use Rattle.aig_core.proofs.Buckets.{spread_in_tree}
 use Rattle.aig_core.proofs.var_map.spread.Spread.insert.Goals as goal
 
 pub invariant_of-self : goal.invariant_of-self
@@ -13,7 +14,8 @@ invariant_of-self g c =
     let all = c.self.inside.buckets.items in
     let tree = c.self.inside.others in
     let k = c.var.inside.0 in
-    let own = own_bucket all c.bucket_of-at.result c.len.result k c.index.result.now (c.len.ensures ∙ c.self.inside.buckets.ok.0)
+    let own = own_bucket all c.bucket_of-at.result c.len.result k c.index.result.now
+    (c.len.ensures ∙ c.self.inside.buckets.ok.0)
     c.bucket_of-at.ensures.value c.bucket_of-at.ensures.below c.index.ensures in
     let full : ROOM ≤ length c.index.result.now = c.is_full.ensures.0 c.if-is_full.true in
     spread_in_tree all k c.args.value tree c.insert.new.self (rw c.var.view_is c.in_ok-insert.ensures.updates)
@@ -24,7 +26,8 @@ invariant_of-self-else-is_full g c =
     let all = c.self.inside.buckets.items in
     let tree = c.self.inside.others in
     let k = c.var.inside.0 in
-    let own = own_bucket all c.bucket_of-at.result c.len.result k c.index_mut.result.now (c.len.ensures ∙ c.self.inside.buckets.ok.0)
+    let own = own_bucket all c.bucket_of-at.result c.len.result k c.index_mut.result.now
+    (c.len.ensures ∙ c.self.inside.buckets.ok.0)
     c.bucket_of-at.ensures.value c.bucket_of-at.ensures.below c.index_mut.ensures.value in
     still_spread all k c.args.value c.bucket_of-at.result c.index_mut.result.now c.put.new.self own.0 own.1
     c.index_mut.ensures.value c.put.ensures tree c.self.invariant
@@ -49,7 +52,8 @@ returns-else-is_full-clause-ok g c =
     let all = c.self.inside.buckets.items in
     let tree = c.self.inside.others in
     let k = c.var.inside.0 in
-    let own = own_bucket all c.bucket_of-at.result c.len.result k c.index_mut.result.now (c.len.ensures ∙ c.self.inside.buckets.ok.0)
+    let own = own_bucket all c.bucket_of-at.result c.len.result k c.index_mut.result.now
+    (c.len.ensures ∙ c.self.inside.buckets.ok.0)
     c.bucket_of-at.ensures.value c.bucket_of-at.ensures.below c.index_mut.ensures.value in
     let missed : spread_at all tree k ≡ None =
     sym (map_has (spread_at all tree) k (search rules))
