@@ -32,7 +32,7 @@ module _ (c : Circuit) (order : List ℕ) (good : IsWellFormed c) (least : IsLea
   order_once : AreDistinct order
   order_once = each_once (length c.gates) (gate_operands c.gates) [] order least.in_turn
 
-  order_there : AllByRecursion (λ g. g < length c.gates) order
+  pub order_there : AllByRecursion (λ g. g < length c.gates) order
   order_there = all_there (length c.gates) (gate_operands c.gates) [] order least.in_turn
 
   pub there : (h : ℕ) → IsAmong h order → h < length c.gates

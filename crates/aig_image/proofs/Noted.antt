@@ -3,6 +3,8 @@ use Rattle.std.proofs.Common.{◌≡◌, ◌≢◌, ◌<◌, ◌≤◌, ◌+◌,
 use Rattle.std.specs.Ordering.{nat_cmp}
 use Rattle.std.specs.Cmp.{eq_by_cmp_equiv, unsigned_tied}
 use Rattle.std.specs.BTreeMap.{BTreeMap, get, Updates}
+use Rattle.std.specs.Option.{unwrap_or}
+use Rattle.std.specs.Prelude.{nat_lt, slice_index}
 use Rattle.std.proofs.lemmas.Bool.{cases_lt}
 use Rattle.std.proofs.lemmas.Bool.Decides.{eqb_tells}
 use Rattle.std.proofs.lemmas.Cmp.{nat_cmp_total}
@@ -12,11 +14,16 @@ use Rattle.std.proofs.lemmas.List.Folds.{position_or_len_push}
 use Rattle.std.proofs.lemmas.List.Sums.{prefix_len-le-length}
 use Rattle.std.specs.List.{position_or_len}
 use Rattle.aig_core.specs.Wellformed.{IsAmong}
-use Rattle.aig_image.specs.Parts.Numbers.{number_at, number_in, AreNumbered}
+use Rattle.aig_image.specs.declared.numbers.Numbers.{Numbers}
+use Rattle.aig_image.specs.Parts.Numbers.{number_of, number_in, AreNumbered}
+
+-- the number of a variable in a table and a tree
+abbrev in_parts : List ℕ → BTreeMap ℕ ℕ → ℕ → ℕ
+in_parts places others v = cond (nat_lt v (length places)) (slice_index places v) (unwrap_or (get nat_cmp others v) 0)
 
 -- a tree that notes one more variable
-pub in_tree : (places : List ℕ) (old new : BTreeMap ℕ ℕ) (var n : ℕ) → length places ≤ var → Updates nat_cmp old new var (Some n) → number_at places old var ≡ 0
-    → (v : ℕ) → number_at places new v ≡ cond (eqb (number_at places old v) 0) (cond (eqb v var) n 0) (number_at places old v)
+pub in_tree : (places : List ℕ) (old new : BTreeMap ℕ ℕ) (var n : ℕ) → length places ≤ var → Updates nat_cmp old new var (Some n) → in_parts places old var ≡ 0
+    → (v : ℕ) → in_parts places new v ≡ cond (eqb (in_parts places old v) 0) (cond (eqb v var) n 0) (in_parts places old v)
 in_tree places old new var n above more vacant v =
     ⊎_elim (λ (t : (eqb v var ≡ true) × (v ≡ var)). let here : get nat_cmp new var ≡ Some n = more.1 in grind (arith, common_steps, t.0, t.1, vacant, above, here))
     (λ (f : (eqb v var ≡ false) × (v ≢ var)).
@@ -32,13 +39,13 @@ eqb_comm : (a b : ℕ) → eqb a b ≡ eqb b a
 eqb_comm a b = grind arith
 
 -- one variable more
-pub one_more : (noted more : ℕ) (places new_places : List ℕ) (others new_others : BTreeMap ℕ ℕ) (var : ℕ) → more ≡ noted + 1
-    → ((v : ℕ) → number_at new_places new_others v ≡ cond (eqb (number_at places others v) 0) (cond (eqb v var) (noted + 1) 0) (number_at places others v))
-    → (variables : List ℕ) → AreNumbered noted places others variables → AreNumbered more new_places new_others (variables ++ var ∷ [])
-one_more noted more places new_places others new_others var counted told variables numbered = record {
+pub one_more : (old new : Numbers) (var : ℕ) → new.noted ≡ old.noted + 1
+    → ((v : ℕ) → number_of new v ≡ cond (eqb (number_of old v) 0) (cond (eqb v var) (old.noted + 1) 0) (number_of old v))
+    → (variables : List ℕ) → AreNumbered old variables → AreNumbered new (variables ++ var ∷ [])
+one_more old new var counted told variables numbered = record {
   count = counted ∙ ap (λ n. n + 1) numbered.count ∙ sym (length-append variables (var ∷ []));
   numbers = λ v. told v
-      ∙ ap (λ n. cond (eqb n 0) (cond (eqb v var) (noted + 1) 0) n) (numbered.numbers v)
+      ∙ ap (λ n. cond (eqb n 0) (cond (eqb v var) (old.noted + 1) 0) n) (numbered.numbers v)
       ∙ ap₂ (λ b n. cond (eqb (number_in variables v) 0) (cond b (n + 1) 0) (number_in variables v)) (eqb_comm v var) numbered.count
       ∙ sym (number_push variables var v);
 }
@@ -67,23 +74,22 @@ has_number xs v some =
     ⊎_elim (λ (b : position_or_len (λ w. eqb w v) xs < length xs). has_place xs v b)
     (λ (n : length xs ≤ position_or_len (λ w. eqb w v) xs). absurd (grind (arith, common_steps, n, some))) (cases_lt (position_or_len (λ w. eqb w v) xs) (length xs))
 
--- a number that was noted is not above how many were
-not_above : (noted : ℕ) (places : List ℕ) (others : BTreeMap ℕ ℕ) (variables : List ℕ) → AreNumbered noted places others variables → (v : ℕ) → number_at places others v ≤ noted
-not_above noted places others variables numbered v = rw (numbered.numbers v, numbered.count) (in_list variables v)
-
 -- what is noted of two sections
-pub two_sections : {L : Type 0} (of_latch : L → ℕ) (noted : ℕ) (places : List ℕ) (others : BTreeMap ℕ ℕ) (inputs inputs_too : List ℕ) (latches latches_too : List L)
-    → inputs ≡ inputs_too → latches ≡ latches_too → AreNumbered noted places others ([] ++ map (λ v. v) inputs ++ map of_latch latches)
-    → AreNumbered noted places others (inputs_too ++ map of_latch latches_too)
-two_sections of_latch noted places others inputs inputs_too latches latches_too same same_latches numbered =
-    subst (AreNumbered noted places others) (ap₂ (λ vs ls. vs ++ map of_latch ls) (map-id inputs ∙ same) same_latches) numbered
+pub two_sections : {L : Type 0} (of_latch : L → ℕ) (n : Numbers) (inputs inputs_too : List ℕ) (latches latches_too : List L)
+    → inputs ≡ inputs_too → latches ≡ latches_too → AreNumbered n ([] ++ map (λ v. v) inputs ++ map of_latch latches)
+    → AreNumbered n (inputs_too ++ map of_latch latches_too)
+two_sections of_latch n inputs inputs_too latches latches_too same same_latches numbered =
+    subst (AreNumbered n) (ap₂ (λ vs ls. vs ++ map of_latch ls) (map-id inputs ∙ same) same_latches) numbered
 
-pub few : {L G : Type 0} (of_latch : L → ℕ) (of_gate : G → ℕ) (noted : ℕ) (places : List ℕ) (others : BTreeMap ℕ ℕ) (inputs : List ℕ) (latches : List L) (gates : List G)
-    → AreNumbered noted places others (inputs ++ map of_latch latches ++ map of_gate gates) → (v : ℕ) → number_at places others v ≤ length inputs + length latches + length gates
-few of_latch of_gate noted places others inputs latches gates numbered v =
-    let all : length (inputs ++ map of_latch latches ++ map of_gate gates) ≡ length inputs + length latches + length gates = simp (length-append, length-map) in
-    omega (arith, all, numbered.count, not_above noted places others _ numbered v)
+-- a number is not above how many were noted
+pub few : {L G : Type 0} (of_latch : L → ℕ) (of_gate : G → ℕ) (n : Numbers) (inputs : List ℕ) (latches : List L) (gates : List G)
+    → AreNumbered n (inputs ++ map of_latch latches ++ map of_gate gates)
+    → (v : ℕ) → number_of n v ≤ length inputs + length latches + length gates
+few of_latch of_gate n inputs latches gates numbered v =
+    let variables : List ℕ = inputs ++ map of_latch latches ++ map of_gate gates in
+    let all : length variables ≡ length inputs + length latches + length gates = simp (length-append, length-map) in
+    omega (arith, all, numbered.numbers v, in_list variables v)
 
 -- what has a number is noted
-pub was_noted : (noted : ℕ) (places : List ℕ) (others : BTreeMap ℕ ℕ) (variables : List ℕ) → AreNumbered noted places others variables → (v : ℕ) → 0 < number_at places others v → IsAmong v variables
-was_noted noted places others variables numbered v some = has_number variables v (rw (← numbered.numbers v) some)
+pub was_noted : (n : Numbers) (variables : List ℕ) → AreNumbered n variables → (v : ℕ) → 0 < number_of n v → IsAmong v variables
+was_noted n variables numbered v some = has_number variables v (rw (← numbered.numbers v) some)

@@ -1,7 +1,7 @@
 -- Where gates stand in order, their least ready order is 0, 1, 2 and so on.
-use Rattle.std.proofs.Common.{◌≡◌, ◌<◌, ◌≤◌, ◌+◌, ℕ, zero, suc, List, [], ◌∷◌, ◌++◌, length, map, take, refl, sym, subst, ◌∙◌, ⊎_elim, arith}
+use Rattle.std.proofs.Common.{◌≡◌, ◌<◌, ◌≤◌, ◌+◌, ℕ, zero, suc, List, [], ◌∷◌, ◌++◌, length, map, take, Option, None, refl, sym, ap, subst, ◌∙◌, ⊎_elim, arith}
 use Rattle.std.specs.List.{range_with_len}
-use Rattle.std.specs.BTreeMap.{BTreeMap}
+use Rattle.std.specs.Option.{unwrap_or}
 use Rattle.std.proofs.lemmas.Simd.{pick_l_whole}
 use Rattle.aig_core.specs.declared.circuit.Gate.{Gate}
 use Rattle.aig_core.specs.declared.circuit.Latch.{Latch}
@@ -15,9 +15,10 @@ use Rattle.aig_core.proofs.Cyclic.{among_last}
 use Rattle.aig_core.proofs.Fitting.{each, definitions_fit}
 use Rattle.aig_core.proofs.Ranked.{at, no_gate, over_one, variables, stands_there, distinct_back}
 use Rattle.aig_image.specs.Parts.InOrder.{StandInOrder}
-use Rattle.aig_image.specs.Parts.Numbers.{AreNumbered, AreSmall}
+use Rattle.aig_image.specs.declared.image.Renumbering.{Renumbering}
+use Rattle.aig_image.specs.Parts.Numbers.{number_of, AreNumbered, IsRenumberingOf}
+use Rattle.aig_image.specs.Relabelled.{FitIntoLiterals}
 use Rattle.aig_image.specs.Reordered.{taken}
-use Rattle.aig_image.specs.Renumbering.{in_new_order}
 use Rattle.aig_image.proofs.Distinct.{apart}
 use Rattle.aig_image.proofs.OneByOne.{one_by_one, all_of_them}
 use Rattle.aig_image.proofs.Taken.{same_gate}
@@ -79,13 +80,13 @@ module _ (c : Circuit) (good : IsWellFormed c) where
   pub few : length c.inputs + length c.latches + length c.gates ≤ LARGEST
   few = omega (arith, definitions_fit c good, good.limits.max_var)
 
-  -- so the gates as they stand, and numbers that were noted in their order, are in the least ready order
-  pub in_place : (gates : List Gate) (noted : ℕ) (places : List ℕ) (others : BTreeMap ℕ ℕ) → gates ≡ c.gates → StandInOrder first c.gates → AreNumbered noted places others (defined_variables c)
-      → AreSmall places others → (order : List ℕ) × IsLeastReadyOrder c order × (gates ≡ taken c.gates order) × AreNumbered noted places others (in_new_order c order) × AreSmall places others
-  in_place gates noted places others are stand numbered small = (
-    as_they_stand,
-    least_as_they_stand stand,
-    are ∙ sym taken_as_they_stand,
-    subst (λ gs. AreNumbered noted places others (first ++ variables gs)) (sym taken_as_they_stand) numbered,
-    small,
-  )
+  -- so the gates as they stand, and numbers that were noted in their order, make the image
+  pub in_place : (r : Renumbering) → r.taken ≡ None → StandInOrder first c.gates → AreNumbered r.numbers (defined_variables c)
+      → FitIntoLiterals (number_of r.numbers) → IsRenumberingOf c r
+  in_place r none stand numbered small = record {
+    order = as_they_stand;
+    least = least_as_they_stand stand;
+    gates = ap (λ (t : Option (List Gate)). unwrap_or t c.gates) none ∙ sym taken_as_they_stand;
+    numbers = subst (λ gs. AreNumbered r.numbers (first ++ variables gs)) (sym taken_as_they_stand) numbered;
+    small = small;
+  }

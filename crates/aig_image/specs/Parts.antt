@@ -1,4 +1,3 @@
 -- What the crates of this repository cite of one another's work. What this crate promises stands in the other files.
 pub mod Numbers
-pub mod Renewed
 pub mod InOrder

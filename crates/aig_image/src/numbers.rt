@@ -4,10 +4,11 @@ ghost use Rattle.std.specs.Option.{IfSome};
 ghost use Rattle.aig_core.specs.Literal.{variable_of};
 ghost use Rattle.aig_core.specs.declared.circuit.Latch.{Latch as LatchRecord};
 ghost use Rattle.aig_core.specs.declared.circuit.Gate.{Gate as GateRecord};
-ghost use Rattle.aig_image.specs.Parts.Renewed.{new_literal};
-ghost use Rattle.aig_image.specs.Parts.Numbers.{number_at, AreNumbered, AreSmall};
+ghost use Rattle.aig_image.specs.Parts.Numbers.{number_of, AreNumbered};
+ghost use Rattle.aig_image.specs.Relabelled.{FitIntoLiterals};
 ghost use Rattle.aig_image.specs.Parts.InOrder.{StandInOrder};
 
+use crate::labelling::Labels;
 use aig_core::{Circuit, Gate, LARGEST, Latch, Lit, Var};
 use std::alloc::{AllocError, Global};
 use std::collections::BTreeMap;
@@ -63,10 +64,19 @@ pub struct Numbers {
     others: BTreeMap<Var, u32>,
 }
 
+impl Labels for Numbers {
+    ghost label = { number_of };
+
+    #[inline(always)]
+    fn label(&self, var: Var) -> Var {
+        Var(self.number(var))
+    }
+}
+
 impl Numbers {
     /// No numbers, and so many places in the table.
     fn empty(alloc: Global, places: usize) -> Result<Self, AllocError>
-        ensures { IfOk result (λ n. AreNumbered n.noted n.places.items n.others []) }
+        ensures { IfOk result (λ n. AreNumbered n []) }
     {
         Ok(Numbers {
             noted: 0,
@@ -84,7 +94,7 @@ impl Numbers {
 
     /// The number of a variable, 0 where it has none.
     pub fn number(&self, var: Var) -> u32
-        ensures { result ≡ number_at self.now.places.items self.now.others var }
+        ensures { result ≡ number_of self.now var }
     {
         match self.places.get(var.0 as usize) {
             Some(number) => *number,
@@ -92,22 +102,13 @@ impl Numbers {
         }
     }
 
-    /// The literal of the number of its variable, with the sign that it has.
-    pub fn literal(&self, literal: Lit) -> Lit
-        requires { AreSmall self.now.places.items self.now.others }
-        ensures { result ≡ new_literal (number_at self.now.places.items self.now.others) literal }
-    {
-        Lit(2 * self.number(literal.var()) + literal.0 % 2)
-    }
-
     /// Gives a variable the next number, unless it has one.
     fn note(&mut self, var: Var) -> Result<(), AllocError>
         requires { self.old.noted < LARGEST }
         ensures count { OnOk result (self.new.noted ≡ self.old.noted + 1) }
-        ensures numbers { OnOk result ((v : ℕ) → number_at self.new.places.items self.new.others v
-            ≡ (if number_at self.old.places.items self.old.others v == 0
+        ensures numbers { OnOk result ((v : ℕ) → number_of self.new v ≡ (if number_of self.old v == 0
             then (if v == var then self.old.noted + 1 else 0)
-            else number_at self.old.places.items self.old.others v)) }
+            else number_of self.old v)) }
     {
         self.noted += 1;
         if self.number(var) > 0 {
@@ -127,8 +128,8 @@ impl Numbers {
         requires { self.old.noted + length items.now ≤ LARGEST }
         ensures count { OnOk result (self.new.noted ≡ self.old.noted + length items.now) }
         ensures numbers { OnOk result ((variables : List ℕ)
-            → AreNumbered self.old.noted self.old.places.items self.old.others variables
-            → AreNumbered self.new.noted self.new.places.items self.new.others (variables ++ map T.variable items.now)) }
+            → AreNumbered self.old variables
+            → AreNumbered self.new (variables ++ map T.variable items.now)) }
     {
         for item in items {
             self.note(item.variable())?;
@@ -138,7 +139,7 @@ impl Numbers {
 
     /// Whether a literal is a constant, or its variable has a number.
     fn knows(&self, literal: Lit) -> bool
-        ensures { IsTrue result ↔ ((variable_of literal ≡ 0) ⊎ (0 < number_at self.now.places.items self.now.others (variable_of literal))) }
+        ensures { IsTrue result ↔ ((variable_of literal ≡ 0) ⊎ (0 < number_of self.now (variable_of literal))) }
     {
         let var = literal.var();
         var.0 == 0 || self.number(var) > 0
@@ -149,8 +150,8 @@ impl Numbers {
     fn note_in_order(&mut self, gates: &[Gate]) -> Result<bool, AllocError>
         requires { self.old.noted + length gates.now ≤ LARGEST }
         ensures { IfOk result (λ all. IsTrue all → (variables : List ℕ)
-            → AreNumbered self.old.noted self.old.places.items self.old.others variables
-            → AreNumbered self.new.noted self.new.places.items self.new.others (variables ++ map (λ (g : GateRecord). g.var) gates.now)
+            → AreNumbered self.old variables
+            → AreNumbered self.new (variables ++ map (λ (g : GateRecord). g.var) gates.now)
             × StandInOrder variables gates.now) }
     {
         for gate in gates {
@@ -169,7 +170,7 @@ impl Numbers {
     fn of_first(alloc: Global, circuit: &Circuit, gates: usize) -> Result<Self, AllocError>
         requires { length circuit.now.inputs + length circuit.now.latches + gates ≤ LARGEST }
         ensures count { IfOk result (λ n. n.noted ≡ length circuit.now.inputs + length circuit.now.latches) }
-        ensures numbers { IfOk result (λ n. AreNumbered n.noted n.places.items n.others
+        ensures numbers { IfOk result (λ n. AreNumbered n
             (circuit.now.inputs ++ map (λ (l : LatchRecord). l.var) circuit.now.latches)) }
     {
         let variables = circuit.inputs.len() + circuit.latches.len() + gates;
@@ -185,9 +186,9 @@ impl Numbers {
     /// The new numbers of a circuit's variables, where its gates are taken in this order.
     pub fn new(alloc: Global, circuit: &Circuit, taken: &[Gate]) -> Result<Self, AllocError>
         requires { length circuit.now.inputs + length circuit.now.latches + length taken.now ≤ LARGEST }
-        ensures numbers { IfOk result (λ n. AreNumbered n.noted n.places.items n.others
+        ensures numbers { IfOk result (λ n. AreNumbered n
             (circuit.now.inputs ++ map (λ (l : LatchRecord). l.var) circuit.now.latches ++ map (λ (g : GateRecord). g.var) taken.now)) }
-        ensures small { IfOk result (λ n. AreSmall n.places.items n.others) }
+        ensures small { IfOk result (λ n. FitIntoLiterals (number_of n)) }
     {
         let mut numbers = Numbers::of_first(alloc, circuit, taken.len())?;
         numbers.note_all(taken)?;
@@ -198,9 +199,9 @@ impl Numbers {
     /// None.
     pub fn of_ordered(alloc: Global, circuit: &Circuit) -> Result<Option<Self>, AllocError>
         requires { length circuit.now.inputs + length circuit.now.latches + length circuit.now.gates ≤ LARGEST }
-        ensures numbers { IfOk result (λ some. IfSome some (λ n. AreNumbered n.noted n.places.items n.others
+        ensures numbers { IfOk result (λ some. IfSome some (λ n. AreNumbered n
             (circuit.now.inputs ++ map (λ (l : LatchRecord). l.var) circuit.now.latches ++ map (λ (g : GateRecord). g.var) circuit.now.gates))) }
-        ensures small { IfOk result (λ some. IfSome some (λ n. AreSmall n.places.items n.others)) }
+        ensures small { IfOk result (λ some. IfSome some (λ n. FitIntoLiterals (number_of n))) }
         ensures in_order { IfOk result (λ some. IfSome some (λ _.
             StandInOrder (circuit.now.inputs ++ map (λ (l : LatchRecord). l.var) circuit.now.latches) circuit.now.gates)) }
     {

@@ -13,8 +13,8 @@ use Rattle.aig_text.specs.AsciiText.{spaced_number, more_numbers_text, numbers_t
 use Rattle.aig_text.proofs.Written.{more_text}
 use Rattle.aig_order.specs.declared.map_block.MappedGate.{MappedGate}
 use Rattle.aig_order.specs.MapBlock.{one_if, first_row, variable_row, gate_row, rows_of, map_word, last_line}
-use Rattle.aig_order.specs.MapBlock.{block_text}
-use Rattle.aig_order.specs.Parts.Told.{counted_row, told_gate, told_block}
+use Rattle.aig_order.specs.MapBlock.{block_by, block_text, mapped_gate}
+use Rattle.aig_order.specs.Parts.Told.{counted_row}
 
 -- the texts of the first items, and of one more
 pub added_more : {X : Type 0} (f : X → List ℕ) (before : List ℕ) (xs : List X) (i : ℕ) (d x : X) (now after : List ℕ)
@@ -44,7 +44,7 @@ module _ (number : ℕ → ℕ) (c : Circuit) where
   of_latch l = of_variable l.var
 
   abbrev of_gate : ℕ → Gate → List ℕ
-  of_gate first g = numbers_text (gate_row (told_gate number first g))
+  of_gate first g = numbers_text (gate_row (mapped_gate number first g))
 
   abbrev first_gate : ℕ
   first_gate = 1 + length c.inputs + length c.latches
@@ -53,13 +53,13 @@ module _ (number : ℕ → ℕ) (c : Circuit) where
   latch_variables = map (λ (l : Latch). l.var) c.latches
 
   abbrev told_gates : List MappedGate
-  told_gates = map (told_gate number first_gate) c.gates
+  told_gates = map (mapped_gate number first_gate) c.gates
 
   -- the numbers of the first line
-  first_is : counted_row c ≡ first_row (told_block number c)
+  first_is : counted_row c ≡ first_row (block_by number c)
   first_is =
       ap₂ (λ latches gates. 1 ∷ c.max_var ∷ length c.inputs ∷ latches ∷ gates ∷ one_if (is_some c.comment) ∷ [])
-      (sym (length-map c.latches (λ (l : Latch). l.var))) (sym (length-map c.gates (told_gate number first_gate)))
+      (sym (length-map c.latches (λ (l : Latch). l.var))) (sym (length-map c.gates (mapped_gate number first_gate)))
 
   -- the lines of inputs, of latches and of gates
   inputs_text : flat_map numbers_text (map variable_row c.inputs) ≡ flat_map of_variable c.inputs
@@ -73,11 +73,11 @@ module _ (number : ℕ → ℕ) (c : Circuit) where
   gates_text : flat_map numbers_text (map gate_row told_gates) ≡ flat_map (of_gate first_gate) c.gates
   gates_text =
       flat_map-map numbers_text gate_row told_gates
-      ∙ flat_map-map (λ x. numbers_text (gate_row x)) (told_gate number first_gate) c.gates
+      ∙ flat_map-map (λ x. numbers_text (gate_row x)) (mapped_gate number first_gate) c.gates
 
   -- the lines between the first and the last
   rows_text : (flat_map of_variable c.inputs ++ flat_map of_latch c.latches) ++ flat_map (of_gate first_gate) c.gates
-      ≡ flat_map numbers_text (rows_of (told_block number c))
+      ≡ flat_map numbers_text (rows_of (block_by number c))
   rows_text =
       let inputs : List (List ℕ) = map variable_row c.inputs in
       let latches : List (List ℕ) = map variable_row latch_variables in
@@ -92,7 +92,7 @@ module _ (number : ℕ → ℕ) (c : Circuit) where
       → u ≡ t ++ header_text map_word (counted_row c)
       → v ≡ u ++ flat_map of_variable inputs → w ≡ v ++ flat_map of_latch latches
       → x ≡ w ++ flat_map (of_gate first) gates → y ≡ x ++ last_line
-      → y ≡ t ++ block_text (told_block number c)
+      → y ≡ t ++ block_text (block_by number c)
   unfolding block_text
   block_added t u v w x y first inputs latches gates is_f is_i is_l is_g to_u to_v to_w to_x to_y =
       let front : List ℕ = header_text map_word (counted_row c) in

@@ -44,7 +44,7 @@ module _ (c : Circuit) (order : List ℕ) (good : IsWellFormed c) (least : IsLea
   latches = map (λ (l : Latch). l.var) c.latches
 
   abbrev tell : Gate → MappedGate
-  tell = mapped_gate (in_new_order c order) (1 + length c.inputs + length c.latches)
+  tell = mapped_gate f (1 + length c.inputs + length c.latches)
 
   abbrev told : List MappedGate
   told = map tell c.gates

@@ -56,7 +56,7 @@ module _ (c : Circuit) (order : List ℕ) (good : IsWellFormed c) (least : IsLea
   images = (mapped_by order c).gates
 
   abbrev tell : Gate → MappedGate
-  tell = mapped_gate vs start
+  tell = mapped_gate f start
 
   -- a gate that is told as exchanged has an image with two operands
   two_operands : (i : ℕ) → i < length c.gates → (tell (at c.gates i)).exchanged ≡ true

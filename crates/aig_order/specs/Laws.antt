@@ -11,7 +11,8 @@ use Rattle.aig_order.specs.Undone.{IsUndoneFrom}
 -- a well-formed circuit has exactly one mapped image, which is well formed and in binary order
 abbrev pub MappedImageIsOne : Type 0
 MappedImageIsOne = (c : Circuit) → IsWellFormed c
-    → (image : Circuit) × IsMappedImage c image × IsWellFormed image × IsInBinaryOrder image × ((other : Circuit) → IsMappedImage c other → other ≡ image)
+    → (image : Circuit) × IsMappedImage c image × IsWellFormed image × IsInBinaryOrder image
+    × ((other : Circuit) → IsMappedImage c other → other ≡ image)
 
 -- of a mapped image, the circuit is undone, and no other
 abbrev pub UndoingRecovers : Type 0
@@ -27,4 +28,5 @@ OnlyMappedImagesAreUndone = (image c d : Circuit)
 -- a block is read exactly where its text stands at the front of the comment, it is within bounds, and its counts match
 abbrev pub BlocksAreReadExactly : Type 0
 BlocksAreReadExactly = (x : Circuit) (b : MapBlock) (rest : List ℕ)
-    → (block_reading x ≡ Ok (b, rest)) ↔ ((x.comment ≡ Some (block_text b ++ rest)) × HasCountsOf b x × IsWithinBounds b)
+    → (block_reading x ≡ Ok (b, rest))
+    ↔ ((x.comment ≡ Some (block_text b ++ rest)) × HasCountsOf b x × IsWithinBounds b)

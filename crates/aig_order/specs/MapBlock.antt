@@ -1,7 +1,7 @@
--- The map block and the mapped image (this project's profile). Conversion to binary gives variables new numbers, gates a new
--- order, and may exchange the operands of a gate. The block is a text that tells all of this, and the mapped image is the
--- binary image with it at the front of its comment.
-use Rattle.std.specs.Prelude.{◌≡◌, ◌+◌, ◌-◌, ◌++◌, ℕ, List, [], ◌∷◌, length, map, Bool, Some, nat_lt, codes}
+-- The map block and the mapped image (this project's profile). Conversion to binary gives variables new numbers, gates a
+-- new order, and may exchange the operands of a gate. The block is a text that tells all of this, and the mapped image is
+-- the binary image with it at the front of its comment.
+use Rattle.std.specs.Prelude.{◌≡◌, ◌+◌, ◌-◌, ◌++◌, ℕ, List, [], ◌∷◌, length, map, Bool, Some, codes}
 use Rattle.std.specs.Prelude.{if◌then◌else◌}
 use Rattle.std.specs.List.{flat_map}
 use Rattle.std.specs.Option.{unwrap_or, is_some}
@@ -12,7 +12,9 @@ use Rattle.aig_core.specs.Order.{IsLeastReadyOrder}
 use Rattle.aig_text.specs.AsciiText.{header_text, numbers_text}
 use Rattle.aig_order.specs.declared.map_block.MappedGate.{MappedGate}
 use Rattle.aig_order.specs.declared.map_block.MapBlock.{MapBlock}
-use Rattle.aig_image.specs.Renumbering.{in_new_order, renumbered, renumbered_literal}
+use Rattle.aig_image.specs.Relabelled.{relabelled_gate}
+use Rattle.aig_image.specs.Renumbering.{in_new_order, renumbered}
+use Rattle.aig_image.specs.Reordered.{has_smaller_first}
 use Rattle.aig_image.specs.Image.{image_by}
 
 abbrev pub one_if : Bool → ℕ
@@ -43,31 +45,36 @@ last_line = codes "aigmap end\n"
 unfoldable pub block_text : MapBlock → List ℕ
 block_text b = header_text map_word (first_row b) ++ (flat_map numbers_text (rows_of b) ++ last_line)
 
--- The operands of a gate are exchanged where the image of the first is the smaller one.
-abbrev pub is_exchanged : List ℕ → Gate → Bool
-is_exchanged variables g = nat_lt (renumbered_literal variables g.left) (renumbered_literal variables g.right)
-
--- What is told of a gate. Its place is how far its new number is from that of the first gate.
-abbrev pub mapped_gate : List ℕ → ℕ → Gate → MappedGate
-mapped_gate variables first g = record {
+-- What is told of a gate whose variables become others by f. Its place is how far its new variable is from that of the
+-- first gate, and its operands are exchanged where the smaller one would come first.
+abbrev pub mapped_gate : (ℕ → ℕ) → ℕ → Gate → MappedGate
+mapped_gate f first g = let new = relabelled_gate f g in record {
   var = g.var;
-  place = renumbered variables g.var - first;
-  exchanged = is_exchanged variables g;
+  place = new.var - first;
+  exchanged = has_smaller_first new;
+}
+
+-- what is told of a circuit whose variables become others by f
+abbrev pub block_by : (ℕ → ℕ) → Circuit → MapBlock
+block_by f c = record {
+  max_var = c.max_var;
+  inputs = c.inputs;
+  latches = map (λ (l : Latch). l.var) c.latches;
+  gates = map (mapped_gate f (1 + length c.inputs + length c.latches)) c.gates;
+  has_comment = is_some c.comment;
 }
 
 -- what is told of a circuit whose gates are taken in this order
 abbrev pub map_block : List ℕ → Circuit → MapBlock
-map_block order c = record {
-  max_var = c.max_var;
-  inputs = c.inputs;
-  latches = map (λ (l : Latch). l.var) c.latches;
-  gates = map (mapped_gate (in_new_order c order) (1 + length c.inputs + length c.latches)) c.gates;
-  has_comment = is_some c.comment;
-}
+map_block order c = block_by (renumbered (in_new_order c order)) c
 
--- the image, its comment being the block and then the comment of the circuit
+-- a block, and then the comment of the circuit
+abbrev pub mapped_comment : MapBlock → Circuit → List ℕ
+mapped_comment b c = block_text b ++ unwrap_or c.comment []
+
+-- the image with that comment
 abbrev pub mapped_by : List ℕ → Circuit → Circuit
-mapped_by order c = record (image_by order c) { comment = Some (block_text (map_block order c) ++ unwrap_or c.comment []) }
+mapped_by order c = record (image_by order c) { comment = Some (mapped_comment (map_block order c) c) }
 
 -- the one circuit that is this circuit's mapped image
 abbrev pub IsMappedImage : Circuit → Circuit → Type 0

@@ -2,13 +2,15 @@
 ghost use Rattle.std.specs.Prelude.{◌≡◌, ◌+◌, ◌++◌, ◌∷◌, ◌≤◌, [], length, decimal, IfOk, OnOk};
 ghost use Rattle.std.specs.List.{flat_map};
 ghost use Rattle.aig_text.specs.AsciiText.{spaced_number, more_numbers_text, numbers_text, header_text};
-ghost use Rattle.aig_order.specs.MapBlock.{variable_row, gate_row, map_word, block_text};
-ghost use Rattle.aig_image.specs.Parts.Numbers.{number_at, AreSmall};
-ghost use Rattle.aig_order.specs.Parts.Told.{counted_row, told_gate, told_block, told_comment};
+ghost use Rattle.aig_image.specs.Parts.Numbers.{number_of};
+ghost use Rattle.aig_image.specs.Relabelled.{FitIntoLiterals};
+ghost use Rattle.aig_order.specs.MapBlock.{block_by, block_text, gate_row, map_word, mapped_comment, mapped_gate};
+ghost use Rattle.aig_order.specs.MapBlock.{variable_row};
+ghost use Rattle.aig_order.specs.Parts.Told.{counted_row};
 
 use crate::map_block::MappedGate;
 use aig_core::{Circuit, Gate, LARGEST, Listing, OutOfMemory};
-use aig_image::{Defines, Numbers};
+use aig_image::{Defines, NamesVariables, Numbers};
 use itoa::Buffer;
 use std::alloc::Global;
 
@@ -88,14 +90,15 @@ fn put_variables<T: Defines>(text: &mut Vec<u8>, items: &[T]) -> Result<(), OutO
 }
 
 /// What the block records of a gate; the first gate of the image has the number `first`.
-fn told_gate(numbers: &Numbers, first: u32, gate: &Gate) -> MappedGate
-    requires { AreSmall numbers.now.places.items numbers.now.others }
-    ensures { result ≡ told_gate (number_at numbers.now.places.items numbers.now.others) first gate.now }
+fn mapped_gate(numbers: &Numbers, first: u32, gate: &Gate) -> MappedGate
+    requires { FitIntoLiterals (number_of numbers.now) }
+    ensures { result ≡ mapped_gate (number_of numbers.now) first gate.now }
 {
+    let new = gate.relabel(numbers);
     MappedGate {
         var: gate.var,
-        place: numbers.number(gate.var).saturating_sub(first),
-        exchanged: numbers.literal(gate.left).0 < numbers.literal(gate.right).0,
+        place: new.var.0.saturating_sub(first),
+        exchanged: new.left.0 < new.right.0,
     }
 }
 
@@ -114,23 +117,23 @@ fn put_gates(
     first: u32,
     gates: &[Gate],
 ) -> Result<(), OutOfMemory>
-    requires { AreSmall numbers.now.places.items numbers.now.others }
+    requires { FitIntoLiterals (number_of numbers.now) }
     ensures { OnOk result (text.new.items ≡ text.old.items
         ++ flat_map (λ g. numbers_text
-        (gate_row (told_gate (number_at numbers.now.places.items numbers.now.others) first g))) gates.now) }
+        (gate_row (mapped_gate (number_of numbers.now) first g))) gates.now) }
 {
     for gate in gates {
-        put_gate(text, told_gate(numbers, first, gate))?;
+        put_gate(text, mapped_gate(numbers, first, gate))?;
     }
     Ok(())
 }
 
 /// Adds the map block of a circuit whose variables get these numbers.
 fn put_block(text: &mut Vec<u8>, numbers: &Numbers, circuit: &Circuit) -> Result<(), OutOfMemory>
-    requires small { AreSmall numbers.now.places.items numbers.now.others }
+    requires small { FitIntoLiterals (number_of numbers.now) }
     requires fits { length circuit.now.inputs + length circuit.now.latches ≤ LARGEST }
     ensures { OnOk result (text.new.items ≡ text.old.items
-        ++ block_text (told_block (number_at numbers.now.places.items numbers.now.others) circuit.now)) }
+        ++ block_text (block_by (number_of numbers.now) circuit.now)) }
 {
     let first_gate = (1 + circuit.inputs.len() + circuit.latches.len()) as u32;
     put_first_line(text, circuit)?;
@@ -162,10 +165,9 @@ pub(crate) fn map_comment(
     numbers: &Numbers,
     circuit: &Circuit,
 ) -> Result<Listing<u8>, OutOfMemory>
-    requires small { AreSmall numbers.now.places.items numbers.now.others }
+    requires small { FitIntoLiterals (number_of numbers.now) }
     requires fits { length circuit.now.inputs + length circuit.now.latches ≤ LARGEST }
-    ensures { IfOk result (λ r. r
-        ≡ told_comment (number_at numbers.now.places.items numbers.now.others) circuit.now) }
+    ensures { IfOk result (λ r. r ≡ mapped_comment (block_by (number_of numbers.now) circuit.now) circuit.now) }
 {
     let mut text = Vec::with_capacity(alloc, most_bytes(circuit))?;
     put_block(&mut text, numbers, circuit)?;

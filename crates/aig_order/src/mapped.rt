@@ -1,22 +1,25 @@
 //! The mapped image of a circuit: the binary image with a map block, by which it can be undone.
-ghost use Rattle.std.specs.Prelude.{IfOk, OnOk};
-ghost use Rattle.aig_core.specs.Wellformed.{IsWellFormed};
+ghost use Rattle.std.specs.Prelude.{◌≡◌, Some, IfOk};
 ghost use Rattle.aig_order.specs.MapBlock.{IsMappedImage};
 
 use crate::map_text::map_comment;
-use aig_core::{Checked, Circuit, Ordered, OutOfMemory};
-use aig_image::{by_numbers, in_checked_order};
+use aig_core::{Checked, Circuit, Listing, Ordered, OutOfMemory};
+use aig_image::Renumbering;
 use std::alloc::Global;
 
-/// The mapped image of a circuit.
-fn mapped_image(alloc: Global, checked: &Checked) -> Result<Circuit, OutOfMemory>
-    ensures image { IfOk result (λ r. IsMappedImage checked.now r) }
-    ensures well_formed { OnOk result (IsWellFormed checked.now) }
+/// The same circuit with this comment.
+fn with_comment(
+    alloc: Global,
+    checked: &Checked,
+    comment: Listing<u8>,
+) -> Result<Circuit, OutOfMemory>
+    ensures { IfOk result (λ c. c ≡ record checked.now { comment = Some comment }) }
 {
-    let (gates, numbers) = in_checked_order(alloc, checked)?;
-    let circuit = checked.circuit();
-    let comment = map_comment(alloc, &numbers, circuit)?;
-    by_numbers(alloc, circuit, gates.as_slice(), &numbers, Some(comment))
+    let circuit = checked.copy(alloc)?.into_circuit();
+    Ok(Circuit {
+        comment: Some(comment),
+        ..circuit
+    })
 }
 
 /// The mapped image of a circuit: its binary image, with a map block at the front of the comment, by which `undo`
@@ -24,6 +27,8 @@ fn mapped_image(alloc: Global, checked: &Checked) -> Result<Circuit, OutOfMemory
 pub fn to_binary_with_map(alloc: Global, checked: &Checked) -> Result<Ordered, OutOfMemory>
     ensures { IfOk result (λ o. IsMappedImage checked.now o) }
 {
-    let image = mapped_image(alloc, checked)?;
-    Ok(Ordered::from_well_ordered(image))
+    let renumbering = Renumbering::new(alloc, checked)?;
+    let comment = map_comment(alloc, renumbering.numbers(), checked.circuit())?;
+    let source = with_comment(alloc, checked, comment)?;
+    Ok(renumbering.image(source))
 }

@@ -60,6 +60,9 @@ module _ (f g : ℕ → ℕ) where
   abbrev Same : ℕ → Type 0
   Same v = f v ≡ g v
 
+  pub same_gate : (h : Gate) → GateNames Same h → relabelled_gate f h ≡ relabelled_gate g h
+  same_gate h e = gates_alike e.0 (same_literal h.left e.1) (same_literal h.right e.2)
+
   pub only_names_matter : (c : Circuit) → NamesOnly Same c → relabelled f c ≡ relabelled g c
   only_names_matter c same = alike c
       (map_where Same f g (λ v e. e) c.inputs same.inputs)
@@ -67,8 +70,7 @@ module _ (f g : ℕ → ℕ) where
       (λ l e. ap₂ latch e.0 (same_literal l.next e.1)) c.latches same.latches)
       (map_where (λ l. Same (variable_of l)) (relabelled_literal f) (relabelled_literal g) same_literal
       c.outputs same.outputs)
-      (map_where (GateNames Same) (relabelled_gate f) (relabelled_gate g)
-      (λ h e. gates_alike e.0 (same_literal h.left e.1) (same_literal h.right e.2)) c.gates same.gates)
+      (map_where (GateNames Same) (relabelled_gate f) (relabelled_gate g) same_gate c.gates same.gates)
 
 -- a gate that is relabelled and then by the way back
 pub gate_back : (f g : ℕ → ℕ) (h : Gate) → GateNames (λ v. f (g v) ≡ v) h

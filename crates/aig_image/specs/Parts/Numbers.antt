@@ -1,24 +1,38 @@
--- How the new numbers of variables are found.
-use Rattle.std.specs.Prelude.{◌≡◌, ◌+◌, ◌==◌, ◌≤◌, ℕ, List, length, slice_index, nat_lt, if◌then◌else◌}
+-- New numbers of variables, as they are found, and what makes the image of a circuit by them.
+use Rattle.std.specs.Prelude.{◌≡◌, ◌+◌, ◌==◌, ℕ, List, length, slice_index, nat_lt, if◌then◌else◌}
 use Rattle.std.specs.List.{position_or_len}
 use Rattle.std.specs.Option.{unwrap_or}
 use Rattle.std.specs.Ordering.{nat_cmp}
-use Rattle.std.specs.BTreeMap.{BTreeMap, get}
-use Rattle.aig_core.specs.declared.circuit.TheConstants.{LARGEST}
+use Rattle.std.specs.BTreeMap.{get}
+use Rattle.aig_core.specs.declared.circuit.Circuit.{Circuit}
+use Rattle.aig_core.specs.Order.{IsLeastReadyOrder}
+use Rattle.aig_image.specs.declared.image.Renumbering.{Renumbering}
+use Rattle.aig_image.specs.declared.numbers.Numbers.{Numbers}
+use Rattle.aig_image.specs.Relabelled.{FitIntoLiterals}
+use Rattle.aig_image.specs.Renumbering.{in_new_order}
+use Rattle.aig_image.specs.Reordered.{taken}
 
--- a table has the numbers of the variables that it has places for, a tree those of the others; 0 where there is none
-abbrev pub number_at : List ℕ → BTreeMap ℕ ℕ → ℕ → ℕ
-number_at places others v = if nat_lt v (length places) then slice_index places v else unwrap_or (get nat_cmp others v) 0
+-- the number of a variable, from the table where that has a place for it, otherwise from the tree; 0 where it has none
+abbrev pub number_of : Numbers → ℕ → ℕ
+number_of numbers v =
+    if nat_lt v (length numbers.places.items) then slice_index numbers.places.items v
+    else unwrap_or (get nat_cmp numbers.others v) 0
 
 -- the place of a variable in a list, counted from 1; 0 where it is not there
 abbrev pub number_in : List ℕ → ℕ → ℕ
-number_in variables v = if nat_lt (position_or_len (λ w. w == v) variables) (length variables) then 1 + position_or_len (λ w. w == v) variables else 0
-
--- no number is too large for a literal
-abbrev pub AreSmall : List ℕ → BTreeMap ℕ ℕ → Type 0
-AreSmall places others = (v : ℕ) → number_at places others v ≤ LARGEST
+number_in variables v =
+    if nat_lt (position_or_len (λ w. w == v) variables) (length variables)
+    then 1 + position_or_len (λ w. w == v) variables else 0
 
 -- so many variables have numbers, those of this list
-pub record AreNumbered (noted : ℕ) (places : List ℕ) (others : BTreeMap ℕ ℕ) (variables : List ℕ) : Type 0 where
-  pub count : noted ≡ length variables
-  pub numbers : (v : ℕ) → number_at places others v ≡ number_in variables v
+pub record AreNumbered (n : Numbers) (variables : List ℕ) : Type 0 where
+  pub count : n.noted ≡ length variables
+  pub numbers : (v : ℕ) → number_of n v ≡ number_in variables v
+
+-- the gates are those of the circuit in its least ready order, and the numbers those of its variables
+pub record IsRenumberingOf (c : Circuit) (r : Renumbering) : Type 0 where
+  pub order : List ℕ
+  pub least : IsLeastReadyOrder c order
+  pub gates : unwrap_or r.taken c.gates ≡ taken c.gates order
+  pub numbers : AreNumbered r.numbers (in_new_order c order)
+  pub small : FitIntoLiterals (number_of r.numbers)

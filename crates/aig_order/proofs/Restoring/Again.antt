@@ -112,7 +112,7 @@ module _ (b : MapBlock) (x : Circuit) (rest : List ℕ) (fit : IsFit b x) (good 
   -- the block tells of the gate what it told
   told_again : (m : MappedGate) → m.place < length x.gates → g (start b x comment fit + m.place) ≡ m.var
       → (m.exchanged ≡ true → (at x.gates m.place).left ≢ (at x.gates m.place).right)
-      → mapped_gate us first (relabelled_gate g (had m)) ≡ m
+      → mapped_gate f first (relabelled_gate g (had m)) ≡ m
   told_again m low variable two =
       let here = ordered_at (start b x comment fit) x.gates fit.ordered.gates m.place low in
       let again = had_again m low in
@@ -120,10 +120,10 @@ module _ (b : MapBlock) (x : Circuit) (rest : List ℕ) (fit : IsFit b x) (good 
       ap₂ (λ var (h : Gate). told var (h.var - first) (has_smaller_first h)) (ap g here.0 ∙ variable) again
       ∙ ap₂ (told m.var) place (exchanged_back m.exchanged (at x.gates m.place) here.2 two)
 
-  gates_again : TellsExchanges x.gates b.gates → map (mapped_gate us first) from.gates ≡ b.gates
+  gates_again : TellsExchanges x.gates b.gates → map (mapped_gate f first) from.gates ≡ b.gates
   gates_again exchanges =
       let made : MappedGate → Gate = λ m. relabelled_gate g (had m) in
-      let Again : MappedGate → Type 0 = λ m. mapped_gate us first (made m) ≡ m in
+      let Again : MappedGate → Type 0 = λ m. mapped_gate f first (made m) ≡ m in
       let Differs : MappedGate → Type 0 =
       λ m. m.exchanged ≡ true → (at x.gates m.place).left ≢ (at x.gates m.place).right in
       let all : AllByRecursion Again b.gates =
@@ -133,9 +133,9 @@ module _ (b : MapBlock) (x : Circuit) (rest : List ℕ) (fit : IsFit b x) (good 
       b.gates fit.bounds.gates i low in
       told_again m (omega (arith, within.1, fit.counts.gates)) (variable_there b x comment fit i low)
       (at_place Differs none_told b.gates exchanges i low)) in
-      ap (map (mapped_gate us first)) (gates_are b x comment fit)
-      ∙ map-map (mapped_gate us first) made b.gates
-      ∙ map_where Again (λ m. mapped_gate us first (made m)) (λ m. m) (λ m e. e) b.gates all
+      ap (map (mapped_gate f first)) (gates_are b x comment fit)
+      ∙ map-map (mapped_gate f first) made b.gates
+      ∙ map_where Again (λ m. mapped_gate f first (made m)) (λ m. m) (λ m e. e) b.gates all
       ∙ map_nothing (λ m. m) (λ m. refl) b.gates
 
   -- the circuit has the block
@@ -144,7 +144,7 @@ module _ (b : MapBlock) (x : Circuit) (rest : List ℕ) (fit : IsFit b x) (good 
       let inputs = inputs_are b x comment fit in
       let latches = latches_are b x comment fit in
       let gates =
-      ap (λ ns. map (mapped_gate ns first) from.gates) (new_is b x comment fit) ∙ gates_again exchanges in
+      ap (λ ns. map (mapped_gate (renumbered ns) first) from.gates) (new_is b x comment fit) ∙ gates_again exchanges in
       let has = was_there b.has_comment rest in
       λ i. record {
         max_var = b.max_var;

@@ -50,7 +50,7 @@ module _ (c : Circuit) (order : List ℕ) (good : IsWellFormed c) (least : IsLea
   start = 1 + length c.inputs + length c.latches
 
   abbrev tell : Gate → MappedGate
-  tell = mapped_gate vs start
+  tell = mapped_gate f start
 
   abbrev told : List MappedGate
   told = map tell c.gates

@@ -1,11 +1,11 @@
 use Rattle.std.proofs.Common.{arith}
-use Rattle.aig_image.specs.Parts.Numbers.{number_at}
+use Rattle.aig_image.specs.Parts.Numbers.{number_of}
 use Rattle.aig_order.proofs.Added.{block_added}
 use Rattle.aig_order.proofs.map_text.put_block.Goals as goal
 
 pub returns : goal.returns
 returns c =
-    let number = number_at c.args.numbers.now.places.items c.args.numbers.now.others in
+    let number = number_of c.args.numbers.now in
     block_added number c.args.circuit.now c.args.text.now.items _ _ _ _ _ _
     c.as_slice.result.now c.as_slice-2.result.now c.as_slice-3.result.now
     (omega (arith, c.len.ensures, c.len-2.ensures)) c.as_slice.ensures c.as_slice-2.ensures c.as_slice-3.ensures

@@ -1,12 +1,11 @@
 use Rattle.std.proofs.Common.{◌≡◌, ◌++◌, take}
 use Rattle.std.specs.List.{flat_map}
 use Rattle.aig_text.specs.AsciiText.{numbers_text}
-use Rattle.aig_order.specs.MapBlock.{gate_row}
-use Rattle.aig_image.specs.Parts.Numbers.{number_at}
-use Rattle.aig_order.specs.Parts.Told.{told_gate}
+use Rattle.aig_order.specs.MapBlock.{gate_row, mapped_gate}
+use Rattle.aig_image.specs.Parts.Numbers.{number_of}
 use Rattle.aig_order.proofs.map_text.put_gates.Given as goal
 
 abbrev pub invariant-loop-gate : goal.invariant-loop-gate
 invariant-loop-gate l =
-    let told = told_gate (number_at l.numbers.places.items l.numbers.others) l.first in
+    let told = mapped_gate (number_of l.numbers) l.first in
     l.text.items ≡ l.fn.text.items ++ flat_map (λ g. numbers_text (gate_row (told g))) (take l.gate-index l.gates)

@@ -5,6 +5,6 @@ use Rattle.aig_image.proofs.numbers.Numbers.note_all.Given as goal
 abbrev pub invariant-loop-item : goal.invariant-loop-item
 invariant-loop-item g l = record {
   count : l.self.noted ≡ l.fn.self.noted + l.item-index;
-  numbers : (variables : List ℕ) → AreNumbered l.fn.self.noted l.fn.self.places.items l.fn.self.others variables
-      → AreNumbered l.self.noted l.self.places.items l.self.others (variables ++ map g.T.Defines.variable (take l.item-index l.items));
+  numbers : (variables : List ℕ) → AreNumbered l.fn.self variables
+      → AreNumbered l.self (variables ++ map g.T.Defines.variable (take l.item-index l.items));
 }

@@ -8,7 +8,7 @@ use Rattle.aig_image.proofs.numbers.Numbers.note_in_order.Given as goal
 abbrev pub invariant-loop-gate : goal.invariant-loop-gate
 invariant-loop-gate l = record {
   count : l.self.noted ≡ l.fn.self.noted + l.gate-index;
-  numbers : (before : List ℕ) → AreNumbered l.fn.self.noted l.fn.self.places.items l.fn.self.others before
-      → AreNumbered l.self.noted l.self.places.items l.self.others (before ++ variables (take l.gate-index l.gates))
+  numbers : (before : List ℕ) → AreNumbered l.fn.self before
+      → AreNumbered l.self (before ++ variables (take l.gate-index l.gates))
       × ((k : ℕ) → k < l.gate-index → AllByRecursion (IsKnown (before ++ variables (take k l.gates))) (operands (at l.gates k)));
 }

@@ -1,0 +1,26 @@
+use Rattle.std.proofs.Common.{sym, subst}
+use Rattle.aig_core.specs.BinaryOrder.{IsInBinaryOrder}
+use Rattle.aig_core.specs.Wellformed.{IsWellFormed}
+use Rattle.aig_image.specs.Image.{IsBinaryImage}
+use Rattle.aig_image.proofs.Ordered.{image_is_ordered}
+use Rattle.aig_image.proofs.Renewed.{made_is_image}
+use Rattle.aig_image.proofs.image.Renumbering.image.Goals as goal
+
+is_ordered : (c : goal.After-renumbered) → IsWellFormed c.renumbered.result × IsInBinaryOrder c.renumbered.result
+is_ordered c =
+    image_is_ordered c.args.circuit c.renumbered.result c.requires.good
+    (made_is_image c.args.circuit c.args.self c.renumbered.result c.unwrap_or-gates.result c.requires.good c.requires.of_it
+    c.renumbered.ensures c.unwrap_or-gates.ensures)
+
+pub from_well_ordered-requires-clause-well_formed :
+    goal.from_well_ordered-requires-clause-well_formed
+from_well_ordered-requires-clause-well_formed c = (is_ordered c).0
+
+pub from_well_ordered-requires-clause-in_order : goal.from_well_ordered-requires-clause-in_order
+from_well_ordered-requires-clause-in_order c = (is_ordered c).1
+
+pub returns : goal.returns
+returns c =
+    subst (IsBinaryImage c.args.circuit) (sym c.from_well_ordered.ensures)
+    (made_is_image c.args.circuit c.args.self c.renumbered.result c.unwrap_or-gates.result c.requires.good c.requires.of_it
+    c.renumbered.ensures c.unwrap_or-gates.ensures)
