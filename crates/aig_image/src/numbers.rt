@@ -86,7 +86,7 @@ impl Numbers {
     }
 
     /// How many variables have numbers.
-    pub fn count(&self) -> u32
+    pub(crate) fn count(&self) -> u32
         ensures { result ≡ self.now.noted }
     {
         self.noted
@@ -184,7 +184,7 @@ impl Numbers {
     }
 
     /// The new numbers of a circuit's variables, where its gates are taken in this order.
-    pub fn new(alloc: Global, circuit: &Circuit, taken: &[Gate]) -> Result<Self, AllocError>
+    pub(crate) fn new(alloc: Global, circuit: &Circuit, taken: &[Gate]) -> Result<Self, AllocError>
         requires { length circuit.now.inputs + length circuit.now.latches + length taken.now ≤ LARGEST }
         ensures numbers { IfOk result (λ n. AreNumbered n
             (circuit.now.inputs ++ map (λ (l : LatchRecord). l.var) circuit.now.latches ++ map (λ (g : GateRecord). g.var) taken.now)) }
@@ -197,7 +197,7 @@ impl Numbers {
 
     /// The new numbers of a circuit's variables if its gates stand in order, each after those that it uses; otherwise
     /// None.
-    pub fn of_ordered(alloc: Global, circuit: &Circuit) -> Result<Option<Self>, AllocError>
+    pub(crate) fn of_ordered(alloc: Global, circuit: &Circuit) -> Result<Option<Self>, AllocError>
         requires { length circuit.now.inputs + length circuit.now.latches + length circuit.now.gates ≤ LARGEST }
         ensures numbers { IfOk result (λ some. IfSome some (λ n. AreNumbered n
             (circuit.now.inputs ++ map (λ (l : LatchRecord). l.var) circuit.now.latches ++ map (λ (g : GateRecord). g.var) circuit.now.gates))) }
