@@ -8,7 +8,8 @@ use Rattle.std.proofs.lemmas.Bool.Decides.{eqb_tells}
 use Rattle.std.proofs.lemmas.List.{length-take-le}
 use Rattle.aig_core.specs.Wellformed.{IsAmong, AreDistinct}
 use Rattle.aig_image.specs.Renumbering.{renumbered, source_variable}
-use Rattle.aig_image.proofs.Places.{here, number_of}
+use Rattle.aig_image.proofs.Places.{number_of}
+use Rattle.aig_image.proofs.Relabelling.Standing.{here}
 
 -- one place further, behind one more
 further : (w n : ℕ) (vs : List ℕ) → get_or (w ∷ vs) (1 + n) 0 ≡ get_or vs n 0

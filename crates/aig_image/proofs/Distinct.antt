@@ -3,10 +3,7 @@ use Rattle.std.proofs.Common.{◌≡◌, ℕ, List, [], ◌∷◌, ◌++◌, ref
 use Rattle.aig_core.specs.Wellformed.{IsAmong, AreDistinct}
 use Rattle.aig_core.proofs.Counted.{among_either}
 use Rattle.aig_core.proofs.Cyclic.{among_last}
-
-pub among_first : (xs ys : List ℕ) (x : ℕ) → IsAmong x xs → IsAmong x (xs ++ ys)
-among_first [] ys x a = absurd a
-among_first (z ∷ xs) ys x a = ⊎_elim (λ e. inl e) (λ (i : IsAmong x xs). inr (among_first xs ys x i)) a
+use Rattle.aig_image.proofs.Relabelling.Standing.{among_first}
 
 -- none of the front stands behind it
 pub apart : (xs ys : List ℕ) → AreDistinct (xs ++ ys) → (x : ℕ) → IsAmong x xs → ¬ IsAmong x ys

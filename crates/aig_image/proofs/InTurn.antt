@@ -13,7 +13,7 @@ use Rattle.aig_core.specs.BinaryOrder.{AreOrderedGates}
 use Rattle.aig_image.specs.Image.{gate_image}
 use Rattle.aig_image.specs.Reordered.{taken}
 use Rattle.aig_image.specs.Renumbering.{renumbered}
-use Rattle.aig_image.proofs.Distinct.{among_first}
+use Rattle.aig_image.proofs.Relabelling.Standing.{among_first}
 use Rattle.aig_image.proofs.Places.{number_of, number_within}
 use Rattle.aig_image.proofs.Taken.{taken_variables, place_there}
 

@@ -14,9 +14,10 @@ use Rattle.aig_core.proofs.Ranges.{at_least_below}
 use Rattle.aig_core.proofs.Steps.{all_of}
 use Rattle.aig_image.specs.Reordered.{ArePlaces, positions_of}
 use Rattle.aig_image.specs.Renumbering.{in_new_order, renumbered, renumbered_literal}
-use Rattle.aig_image.proofs.Distinct.{among_first, apart, front, joined}
+use Rattle.aig_image.proofs.Distinct.{apart, front, joined}
 use Rattle.aig_image.proofs.Places.{number_within}
 use Rattle.aig_image.proofs.Relabelling.Positions.{places_have_positions}
+use Rattle.aig_image.proofs.Relabelling.Standing.{among_first}
 use Rattle.aig_image.proofs.Taken.{each_once, all_there, place_there, taken_variables, among_taken, taken_has, taken_once}
 
 module _ (c : Circuit) (order : List ℕ) (good : IsWellFormed c) (least : IsLeastReadyOrder c order) where
@@ -83,10 +84,3 @@ module _ (c : Circuit) (order : List ℕ) (good : IsWellFormed c) (least : IsLea
 
   pub new_fits : length new ≤ c.max_var
   new_fits = at_most c.max_var new new_once (all_of (IsVariableUpTo c.max_var) new (λ v a. each (IsVariableUpTo c.max_var) (defined_variables c) good.in_range v (is_defined v a)))
-
-  -- a literal that may be used has a new one in range
-  pub new_literal : (l : ℕ) → IsKnown (defined_variables c) l → renumbered_literal new l ≤ 2 * length new + 1
-  new_literal l known =
-      let within : renumbered new (variable_of l) ≤ length new =
-      number_within new new [] (variable_of l) (sym (append-nil new)) (⊎_elim (λ (z : variable_of l ≡ 0). inl z) (λ (a : IsAmong (variable_of l) (defined_variables c)). inr (has_defined (variable_of l) a)) known) in
-      omega (arith, within)

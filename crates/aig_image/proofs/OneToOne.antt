@@ -13,7 +13,7 @@ use Rattle.aig_image.specs.Laws.{IsOneToOneOnto}
 use Rattle.aig_image.specs.Reordered.{taken}
 use Rattle.aig_image.specs.Renumbering.{in_new_order, renumbered, source_variable}
 use Rattle.aig_image.proofs.Back.{back_variable, by_place, back_again}
-use Rattle.aig_image.proofs.Places.{here, somewhere}
+use Rattle.aig_image.proofs.Relabelling.Standing.{here, somewhere}
 use Rattle.aig_image.proofs.Members.{new_once, has_defined, is_defined, all_taken}
 use Rattle.aig_image.proofs.Taken.{taken_variables}
 

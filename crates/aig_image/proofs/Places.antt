@@ -1,31 +1,11 @@
--- Places in a list, and new numbers of variables: places in a list without repeats.
-use Rattle.std.proofs.Common.{◌≡◌, ◌≢◌, ◌+◌, ◌<◌, ◌≤◌, ℕ, zero, suc, List, [], ◌∷◌, ◌++◌, true, false, eqb, length, length-append, get_or, map, refl, sym, ap, ap₂, subst, ◌∙◌, ◌⊎◌, inl, inr, ⊎_elim, append_assoc, arith}
+-- New numbers of variables: places in a list without repeats.
+use Rattle.std.proofs.Common.{◌≡◌, ◌≢◌, ◌+◌, ◌<◌, ◌≤◌, ℕ, List, [], ◌∷◌, ◌++◌, true, false, eqb, length, length-append, map, refl, sym, ap, ap₂, subst, ◌∙◌, ◌⊎◌, inl, inr, ⊎_elim, append_assoc, arith}
 use Rattle.std.specs.List.{AllByRecursion, position_or_len, range_with_len}
 use Rattle.std.proofs.lemmas.Bool.{ne_eqb}
 use Rattle.std.proofs.lemmas.Bool.Decides.{Decides-eqb, eqb_tells}
 use Rattle.aig_core.specs.Wellformed.{IsAmong, AreDistinct}
 use Rattle.aig_image.specs.Renumbering.{renumbered}
 use Rattle.aig_image.proofs.Distinct.{once_apart}
-
--- what is in a list stands somewhere
-pub somewhere : (x : ℕ) (xs : List ℕ) → IsAmong x xs → (j : ℕ) × (j < length xs) × (get_or xs j 0 ≡ x)
-somewhere x [] a = absurd a
-somewhere x (y ∷ xs) a =
-    ⊎_elim (λ (e : x ≡ y). (zero, omega arith, sym e))
-    (λ (i : IsAmong x xs). let later = somewhere x xs i in let below : later.0 < length xs = later.1 in (suc later.0, omega (arith, below), later.2)) a
-
--- what stands at a place is in the list
-pub here : (xs : List ℕ) (j : ℕ) → j < length xs → IsAmong (get_or xs j 0) xs
-here [] j below = absurd (omega arith)
-here (x ∷ xs) zero below = inl refl
-here (x ∷ xs) (suc j) below = inr (here xs j (omega arith))
-
--- what holds of all holds of what stands at a position
-pub each_at : {X : Type 0} (P : X → Type 0) (xs : List X) (default : X) → AllByRecursion P xs
-    → (i : ℕ) → i < length xs → P (get_or xs i default)
-each_at P [] default all i below = absurd (omega arith)
-each_at P (x ∷ xs) default all zero below = all.0
-each_at P (x ∷ xs) default all (suc i) below = each_at P xs default all.1 i (omega (arith, below))
 
 place_behind : (v : ℕ) (pre post : List ℕ) → ¬ IsAmong v pre → position_or_len (λ w. eqb w v) (pre ++ v ∷ post) ≡ length pre
 place_behind v [] post out = rw ((Decides-eqb v v).1 refl) refl

@@ -8,16 +8,8 @@ use Rattle.aig_core.specs.declared.circuit.Circuit.{Circuit}
 use Rattle.aig_image.specs.Relabelled.{relabelled_literal, relabelled_latch, relabelled_gate, relabelled}
 use Rattle.aig_image.specs.Relabelled.{LatchNames, GateNames, NamesOnly}
 use Rattle.aig_core.specs.Literal.{variable_of}
+use Rattle.aig_core.proofs.Makers.{latch, gate, gates_alike}
 use Rattle.aig_image.proofs.Relabelling.Lists.{map_where, map_twice, map_nothing}
-
-abbrev pub latch : ℕ → ℕ → Latch
-latch var next = record { var = var; next = next }
-
-abbrev pub gate : ℕ → ℕ → ℕ → Gate
-gate var left right = record { var = var; left = left; right = right }
-
-pub gates_alike : {v w l m r s : ℕ} → v ≡ w → l ≡ m → r ≡ s → gate v l r ≡ gate w m s
-gates_alike v l r = ap₂ (λ f x. f x) (ap₂ gate v l) r
 
 -- the circuit with other sections
 abbrev pub sections : Circuit → List ℕ → List Latch → List ℕ → List Gate → Circuit

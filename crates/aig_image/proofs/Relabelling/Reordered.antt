@@ -11,7 +11,8 @@ use Rattle.aig_image.specs.Relabelled.{relabelled, relabelled_gate}
 use Rattle.aig_image.specs.Reordered.{no_gate, taken, reordered, operands_sorted, has_smaller_first, exchanged_if}
 use Rattle.aig_image.specs.Reordered.{exchanged_by, with_operands_exchanged, ArePlaces}
 use Rattle.aig_image.proofs.Relabelling.Lists.{map_each, read_mapped}
-use Rattle.aig_image.proofs.Relabelling.Relabelled.{gate, alike}
+use Rattle.aig_core.proofs.Makers.{gate}
+use Rattle.aig_image.proofs.Relabelling.Relabelled.{alike}
 
 -- what keeps the gate that stands nowhere is done to gates before or after they are taken
 pub taken_mapped : (h : Gate → Gate) → h no_gate ≡ no_gate → (gates : List Gate) (order : List ℕ)
