@@ -1,12 +1,13 @@
 -- Tables of bits, read as what they have of indices.
 use Rattle.std.proofs.Common.{◌≡◌, ◌≢◌, ◌<◌, ◌*◌, ◌/◌, ◌%◌, ◌^◌, ℕ, List, Bool, true, false, cond, eqb, length, get_or}
-use Rattle.std.proofs.Common.{None, Some, refl, sym, ap, ◌∙◌, ⊎_elim, arith}
+use Rattle.std.proofs.Common.{None, Some, sym, ap, ◌∙◌, ⊎_elim, arith}
 use mathlib.Core.Bool.{◌||◌}
 use Rattle.std.specs.Int.{w64, bit_at}
 use Rattle.std.specs.Int.Bits.{bit_or}
 use Rattle.std.specs.Option.{option_or}
 use Rattle.std.proofs.Math.ListN.{set as put}
 use Rattle.std.proofs.lemmas.Bool.{ne_eqb}
+use Rattle.std.proofs.lemmas.Grind.{common_steps}
 use Rattle.std.proofs.lemmas.Bool.Decides.{Decides-eqb, eqb_tells}
 use Rattle.std.proofs.lemmas.List.{get_or-set_same, get_or-set_other, get_or_default}
 use Rattle.std.proofs.lemmas.Nat.Bits.{bit_at_set_same, bit_at_set_other}
@@ -16,10 +17,7 @@ use Rattle.aig_core.proofs.Maps.{HasNew}
 
 either : {T : Type 0} (a b : Bool) (v : T)
     → cond (a || b) (Some v) None ≡ option_or (cond b (Some v) None) (cond a (Some v) None)
-either true true v = refl
-either true false v = refl
-either false true v = refl
-either false false v = refl
+either a b v = grind (arith, common_steps)
 
 -- a word with one more bit
 abbrev with_bit : ℕ → ℕ → ℕ

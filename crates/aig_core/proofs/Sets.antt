@@ -1,5 +1,5 @@
 -- Sets of variables, as the keys of maps.
-use Rattle.std.proofs.Common.{◌≡◌, ℕ, Bool, true, false, cond, eqb, Option, None, Some, refl, sym, ap, ap₂, ◌∙◌}
+use Rattle.std.proofs.Common.{◌≡◌, ℕ, Bool, cond, eqb, Option, None, Some, sym, ap, ap₂, ◌∙◌, arith}
 use mathlib.Core.Bool.{◌||◌}
 use Rattle.std.specs.Option.{is_some, option_or}
 use Rattle.std.specs.Ordering.{nat_cmp}
@@ -9,6 +9,7 @@ use Rattle.std.specs.FinMap.{FinMap, contains_key, contains_key-keys, get-empty,
 use Rattle.std.specs.FinSet as set
 use Rattle.std.specs.FinSet.{contains-from_list, contains-insert, contains-empty, same_set}
 use Rattle.std.proofs.lemmas.Cmp.{nat_cmp_total}
+use Rattle.std.proofs.lemmas.Grind.{common_steps}
 use Rattle.aig_core.specs.VarMap.{with_new, keys_of}
 use Rattle.aig_core.proofs.Maps.{get-with_new}
 
@@ -17,10 +18,7 @@ module _ {T : Type 0} where
   has_key m q = contains-from_list nat_cmp_total (map.keys m) q ∙ sym (contains_key-keys m q)
 
   some_or : (o : Option T) (b : Bool) (v : T) → is_some (option_or o (cond b (Some v) None)) ≡ (b || is_some o)
-  some_or None true v = refl
-  some_or None false v = refl
-  some_or (Some x) true v = refl
-  some_or (Some x) false v = refl
+  some_or o b v = grind (arith, common_steps)
 
   pub one_more_key : (m : FinMap nat_cmp T) (k : ℕ) (v : T) → keys_of (with_new m k v) ≡ set.insert (keys_of m) k
   one_more_key m k v = same_set nat_cmp_total nat_cmp-IsAntisymmetric _ _ (λ q.

@@ -1,19 +1,9 @@
-use Rattle.std.proofs.Common.{◌≡◌, ◌≤◌, IfOk, not, ap, sym, subst, ◌∙◌, rules, true≢false, ⊎_elim}
-use Rattle.std.specs.Option.{is_some}
+use Rattle.std.proofs.Common.{◌≤◌, ap, sym, ◌∙◌, rules, true≢false, ⊎_elim}
 use Rattle.std.proofs.lemmas.Bool.{cases_lt}
 use Rattle.std.proofs.lemmas.Result.{on_ok_weaker}
 use Rattle.aig_core.specs.Parts.Places.{map_of, kept_at}
-use Rattle.aig_core.proofs.Maps.{map_has, grown, in_place, in_others, more_in_place, more_elsewhere}
+use Rattle.aig_core.proofs.Maps.{grown, more_in_place, more_elsewhere}
 use Rattle.aig_core.proofs.var_map.VarMap.insert.Goals as goal
-
-pub returns-then-covers-clause-added : goal.returns-then-covers-clause-added
-returns-then-covers-clause-added g c =
-    let held = g.T.Table.Places.held c.self.inside.places in
-    rw (← c.self.view_is, ← c.var.view_is) (
-    c.insert.ensures.added
-    ∙ ap (λ o. not (is_some o))
-    (sym (map_has _ c.var.inside.0 (search rules)
-    ∙ in_place _ held c.self.inside.spread c.var.inside.0 (c.covers.ensures.0 c.if-covers.true))))
 
 pub returns-then-covers-clause-ok : goal.returns-then-covers-clause-ok
 returns-then-covers-clause-ok g c =
@@ -26,18 +16,6 @@ returns-then-covers-clause-ok g c =
     ∙ grown (kept_at places held others) (kept_at places more others) c.var.inside.0 c.args.value (search rules)
     (more_in_place places held others c.var.inside.0 c.args.value more (c.covers.ensures.0 c.if-covers.true)
     c.insert.ensures.held))
-
-pub returns-else-covers-clause-added : goal.returns-else-covers-clause-added
-returns-else-covers-clause-added g c =
-    let held = g.T.Table.Places.held c.self.inside.places in
-    let above : g.T.Table.Places.bound c.self.inside.places ≤ c.args.var =
-    ⊎_elim (λ below. absurd (true≢false (sym (c.covers.ensures.1 (rw c.var.view_is below)) ∙ c.if-covers.false)))
-    (λ above. above)
-    (cases_lt c.args.var (g.T.Table.Places.bound c.self.inside.places)) in
-    rw (← c.self.view_is) (
-    subst (λ o. IfOk c.insert-else-covers.result (λ added. added ≡ not (is_some o)))
-    (sym (map_has _ c.args.var (search rules) ∙ in_others _ held c.self.inside.spread c.args.var above))
-    c.insert-else-covers.ensures.added)
 
 pub returns-else-covers-clause-ok : goal.returns-else-covers-clause-ok
 returns-else-covers-clause-ok g c =
