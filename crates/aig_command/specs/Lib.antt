@@ -1,3 +1,4 @@
 pub mod Aiger
 pub mod Asked
 pub mod Answer
+pub mod Words

@@ -1,32 +1,54 @@
 //! Why a command line is refused.
-ghost use Rattle.std.specs.Prelude.{◌≡◌};
+ghost use Rattle.std.specs.Prelude.{◌≡◌, Some};
 ghost use Rattle.aig_command.specs.declared.usage.Usage.TheVariants as usage;
+ghost use Rattle.aig_command.specs.Words.{usage_words};
 
 use std::alloc::AllocError;
-use thiserror::Error;
+use std::error::Error;
+use std::fmt;
 
 /// Why a command line is refused.
-#[derive(Debug, Drop, Error)]
+#[derive(Debug, Drop)]
 pub enum Usage {
     /// It has not the form of a command. The text is for the user: what is wrong, and what the form is.
-    #[error("{0}")]
     Words(String),
     /// A map is kept in the comment of a binary file, and ASCII is asked for.
-    #[error("--keep-map needs binary output")]
     KeepMapNeedsBinary,
     /// A map is kept in the comment, and no comment is to be written.
-    #[error("--keep-map excludes --strip")]
     KeepMapExcludesStrip,
     /// A map is undone, and none is kept by that.
-    #[error("--keep-map excludes --undo-map")]
     KeepMapExcludesUndoMap,
     /// The destination's name is that of a compressed file.
-    #[error("compressed output is not supported")]
     CompressedOutput,
     /// An allocation failed; nothing is known of the command line.
-    #[error("out of memory")]
     OutOfMemory,
 }
+
+impl Usage {
+    /// What is wrong, in words: of `Words` a text of whole lines, and else a text without a line feed.
+    pub fn words(&self) -> &str
+        ensures { result.now ≡ usage_words self.now }
+    {
+        match self {
+            Usage::Words(text) => text.as_str(),
+            Usage::KeepMapNeedsBinary => "--keep-map needs binary output",
+            Usage::KeepMapExcludesStrip => "--keep-map excludes --strip",
+            Usage::KeepMapExcludesUndoMap => "--keep-map excludes --undo-map",
+            Usage::CompressedOutput => "compressed output is not supported",
+            Usage::OutOfMemory => "out of memory",
+        }
+    }
+}
+
+impl fmt::Display for Usage {
+    ghost output = { λ refusal. Some (usage_words refusal) };
+
+    fn fmt<W: fmt::Write>(&self, f: &mut fmt::Formatter<W>) -> fmt::Result {
+        write!(f, "{}", self.words())
+    }
+}
+
+impl Error for Usage {}
 
 impl From<AllocError> for Usage {
     ghost from_gives = { λ _ refusal. refusal ≡ usage.OutOfMemory };

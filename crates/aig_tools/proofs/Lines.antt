@@ -1,5 +1,5 @@
 -- A line that was put into an output and sent.
-use Rattle.std.proofs.Common.{◌≡◌, ◌+◌, ◌++◌, ◌⊎◌, ◌∙◌, List, [], ℕ, Bool, true, false, codes, append-nil}
+use Rattle.std.proofs.Common.{◌≡◌, ◌≢◌, ◌+◌, ◌++◌, ◌⊎◌, ◌∙◌, List, [], ℕ, Bool, true, false, codes, append-nil}
 use Rattle.std.proofs.Common.{Result, Ok, Err, ap, inl, inr, is_err, is_ok, refl, subst, sym}
 use Rattle.std.specs.Io.KnownBytes.{Appends}
 use Rattle.aig_io.specs.Output.{Out, Put}
@@ -7,7 +7,10 @@ use Rattle.aig_io.specs.Transfer.{TookBeginning}
 use Rattle.aig_io.proofs.Puts.{beginning_sent, put_twice}
 use Rattle.aig_command.specs.declared.request.ToAig.{ToAig}
 use Rattle.aig_tools.specs.Blame.{Party, TheSource, TheSink, Memory, TheInput}
-use Rattle.aig_tools.specs.Messages.{line_about, line_of, name_at}
+use Rattle.aig_command.specs.Words.{usage_words}
+use Rattle.aig_command.specs.declared.usage.Usage.{Usage}
+use Rattle.aig_command.specs.declared.usage.Usage.TheVariants as usages
+use Rattle.aig_tools.specs.Messages.{line_about, line_of, name_at, usage_text}
 
 module _ {W : Type 0} where
   -- an output of a text was finished, and the sink did not fail
@@ -49,6 +52,15 @@ line_of_a_file request TheSource text other = refl
 line_of_a_file request TheSink text other = refl
 line_of_a_file request TheInput text other = refl
 line_of_a_file request Memory text other = absurd (other refl)
+
+-- a refusal that is no text of `clap` is reported in a line of its words
+pub line_of_usage : (usage : Usage) → ((text : _) → usage ≢ usages.Words text) → usage_text usage ≡ line_of [] (usage_words usage)
+line_of_usage (usages.Words text) other = absurd (other text refl)
+line_of_usage usages.KeepMapNeedsBinary other = refl
+line_of_usage usages.KeepMapExcludesStrip other = refl
+line_of_usage usages.KeepMapExcludesUndoMap other = refl
+line_of_usage usages.CompressedOutput other = refl
+line_of_usage usages.OutOfMemory other = refl
 
 -- where an answer is no success it is an error
 pub is_error : {T E : Type 0} (answer : Result T E) → is_ok answer ≡ false → is_err answer ≡ true

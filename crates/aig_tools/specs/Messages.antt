@@ -8,6 +8,7 @@ use Rattle.aig_tools.specs.declared.fault.ToolFault.{ToolFault}
 use Rattle.aig_tools.specs.declared.fault.ToolFault.TheVariants.{Read, Map, Source, Sink, OutOfMemory}
 use Rattle.aig_command.specs.Answer.{name_of}
 use Rattle.aig_command.specs.declared.request.ToAig.{ToAig}
+use Rattle.aig_command.specs.Words.{usage_words}
 use Rattle.aig_command.specs.declared.usage.Usage.{Usage}
 use Rattle.aig_command.specs.declared.usage.Usage.TheVariants as usages
 use Rattle.aig_tools.specs.Blame.{at_fault, Memory, Party, TheSink}
@@ -49,11 +50,7 @@ error_line request error = line_about request (at_fault error) (error_text error
 -- what is printed where the words are refused: the text of `clap`, or a line
 abbrev pub usage_text : Usage → List ℕ
 usage_text (usages.Words text) = string_bytes text
-usage_text usages.KeepMapNeedsBinary = line_of [] (codes "--keep-map needs binary output")
-usage_text usages.KeepMapExcludesStrip = line_of [] (codes "--keep-map excludes --strip")
-usage_text usages.KeepMapExcludesUndoMap = line_of [] (codes "--keep-map excludes --undo-map")
-usage_text usages.CompressedOutput = line_of [] (codes "compressed output is not supported")
-usage_text usages.OutOfMemory = memory_line
+usage_text usage = line_of [] (usage_words usage)
 
 -- the sink took the line, or it failed once and took a beginning of it
 abbrev pub IsReported : {E : Type 0} → SinkUse E → List ℕ → Type 0

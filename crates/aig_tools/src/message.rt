@@ -88,11 +88,7 @@ pub(crate) fn report_usage<E: Sink>(errors: &mut E, usage: &Usage)
 {
     match usage {
         Usage::Words(text) => send(errors, text.as_bytes()),
-        Usage::KeepMapNeedsBinary => send_line(errors, b"--keep-map needs binary output"),
-        Usage::KeepMapExcludesStrip => send_line(errors, b"--keep-map excludes --strip"),
-        Usage::KeepMapExcludesUndoMap => send_line(errors, b"--keep-map excludes --undo-map"),
-        Usage::CompressedOutput => send_line(errors, b"compressed output is not supported"),
-        Usage::OutOfMemory => report_memory(errors),
+        _ => send_line(errors, usage.words().as_bytes()),
     }
 }
 

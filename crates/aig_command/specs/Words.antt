@@ -1,0 +1,12 @@
+-- Why a command line is refused, in words (this project's profile).
+use Rattle.std.specs.Prelude.{ℕ, List, codes, string_bytes}
+use Rattle.aig_command.specs.declared.usage.Usage.{Usage}
+use Rattle.aig_command.specs.declared.usage.Usage.TheVariants as usages
+
+abbrev pub usage_words : Usage → List ℕ
+usage_words (usages.Words text) = string_bytes text
+usage_words usages.KeepMapNeedsBinary = codes "--keep-map needs binary output"
+usage_words usages.KeepMapExcludesStrip = codes "--keep-map excludes --strip"
+usage_words usages.KeepMapExcludesUndoMap = codes "--keep-map excludes --undo-map"
+usage_words usages.CompressedOutput = codes "compressed output is not supported"
+usage_words usages.OutOfMemory = codes "out of memory"
