@@ -1,5 +1,6 @@
 -- Gates whose operands have numbers when they are noted.
-use Rattle.std.proofs.Common.{◌≡◌, ◌<◌, ◌+◌, ℕ, List, ◌++◌, length, take, get_or, subst, ◌∙◌, ◌⊎◌, inl, inr, ⊎_elim, below_more}
+use Rattle.std.proofs.Common.{◌≡◌, ◌<◌, ◌+◌, ℕ, List, ◌++◌, length, take, get_or, subst, ◌∙◌, ◌⊎◌, inl, inr, ⊎_elim}
+use Rattle.std.proofs.Common.{below_more}
 use Rattle.std.specs.List.{AllByRecursion}
 use Rattle.std.proofs.lemmas.List.{get_or_default}
 use Rattle.aig_core.specs.declared.circuit.Gate.{Gate}
@@ -25,10 +26,14 @@ module _ (before : List ℕ) (gates : List Gate) where
   IsOverKnown k = AllByRecursion (IsKnown (before ++ variables (take k gates))) (operands (at gates k))
 
   -- of the next gate too
-  pub next_over_known : (n : Numbers) (i : ℕ) (g : Gate) → AreNumbered n (before ++ variables (take i gates)) → i < length gates
+  pub next_over_known : (n : Numbers) (i : ℕ) (g : Gate) → AreNumbered n (before ++ variables (take i gates))
+      → i < length gates
       → g ≡ get_or gates i g → HasNumber n g.left → HasNumber n g.right
       → ((k : ℕ) → k < i → IsOverKnown k) → (k : ℕ) → k < i + 1 → IsOverKnown k
   next_over_known n i g numbered there is left right sofar =
       let vars : List ℕ = before ++ variables (take i gates) in
-      let here : AllByRecursion (IsKnown vars) (operands g) = (known n vars numbered g.left left, (known n vars numbered g.right right, tt)) in
-      below_more _ _ sofar (subst (λ (x : Gate). AllByRecursion (IsKnown vars) (operands x)) (is ∙ get_or_default gates i g no_gate there) here)
+      let here : AllByRecursion (IsKnown vars) (operands g) =
+      (known n vars numbered g.left left, (known n vars numbered g.right right, tt)) in
+      below_more _ _ sofar
+      (subst (λ (x : Gate). AllByRecursion (IsKnown vars) (operands x))
+      (is ∙ get_or_default gates i g no_gate there) here)

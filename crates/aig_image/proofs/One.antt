@@ -4,7 +4,8 @@ use Rattle.aig_core.specs.declared.circuit.Circuit.{Circuit}
 use Rattle.aig_core.proofs.LeastReady.{a_least_ready_order, one_least_ready_order}
 use Rattle.aig_image.specs.Image.{IsBinaryImage, image_by}
 
-pub image_is_one : (c : Circuit) → (image : Circuit) × IsBinaryImage c image × ((other : Circuit) → IsBinaryImage c other → other ≡ image)
+pub image_is_one : (c : Circuit)
+    → (image : Circuit) × IsBinaryImage c image × ((other : Circuit) → IsBinaryImage c other → other ≡ image)
 image_is_one c =
     let made = a_least_ready_order c in (
       image_by made.0 c,

@@ -1,5 +1,6 @@
 -- A circuit in binary order: the order of its gates is 0, 1, 2 and so on.
-use Rattle.std.proofs.Common.{◌≡◌, ◌+◌, ◌*◌, ◌/◌, ◌<◌, ◌≤◌, ℕ, zero, suc, List, [], ◌∷◌, length, map, inl, inr, ⊎_elim, arith}
+use Rattle.std.proofs.Common.{◌≡◌, ◌+◌, ◌*◌, ◌/◌, ◌<◌, ◌≤◌, ℕ, zero, suc, List, [], ◌∷◌, length, map, inl, inr}
+use Rattle.std.proofs.Common.{⊎_elim, arith}
 use Rattle.std.specs.List.{range_with_len}
 use Rattle.std.proofs.lemmas.Bool.{cases_lt}
 use Rattle.aig_core.specs.declared.circuit.Gate.{Gate}
@@ -20,7 +21,8 @@ module _ (count : ℕ) (needs : ℕ → List ℕ) (falls : (g h : ℕ) → g < c
   one_more : (k : ℕ) (seen : List ℕ) → AreBelow k seen → AreBelow (k + 1) (k ∷ seen)
   one_more k seen below = (
     λ h l. ⊎_elim (λ (b : h < k). inr (below.0 h b)) (λ (b : k ≤ h). inl (omega (arith, b, l))) (cases_lt h k),
-    λ h a. ⊎_elim (λ (e : h ≡ k). omega (arith, e)) (λ (i : IsAmong h seen). let b : h < k = below.1 h i in omega (arith, b)) a,
+    λ h a. ⊎_elim (λ (e : h ≡ k). omega (arith, e))
+        (λ (i : IsAmong h seen). let b : h < k = below.1 h i in omega (arith, b)) a,
   )
 
   next_ready : (k : ℕ) (seen : List ℕ) → k < count → AreBelow k seen → IsReady count needs seen k
@@ -30,7 +32,8 @@ module _ (count : ℕ) (needs : ℕ → List ℕ) (falls : (g h : ℕ) → g < c
     served = all_served count needs seen (needs k) (λ h used. below.0 h (falls k h there used));
   }
 
-  in_turn_from : (n k : ℕ) (seen : List ℕ) → k + n ≤ count → AreBelow k seen → TakesLeast count needs seen (range_with_len k n)
+  in_turn_from : (n k : ℕ) (seen : List ℕ) → k + n ≤ count → AreBelow k seen
+      → TakesLeast count needs seen (range_with_len k n)
   in_turn_from zero k seen fits below = tt
   in_turn_from (suc n) k seen fits below = (
     next_ready k seen (omega (arith, fits)) below,
@@ -45,7 +48,8 @@ module _ (count : ℕ) (needs : ℕ → List ℕ) (falls : (g h : ℕ) → g < c
   all_of_them g there served = among g 0 count (omega arith) (omega (arith, there))
 
 -- gates in binary order need only those before them
-pub ordered_at : (v : ℕ) (gates : List Gate) → AreOrderedGates v gates → (i : ℕ) → i < length gates → ((at gates i).var ≡ v + i) × ((at gates i).left < 2 * (at gates i).var) × ((at gates i).right ≤ (at gates i).left)
+pub ordered_at : (v : ℕ) (gates : List Gate) → AreOrderedGates v gates → (i : ℕ) → i < length gates
+    → ((at gates i).var ≡ v + i) × ((at gates i).left < 2 * (at gates i).var) × ((at gates i).right ≤ (at gates i).left)
 ordered_at v [] ordered i there = absurd (omega arith)
 ordered_at v (g ∷ gs) ordered zero there = (omega (arith, ordered.0), ordered.1, ordered.2)
 ordered_at v (g ∷ gs) ordered (suc i) there =
@@ -53,18 +57,23 @@ ordered_at v (g ∷ gs) ordered (suc i) there =
     let number : (at gs i).var ≡ suc v + i = later.0 in
     (omega (arith, number), later.1, later.2)
 
-lower_variable : (x var left right : ℕ) → left < 2 * var → right ≤ left → IsAmong x (map variable_of (left ∷ right ∷ [])) → x < var
+lower_variable : (x var left right : ℕ) → left < 2 * var → right ≤ left
+    → IsAmong x (map variable_of (left ∷ right ∷ [])) → x < var
 lower_variable x var left right l r a =
-    ⊎_elim (λ (e : x ≡ left / 2). omega (arith, l, e)) (λ (i : IsAmong x (right / 2 ∷ [])). ⊎_elim (λ (e : x ≡ right / 2). omega (arith, l, r, e)) (λ (n : ⊥). absurd n) i) a
+    ⊎_elim (λ (e : x ≡ left / 2). omega (arith, l, e))
+    (λ (i : IsAmong x (right / 2 ∷ [])). ⊎_elim (λ (e : x ≡ right / 2). omega (arith, l, r, e))
+    (λ (n : ⊥). absurd n) i) a
 
-needs_fall : (v : ℕ) (gates : List Gate) → AreOrderedGates v gates → (g h : ℕ) → g < length gates → IsAmong h (gate_operands gates g) → h < g
+needs_fall : (v : ℕ) (gates : List Gate) → AreOrderedGates v gates → (g h : ℕ) → g < length gates
+    → IsAmong h (gate_operands gates g) → h < g
 needs_fall v gates ordered g h there used =
     let over = over_one gates g h there used in
     let here = ordered_at v gates ordered g there in
     let under = ordered_at v gates ordered h over.0 in
     let number : (at gates g).var ≡ v + g = here.0 in
     let number_under : (at gates h).var ≡ v + h = under.0 in
-    let low : (at gates h).var < (at gates g).var = lower_variable (at gates h).var (at gates g).var (at gates g).left (at gates g).right here.1 here.2 over.1 in
+    let low : (at gates h).var < (at gates g).var =
+    lower_variable (at gates h).var (at gates g).var (at gates g).left (at gates g).right here.1 here.2 over.1 in
     omega (arith, number, number_under, low)
 
 -- so they are taken as they stand

@@ -36,13 +36,15 @@ module _ (c : Circuit) (order : List ℕ) (good : IsWellFormed c) (least : IsLea
 
   new_is_well_formed : IsWellFormed new
   new_is_well_formed =
-      let onto : IsOneToOneOnto (renumbered vs) (defined_variables c) (length c.inputs + length c.latches + length c.gates) =
+      let onto : IsOneToOneOnto (renumbered vs) (defined_variables c)
+      (length c.inputs + length c.latches + length c.gates) =
       one_to_one c order good least in
       let all : length vs ≡ length c.inputs + length c.latches + length c.gates = many c order good least in
       let InRange : ℕ → Type 0 = λ v. IsVariableUpTo (length vs) (renumbered vs v) in
       form_is_kept (renumbered vs) (source_variable vs) (length vs) c.comment c good refl names_go_back
       (omega (arith, new_fits c order good least, good.limits.max_var))
-      (all_of InRange (defined_variables c) (λ v a. subst (λ n. IsVariableUpTo n (renumbered vs v)) (sym all) (onto.within v a)))
+      (all_of InRange (defined_variables c)
+      (λ v a. subst (λ n. IsVariableUpTo n (renumbered vs v)) (sym all) (onto.within v a)))
 
   image_is_well_formed : IsWellFormed (image_by order c)
   image_is_well_formed =
@@ -55,6 +57,8 @@ module _ (c : Circuit) (order : List ℕ) (good : IsWellFormed c) (least : IsLea
       subst (λ (gs : List Gate). IsWellFormed (with_gates gs placed)) (sym (sorted_by_flags placed.gates))
       (exchange_keeps_form (map has_smaller_first placed.gates) placed good_placed)
 
-pub image_is_ordered : (c image : Circuit) → IsWellFormed c → IsBinaryImage c image → IsWellFormed image × IsInBinaryOrder image
+pub image_is_ordered : (c image : Circuit) → IsWellFormed c → IsBinaryImage c image
+    → IsWellFormed image × IsInBinaryOrder image
 image_is_ordered c image good is =
-    subst (λ (d : Circuit). IsWellFormed d × IsInBinaryOrder d) (sym is.2) (image_is_well_formed c is.0 good is.1, in_binary_order c is.0 good is.1)
+    subst (λ (d : Circuit). IsWellFormed d × IsInBinaryOrder d) (sym is.2)
+    (image_is_well_formed c is.0 good is.1, in_binary_order c is.0 good is.1)

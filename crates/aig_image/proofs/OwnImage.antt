@@ -32,22 +32,28 @@ module _ (c : Circuit) (good : IsWellFormed c) (ordered : IsInBinaryOrder c) whe
 
   new_is : in_new_order c order ≡ all
   new_is =
-      ap (λ gates. (c.inputs ++ map (λ (l : Latch). l.var) c.latches) ++ variables gates) all_taken ∙ variables_are c ordered
+      ap (λ gates. (c.inputs ++ map (λ (l : Latch). l.var) c.latches) ++ variables gates) all_taken
+      ∙ variables_are c ordered
 
   same_names : relabelled (renumbered all) c ≡ c
   same_names =
       let Same : ℕ → Type 0 = λ v. renumbered all v ≡ v in
       names_kept_keep_all (renumbered all) c
       (names_only Same c refl
-      (all_weaker (IsVariableUpTo c.max_var) Same (λ v range. same_variable c.max_var v range.1) (defined_variables c) good.in_range)
+      (all_weaker (IsVariableUpTo c.max_var) Same (λ v range. same_variable c.max_var v range.1)
+      (defined_variables c) good.in_range)
       good)
 
   pub own_image : IsBinaryImage c c
   own_image =
       let first : ℕ = 1 + length c.inputs + length c.latches in
-      let gates : map operands_sorted (taken c.gates order) ≡ c.gates = ap (map operands_sorted) all_taken ∙ sorted_already first c.gates ordered.gates in
+      let gates : map operands_sorted (taken c.gates order) ≡ c.gates = ap (map operands_sorted) all_taken
+      ∙ sorted_already first c.gates ordered.gates in
       let sorted : converted (renumbered all) order c ≡ c =
-      ap (λ (d : Circuit). with_gates (map operands_sorted (taken d.gates order)) d) same_names ∙ ap (λ (gs : List Gate). with_gates gs c) gates in
-      let made = ap₂ (λ vs (n : ℕ). record (converted (renumbered vs) order c) { max_var = n }) new_is (ap length new_is ∙ length-range_with_len 1 c.max_var)
+      ap (λ (d : Circuit). with_gates (map operands_sorted (taken d.gates order)) d) same_names
+      ∙ ap (λ (gs : List Gate). with_gates gs c) gates in
+      let made =
+      ap₂ (λ vs (n : ℕ). record (converted (renumbered vs) order c) { max_var = n }) new_is
+      (ap length new_is ∙ length-range_with_len 1 c.max_var)
       ∙ ap (λ (d : Circuit). record d { max_var = c.max_var }) sorted in
       (order, in_order c ordered, sym made)

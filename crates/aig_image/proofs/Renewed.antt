@@ -1,5 +1,6 @@
 -- The circuit by the numbers that were noted is the image.
-use Rattle.std.proofs.Common.{◌≡◌, ◌≢◌, ◌+◌, ◌≤◌, ℕ, List, [], ◌∷◌, eqb, length, refl, sym, ap, ap₂, ◌∙◌, inl, inr, append-nil, arith}
+use Rattle.std.proofs.Common.{◌≡◌, ◌≢◌, ◌+◌, ◌≤◌, ℕ, List, [], ◌∷◌, eqb, length, refl, sym, ap, ap₂, ◌∙◌, inl, inr}
+use Rattle.std.proofs.Common.{append-nil, arith}
 use Rattle.std.specs.List.{position_or_len}
 use Rattle.std.specs.Option.{unwrap_or}
 use Rattle.std.proofs.lemmas.Bool.{ne_eqb}
@@ -48,12 +49,15 @@ module _ (c : Circuit) (order : List ℕ) (good : IsWellFormed c) (least : IsLea
   module _ (number : ℕ → ℕ) (told : (v : ℕ) → number v ≡ number_in vs v) where
     -- the constant is not defined, so it is not renumbered
     constant : number 0 ≡ 0
-    constant = told 0 ∙ no_number 0 vs (λ a. let low : 1 ≤ 0 = some 0 (is_defined c order good least 0 a) in omega (arith, low))
+    constant =
+        told 0
+        ∙ no_number 0 vs (λ a. let low : 1 ≤ 0 = some 0 (is_defined c order good least 0 a) in omega (arith, low))
 
     same_number : (v : ℕ) → IsAmong v (defined_variables c) → number v ≡ renumbered vs v
     same_number v a =
         let low : 1 ≤ v = some v a in
-        let fits : renumbered vs v ≤ length vs = number_within vs vs [] v (sym (append-nil vs)) (inr (has_defined c order good least v a)) in
+        let fits : renumbered vs v ≤ length vs =
+        number_within vs vs [] v (sym (append-nil vs)) (inr (has_defined c order good least v a)) in
         told v ∙ in_place v vs (λ e. absurd (omega (arith, low, e))) fits
 
     abbrev pub Same : ℕ → Type 0
@@ -63,10 +67,13 @@ module _ (c : Circuit) (order : List ℕ) (good : IsWellFormed c) (least : IsLea
     same_names = names_only Same c constant (all_of Same (defined_variables c) same_number) good
 
     pub in_either_turn : relabelled number (reordered order c) ≡ reordered order (relabelled (renumbered vs) c)
-    in_either_turn = order_commutes number order c constant ∙ ap (reordered order) (only_names_matter number (renumbered vs) c same_names)
+    in_either_turn =
+        order_commutes number order c constant
+        ∙ ap (reordered order) (only_names_matter number (renumbered vs) c same_names)
 
 -- a well-formed circuit has few enough definitions, in any order of its gates
-pub fits : (c : Circuit) (order : List ℕ) → IsWellFormed c → IsLeastReadyOrder c order → (gates : List Gate) → gates ≡ taken c.gates order
+pub fits : (c : Circuit) (order : List ℕ) → IsWellFormed c → IsLeastReadyOrder c order → (gates : List Gate)
+    → gates ≡ taken c.gates order
     → length c.inputs + length c.latches + length gates ≤ LARGEST
 fits c order good least gates are =
     let many : length gates ≡ length order = ap length are ∙ length-map order _ in
@@ -74,7 +81,8 @@ fits c order good least gates are =
 
 -- the circuit with these gates, by these numbers, of which there are so many
 abbrev made_by : (ℕ → ℕ) → ℕ → List Gate → Circuit → Circuit
-made_by number count gates c = record (with_operands_sorted (relabelled number (with_gates gates c))) { max_var = count }
+made_by number count gates c =
+    record (with_operands_sorted (relabelled number (with_gates gates c))) { max_var = count }
 
 is_image : (c : Circuit) (r : Renumbering) → IsWellFormed c → (of_it : IsRenumberingOf c r)
     → made_by (number_of r.numbers) r.numbers.noted (unwrap_or r.taken c.gates) c ≡ image_by of_it.order c
@@ -84,8 +92,10 @@ is_image c r good of_it =
     ∙ ap (λ (d : Circuit). record (with_operands_sorted d) { max_var = length (in_new_order c of_it.order) })
     (in_either_turn c of_it.order good of_it.least number of_it.numbers.numbers)
 
-pub made_is_image : (c : Circuit) (r : Renumbering) (made : Circuit) (gates : List Gate) → IsWellFormed c → IsRenumberingOf c r
-    → made ≡ made_by (number_of r.numbers) r.numbers.noted gates c → gates ≡ unwrap_or r.taken c.gates → IsBinaryImage c made
+pub made_is_image : (c : Circuit) (r : Renumbering) (made : Circuit) (gates : List Gate) → IsWellFormed c
+    → IsRenumberingOf c r
+    → made ≡ made_by (number_of r.numbers) r.numbers.noted gates c → gates ≡ unwrap_or r.taken c.gates
+    → IsBinaryImage c made
 made_is_image c r made gates good of_it made_is gates_are = (
   of_it.order,
   of_it.least,

@@ -21,8 +21,10 @@ module _ (m : ℕ) where
   same_variable (suc u) fits =
       let place : position_or_len (λ w. eqb w (suc u)) all ≡ u =
       position_or_len_is (λ w. eqb w (suc u)) all u 0 (omega (arith, length-range_with_len 1 m, fits))
-      (λ k before. ap (λ w. eqb w (suc u)) (get_or-range_with_len 1 m k 0 (omega (arith, before, fits))) ∙ ne_eqb (1 + k) (suc u) (λ e. absurd (omega (arith, before, e))))
-      (λ there. ap (λ w. eqb w (suc u)) (get_or-range_with_len 1 m u 0 (omega (arith, fits))) ∙ (Decides-eqb (1 + u) (suc u)).1 (omega arith)) in
+      (λ k before. ap (λ w. eqb w (suc u)) (get_or-range_with_len 1 m k 0 (omega (arith, before, fits)))
+      ∙ ne_eqb (1 + k) (suc u) (λ e. absurd (omega (arith, before, e))))
+      (λ there. ap (λ w. eqb w (suc u)) (get_or-range_with_len 1 m u 0 (omega (arith, fits)))
+      ∙ (Decides-eqb (1 + u) (suc u)).1 (omega arith)) in
       rw (ne_eqb (suc u) 0 (λ e. absurd (omega (arith, e)))) (omega (arith, place))
 
 -- operands with the larger one first stay as they are

@@ -1,20 +1,10 @@
 -- The binary image of a circuit (this project's profile; binary order is the AIGER report's): the same circuit with new
 -- numbers, its gates in the least ready order, the larger operand of each first.
 use Rattle.std.specs.Prelude.{◌≡◌, ℕ, List, length}
-use Rattle.aig_core.specs.declared.circuit.Latch.{Latch}
-use Rattle.aig_core.specs.declared.circuit.Gate.{Gate}
 use Rattle.aig_core.specs.declared.circuit.Circuit.{Circuit}
 use Rattle.aig_core.specs.Order.{IsLeastReadyOrder}
-use Rattle.aig_image.specs.Relabelled.{relabelled_latch, relabelled_gate}
-use Rattle.aig_image.specs.Reordered.{converted, operands_sorted}
+use Rattle.aig_image.specs.Reordered.{converted}
 use Rattle.aig_image.specs.Renumbering.{in_new_order, renumbered}
-
--- a latch, a gate by new numbers
-abbrev pub latch_image : List ℕ → Latch → Latch
-latch_image variables = relabelled_latch (renumbered variables)
-
-abbrev pub gate_image : List ℕ → Gate → Gate
-gate_image variables g = operands_sorted (relabelled_gate (renumbered variables) g)
 
 -- the circuit with its variables numbered anew, where the gates are taken in this order
 abbrev pub image_by : List ℕ → Circuit → Circuit

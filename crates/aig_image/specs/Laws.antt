@@ -28,11 +28,14 @@ OrderedGatesAreTakenAsTheyStand =
 
 -- the image of a well-formed circuit is well formed and in binary order
 abbrev pub ImageIsOrdered : Type 0
-ImageIsOrdered = (c image : Circuit) → IsWellFormed c → IsBinaryImage c image → IsWellFormed image × IsInBinaryOrder image
+ImageIsOrdered =
+    (c image : Circuit) → IsWellFormed c → IsBinaryImage c image → IsWellFormed image × IsInBinaryOrder image
 
 -- a well-formed circuit has exactly one image
 abbrev pub ImageIsOne : Type 0
-ImageIsOne = (c : Circuit) → IsWellFormed c → (image : Circuit) × IsBinaryImage c image × ((other : Circuit) → IsBinaryImage c other → other ≡ image)
+ImageIsOne =
+    (c : Circuit) → IsWellFormed c → (image : Circuit) × IsBinaryImage
+    c image × ((other : Circuit) → IsBinaryImage c other → other ≡ image)
 
 -- a well-formed circuit in binary order is its own image
 abbrev pub OrderedIsItsOwnImage : Type 0

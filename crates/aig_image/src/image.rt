@@ -60,7 +60,9 @@ fn sort_operands(gates: Listing<Gate>) -> Listing<Gate>
 /// The circuit by these numbers, the larger operand of each gate first, in the same memory.
 fn renumbered(numbers: &Numbers, circuit: Circuit) -> Circuit
     requires { FitIntoLiterals (number_of numbers.now) }
-    ensures { result ≡ record (with_operands_sorted (relabelled (number_of numbers.now) circuit)) { max_var = numbers.now.noted } }
+    ensures { result ≡ record (with_operands_sorted (relabelled (number_of numbers.now) circuit)) {
+      max_var = numbers.now.noted;
+    } }
 {
     let other = relabel(numbers, circuit);
     Circuit {

@@ -1,6 +1,7 @@
 //! Circuits by other variables.
 ghost use Rattle.std.specs.Prelude.{◌≡◌, ℕ, map};
-ghost use Rattle.aig_image.specs.Relabelled.{FitIntoLiterals, relabelled, relabelled_literal, relabelled_latch, relabelled_gate};
+ghost use Rattle.aig_image.specs.Relabelled.{FitIntoLiterals, relabelled};
+ghost use Rattle.aig_image.specs.Relabelled.{relabelled_literal, relabelled_latch, relabelled_gate};
 
 use aig_core::{Circuit, Gate, Latch, Listing, Lit, Var};
 

@@ -2,8 +2,8 @@
 ghost use Rattle.aig_image.specs.Laws.{RenumberingIsOneToOne, OrderedGatesAreTakenAsTheyStand};
 ghost use Rattle.aig_image.specs.Laws.{ImageIsOrdered, ImageIsOne, OrderedIsItsOwnImage};
 
-/// Renumbering is one to one from the variables that a well-formed circuit defines onto the numbers from 1 up to the count
-/// of its inputs, latches and gates.
+/// Renumbering is one to one from the variables that a well-formed circuit defines onto the numbers from 1 up to the
+/// count of its inputs, latches and gates.
 pub fn renumbering_is_one_to_one()
     ensures { RenumberingIsOneToOne }
 {}

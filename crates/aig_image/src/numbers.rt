@@ -1,10 +1,10 @@
 //! The new numbers of variables.
-ghost use Rattle.std.specs.Prelude.{◌≡◌, ◌↔◌, ◌⊎◌, ◌+◌, ◌*◌, ◌%◌, ◌==◌, ◌≤◌, ◌<◌, ◌++◌, ℕ, List, [], ◌∷◌, length, map, IfOk, OnOk, IsTrue, if◌then◌else◌};
+ghost use Rattle.std.specs.Prelude.{◌≡◌, ◌↔◌, ◌⊎◌, ◌+◌, ◌==◌, ◌≤◌, ◌<◌, ◌++◌, ℕ, List, [], length, map};
+ghost use Rattle.std.specs.Prelude.{IfOk, OnOk, IsTrue, if◌then◌else◌};
 ghost use Rattle.std.specs.Option.{IfSome};
 ghost use Rattle.aig_core.specs.Literal.{variable_of};
-ghost use Rattle.aig_core.specs.declared.circuit.Latch.{Latch as LatchRecord};
 ghost use Rattle.aig_core.specs.declared.circuit.Gate.{Gate as GateRecord};
-ghost use Rattle.aig_image.specs.Parts.Numbers.{number_of, AreNumbered};
+ghost use Rattle.aig_image.specs.Parts.Numbers.{number_of, first_variables, variables_with, AreNumbered};
 ghost use Rattle.aig_image.specs.Relabelled.{FitIntoLiterals};
 ghost use Rattle.aig_image.specs.Parts.InOrder.{StandInOrder};
 
@@ -53,8 +53,8 @@ impl Defines for Gate {
     }
 }
 
-/// The new numbers of variables, from 1 on in the order in which they are noted: a table for the variables below a bound,
-/// which are most, and a tree for the others.
+/// The new numbers of variables, from 1 on in the order in which they are noted: a table for the variables below a
+/// bound, which are most, and a tree for the others.
 #[derive(Drop)]
 pub struct Numbers {
     /// How many variables have numbers.
@@ -170,8 +170,7 @@ impl Numbers {
     fn of_first(alloc: Global, circuit: &Circuit, gates: usize) -> Result<Self, AllocError>
         requires { length circuit.now.inputs + length circuit.now.latches + gates ≤ LARGEST }
         ensures count { IfOk result (λ n. n.noted ≡ length circuit.now.inputs + length circuit.now.latches) }
-        ensures numbers { IfOk result (λ n. AreNumbered n
-            (circuit.now.inputs ++ map (λ (l : LatchRecord). l.var) circuit.now.latches)) }
+        ensures numbers { IfOk result (λ n. AreNumbered n (first_variables circuit.now)) }
     {
         let variables = circuit.inputs.len() + circuit.latches.len() + gates;
         let places = (circuit.max_var as usize + 1).min(variables.saturating_mul(
@@ -186,8 +185,7 @@ impl Numbers {
     /// The new numbers of a circuit's variables, where its gates are taken in this order.
     pub(crate) fn new(alloc: Global, circuit: &Circuit, taken: &[Gate]) -> Result<Self, AllocError>
         requires { length circuit.now.inputs + length circuit.now.latches + length taken.now ≤ LARGEST }
-        ensures numbers { IfOk result (λ n. AreNumbered n
-            (circuit.now.inputs ++ map (λ (l : LatchRecord). l.var) circuit.now.latches ++ map (λ (g : GateRecord). g.var) taken.now)) }
+        ensures numbers { IfOk result (λ n. AreNumbered n (variables_with circuit.now taken.now)) }
         ensures small { IfOk result (λ n. FitIntoLiterals (number_of n)) }
     {
         let mut numbers = Numbers::of_first(alloc, circuit, taken.len())?;
@@ -200,10 +198,10 @@ impl Numbers {
     pub(crate) fn of_ordered(alloc: Global, circuit: &Circuit) -> Result<Option<Self>, AllocError>
         requires { length circuit.now.inputs + length circuit.now.latches + length circuit.now.gates ≤ LARGEST }
         ensures numbers { IfOk result (λ some. IfSome some (λ n. AreNumbered n
-            (circuit.now.inputs ++ map (λ (l : LatchRecord). l.var) circuit.now.latches ++ map (λ (g : GateRecord). g.var) circuit.now.gates))) }
+            (first_variables circuit.now ++ map (λ (g : GateRecord). g.var) circuit.now.gates))) }
         ensures small { IfOk result (λ some. IfSome some (λ n. FitIntoLiterals (number_of n))) }
         ensures in_order { IfOk result (λ some. IfSome some (λ _.
-            StandInOrder (circuit.now.inputs ++ map (λ (l : LatchRecord). l.var) circuit.now.latches) circuit.now.gates)) }
+            StandInOrder (first_variables circuit.now) circuit.now.gates)) }
     {
         let mut numbers = Numbers::of_first(alloc, circuit, circuit.gates.len())?;
         if numbers.note_in_order(circuit.gates.as_slice())? {

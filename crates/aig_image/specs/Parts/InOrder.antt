@@ -7,4 +7,6 @@ use Rattle.aig_core.specs.Wellformed.{IsKnown, operands}
 -- the first ones are defined before all gates
 abbrev pub StandInOrder : List ℕ → List Gate → Type 0
 StandInOrder first gates = (at : ℕ) → at < length gates
-    → AllByRecursion (IsKnown (first ++ map (λ (g : Gate). g.var) (take at gates))) (operands (slice_index_or gates at (record { var = 0; left = 0; right = 0 })))
+    → AllByRecursion
+    (IsKnown (first ++ map (λ (g : Gate). g.var) (take at gates)))
+    (operands (slice_index_or gates at (record { var = 0; left = 0; right = 0 })))

@@ -1,9 +1,11 @@
 -- New numbers of variables, as they are found, and what makes the image of a circuit by them.
-use Rattle.std.specs.Prelude.{◌≡◌, ◌+◌, ◌==◌, ℕ, List, length, slice_index, nat_lt, if◌then◌else◌}
+use Rattle.std.specs.Prelude.{◌≡◌, ◌+◌, ◌==◌, ◌++◌, ℕ, List, length, map, slice_index, nat_lt, if◌then◌else◌}
 use Rattle.std.specs.List.{position_or_len}
 use Rattle.std.specs.Option.{unwrap_or}
 use Rattle.std.specs.Ordering.{nat_cmp}
 use Rattle.std.specs.BTreeMap.{get}
+use Rattle.aig_core.specs.declared.circuit.Latch.{Latch}
+use Rattle.aig_core.specs.declared.circuit.Gate.{Gate}
 use Rattle.aig_core.specs.declared.circuit.Circuit.{Circuit}
 use Rattle.aig_core.specs.Order.{IsLeastReadyOrder}
 use Rattle.aig_image.specs.declared.image.Renumbering.{Renumbering}
@@ -17,6 +19,13 @@ abbrev pub number_of : Numbers → ℕ → ℕ
 number_of numbers v =
     if nat_lt v (length numbers.places.items) then slice_index numbers.places.items v
     else unwrap_or (get nat_cmp numbers.others v) 0
+
+-- the variables that are defined before those of gates, and the latter too, where these gates are taken
+abbrev pub first_variables : Circuit → List ℕ
+first_variables c = c.inputs ++ map (λ (l : Latch). l.var) c.latches
+
+abbrev pub variables_with : Circuit → List Gate → List ℕ
+variables_with c gates = first_variables c ++ map (λ (g : Gate). g.var) gates
 
 -- the place of a variable in a list, counted from 1; 0 where it is not there
 abbrev pub number_in : List ℕ → ℕ → ℕ

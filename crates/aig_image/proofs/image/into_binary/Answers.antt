@@ -8,4 +8,5 @@ pub returns-in-Ok : goal.returns-in-Ok
 returns-in-Ok c =
     let same : c.in-Ok.ordered ≡ c.args.checked = c.in-Ok.ensures.ok in
     let good : IsWellFormed c.args.checked = subst IsWellFormed same c.in-Ok.ensures.well_formed in
-    subst (λ o. IsBinaryImage c.args.checked o) (sym same) (own_image c.args.checked good (c.in-Ok.ensures.ordered.0 refl))
+    subst (λ o. IsBinaryImage c.args.checked o) (sym same)
+    (own_image c.args.checked good (c.in-Ok.ensures.ordered.0 refl))

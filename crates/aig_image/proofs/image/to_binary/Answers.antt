@@ -4,4 +4,5 @@ use Rattle.aig_image.proofs.image.to_binary.Goals as goal
 
 pub returns : goal.returns
 returns c =
-    subst (λ d. IsBinaryImage d c.image.result) (c.into_circuit.ensures.value ∙ c.in_ok-copy.ensures.value) c.image.ensures
+    subst (λ d. IsBinaryImage d c.image.result)
+    (c.into_circuit.ensures.value ∙ c.in_ok-copy.ensures.value) c.image.ensures

@@ -9,5 +9,8 @@ returns-clause-numbers c = c.in_ok-note_all.ensures.numbers _ c.in_ok-numbers.en
 
 pub returns-clause-small : goal.returns-clause-small
 returns-clause-small c = λ v.
-    let most = few (λ (l : Latch). l.var) (λ (g : Gate). g.var) c.note_all.new.self c.args.circuit.now.inputs c.args.circuit.now.latches c.args.taken.now (returns-clause-numbers c) v in
+    let most =
+    few (λ (l : Latch). l.var)
+    (λ (g : Gate). g.var) c.note_all.new.self c.args.circuit.now.inputs c.args.circuit.now.latches c.args.taken.now
+    (returns-clause-numbers c) v in
     omega (arith, most, c.requires)

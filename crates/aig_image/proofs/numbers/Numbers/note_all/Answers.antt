@@ -9,8 +9,11 @@ loop-item-preserved g c = record {
   numbers = λ variables numbered.
       let before = variables ++ map g.T.Defines.variable (take c.loop-item.item-index c.args.items.now) in
       let numbers = AreNumbered c.note.new.self in
-      subst numbers (variables_more g.T.Defines.variable variables c.args.items.now c.loop-item.item-index c.item-item.result c.loop-item-test.true)
+      subst numbers
+      (variables_more g.T.Defines.variable variables c.args.items.now c.loop-item.item-index c.item-item.result
+      c.loop-item-test.true)
       (subst (λ x. numbers (before ++ x ∷ [])) (c.variable.ensures ∙ ap g.T.Defines.variable c.item-item.is)
       (one_more c.loop-item.self c.note.new.self c.variable.result
-      c.in_ok-note.ensures.count c.in_ok-note.ensures.numbers before (c.loop-item.invariant.numbers variables numbered)));
+      c.in_ok-note.ensures.count c.in_ok-note.ensures.numbers before
+      (c.loop-item.invariant.numbers variables numbered)));
 }

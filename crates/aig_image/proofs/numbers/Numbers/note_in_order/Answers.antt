@@ -15,10 +15,14 @@ loop-gate-preserved c = record {
       let i = c.loop-gate.gate-index in
       let old = c.loop-gate.self in
       let now = c.note.new.self in (
-        subst (AreNumbered now) (variables_more (λ (g : Gate). g.var) before c.args.gates.now i gate c.loop-gate-test.true)
-            (subst (λ x. AreNumbered now ((before ++ variables (take i c.args.gates.now)) ++ x ∷ [])) (ap (λ (g : Gate). g.var) c.gate-item.is)
-            (one_more old now gate.var c.in_ok-note.ensures.count c.in_ok-note.ensures.numbers (before ++ variables (take i c.args.gates.now)) was.0)),
-        next_over_known before c.args.gates.now old i gate was.0 c.loop-gate-test.true c.gate-item.is (c.knows.ensures.0 c.if-not-knows.false)
+        subst (AreNumbered now)
+            (variables_more (λ (g : Gate). g.var) before c.args.gates.now i gate c.loop-gate-test.true)
+            (subst (λ x. AreNumbered now ((before ++ variables (take i c.args.gates.now)) ++ x ∷ []))
+            (ap (λ (g : Gate). g.var) c.gate-item.is)
+            (one_more old now gate.var c.in_ok-note.ensures.count c.in_ok-note.ensures.numbers
+            (before ++ variables (take i c.args.gates.now)) was.0)),
+        next_over_known before c.args.gates.now old i gate was.0 c.loop-gate-test.true c.gate-item.is
+            (c.knows.ensures.0 c.if-not-knows.false)
             (c.knows-in-loop-gate.ensures.0 c.if-not-knows-2.false) was.1,
       );
 }
@@ -26,6 +30,7 @@ loop-gate-preserved c = record {
 pub returns : goal.returns
 returns c = λ _ before numbered.
     let was = c.loop-gate.invariant.numbers before numbered in (
-      subst (λ gates. AreNumbered c.loop-gate.self (before ++ variables gates)) (take_all c.loop-gate.gate-index c.args.gates.now c.loop-gate-test.false) was.0,
+      subst (λ gates. AreNumbered c.loop-gate.self (before ++ variables gates))
+          (take_all c.loop-gate.gate-index c.args.gates.now c.loop-gate-test.false) was.0,
       λ k there. was.1 k (omega (arith, there, c.loop-gate-test.false)),
     )

@@ -10,5 +10,6 @@ invariant-loop-gate l = record {
   count : l.self.noted ≡ l.fn.self.noted + l.gate-index;
   numbers : (before : List ℕ) → AreNumbered l.fn.self before
       → AreNumbered l.self (before ++ variables (take l.gate-index l.gates))
-      × ((k : ℕ) → k < l.gate-index → AllByRecursion (IsKnown (before ++ variables (take k l.gates))) (operands (at l.gates k)));
+      × ((k : ℕ) → k < l.gate-index → AllByRecursion (IsKnown (before ++ variables (take k l.gates)))
+      (operands (at l.gates k)));
 }
