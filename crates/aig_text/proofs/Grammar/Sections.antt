@@ -303,9 +303,13 @@ module _ (c : Circuit) (form : IsInForm c) where
   own_rows : AllFit in_ascii own_header sections (map (λ s. (in_ascii s).rows c) sections) (empty_circuit c.max_var)
   own_rows = (
     record { good = rows_good c form Inputs; counted = length-map c.inputs input_row },
-    (record { good = rows_good c form Latches; counted = length-map c.latches latch_row },
-    (record { good = rows_good c form Outputs; counted = length-map c.outputs output_row },
-    (record { good = rows_good c form Gates; counted = length-map c.gates gate_row }, tt))),
+    (
+      record { good = rows_good c form Latches; counted = length-map c.latches latch_row },
+      (
+        record { good = rows_good c form Outputs; counted = length-map c.outputs output_row },
+        (record { good = rows_good c form Gates; counted = length-map c.gates gate_row }, tt),
+      ),
+    ),
   )
 
   -- the rows of the circuit tell the circuit, but for its tail
