@@ -1,42 +1,22 @@
 -- The numbers of variables that are noted one after the other.
 use Rattle.std.proofs.Common.{◌≡◌, ◌≢◌, ◌<◌, ◌≤◌, ◌+◌, ℕ, List, [], ◌∷◌, ◌++◌, true, false, cond, eqb, length, get_or}
-use Rattle.std.proofs.Common.{take, map, Some, sym, ap, ap₂, subst, ◌∙◌, ⊎_elim, inl, inr, suc, not, length-append}
+use Rattle.std.proofs.Common.{take, map, None, sym, ap, ap₂, subst, ◌∙◌, ⊎_elim, inl, inr, suc, not, length-append}
 use Rattle.std.proofs.Common.{arith}
-use Rattle.std.specs.Ordering.{nat_cmp}
-use Rattle.std.specs.Cmp.{eq_by_cmp_equiv, unsigned_tied}
-use Rattle.std.specs.BTreeMap.{BTreeMap, get, Updates}
+use Rattle.std.specs.FinMap.{get, get-empty, empty}
 use Rattle.std.specs.Option.{unwrap_or}
-use Rattle.std.specs.Prelude.{nat_lt, slice_index}
+use Rattle.std.specs.Ordering.{nat_cmp}
 use Rattle.std.proofs.lemmas.Bool.{cases_lt}
 use Rattle.std.proofs.lemmas.Bool.Decides.{eqb_tells}
-use Rattle.std.proofs.lemmas.Cmp.{nat_cmp_total}
 use Rattle.std.proofs.lemmas.Grind.{common_steps}
 use Rattle.std.proofs.lemmas.List.{take_more, map-append, map-id, append_assoc, length-map}
 use Rattle.std.proofs.lemmas.List.Folds.{position_or_len_push}
 use Rattle.std.proofs.lemmas.List.Sums.{prefix_len-le-length}
 use Rattle.std.specs.List.{position_or_len}
 use Rattle.aig_core.specs.Wellformed.{IsAmong}
+use Rattle.aig_core.specs.VarMap.{with_new}
+use Rattle.aig_core.proofs.Maps.{HasNew, get-with_new}
 use Rattle.aig_image.specs.declared.numbers.Numbers.{Numbers}
 use Rattle.aig_image.specs.Parts.Numbers.{number_of, number_in, AreNumbered}
-
--- the number of a variable in a table and a tree
-abbrev in_parts : List ℕ → BTreeMap ℕ ℕ → ℕ → ℕ
-in_parts places others v = cond (nat_lt v (length places)) (slice_index places v) (unwrap_or (get nat_cmp others v) 0)
-
--- a tree that notes one more variable
-pub in_tree : (places : List ℕ) (old new : BTreeMap ℕ ℕ) (var n : ℕ) → length places ≤ var
-    → Updates nat_cmp old new var (Some n) → in_parts places old var ≡ 0
-    → (v : ℕ)
-    → in_parts places new v ≡ cond (eqb (in_parts places old v) 0) (cond (eqb v var) n 0) (in_parts places old v)
-in_tree places old new var n above more vacant v =
-    ⊎_elim
-    (λ (t : (eqb v var ≡ true) × (v ≡ var)). let here : get nat_cmp new var ≡ Some n = more.1 in
-    grind (arith, common_steps, t.0, t.1, vacant, above, here))
-    (λ (f : (eqb v var ≡ false) × (v ≢ var)).
-    let same : get nat_cmp new v ≡ get nat_cmp old v =
-    more.2 v ((eq_by_cmp_equiv nat_cmp_total).symm var v ∙ unsigned_tied v var ∙ f.0) in
-    grind (arith, common_steps, f.0, same))
-    (eqb_tells v var)
 
 -- the place in a list that grows
 pub number_push : (xs : List ℕ) (x v : ℕ)
@@ -46,19 +26,36 @@ number_push xs x v = grind (arith, common_steps, position_or_len_push, prefix_le
 eqb_comm : (a b : ℕ) → eqb a b ≡ eqb b a
 eqb_comm a b = grind arith
 
+-- where none was noted
+pub none_noted : (n : Numbers) → n.noted ≡ 0 → n.numbers ≡ empty → AreNumbered n []
+none_noted n none nothing =
+    let has : (v : ℕ) → get n.numbers v ≡ None = λ v. ap (λ m. get m v) nothing ∙ get-empty nat_cmp v in
+    record { count = none; numbers = λ v. ap (λ o. unwrap_or o 0) (has v); others = λ v _. has v }
+
 -- one variable more
 pub one_more : (old new : Numbers) (var : ℕ) → new.noted ≡ old.noted + 1
-    → ((v : ℕ)
-    → number_of new v ≡ cond (eqb (number_of old v) 0) (cond (eqb v var) (old.noted + 1) 0) (number_of old v))
+    → new.numbers ≡ with_new old.numbers var (old.noted + 1)
     → (variables : List ℕ) → AreNumbered old variables → AreNumbered new (variables ++ var ∷ [])
-one_more old new var counted told variables numbered = record {
-  count = counted ∙ ap (λ n. n + 1) numbered.count ∙ sym (length-append variables (var ∷ []));
-  numbers = λ v. told v
-      ∙ ap (λ n. cond (eqb n 0) (cond (eqb v var) (old.noted + 1) 0) n) (numbered.numbers v)
-      ∙ ap₂ (λ b n. cond (eqb (number_in variables v) 0) (cond b (n + 1) 0) (number_in variables v))
-      (eqb_comm v var) numbered.count
-      ∙ sym (number_push variables var v);
-}
+one_more old new var counted told variables numbered =
+    let count = numbered.count in
+    let now : HasNew (get old.numbers) (get new.numbers) var (old.noted + 1) =
+    λ v. ap (λ m. get m v) told ∙ get-with_new old.numbers var (old.noted + 1) v in
+    record {
+      count = counted ∙ ap (λ n. n + 1) count ∙ sym (length-append variables (var ∷ []));
+      numbers = λ v.
+          let pushed = number_push variables var v in
+          let was = numbered.numbers v in
+          let others = numbered.others v in
+          let same = eqb_comm v var in
+          let is = now v in
+          grind (arith, common_steps, pushed, was, others, is, count, same);
+      others = λ v none.
+          let pushed = number_push variables var v in
+          let others = numbered.others v in
+          let same = eqb_comm v var in
+          let is = now v in
+          grind (arith, common_steps, pushed, others, is, same, none);
+    }
 
 -- the variables of the first items, and of one more
 pub variables_more : {X : Type 0} (f : X → ℕ) (variables : List ℕ) (items : List X) (i : ℕ) (d : X) → i < length items
@@ -77,8 +74,8 @@ has_place [] v within = absurd (omega (arith, within))
 has_place (x ∷ xs) v within =
     ⊎_elim (λ (t : (eqb x v ≡ true) × (x ≡ v)). inl (sym t.1))
     (λ (f : (eqb x v ≡ false) × (x ≢ v)).
-    let later : 1 + position_or_len (λ w. eqb w v) xs < suc (length xs) =
-    subst (λ b. cond (not b) (1 + position_or_len (λ w. eqb w v) xs) 0 < suc (length xs)) f.0 within in
+    let later : 1 + position_or_len (λ w. eqb w v) xs < suc (length xs) = subst
+    (λ b. cond (not b) (1 + position_or_len (λ w. eqb w v) xs) 0 < suc (length xs)) f.0 within in
     inr (has_place xs v (omega (arith, later)))) (eqb_tells x v)
 
 has_number : (xs : List ℕ) (v : ℕ) → 0 < number_in xs v → IsAmong v xs

@@ -3,18 +3,15 @@ ghost use Rattle.std.specs.Prelude.{◌≡◌, ◌↔◌, ◌⊎◌, ◌+◌, �
 ghost use Rattle.std.specs.Prelude.{IfOk, OnOk, IsTrue, if◌then◌else◌};
 ghost use Rattle.std.specs.Option.{IfSome};
 ghost use Rattle.aig_core.specs.Literal.{variable_of};
+ghost use Rattle.aig_core.specs.VarMap.{with_new};
 ghost use Rattle.aig_core.specs.declared.circuit.Gate.{Gate as GateRecord};
 ghost use Rattle.aig_image.specs.Parts.Numbers.{number_of, first_variables, variables_with, AreNumbered};
 ghost use Rattle.aig_image.specs.Relabelled.{FitIntoLiterals};
 ghost use Rattle.aig_image.specs.Parts.InOrder.{StandInOrder};
 
 use crate::labelling::Labels;
-use aig_core::{Circuit, Gate, LARGEST, Latch, Lit, Var};
+use aig_core::{Circuit, Gate, LARGEST, Latch, Lit, Var, VarMap};
 use std::alloc::{AllocError, Global};
-use std::collections::BTreeMap;
-
-/// How many places there are at most for each variable.
-const PLACES_PER_VARIABLE: usize = 4;
 
 /// What defines a variable.
 pub trait Defines {
@@ -53,15 +50,12 @@ impl Defines for Gate {
     }
 }
 
-/// The new numbers of variables, from 1 on in the order in which they are noted: a table for the variables below a
-/// bound, which are most, and a tree for the others.
+/// The new numbers of variables, from 1 on in the order in which they are noted.
 #[derive(Drop)]
 pub struct Numbers {
     /// How many variables have numbers.
     noted: u32,
-    /// The number, or 0 where there is none.
-    places: Vec<u32>,
-    others: BTreeMap<Var, u32>,
+    numbers: VarMap<u32>,
 }
 
 impl Labels for Numbers {
@@ -74,17 +68,6 @@ impl Labels for Numbers {
 }
 
 impl Numbers {
-    /// No numbers, and so many places in the table.
-    fn empty(alloc: Global, places: usize) -> Result<Self, AllocError>
-        ensures { IfOk result (λ n. AreNumbered n []) }
-    {
-        Ok(Numbers {
-            noted: 0,
-            places: vec![in alloc; 0; places]?,
-            others: BTreeMap::new(alloc),
-        })
-    }
-
     /// How many variables have numbers.
     pub(crate) fn count(&self) -> u32
         ensures { result ≡ self.now.noted }
@@ -93,33 +76,22 @@ impl Numbers {
     }
 
     /// The number of a variable, 0 where it has none.
+    #[inline(always)]
     pub fn number(&self, var: Var) -> u32
         ensures { result ≡ number_of self.now var }
     {
-        match self.places.get(var.0 as usize) {
-            Some(number) => *number,
-            None => self.others.get(&var).copied().unwrap_or(0),
-        }
+        self.numbers.get(var).unwrap_or(0)
     }
 
     /// Gives a variable the next number, unless it has one.
+    #[inline(always)]
     fn note(&mut self, var: Var) -> Result<(), AllocError>
         requires { self.old.noted < LARGEST }
         ensures count { OnOk result (self.new.noted ≡ self.old.noted + 1) }
-        ensures numbers { OnOk result ((v : ℕ) → number_of self.new v ≡ (if number_of self.old v == 0
-            then (if v == var then self.old.noted + 1 else 0)
-            else number_of self.old v)) }
+        ensures numbers { OnOk result (self.new.numbers ≡ with_new self.old.numbers var (self.old.noted + 1)) }
     {
         self.noted += 1;
-        if self.number(var) > 0 {
-            return Ok(());
-        }
-        let at = var.0 as usize;
-        if at < self.places.len() {
-            self.places[at] = self.noted;
-        } else {
-            self.others.insert(var, self.noted)?;
-        }
+        self.numbers.insert(var, self.noted)?;
         Ok(())
     }
 
@@ -166,17 +138,17 @@ impl Numbers {
         Ok(true)
     }
 
-    /// The new numbers of inputs and latches, with places in the table for so many gates too.
+    /// The new numbers of inputs and latches, with room for those of so many gates too.
     fn of_first(alloc: Global, circuit: &Circuit, gates: usize) -> Result<Self, AllocError>
         requires { length circuit.now.inputs + length circuit.now.latches + gates ≤ LARGEST }
         ensures count { IfOk result (λ n. n.noted ≡ length circuit.now.inputs + length circuit.now.latches) }
         ensures numbers { IfOk result (λ n. AreNumbered n (first_variables circuit.now)) }
     {
         let variables = circuit.inputs.len() + circuit.latches.len() + gates;
-        let places = (circuit.max_var as usize + 1).min(variables.saturating_mul(
-            PLACES_PER_VARIABLE,
-        ));
-        let mut numbers = Numbers::empty(alloc, places)?;
+        let mut numbers = Numbers {
+            noted: 0,
+            numbers: VarMap::new(alloc, variables, circuit.max_var)?,
+        };
         numbers.note_all(circuit.inputs.as_slice())?;
         numbers.note_all(circuit.latches.as_slice())?;
         Ok(numbers)

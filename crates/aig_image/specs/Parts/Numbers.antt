@@ -1,9 +1,8 @@
 -- New numbers of variables, as they are found, and what makes the image of a circuit by them.
-use Rattle.std.specs.Prelude.{◌≡◌, ◌+◌, ◌==◌, ◌++◌, ℕ, List, length, map, slice_index, nat_lt, if◌then◌else◌}
+use Rattle.std.specs.Prelude.{◌≡◌, ◌+◌, ◌==◌, ◌++◌, ℕ, List, None, length, map, nat_lt, if◌then◌else◌}
 use Rattle.std.specs.List.{position_or_len}
 use Rattle.std.specs.Option.{unwrap_or}
-use Rattle.std.specs.Ordering.{nat_cmp}
-use Rattle.std.specs.BTreeMap.{get}
+use Rattle.std.specs.FinMap.{get}
 use Rattle.aig_core.specs.declared.circuit.Latch.{Latch}
 use Rattle.aig_core.specs.declared.circuit.Gate.{Gate}
 use Rattle.aig_core.specs.declared.circuit.Circuit.{Circuit}
@@ -14,11 +13,9 @@ use Rattle.aig_image.specs.Relabelled.{FitIntoLiterals}
 use Rattle.aig_image.specs.Renumbering.{in_new_order}
 use Rattle.aig_image.specs.Reordered.{taken}
 
--- the number of a variable, from the table where that has a place for it, otherwise from the tree; 0 where it has none
+-- the number of a variable, 0 where it has none
 abbrev pub number_of : Numbers → ℕ → ℕ
-number_of numbers v =
-    if nat_lt v (length numbers.places.items) then slice_index numbers.places.items v
-    else unwrap_or (get nat_cmp numbers.others v) 0
+number_of n v = unwrap_or (get n.numbers v) 0
 
 -- the variables that are defined before those of gates, and the latter too, where these gates are taken
 abbrev pub first_variables : Circuit → List ℕ
@@ -33,10 +30,11 @@ number_in variables v =
     if nat_lt (position_or_len (λ w. w == v) variables) (length variables)
     then 1 + position_or_len (λ w. w == v) variables else 0
 
--- so many variables have numbers, those of this list
+-- so many variables have numbers, those of this list, and the others have none
 pub record AreNumbered (n : Numbers) (variables : List ℕ) : Type 0 where
   pub count : n.noted ≡ length variables
   pub numbers : (v : ℕ) → number_of n v ≡ number_in variables v
+  pub others : (v : ℕ) → number_in variables v ≡ 0 → get n.numbers v ≡ None
 
 -- the gates are those of the circuit in its least ready order, and the numbers those of its variables
 pub record IsRenumberingOf (c : Circuit) (r : Renumbering) : Type 0 where

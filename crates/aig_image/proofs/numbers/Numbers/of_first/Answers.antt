@@ -1,6 +1,6 @@
-use Rattle.std.proofs.Common.{[]}
+use Rattle.std.proofs.Common.{[], refl}
 use Rattle.aig_core.specs.declared.circuit.Latch.{Latch}
-use Rattle.aig_image.proofs.Noted.{two_sections}
+use Rattle.aig_image.proofs.Noted.{two_sections, none_noted}
 use Rattle.aig_image.proofs.numbers.Numbers.of_first.Goals as goal
 
 pub returns-clause-numbers : goal.returns-clause-numbers
@@ -8,4 +8,4 @@ returns-clause-numbers c =
     two_sections
     (λ (l : Latch). l.var) c.note_all-2.new.self c.as_slice.result.now c.args.circuit.now.inputs c.as_slice-2.result.now
     c.args.circuit.now.latches c.as_slice.ensures c.as_slice-2.ensures
-    (c.in_ok-note_all-2.ensures.numbers _ (c.in_ok-note_all.ensures.numbers [] c.in_ok-numbers.ensures))
+    (c.in_ok-note_all-2.ensures.numbers _ (c.in_ok-note_all.ensures.numbers [] (none_noted _ refl c.in_ok-new.ensures)))
