@@ -8,6 +8,8 @@ kinds:
   gates-ordered   N gates, each after those that it stands on, with 1,000 inputs, latches and outputs
   gates-shuffled  the same circuit with its gates in any order
   gates-sparse    the same circuit, variables spread up to 2147483647 and shuffled
+  gates-eighth    the same circuit, variables spread up to 8 times their number and shuffled
+  gates-eighth-shuffled  that circuit with its gates in any order
   gates-chain     N gates, each over the one before it and an input: as deep as a circuit can be
   binary-far      N gates in a binary file, over any places before them: most deltas have three bytes
   binary-near     the same, over the 60 places before them: each delta has one byte
@@ -27,9 +29,9 @@ ENDS = 1000
 OUT = os.path.join(os.path.dirname(os.path.abspath(__file__)), "out")
 
 
-def spread_variables(count, chance):
+def spread_variables(count, chance, largest=LARGEST):
     """So many variables up to the largest, evenly apart but for chance, in shuffled order."""
-    room = LARGEST // count
+    room = largest // count
     variables = [place * room + chance.randrange(1, room + 1) for place in range(count)]
     chance.shuffle(variables)
     return variables
@@ -59,12 +61,14 @@ def outputs(count):
         yield f"{chance.randrange(18)}\n"
 
 
-def gates(count, is_sparse=False, is_shuffled=False, is_chain=False):
-    """A circuit whose places are its inputs, its latches and its gates, each gate over places before it."""
+def gates(count, times=1, is_shuffled=False, is_chain=False):
+    """A circuit whose places are its inputs, its latches and its gates, each gate over places before it. Its largest
+    variable is so many times their number, at most the largest there is."""
     chance = random.Random(4)
     first = 2 * ENDS
     total = first + count
-    numbers = spread_variables(total, random.Random(5)) if is_sparse else range(1, total + 1)
+    largest = min(times * total, LARGEST)
+    numbers = spread_variables(total, random.Random(5), largest) if times > 1 else range(1, total + 1)
 
     def literal(below):
         return 2 * numbers[chance.randrange(below)] + chance.randrange(2)
@@ -73,7 +77,7 @@ def gates(count, is_sparse=False, is_shuffled=False, is_chain=False):
         left = 2 * numbers[place - 1] + chance.randrange(2) if is_chain else literal(place)
         return f"{2 * numbers[place]} {left} {literal(first if is_chain else place)}\n"
 
-    yield f"aag {LARGEST if is_sparse else total} {ENDS} {ENDS} {ENDS} {count}\n"
+    yield f"aag {largest} {ENDS} {ENDS} {ENDS} {count}\n"
     for place in range(ENDS):
         yield f"{2 * numbers[place]}\n"
     for place in range(ENDS, first):
@@ -180,7 +184,9 @@ KINDS = {
     "outputs": outputs,
     "gates-ordered": gates,
     "gates-shuffled": lambda count: gates(count, is_shuffled=True),
-    "gates-sparse": lambda count: gates(count, is_sparse=True),
+    "gates-sparse": lambda count: gates(count, times=LARGEST),
+    "gates-eighth": lambda count: gates(count, times=8),
+    "gates-eighth-shuffled": lambda count: gates(count, times=8, is_shuffled=True),
     "gates-chain": lambda count: gates(count, is_chain=True),
 }
 DEFAULT = [f"{kind}-{count}" for kind in (*KINDS, *BINARY_KINDS) for count in (100_000, 1_000_000)]

@@ -47,6 +47,8 @@ TO_BINARY_AIMS = {
     "gates-ordered": 0.6,
     "gates-shuffled": 0.9,
     "gates-sparse": 0.5,
+    "gates-eighth": 0.5,
+    "gates-eighth-shuffled": 0.9,
     "gates-chain": 1.0,
     **dict.fromkeys(generate.BINARY_KINDS, 0.5),
 }
