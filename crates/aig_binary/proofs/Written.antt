@@ -1,5 +1,6 @@
 -- What the binary writer has put, part by part.
-use Rattle.std.proofs.Common.{◌≡◌, ◌+◌, ◌-◌, ◌≤◌, ℕ, suc, List, [], ◌∷◌, ◌++◌, length, map, refl, sym, ap, ap₂, ◌∙◌, append_assoc, arith}
+use Rattle.std.proofs.Common.{◌≡◌, ◌+◌, ◌-◌, ◌≤◌, ℕ, suc, List, [], ◌∷◌, ◌++◌, append-nil, length, ap, ap₂, ◌∙◌}
+use Rattle.std.proofs.Common.{append_assoc, arith}
 use Rattle.std.specs.List.{All, AllByRecursion, flat_map}
 use Rattle.std.proofs.lemmas.List.Concat.{flat_map-append}
 use Rattle.std.proofs.lemmas.List.Folds.{flat_map-map}
@@ -12,7 +13,6 @@ use Rattle.aig_core.specs.declared.circuit.Latch.{Latch}
 use Rattle.aig_core.specs.declared.circuit.Gate.{Gate}
 use Rattle.aig_core.specs.declared.circuit.Circuit.{Circuit}
 use Rattle.aig_text.specs.AsciiText.{line_text, numbers_text}
-use Rattle.aig_text.specs.Rows.{row, output_form, output_row}
 use Rattle.aig_binary.specs.BinaryGrammar.{binary_rows_of}
 use Rattle.aig_core.specs.BinaryOrder.{AreOrderedGates, IsInBinaryOrder}
 use Rattle.aig_binary.specs.BinaryText.{gate_text}
@@ -21,39 +21,30 @@ use Rattle.aig_binary.specs.Parts.Deltas.{HasDeltas}
 
 module _ {W : Type 0} where
   -- two texts, one behind the other, put into the block alone
-  filled_twice : (a b c : Out W) (t u : List ℕ) → b ≡ record a { held = a.held ++ t } → c ≡ record b { held = b.held ++ u }
-      → c ≡ record a { held = a.held ++ (t ++ u) }
+  filled_twice : (a b c : Out W) (t u : List ℕ) → b ≡ record a { held = a.held ++ t }
+      → c ≡ record b { held = b.held ++ u } → c ≡ record a { held = a.held ++ (t ++ u) }
   filled_twice a b c t u p q =
       q ∙ ap (λ (o : Out W). record o { held = o.held ++ u }) p
       ∙ ap (λ (bytes : List ℕ). record a { held = bytes }) (append_assoc a.held t u)
 
   -- the deltas of a gate, put into the block alone
   pub filled_gate : (a b c : Out W) (t u : List ℕ) (g h : Gate) → g ≡ h → t ≡ shortest_delta (literal_of g.var - g.left)
-      → u ≡ shortest_delta (g.left - g.right) → b ≡ record a { held = a.held ++ t } → c ≡ record b { held = b.held ++ u }
-      → c ≡ record a { held = a.held ++ gate_text h }
+      → u ≡ shortest_delta (g.left - g.right) → b ≡ record a { held = a.held ++ t }
+      → c ≡ record b { held = b.held ++ u } → c ≡ record a { held = a.held ++ gate_text h }
   filled_gate a b c t u g h e first second p q =
       filled_twice a b c t u p q
       ∙ ap (λ (text : List ℕ). record a { held = a.held ++ text })
       (ap₂ (λ (x y : List ℕ). x ++ y) first second ∙ ap gate_text e)
 
--- the line of a literal
-abbrev text_of_literal : ℕ → List ℕ
-text_of_literal literal = numbers_text (literal ∷ [])
-
-nexts_text : (ls : List Latch) → flat_map (λ (l : Latch). text_of_literal l.next) ls ≡ flat_map line_text (map (row output_form) (map (λ (l : Latch). output_row l.next) ls))
-nexts_text ls = simp (flat_map-map)
-
-outputs_text : (os : List ℕ) → flat_map text_of_literal os ≡ flat_map line_text (map (row output_form) (map output_row os) ++ [])
-outputs_text [] = refl
-outputs_text (o ∷ os) = ap (λ (text : List ℕ). text_of_literal o ++ text) (outputs_text os)
-
 -- the lines of latches and outputs
-pub lines_text : (c : Circuit) → flat_map (λ (l : Latch). numbers_text (l.next ∷ [])) c.latches ++ flat_map (λ (l : ℕ). numbers_text (l ∷ [])) c.outputs ≡ flat_map line_text (binary_rows_of c)
-lines_text c =
-    ap₂ (λ (xs ys : List ℕ). xs ++ ys) (nexts_text c.latches) (outputs_text c.outputs)
-    ∙ sym (flat_map-append line_text (map (row output_form) (map (λ (l : Latch). output_row l.next) c.latches)) (map (row output_form) (map output_row c.outputs) ++ []))
+pub lines_text : (c : Circuit)
+    → flat_map (λ (l : Latch). numbers_text (l.next ∷ [])) c.latches
+    ++ flat_map (λ (literal : ℕ). numbers_text (literal ∷ [])) c.outputs
+    ≡ flat_map line_text (binary_rows_of c)
+lines_text c = simp (flat_map-append, flat_map-map, append-nil)
 
-deltas_from : (n : ℕ) (gs : List Gate) → AreOrderedGates n gs → n + length gs ≤ LARGEST + 1 → AllByRecursion HasDeltas gs
+deltas_from : (n : ℕ) (gs : List Gate) → AreOrderedGates n gs → n + length gs ≤ LARGEST + 1
+    → AllByRecursion HasDeltas gs
 deltas_from n [] h top = tt
 deltas_from n (g ∷ gs) h top =
     let var = h.0 in

@@ -1,12 +1,20 @@
 -- Texts that are put one after another.
-use Rattle.std.proofs.Common.{◌≡◌, ◌+◌, ◌++◌, ℕ, List, [], Bool, true, false, take, drop, take-add, arith, refl}
-use Rattle.std.proofs.Common.{sym}
-use Rattle.std.proofs.Common.{ap, subst, ◌∙◌}
-use Rattle.std.proofs.lemmas.List.{append-nil}
+use Rattle.std.proofs.Common.{◌≡◌, ◌+◌, ◌<◌, ◌++◌, ◌∷◌, ℕ, List, [], Bool, true, false, length, take, drop, get_or}
+use Rattle.std.proofs.Common.{take-add, arith, refl, sym, ap, subst, ◌∙◌}
+use Rattle.std.specs.List.{flat_map}
+use Rattle.std.proofs.lemmas.List.{append-nil, take_more}
+use Rattle.std.proofs.lemmas.List.Concat.{flat_map-append}
 use Rattle.std.proofs.lemmas.Bool.{false≢true}
 use Rattle.aig_io.specs.Output.{IsLeftAlone, Out, Put}
 use Rattle.aig_io.specs.Transfer.{TookBeginning}
 use Rattle.aig_io.proofs.Outgoing.{beginning_after, beginning_longer, kept, went_out_twice}
+
+-- the texts of one item more
+text_of_more : {X : Type 0} (f : X → List ℕ) (xs : List X) (i : ℕ) (d : X) → i < length xs
+    → flat_map f (take i xs) ++ f (get_or xs i d) ≡ flat_map f (take (i + 1) xs)
+text_of_more f xs i d low =
+    sym (ap (flat_map f) (take_more xs i d low) ∙ flat_map-append f (take i xs) (get_or xs i d ∷ [])
+    ∙ ap (λ (ys : List ℕ). flat_map f (take i xs) ++ ys) (append-nil (f (get_or xs i d))))
 
 module _ {W : Type 0} where
   begun_twice : (a b c : Out W) (t u : List ℕ) (failed : Bool) → b.failed ≡ failed → Put a b t → Put b c u
@@ -80,6 +88,13 @@ module _ {W : Type 0} where
   pub put_next : (a b c : Out W) (bytes : List ℕ) (at n : ℕ) → Put a b (take at bytes)
       → Put b c (take n (drop at bytes)) → Put a c (take (at + n) bytes)
   put_next a b c bytes at n p q = rw take-add (put_twice a b c (take at bytes) (take n (drop at bytes)) p q)
+
+  -- the texts of the items so far, and that of the next item
+  pub put_more : {X : Type 0} (f : X → List ℕ) (xs : List X) (i : ℕ) (d x : X) (a b c : Out W) → x ≡ get_or xs i d
+      → Put a b (flat_map f (take i xs)) → Put b c (f x) → i < length xs → Put a c (flat_map f (take (i + 1) xs))
+  put_more f xs i d x a b c is p q low =
+      subst (λ (text : List ℕ). Put a c text) (text_of_more f xs i d low)
+      (put_twice a b c (flat_map f (take i xs)) (f (get_or xs i d)) p (subst (λ y. Put b c (f y)) is q))
 
   -- an output of a text was finished, and the sink failed on the way
   pub beginning_sent : (o a b c : Out W) (text : List ℕ) → a ≡ o → o.held ≡ [] → o.failed ≡ false → Put a b text

@@ -3,4 +3,7 @@ use Rattle.aig_binary.proofs.Written.{lines_text}
 use Rattle.aig_binary.proofs.writer.put_lines.Goals as goal
 
 pub returns : goal.returns
-returns g c = rw (← lines_text c.args.circuit.now) (put_twice _ _ _ _ _ (rw c.as_slice.ensures at c.put_nexts.ensures) (rw c.as_slice-2.ensures at c.put_outputs.ensures))
+returns g c =
+    rw (← lines_text c.args.circuit.now)
+    (put_twice _ _ _ _ _ (rw c.as_slice.ensures at c.put_nexts.ensures)
+    (rw c.as_slice-2.ensures at c.put_outputs.ensures))

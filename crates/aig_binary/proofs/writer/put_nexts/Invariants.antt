@@ -6,4 +6,6 @@ use Rattle.aig_text.specs.AsciiText.{numbers_text}
 use Rattle.aig_binary.proofs.writer.put_nexts.Given as goal
 
 abbrev pub invariant-loop-latch : goal.invariant-loop-latch
-invariant-loop-latch g l = Put l.fn.output l.output (flat_map (λ (l : Latch). numbers_text (l.next ∷ [])) (take l.latch-index l.latches))
+invariant-loop-latch g l =
+    Put l.fn.output l.output
+    (flat_map (λ (l : Latch). numbers_text (l.next ∷ [])) (take l.latch-index l.latches))

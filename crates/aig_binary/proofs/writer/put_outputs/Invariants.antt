@@ -5,4 +5,6 @@ use Rattle.aig_text.specs.AsciiText.{numbers_text}
 use Rattle.aig_binary.proofs.writer.put_outputs.Given as goal
 
 abbrev pub invariant-loop-literal : goal.invariant-loop-literal
-invariant-loop-literal g l = Put l.fn.output l.output (flat_map (λ (literal : ℕ). numbers_text (literal ∷ [])) (take l.literal-index l.outputs))
+invariant-loop-literal g l =
+    Put l.fn.output l.output
+    (flat_map (λ (literal : ℕ). numbers_text (literal ∷ [])) (take l.literal-index l.outputs))

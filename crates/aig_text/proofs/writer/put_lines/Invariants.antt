@@ -5,4 +5,6 @@ use Rattle.aig_text.specs.AsciiText.{numbers_text}
 use Rattle.aig_text.proofs.writer.put_lines.Given as goal
 
 abbrev pub invariant-loop-item : goal.invariant-loop-item
-invariant-loop-item g l = Put l.fn.output l.output (flat_map (λ x. numbers_text (g.T.NumberedLine.line_numbers x)) (take l.item-index l.items))
+invariant-loop-item g l =
+    Put l.fn.output l.output
+    (flat_map (λ x. numbers_text (g.T.NumberedLine.line_numbers x)) (take l.item-index l.items))
