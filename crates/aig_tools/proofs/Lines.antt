@@ -19,7 +19,8 @@ module _ {W : Type 0} where
   taken_by o a b c text same start put sent empty end =
       let went = (put_twice a b c text [] put sent).went end in
       let all : text ≡ went.2.sent =
-      sym (append-nil text) ∙ sym (ap (λ (x : Out W). x.held ++ (text ++ [])) same ∙ ap (λ (h : List ℕ). h ++ (text ++ [])) start)
+      sym (append-nil text) ∙ sym (ap (λ (x : Out W). x.held ++ (text ++ [])) same
+      ∙ ap (λ (h : List ℕ). h ++ (text ++ [])) start)
       ∙ went.2.order ∙ ap (λ (left : List ℕ). went.2.sent ++ left) empty ∙ append-nil went.2.sent in (
         subst (λ (text : List ℕ). Appends o.taken c.taken text) (sym all)
             (subst (λ (x : Out W). Appends x.taken c.taken went.2.sent) same went.2.took),

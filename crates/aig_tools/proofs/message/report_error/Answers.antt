@@ -17,4 +17,5 @@ returns-clause-reported g c =
     (put_twice _ _ _ _ _ c.put-3.ensures.put
     (put_twice _ _ _ _ _ c.put_error.ensures c.put-4.ensures.put))))
     c.finish-sent.ensures.put refl in
-    rw (line_of_a_file c.args.request.now (at_fault c.args.fault.now) (error_text c.args.fault.now) other) (search rules)
+    rw (line_of_a_file c.args.request.now (at_fault c.args.fault.now) (error_text c.args.fault.now) other)
+    (search rules)
