@@ -5,6 +5,7 @@ pub mod Tail
 pub mod AsciiGrammar
 pub mod AsciiText
 pub mod Scanning
+pub mod CanonicalNumber
 pub mod Reading
 pub mod Outcomes
 pub mod Messages

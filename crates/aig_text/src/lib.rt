@@ -21,6 +21,7 @@ pub use crate::header_line::{HEADER_NUMBERS, Header};
 pub use crate::limits::Limits;
 pub use crate::line::Cursor;
 pub use crate::message::Message;
+pub use crate::number::canonical_number;
 pub use crate::parts::{first_word_is, header, literals, numbers, tail};
 pub use crate::reader::{empty_circuit, read_ascii};
 pub use crate::row::{Role, RowForm};

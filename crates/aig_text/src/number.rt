@@ -1,7 +1,8 @@
 //! Numbers of any length, and lines of numbers.
-ghost use Rattle.std.specs.Prelude.{◌≡◌, ◌==◌, ◌&&◌, ◌+◌, ◌-◌, ◌*◌, ◌^◌, ◌<◌, ◌≤◌, ◌∷◌, length, nat_lt, take, IfSome};
+ghost use Rattle.std.specs.Prelude.{◌≡◌, ◌==◌, ◌&&◌, ◌+◌, ◌-◌, ◌*◌, ◌^◌, ◌<◌, ◌≤◌, ◌∷◌, false, length, nat_lt, take, IfSome};
 ghost use Rattle.std.specs.List.{list_any, prefix_len};
 ghost use Rattle.aig_text.specs.Spelling.{is_digit, is_space, value_of};
+ghost use Rattle.aig_text.specs.CanonicalNumber.{canonical_before, is_padded, number_before};
 ghost use Rattle.aig_text.specs.Scanning.{number_at, after_gap, is_line_end, more_numbers_at, numbers_at};
 ghost use Rattle.aig_text.specs.Parts.Plain.{BeginsWithNumber, EndsPlainly, stop};
 ghost use Rattle.aig_text.specs.Parts.Kept.{kept, kept_numbers, kept_first};
@@ -225,4 +226,46 @@ pub(crate) fn any_above(limit: u64, numbers: &[u64]) -> bool
     ensures { result ≡ list_any (λ n. nat_lt limit n) numbers.now }
 {
     numbers.iter().any(|number| *number > limit)
+}
+
+/// The number at the front, however it is spelled, where this byte stands behind it; and what follows the byte.
+#[cold]
+#[inline(never)]
+#[tactic(auto, unfolding(crate::specs::CanonicalNumber::number_before))]
+fn long_number(bytes: &[u8], stop: u8) -> Option<(u64, &[u8])>
+    ensures { Gives (λ x. (x.0, x.1.now)) result (number_before stop bytes.now) }
+{
+    let (value, end) = number(bytes)?;
+    match end.split_first() {
+        Some((first, rest)) if *first == stop => Some((value.min(LARGE), rest)),
+        _ => None,
+    }
+}
+
+/// Whether a zero stands at the front, with another digit behind it.
+#[inline(always)]
+fn is_padded(bytes: &[u8]) -> bool
+    ensures { result ≡ is_padded bytes.now }
+{
+    match bytes {
+        [first, next, ..] => next.is_ascii_digit() && *first == b'0',
+        _ => false,
+    }
+}
+
+/// The canonical number at the front, where this byte stands behind it; and what follows the byte. Numbers from 2^33 on
+/// are above each limit, and are all taken as 2^33.
+#[inline(always)]
+#[tactic(auto, unfolding(crate::specs::CanonicalNumber::canonical_before))]
+pub fn canonical_number(bytes: &[u8], stop: u8) -> Option<(u64, &[u8])>
+    requires { is_digit stop ≡ false }
+    ensures { Gives (λ x. (x.0, x.1.now)) result (canonical_before stop bytes.now) }
+{
+    if is_padded(bytes) {
+        return None;
+    }
+    match short_number(bytes, stop) {
+        Some((value, rest)) => Some((value.min(LARGE), rest)),
+        None => long_number(bytes, stop),
+    }
 }
