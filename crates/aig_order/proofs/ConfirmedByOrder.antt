@@ -12,7 +12,7 @@ use Rattle.aig_order.specs.MapReading.{block_reading}
 use Rattle.aig_order.specs.Parts.Confirmed.{TellsExchanges, TellsComment}
 use Rattle.aig_order.specs.Parts.Turns.{positions}
 use Rattle.aig_order.specs.Undone.{undone, comment_behind, places_told}
-use Rattle.aig_order.proofs.BlockRead.{read_is_within, read_is_text}
+use Rattle.aig_order.proofs.BlockReading.Block.{read_is_within, read_is_text}
 use Rattle.aig_order.proofs.OrderTold.{order_told}
 use Rattle.aig_order.proofs.Restoring.Again.{image_again}
 use Rattle.aig_order.proofs.Restoring.Places.{IsFit}

@@ -25,7 +25,7 @@ use Rattle.aig_order.specs.declared.map_block.MapBlock.{MapBlock}
 use Rattle.aig_order.specs.MapBlock.{mapped_gate, map_block, mapped_by, IsMappedImage}
 use Rattle.aig_order.specs.MapReading.{block_reading, HasCountsOf, IsWithinBounds}
 use Rattle.aig_order.specs.Undone.{undone, comment_behind, IsUndoneFrom}
-use Rattle.aig_order.proofs.BlockText.{block_is_read}
+use Rattle.aig_order.proofs.BlockReading.Block.{block_is_read}
 use Rattle.aig_order.proofs.Restoring.Recovered.{are, carried_back, place_at, places}
 
 -- the circuit is undone from x by the block that is read of it

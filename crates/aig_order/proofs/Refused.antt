@@ -11,7 +11,8 @@ use Rattle.aig_order.specs.declared.fault.MapFault.TheVariants.{Missing, Malform
 use Rattle.aig_order.specs.declared.map_block.MappedGate.{MappedGate}
 use Rattle.aig_order.specs.declared.map_block.MapBlock.{MapBlock}
 use Rattle.aig_order.specs.MapBlock.{IsMappedImage, mapped_by, last_line}
-use Rattle.aig_order.specs.MapSpelling.{FirstLine, after_text, first_line_at, variable_at, gate_at}
+use Rattle.aig_order.specs.declared.map_block.FirstLine.{FirstLine}
+use Rattle.aig_order.specs.MapSpelling.{after_text, first_line_at, variable_at, gate_at}
 use Rattle.aig_order.specs.MapReading.{◌>>=◌, or_else, entries_at, counts_match, counted_line, rest_of_block, block_reading}
 use Rattle.aig_order.specs.Undone.{IsMapFault, IsUndoneFrom, comment_behind, undone}
 use Rattle.aig_order.proofs.OneSource.{IsRecovered, one_reading, one_source, recovered}
@@ -62,9 +63,9 @@ of_counted x e failed =
     (λ first g failed_last. of_counts first (counts_match x first.0) g failed_last) failed_then)
     failed
 
-of_rest : (x : Circuit) (first : FirstLine) (bytes : List ℕ) (e : MapFault) → rest_of_block x first bytes ≡ Err e → IsReadFault e
+of_rest : (first : FirstLine) (bytes : List ℕ) (e : MapFault) → rest_of_block first bytes ≡ Err e → IsReadFault e
 unfolding rest_of_block
-of_rest x first bytes e failed =
+of_rest first bytes e failed =
     of_either (entries_at (variable_at first.max_var) 2 first.inputs bytes) _ e (of_entries _ 2 first.inputs bytes)
     (λ inputs f failed_f. of_either (entries_at (variable_at first.max_var) (2 + first.inputs) first.latches inputs.1) _ f (of_entries _ _ first.latches inputs.1)
     (λ latches g failed_g. of_either (entries_at (gate_at first.max_var first.gates) (2 + first.inputs + first.latches) first.gates latches.1) _ g (of_entries _ _ first.gates latches.1)
@@ -74,7 +75,7 @@ of_rest x first bytes e failed =
 
 of_reading : (x : Circuit) (e : MapFault) → block_reading x ≡ Err e → IsReadFault e
 unfolding block_reading
-of_reading x e failed = of_either (counted_line x) _ e (of_counted x) (λ first f failed_then. of_rest x first.0 first.1 f failed_then) failed
+of_reading x e failed = of_either (counted_line x) _ e (of_counted x) (λ first f failed_then. of_rest first.0 first.1 f failed_then) failed
 
 -- a block that is not read
 pub unread : (x : Circuit) (e : MapFault) → IsInBinaryOrder x → (e ≡ OutOfMemory) ⊎ (block_reading x ≡ Err e) → IsMapFault x e

@@ -6,17 +6,14 @@ use Rattle.std.specs.List.{AllByRecursion}
 use Rattle.aig_core.specs.declared.circuit.TheConstants.{LARGEST}
 use Rattle.aig_core.specs.Wellformed.{IsVariableUpTo}
 use Rattle.aig_core.specs.declared.circuit.Circuit.{Circuit}
+pub use Rattle.aig_text.specs.Reading.{◌>>=◌}
 use Rattle.aig_order.specs.declared.fault.MapFault.{MapFault}
 use Rattle.aig_order.specs.declared.fault.MapFault.TheVariants.{Missing, Malformed, Mismatch}
+use Rattle.aig_order.specs.declared.map_block.FirstLine.{FirstLine}
 use Rattle.aig_order.specs.declared.map_block.MappedGate.{MappedGate}
 use Rattle.aig_order.specs.declared.map_block.MapBlock.{MapBlock}
 use Rattle.aig_order.specs.MapBlock.{last_line}
-use Rattle.aig_order.specs.MapSpelling.{FirstLine, after_text, first_line_at, variable_at, gate_at}
-
-infixl 10 ◌>>=◌
-abbrev pub ◌>>=◌ : {A B : Type 0} → Result A MapFault → (A → Result B MapFault) → Result B MapFault
-(Ok x) >>= f = f x
-(Err fault) >>= f = Err fault
+use Rattle.aig_order.specs.MapSpelling.{after_text, first_line_at, variable_at, gate_at}
 
 -- what is there, or this fault
 abbrev pub or_else : {A : Type 0} → MapFault → Option A → Result A MapFault
@@ -45,8 +42,8 @@ counted_line x = do
   if counts_match x first.0 then Ok first else Err Mismatch
 
 -- the block behind the first line, and what follows it
-unfoldable pub rest_of_block : Circuit → FirstLine → List ℕ → Result (MapBlock × List ℕ) MapFault
-rest_of_block x first bytes = do
+unfoldable pub rest_of_block : FirstLine → List ℕ → Result (MapBlock × List ℕ) MapFault
+rest_of_block first bytes = do
   inputs ← entries_at (variable_at first.max_var) 2 first.inputs bytes
   latches ← entries_at (variable_at first.max_var) (2 + first.inputs) first.latches inputs.1
   gates ← entries_at (gate_at first.max_var first.gates) (2 + first.inputs + first.latches) first.gates latches.1
@@ -66,7 +63,7 @@ rest_of_block x first bytes = do
 unfoldable pub block_reading : Circuit → Result (MapBlock × List ℕ) MapFault
 block_reading x = do
   first ← counted_line x
-  rest_of_block x first.0 first.1
+  rest_of_block first.0 first.1
 
 -- the block tells of as many inputs, latches and gates as the circuit has
 pub record HasCountsOf (b : MapBlock) (x : Circuit) : Type 0 where

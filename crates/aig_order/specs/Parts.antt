@@ -1,8 +1,6 @@
 -- What only private functions cite. What the crate promises stands in the other files.
-pub mod Capped
 pub mod Confirmed
 pub mod Had
-pub mod MapFront
 pub mod MapOutcomes
 pub mod Placed
 pub mod Told

@@ -5,7 +5,6 @@ mod confirmed;
 mod fault;
 pub mod laws;
 mod map_block;
-mod map_numbers;
 mod map_reading;
 mod map_text;
 mod mapped;

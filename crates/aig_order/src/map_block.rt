@@ -12,6 +12,21 @@ pub struct MappedGate {
     pub exchanged: bool,
 }
 
+/// What the first line of a map block tells behind its word and its version.
+#[derive(Clone, Copy)]
+pub struct FirstLine {
+    /// The largest variable index of the source.
+    pub max_var: u64,
+    /// How many inputs the source has.
+    pub inputs: u64,
+    /// How many latches.
+    pub latches: u64,
+    /// How many gates.
+    pub gates: u64,
+    /// Whether it had a comment section.
+    pub has_comment: bool,
+}
+
 /// A map block: what the source had of all that a conversion to binary changes.
 #[derive(Drop)]
 pub struct MapBlock {

@@ -1,20 +1,16 @@
 //! The map block of a circuit, read from its comment.
 ghost use Rattle.std.specs.Prelude.{◌≡◌, ◌+◌, ◌^◌, ◌<◌, ◌≤◌, ℕ, List, [], Option, IfOk, IfSome};
 ghost use Rattle.std.specs.Option.{unwrap_or};
-ghost use Rattle.aig_core.specs.declared.circuit.Circuit.{Circuit as CircuitRecord};
 ghost use Rattle.aig_core.specs.declared.circuit.TheConstants.{LARGEST as largest_index};
 ghost use Rattle.aig_text.specs.Outcomes.{Gives, GivesOrFails};
-ghost use Rattle.aig_order.specs.MapSpelling.{is_variable, first_line_of, variable_of_row, gate_of_row};
-ghost use Rattle.aig_order.specs.MapSpelling.{variable_at, gate_at};
+ghost use Rattle.aig_order.specs.MapSpelling.{after_text, first_line_at, gate_at, is_variable, variable_at};
 ghost use Rattle.aig_order.specs.MapReading.{entries_at, counts_match, counted_line, rest_of_block, block_reading};
-ghost use Rattle.aig_order.specs.Parts.Capped.{capped_line_at};
-ghost use Rattle.aig_order.specs.Parts.MapFront.{front_of};
 ghost use Rattle.aig_order.specs.Parts.MapOutcomes.{GivesOrMemory};
 
 use crate::fault::MapFault;
-use crate::map_block::{MapBlock, MappedGate};
-use crate::map_numbers::{after_text, one_number, six_numbers, three_numbers};
+use crate::map_block::{FirstLine, MapBlock, MappedGate};
 use aig_core::{Circuit, LARGEST, Listing, Var};
+use aig_text::canonical_number;
 use std::alloc::Global;
 
 /// Whether a variable may have this index.
@@ -25,38 +21,11 @@ fn is_variable(max_var: u64, index: u64) -> bool
     1 <= index && index <= max_var
 }
 
-/// Reads the line of a variable; also what follows it.
-#[inline(always)]
-#[tactic(auto, unfolding(crate::specs::Parts::Capped::capped_line_at))]
-fn variable(bytes: &[u8], max_var: u64) -> Option<(Var, &[u8])>
-    requires { max_var ≤ largest_index }
-    ensures { Gives (λ x. (x.0, x.1.now)) result (capped_line_at 0 (variable_of_row max_var) bytes.now) }
+/// What follows a text at the front.
+fn after_text<'a>(bytes: &'a [u8], text: &[u8]) -> Option<&'a [u8]>
+    ensures { Gives (λ x. x.now) result (after_text text.now bytes.now) }
 {
-    let ([index], rest) = one_number(bytes)?;
-    if !is_variable(max_var, index) {
-        return None;
-    }
-    Some((Var(index as u32), rest))
-}
-
-/// Reads the line of a gate, of which there are `count`; also what follows it.
-#[inline(always)]
-#[tactic(auto, unfolding(crate::specs::Parts::Capped::capped_line_at))]
-fn gate(bytes: &[u8], max_var: u64, count: u64) -> Option<(MappedGate, &[u8])>
-    requires max_var { max_var ≤ largest_index }
-    requires count { count ≤ largest_index }
-    ensures { Gives (λ x. (x.0, x.1.now)) result (capped_line_at 2 (gate_of_row max_var count) bytes.now) }
-{
-    let ([index, place, exchanged], rest) = three_numbers(bytes)?;
-    if !is_variable(max_var, index) || place >= count || exchanged > 1 {
-        return None;
-    }
-    let gate = MappedGate {
-        var: Var(index as u32),
-        place: place as u32,
-        exchanged: exchanged == 1,
-    };
-    Some((gate, rest))
+    bytes.strip_prefix(text)
 }
 
 /// What one line of a block holds, after the first line.
@@ -75,8 +44,13 @@ impl BlockEntry for Var {
     ghost entry = { λ max_var _. variable_at max_var };
 
     #[inline(always)]
+    #[tactic(auto, unfolding(crate::specs::MapSpelling::variable_at))]
     fn read_entry(bytes: &[u8], max_var: u64, _count: u64) -> Option<(Var, &[u8])> {
-        variable(bytes, max_var)
+        let (index, rest) = canonical_number(bytes, b'\n')?;
+        if !is_variable(max_var, index) {
+            return None;
+        }
+        Some((Var(index as u32), rest))
     }
 }
 
@@ -84,8 +58,20 @@ impl BlockEntry for MappedGate {
     ghost entry = { gate_at };
 
     #[inline(always)]
+    #[tactic(auto, unfolding(crate::specs::MapSpelling::gate_at))]
     fn read_entry(bytes: &[u8], max_var: u64, count: u64) -> Option<(MappedGate, &[u8])> {
-        gate(bytes, max_var, count)
+        let (index, rest) = canonical_number(bytes, b' ')?;
+        let (place, rest) = canonical_number(rest, b' ')?;
+        let (exchanged, rest) = canonical_number(rest, b'\n')?;
+        if !is_variable(max_var, index) || place >= count || exchanged > 1 {
+            return None;
+        }
+        let gate = MappedGate {
+            var: Var(index as u32),
+            place: place as u32,
+            exchanged: exchanged == 1,
+        };
+        Some((gate, rest))
     }
 }
 
@@ -116,45 +102,35 @@ fn entries<'a, T: BlockEntry>(
     Ok((found, rest))
 }
 
-/// What the first line holds after its word.
-#[derive(Clone, Copy)]
-struct BlockFront {
-    /// The largest variable index of the source.
-    max_var: u64,
-    /// How many inputs the source has.
-    inputs: u64,
-    /// How many latches.
-    latches: u64,
-    /// How many gates.
-    gates: u64,
-    /// Whether it had a comment section.
-    has_comment: bool,
-}
-
-/// Reads the first line; also what follows it.
-#[tactic(auto, unfolding(crate::specs::Parts::Capped::capped_line_at))]
-fn first_line(bytes: &[u8]) -> Option<(BlockFront, &[u8])>
-    ensures line { Gives (λ x. (front_of x.0, x.1.now)) result (capped_line_at 5 first_line_of bytes.now) }
+/// Reads the first line behind its word; also what follows it.
+#[tactic(auto, unfolding(crate::specs::MapSpelling::first_line_at))]
+fn first_line(bytes: &[u8]) -> Option<(FirstLine, &[u8])>
+    ensures line { Gives (λ x. (x.0, x.1.now)) result (first_line_at bytes.now) }
     ensures max_var { IfSome result (λ x. x.0.max_var ≤ largest_index) }
 {
-    let ([version, max_var, inputs, latches, gates, comment], rest) = six_numbers(bytes)?;
+    let (version, rest) = canonical_number(bytes, b' ')?;
+    let (max_var, rest) = canonical_number(rest, b' ')?;
+    let (inputs, rest) = canonical_number(rest, b' ')?;
+    let (latches, rest) = canonical_number(rest, b' ')?;
+    let (gates, rest) = canonical_number(rest, b' ')?;
+    let (comment, rest) = canonical_number(rest, b'\n')?;
     if version != 1 || max_var > u64::from(LARGEST) || comment > 1 {
         return None;
     }
-    let front = BlockFront {
+    let first = FirstLine {
         max_var,
         inputs,
         latches,
         gates,
         has_comment: comment == 1,
     };
-    Some((front, rest))
+    Some((first, rest))
 }
 
 /// Whether the counts are those of the circuit, and the largest index is not below their sum.
-fn counts_match(image: &Circuit, front: BlockFront) -> bool
+fn counts_match(image: &Circuit, front: FirstLine) -> bool
     requires { front.max_var ≤ largest_index }
-    ensures { result ≡ counts_match image.now (front_of front) }
+    ensures { result ≡ counts_match image.now front }
 {
     let inputs = image.inputs.len() as u64;
     let latches = image.latches.len() as u64;
@@ -177,8 +153,8 @@ fn comment_bytes(image: &Circuit) -> &[u8]
 
 /// The first line, where it counts what the circuit has, and what follows the line.
 #[tactic(auto, unfolding(crate::specs::MapReading::counted_line))]
-fn counted_line(image: &Circuit) -> Result<(BlockFront, &[u8]), MapFault>
-    ensures line { GivesOrFails (λ x. (front_of x.0, x.1.now)) result (counted_line image.now) }
+fn counted_line(image: &Circuit) -> Result<(FirstLine, &[u8]), MapFault>
+    ensures line { GivesOrFails (λ x. (x.0, x.1.now)) result (counted_line image.now) }
     ensures max_var { IfOk result (λ x. x.0.max_var ≤ largest_index) }
     ensures counts { IfOk result (λ x. x.0.inputs + x.0.latches + x.0.gates ≤ x.0.max_var) }
 {
@@ -199,13 +175,12 @@ fn counted_line(image: &Circuit) -> Result<(BlockFront, &[u8]), MapFault>
 #[tactic(auto, unfolding(crate::specs::MapReading::rest_of_block))]
 fn rest_of_block<'a>(
     alloc: Global,
-    front: BlockFront,
+    front: FirstLine,
     bytes: &'a [u8],
 ) -> Result<(MapBlock, &'a [u8]), MapFault>
     requires max_var { front.max_var ≤ largest_index }
     requires counts { front.inputs + front.latches + front.gates ≤ front.max_var }
-    ensures { (image : CircuitRecord) → GivesOrMemory (λ x. (x.0, x.1.now)) result
-        (rest_of_block image (front_of front) bytes.now) }
+    ensures { GivesOrMemory (λ x. (x.0, x.1.now)) result (rest_of_block front bytes.now) }
 {
     let max_var = front.max_var;
     let (inputs, bytes) = entries::<Var>(alloc, bytes, max_var, front.inputs, 2)?;

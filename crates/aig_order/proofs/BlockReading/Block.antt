@@ -1,24 +1,26 @@
--- The text of a block that is within bounds, and counts what the circuit has, is read as this block.
-use Rattle.std.proofs.Common.{◌≡◌, ◌≤◌, ◌+◌, ◌&&◌, ℕ, true, List, [], ◌∷◌, ◌++◌, length, map, Option, Some, Ok, refl, sym, ap, ◌∙◌, arith, eqb, append_assoc}
-use Rattle.std.specs.Prelude.{nat_le, codes}
+-- A map block: where its text stands at the front of the comment, is within bounds, and counts what the circuit has, it is
+-- read, and back.
+use Rattle.std.proofs.Common.{◌≡◌, ◌≤◌, ◌<◌, ◌+◌, ℕ, List, [], ◌∷◌, ◌++◌, length, map, Option, Some, None, Ok, refl, sym, ap, subst, ◌∙◌, arith, append_assoc}
+use Rattle.std.specs.Prelude.{codes}
 use Rattle.std.specs.Option.{unwrap_or}
-use Rattle.std.specs.List.{flat_map}
-use Rattle.std.proofs.lemmas.Bool.Decides.{nat_tests}
+use Rattle.std.specs.List.{AllByRecursion, flat_map}
+use Rattle.std.proofs.lemmas.List.Concat.{flat_map-append}
 use Rattle.aig_core.specs.declared.circuit.TheConstants.{LARGEST}
 use Rattle.aig_core.specs.declared.circuit.Circuit.{Circuit}
 use Rattle.aig_core.specs.Wellformed.{IsVariableUpTo}
 use Rattle.aig_text.specs.AsciiText.{numbers_text}
-use Rattle.aig_text.proofs.Canonical.Lines.{AreSmall}
-use Rattle.aig_order.specs.declared.map_block.MappedGate.{MappedGate}
+use Rattle.aig_text.proofs.Steps.{both_ok}
+use Rattle.aig_order.specs.declared.map_block.FirstLine.{FirstLine}
 use Rattle.aig_order.specs.declared.map_block.MapBlock.{MapBlock}
-use Rattle.aig_order.specs.MapBlock.{one_if, first_row, variable_row, gate_row, rows_of, last_line, block_text}
-use Rattle.aig_order.specs.MapSpelling.{FirstLine, after_text, first_line_at, variable_at, gate_at}
-use Rattle.aig_order.specs.MapReading.{counts_match, counted_line, rest_of_block, block_reading, HasCountsOf, IsWithinBounds}
-use Rattle.aig_order.proofs.MapRows.{row_is_read, text_is_read}
-use Rattle.aig_order.proofs.MapEntries.{IsGoodGate, one_if_told, one_if_small, variable_is_read, gate_is_read, entries_are_read}
+use Rattle.aig_order.specs.MapBlock.{first_row, variable_row, gate_row, rows_of, last_line, block_text}
+use Rattle.aig_order.specs.MapSpelling.{after_text, variable_at, gate_at}
+use Rattle.aig_order.specs.MapReading.{rest_of_block, block_reading, HasCountsOf, IsWithinBounds}
+use Rattle.aig_order.proofs.BlockReading.Lines.{IsGoodGate, variable_line, gate_line}
+use Rattle.aig_order.proofs.BlockReading.Entries.{AreLines, lines_text, there, entries_are_read, entries_read}
+use Rattle.aig_order.proofs.BlockReading.FirstLine.{IsFront, front_is_read, front_reads, text_reads}
 
 -- what the first line tells of a block
-abbrev pub first_of : MapBlock → FirstLine
+abbrev first_of : MapBlock → FirstLine
 first_of b = record {
   max_var = b.max_var;
   inputs = length b.inputs;
@@ -27,92 +29,129 @@ first_of b = record {
   has_comment = b.has_comment;
 }
 
--- the lines of variables
-abbrev pub variables_text : List ℕ → List ℕ
-variables_text vs = flat_map numbers_text (map variable_row vs)
-
--- the lines of gates
-abbrev pub gates_text : List MappedGate → List ℕ
-gates_text gs = flat_map numbers_text (map gate_row gs)
-
 -- the text behind the first line, and what follows it
-abbrev pub behind : MapBlock → List ℕ → List ℕ
-behind b rest = variables_text b.inputs ++ (variables_text b.latches ++ (gates_text b.gates ++ (last_line ++ rest)))
-
--- the text of rows that are joined
-rows_joined : (xs ys : List (List ℕ)) → flat_map numbers_text (xs ++ ys) ≡ flat_map numbers_text xs ++ flat_map numbers_text ys
-rows_joined [] ys = refl
-rows_joined (x ∷ xs) ys = ap (λ (t : List ℕ). numbers_text x ++ t) (rows_joined xs ys) ∙ sym (append_assoc (numbers_text x) (flat_map numbers_text xs) (flat_map numbers_text ys))
+abbrev behind : MapBlock → List ℕ → List ℕ
+behind b rest = lines_text variable_row b.inputs ++ (lines_text variable_row b.latches ++ (lines_text gate_row b.gates ++ (last_line ++ rest)))
 
 -- the lines behind the first one, section by section
 rows_behind : (b : MapBlock) (rest : List ℕ) → (flat_map numbers_text (rows_of b) ++ last_line) ++ rest ≡ behind b rest
 rows_behind b rest =
-    rw (rows_joined (map variable_row b.inputs ++ map variable_row b.latches) (map gate_row b.gates), rows_joined (map variable_row b.inputs) (map variable_row b.latches))
-    (simp append_assoc)
+    rw (
+      flat_map-append numbers_text (map variable_row b.inputs ++ map variable_row b.latches) (map gate_row b.gates),
+      flat_map-append numbers_text (map variable_row b.inputs) (map variable_row b.latches),
+    ) (simp append_assoc)
 
 -- the text of a block, part by part
-pub text_by_parts : (b : MapBlock) (rest : List ℕ) → block_text b ++ rest ≡ codes "aigmap " ++ (numbers_text (first_row b) ++ behind b rest)
+text_by_parts : (b : MapBlock) (rest : List ℕ) → block_text b ++ rest ≡ codes "aigmap " ++ (numbers_text (first_row b) ++ behind b rest)
 unfolding block_text
 text_by_parts b rest =
     ap (λ (t : List ℕ). codes "aigmap " ++ t)
     (append_assoc (numbers_text (first_row b)) (flat_map numbers_text (rows_of b) ++ last_line) rest ∙ ap (λ (t : List ℕ). numbers_text (first_row b) ++ t) (rows_behind b rest))
 
--- counts that are the same, with a sum that fits, pass the test
-counts_are_same : (m i j k p q r : ℕ) → i ≡ p → j ≡ q → k ≡ r → i + j + k ≤ m → (eqb i p && (eqb j q && (eqb k r && nat_le (p + q + r) m))) ≡ true
-counts_are_same m i j k p q r first second third fit = grind (arith, nat_tests)
+-- the lines behind a first line
+record IsRest (f : FirstLine) (bytes : List ℕ) (r : MapBlock × List ℕ) : Type 0 where
+  within : IsWithinBounds r.0
+  first : first_of r.0 ≡ f
+  text : bytes ≡ behind r.0 r.1
 
-module _ (b : MapBlock) (within : IsWithinBounds b) where
-  -- there are no more entries than the largest variable index allows
-  few : length b.inputs + length b.latches + length b.gates ≤ LARGEST
-  few = omega (arith, within.counts, within.max_var)
+gates_are_few : (inputs latches gates m : ℕ) → inputs + latches + gates ≤ m → m ≤ LARGEST → gates ≤ LARGEST
+gates_are_few inputs latches gates m all few = omega arith
 
-  -- the numbers of the first line are small
-  first_is_small : AreSmall (first_row b)
-  first_is_small = (omega arith, (omega (arith, within.max_var), (omega (arith, few), (omega (arith, few), (omega (arith, few), (omega (arith, one_if_small b.has_comment), tt))))))
+-- they are read where they stand there
+rest_is_read : (b : MapBlock) (rest : List ℕ) → IsWithinBounds b → rest_of_block (first_of b) (behind b rest) ≡ Ok (b, rest)
+unfolding rest_of_block
+rest_is_read b rest within =
+    let m : ℕ = b.max_var in
+    let count : ℕ = length b.gates in
+    let fit : count ≤ LARGEST = gates_are_few (length b.inputs) (length b.latches) count m within.counts within.max_var in
+    let variables = entries_are_read (variable_at m) variable_row (IsVariableUpTo m) (variable_line m within.max_var) in
+    let gates = entries_are_read (gate_at m count) gate_row (IsGoodGate m within.max_var count fit) (gate_line m within.max_var count fit) in
+    let last : List ℕ = last_line ++ rest in
+    rw (
+      variables b.inputs 2 (lines_text variable_row b.latches ++ (lines_text gate_row b.gates ++ last)) within.inputs,
+      variables b.latches (2 + length b.inputs) (lines_text gate_row b.gates ++ last) within.latches,
+      gates b.gates (2 + length b.inputs + length b.latches) last within.gates,
+    ) refl
 
-  -- the first line passes its test
-  first_is_good : (m flag : ℕ) → m ≤ LARGEST → flag ≤ 1 → (eqb 1 1 && (nat_le m LARGEST && nat_le flag 1)) ≡ true
-  first_is_good m flag low bit = grind (arith, nat_tests)
+-- and where they are read they stand there
+rest_reads : (f : FirstLine) → f.max_var ≤ LARGEST → f.inputs + f.latches + f.gates ≤ f.max_var → (bytes : List ℕ) (r : MapBlock × List ℕ) → rest_of_block f bytes ≡ Ok r → IsRest f bytes r
+unfolding rest_of_block
+rest_reads f few all bytes r h =
+    let a = both_ok _ _ _ h in
+    let b = both_ok _ _ _ a.2 in
+    let d = both_ok _ _ _ b.2 in
+    let e = both_ok _ _ _ d.2 in
+    let m : ℕ = f.max_var in
+    let fit : f.gates ≤ LARGEST = gates_are_few f.inputs f.latches f.gates m all few in
+    let variables = entries_read (variable_at m) variable_row (IsVariableUpTo m) (variable_line m few) in
+    let inputs : AreLines variable_row (IsVariableUpTo m) f.inputs bytes a.0 = variables f.inputs 2 bytes a.0 a.1 in
+    let latches : AreLines variable_row (IsVariableUpTo m) f.latches a.0.1 b.0 = variables f.latches (2 + f.inputs) a.0.1 b.0 b.1 in
+    let gates : AreLines gate_row (IsGoodGate m few f.gates fit) f.gates b.0.1 d.0 =
+    entries_read (gate_at m f.gates) gate_row (IsGoodGate m few f.gates fit) (gate_line m few f.gates fit) f.gates (2 + f.inputs + f.latches) b.0.1 d.0 d.1 in
+    let last : d.0.1 ≡ last_line ++ e.0 = text_reads last_line d.0.1 e.0 (there _ (after_text last_line d.0.1) e.0 e.1) in
+    let block : MapBlock = record { max_var = m; inputs = a.0.0; latches = b.0.0; gates = d.0.0; has_comment = f.has_comment } in
+    let is : (block, e.0) ≡ r = cc in
+    subst (IsRest f bytes) is (
+    record {
+      within = record {
+        max_var = few;
+        counts = omega (arith, inputs.long, latches.long, gates.long, all);
+        inputs = inputs.good;
+        latches = latches.good;
+        gates = subst (λ (n : ℕ). AllByRecursion (λ (g : _). IsVariableUpTo m g.var × (g.place < n)) d.0.0) (sym gates.long) gates.good;
+      };
+      first = λ j. record { max_var = m; inputs = inputs.long j; latches = latches.long j; gates = gates.long j; has_comment = f.has_comment };
+      text =
+          inputs.text
+          ∙ ap (λ (t : List ℕ). lines_text variable_row a.0.0 ++ t)
+          (latches.text ∙ ap (λ (t : List ℕ). lines_text variable_row b.0.0 ++ t) (gates.text ∙ ap (λ (t : List ℕ). lines_text gate_row d.0.0 ++ t) last));
+    }
+    )
 
-  -- the first line is read
-  first_is_read : (rest : List ℕ) → first_line_at (numbers_text (first_row b) ++ rest) ≡ Some (first_of b, rest)
-  unfolding first_line_at
-  first_is_read rest =
-      rw (
-        row_is_read 1 (b.max_var ∷ length b.inputs ∷ length b.latches ∷ length b.gates ∷ one_if b.has_comment ∷ []) rest first_is_small,
-        first_is_good b.max_var (one_if b.has_comment) within.max_var (one_if_small b.has_comment),
-        one_if_told b.has_comment,
-      ) refl
+-- a comment that is not empty is there
+comment_is_there : (c : Option (List ℕ)) (n : ℕ) (ns : List ℕ) → unwrap_or c [] ≡ n ∷ ns → c ≡ Some (n ∷ ns)
+comment_is_there None n ns h = cc
+comment_is_there (Some t) n ns h = ap Some h
 
-  -- the first line's counts are those of the circuit
-  counts_are : (x : Circuit) → HasCountsOf b x → counts_match x (first_of b) ≡ true
-  counts_are x counts =
-      counts_are_same b.max_var (length b.inputs) (length b.latches) (length b.gates) (length x.inputs) (length x.latches) (length x.gates) counts.inputs counts.latches counts.gates within.counts
+-- a block that stands at the front of the comment
+pub record IsBlockOf (x : Circuit) (b : MapBlock) (rest : List ℕ) : Type 0 where
+  pub text : x.comment ≡ Some (block_text b ++ rest)
+  pub counts : HasCountsOf b x
+  pub within : IsWithinBounds b
 
-  -- the lines behind the first one are read
-  lines_are_read : (x : Circuit) (rest : List ℕ) → rest_of_block x (first_of b) (behind b rest) ≡ Ok (b, rest)
-  unfolding rest_of_block
-  lines_are_read x rest =
-      let variables = entries_are_read (variable_at b.max_var) variable_row (IsVariableUpTo b.max_var) (variable_is_read b.max_var within.max_var) in
-      let gates = entries_are_read (gate_at b.max_var (length b.gates)) gate_row (IsGoodGate b.max_var (length b.gates)) (gate_is_read b.max_var (length b.gates) within.max_var (omega (arith, few))) in
-      rw (
-        variables b.inputs 2 (variables_text b.latches ++ (gates_text b.gates ++ (last_line ++ rest))) within.inputs,
-        variables b.latches (2 + length b.inputs) (gates_text b.gates ++ (last_line ++ rest)) within.latches,
-        gates b.gates (2 + length b.inputs + length b.latches) (last_line ++ rest) within.gates,
-        text_is_read last_line rest,
-      ) refl
-
-  -- the first line is read of the circuit
-  counted_is_read : (x : Circuit) (rest : List ℕ) → x.comment ≡ Some (block_text b ++ rest) → HasCountsOf b x → counted_line x ≡ Ok (first_of b, behind b rest)
-  unfolding counted_line
-  counted_is_read x rest comment counts =
-      let is : unwrap_or x.comment [] ≡ codes "aigmap " ++ (numbers_text (first_row b) ++ behind b rest) =
-      ap (λ (c : Option (List ℕ)). unwrap_or c []) comment ∙ text_by_parts b rest in
-      let front : after_text (codes "aigmap ") (unwrap_or x.comment []) ≡ Some (numbers_text (first_row b) ++ behind b rest) =
-      ap (after_text (codes "aigmap ")) is ∙ text_is_read (codes "aigmap ") (numbers_text (first_row b) ++ behind b rest) in
-      rw (front, first_is_read (behind b rest), counts_are x counts) refl
-
--- where the text of such a block stands at the front of the comment, the block is read
+-- it is read
 pub block_is_read : (x : Circuit) (b : MapBlock) (rest : List ℕ) → x.comment ≡ Some (block_text b ++ rest) → HasCountsOf b x → IsWithinBounds b → block_reading x ≡ Ok (b, rest)
 unfolding block_reading
-block_is_read x b rest comment counts within = rw (counted_is_read b within x rest comment counts) (lines_are_read b within x rest)
+block_is_read x b rest comment counts within =
+    let front : IsFront x (first_of b, behind b rest) =
+    record {
+      few = within.max_var;
+      inputs = counts.inputs;
+      latches = counts.latches;
+      gates = counts.gates;
+      all = within.counts;
+      text = ap (λ (c : Option (List ℕ)). unwrap_or c []) comment ∙ text_by_parts b rest;
+    } in
+    rw (front_is_read x (first_of b, behind b rest) front) (rest_is_read b rest within)
+
+-- and what is read is such a block
+pub block_reads : (x : Circuit) (b : MapBlock) (rest : List ℕ) → block_reading x ≡ Ok (b, rest) → IsBlockOf x b rest
+unfolding block_reading
+block_reads x b rest h =
+    let a = both_ok _ _ _ h in
+    let first : IsFront x a.0 = front_reads x a.0 a.1 in
+    let others : IsRest a.0.0 a.0.1 (b, rest) = rest_reads a.0.0 first.few first.all a.0.1 (b, rest) a.2 in
+    let front : IsFront x (first_of b, a.0.1) = subst (λ (f : FirstLine). IsFront x (f, a.0.1)) (sym others.first) first in
+    let text : unwrap_or x.comment [] ≡ codes "aigmap " ++ (numbers_text (first_row b) ++ behind b rest) =
+    front.text ∙ ap (λ (t : List ℕ). codes "aigmap " ++ (numbers_text (first_row b) ++ t)) others.text in
+    record {
+      text = comment_is_there x.comment _ _ text ∙ ap Some (sym (text_by_parts b rest));
+      counts = record { inputs = front.inputs; latches = front.latches; gates = front.gates };
+      within = others.within;
+    }
+
+pub read_is_within : (x : Circuit) (b : MapBlock) (rest : List ℕ) → block_reading x ≡ Ok (b, rest) → HasCountsOf b x × IsWithinBounds b
+read_is_within x b rest h = let r : IsBlockOf x b rest = block_reads x b rest h in (r.counts, r.within)
+
+pub read_is_text : (x : Circuit) (b : MapBlock) (rest : List ℕ) → block_reading x ≡ Ok (b, rest) → x.comment ≡ Some (block_text b ++ rest)
+read_is_text x b rest h = (block_reads x b rest h).text

@@ -1,5 +1,5 @@
 use Rattle.std.proofs.Common.{◌∙◌, inr}
-use Rattle.aig_order.proofs.MapSteps.{entries_more, entries_wrong, entries_done}
+use Rattle.aig_order.proofs.BlockReading.Steps.{entries_more, entries_wrong, entries_done}
 use Rattle.aig_order.proofs.map_reading.entries.Goals as goal
 
 pub returns-in-None : goal.returns-in-None

@@ -1,6 +1,6 @@
 use Rattle.std.proofs.Common.{◌≡◌, ◌+◌, ◌-◌}
 use Rattle.aig_order.specs.MapReading.{entries_at}
-use Rattle.aig_order.proofs.MapSteps.{behind_found}
+use Rattle.aig_order.proofs.BlockReading.Steps.{behind_found}
 use Rattle.aig_order.proofs.map_reading.entries.Given as goal
 
 abbrev pub invariant-loop-at : goal.invariant-loop-at

@@ -1,6 +1,6 @@
 use Rattle.std.proofs.Common.{arith}
 use Rattle.aig_image.specs.Parts.Numbers.{number_of}
-use Rattle.aig_order.proofs.Added.{block_added}
+use Rattle.aig_order.proofs.BlockText.Added.{block_added}
 use Rattle.aig_order.proofs.map_text.put_block.Goals as goal
 
 pub returns : goal.returns

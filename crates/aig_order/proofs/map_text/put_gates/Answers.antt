@@ -2,7 +2,7 @@ use Rattle.std.proofs.Common.{◌++◌, ◌∙◌, ap, arith}
 use Rattle.aig_text.specs.AsciiText.{numbers_text}
 use Rattle.aig_order.specs.MapBlock.{gate_row, mapped_gate}
 use Rattle.aig_image.specs.Parts.Numbers.{number_of}
-use Rattle.aig_order.proofs.Added.{added_more}
+use Rattle.aig_order.proofs.BlockText.Added.{added_more}
 use Rattle.aig_order.proofs.map_text.put_gates.Goals as goal
 
 pub loop-gate-preserved : goal.loop-gate-preserved

@@ -1,6 +1,6 @@
 use Rattle.std.proofs.Common.{refl, arith}
 use Rattle.aig_text.specs.AsciiText.{spaced_number}
-use Rattle.aig_order.proofs.Added.{added_more, line_ended}
+use Rattle.aig_order.proofs.BlockText.Added.{added_more, line_ended}
 use Rattle.aig_order.proofs.map_text.put_more_numbers.Goals as goal
 
 pub loop-number-preserved : goal.loop-number-preserved

@@ -1,7 +1,7 @@
 use Rattle.std.proofs.Common.{◌++◌, ◌∙◌, ap, arith}
 use Rattle.aig_text.specs.AsciiText.{numbers_text}
 use Rattle.aig_order.specs.MapBlock.{variable_row}
-use Rattle.aig_order.proofs.Added.{added_more}
+use Rattle.aig_order.proofs.BlockText.Added.{added_more}
 use Rattle.aig_order.proofs.map_text.put_variables.Goals as goal
 
 pub loop-item-preserved : goal.loop-item-preserved

@@ -10,7 +10,7 @@ use Rattle.aig_order.specs.MapReading.{HasCountsOf}
 use Rattle.aig_order.specs.Parts.Confirmed.{TellsExchanges}
 use Rattle.aig_order.specs.Parts.Turns.{positions}
 use Rattle.aig_order.specs.Undone.{undone, comment_behind}
-use Rattle.aig_order.proofs.BlockRead.{read_is_within}
+use Rattle.aig_order.proofs.BlockReading.Block.{read_is_within}
 use Rattle.aig_order.proofs.Judged.{by_comment, by_exchanges, by_order, told_of_same}
 use Rattle.aig_order.proofs.SourceVariables.{places_there}
 use Rattle.aig_order.proofs.undoing.has_image.Goals as goal

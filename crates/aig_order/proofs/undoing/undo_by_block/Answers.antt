@@ -4,7 +4,7 @@ use Rattle.aig_core.specs.Wellformed.{AreDistinct, IsWellFormed, defined_variabl
 use Rattle.aig_core.specs.BinaryOrder.{IsInBinaryOrder}
 use Rattle.aig_order.specs.MapReading.{HasCountsOf}
 use Rattle.aig_order.specs.Undone.{comment_behind, undone}
-use Rattle.aig_order.proofs.BlockRead.{read_is_within}
+use Rattle.aig_order.proofs.BlockReading.Block.{read_is_within}
 use Rattle.aig_order.proofs.Restoring.Formed.{well_formed_again}
 use Rattle.aig_order.proofs.Refused.{of_places, of_source, of_confirmed}
 use Rattle.aig_order.proofs.undoing.undo_by_block.Goals as goal

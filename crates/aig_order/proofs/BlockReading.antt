@@ -1,0 +1,5 @@
+pub mod Steps
+pub mod Lines
+pub mod Entries
+pub mod FirstLine
+pub mod Block
