@@ -1,15 +1,13 @@
 -- A new number, carried back to the variable that has it, and a variable's number, found again.
 use Rattle.std.proofs.Common.{◌≡◌, ◌≢◌, ◌+◌, ◌-◌, ◌<◌, ◌≤◌, ℕ, zero, suc, List, [], ◌∷◌, length, true, false, eqb}
 use Rattle.std.proofs.Common.{get_or}
-use Rattle.std.proofs.Common.{take, drop, refl, sym, ap, ◌∙◌, ◌⊎◌, ⊎_elim, arith}
+use Rattle.std.proofs.Common.{refl, subst, sym, ap, ◌∙◌, ◌⊎◌, ⊎_elim, arith}
 use Rattle.std.specs.List.{position_or_len}
-use Rattle.std.proofs.Math.Seq.{split_at}
 use Rattle.std.proofs.lemmas.Bool.{ne_eqb}
 use Rattle.std.proofs.lemmas.Bool.Decides.{eqb_tells}
-use Rattle.std.proofs.lemmas.List.{length-take-le}
 use Rattle.aig_core.specs.Wellformed.{IsAmong, AreDistinct}
 use Rattle.aig_image.specs.Renumbering.{renumbered, source_variable}
-use Rattle.aig_image.proofs.Places.{number_of}
+use Rattle.aig_image.proofs.Places.{number_at}
 use Rattle.aig_image.proofs.Relabelling.Standing.{here}
 
 -- one place further, behind one more
@@ -46,9 +44,6 @@ module _ (vs : List ℕ) (once : AreDistinct vs) (some : (v : ℕ) → IsAmong v
   back_again zero fits = refl
   back_again (suc k) fits =
       let below : k < length vs = omega (arith, fits) in
-      let v : ℕ = get_or vs k 0 in
-      let same : suc k ≡ 1 + k = omega arith in
-      ap (λ n. renumbered vs (source_variable vs n)) same
-      ∙ ap (renumbered vs) (by_place vs k)
-      ∙ number_of vs (take k vs) (drop (suc k) vs) v once (some v (here vs k below)) (split_at vs k 0 below)
-      ∙ omega (arith, length-take-le k vs (omega (arith, below)))
+      let next : 1 + k ≡ suc k = omega arith in
+      subst (λ n. renumbered vs (source_variable vs n) ≡ n) next
+      (ap (renumbered vs) (by_place vs k) ∙ number_at vs once k below (some (get_or vs k 0) (here vs k below)))

@@ -81,12 +81,12 @@ module _ (gates : List Gate) (first vs : List ℕ) (once : AreDistinct vs) (gate
     in_turn seen before (g ∷ rest) holds least are =
         let gate : Gate = at gates g in
         let number : renumbered vs gate.var ≡ 1 + length before =
-        number_of vs before (taken_variables gates rest) gate.var once (some g least.0.there) are in
+        number_of vs once before (taken_variables gates rest) gate.var (some g least.0.there) are in
         let left : renumbered vs (variable_of gate.left) ≤ length before =
-        number_within vs before (taken_variables gates (g ∷ rest)) (variable_of gate.left) are
+        number_within vs once before (taken_variables gates (g ∷ rest)) (variable_of gate.left) are
         (known_before seen before g gate.left least.0 holds (inl refl)) in
         let right : renumbered vs (variable_of gate.right) ≤ length before =
-        number_within vs before (taken_variables gates (g ∷ rest)) (variable_of gate.right) are
+        number_within vs once before (taken_variables gates (g ∷ rest)) (variable_of gate.right) are
         (known_before seen before g gate.right least.0 holds (inr (inl refl))) in
         let ordered =
         lower (length before) (renumbered vs gate.var) (renumbered vs (variable_of gate.left))

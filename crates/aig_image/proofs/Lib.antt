@@ -1,4 +1,3 @@
-pub mod Distinct
 pub mod Places
 pub mod Taken
 pub mod Back

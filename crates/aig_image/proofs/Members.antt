@@ -14,9 +14,8 @@ use Rattle.aig_core.proofs.Ranges.{at_least_below}
 use Rattle.aig_core.proofs.Steps.{all_of}
 use Rattle.aig_image.specs.Reordered.{ArePlaces, positions_of}
 use Rattle.aig_image.specs.Renumbering.{in_new_order}
-use Rattle.aig_image.proofs.Distinct.{apart, front, joined}
 use Rattle.aig_image.proofs.Relabelling.Positions.{places_have_positions}
-use Rattle.aig_image.proofs.Relabelling.Standing.{among_first}
+use Rattle.aig_image.proofs.Relabelling.Standing.{among_first, swapped_last}
 use Rattle.aig_image.proofs.Taken.{each_once, all_there, place_there, taken_variables, among_taken, taken_has}
 use Rattle.aig_image.proofs.Taken.{taken_once}
 
@@ -75,9 +74,8 @@ module _ (c : Circuit) (order : List ℕ) (good : IsWellFormed c) (least : IsLea
 
   pub new_once : AreDistinct new
   new_once =
-      joined first last (front first (variables c.gates) good.once)
-      (taken_once c.gates gates_once order order_once there)
-      (λ x a b. apart first (variables c.gates) good.once x a (of_gates x b))
+      swapped_last first (variables c.gates) last good.once
+      (taken_once c.gates gates_once order order_once there) of_gates
 
   -- the new order has exactly the defined variables
   pub has_defined : (v : ℕ) → IsAmong v (defined_variables c) → IsAmong v new

@@ -1,20 +1,19 @@
 -- The numbers of variables that are noted one after the other.
-use Rattle.std.proofs.Common.{◌≡◌, ◌≢◌, ◌<◌, ◌≤◌, ◌+◌, ℕ, List, [], ◌∷◌, ◌++◌, true, false, cond, eqb, length, get_or}
-use Rattle.std.proofs.Common.{take, map, None, sym, ap, ap₂, subst, ◌∙◌, ⊎_elim, inl, inr, suc, not, length-append}
+use Rattle.std.proofs.Common.{◌≡◌, ◌<◌, ◌≤◌, ◌+◌, ℕ, List, [], ◌∷◌, ◌++◌, cond, eqb, length, get_or}
+use Rattle.std.proofs.Common.{take, map, None, sym, ap, ap₂, subst, ◌∙◌, ⊎_elim, length-append}
 use Rattle.std.proofs.Common.{arith}
 use Rattle.std.specs.FinMap.{get, get-empty, empty}
 use Rattle.std.specs.Option.{unwrap_or}
 use Rattle.std.specs.Ordering.{nat_cmp}
-use Rattle.std.proofs.lemmas.Bool.{cases_lt}
-use Rattle.std.proofs.lemmas.Bool.Decides.{eqb_tells}
 use Rattle.std.proofs.lemmas.Grind.{common_steps}
 use Rattle.std.proofs.lemmas.List.{take_more, map-append, map-id, append_assoc, length-map}
 use Rattle.std.proofs.lemmas.List.Folds.{position_or_len_push}
 use Rattle.std.proofs.lemmas.List.Sums.{prefix_len-le-length}
-use Rattle.std.specs.List.{position_or_len}
 use Rattle.aig_core.specs.Wellformed.{IsAmong}
 use Rattle.aig_core.specs.VarMap.{with_new}
 use Rattle.aig_core.proofs.Maps.{HasNew, get-with_new}
+use Rattle.aig_core.proofs.LeastReady.{among_or_not}
+use Rattle.aig_image.proofs.Places.{no_place}
 use Rattle.aig_image.specs.declared.numbers.Numbers.{Numbers}
 use Rattle.aig_image.specs.Parts.Numbers.{number_of, number_in, AreNumbered}
 
@@ -68,21 +67,14 @@ variables_more f variables items i d below =
 in_list : (variables : List ℕ) (v : ℕ) → number_in variables v ≤ length variables
 in_list variables v = grind (arith, common_steps)
 
--- what has a place in a list is there
-has_place : (xs : List ℕ) (v : ℕ) → position_or_len (λ w. eqb w v) xs < length xs → IsAmong v xs
-has_place [] v within = absurd (omega (arith, within))
-has_place (x ∷ xs) v within =
-    ⊎_elim (λ (t : (eqb x v ≡ true) × (x ≡ v)). inl (sym t.1))
-    (λ (f : (eqb x v ≡ false) × (x ≢ v)).
-    let later : 1 + position_or_len (λ w. eqb w v) xs < suc (length xs) = subst
-    (λ b. cond (not b) (1 + position_or_len (λ w. eqb w v) xs) 0 < suc (length xs)) f.0 within in
-    inr (has_place xs v (omega (arith, later)))) (eqb_tells x v)
+-- what is not in a list has no number, so what has one is there
+pub no_number : (v : ℕ) (xs : List ℕ) → ¬ IsAmong v xs → number_in xs v ≡ 0
+no_number v xs out = let none = no_place v xs out in grind (arith, common_steps, none)
 
 has_number : (xs : List ℕ) (v : ℕ) → 0 < number_in xs v → IsAmong v xs
 has_number xs v some =
-    ⊎_elim (λ (b : position_or_len (λ w. eqb w v) xs < length xs). has_place xs v b)
-    (λ (n : length xs ≤ position_or_len (λ w. eqb w v) xs). absurd (grind (arith, common_steps, n, some)))
-    (cases_lt (position_or_len (λ w. eqb w v) xs) (length xs))
+    ⊎_elim (λ (i : IsAmong v xs). i) (λ (out : ¬ IsAmong v xs). absurd (omega (arith, no_number v xs out, some)))
+    (among_or_not v xs)
 
 -- what is noted of two sections
 pub two_sections : {L : Type 0} (of_latch : L → ℕ) (n : Numbers) (inputs inputs_too : List ℕ)

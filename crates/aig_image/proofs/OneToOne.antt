@@ -12,7 +12,8 @@ use Rattle.aig_core.proofs.Ranked.{at}
 use Rattle.aig_image.specs.Laws.{IsOneToOneOnto}
 use Rattle.aig_image.specs.Reordered.{taken}
 use Rattle.aig_image.specs.Renumbering.{in_new_order, renumbered, source_variable}
-use Rattle.aig_image.proofs.Back.{back_variable, by_place, back_again}
+use Rattle.aig_image.proofs.Back.{back_variable}
+use Rattle.aig_image.proofs.Places.{number_at}
 use Rattle.aig_image.proofs.Relabelling.Standing.{here, somewhere}
 use Rattle.aig_image.proofs.Members.{new_once, has_defined, is_defined, all_taken}
 use Rattle.aig_image.proofs.Taken.{taken_variables}
@@ -42,17 +43,15 @@ module _ (c : Circuit) (order : List ℕ) (good : IsWellFormed c) (least : IsLea
       range.0
 
   -- the variable at a place has the number that is one more
-  number_at : (j : ℕ) → j < length vs → renumbered vs (get_or vs j 0) ≡ 1 + j
-  number_at j below =
-      ap (renumbered vs) (sym (by_place vs j))
-      ∙ back_again vs (new_once c order good least) some (1 + j) (omega (arith, below))
+  number_there : (j : ℕ) → j < length vs → renumbered vs (get_or vs j 0) ≡ 1 + j
+  number_there j below = number_at vs (new_once c order good least) j below (some (get_or vs j 0) (here vs j below))
 
   within : (v : ℕ) → IsAmong v (defined_variables c) → IsVariableUpTo count (renumbered vs v)
   within v defined =
       let there = somewhere v vs (has_defined c order good least v defined) in
       let below : there.0 < length vs = there.1 in
       let number : renumbered vs v ≡ 1 + there.0 =
-      ap (renumbered vs) (sym there.2) ∙ number_at there.0 below in
+      ap (renumbered vs) (sym there.2) ∙ number_there there.0 below in
       (omega (arith, number), omega (arith, number, below, many))
 
   -- what has a number is found again by it
@@ -63,7 +62,7 @@ module _ (c : Circuit) (order : List ℕ) (good : IsWellFormed c) (least : IsLea
   reached zero range = absurd (omega (arith, range.0))
   reached (suc j) range =
       let below : j < length vs = omega (arith, range.1, many) in
-      let number = number_at j below in
+      let number = number_there j below in
       let v : ℕ = get_or vs j 0 in
       (v, is_defined c order good least v (here vs j below), omega (arith, number))
 

@@ -1,51 +1,65 @@
 -- New numbers of variables: places in a list without repeats.
-use Rattle.std.proofs.Common.{◌≡◌, ◌≢◌, ◌+◌, ◌<◌, ◌≤◌, ℕ, List, [], ◌∷◌, ◌++◌, true, false, eqb, length}
-use Rattle.std.proofs.Common.{length-append, map, refl, sym, ap, ap₂, subst, ◌∙◌, ◌⊎◌, inl, inr, ⊎_elim, append_assoc}
-use Rattle.std.proofs.Common.{arith}
+use Rattle.std.proofs.Common.{◌≡◌, ◌≢◌, ◌+◌, ◌<◌, ◌≤◌, ℕ, List, [], ◌∷◌, ◌++◌, true, false, eqb, not, length}
+use Rattle.std.proofs.Common.{length-append, get_or, map, refl, sym, ap, ap₂, subst, ◌∙◌, ◌⊎◌, ⊎_elim, append_assoc}
+use Rattle.std.proofs.Common.{arith, true≢false}
 use Rattle.std.specs.List.{AllByRecursion, position_or_len, range_with_len}
-use Rattle.std.proofs.lemmas.Bool.{ne_eqb}
-use Rattle.std.proofs.lemmas.Bool.Decides.{Decides-eqb, eqb_tells}
+use Rattle.std.proofs.Math.ListN.{get_or-append}
+use Rattle.std.proofs.Math.Seq.{get_or-append_seam}
+use Rattle.std.proofs.lemmas.Bool.{cases_lt, ne_eqb}
+use Rattle.std.proofs.lemmas.Bool.Decides.{eqb_tells}
+use Rattle.std.proofs.lemmas.List.Sums.{prefix_len-le-length, prefix_len_stops}
 use Rattle.aig_core.specs.Wellformed.{IsAmong, AreDistinct}
 use Rattle.aig_image.specs.Renumbering.{renumbered}
-use Rattle.aig_image.proofs.Distinct.{once_apart}
+use Rattle.aig_image.proofs.Relabelling.Positions.{place_is}
+use Rattle.aig_image.proofs.Relabelling.Standing.{here, somewhere}
 
-place_behind : (v : ℕ) (pre post : List ℕ) → ¬ IsAmong v pre
-    → position_or_len (λ w. eqb w v) (pre ++ v ∷ post) ≡ length pre
-place_behind v [] post out = rw ((Decides-eqb v v).1 refl) refl
-place_behind v (w ∷ pre) post out =
-    let later : position_or_len (λ x. eqb x v) (pre ++ v ∷ post) ≡ length pre =
-    place_behind v pre post (λ a. out (inr a)) in
-    rw (ne_eqb w v (λ e. out (inl (sym e)))) (omega (arith, later))
+abbrev place : List ℕ → ℕ → ℕ
+place xs v = position_or_len (λ w. eqb w v) xs
 
-place_before : (v : ℕ) (pre post : List ℕ) → IsAmong v pre → position_or_len (λ w. eqb w v) (pre ++ post) < length pre
-place_before v [] post a = absurd a
-place_before v (w ∷ pre) post a =
-    ⊎_elim (λ (t : (eqb w v ≡ true) × (w ≡ v)). rw t.0 (omega arith))
-    (λ (f : (eqb w v ≡ false) × (w ≢ v)).
-    let among : IsAmong v pre = ⊎_elim (λ (e : v ≡ w). absurd (f.1 (sym e))) (λ (i : IsAmong v pre). i) a in
-    let later : position_or_len (λ x. eqb x v) (pre ++ post) < length pre = place_before v pre post among in
-    rw f.0 (omega (arith, later)))
-    (eqb_tells w v)
+-- what has a place in a list stands there
+pub has_place : (xs : List ℕ) (v : ℕ) → place xs v < length xs → get_or xs (place xs v) 0 ≡ v
+has_place xs v within =
+    ⊎_elim (λ (t : (eqb (get_or xs (place xs v) 0) v ≡ true) × (get_or xs (place xs v) 0 ≡ v)). t.1)
+    (λ (f : (eqb (get_or xs (place xs v) 0) v ≡ false) × (get_or xs (place xs v) 0 ≢ v)).
+    absurd (true≢false (ap not (sym f.0) ∙ prefix_len_stops (λ w. not (eqb w v)) xs 0 within)))
+    (eqb_tells (get_or xs (place xs v) 0) v)
 
--- a variable's number is one more than its place
-pub number_of : (vs pre post : List ℕ) (v : ℕ) → AreDistinct vs → 1 ≤ v → vs ≡ pre ++ v ∷ post
-    → renumbered vs v ≡ 1 + length pre
-number_of vs pre post v once some are =
-    let apart : ¬ IsAmong v pre = once_apart pre v post (subst AreDistinct are once) in
-    rw (ne_eqb v 0 (λ e. absurd (omega (arith, some, e))))
-    (ap (λ n. 1 + n) (ap (position_or_len (λ w. eqb w v)) are ∙ place_behind v pre post apart))
+-- and what is not in the list has none
+pub no_place : (v : ℕ) (xs : List ℕ) → ¬ IsAmong v xs → place xs v ≡ length xs
+no_place v xs out =
+    ⊎_elim
+    (λ (b : place xs v < length xs). absurd
+    (out (subst (λ w. IsAmong w xs) (has_place xs v b) (here xs (place xs v) b))))
+    (λ (n : length xs ≤ place xs v). omega (arith, n, prefix_len-le-length (λ w. not (eqb w v)) xs))
+    (cases_lt (place xs v) (length xs))
 
--- a constant, or a variable of the first ones, has a number of theirs
-pub number_within : (vs pre post : List ℕ) (v : ℕ) → vs ≡ pre ++ post → (v ≡ 0) ⊎ IsAmong v pre
-    → renumbered vs v ≤ length pre
-number_within vs pre post v are known =
-    ⊎_elim (λ (t : (eqb v 0 ≡ true) × (v ≡ 0)). rw t.0 (omega arith))
-    (λ (f : (eqb v 0 ≡ false) × (v ≢ 0)).
-    let among : IsAmong v pre = ⊎_elim (λ (e : v ≡ 0). absurd (f.1 e)) (λ (i : IsAmong v pre). i) known in
-    let before : position_or_len (λ w. eqb w v) vs < length pre =
-    subst (λ xs. position_or_len (λ w. eqb w v) xs < length pre) (sym are) (place_before v pre post among) in
-    rw f.0 (omega (arith, before)))
-    (eqb_tells v 0)
+module _ (vs : List ℕ) (once : AreDistinct vs) where
+  -- a variable's number is one more than its place
+  pub number_at : (j : ℕ) → j < length vs → 1 ≤ get_or vs j 0 → renumbered vs (get_or vs j 0) ≡ 1 + j
+  number_at j below some =
+      rw (ne_eqb (get_or vs j 0) 0 (λ e. absurd (omega (arith, some, e)))) (ap (λ n. 1 + n) (place_is vs once j below))
+
+  pub number_of : (pre post : List ℕ) (v : ℕ) → 1 ≤ v → vs ≡ pre ++ v ∷ post → renumbered vs v ≡ 1 + length pre
+  number_of pre post v some are =
+      let there : get_or vs (length pre) 0 ≡ v = ap (λ xs. get_or xs (length pre) 0) are
+      ∙ get_or-append_seam pre v post 0 in
+      let below : length pre < length vs = omega (arith, ap length are, length-append pre (v ∷ post)) in
+      ap (renumbered vs) (sym there) ∙ number_at (length pre) below (subst (λ w. 1 ≤ w) (sym there) some)
+
+  -- a constant, or a variable of the first ones, has a number of theirs
+  pub number_within : (pre post : List ℕ) (v : ℕ) → vs ≡ pre ++ post → (v ≡ 0) ⊎ IsAmong v pre
+      → renumbered vs v ≤ length pre
+  number_within pre post v are known =
+      ⊎_elim (λ (t : (eqb v 0 ≡ true) × (v ≡ 0)). rw t.0 (omega arith))
+      (λ (f : (eqb v 0 ≡ false) × (v ≢ 0)).
+      let stands = somewhere v pre (⊎_elim (λ (e : v ≡ 0). absurd (f.1 e)) (λ (i : IsAmong v pre). i) known) in
+      let low : stands.0 < length pre = stands.1 in
+      let there : get_or vs stands.0 0 ≡ v =
+      ap (λ xs. get_or xs stands.0 0) are ∙ get_or-append pre post 0 stands.0 low ∙ stands.2 in
+      let below : stands.0 < length vs = omega (arith, low, ap length are, length-append pre post) in
+      let placed : place vs v ≡ stands.0 = ap (place vs) (sym there) ∙ place_is vs once stands.0 below in
+      rw f.0 (omega (arith, placed, low)))
+      (eqb_tells v 0)
 
 -- variables that follow on one another in the list are numbered on
 pub numbered_on : (vs pre mid post : List ℕ) → AreDistinct vs → AllByRecursion (λ v. 1 ≤ v) mid
@@ -53,6 +67,6 @@ pub numbered_on : (vs pre mid post : List ℕ) → AreDistinct vs → AllByRecur
 numbered_on vs pre [] post once some are = refl
 numbered_on vs pre (x ∷ mid) post once some are =
     let next : 1 + length (pre ++ x ∷ []) ≡ 1 + length pre + 1 = omega (arith, length-append pre (x ∷ [])) in
-    ap₂ (λ (n : ℕ) (ns : List ℕ). n ∷ ns) (number_of vs pre (mid ++ post) x once some.0 are)
+    ap₂ (λ (n : ℕ) (ns : List ℕ). n ∷ ns) (number_of vs once pre (mid ++ post) x some.0 are)
     (numbered_on vs (pre ++ x ∷ []) mid post once some.1 (are ∙ sym (append_assoc pre (x ∷ []) (mid ++ post)))
     ∙ ap (λ k. range_with_len k (length mid)) next)

@@ -1,7 +1,6 @@
 -- The circuit by the numbers that were noted is the image.
-use Rattle.std.proofs.Common.{◌≡◌, ◌≢◌, ◌+◌, ◌≤◌, ℕ, List, [], ◌∷◌, eqb, length, refl, sym, ap, ap₂, ◌∙◌, inl, inr}
+use Rattle.std.proofs.Common.{◌≡◌, ◌≢◌, ◌+◌, ◌≤◌, ℕ, List, [], length, sym, ap, ap₂, ◌∙◌, inr}
 use Rattle.std.proofs.Common.{append-nil, arith}
-use Rattle.std.specs.List.{position_or_len}
 use Rattle.std.specs.Option.{unwrap_or}
 use Rattle.std.proofs.lemmas.Bool.{ne_eqb}
 use Rattle.std.proofs.lemmas.Grind.{common_steps}
@@ -19,21 +18,12 @@ use Rattle.aig_image.specs.Parts.Numbers.{number_of, number_in, IsRenumberingOf}
 use Rattle.aig_image.specs.Relabelled.{relabelled, NamesOnly}
 use Rattle.aig_image.specs.Renumbering.{in_new_order, renumbered}
 use Rattle.aig_image.specs.Reordered.{reordered, taken, with_operands_sorted}
-use Rattle.aig_image.proofs.Members.{has_defined, is_defined, not_more}
+use Rattle.aig_image.proofs.Members.{has_defined, is_defined, new_once, not_more}
+use Rattle.aig_image.proofs.Noted.{no_number}
 use Rattle.aig_image.proofs.Places.{number_within}
 use Rattle.aig_image.proofs.Relabelling.Named.{names_only}
 use Rattle.aig_image.proofs.Relabelling.Relabelled.{only_names_matter, with_gates}
 use Rattle.aig_image.proofs.Relabelling.Reordered.{order_commutes}
-
--- what is not in a list has no place there
-no_place : (v : ℕ) (xs : List ℕ) → ¬ IsAmong v xs → position_or_len (λ w. eqb w v) xs ≡ length xs
-no_place v [] out = refl
-no_place v (w ∷ xs) out =
-    let later : position_or_len (λ x. eqb x v) xs ≡ length xs = no_place v xs (λ a. out (inr a)) in
-    rw (ne_eqb w v (λ e. out (inl (sym e)))) (omega (arith, later))
-
-no_number : (v : ℕ) (xs : List ℕ) → ¬ IsAmong v xs → number_in xs v ≡ 0
-no_number v xs out = let none = no_place v xs out in grind (arith, common_steps, none)
 
 -- a variable that has a place has its number
 in_place : (v : ℕ) (xs : List ℕ) → v ≢ 0 → renumbered xs v ≤ length xs → number_in xs v ≡ renumbered xs v
@@ -57,7 +47,8 @@ module _ (c : Circuit) (order : List ℕ) (good : IsWellFormed c) (least : IsLea
     same_number v a =
         let low : 1 ≤ v = some v a in
         let fits : renumbered vs v ≤ length vs =
-        number_within vs vs [] v (sym (append-nil vs)) (inr (has_defined c order good least v a)) in
+        number_within vs (new_once c order good least) vs [] v (sym (append-nil vs))
+        (inr (has_defined c order good least v a)) in
         told v ∙ in_place v vs (λ e. absurd (omega (arith, low, e))) fits
 
     abbrev pub Same : ℕ → Type 0

@@ -20,9 +20,8 @@ use Rattle.aig_image.specs.declared.image.Renumbering.{Renumbering}
 use Rattle.aig_image.specs.Parts.Numbers.{number_of, AreNumbered, IsRenumberingOf}
 use Rattle.aig_image.specs.Relabelled.{FitIntoLiterals}
 use Rattle.aig_image.specs.Reordered.{taken}
-use Rattle.aig_image.proofs.Distinct.{apart}
 use Rattle.aig_image.proofs.OneByOne.{one_by_one, all_of_them}
-use Rattle.aig_image.proofs.Taken.{same_gate}
+use Rattle.aig_image.proofs.Taken.{apart, same_gate}
 
 -- a variable of the first gates is that of one of them
 place_before : (gates : List Gate) (k v : ℕ) → IsAmong v (variables (take k gates))

@@ -1,10 +1,11 @@
 -- Gates in the order in which they are taken.
-use Rattle.std.proofs.Common.{◌≡◌, ◌<◌, ℕ, zero, suc, List, [], ◌∷◌, Some, length, refl, sym, ap, subst, ◌∙◌, inl}
+use Rattle.std.proofs.Common.{◌≡◌, ◌<◌, ℕ, zero, suc, List, [], ◌∷◌, ◌++◌, Some, length, refl, sym, ap, subst, ◌∙◌, inl}
 use Rattle.std.proofs.Common.{inr, ⊎_elim, arith}
 use Rattle.std.specs.List.{AllByRecursion}
 use Rattle.aig_core.specs.declared.circuit.Gate.{Gate}
 use Rattle.aig_core.specs.Wellformed.{IsAmong, AreDistinct}
 use Rattle.aig_core.specs.Order.{TakesLeast, gate_of}
+use Rattle.aig_core.proofs.Cyclic.{among_last}
 use Rattle.aig_core.proofs.Ranked.{at, gate_here, variables}
 use Rattle.aig_image.specs.Reordered.{taken}
 
@@ -24,6 +25,13 @@ module _ (count : ℕ) (needs : ℕ → List ℕ) where
   pub all_there : (seen xs : List ℕ) → TakesLeast count needs seen xs → AllByRecursion (λ g. g < count) xs
   all_there seen [] in_turn = tt
   all_there seen (x ∷ xs) in_turn = (in_turn.0.there, all_there (x ∷ seen) xs in_turn.2)
+
+-- none of the front stands behind it
+pub apart : (xs ys : List ℕ) → AreDistinct (xs ++ ys) → (x : ℕ) → IsAmong x xs → ¬ IsAmong x ys
+apart [] ys once x a b = absurd a
+apart (z ∷ xs) ys once x a b =
+    ⊎_elim (λ (e : x ≡ z). once.0 (among_last xs ys z (subst (λ w. IsAmong w ys) e b)))
+    (λ (i : IsAmong x xs). apart xs ys once.1 x i b) a
 
 -- a variable of gates is that of one of them
 pub place_there : (gates : List Gate) (v : ℕ) → IsAmong v (variables gates)
