@@ -1,5 +1,6 @@
 -- The canonical binary text of a well-formed circuit in binary order is its file.
-use Rattle.std.proofs.Common.{◌≡◌, ◌+◌, ◌-◌, ◌*◌, ◌<◌, ◌≤◌, ◌^◌, ℕ, List, [], ◌∷◌, ◌++◌, map, true, refl, sym, ap, ◌∙◌, inr, append_assoc, append-nil, arith}
+use Rattle.std.proofs.Common.{◌≡◌, ◌+◌, ◌-◌, ◌*◌, ◌<◌, ◌≤◌, ◌^◌, ℕ, List, [], ◌∷◌, ◌++◌, map, true, refl, sym, ap}
+use Rattle.std.proofs.Common.{◌∙◌, inr, append_assoc, append-nil, arith}
 use Rattle.std.specs.List.{AllByRecursion, flat_map}
 use Rattle.aig_core.specs.declared.circuit.TheConstants.{LARGEST}
 use Rattle.aig_core.specs.declared.circuit.Gate.{Gate}
@@ -12,7 +13,8 @@ use Rattle.aig_core.proofs.InForm.{front}
 use Rattle.aig_text.specs.Lines.{Line, lines_of}
 use Rattle.aig_text.specs.AsciiText.{header_text, line_text, tail_text}
 use Rattle.aig_text.specs.Rows.{Row, row, output_form, output_row, header_row}
-use Rattle.aig_text.proofs.Canonical.Lines.{IsFullRow, header_line, row_lines, header_is_first, header_line_is_good, rows_are_first, rows_are_good}
+use Rattle.aig_text.proofs.Canonical.Lines.{IsFullRow, header_line, row_lines, header_is_first, header_line_is_good}
+use Rattle.aig_text.proofs.Canonical.Lines.{rows_are_first, rows_are_good}
 use Rattle.aig_text.proofs.Kept.Plain.{all_joined}
 use Rattle.aig_text.proofs.Grammar.WholeTail.{left_of, right_of}
 use Rattle.aig_binary.proofs.Grammar.Numbered.{next_row}
@@ -33,20 +35,23 @@ unfolding lines_of
 front_lines ns rows small full =
     header_is_first binary_word ns (flat_map line_text rows) (refl, (refl, (refl, tt))) small
     ∙ ap (λ (ls : List Line). header_line binary_word ns ∷ ls)
-    (ap lines_of (sym (append-nil (flat_map line_text rows))) ∙ rows_are_first rows [] full ∙ append-nil (row_lines rows))
+    (ap lines_of (sym (append-nil (flat_map line_text rows))) ∙ rows_are_first rows [] full
+    ∙ append-nil (row_lines rows))
 
 all_ended : (rows : List Row) → AllByRecursion (λ (l : Line). l.ended ≡ true) (row_lines rows)
 all_ended [] = tt
 all_ended (r ∷ rows) = (refl, all_ended rows)
 
-literals_full : {X : Type 0} (m : ℕ) → m ≤ LARGEST → (literal : X → ℕ) (xs : List X) → AllByRecursion (IsLiteralUpTo m) (map literal xs)
+literals_full : {X : Type 0} (m : ℕ) → m ≤ LARGEST → (literal : X → ℕ) (xs : List X)
+    → AllByRecursion (IsLiteralUpTo m) (map literal xs)
     → AllByRecursion IsFullRow (map (row output_form) (map (λ x. output_row (literal x)) xs))
 literals_full m top literal [] h = tt
 literals_full m top literal (x ∷ xs) h =
     let low : literal x ≤ 2 * m + 1 = h.0 in
     (record { some = omega arith; small = (omega arith, tt) }, literals_full m top literal xs h.1)
 
-outputs_full : (m : ℕ) → m ≤ LARGEST → (os : List ℕ) → AllByRecursion (IsLiteralUpTo m) os → AllByRecursion IsFullRow (map (row output_form) (map output_row os) ++ [])
+outputs_full : (m : ℕ) → m ≤ LARGEST → (os : List ℕ) → AllByRecursion (IsLiteralUpTo m) os
+    → AllByRecursion IsFullRow (map (row output_form) (map output_row os) ++ [])
 outputs_full m top [] h = tt
 outputs_full m top (o ∷ os) h =
     let low : o ≤ 2 * m + 1 = h.0 in
@@ -55,9 +60,12 @@ outputs_full m top (o ∷ os) h =
 rows_full : (c : Circuit) → IsInForm c → AllByRecursion IsFullRow (binary_rows_of c)
 rows_full c form =
     let nexts = map (λ (l : Latch). l.next) c.latches in
-    let all : AllByRecursion (IsLiteralUpTo c.max_var) (nexts ++ c.outputs) = front (IsLiteralUpTo c.max_var) (nexts ++ c.outputs) (flat_map operands c.gates) form.literals in
-    all_joined IsFullRow (map (row output_form) (map next_row c.latches)) (map (row output_form) (map output_row c.outputs) ++ [])
-    (literals_full c.max_var form.limits.max_var (λ (l : Latch). l.next) c.latches (left_of (IsLiteralUpTo c.max_var) nexts c.outputs all))
+    let all : AllByRecursion (IsLiteralUpTo c.max_var) (nexts ++ c.outputs) =
+    front (IsLiteralUpTo c.max_var) (nexts ++ c.outputs) (flat_map operands c.gates) form.literals in
+    all_joined IsFullRow (map (row output_form) (map next_row c.latches))
+    (map (row output_form) (map output_row c.outputs) ++ [])
+    (literals_full c.max_var form.limits.max_var (λ (l : Latch). l.next) c.latches
+    (left_of (IsLiteralUpTo c.max_var) nexts c.outputs all))
     (outputs_full c.max_var form.limits.max_var c.outputs (right_of (IsLiteralUpTo c.max_var) nexts c.outputs all))
 
 gates_spelled : (gs : List Gate) → AllByRecursion HasDeltas gs → SpellsGates (flat_map gate_text gs) gs
@@ -79,11 +87,18 @@ gates_spelled (g ∷ gs) h =
       gates_spelled gs h.1,
     )
 
-parts : (c : Circuit) → binary_text c ≡ (header_text binary_word (header_row c) ++ flat_map line_text (binary_rows_of c)) ++ (flat_map gate_text c.gates ++ tail_text c)
+parts : (c : Circuit)
+    → binary_text c
+    ≡ (header_text binary_word (header_row c) ++ flat_map line_text
+    (binary_rows_of c)) ++ (flat_map gate_text c.gates ++ tail_text c)
 unfolding binary_text
-parts c = sym (append_assoc (header_text binary_word (header_row c)) (flat_map line_text (binary_rows_of c)) (flat_map gate_text c.gates ++ tail_text c))
+parts c =
+    sym
+    (append_assoc (header_text binary_word (header_row c)) (flat_map line_text (binary_rows_of c))
+    (flat_map gate_text c.gates ++ tail_text c))
 
-pub canonical_binary : (c : Circuit) → IsWellFormed c → IsInForm c → IsInBinaryOrder c → IsBinaryText (binary_text c) LARGEST c
+pub canonical_binary : (c : Circuit) → IsWellFormed c → IsInForm c → IsInBinaryOrder c
+    → IsBinaryText (binary_text c) LARGEST c
 canonical_binary c good form ordered = record {
   front = header_text binary_word (header_row c) ++ flat_map line_text (binary_rows_of c);
   gates = flat_map gate_text c.gates;
@@ -93,11 +108,14 @@ canonical_binary c good form ordered = record {
   text_is = parts c;
   lines = front_lines (header_row c) (binary_rows_of c) (header_is_small c form.limits) (rows_full c form);
   cut = inr (refl, all_ended (binary_rows_of c));
-  is_header = header_line_is_good binary_word HEADER_NUMBERS (header_row c) (omega arith) (header_is_small c form.limits);
+  is_header =
+      header_line_is_good binary_word HEADER_NUMBERS (header_row c) (omega arith) (header_is_small c form.limits);
   are_rows = rows_are_good (binary_rows_of c) (rows_full c form);
   are_gates = gates_spelled c.gates (gates_have_deltas c form.limits ordered);
   is_tail = tail_is_good c form;
-  limited = (form.limits.max_var, (form.limits.inputs, (form.limits.latches, (form.limits.outputs, (form.limits.gates, tt)))));
+  limited =
+      (form.limits.max_var,
+      (form.limits.inputs, (form.limits.latches, (form.limits.outputs, (form.limits.gates, tt)))));
   ordered = ordered;
   well_formed = good;
 }

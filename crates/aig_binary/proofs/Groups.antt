@@ -1,5 +1,6 @@
 -- Groups of seven bits: what is read at the front of bytes is what is spelled there.
-use Rattle.std.proofs.Common.{◌≡◌, ◌+◌, ◌*◌, ◌%◌, ◌<◌, ◌≤◌, ℕ, zero, suc, List, [], ◌∷◌, ◌++◌, length, Option, None, Some, refl, sym, ap, ◌∙◌, arith, inl, inr}
+use Rattle.std.proofs.Common.{◌≡◌, ◌+◌, ◌*◌, ◌%◌, ◌<◌, ◌≤◌, ℕ, zero, suc, List, [], ◌∷◌, ◌++◌, length, Option, None}
+use Rattle.std.proofs.Common.{Some, refl, sym, ap, ◌∙◌, arith, inl, inr}
 use Rattle.std.proofs.lemmas.Bool.{lt-ltb, le-ltb, cases_lt}
 use Rattle.aig_text.specs.Scanning.{◌>>=◌}
 use Rattle.aig_binary.specs.Delta.{value_of_groups, AreGroups, groups_at}
@@ -27,7 +28,8 @@ pub read_last : (most b : ℕ) (bytes : List ℕ) → b < 128 → groups_at (suc
 unfolding groups_at
 read_last most b bytes h = rw (lt-ltb b 128 h) refl
 
-pub read_more : (most b : ℕ) (bytes : List ℕ) → 128 ≤ b → b < 256 → groups_at (suc most) (b ∷ bytes) ≡ put_low b (groups_at most bytes)
+pub read_more : (most b : ℕ) (bytes : List ℕ) → 128 ≤ b → b < 256
+    → groups_at (suc most) (b ∷ bytes) ≡ put_low b (groups_at most bytes)
 unfolding groups_at
 read_more most b bytes high byte = rw (le-ltb b 128 high, lt-ltb b 256 byte) refl
 
@@ -48,14 +50,17 @@ record IsBehind (b : ℕ) (r : Option (ℕ × List ℕ)) (value : ℕ) (rest : L
   pub read : r ≡ Some (other, rest)
   pub is : b % 128 + 128 * other ≡ value
 
-behind : (b : ℕ) (r : Option (ℕ × List ℕ)) (value : ℕ) (rest : List ℕ) → put_low b r ≡ Some (value, rest) → IsBehind b r value rest
+behind : (b : ℕ) (r : Option (ℕ × List ℕ)) (value : ℕ) (rest : List ℕ) → put_low b r ≡ Some (value, rest)
+    → IsBehind b r value rest
 behind b None value rest h = cc
 behind b (Some x) value rest h =
     let p : (b % 128 + 128 * x.0, x.1) ≡ (value, rest) = cc in
-    record { other = x.0; read = ap (λ (r : List ℕ). Some (x.0, r)) (ap (λ (q : ℕ × List ℕ). q.1) p); is = ap (λ (q : ℕ × List ℕ). q.0) p }
+    record { other = x.0; read = ap (λ (r : List ℕ). Some (x.0, r)) (ap (λ (q : ℕ × List ℕ). q.1) p); is =
+    ap (λ (q : ℕ × List ℕ). q.0) p }
 
 -- what is read is spelled
-pub groups_are : (most : ℕ) (bytes rest : List ℕ) (value : ℕ) → groups_at most bytes ≡ Some (value, rest) → BeginsWithGroups most bytes value rest
+pub groups_are : (most : ℕ) (bytes rest : List ℕ) (value : ℕ) → groups_at most bytes ≡ Some (value, rest)
+    → BeginsWithGroups most bytes value rest
 groups_are most [] rest value h = let none = read_nothing most in cc
 groups_are zero (b ∷ bytes) rest value h = let none = read_no_more b bytes in cc
 groups_are (suc most) (b ∷ bytes) rest value h = elim (cases_lt b 128) [
@@ -85,7 +90,8 @@ groups_are (suc most) (b ∷ bytes) rest value h = elim (cases_lt b 128) [
 ]
 
 -- what is spelled is read
-pub groups_read : (most : ℕ) (d rest : List ℕ) → AreGroups d → length d ≤ most → groups_at most (d ++ rest) ≡ Some (value_of_groups d, rest)
+pub groups_read : (most : ℕ) (d rest : List ℕ) → AreGroups d → length d ≤ most
+    → groups_at most (d ++ rest) ≡ Some (value_of_groups d, rest)
 groups_read most [] rest h short = absurd h
 groups_read zero (b ∷ d) rest h short = absurd (omega arith)
 groups_read (suc most) (b ∷ []) rest h short = read_last most b rest h ∙ ap (λ n. Some (n, rest)) (sym (one_value b h))

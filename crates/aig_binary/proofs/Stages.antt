@@ -1,6 +1,7 @@
 -- The steps of reading a binary file, one after another.
 use Rattle.std.proofs.lemmas.List.{length-map}
-use Rattle.std.proofs.Common.{◌≡◌, ◌+◌, ℕ, zero, suc, List, [], ◌∷◌, map, length, Ok, Err, refl, sym, ap, ◌∙◌, ◌⊎◌, inl, inr}
+use Rattle.std.proofs.Common.{◌≡◌, ◌+◌, ℕ, zero, suc, List, [], ◌∷◌, map, length, Ok, Err, refl, sym, ap, ◌∙◌, ◌⊎◌}
+use Rattle.std.proofs.Common.{inl, inr}
 use Rattle.aig_core.specs.declared.circuit.Circuit.{Circuit}
 use Rattle.aig_core.specs.declared.circuit.Gate.{Gate}
 use Rattle.aig_core.specs.Names.{nothing_named}
@@ -9,7 +10,8 @@ use Rattle.aig_text.specs.Lines.{Line, Ahead, ahead, lines_of}
 use Rattle.aig_text.specs.declared.header_line.Header.{Header}
 use Rattle.aig_text.specs.Rows.{Form, output_of, output_row, latches_from, sections, no_lines, in_binary}
 use Rattle.aig_text.specs.Outcomes.{rows_told}
-use Rattle.aig_text.specs.Reading.{◌>>=◌, Told, at_line, header_at, row_at, rows_at, section_at, sections_at, empty_circuit, tail_at, want_of_memory}
+use Rattle.aig_text.specs.Reading.{◌>>=◌, Told, at_line, header_at, row_at, rows_at, section_at, sections_at}
+use Rattle.aig_text.specs.Reading.{empty_circuit, tail_at, want_of_memory}
 use Rattle.aig_text.proofs.Loops.Cutting.{pieces}
 use Rattle.aig_text.proofs.Steps.{both_ok}
 use Rattle.aig_binary.specs.BinaryGrammar.{binary_word}
@@ -21,7 +23,8 @@ module _ (h : Header) (c : Circuit) where
   abbrev with_nexts : List (List ℕ) × Ahead → Told Circuit
   with_nexts told = Ok (record c { latches = latches_from (1 + h.inputs) told.0 }, told.1)
 
-  pub nexts_make_latches : (r : Told (List (List ℕ))) (nexts : List ℕ) (after : Ahead) → rows_told output_of [] r ≡ Ok (nexts, after)
+  pub nexts_make_latches : (r : Told (List (List ℕ))) (nexts : List ℕ) (after : Ahead)
+      → rows_told output_of [] r ≡ Ok (nexts, after)
       → (r >>= with_nexts) ≡ Ok (record c { latches = latches_from (1 + h.inputs) (map output_row nexts) }, after)
   nexts_make_latches (Ok x) nexts after told =
       let p : (map output_of x.0, x.1) ≡ (nexts, after) = cc in
@@ -33,7 +36,8 @@ module _ (h : Header) (c : Circuit) where
   no_nexts (Ok x) e told = cc
   no_nexts (Err f) e told = let same : f ≡ e = cc in ap (λ (g : ReadFault). Err g) same
 
-  pub no_latches : (r : Told (List (List ℕ))) (e : ReadFault) → (e ≡ want_of_memory) ⊎ (rows_told output_of [] r ≡ Err e)
+  pub no_latches : (r : Told (List (List ℕ))) (e : ReadFault)
+      → (e ≡ want_of_memory) ⊎ (rows_told output_of [] r ≡ Err e)
       → (e ≡ want_of_memory) ⊎ ((r >>= with_nexts) ≡ Err e)
   no_latches r e (inl m) = inl m
   no_latches r e (inr told) = inr (no_nexts r e told)
@@ -54,27 +58,32 @@ module _ (limit : ℕ) (ls : List Line) where
     not_filled e r = rw (is, r) refl
 
     module _ (h : Header) (all : at_line 1 (filled p) ≡ Ok h) where
-      pub no_sections : (e : ReadFault) → (e ≡ want_of_memory) ⊎ (sections_at in_binary h sections (empty_circuit h.max_var) at ≡ Err e)
+      pub no_sections : (e : ReadFault)
+          → (e ≡ want_of_memory) ⊎ (sections_at in_binary h sections (empty_circuit h.max_var) at ≡ Err e)
           → (e ≡ want_of_memory) ⊎ (binary_at limit ls ≡ Err e)
       unfolding binary_at
       no_sections e (inl m) = inl m
       no_sections e (inr r) = inr (rw (is, all, r) refl)
 
       module _ (c : Circuit) (n : ℕ) (bytes : List ℕ)
-          (told : sections_at in_binary h sections (empty_circuit h.max_var) at ≡ Ok (c, ahead n (lines_of bytes))) where
-        pub no_gates : (e : ReadFault) → (e ≡ want_of_memory) ⊎ (gates_at (1 + h.inputs + h.latches) 1 h.gates bytes ≡ Err e)
+          (told : sections_at in_binary h sections (empty_circuit h.max_var) at ≡ Ok (c, ahead n (lines_of bytes)))
+          where
+        pub no_gates : (e : ReadFault)
+            → (e ≡ want_of_memory) ⊎ (gates_at (1 + h.inputs + h.latches) 1 h.gates bytes ≡ Err e)
             → (e ≡ want_of_memory) ⊎ (binary_at limit ls ≡ Err e)
         unfolding binary_at
         no_gates e (inl m) = inl m
         no_gates e (inr r) = let j = (pieces bytes).joined in inr (rw (is, all, told, j, r) refl)
 
-        pub then_tail : (gates : List Gate) (behind : List ℕ) → gates_at (1 + h.inputs + h.latches) 1 h.gates bytes ≡ Ok (gates, behind)
+        pub then_tail : (gates : List Gate) (behind : List ℕ)
+            → gates_at (1 + h.inputs + h.latches) 1 h.gates bytes ≡ Ok (gates, behind)
             → binary_at limit ls ≡ tail_at h nothing_named (with_definitions h gates c) n (lines_of behind)
         unfolding binary_at
         then_tail gates behind g = let j = (pieces bytes).joined in rw (is, all, told, j, g) refl
 
 -- so many rows are read
-rows_count : (form : Form) (max_var count : ℕ) (at after : Ahead) (rows : List (List ℕ)) → rows_at form max_var count at ≡ Ok (rows, after)
+rows_count : (form : Form) (max_var count : ℕ) (at after : Ahead) (rows : List (List ℕ))
+    → rows_at form max_var count at ≡ Ok (rows, after)
     → length rows ≡ count
 unfolding rows_at
 rows_count form max_var zero at after rows h =
@@ -94,7 +103,8 @@ told_rows (Ok x) ns after h =
     (x.0, ap (λ (q : List ℕ × Ahead). Ok (x.0, q.1)) p, sym (ap (λ (q : List ℕ × Ahead). q.0) p))
 told_rows (Err e) ns after h = cc
 
-pub told_count : (form : Form) (max_var count : ℕ) (at after : Ahead) (ns : List ℕ) → rows_told output_of [] (rows_at form max_var count at) ≡ Ok (ns, after)
+pub told_count : (form : Form) (max_var count : ℕ) (at after : Ahead) (ns : List ℕ)
+    → rows_told output_of [] (rows_at form max_var count at) ≡ Ok (ns, after)
     → length ns ≡ count
 told_count form max_var count at after ns h =
     let a = told_rows (rows_at form max_var count at) ns after h in

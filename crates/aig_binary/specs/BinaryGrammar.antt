@@ -34,7 +34,8 @@ pub record SpellsGate (bytes : List ℕ) (g : Gate) : Type 0 where
 -- gates, one after the other
 abbrev pub SpellsGates : List ℕ → List Gate → Type 0
 SpellsGates bytes [] = bytes ≡ []
-SpellsGates bytes (g ∷ gs) = (first : List ℕ) × (rest : List ℕ) × (bytes ≡ first ++ rest) × SpellsGate first g × SpellsGates rest gs
+SpellsGates bytes (g ∷ gs) =
+    (first : List ℕ) × (rest : List ℕ) × (bytes ≡ first ++ rest) × SpellsGate first g × SpellsGates rest gs
 
 -- where something follows, each line before it has its line feed
 abbrev pub EndsBefore : List Line → List ℕ → Type 0

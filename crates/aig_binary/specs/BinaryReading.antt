@@ -1,6 +1,7 @@
--- What a text is read as, as a binary file, or its first fault (this project's profile): the first line or gate that is not
--- right for its place, with the first kind that applies. A binary file has no fault of structure.
-use Rattle.std.specs.Prelude.{◌+◌, ◌-◌, ◌==◌, ◌&&◌, ◌||◌, ℕ, zero, suc, List, [], ◌∷◌, length, nat_lt, nat_le, Option, None, Some, Result, Ok, Err, if◌then◌else◌}
+-- What a text is read as, as a binary file, or its first fault (this project's profile): the first line or gate that
+-- is not right for its place, with the first kind that applies. A binary file has no fault of structure.
+use Rattle.std.specs.Prelude.{◌+◌, ◌-◌, ◌==◌, ◌&&◌, ◌||◌, ℕ, zero, suc, List, [], ◌∷◌, length, nat_lt, nat_le, Option}
+use Rattle.std.specs.Prelude.{None, Some, Result, Ok, Err, if◌then◌else◌}
 use Rattle.std.specs.List.{list_all, range_with_len}
 use Rattle.aig_core.specs.declared.circuit.Gate.{Gate}
 use Rattle.aig_core.specs.declared.circuit.Circuit.{Circuit}
@@ -21,9 +22,11 @@ use Rattle.aig_binary.specs.Delta.{delta_at}
 abbrev pub filled : Header → Result Header ReadKind
 filled h = if h.max_var == h.inputs + h.latches + h.gates then Ok h else Err kinds.BadHeader
 
--- Why no delta stands there. The file ends too early where fewer than five bytes are left, and none of them ends a delta.
+-- Why no delta stands there. The file ends too early where fewer than five bytes are left, and none of them ends a
+-- delta.
 abbrev pub no_delta : List ℕ → ReadKind
-no_delta bytes = if nat_lt (length bytes) 5 && list_all (λ b. nat_le 128 b) bytes then kinds.Truncated else kinds.BadDelta
+no_delta bytes =
+    if nat_lt (length bytes) 5 && list_all (λ b. nat_le 128 b) bytes then kinds.Truncated else kinds.BadDelta
 
 -- what is left of a literal less the delta that was found, which is at least so much
 abbrev pub lowered : ℕ → ℕ → ReadKind → Option (ℕ × List ℕ) → Result (ℕ × List ℕ) ReadKind

@@ -1,5 +1,5 @@
--- The canonical binary text of a circuit in binary order (this project's profile): canonical lines, and of each gate the
--- shortest spellings of its two deltas.
+-- The canonical binary text of a circuit in binary order (this project's profile): canonical lines, and of each gate
+-- the shortest spellings of its two deltas.
 use Rattle.std.specs.Prelude.{◌-◌, ℕ, List, ◌++◌}
 use Rattle.std.specs.List.{flat_map}
 use Rattle.aig_core.specs.declared.circuit.Gate.{Gate}
@@ -15,4 +15,5 @@ gate_text g = shortest_delta (literal_of g.var - g.left) ++ shortest_delta (g.le
 
 unfoldable pub binary_text : Circuit → List ℕ
 binary_text c =
-    header_text binary_word (header_row c) ++ (flat_map line_text (binary_rows_of c) ++ (flat_map gate_text c.gates ++ tail_text c))
+    header_text binary_word (header_row c)
+    ++ (flat_map line_text (binary_rows_of c) ++ (flat_map gate_text c.gates ++ tail_text c))

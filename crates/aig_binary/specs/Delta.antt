@@ -1,7 +1,8 @@
 -- Deltas: how a binary file spells numbers, in groups of seven bits, the lowest first, where the top bit says that
 -- another group follows (AIGER report). That a number takes five bytes at most, and need not take the fewest, is this
 -- project's profile.
-use Rattle.std.specs.Prelude.{◌≡◌, ◌+◌, ◌*◌, ◌/◌, ◌%◌, ◌^◌, ◌<◌, ◌≤◌, ◌⊎◌, ℕ, zero, suc, List, [], ◌∷◌, length, take, nat_lt, Option, None, Some, if◌then◌else◌}
+use Rattle.std.specs.Prelude.{◌≡◌, ◌+◌, ◌*◌, ◌/◌, ◌%◌, ◌^◌, ◌<◌, ◌≤◌, ◌⊎◌, ℕ, zero, suc, List, [], ◌∷◌, length, take}
+use Rattle.std.specs.Prelude.{nat_lt, Option, None, Some, if◌then◌else◌}
 use Rattle.aig_text.specs.Scanning.{◌>>=◌}
 
 -- the number that groups of seven bits spell, the lowest first
@@ -38,7 +39,8 @@ IsShortest bytes = (length bytes ≡ 1) ⊎ (0 < last_byte bytes)
 -- a group, and as many more as the number wants, at most so many
 unfoldable pub shortest_groups : ℕ → ℕ → List ℕ
 shortest_groups zero value = value ∷ []
-shortest_groups (suc more) value = if nat_lt value 128 then value ∷ [] else (128 + value % 128) ∷ shortest_groups more (value / 128)
+shortest_groups (suc more) value =
+    if nat_lt value 128 then value ∷ [] else (128 + value % 128) ∷ shortest_groups more (value / 128)
 
 -- the shortest spelling of a number below 2^32
 unfoldable pub shortest_delta : ℕ → List ℕ

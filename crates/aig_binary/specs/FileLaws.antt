@@ -10,7 +10,8 @@ use Rattle.aig_binary.specs.BinaryReading.{binary_reading, first_binary_fault}
 
 -- what is read is exactly the circuit whose file the text is
 abbrev pub BinaryReadExactly : Type 0
-BinaryReadExactly = (text : List ℕ) (limit : ℕ) (c : Circuit) → (binary_reading limit text ≡ Ok c) ↔ IsBinaryText text limit c
+BinaryReadExactly =
+    (text : List ℕ) (limit : ℕ) (c : Circuit) → (binary_reading limit text ≡ Ok c) ↔ IsBinaryText text limit c
 
 -- a text is the file of a circuit exactly where it has no fault
 abbrev pub BinaryFaultyOrAccepted : Type 0

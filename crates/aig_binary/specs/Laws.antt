@@ -4,7 +4,8 @@ use Rattle.aig_binary.specs.Delta.{IsDelta, IsShortest, shortest_delta, delta_at
 
 -- the shortest spelling of a number is one of its spellings, and none could be shorter
 abbrev pub ShortestIsDelta : Type 0
-ShortestIsDelta = (value : ℕ) → value < 2 ^ 32 → IsDelta (shortest_delta value) value × IsShortest (shortest_delta value)
+ShortestIsDelta =
+    (value : ℕ) → value < 2 ^ 32 → IsDelta (shortest_delta value) value × IsShortest (shortest_delta value)
 
 -- there is no other shortest spelling
 abbrev pub ShortestIsOne : Type 0
@@ -13,9 +14,11 @@ ShortestIsOne = (bytes : List ℕ) (value : ℕ) → IsDelta bytes value → IsS
 -- one front of bytes spells a number at most, and it spells one number
 abbrev pub DeltasAreUnambiguous : Type 0
 DeltasAreUnambiguous =
-    (a b rest others : List ℕ) (value other : ℕ) → IsDelta a value → IsDelta b other → a ++ rest ≡ b ++ others → (a ≡ b) × (value ≡ other)
+    (a b rest others : List ℕ) (value other : ℕ) → IsDelta a value → IsDelta b other → a ++ rest ≡ b ++ others
+    → (a ≡ b) × (value ≡ other)
 
 -- what is read at the front of bytes is exactly the number that is spelled there
 abbrev pub ReadExactly : Type 0
 ReadExactly =
-    (bytes rest : List ℕ) (value : ℕ) → (delta_at bytes ≡ Some (value, rest)) ↔ ((d : List ℕ) × (bytes ≡ d ++ rest) × IsDelta d value)
+    (bytes rest : List ℕ) (value : ℕ)
+    → (delta_at bytes ≡ Some (value, rest)) ↔ ((d : List ℕ) × (bytes ≡ d ++ rest) × IsDelta d value)

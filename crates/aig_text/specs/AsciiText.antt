@@ -1,4 +1,5 @@
--- The canonical ASCII text of a circuit (this project's profile): canonical numbers, single spaces, a line feed after each line.
+-- The canonical ASCII text of a circuit (this project's profile): canonical numbers, single spaces, a line feed after
+-- each line.
 use Rattle.std.specs.Prelude.{ℕ, List, [], ◌∷◌, ◌++◌, Option, None, Some, codes, decimal}
 use Rattle.std.specs.List.{flat_map}
 use Rattle.aig_core.specs.declared.circuit.Symbol.{Symbol}

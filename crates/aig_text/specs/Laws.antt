@@ -45,11 +45,13 @@ ReadExactly = (text : List ℕ) (limit : ℕ) (c : Circuit) → (reading limit t
 
 -- a text is the file of a circuit exactly where it has no fault
 abbrev pub FaultyOrAccepted : Type 0
-FaultyOrAccepted = (text : List ℕ) (limit : ℕ) → (first_fault limit text ≡ None) ↔ ((c : Circuit) × IsAsciiText text limit c)
+FaultyOrAccepted =
+    (text : List ℕ) (limit : ℕ) → (first_fault limit text ≡ None) ↔ ((c : Circuit) × IsAsciiText text limit c)
 
 -- a text is the file of one circuit at most
 abbrev pub TextsAreUnambiguous : Type 0
-TextsAreUnambiguous = (text : List ℕ) (limit : ℕ) (c d : Circuit) → IsAsciiText text limit c → IsAsciiText text limit d → c ≡ d
+TextsAreUnambiguous =
+    (text : List ℕ) (limit : ℕ) (c d : Circuit) → IsAsciiText text limit c → IsAsciiText text limit d → c ≡ d
 
 -- the canonical text of a well-formed circuit is its file
 abbrev pub CanonicalTextIsAccepted : Type 0
@@ -81,7 +83,8 @@ HoldsHeader word l ns = IsHeaderLine word HEADER_NUMBERS l ns × (length ns ≡ 
 abbrev pub HeadersReadExactly : Type 0
 HeadersReadExactly =
     (word : List ℕ) (l : Line) (ns : List ℕ) → IsOneWord word
-    → ((begins_with_word word l.text ≡ true) × (more_numbers_at l.ended HEADER_NUMBERS HEADER_NUMBERS (drop (length word) l.text) ≡ Some ns))
+    → ((begins_with_word word l.text ≡ true)
+    × (more_numbers_at l.ended HEADER_NUMBERS HEADER_NUMBERS (drop (length word) l.text) ≡ Some ns))
     ↔ HoldsHeader word l ns
 
 -- from left to right a symbol is read exactly where the line names it

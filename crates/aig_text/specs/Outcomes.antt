@@ -1,5 +1,7 @@
--- How what a function of the reader returned is compared with what is read: seen by a view, and unless memory was refused.
-use Rattle.std.specs.Prelude.{◌≡◌, ◌+◌, ◌*◌, ◌≤◌, ◌++◌, ◌⊎◌, ℕ, List, map, slice_index, Option, None, Some, Result, Ok, Err}
+-- How what a function of the reader returned is compared with what is read: seen by a view, and unless memory was
+-- refused.
+use Rattle.std.specs.Prelude.{◌≡◌, ◌+◌, ◌*◌, ◌≤◌, ◌++◌, ◌⊎◌, ℕ, List, map, slice_index, Option, None, Some, Result}
+use Rattle.std.specs.Prelude.{Ok, Err}
 use Rattle.aig_text.specs.declared.fault.ReadFault.{ReadFault}
 use Rattle.aig_text.specs.Reading.{want_of_memory, Told}
 

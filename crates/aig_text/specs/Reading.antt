@@ -1,6 +1,8 @@
--- What a text is read as, or its first fault (this project's profile): the first line that is not right for its place, with
--- the first kind that applies; only where every line is right, the first structural fault of the circuit.
-use Rattle.std.specs.Prelude.{◌≡◌, ◌+◌, ◌*◌, ◌%◌, ◌==◌, ◌||◌, ◌⊎◌, ◌++◌, ℕ, zero, suc, List, [], ◌∷◌, min, drop, length, slice_index, Bool, false, nat_lt, nat_le, Option, None, Some, Result, Ok, Err, if◌then◌else◌}
+-- What a text is read as, or its first fault (this project's profile): the first line that is not right for its
+-- place, with the first kind that applies; only where every line is right, the first structural fault of the circuit.
+use Rattle.std.specs.Prelude.{◌≡◌, ◌+◌, ◌*◌, ◌%◌, ◌==◌, ◌||◌, ◌⊎◌, ◌++◌, ℕ, zero, suc, List, [], ◌∷◌, min, drop}
+use Rattle.std.specs.Prelude.{length, slice_index, Bool, false, nat_lt, nat_le, Option, None, Some, Result, Ok, Err}
+use Rattle.std.specs.Prelude.{if◌then◌else◌}
 use Rattle.std.specs.List.{list_any, before_first, zip}
 use Rattle.std.specs.Str.{bytes_eq}
 use Rattle.aig_core.specs.declared.circuit.Circuit.{Circuit}
@@ -69,7 +71,8 @@ header_within limit (Some ns) =
 unfoldable pub header_of : List ℕ → ℕ → Line → Result Header ReadKind
 header_of word limit l =
     if begins_with_word word l.text
-    then header_within (min limit LARGEST) (more_numbers_at l.ended HEADER_NUMBERS HEADER_NUMBERS (drop (length word) l.text))
+    then header_within (min limit LARGEST)
+    (more_numbers_at l.ended HEADER_NUMBERS HEADER_NUMBERS (drop (length word) l.text))
     else Err kinds.NotAiger
 
 -- a number that cannot be a definition: an odd one or a constant

@@ -1,5 +1,5 @@
--- What the numbered lines of a file hold (AIGER report): a section for the inputs, the latches, the outputs and the gates,
--- and a row of numbers for each of them.
+-- What the numbered lines of a file hold (AIGER report): a section for the inputs, the latches, the outputs and the
+-- gates, and a row of numbers for each of them.
 use Rattle.std.specs.Prelude.{◌+◌, ◌++◌, ℕ, suc, List, [], ◌∷◌, map, length, slice_index, codes}
 use Rattle.std.specs.List.{flat_map}
 use Rattle.aig_core.specs.declared.circuit.Latch.{Latch}
@@ -111,9 +111,11 @@ no_lines = record { form = output_form; count = λ h c. 0; rows = λ c. []; with
 -- latches of this variable and the next ones, by the rows of their next literals
 unfoldable pub latches_from : ℕ → List (List ℕ) → List Latch
 latches_from variable [] = []
-latches_from variable (next ∷ nexts) = record { var = variable; next = output_of next } ∷ latches_from (suc variable) nexts
+latches_from variable (next ∷ nexts) =
+    record { var = variable; next = output_of next } ∷ latches_from (suc variable) nexts
 
--- each section in a binary file: its inputs are the first variables, its latches the next ones, and its gates are no lines
+-- each section in a binary file: its inputs are the first variables, its latches the next ones, and its gates are no
+-- lines
 abbrev pub in_binary : Section → Listed
 in_binary Inputs = no_lines
 in_binary Latches = record {

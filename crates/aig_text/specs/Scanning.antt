@@ -1,5 +1,6 @@
 -- What stands at the front of bytes, read from left to right.
-use Rattle.std.specs.Prelude.{◌-◌, ◌==◌, ◌&&◌, ◌||◌, ℕ, zero, suc, List, [], ◌∷◌, length, take, drop, slice_index, Bool, false, Option, None, Some, if◌then◌else◌}
+use Rattle.std.specs.Prelude.{◌-◌, ◌==◌, ◌&&◌, ◌||◌, ℕ, zero, suc, List, [], ◌∷◌, length, take, drop, slice_index}
+use Rattle.std.specs.Prelude.{Bool, false, Option, None, Some, if◌then◌else◌}
 use Rattle.std.specs.List.{prefix_len}
 use Rattle.aig_core.specs.declared.circuit.Kind.{Kind}
 use Rattle.aig_core.specs.declared.circuit.Kind.TheVariants.{Input, Latch, Output}
@@ -14,7 +15,8 @@ None >>= f = None
 
 -- the number at the front, and what follows it
 unfoldable pub number_at : List ℕ → Option (ℕ × List ℕ)
-number_at bytes = let n = prefix_len is_digit bytes in if n == 0 then None else Some (value_of (take n bytes), drop n bytes)
+number_at bytes =
+    let n = prefix_len is_digit bytes in if n == 0 then None else Some (value_of (take n bytes), drop n bytes)
 
 -- what follows one or more spaces
 unfoldable pub after_gap : List ℕ → Option (List ℕ)

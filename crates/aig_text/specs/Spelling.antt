@@ -1,6 +1,7 @@
--- How numbers are spelled in a line: decimal digits, with spaces between numbers (AIGER report); leading zeros, more than
--- one space, and how a line may end are this project's profile.
-use Rattle.std.specs.Prelude.{◌≡◌, ◌+◌, ◌-◌, ◌*◌, ◌<◌, ◌≤◌, ◌==◌, ◌&&◌, ◌⊎◌, ℕ, List, [], ◌∷◌, ◌++◌, length, fold, replicate, Bool, true, nat_le}
+-- How numbers are spelled in a line: decimal digits, with spaces between numbers (AIGER report); leading zeros, more
+-- than one space, and how a line may end are this project's profile.
+use Rattle.std.specs.Prelude.{◌≡◌, ◌+◌, ◌-◌, ◌*◌, ◌<◌, ◌≤◌, ◌==◌, ◌&&◌, ◌⊎◌, ℕ, List, [], ◌∷◌, ◌++◌, length, fold}
+use Rattle.std.specs.Prelude.{replicate, Bool, true, nat_le}
 use Rattle.std.specs.List.{AllByRecursion}
 use Rattle.aig_text.specs.Lines.{Line}
 

@@ -23,7 +23,8 @@ use Rattle.aig_binary.proofs.Grammar.Numbered.{numbered_circuit, rows_are, liter
 use Rattle.aig_binary.proofs.Grammar.Told.{TellsBinary, binary_told}
 
 -- what the tail adds changes no order
-order_kept : (c : Circuit) (ss : List Symbol) (comment : Option (List ℕ)) → IsInBinaryOrder c → IsInBinaryOrder (with_tail c ss comment)
+order_kept : (c : Circuit) (ss : List Symbol) (comment : Option (List ℕ)) → IsInBinaryOrder c
+    → IsInBinaryOrder (with_tail c ss comment)
 order_kept c ss comment o = record { inputs = o.inputs; latches = o.latches; gates = o.gates; all = o.all }
 
 module _ (limit : ℕ) (ls : List Line) (c : Circuit) (t : TellsBinary limit ls c) where
@@ -33,20 +34,26 @@ module _ (limit : ℕ) (ls : List Line) (c : Circuit) (t : TellsBinary limit ls 
   counts : HasCounts t.header c
   counts =
       sym (ap header_row t.numbers.tail.circuit)
-      ∙ counts_are t.header t.numbers.nexts t.numbers.outputs t.numbers.gates t.numbers.fit_nexts.counted t.numbers.fit_outputs.counted t.numbers.are_gates.counted
+      ∙ counts_are t.header t.numbers.nexts t.numbers.outputs t.numbers.gates t.numbers.fit_nexts.counted
+      t.numbers.fit_outputs.counted t.numbers.are_gates.counted
 
   pub ordered : IsInBinaryOrder c
   ordered =
       subst IsInBinaryOrder t.numbers.tail.circuit (order_kept numbered t.numbers.tail.symbols t.numbers.tail.comment
-      (order_is t.header t.numbers.nexts t.numbers.outputs t.numbers.gates t.numbers.fit_nexts.counted t.numbers.are_gates.counted t.full t.numbers.are_gates.ordered))
+      (order_is t.header t.numbers.nexts t.numbers.outputs t.numbers.gates t.numbers.fit_nexts.counted
+      t.numbers.are_gates.counted t.full t.numbers.are_gates.ordered))
 
   literals : HasLiteralsUpTo c
-  literals = subst HasLiteralsUpTo t.numbers.tail.circuit (literals_are t.header t.numbers.nexts t.numbers.outputs t.numbers.gates t.numbers.fit_nexts.good t.numbers.fit_outputs.good)
+  literals =
+      subst HasLiteralsUpTo t.numbers.tail.circuit
+      (literals_are t.header t.numbers.nexts t.numbers.outputs t.numbers.gates t.numbers.fit_nexts.good
+      t.numbers.fit_outputs.good)
 
   pub sound : IsWellFormed c
   sound =
       well_formed c ordered literals (within_limits binary_word limit t.first t.header c t.heads counts)
-      (good_symbols t.header numbered c (lines_of t.numbers.rest) t.numbers.tail refl counts (pieces t.numbers.rest).one_each)
+      (good_symbols t.header numbered c (lines_of t.numbers.rest) t.numbers.tail refl counts
+      (pieces t.numbers.rest).one_each)
 
   -- the lines in front of the gates
   abbrev front : List Line
@@ -58,15 +65,18 @@ module _ (limit : ℕ) (ls : List Line) (c : Circuit) (t : TellsBinary limit ls 
   rows_spelled : AllZip IsRowLine t.numbers.front (binary_rows_of c)
   rows_spelled =
       subst (λ (rs : List Row). AllZip IsRowLine t.numbers.front rs)
-      (rows_are t.header t.numbers.nexts t.numbers.outputs t.numbers.gates t.numbers.fit_nexts.good t.numbers.fit_outputs.good ∙ ap binary_rows_of t.numbers.tail.circuit)
+      (rows_are t.header t.numbers.nexts t.numbers.outputs t.numbers.gates
+      t.numbers.fit_nexts.good t.numbers.fit_outputs.good ∙ ap binary_rows_of t.numbers.tail.circuit)
       t.numbers.spelled
 
 -- a text whose lines tell a circuit is its file
-told_is_accepted : (limit : ℕ) (text : List ℕ) (c : Circuit) → TellsBinary limit (lines_of text) c → IsBinaryText text limit c
+told_is_accepted : (limit : ℕ) (text : List ℕ) (c : Circuit) → TellsBinary limit (lines_of text) c
+    → IsBinaryText text limit c
 told_is_accepted limit text c t =
     let ls : List Line = lines_of text in
     let cut : ls ≡ front limit ls c t ++ t.numbers.last = lines limit ls c t in
-    let one : AllByRecursion IsOneLine (front limit ls c t ++ t.numbers.last) = subst (λ (ks : List Line). AllByRecursion IsOneLine ks) cut (pieces text).one_each in
+    let one : AllByRecursion IsOneLine (front limit ls c t ++ t.numbers.last) =
+    subst (λ (ks : List Line). AllByRecursion IsOneLine ks) cut (pieces text).one_each in
     let ended : EndInLineFeeds (front limit ls c t ++ t.numbers.last) = subst EndInLineFeeds cut (pieces text).ended in
     record {
       front = bytes_of (front limit ls c t);
@@ -77,12 +87,19 @@ told_is_accepted limit text c t =
       text_is =
           sym (pieces text).joined ∙ ap bytes_of cut ∙ bytes_joined (front limit ls c t) t.numbers.last
           ∙ ap (λ (bytes : List ℕ). bytes_of (front limit ls c t) ++ bytes) t.numbers.are_gates.are;
-      lines = lines_again (front limit ls c t) (left_of IsOneLine (front limit ls c t) t.numbers.last one) (first_ended (front limit ls c t) t.numbers.last ended);
-      cut = subst (EndsBefore (front limit ls c t)) t.numbers.are_gates.are (ended_before (front limit ls c t) t.numbers.last ended);
+      lines =
+          lines_again (front limit ls c t) (left_of IsOneLine (front limit ls c t) t.numbers.last one)
+          (first_ended (front limit ls c t) t.numbers.last ended);
+      cut =
+          subst (EndsBefore (front limit ls c t)) t.numbers.are_gates.are
+          (ended_before (front limit ls c t) t.numbers.last ended);
       is_header = heads binary_word limit t.first t.header c t.heads (counts limit ls c t);
       are_rows = rows_spelled limit ls c t;
-      are_gates = subst (λ (gs : List Gate). SpellsGates t.numbers.are_gates.spelling gs) (ap (λ (d : Circuit). d.gates) t.numbers.tail.circuit) t.numbers.are_gates.spelled;
-      is_tail = tail_holds t.header nothing_named (numbered limit ls c t) c (lines_of t.numbers.rest) t.numbers.tail refl;
+      are_gates =
+          subst (λ (gs : List Gate). SpellsGates t.numbers.are_gates.spelling gs)
+          (ap (λ (d : Circuit). d.gates) t.numbers.tail.circuit) t.numbers.are_gates.spelled;
+      is_tail =
+          tail_holds t.header nothing_named (numbered limit ls c t) c (lines_of t.numbers.rest) t.numbers.tail refl;
       limited = limited binary_word limit t.first t.header c t.heads (counts limit ls c t);
       ordered = ordered limit ls c t;
       well_formed = sound limit ls c t;
@@ -96,5 +113,6 @@ pub read_is_well_formed : (limit : ℕ) (ls : List Line) (c : Circuit) → binar
 read_is_well_formed limit ls c is = sound limit ls c (binary_told limit ls c is)
 
 -- a text that is read is the file of the circuit
-pub reading_is_accepted : (limit : ℕ) (text : List ℕ) (c : Circuit) → binary_reading limit text ≡ Ok c → IsBinaryText text limit c
+pub reading_is_accepted : (limit : ℕ) (text : List ℕ) (c : Circuit) → binary_reading limit text ≡ Ok c
+    → IsBinaryText text limit c
 reading_is_accepted limit text c is = told_is_accepted limit text c (binary_told limit (lines_of text) c is)

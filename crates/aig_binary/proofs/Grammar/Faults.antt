@@ -13,23 +13,28 @@ no_fault_is_ok : {A : Type 0} (r : Result A ReadFault) → fault_of r ≡ None �
 no_fault_is_ok (Ok x) h = (x, refl)
 no_fault_is_ok (Err e) h = cc
 
-pub read_without_fault : (limit : ℕ) (text : List ℕ) → first_binary_fault limit text ≡ None → (c : Circuit) × (binary_reading limit text ≡ Ok c)
+pub read_without_fault : (limit : ℕ) (text : List ℕ) → first_binary_fault limit text ≡ None
+    → (c : Circuit) × (binary_reading limit text ≡ Ok c)
 read_without_fault limit text h = no_fault_is_ok (binary_reading limit text) h
 
 -- the fault of a line or a gate is the first fault
-pub line_fault : (limit : ℕ) (text : List ℕ) (e : ReadFault) → (e ≡ want_of_memory) ⊎ (binary_at limit (lines_of text) ≡ Err e) → IsFirstFault e (first_binary_fault limit text)
+pub line_fault : (limit : ℕ) (text : List ℕ) (e : ReadFault)
+    → (e ≡ want_of_memory) ⊎ (binary_at limit (lines_of text) ≡ Err e) → IsFirstFault e (first_binary_fault limit text)
 line_fault limit text e (inl m) = inl m
 line_fault limit text e (inr h) = inr (ap fault_of h)
 
 -- the file of a circuit has no fault
-pub no_fault : (limit : ℕ) (text : List ℕ) (c : Circuit) → IsBinaryText text limit c → first_binary_fault limit text ≡ None
+pub no_fault : (limit : ℕ) (text : List ℕ) (c : Circuit) → IsBinaryText text limit c
+    → first_binary_fault limit text ≡ None
 no_fault limit text c a = ap fault_of (accepted_is_read text limit c a)
 
 -- a text that is the file of a circuit is refused only for want of memory
-pub memory_only : (limit : ℕ) (text : List ℕ) (c : Circuit) (e : ReadFault) → IsFirstFault e (first_binary_fault limit text) → IsBinaryText text limit c → e ≡ want_of_memory
+pub memory_only : (limit : ℕ) (text : List ℕ) (c : Circuit) (e : ReadFault)
+    → IsFirstFault e (first_binary_fault limit text) → IsBinaryText text limit c → e ≡ want_of_memory
 memory_only limit text c e (inl m) a = m
 memory_only limit text c e (inr h) a = let none : first_binary_fault limit text ≡ None = no_fault limit text c a in cc
 
 -- and it is the file of no other circuit
-pub one_circuit : (limit : ℕ) (text : List ℕ) (c d : Circuit) → binary_reading limit text ≡ Ok d → IsBinaryText text limit c → d ≡ c
+pub one_circuit : (limit : ℕ) (text : List ℕ) (c d : Circuit) → binary_reading limit text ≡ Ok d
+    → IsBinaryText text limit c → d ≡ c
 one_circuit limit text c d h a = let same : binary_reading limit text ≡ Ok c = accepted_is_read text limit c a in cc

@@ -50,10 +50,12 @@ pub record TellsBinary (limit : ℕ) (ls : List Line) (c : Circuit) : Type 0 whe
   pub numbers : TellsNumbers header others c
 
 abbrev then_tail : Header → Circuit × Ahead → List Gate × List ℕ → Result Circuit ReadFault
-then_tail h numbered gates = tail_at h nothing_named (with_definitions h gates.0 numbered.0) numbered.1.number (lines_of gates.1)
+then_tail h numbered gates =
+    tail_at h nothing_named (with_definitions h gates.0 numbered.0) numbered.1.number (lines_of gates.1)
 
 abbrev then_gates : Header → Circuit × Ahead → Result Circuit ReadFault
-then_gates h numbered = gates_at (1 + h.inputs + h.latches) 1 h.gates (bytes_of numbered.1.lines) >>= then_tail h numbered
+then_gates h numbered =
+    gates_at (1 + h.inputs + h.latches) 1 h.gates (bytes_of numbered.1.lines) >>= then_tail h numbered
 
 abbrev numbers_at : Header → Ahead → Result Circuit ReadFault
 numbers_at h at = sections_at in_binary h sections (empty_circuit h.max_var) at >>= then_gates h
@@ -79,7 +81,8 @@ record TwoSections (h : Header) (c : Circuit) (told : List (List (List ℕ))) : 
   pub fit_outputs : FitRows output_form h.max_var h.outputs outputs
   pub circuit : with_lines h nexts outputs ≡ c
 
-two : (h : Header) (c : Circuit) (told : List (List (List ℕ))) → AllFit in_binary h sections told (empty_circuit h.max_var)
+two : (h : Header) (c : Circuit) (told : List (List (List ℕ)))
+    → AllFit in_binary h sections told (empty_circuit h.max_var)
     → with_all in_binary h sections told (empty_circuit h.max_var) ≡ c → TwoSections h c told
 two h c [] fit is = absurd fit
 two h c (i ∷ []) fit is = absurd fit.1
@@ -87,7 +90,8 @@ two h c (i ∷ l ∷ []) fit is = absurd fit.1.1
 two h c (i ∷ l ∷ o ∷ []) fit is = absurd fit.1.1.1
 two h c ((i ∷ is) ∷ l ∷ o ∷ g ∷ []) fit e = absurd (omega (arith, fit.0.counted))
 two h c ([] ∷ l ∷ o ∷ (g ∷ gs) ∷ []) fit e = absurd (omega (arith, fit.1.1.1.0.counted))
-two h c ([] ∷ l ∷ o ∷ [] ∷ []) fit is = record { nexts = l; outputs = o; told_is = refl; fit_nexts = fit.1.0; fit_outputs = fit.1.1.0; circuit = is }
+two h c ([] ∷ l ∷ o ∷ [] ∷ []) fit is =
+    record { nexts = l; outputs = o; told_is = refl; fit_nexts = fit.1.0; fit_outputs = fit.1.1.0; circuit = is }
 two h c (i ∷ l ∷ o ∷ g ∷ x ∷ told) fit is = absurd fit.1.1.1.1
 
 numbers_told : (h : Header) (at : Ahead) (c : Circuit) → numbers_at h at ≡ Ok c → TellsNumbers h at.lines c
@@ -96,8 +100,10 @@ numbers_told h at c is =
     let b = both_ok (gates_at (1 + h.inputs + h.latches) 1 h.gates (bytes_of a.0.1.lines)) (then_tail h a.0) c a.2 in
     let s = sections_told in_binary h sound sections (empty_circuit h.max_var) at a.0 a.1 in
     let t = two h a.0.0 s.told s.fit s.circuit in
-    let tail : tail_at h nothing_named (numbered_circuit h t.nexts t.outputs b.0.0) a.0.1.number (lines_of b.0.1) ≡ Ok c =
-    ap (λ (d : Circuit). tail_at h nothing_named (with_definitions h b.0.0 d) a.0.1.number (lines_of b.0.1)) t.circuit ∙ b.2 in
+    let tail : tail_at h nothing_named (numbered_circuit h t.nexts t.outputs b.0.0) a.0.1.number
+    (lines_of b.0.1) ≡ Ok c =
+    ap (λ (d : Circuit). tail_at h nothing_named (with_definitions h b.0.0 d) a.0.1.number (lines_of b.0.1)) t.circuit
+    ∙ b.2 in
     record {
       nexts = t.nexts;
       outputs = t.outputs;
@@ -106,11 +112,16 @@ numbers_told h at c is =
       last = a.0.1.lines;
       rest = b.0.1;
       lines = s.lines;
-      spelled = subst (λ (told : List (List (List ℕ))). AllZip IsRowLine s.front (rows_under in_binary h sections told)) t.told_is s.spelled;
+      spelled =
+          subst
+          (λ (told : List (List (List ℕ))). AllZip IsRowLine s.front (rows_under in_binary h sections told)) t.told_is
+          s.spelled;
       fit_nexts = t.fit_nexts;
       fit_outputs = t.fit_outputs;
       are_gates = gates_are (1 + h.inputs + h.latches) 1 h.gates (bytes_of a.0.1.lines) b.0 b.1;
-      tail = tail_tells h nothing_named (numbered_circuit h t.nexts t.outputs b.0.0) a.0.1.number (lines_of b.0.1) c refl tail;
+      tail =
+          tail_tells h nothing_named (numbered_circuit h t.nexts t.outputs b.0.0) a.0.1.number
+          (lines_of b.0.1) c refl tail;
     }
 
 -- a header whose definitions are all the variables

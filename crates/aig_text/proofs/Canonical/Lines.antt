@@ -1,5 +1,6 @@
 -- The lines of the canonical text: each number's digits spell it, and no line holds a line feed but at its end.
-use Rattle.std.proofs.Common.{◌≡◌, ◌<◌, ◌≤◌, ◌^◌, ℕ, true, List, [], ◌∷◌, ◌++◌, length, map, refl, sym, ap, ◌∙◌, inl, arith}
+use Rattle.std.proofs.Common.{◌≡◌, ◌<◌, ◌≤◌, ◌^◌, ℕ, true, List, [], ◌∷◌, ◌++◌, length, map, refl, sym, ap, ◌∙◌, inl}
+use Rattle.std.proofs.Common.{arith}
 use Rattle.std.specs.List.{AllByRecursion, AllZip, flat_map}
 use Rattle.std.specs.Prelude.{decimal}
 use Rattle.std.proofs.lemmas.Fmt.{digits_decimal, digits_value-decimal, decimal_nonempty}
@@ -36,22 +37,27 @@ front (n ∷ ns) = decimal n ++ more_front ns
 more_text_is : (ns : List ℕ) (rest : List ℕ) → more_numbers_text ns ++ rest ≡ more_front ns ++ 10 ∷ rest
 more_text_is [] rest = refl
 more_text_is (n ∷ ns) rest = ap (λ (t : List ℕ). 32 ∷ t)
-    (append_assoc (decimal n) (more_numbers_text ns) rest ∙ ap (λ (t : List ℕ). decimal n ++ t) (more_text_is ns rest) ∙ sym (append_assoc (decimal n) (more_front ns) (10 ∷ rest)))
+    (append_assoc (decimal n) (more_numbers_text ns) rest ∙ ap (λ (t : List ℕ). decimal n ++ t) (more_text_is ns rest)
+    ∙ sym (append_assoc (decimal n) (more_front ns) (10 ∷ rest)))
 
 text_is : (ns : List ℕ) (rest : List ℕ) → numbers_text ns ++ rest ≡ front ns ++ 10 ∷ rest
 text_is [] rest = refl
 text_is (n ∷ ns) rest =
-    append_assoc (decimal n) (more_numbers_text ns) rest ∙ ap (λ (t : List ℕ). decimal n ++ t) (more_text_is ns rest) ∙ sym (append_assoc (decimal n) (more_front ns) (10 ∷ rest))
+    append_assoc (decimal n) (more_numbers_text ns) rest ∙ ap (λ (t : List ℕ). decimal n ++ t) (more_text_is ns rest)
+    ∙ sym (append_assoc (decimal n) (more_front ns) (10 ∷ rest))
 
 more_front_has_no_line_feed : (ns : List ℕ) → AreSmall ns → HasNoLineFeed (more_front ns)
 more_front_has_no_line_feed [] small = tt
 more_front_has_no_line_feed (n ∷ ns) small =
-    (refl, all_joined _ (decimal n) (more_front ns) (digits_have_no_line_feed (decimal n) (decimal_is_number n small.0).digits) (more_front_has_no_line_feed ns small.1))
+    (refl, all_joined _ (decimal n) (more_front ns)
+    (digits_have_no_line_feed (decimal n) (decimal_is_number n small.0).digits)
+    (more_front_has_no_line_feed ns small.1))
 
 front_has_no_line_feed : (ns : List ℕ) → AreSmall ns → HasNoLineFeed (front ns)
 front_has_no_line_feed [] small = tt
 front_has_no_line_feed (n ∷ ns) small =
-    all_joined _ (decimal n) (more_front ns) (digits_have_no_line_feed (decimal n) (decimal_is_number n small.0).digits) (more_front_has_no_line_feed ns small.1)
+    all_joined _ (decimal n) (more_front ns)
+    (digits_have_no_line_feed (decimal n) (decimal_is_number n small.0).digits) (more_front_has_no_line_feed ns small.1)
 
 -- the line of these numbers
 abbrev pub number_line : List ℕ → Line
@@ -61,13 +67,19 @@ number_line ns = line (front ns) true
 abbrev pub header_line : List ℕ → List ℕ → Line
 header_line word ns = line (word ++ more_front ns) true
 
-pub row_is_first : (ns rest : List ℕ) → AreSmall ns → lines_of (numbers_text ns ++ rest) ≡ number_line ns ∷ lines_of rest
-row_is_first ns rest small = ap lines_of (text_is ns rest) ∙ first_line (front ns) rest (front_has_no_line_feed ns small)
+pub row_is_first : (ns rest : List ℕ) → AreSmall ns
+    → lines_of (numbers_text ns ++ rest) ≡ number_line ns ∷ lines_of rest
+row_is_first ns rest small =
+    ap lines_of (text_is ns rest) ∙ first_line (front ns) rest (front_has_no_line_feed ns small)
 
-pub header_is_first : (word ns rest : List ℕ) → HasNoLineFeed word → AreSmall ns → lines_of (header_text word ns ++ rest) ≡ header_line word ns ∷ lines_of rest
+pub header_is_first : (word ns rest : List ℕ) → HasNoLineFeed word → AreSmall ns
+    → lines_of (header_text word ns ++ rest) ≡ header_line word ns ∷ lines_of rest
 header_is_first word ns rest plain small =
-    ap lines_of (append_assoc word (more_numbers_text ns) rest ∙ ap (λ (t : List ℕ). word ++ t) (more_text_is ns rest) ∙ sym (append_assoc word (more_front ns) (10 ∷ rest)))
-    ∙ first_line (word ++ more_front ns) rest (all_joined _ word (more_front ns) plain (more_front_has_no_line_feed ns small))
+    ap lines_of
+    (append_assoc word (more_numbers_text ns) rest ∙ ap (λ (t : List ℕ). word ++ t) (more_text_is ns rest)
+    ∙ sym (append_assoc word (more_front ns) (10 ∷ rest)))
+    ∙ first_line (word ++ more_front ns) rest
+    (all_joined _ word (more_front ns) plain (more_front_has_no_line_feed ns small))
 
 -- a line may end where its text ends
 ends_at_once : IsLineEnd true []
@@ -76,7 +88,8 @@ ends_at_once = ([], tt, inl refl)
 more_front_is_spelled : (ns : List ℕ) → AreSmall ns → AreMoreNumbers (more_front ns) ns
 more_front_is_spelled [] small = refl
 more_front_is_spelled (n ∷ ns) small =
-    (32 ∷ [], decimal n, more_front ns, refl, (omega arith, (refl, tt)), decimal_is_number n small.0, more_front_is_spelled ns small.1)
+    (32 ∷ [], decimal n, more_front ns, refl,
+    (omega arith, (refl, tt)), decimal_is_number n small.0, more_front_is_spelled ns small.1)
 
 end_is_good : (least : ℕ) (ns : List ℕ) → least ≤ length ns → AreSmall ns → EndInNumbers least true (more_front ns) ns
 end_is_good least ns enough small = record {
@@ -91,8 +104,10 @@ end_is_good least ns enough small = record {
   ends = ends_at_once;
 }
 
-pub header_line_is_good : (word : List ℕ) (least : ℕ) (ns : List ℕ) → least ≤ length ns → AreSmall ns → IsHeaderLine word least (header_line word ns) ns
-header_line_is_good word least ns enough small = record { rest = more_front ns; begins = refl; others = end_is_good least ns enough small }
+pub header_line_is_good : (word : List ℕ) (least : ℕ) (ns : List ℕ) → least ≤ length ns → AreSmall ns
+    → IsHeaderLine word least (header_line word ns) ns
+header_line_is_good word least ns enough small =
+    record { rest = more_front ns; begins = refl; others = end_is_good least ns enough small }
 
 -- as many numbers as the form has roles, which a file can tell
 pub record IsFullRow (r : Row) : Type 0 where
@@ -103,14 +118,16 @@ pub record IsFullRow (r : Row) : Type 0 where
 abbrev pub row_lines : List Row → List Line
 row_lines rows = map (λ (r : Row). number_line r.numbers) rows
 
-pub rows_are_first : (rows : List Row) (rest : List ℕ) → AllByRecursion IsFullRow rows → lines_of (flat_map line_text rows ++ rest) ≡ row_lines rows ++ lines_of rest
+pub rows_are_first : (rows : List Row) (rest : List ℕ) → AllByRecursion IsFullRow rows
+    → lines_of (flat_map line_text rows ++ rest) ≡ row_lines rows ++ lines_of rest
 rows_are_first [] rest h = refl
 rows_are_first (r ∷ rows) rest h =
     ap lines_of (append_assoc (line_text r) (flat_map line_text rows) rest)
     ∙ row_is_first r.numbers (flat_map line_text rows ++ rest) h.0.small
     ∙ ap (λ (ls : List Line). number_line r.numbers ∷ ls) (rows_are_first rows rest h.1)
 
-number_line_is_good : (least : ℕ) (ns : List ℕ) → least < length ns → AreSmall ns → IsNumberLine least (number_line ns) ns
+number_line_is_good : (least : ℕ) (ns : List ℕ) → least < length ns → AreSmall ns
+    → IsNumberLine least (number_line ns) ns
 number_line_is_good least [] some small = absurd (omega arith)
 number_line_is_good least (n ∷ ns) some small = record {
   first = n;

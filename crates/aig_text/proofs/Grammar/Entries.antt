@@ -5,7 +5,8 @@ use Rattle.aig_core.specs.declared.circuit.Latch.{Latch}
 use Rattle.aig_core.specs.declared.circuit.Gate.{Gate}
 use Rattle.aig_core.specs.Wellformed.{IsVariableUpTo}
 use Rattle.aig_text.specs.declared.row.Role.TheVariants as roles
-use Rattle.aig_text.specs.Rows.{Role, Form, roles_of, input_form, latch_form, output_form, gate_form, input_row, latch_row, output_row, gate_row, input_of, latch_of, output_of, gate_of}
+use Rattle.aig_text.specs.Rows.{Role, Form, roles_of, input_form, latch_form, output_form, gate_form, input_row}
+use Rattle.aig_text.specs.Rows.{latch_row, output_row, gate_row, input_of, latch_of, output_of, gate_of}
 
 -- a literal that may stand where a variable of this circuit is defined, where one is used
 pub record IsDefinition (max_var n : ℕ) : Type 0 where
@@ -22,7 +23,8 @@ abbrev pub IsGoodRow : Form → ℕ → List ℕ → Type 0
 IsGoodRow form max_var ns = AllZip (MayStand max_var) (roles_of form) ns
 
 -- an entry and its row: each tells the other, and the one may stand in a circuit where the other may stand in a file
-pub record IsEntry {X : Type 0} (form : Form) (row : X → List ℕ) (told : List ℕ → X) (IsUpTo : ℕ → X → Type 0) : Type 0 where
+pub record IsEntry {X : Type 0} (form : Form) (row : X → List ℕ) (told : List ℕ → X)
+    (IsUpTo : ℕ → X → Type 0) : Type 0 where
   pub again : (x : X) → told (row x) ≡ x
   pub row_again : (m : ℕ) (ns : List ℕ) → IsGoodRow form m ns → row (told ns) ≡ ns
   pub good : (m : ℕ) (x : X) → IsUpTo m x → IsGoodRow form m (row x)
@@ -131,14 +133,19 @@ gate_entry = record {
 }
 
 -- the same of lists
-pub all_again : {X : Type 0} (row : X → List ℕ) (told : List ℕ → X) → ((x : X) → told (row x) ≡ x) → (xs : List X) → map told (map row xs) ≡ xs
+pub all_again : {X : Type 0} (row : X → List ℕ) (told : List ℕ → X) → ((x : X) → told (row x) ≡ x) → (xs : List X)
+    → map told (map row xs) ≡ xs
 all_again row told again [] = refl
 all_again row told again (x ∷ xs) = ap₂ (λ (y : _) (ys : List _). y ∷ ys) (again x) (all_again row told again xs)
 
-pub rows_again : {X : Type 0} (P : List ℕ → Type 0) (row : X → List ℕ) (told : List ℕ → X) → ((ns : List ℕ) → P ns → row (told ns) ≡ ns) → (rows : List (List ℕ)) → AllByRecursion P rows → map row (map told rows) ≡ rows
+pub rows_again : {X : Type 0} (P : List ℕ → Type 0) (row : X → List ℕ) (told : List ℕ → X)
+    → ((ns : List ℕ) → P ns → row (told ns) ≡ ns) → (rows : List (List ℕ)) → AllByRecursion P rows
+    → map row (map told rows) ≡ rows
 rows_again P row told again [] h = refl
-rows_again P row told again (ns ∷ rows) h = ap₂ (λ (y : List ℕ) (ys : List (List ℕ)). y ∷ ys) (again ns h.0) (rows_again P row told again rows h.1)
+rows_again P row told again (ns ∷ rows) h =
+    ap₂ (λ (y : List ℕ) (ys : List (List ℕ)). y ∷ ys) (again ns h.0) (rows_again P row told again rows h.1)
 
-pub all_mapped : {X Y : Type 0} (P : X → Type 0) (Q : Y → Type 0) (f : X → Y) → ((x : X) → P x → Q (f x)) → (xs : List X) → AllByRecursion P xs → AllByRecursion Q (map f xs)
+pub all_mapped : {X Y : Type 0} (P : X → Type 0) (Q : Y → Type 0) (f : X → Y) → ((x : X) → P x → Q (f x))
+    → (xs : List X) → AllByRecursion P xs → AllByRecursion Q (map f xs)
 all_mapped P Q f h [] all = tt
 all_mapped P Q f h (x ∷ xs) all = (h x all.0, all_mapped P Q f h xs all.1)

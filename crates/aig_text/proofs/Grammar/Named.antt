@@ -45,7 +45,8 @@ has_more : (s : set.FinSet nat_cmp) (p q : ℕ) → set.contains (set.insert s p
 has_more s p q = contains-insert nat_cmp_total s p q ∙ ap (λ b. b || set.contains s q) (unsigned_tied q p)
 
 -- what is named after one more name
-named_after : (b : Names) (k j : Kind) (p q : ℕ) → is_named (with_name b k p) j q ≡ ((same_kind k j && eqb q p) || is_named b j q)
+named_after : (b : Names) (k j : Kind) (p q : ℕ)
+    → is_named (with_name b k p) j q ≡ ((same_kind k j && eqb q p) || is_named b j q)
 unfolding same_kind
 named_after b Input Input p q = has_more b.inputs p q
 named_after b Latch Latch p q = has_more b.latches p q
@@ -65,7 +66,9 @@ none_named Output q = contains-empty nat_cmp q
 -- each symbol names something that is there and has no name before it
 abbrev pub AreNew : Header → Names → List Symbol → Type 0
 AreNew h before [] = Unit {0}
-AreNew h before (s ∷ ss) = (s.position < count_named h s.kind) × (is_named before s.kind s.position ≡ false) × AreNew h (with_name before s.kind s.position) ss
+AreNew h before (s ∷ ss) =
+    (s.position < count_named h s.kind) × (is_named before s.kind s.position ≡ false) × AreNew h
+    (with_name before s.kind s.position) ss
 
 abbrev Unnamed : Names → Symbol → Type 0
 Unnamed before t = is_named before t.kind t.position ≡ false
@@ -75,24 +78,32 @@ IsPlaced h s = s.position < count_named h s.kind
 
 not_both : (s t : Symbol) → (same_kind s.kind t.kind && eqb t.position s.position) ≡ false → ¬ NameTheSame s t
 not_both s t h same =
-    let yes : (same_kind s.kind t.kind && eqb t.position s.position) ≡ true = rw (← same.0, kind_is_same s.kind, eq-eqb t.position s.position (sym same.1)) refl in
+    let yes : (same_kind s.kind t.kind && eqb t.position s.position) ≡ true =
+    rw (← same.0, kind_is_same s.kind, eq-eqb t.position s.position (sym same.1)) refl in
     cc
 
 both_false : (s t : Symbol) → ¬ NameTheSame s t → (same_kind s.kind t.kind && eqb t.position s.position) ≡ false
 both_false s t h =
-    elim (same_kind s.kind t.kind && eqb t.position s.position) as (λ b. (same_kind s.kind t.kind && eqb t.position s.position) ≡ b → b ≡ false) [
-      | true ↦ λ e. let p = and_parts (same_kind s.kind t.kind) (eqb t.position s.position) e in absurd (h (same_is_kind s.kind t.kind p.0, sym (eqb-true t.position s.position p.1)))
+    elim (same_kind s.kind t.kind && eqb t.position s.position) as
+    (λ b. (same_kind s.kind t.kind && eqb t.position s.position) ≡ b → b ≡ false) [
+      | true ↦ λ e. let p = and_parts (same_kind s.kind t.kind) (eqb t.position s.position) e in
+      absurd (h (same_is_kind s.kind t.kind p.0, sym (eqb-true t.position s.position p.1)))
       | false ↦ λ e. refl
     ] refl
 
-old_and_apart : (before : Names) (s : Symbol) (ss : List Symbol) → AllByRecursion (Unnamed (with_name before s.kind s.position)) ss → AllByRecursion (Unnamed before) ss × AllByRecursion (λ t. ¬ NameTheSame s t) ss
+old_and_apart : (before : Names) (s : Symbol) (ss : List Symbol)
+    → AllByRecursion (Unnamed (with_name before s.kind s.position)) ss
+    → AllByRecursion (Unnamed before) ss × AllByRecursion (λ t. ¬ NameTheSame s t) ss
 old_and_apart before s [] h = (tt, tt)
 old_and_apart before s (t ∷ ts) h =
-    let p = or_parts (same_kind s.kind t.kind && eqb t.position s.position) (is_named before t.kind t.position) (sym (named_after before s.kind t.kind s.position t.position) ∙ h.0) in
+    let p =
+    or_parts (same_kind s.kind t.kind && eqb t.position s.position) (is_named before t.kind t.position)
+    (sym (named_after before s.kind t.kind s.position t.position) ∙ h.0) in
     let rest = old_and_apart before s ts h.1 in
     ((p.1, rest.0), (not_both s t p.0, rest.1))
 
-all_new : (h : Header) (before : Names) (ss : List Symbol) → AreNew h before ss → AllByRecursion (Unnamed before) ss × NameApart ss
+all_new : (h : Header) (before : Names) (ss : List Symbol) → AreNew h before ss
+    → AllByRecursion (Unnamed before) ss × NameApart ss
 all_new h before [] n = (tt, tt)
 all_new h before (s ∷ ss) n =
     let rest = all_new h (with_name before s.kind s.position) ss n.2 in
@@ -107,19 +118,25 @@ new_placed h before [] n = tt
 new_placed h before (s ∷ ss) n = (n.0, new_placed h (with_name before s.kind s.position) ss n.2)
 
 -- and symbols that name nothing alike are new
-still_new : (before : Names) (s : Symbol) (ss : List Symbol) → AllByRecursion (Unnamed before) ss → AllByRecursion (λ t. ¬ NameTheSame s t) ss → AllByRecursion (Unnamed (with_name before s.kind s.position)) ss
+still_new : (before : Names) (s : Symbol) (ss : List Symbol) → AllByRecursion (Unnamed before) ss
+    → AllByRecursion (λ t. ¬ NameTheSame s t) ss → AllByRecursion (Unnamed (with_name before s.kind s.position)) ss
 still_new before s [] old apart = tt
 still_new before s (t ∷ ts) old apart =
-    (named_after before s.kind t.kind s.position t.position ∙ or_from (same_kind s.kind t.kind && eqb t.position s.position) (is_named before t.kind t.position) (both_false s t apart.0) old.0, still_new before s ts old.1 apart.1)
+    (named_after before s.kind t.kind s.position t.position
+    ∙ or_from (same_kind s.kind t.kind && eqb t.position s.position) (is_named before t.kind t.position)
+    (both_false s t apart.0) old.0, still_new before s ts old.1 apart.1)
 
-apart_from : (h : Header) (before : Names) (ss : List Symbol) → AllByRecursion (IsPlaced h) ss → AllByRecursion (Unnamed before) ss → NameApart ss → AreNew h before ss
+apart_from : (h : Header) (before : Names) (ss : List Symbol) → AllByRecursion (IsPlaced h) ss
+    → AllByRecursion (Unnamed before) ss → NameApart ss → AreNew h before ss
 apart_from h before [] placed old apart = tt
 apart_from h before (s ∷ ss) placed old apart =
-    (placed.0, old.0, apart_from h (with_name before s.kind s.position) ss placed.1 (still_new before s ss old.1 apart.0) apart.1)
+    (placed.0, old.0, apart_from h (with_name before s.kind s.position) ss placed.1
+    (still_new before s ss old.1 apart.0) apart.1)
 
 none_before : (ss : List Symbol) → AllByRecursion (Unnamed nothing_named) ss
 none_before [] = tt
 none_before (s ∷ ss) = (none_named s.kind s.position, none_before ss)
 
-pub apart_new : (h : Header) (ss : List Symbol) → AllByRecursion (IsPlaced h) ss → NameApart ss → AreNew h nothing_named ss
+pub apart_new : (h : Header) (ss : List Symbol) → AllByRecursion (IsPlaced h) ss → NameApart ss
+    → AreNew h nothing_named ss
 apart_new h ss placed apart = apart_from h nothing_named ss placed (none_before ss) apart

@@ -1,5 +1,6 @@
 -- How symbol lines and the line `c` are spelled and how they are read: each follows from the other.
-use Rattle.std.proofs.Common.{◌≡◌, ℕ, Bool, true, false, cond, List, [], ◌∷◌, ◌++◌, None, Some, refl, ap, subst, ◌∙◌, eqb}
+use Rattle.std.proofs.Common.{◌≡◌, ℕ, Bool, true, false, cond, List, [], ◌∷◌, ◌++◌, None, Some, refl, ap, subst, ◌∙◌}
+use Rattle.std.proofs.Common.{eqb}
 use Rattle.std.proofs.lemmas.Bool.{eqb-true, and_parts}
 use Rattle.aig_core.specs.declared.circuit.Kind.{Kind}
 use Rattle.aig_core.specs.declared.circuit.Kind.TheVariants.{Input, Latch, Output}
@@ -7,7 +8,8 @@ use Rattle.aig_core.specs.declared.circuit.Symbol.{Symbol}
 use Rattle.aig_text.specs.Lines.{Line}
 use Rattle.aig_text.specs.Spelling.{IsNumber}
 use Rattle.aig_text.specs.Tail.{kind_letter, IsSymbolLine, IsCommentLine}
-use Rattle.aig_text.specs.Scanning.{kind_at, after_space, symbol, symbol_at, begins_comment, is_comment_line, is_line_end}
+use Rattle.aig_text.specs.Scanning.{kind_at, after_space, symbol, symbol_at, begins_comment, is_comment_line}
+use Rattle.aig_text.specs.Scanning.{is_line_end}
 use Rattle.aig_text.proofs.Grammar.Spellings.{number_reads, number_is_read, end_reads, end_is_read}
 use Rattle.aig_text.proofs.Grammar.NumberLines.{some_then}
 
@@ -15,10 +17,14 @@ use Rattle.aig_text.proofs.Grammar.NumberLines.{some_then}
 abbrev IsLetter : ℕ → Kind → Type 0
 IsLetter b k = b ∷ [] ≡ kind_letter k
 
-by_letter : (b : ℕ) (i l o : Bool) (k : Kind) → eqb b 105 ≡ i → eqb b 108 ≡ l → eqb b 111 ≡ o → cond i (Some Input) (cond l (Some Latch) (cond o (Some Output) None)) ≡ Some k → IsLetter b k
-by_letter b true l o k hi hl ho h = let e : Input ≡ k = cc in subst (IsLetter b) e (ap (λ (n : ℕ). n ∷ []) (eqb-true b 105 hi))
-by_letter b false true o k hi hl ho h = let e : Latch ≡ k = cc in subst (IsLetter b) e (ap (λ (n : ℕ). n ∷ []) (eqb-true b 108 hl))
-by_letter b false false true k hi hl ho h = let e : Output ≡ k = cc in subst (IsLetter b) e (ap (λ (n : ℕ). n ∷ []) (eqb-true b 111 ho))
+by_letter : (b : ℕ) (i l o : Bool) (k : Kind) → eqb b 105 ≡ i → eqb b 108 ≡ l → eqb b 111 ≡ o
+    → cond i (Some Input) (cond l (Some Latch) (cond o (Some Output) None)) ≡ Some k → IsLetter b k
+by_letter b true l o k hi hl ho h =
+    let e : Input ≡ k = cc in subst (IsLetter b) e (ap (λ (n : ℕ). n ∷ []) (eqb-true b 105 hi))
+by_letter b false true o k hi hl ho h =
+    let e : Latch ≡ k = cc in subst (IsLetter b) e (ap (λ (n : ℕ). n ∷ []) (eqb-true b 108 hl))
+by_letter b false false true k hi hl ho h =
+    let e : Output ≡ k = cc in subst (IsLetter b) e (ap (λ (n : ℕ). n ∷ []) (eqb-true b 111 ho))
 by_letter b false false false k hi hl ho h = cc
 
 letter_reads : (b : ℕ) (k : Kind) → kind_at b ≡ Some k → IsLetter b k
@@ -29,7 +35,8 @@ space_reads : (bytes rest : List ℕ) → after_space bytes ≡ Some rest → by
 space_reads [] rest h = cc
 space_reads (b ∷ bytes) rest h =
     elim (eqb b 32) as (λ t. eqb b 32 ≡ t → cond t (Some bytes) None ≡ Some rest → b ∷ bytes ≡ 32 ∷ rest) [
-      | true ↦ λ e g. let same : bytes ≡ rest = cc in ap (λ (n : ℕ). n ∷ bytes) (eqb-true b 32 e) ∙ ap (λ (t : List ℕ). 32 ∷ t) same
+      | true ↦ λ e g. let same : bytes ≡ rest = cc in ap (λ (n : ℕ). n ∷ bytes) (eqb-true b 32 e)
+      ∙ ap (λ (t : List ℕ). 32 ∷ t) same
       | false ↦ λ e g. cc
     ] refl h
 
@@ -47,11 +54,14 @@ symbol_reads l (b ∷ bytes) s is h =
     let whole : symbol a.0 p.0.0 n.0 ≡ s = cc in
     subst (λ (t : Symbol). IsSymbolLine l t) whole (record {
       digits = number.0;
-      text = is ∙ ap (λ (t : List ℕ). b ∷ t) number.1 ∙ ap (λ (t : List ℕ). t ++ (number.0 ++ p.0.1)) letter ∙ ap (λ (t : List ℕ). kind_letter a.0 ++ (number.0 ++ t)) space;
+      text =
+          is ∙ ap (λ (t : List ℕ). b ∷ t) number.1 ∙ ap (λ (t : List ℕ). t ++ (number.0 ++ p.0.1)) letter
+          ∙ ap (λ (t : List ℕ). kind_letter a.0 ++ (number.0 ++ t)) space;
       position = number.2;
     })
 
-read_of : (k : Kind) (digits name : List ℕ) (n : ℕ) → IsNumber digits n → symbol_at (kind_letter k ++ (digits ++ (32 ∷ name))) ≡ Some (symbol k n name)
+read_of : (k : Kind) (digits name : List ℕ) (n : ℕ) → IsNumber digits n
+    → symbol_at (kind_letter k ++ (digits ++ (32 ∷ name))) ≡ Some (symbol k n name)
 unfolding symbol_at
 read_of Input digits name n h = rw (number_is_read digits (32 ∷ name) n h refl) refl
 read_of Latch digits name n h = rw (number_is_read digits (32 ∷ name) n h refl) refl
@@ -75,7 +85,8 @@ comment_begins : (l : Line) (text : List ℕ) → l.text ≡ text → begins_com
 comment_begins l [] is h = cc
 comment_begins l (b ∷ bytes) is h =
     let both = and_parts (eqb b 99) (is_line_end l.ended bytes) h in
-    record { ending = bytes; text = is ∙ ap (λ (n : ℕ). n ∷ bytes) (eqb-true b 99 both.0); ends = end_reads l.ended bytes both.1 }
+    record { ending = bytes; text = is ∙ ap (λ (n : ℕ). n ∷ bytes) (eqb-true b 99 both.0); ends =
+    end_reads l.ended bytes both.1 }
 
 pub comment_reads : (l : Line) → is_comment_line l ≡ true → IsCommentLine l
 unfolding is_comment_line

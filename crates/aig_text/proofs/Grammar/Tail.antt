@@ -1,5 +1,6 @@
 -- A tail that is read tells its symbols and its comment, and the other way round.
-use Rattle.std.proofs.Common.{◌≡◌, ◌≢◌, ◌+◌, ◌<◌, ℕ, Bool, true, false, cond, List, [], ◌∷◌, ◌++◌, Option, None, Some, Ok, Result, refl, sym, ap, subst, ◌∙◌, append_assoc, append-nil, inl, inr}
+use Rattle.std.proofs.Common.{◌≡◌, ◌≢◌, ◌+◌, ◌<◌, ℕ, Bool, true, false, cond, List, [], ◌∷◌, ◌++◌, Option, None, Some}
+use Rattle.std.proofs.Common.{Ok, Result, refl, sym, ap, subst, ◌∙◌, append_assoc, append-nil, inl, inr}
 use Rattle.std.specs.Prelude.{◌⊎◌, nat_le}
 use Rattle.std.specs.List.{AllByRecursion, AllZip}
 use Rattle.std.proofs.lemmas.Bool.{leb-false, lt-leb}
@@ -16,9 +17,11 @@ use Rattle.aig_text.specs.Laws.{IsOneLine}
 use Rattle.aig_text.specs.Rows.{Header}
 use Rattle.aig_text.specs.Tail.{kind_letter, IsSymbolLine, IsComment}
 use Rattle.aig_text.specs.Scanning.{symbol_at, is_comment_line}
-use Rattle.aig_text.specs.Reading.{◌>>=◌, at_line, count_named, fault_in_symbol, unless_wrong, checked_symbol, with_comment, with_symbol, tail_at}
+use Rattle.aig_text.specs.Reading.{◌>>=◌, at_line, count_named, fault_in_symbol, unless_wrong, checked_symbol}
+use Rattle.aig_text.specs.Reading.{with_comment, with_symbol, tail_at}
 use Rattle.aig_text.proofs.Steps.{both_ok, ok_at_line, ok_same}
-use Rattle.aig_text.proofs.Grammar.Symbols.{symbol_reads, symbol_is_read, symbol_is_no_comment, comment_reads, comment_is_read}
+use Rattle.aig_text.proofs.Grammar.Symbols.{symbol_reads, symbol_is_read, symbol_is_no_comment, comment_reads}
+use Rattle.aig_text.proofs.Grammar.Symbols.{comment_is_read}
 use Rattle.aig_text.proofs.Grammar.Named.{AreNew}
 
 -- the circuit with these symbols and this comment more
@@ -41,7 +44,8 @@ pub record TellsTail (h : Header) (before : Names) (c d : Circuit) (ls : List Li
 abbrev IsNew : Header → Names → Symbol → Type 0
 IsNew h before s = (s.position < count_named h s.kind) × (is_named before s.kind s.position ≡ false)
 
-by_tests : (far twice : Bool) → cond far (Some kinds.SymbolRange) (cond twice (Some kinds.SymbolTwice) None) ≡ None → (far ≡ false) × (twice ≡ false)
+by_tests : (far twice : Bool) → cond far (Some kinds.SymbolRange) (cond twice (Some kinds.SymbolTwice) None) ≡ None
+    → (far ≡ false) × (twice ≡ false)
 by_tests true b h = cc
 by_tests false true h = cc
 by_tests false false h = (refl, refl)
@@ -55,7 +59,8 @@ new_of_none h before s e =
     let p = by_tests (nat_le (count_named h s.kind) s.position) (is_named before s.kind s.position) e in
     (leb-false (count_named h s.kind) s.position p.0, p.1)
 
-checked_tells : (h : Header) (before : Names) (o : Option Symbol) (s : Symbol) → checked_symbol h before o ≡ Ok s → (o ≡ Some s) × IsNew h before s
+checked_tells : (h : Header) (before : Names) (o : Option Symbol) (s : Symbol) → checked_symbol h before o ≡ Ok s
+    → (o ≡ Some s) × IsNew h before s
 unfolding checked_symbol
 checked_tells h before None s e = cc
 checked_tells h before (Some t) s e =
@@ -67,7 +72,9 @@ unfolding checked_symbol
 new_is_checked h before s n = rw (lt-leb (count_named h s.kind) s.position n.0, n.1) refl
 
 -- one line more
-more_tail : (h : Header) (before : Names) (c d : Circuit) (l : Line) (ls : List Line) (s : Symbol) → IsSymbolLine l s → IsNew h before s → TellsTail h (with_name before s.kind s.position) (with_symbol c s) d ls → TellsTail h before c d (l ∷ ls)
+more_tail : (h : Header) (before : Names) (c d : Circuit) (l : Line) (ls : List Line) (s : Symbol) → IsSymbolLine l s
+    → IsNew h before s → TellsTail h (with_name before s.kind s.position) (with_symbol c s) d ls
+    → TellsTail h before c d (l ∷ ls)
 more_tail h before c d l ls s line n t = record {
   named = l ∷ t.named;
   rest = t.rest;
@@ -77,10 +84,13 @@ more_tail h before c d l ls s line n t = record {
   spelled = (line, t.spelled);
   new = (n.0, n.1, t.new);
   is_comment = t.is_comment;
-  circuit = ap (λ (ss : List Symbol). record c { symbols = ss; comment = t.comment }) (sym (append_assoc c.symbols (s ∷ []) t.symbols)) ∙ t.circuit;
+  circuit =
+      ap (λ (ss : List Symbol). record c { symbols = ss; comment = t.comment })
+      (sym (append_assoc c.symbols (s ∷ []) t.symbols)) ∙ t.circuit;
 }
 
-whole_tail : (h : Header) (before : Names) (c : Circuit) (ls : List Line) (comment : Option (List ℕ)) → IsComment ls comment → TellsTail h before c (record c { comment = comment }) ls
+whole_tail : (h : Header) (before : Names) (c : Circuit) (ls : List Line) (comment : Option (List ℕ))
+    → IsComment ls comment → TellsTail h before c (record c { comment = comment }) ls
 whole_tail h before c ls comment is = record {
   named = [];
   rest = ls;
@@ -101,37 +111,49 @@ branch true x y z h = inl (refl, h)
 branch false x y z h = inr (refl, h)
 
 -- where there is no comment before
-pub tail_tells : (h : Header) (before : Names) (c : Circuit) (n : ℕ) (ls : List Line) (d : Circuit) → c.comment ≡ None → tail_at h before c n ls ≡ Ok d → TellsTail h before c d ls
+pub tail_tells : (h : Header) (before : Names) (c : Circuit) (n : ℕ) (ls : List Line) (d : Circuit) → c.comment ≡ None
+    → tail_at h before c n ls ≡ Ok d → TellsTail h before c d ls
 unfolding tail_at
 tail_tells h before c n [] d none is =
     let same : c ≡ d = ok_same {E = ReadFault} c d is in
     let bare : record c { comment = None } ≡ c = ap (λ (o : Option (List ℕ)). record c { comment = o }) (sym none) in
     subst (λ (e : Circuit). TellsTail h before c e []) (bare ∙ same) (whole_tail h before c [] None tt)
 tail_tells h before c n (l ∷ ls) d none is =
-    elim (branch (is_comment_line l) (Ok (with_comment c (bytes_of ls))) (at_line n (checked_symbol h before (symbol_at l.text)) >>= then_tail h before c n ls) (Ok d) is) as (λ _. TellsTail h before c d (l ∷ ls)) [
+    elim
+    (branch (is_comment_line l) (Ok (with_comment c (bytes_of ls)))
+    (at_line n (checked_symbol h before (symbol_at l.text)) >>= then_tail h before c n ls) (Ok d) is) as
+    (λ _. TellsTail h before c d (l ∷ ls)) [
       | inl e ↦
-          subst (λ (f : Circuit). TellsTail h before c f (l ∷ ls)) (ok_same {E = ReadFault} (with_comment c (bytes_of ls)) d e.1)
+          subst (λ (f : Circuit). TellsTail h before c f (l ∷ ls))
+          (ok_same {E = ReadFault} (with_comment c (bytes_of ls)) d e.1)
           (whole_tail h before c (l ∷ ls) (Some (bytes_of ls)) (comment_reads l e.0, refl))
       | inr e ↦
           let b = both_ok (at_line n (checked_symbol h before (symbol_at l.text))) (then_tail h before c n ls) d e.1 in
-          let s = checked_tells h before (symbol_at l.text) b.0 (ok_at_line n (checked_symbol h before (symbol_at l.text)) b.0 b.1) in
+          let s =
+          checked_tells h before (symbol_at l.text) b.0
+          (ok_at_line n (checked_symbol h before (symbol_at l.text)) b.0 b.1) in
           more_tail h before c d l ls b.0 (symbol_reads l l.text b.0 refl s.0) s.1
           (tail_tells h (with_name before b.0.kind b.0.position) (with_symbol c b.0) (n + 1) ls d none b.2)
     ]
 
 -- and lines that hold symbols and a comment are read as them
-comment_told : (h : Header) (before : Names) (c : Circuit) (n : ℕ) (ls : List Line) (comment : Option (List ℕ)) → c.comment ≡ None → IsComment ls comment → tail_at h before c n ls ≡ Ok (record c { comment = comment })
+comment_told : (h : Header) (before : Names) (c : Circuit) (n : ℕ) (ls : List Line) (comment : Option (List ℕ))
+    → c.comment ≡ None → IsComment ls comment → tail_at h before c n ls ≡ Ok (record c { comment = comment })
 unfolding tail_at
 comment_told h before c n [] None none is = ap (λ (o : Option (List ℕ)). Ok (record c { comment = o })) none
 comment_told h before c n [] (Some bytes) none is = absurd is
 comment_told h before c n (l ∷ ls) None none is = absurd is
-comment_told h before c n (l ∷ ls) (Some bytes) none is = rw (comment_is_read l is.0) (ap (λ (b : List ℕ). Ok (with_comment c b)) (sym is.1))
+comment_told h before c n (l ∷ ls) (Some bytes) none is =
+    rw (comment_is_read l is.0) (ap (λ (b : List ℕ). Ok (with_comment c b)) (sym is.1))
 
-pub tail_is_told : (h : Header) (before : Names) (c : Circuit) (n : ℕ) (named rest : List Line) (ss : List Symbol) (comment : Option (List ℕ)) → c.comment ≡ None → AllZip IsSymbolLine named ss → AreNew h before ss → IsComment rest comment
+pub tail_is_told : (h : Header) (before : Names) (c : Circuit) (n : ℕ) (named rest : List Line) (ss : List Symbol)
+    (comment : Option (List ℕ)) → c.comment ≡ None → AllZip IsSymbolLine named ss → AreNew h before ss → IsComment
+    rest comment
     → tail_at h before c n (named ++ rest) ≡ Ok (with_tail c ss comment)
 unfolding tail_at
 tail_is_told h before c n [] rest [] comment none z new is =
-    comment_told h before c n rest comment none is ∙ ap (λ (ss : List Symbol). Ok (record c { symbols = ss; comment = comment })) (sym (append-nil c.symbols))
+    comment_told h before c n rest comment none is
+    ∙ ap (λ (ss : List Symbol). Ok (record c { symbols = ss; comment = comment })) (sym (append-nil c.symbols))
 tail_is_told h before c n [] rest (s ∷ ss) comment none z new is = absurd z
 tail_is_told h before c n (l ∷ ls) rest [] comment none z new is = absurd z
 tail_is_told h before c n (l ∷ ls) rest (s ∷ ss) comment none z new is =
@@ -150,10 +172,14 @@ none_among (x ∷ xs) h = λ a. elim a as (λ _. ⊥) [ inl e ↦ h.0 (sym e) | 
 
 pub name_in_line : (l : Line) (s : Symbol) → IsSymbolLine l s → IsOneLine l → ¬ IsAmong 10 s.name
 name_in_line l s h one =
-    let all : AllByRecursion (λ b. b ≢ 10) (kind_letter s.kind ++ (h.digits ++ (32 ∷ s.name))) = subst (λ (t : List ℕ). AllByRecursion (λ b. b ≢ 10) t) h.text one in
-    none_among s.name (right_of (λ b. b ≢ 10) h.digits (32 ∷ s.name) (right_of (λ b. b ≢ 10) (kind_letter s.kind) (h.digits ++ (32 ∷ s.name)) all)).1
+    let all : AllByRecursion (λ b. b ≢ 10) (kind_letter s.kind ++ (h.digits ++ (32 ∷ s.name))) =
+    subst (λ (t : List ℕ). AllByRecursion (λ b. b ≢ 10) t) h.text one in
+    none_among s.name
+    (right_of (λ b. b ≢ 10) h.digits (32 ∷ s.name)
+    (right_of (λ b. b ≢ 10) (kind_letter s.kind) (h.digits ++ (32 ∷ s.name)) all)).1
 
-pub names_in_lines : (named : List Line) (ss : List Symbol) → AllZip IsSymbolLine named ss → AllByRecursion IsOneLine named → AllByRecursion (λ (s : Symbol). ¬ IsAmong 10 s.name) ss
+pub names_in_lines : (named : List Line) (ss : List Symbol) → AllZip IsSymbolLine named ss
+    → AllByRecursion IsOneLine named → AllByRecursion (λ (s : Symbol). ¬ IsAmong 10 s.name) ss
 names_in_lines [] [] z one = tt
 names_in_lines [] (s ∷ ss) z one = absurd z
 names_in_lines (l ∷ ls) [] z one = absurd z

@@ -1,5 +1,6 @@
 -- A text that is read is the text of its circuit, and the other way round.
-use Rattle.std.proofs.Common.{◌≡◌, ℕ, ◌+◌, ◌*◌, ◌≤◌, List, [], ◌∷◌, ◌++◌, Option, None, Some, Result, Ok, refl, ap, subst, ◌∙◌, sym}
+use Rattle.std.proofs.Common.{◌≡◌, ℕ, ◌+◌, ◌*◌, ◌≤◌, List, [], ◌∷◌, ◌++◌, Option, None, Some, Result, Ok, refl, ap}
+use Rattle.std.proofs.Common.{subst, ◌∙◌, sym}
 use Rattle.std.specs.List.{AllByRecursion, AllZip}
 use Rattle.aig_core.specs.declared.circuit.Circuit.{Circuit}
 use Rattle.aig_core.specs.declared.fault.CheckFault.{CheckFault}
@@ -8,7 +9,8 @@ use Rattle.aig_core.proofs.Faultless.{well_formed, faultless}
 use Rattle.aig_core.proofs.Fitting.{well_formed_in_form}
 use Rattle.aig_core.specs.declared.circuit.Symbol.{Symbol}
 use Rattle.aig_core.specs.Names.{nothing_named}
-use Rattle.aig_core.specs.Wellformed.{IsWellFormed, IsWithinLimits, IsVariableUpTo, HasGoodSymbols, defined_variables, used_literals}
+use Rattle.aig_core.specs.Wellformed.{IsWellFormed, IsWithinLimits, IsVariableUpTo, HasGoodSymbols, defined_variables}
+use Rattle.aig_core.specs.Wellformed.{used_literals}
 use Rattle.aig_core.specs.Form.{IsInForm}
 use Rattle.aig_text.specs.declared.fault.ReadFault.{ReadFault}
 use Rattle.aig_text.specs.declared.fault.ReadKind.TheVariants as kinds
@@ -16,11 +18,14 @@ use Rattle.aig_text.specs.Lines.{Line, Ahead, ahead, lines_of}
 use Rattle.aig_text.specs.Rows.{ascii_word, Header, header_row, rows_of, sections, in_ascii}
 use Rattle.aig_text.specs.Laws.{IsOneLine}
 use Rattle.aig_text.specs.AsciiGrammar.{IsRowLine, IsAsciiText}
-use Rattle.aig_text.specs.Reading.{◌>>=◌, header_of, tail_at, header_at, sections_at, empty_circuit, circuit_at, unless_faulty, reading}
+use Rattle.aig_text.specs.Reading.{◌>>=◌, header_of, tail_at, header_at, sections_at, empty_circuit, circuit_at}
+use Rattle.aig_text.specs.Reading.{unless_faulty, reading}
 use Rattle.aig_text.proofs.Steps.{both_ok, ok_same}
 use Rattle.aig_text.proofs.Grammar.Rows.{first_told}
-use Rattle.aig_text.proofs.Grammar.Sections.{FourSections, four_told, rows_read, counts_read, in_form, sections_are_read, bare}
-use Rattle.aig_text.proofs.Grammar.Headers.{TellsHeader, HasCounts, own_header, header_tells, header_is_told, heads, limited, definitions_counted, within_limits}
+use Rattle.aig_text.proofs.Grammar.Sections.{FourSections, four_told, rows_read, counts_read, in_form}
+use Rattle.aig_text.proofs.Grammar.Sections.{sections_are_read, bare}
+use Rattle.aig_text.proofs.Grammar.Headers.{TellsHeader, HasCounts, own_header, header_tells, header_is_told, heads}
+use Rattle.aig_text.proofs.Grammar.Headers.{limited, definitions_counted, within_limits}
 use Rattle.aig_text.proofs.Grammar.WholeTail.{right_of, tail_holds, good_symbols, own_tail}
 use Rattle.aig_text.proofs.Grammar.Tail.{TellsTail, with_tail, tail_tells}
 use Rattle.aig_text.proofs.Loops.Cutting.{pieces}
@@ -41,7 +46,8 @@ abbrev then_tail : Header → Circuit × Ahead → Result Circuit ReadFault
 then_tail h numbered = tail_at h nothing_named numbered.0 numbered.1.number numbered.1.lines
 
 abbrev then_sections : Header × Ahead → Result Circuit ReadFault
-then_sections header = sections_at in_ascii header.0 sections (empty_circuit header.0.max_var) header.1 >>= then_tail header.0
+then_sections header =
+    sections_at in_ascii header.0 sections (empty_circuit header.0.max_var) header.1 >>= then_tail header.0
 
 no_comment : (h : Header) (c : Circuit) (ls rest : List Line) → FourSections h c ls rest → c.comment ≡ None
 no_comment h c ls rest f = subst (λ (d : Circuit). d.comment ≡ None) f.circuit refl
@@ -55,7 +61,8 @@ circuit_told limit (l ∷ ls) c is =
     let b = both_ok (sections_at in_ascii a.0.0 sections (empty_circuit a.0.0.max_var) a.0.1) (then_tail a.0.0) c a.2 in
     let s : FourSections a.0.0 b.0.0 a.0.1.lines b.0.1.lines = four_told a.0.0 a.0.1 b.0 b.1 in
     let t : TellsTail a.0.0 nothing_named b.0.0 c b.0.1.lines =
-    tail_tells a.0.0 nothing_named b.0.0 b.0.1.number b.0.1.lines c (no_comment a.0.0 b.0.0 a.0.1.lines b.0.1.lines s) b.2 in
+    tail_tells a.0.0 nothing_named b.0.0 b.0.1.number b.0.1.lines c
+    (no_comment a.0.0 b.0.0 a.0.1.lines b.0.1.lines s) b.2 in
     record {
       first = l;
       others = ls;
@@ -73,40 +80,53 @@ rows_kept : (limit : ℕ) (ls : List Line) (c : Circuit) (t : TellCircuit limit 
 rows_kept limit ls c t = ap rows_of t.tail.circuit
 
 counts_kept : (limit : ℕ) (ls : List Line) (c : Circuit) (t : TellCircuit limit ls c) → HasCounts t.header c
-counts_kept limit ls c t = sym (ap header_row t.tail.circuit) ∙ counts_read t.header t.numbered t.others t.rest t.sections
+counts_kept limit ls c t =
+    sym (ap header_row t.tail.circuit) ∙ counts_read t.header t.numbered t.others t.rest t.sections
 
 no_symbols : (h : Header) (c : Circuit) (ls rest : List Line) → FourSections h c ls rest → c.symbols ≡ []
 no_symbols h c ls rest f = subst (λ (d : Circuit). d.symbols ≡ []) f.circuit refl
 
 -- a circuit in form stays so with good symbols
-stays_in_form : (c d : Circuit) (ss : List Symbol) (comment : Option (List ℕ)) → with_tail c ss comment ≡ d → IsWithinLimits d → IsInForm c → HasGoodSymbols d → IsInForm d
+stays_in_form : (c d : Circuit) (ss : List Symbol) (comment : Option (List ℕ)) → with_tail c ss comment ≡ d
+    → IsWithinLimits d → IsInForm c → HasGoodSymbols d → IsInForm d
 stays_in_form c d ss comment is limits form good =
     record {
       limits = limits;
-      variables = subst (λ (e : Circuit). AllByRecursion (IsVariableUpTo e.max_var) (defined_variables e)) is form.variables;
-      literals = subst (λ (e : Circuit). AllByRecursion (λ n. n ≤ 2 * e.max_var + 1) (used_literals e)) is form.literals;
+      variables =
+          subst (λ (e : Circuit). AllByRecursion (IsVariableUpTo e.max_var) (defined_variables e)) is form.variables;
+      literals =
+          subst (λ (e : Circuit). AllByRecursion (λ n. n ≤ 2 * e.max_var + 1) (used_literals e)) is form.literals;
       symbols = good;
     }
 
-limits_back : (c d : Circuit) (ss : List Symbol) (comment : Option (List ℕ)) → with_tail c ss comment ≡ d → IsWithinLimits d → IsWithinLimits c
+limits_back : (c d : Circuit) (ss : List Symbol) (comment : Option (List ℕ)) → with_tail c ss comment ≡ d
+    → IsWithinLimits d → IsWithinLimits c
 limits_back c d ss comment is limits =
     let w : IsWithinLimits (with_tail c ss comment) = subst IsWithinLimits (sym is) limits in
     record { max_var = w.max_var; inputs = w.inputs; latches = w.latches; outputs = w.outputs; gates = w.gates }
 
 -- what the lines of a text tell is in form
-pub circuit_in_form : (limit : ℕ) (ls : List Line) (c : Circuit) → AllByRecursion IsOneLine ls → circuit_at limit ls ≡ Ok c → IsInForm c
+pub circuit_in_form : (limit : ℕ) (ls : List Line) (c : Circuit) → AllByRecursion IsOneLine ls
+    → circuit_at limit ls ≡ Ok c → IsInForm c
 circuit_in_form limit ls c one is =
     let t : TellCircuit limit ls c = circuit_told limit ls c is in
     let counts = counts_kept limit ls c t in
     let limits = within_limits ascii_word limit t.first t.header c t.heads counts in
-    let numbered : IsInForm t.numbered = in_form t.header t.numbered t.others t.rest (limits_back t.numbered c t.tail.symbols t.tail.comment t.tail.circuit limits) t.sections in
-    let lines : ls ≡ (t.first ∷ t.sections.front) ++ t.rest = t.are ∙ ap (λ (ks : List Line). t.first ∷ ks) t.sections.lines in
-    let behind : AllByRecursion IsOneLine t.rest = right_of IsOneLine (t.first ∷ t.sections.front) t.rest (subst (λ (ks : List Line). AllByRecursion IsOneLine ks) lines one) in
+    let numbered : IsInForm t.numbered =
+    in_form t.header t.numbered t.others t.rest
+    (limits_back t.numbered c t.tail.symbols t.tail.comment t.tail.circuit limits) t.sections in
+    let lines : ls ≡ (t.first ∷ t.sections.front) ++ t.rest = t.are
+    ∙ ap (λ (ks : List Line). t.first ∷ ks) t.sections.lines in
+    let behind : AllByRecursion IsOneLine t.rest =
+    right_of IsOneLine (t.first ∷ t.sections.front) t.rest
+    (subst (λ (ks : List Line). AllByRecursion IsOneLine ks) lines one) in
     stays_in_form t.numbered c t.tail.symbols t.tail.comment t.tail.circuit limits numbered
-    (good_symbols t.header t.numbered c t.rest t.tail (no_symbols t.header t.numbered t.others t.rest t.sections) counts behind)
+    (good_symbols t.header t.numbered c t.rest t.tail
+    (no_symbols t.header t.numbered t.others t.rest t.sections) counts behind)
 
 -- a well-formed circuit that the lines of a text tell has the text as its file
-told_is_accepted : (limit : ℕ) (text : List ℕ) (c : Circuit) → TellCircuit limit (lines_of text) c → IsWellFormed c → IsAsciiText text limit c
+told_is_accepted : (limit : ℕ) (text : List ℕ) (c : Circuit) → TellCircuit limit (lines_of text) c → IsWellFormed c
+    → IsAsciiText text limit c
 told_is_accepted limit text c t w =
     let counts = counts_kept limit (lines_of text) c t in
     record {
@@ -115,8 +135,13 @@ told_is_accepted limit text c t w =
       tail = t.rest;
       lines = t.are ∙ ap (λ (ms : List Line). t.first ∷ ms) t.sections.lines;
       is_header = heads ascii_word limit t.first t.header c t.heads counts;
-      are_rows = subst (λ (rows : List _). AllZip IsRowLine t.sections.front rows) (rows_read t.header t.numbered t.others t.rest t.sections ∙ rows_kept limit (lines_of text) c t) t.sections.spelled;
-      is_tail = tail_holds t.header nothing_named t.numbered c t.rest t.tail (no_symbols t.header t.numbered t.others t.rest t.sections);
+      are_rows =
+          subst (λ (rows : List _). AllZip IsRowLine t.sections.front rows)
+          (rows_read t.header t.numbered t.others t.rest t.sections ∙ rows_kept limit (lines_of text) c t)
+          t.sections.spelled;
+      is_tail =
+          tail_holds t.header nothing_named t.numbered c t.rest t.tail
+          (no_symbols t.header t.numbered t.others t.rest t.sections);
       limited = limited ascii_word limit t.first t.header c t.heads counts;
       counted = definitions_counted ascii_word limit t.first t.header c t.heads counts;
       well_formed = w;
@@ -127,7 +152,8 @@ no_fault c d None h = (refl, ok_same {E = ReadFault} c d h)
 no_fault c d (Some f) h = cc
 
 -- a text that is read is a file of the circuit
-pub reading_is_accepted : (limit : ℕ) (text : List ℕ) (c : Circuit) → reading limit text ≡ Ok c → IsAsciiText text limit c
+pub reading_is_accepted : (limit : ℕ) (text : List ℕ) (c : Circuit) → reading limit text ≡ Ok c
+    → IsAsciiText text limit c
 unfolding reading
 reading_is_accepted limit text c h =
     let r = both_ok (circuit_at limit (lines_of text)) (λ (d : Circuit). unless_faulty d (first_fault d)) c h in
@@ -137,16 +163,24 @@ reading_is_accepted limit text c h =
     (told_is_accepted limit text r.0 (circuit_told limit (lines_of text) r.0 r.1) (well_formed r.0 form n.0))
 
 -- the lines of a circuit's file are read as the circuit
-steps : (limit k : ℕ) (l : Line) (others rest : List Line) (c : Circuit) → header_of ascii_word limit l ≡ Ok (own_header c)
-    → sections_at in_ascii (own_header c) sections (empty_circuit c.max_var) (ahead 2 others) ≡ Ok (bare c, ahead k rest) → tail_at (own_header c) nothing_named (bare c) k rest ≡ Ok c → circuit_at limit (l ∷ others) ≡ Ok c
+steps : (limit k : ℕ) (l : Line) (others rest : List Line) (c : Circuit)
+    → header_of ascii_word limit l ≡ Ok (own_header c)
+    → sections_at in_ascii (own_header c) sections (empty_circuit c.max_var) (ahead 2 others)
+    ≡ Ok (bare c, ahead k rest) → tail_at (own_header c) nothing_named (bare c) k rest ≡ Ok c → circuit_at limit
+    (l ∷ others) ≡ Ok c
 unfolding circuit_at
 steps limit k l others rest c h s t = rw (h, s) t
 
-accepted_lines : (limit : ℕ) (text : List ℕ) (c : Circuit) → IsAsciiText text limit c → circuit_at limit (lines_of text) ≡ Ok c
+accepted_lines : (limit : ℕ) (text : List ℕ) (c : Circuit) → IsAsciiText text limit c
+    → circuit_at limit (lines_of text) ≡ Ok c
 accepted_lines limit text c a =
-    let h = header_is_told ascii_word limit a.header c (refl, (refl, (refl, tt))) a.is_header a.limited a.well_formed.limits a.counted in
+    let h =
+    header_is_told ascii_word limit a.header c
+    (refl, (refl, (refl, tt))) a.is_header a.limited a.well_formed.limits a.counted in
     let s = sections_are_read c (well_formed_in_form c a.well_formed) 2 a.numbered a.tail a.are_rows in
-    rw a.lines (steps limit s.0 a.header (a.numbered ++ a.tail) a.tail c h s.1 (own_tail c s.0 a.tail a.well_formed.symbols a.is_tail))
+    rw a.lines
+    (steps limit s.0 a.header (a.numbered ++ a.tail) a.tail c h s.1
+    (own_tail c s.0 a.tail a.well_formed.symbols a.is_tail))
 
 -- a circuit's file is read as the circuit
 pub accepted_is_read : (limit : ℕ) (text : List ℕ) (c : Circuit) → IsAsciiText text limit c → reading limit text ≡ Ok c

@@ -24,7 +24,8 @@ count_is h c e Input = sym (ap (λ (ns : List ℕ). get_or ns 1 0) e)
 count_is h c e Latch = sym (ap (λ (ns : List ℕ). get_or ns 2 0) e)
 count_is h c e Output = sym (ap (λ (ns : List ℕ). get_or ns 3 0) e)
 
-placed : (h : Header) (c : Circuit) → HasCounts h c → (ss : List Symbol) → AllByRecursion (IsPlaced h) ss → AllByRecursion (λ (s : Symbol). s.position < count_of c s.kind) ss
+placed : (h : Header) (c : Circuit) → HasCounts h c → (ss : List Symbol) → AllByRecursion (IsPlaced h) ss
+    → AllByRecursion (λ (s : Symbol). s.position < count_of c s.kind) ss
 placed h c e [] p = tt
 placed h c e (s ∷ ss) p = (subst (λ n. s.position < n) (count_is h c e s.kind) p.0, placed h c e ss p.1)
 
@@ -37,7 +38,8 @@ right_of P [] ys h = h
 right_of P (x ∷ xs) ys h = right_of P xs ys h.1
 
 -- lines that tell the tail of a circuit that had none
-module _ (h : Header) (before : Names) (c d : Circuit) (ls : List Line) (t : TellsTail h before c d ls) (none : c.symbols ≡ []) where
+module _ (h : Header) (before : Names) (c d : Circuit) (ls : List Line) (t : TellsTail h before c d ls)
+    (none : c.symbols ≡ []) where
   symbols_told : t.symbols ≡ d.symbols
   symbols_told = ap (λ (ss : List Symbol). ss ++ t.symbols) (sym none) ∙ ap (λ (e : Circuit). e.symbols) t.circuit
 
@@ -47,18 +49,25 @@ module _ (h : Header) (before : Names) (c d : Circuit) (ls : List Line) (t : Tel
     rest = t.rest;
     are = t.are;
     symbols = subst (λ (ss : List Symbol). AllZip IsSymbolLine t.named ss) symbols_told t.spelled;
-    comment = subst (λ (o : Option (List ℕ)). IsComment t.rest o) (ap (λ (e : Circuit). e.comment) t.circuit) t.is_comment;
+    comment =
+        subst (λ (o : Option (List ℕ)). IsComment t.rest o) (ap (λ (e : Circuit). e.comment) t.circuit) t.is_comment;
   }
 
 -- the symbols that lines tell are good
-pub good_symbols : (h : Header) (c d : Circuit) (ls : List Line) → TellsTail h nothing_named c d ls → c.symbols ≡ [] → HasCounts h d → AllByRecursion IsOneLine ls → HasGoodSymbols d
+pub good_symbols : (h : Header) (c d : Circuit) (ls : List Line) → TellsTail h nothing_named c d ls → c.symbols ≡ []
+    → HasCounts h d → AllByRecursion IsOneLine ls → HasGoodSymbols d
 good_symbols h c d ls t none counts one =
-    let named : AllByRecursion IsOneLine t.named = left_of IsOneLine t.named t.rest (subst (λ (ks : List Line). AllByRecursion IsOneLine ks) t.are one) in
+    let named : AllByRecursion IsOneLine t.named =
+    left_of IsOneLine t.named t.rest (subst (λ (ks : List Line). AllByRecursion IsOneLine ks) t.are one) in
     let symbols : t.symbols ≡ d.symbols = symbols_told h nothing_named c d ls t none in
     record {
-      positions = subst (λ (ss : List Symbol). AllByRecursion (λ (s : Symbol). s.position < count_of d s.kind) ss) symbols (placed h d counts t.symbols (new_placed h nothing_named t.symbols t.new));
+      positions =
+          subst (λ (ss : List Symbol). AllByRecursion (λ (s : Symbol). s.position < count_of d s.kind) ss) symbols
+          (placed h d counts t.symbols (new_placed h nothing_named t.symbols t.new));
       apart = subst NameApart symbols (new_apart h t.symbols t.new);
-      lines = subst (λ (ss : List Symbol). AllByRecursion (λ (s : Symbol). ¬ IsAmong 10 s.name) ss) symbols (names_in_lines t.named t.symbols t.spelled named);
+      lines =
+          subst (λ (ss : List Symbol). AllByRecursion (λ (s : Symbol). ¬ IsAmong 10 s.name) ss) symbols
+          (names_in_lines t.named t.symbols t.spelled named);
     }
 
 own_count : (c : Circuit) (k : Kind) → count_of c k ≡ count_named (own_header c) k
@@ -66,12 +75,15 @@ own_count c Input = refl
 own_count c Latch = refl
 own_count c Output = refl
 
-own_placed : (c : Circuit) (ss : List Symbol) → AllByRecursion (λ (s : Symbol). s.position < count_of c s.kind) ss → AllByRecursion (IsPlaced (own_header c)) ss
+own_placed : (c : Circuit) (ss : List Symbol) → AllByRecursion (λ (s : Symbol). s.position < count_of c s.kind) ss
+    → AllByRecursion (IsPlaced (own_header c)) ss
 own_placed c [] p = tt
 own_placed c (s ∷ ss) p = (subst (λ n. s.position < n) (own_count c s.kind) p.0, own_placed c ss p.1)
 
 -- the tail of a circuit with good symbols is read as it
-pub own_tail : (c : Circuit) (n : ℕ) (ls : List Line) → HasGoodSymbols c → AreTailLines ls c → tail_at (own_header c) nothing_named (bare c) n ls ≡ Ok c
+pub own_tail : (c : Circuit) (n : ℕ) (ls : List Line) → HasGoodSymbols c → AreTailLines ls c
+    → tail_at (own_header c) nothing_named (bare c) n ls ≡ Ok c
 own_tail c n ls good a =
     ap (tail_at (own_header c) nothing_named (bare c) n) a.are
-    ∙ tail_is_told (own_header c) nothing_named (bare c) n a.named a.rest c.symbols c.comment refl a.symbols (apart_new (own_header c) c.symbols (own_placed c c.symbols good.positions) good.apart) a.comment
+    ∙ tail_is_told (own_header c) nothing_named (bare c) n a.named a.rest c.symbols c.comment refl a.symbols
+    (apart_new (own_header c) c.symbols (own_placed c c.symbols good.positions) good.apart) a.comment

@@ -1,9 +1,12 @@
 -- What is kept of a number answers each question that is asked of it.
-use Rattle.std.proofs.Common.{◌≡◌, ◌<◌, ◌≤◌, ◌+◌, ◌-◌, ◌*◌, ◌%◌, ◌^◌, ℕ, List, Bool, true, false, eqb, ◌&&◌, zero, map, take, drop, length, get_or, refl, sym, ap, ◌∙◌, arith, inl, inr, Option, Some, None, ◌++◌, [], ◌∷◌, suc, append-nil, append_assoc}
+use Rattle.std.proofs.Common.{◌≡◌, ◌<◌, ◌≤◌, ◌+◌, ◌-◌, ◌*◌, ◌%◌, ◌^◌, ℕ, List, Bool, true, false, eqb, ◌&&◌, zero}
+use Rattle.std.proofs.Common.{map, take, drop, length, get_or, refl, sym, ap, ◌∙◌, arith, inl, inr, Option, Some}
+use Rattle.std.proofs.Common.{None, ◌++◌, [], ◌∷◌, suc, append-nil, append_assoc}
 use Rattle.std.specs.List.{prefix_len}
 use Rattle.std.proofs.lemmas.Bool.{lt-ltb, le-ltb, cases_lt, and_parts, eqb-true}
 use Rattle.std.proofs.lemmas.List.Sums.{prefix_len_is, fold_more}
-use Rattle.std.proofs.lemmas.List.{take_all, take_more_set, take-append-drop, drop-set-lt, drop-replicate, drop-drop, length-replicate}
+use Rattle.std.proofs.lemmas.List.{take_all, take_more_set, take-append-drop, drop-set-lt, drop-replicate, drop-drop}
+use Rattle.std.proofs.lemmas.List.{length-replicate}
 use Rattle.std.proofs.Math.ListN.{set, length-set}
 use Rattle.aig_text.specs.Spelling.{is_digit, value_of, zeros}
 use Rattle.aig_text.specs.Scanning.{after_gap, number_at, more_numbers_at, is_line_end, ◌>>=◌}
@@ -29,18 +32,22 @@ kept_digit n d = elim (cases_lt n (2 ^ 33)) [
       let large : 2 ^ 33 ≤ 10 * n + d = omega arith in
       let larger : 2 ^ 33 ≤ 10 * (2 ^ 33 + n % 2) + d = omega arith in
       let same : (10 * (2 ^ 33 + n % 2) + d) % 2 ≡ (10 * n + d) % 2 = omega arith in
-      rw (kept_large n h, kept_large (10 * n + d) large, kept_large (10 * (2 ^ 33 + n % 2) + d) larger) (ap (λ r. 2 ^ 33 + r) same)
+      rw (kept_large n h, kept_large (10 * n + d) large, kept_large (10 * (2 ^ 33 + n % 2) + d) larger)
+      (ap (λ r. 2 ^ 33 + r) same)
 ]
 
 -- the number that the digits at the front spell, with one more
-pub value_more : (bytes : List ℕ) (i : ℕ) → i < length bytes → value_of (take (i + 1) bytes) ≡ 10 * value_of (take i bytes) + (get_or bytes i 0 - 48)
+pub value_more : (bytes : List ℕ) (i : ℕ) → i < length bytes
+    → value_of (take (i + 1) bytes) ≡ 10 * value_of (take i bytes) + (get_or bytes i 0 - 48)
 value_more bytes i h = fold_more (λ n b. 10 * n + (b - 48)) 0 bytes i 0 h
 
 -- as many digits stand at the front as come before the first byte that is none
-pub digits_end : (bytes : List ℕ) (i : ℕ) → i ≤ length bytes → ((k : ℕ) → k < i → is_digit (get_or bytes k 0) ≡ true) → (i < length bytes → is_digit (get_or bytes i 0) ≡ false) → i ≡ prefix_len is_digit bytes
+pub digits_end : (bytes : List ℕ) (i : ℕ) → i ≤ length bytes → ((k : ℕ) → k < i → is_digit (get_or bytes k 0) ≡ true)
+    → (i < length bytes → is_digit (get_or bytes i 0) ≡ false) → i ≡ prefix_len is_digit bytes
 digits_end bytes i within before here = sym (prefix_len_is is_digit bytes i 0 within before here)
 
-pub value_ends : (bytes : List ℕ) (i value : ℕ) → i ≡ prefix_len is_digit bytes → value ≡ kept (value_of (take i bytes)) → value ≡ kept (value_of (take (prefix_len is_digit bytes) bytes))
+pub value_ends : (bytes : List ℕ) (i value : ℕ) → i ≡ prefix_len is_digit bytes
+    → value ≡ kept (value_of (take i bytes)) → value ≡ kept (value_of (take (prefix_len is_digit bytes) bytes))
 value_ends bytes i value e h = h ∙ ap (λ n. kept (value_of (take n bytes))) e
 
 -- numbers with others before them
@@ -52,7 +59,8 @@ pub put_none : (r : Option (List ℕ)) → put_before [] r ≡ r
 put_none None = refl
 put_none (Some ns) = refl
 
-put_one : (front : List ℕ) (n : ℕ) (r : Option (List ℕ)) → put_before (front ++ n ∷ []) r ≡ put_before front (put_before (n ∷ []) r)
+put_one : (front : List ℕ) (n : ℕ) (r : Option (List ℕ))
+    → put_before (front ++ n ∷ []) r ≡ put_before front (put_before (n ∷ []) r)
 put_one front n None = refl
 put_one front n (Some ns) = ap (λ (xs : List ℕ). Some xs) (append_assoc front (n ∷ []) ns)
 
@@ -60,7 +68,8 @@ put_one front n (Some ns) = ap (λ (xs : List ℕ). Some xs) (append_assoc front
 abbrev pub Behind : ℕ → List ℕ → Option (ℕ × List ℕ) → Type 0
 Behind value after read = (n : ℕ) × (read ≡ Some (n, after)) × (kept n ≡ value)
 
-pub behind : (read : Option (ℕ × List ℕ)) (value : ℕ) (after : List ℕ) → kept_first read ≡ Some (value, after) → Behind value after read
+pub behind : (read : Option (ℕ × List ℕ)) (value : ℕ) (after : List ℕ) → kept_first read ≡ Some (value, after)
+    → Behind value after read
 behind None value after h = cc
 behind (Some x) value after h =
     let p : (kept x.0, x.1) ≡ (value, after) = cc in
@@ -70,7 +79,8 @@ pub none_behind : (read : Option (ℕ × List ℕ)) → kept_first read ≡ None
 none_behind None h = refl
 none_behind (Some x) h = cc
 
-kept_more : (n : ℕ) (r : Option (List ℕ)) → kept_numbers (r >>= λ others. Some (n ∷ others)) ≡ put_before (kept n ∷ []) (kept_numbers r)
+kept_more : (n : ℕ) (r : Option (List ℕ))
+    → kept_numbers (r >>= λ others. Some (n ∷ others)) ≡ put_before (kept n ∷ []) (kept_numbers r)
 kept_more n None = refl
 kept_more n (Some ns) = refl
 
@@ -79,27 +89,34 @@ module _ (ended : Bool) (least : ℕ) where
   abbrev may_end : List ℕ → Bool
   may_end bytes = eqb least 0 && is_line_end ended bytes
 
-  numbers_one : (k j : ℕ) (bytes digits after : List ℕ) (n : ℕ) → k ≡ suc j → may_end bytes ≡ false → after_gap bytes ≡ Some digits → number_at digits ≡ Some (n, after)
-      → put_before (kept n ∷ []) (kept_numbers (more_numbers_at ended (least - 1) j after)) ≡ kept_numbers (more_numbers_at ended least k bytes)
+  numbers_one : (k j : ℕ) (bytes digits after : List ℕ) (n : ℕ) → k ≡ suc j → may_end bytes ≡ false
+      → after_gap bytes ≡ Some digits → number_at digits ≡ Some (n, after)
+      → put_before (kept n ∷ []) (kept_numbers (more_numbers_at ended (least - 1) j after))
+      ≡ kept_numbers (more_numbers_at ended least k bytes)
   unfolding more_numbers_at
-  numbers_one k j bytes digits after n e goes gap h = rw (e, goes, gap, h) (sym (kept_more n (more_numbers_at ended (least - 1) j after)))
+  numbers_one k j bytes digits after n e goes gap h =
+      rw (e, goes, gap, h) (sym (kept_more n (more_numbers_at ended (least - 1) j after)))
 
   -- one more number
   pub numbers_more : (k j : ℕ) (front bytes digits after : List ℕ) (value : ℕ) → k ≡ suc j → may_end bytes ≡ false
       → after_gap bytes ≡ Some digits → kept_first (number_at digits) ≡ Some (value, after)
-      → put_before (front ++ value ∷ []) (kept_numbers (more_numbers_at ended (least - 1) j after)) ≡ put_before front (kept_numbers (more_numbers_at ended least k bytes))
+      → put_before (front ++ value ∷ []) (kept_numbers (more_numbers_at ended (least - 1) j after))
+      ≡ put_before front (kept_numbers (more_numbers_at ended least k bytes))
   numbers_more k j front bytes digits after value e goes gap h =
       let b : Behind value after (number_at digits) = behind (number_at digits) value after h in
       put_one front value (kept_numbers (more_numbers_at ended (least - 1) j after)) ∙ ap (put_before front) (
-      ap (λ m. put_before (m ∷ []) (kept_numbers (more_numbers_at ended (least - 1) j after))) (sym b.2) ∙ numbers_one k j bytes digits after b.0 e goes gap b.1
+      ap (λ m. put_before (m ∷ []) (kept_numbers (more_numbers_at ended (least - 1) j after))) (sym b.2)
+      ∙ numbers_one k j bytes digits after b.0 e goes gap b.1
       )
 
   -- no number where one is due
-  pub numbers_no_gap : (k j : ℕ) (front bytes : List ℕ) → k ≡ suc j → may_end bytes ≡ false → after_gap bytes ≡ None → put_before front (kept_numbers (more_numbers_at ended least k bytes)) ≡ None
+  pub numbers_no_gap : (k j : ℕ) (front bytes : List ℕ) → k ≡ suc j → may_end bytes ≡ false → after_gap bytes ≡ None
+      → put_before front (kept_numbers (more_numbers_at ended least k bytes)) ≡ None
   unfolding more_numbers_at
   numbers_no_gap k j front bytes e goes gap = rw (e, goes, gap) refl
 
-  pub numbers_no_digit : (k j : ℕ) (front bytes digits : List ℕ) → k ≡ suc j → may_end bytes ≡ false → after_gap bytes ≡ Some digits → kept_first (number_at digits) ≡ None
+  pub numbers_no_digit : (k j : ℕ) (front bytes digits : List ℕ) → k ≡ suc j → may_end bytes ≡ false
+      → after_gap bytes ≡ Some digits → kept_first (number_at digits) ≡ None
       → put_before front (kept_numbers (more_numbers_at ended least k bytes)) ≡ None
   unfolding more_numbers_at
   numbers_no_digit k j front bytes digits e goes gap h = rw (e, goes, gap, none_behind _ h) refl
@@ -108,7 +125,8 @@ kept-zeros : (count : ℕ) → map kept (zeros count) ≡ zeros count
 kept-zeros zero = refl
 kept-zeros (suc count) = ap (λ (ns : List ℕ). 0 ∷ ns) (kept-zeros count)
 
-left_out_at : (ended : Bool) (count : ℕ) (bytes : List ℕ) → is_line_end ended bytes ≡ true → more_numbers_at ended 0 count bytes ≡ Some (zeros count)
+left_out_at : (ended : Bool) (count : ℕ) (bytes : List ℕ) → is_line_end ended bytes ≡ true
+    → more_numbers_at ended 0 count bytes ≡ Some (zeros count)
 unfolding more_numbers_at
 left_out_at ended zero bytes h = rw h refl
 left_out_at ended (suc count) bytes h = rw h refl
@@ -116,18 +134,23 @@ left_out_at ended (suc count) bytes h = rw h refl
 -- the others are left out
 pub numbers_end : (ended : Bool) (least count : ℕ) (front bytes : List ℕ) → least ≡ 0 → is_line_end ended bytes ≡ true
     → put_before front (kept_numbers (more_numbers_at ended least count bytes)) ≡ Some (front ++ zeros count)
-numbers_end ended least count front bytes none h = rw (none, left_out_at ended count bytes h) (ap (λ (ns : List ℕ). Some (front ++ ns)) (kept-zeros count))
+numbers_end ended least count front bytes none h =
+    rw (none, left_out_at ended count bytes h) (ap (λ (ns : List ℕ). Some (front ++ ns)) (kept-zeros count))
 
 -- all numbers are there
-pub numbers_full : (ended : Bool) (least : ℕ) (front bytes : List ℕ) → is_line_end ended bytes ≡ true → put_before front (kept_numbers (more_numbers_at ended least 0 bytes)) ≡ Some front
+pub numbers_full : (ended : Bool) (least : ℕ) (front bytes : List ℕ) → is_line_end ended bytes ≡ true
+    → put_before front (kept_numbers (more_numbers_at ended least 0 bytes)) ≡ Some front
 unfolding more_numbers_at
 numbers_full ended least front bytes h = rw h (ap (λ (ns : List ℕ). Some ns) (append-nil front))
 
-pub numbers_no_end : (ended : Bool) (least : ℕ) (front bytes : List ℕ) → is_line_end ended bytes ≡ false → put_before front (kept_numbers (more_numbers_at ended least 0 bytes)) ≡ None
+pub numbers_no_end : (ended : Bool) (least : ℕ) (front bytes : List ℕ) → is_line_end ended bytes ≡ false
+    → put_before front (kept_numbers (more_numbers_at ended least 0 bytes)) ≡ None
 unfolding more_numbers_at
 numbers_no_end ended least front bytes h = rw h refl
 
-pub put_front : (ended : Bool) (least n : ℕ) (items text : List ℕ) → put_before (take 0 items) (kept_numbers (more_numbers_at ended (least - 0) (n - 0) text)) ≡ kept_numbers (more_numbers_at ended least n text)
+pub put_front : (ended : Bool) (least n : ℕ) (items text : List ℕ)
+    → put_before (take 0 items) (kept_numbers (more_numbers_at ended (least - 0) (n - 0) text))
+    ≡ kept_numbers (more_numbers_at ended least n text)
 put_front ended least n items text =
     let e : n - 0 ≡ n = omega arith in
     let l : least - 0 ≡ least = omega arith in rw (e, l) (put_none (kept_numbers (more_numbers_at ended least n text)))
@@ -138,7 +161,8 @@ pub record AreStored (ended : Bool) (least n i : ℕ) (items bytes : List ℕ) (
   pub empty : drop i items ≡ zeros (n - i)
   pub are : put_before (take i items) (kept_numbers (more_numbers_at ended (least - i) (n - i) bytes)) ≡ whole
 
-pub stored_at_first : (ended : Bool) (least n : ℕ) (text : List ℕ) → AreStored ended least n 0 (zeros n) text (kept_numbers (more_numbers_at ended least n text))
+pub stored_at_first : (ended : Bool) (least n : ℕ) (text : List ℕ)
+    → AreStored ended least n 0 (zeros n) text (kept_numbers (more_numbers_at ended least n text))
 stored_at_first ended least n text = record {
   long = length-replicate n 0;
   empty = let all : n - 0 ≡ n = omega arith in ap zeros (sym all);
@@ -146,8 +170,10 @@ stored_at_first ended least n text = record {
 }
 
 -- one more number is stored at its place
-pub stored_more : (ended : Bool) (least n i : ℕ) (items bytes digits after : List ℕ) (value : ℕ) (whole : Option (List ℕ)) → i < n → AreStored ended least n i items bytes whole
-    → (eqb (least - i) 0 && is_line_end ended bytes) ≡ false → after_gap bytes ≡ Some digits → kept_first (number_at digits) ≡ Some (value, after)
+pub stored_more : (ended : Bool) (least n i : ℕ) (items bytes digits after : List ℕ) (value : ℕ)
+    (whole : Option (List ℕ)) → i < n → AreStored ended least n i items bytes whole
+    → (eqb (least - i) 0 && is_line_end ended bytes) ≡ false → after_gap bytes ≡ Some digits
+    → kept_first (number_at digits) ≡ Some (value, after)
     → AreStored ended least n (i + 1) (set items i value) after whole
 stored_more ended least n i items bytes digits after value whole l s goes gap h =
     let inside : i < length items = let e : length items ≡ n = s.long in omega arith in
@@ -155,37 +181,53 @@ stored_more ended least n i items bytes digits after value whole l s goes gap h 
     let left : n - (i + 1) ≡ n - i - 1 = omega arith in
     record {
       long = length-set _ _ _ ∙ s.long;
-      empty = drop-set-lt (i + 1) items i value (omega arith) ∙ sym (drop-drop 1 i items) ∙ ap (drop 1) s.empty ∙ drop-replicate 1 (n - i) 0 ∙ ap zeros (sym left);
+      empty =
+          drop-set-lt (i + 1) items i value (omega arith) ∙ sym (drop-drop 1 i items) ∙ ap (drop 1) s.empty
+          ∙ drop-replicate 1 (n - i) 0 ∙ ap zeros (sym left);
       are =
-          ap (λ front. put_before front (kept_numbers (more_numbers_at ended (least - (i + 1)) (n - (i + 1)) after))) (take_more_set items i value inside)
-          ∙ rw less (numbers_more ended (least - i) (n - i) (n - (i + 1)) (take i items) bytes digits after value (omega arith) goes gap h) ∙ s.are;
+          ap (λ front. put_before front (kept_numbers (more_numbers_at ended (least - (i + 1)) (n - (i + 1)) after)))
+          (take_more_set items i value inside)
+          ∙ rw less
+          (numbers_more ended (least - i) (n - i) (n - (i + 1)) (take i items) bytes digits after value
+          (omega arith) goes gap h) ∙ s.are;
     }
 
 -- no more numbers stand there
-pub stored_all : (ended : Bool) (least n i : ℕ) (items bytes : List ℕ) (whole : Option (List ℕ)) → AreStored ended least n i items bytes whole → (eqb (least - i) 0 && is_line_end ended bytes) ≡ true → whole ≡ Some items
+pub stored_all : (ended : Bool) (least n i : ℕ) (items bytes : List ℕ) (whole : Option (List ℕ))
+    → AreStored ended least n i items bytes whole → (eqb (least - i) 0 && is_line_end ended bytes) ≡ true
+    → whole ≡ Some items
 stored_all ended least n i items bytes whole s ends =
     let both = and_parts (eqb (least - i) 0) (is_line_end ended bytes) ends in
     sym s.are ∙ numbers_end ended (least - i) (n - i) (take i items) bytes (eqb-true (least - i) 0 both.0) both.1
-    ∙ ap (λ (rest : List ℕ). Some (take i items ++ rest)) (sym s.empty) ∙ ap (λ (ns : List ℕ). Some ns) (take-append-drop i items)
+    ∙ ap (λ (rest : List ℕ). Some (take i items ++ rest)) (sym s.empty)
+    ∙ ap (λ (ns : List ℕ). Some ns) (take-append-drop i items)
 
 -- no number stands where one is due
-pub stored_no_gap : (ended : Bool) (least n i : ℕ) (items bytes : List ℕ) (whole : Option (List ℕ)) → i < n → AreStored ended least n i items bytes whole
+pub stored_no_gap : (ended : Bool) (least n i : ℕ) (items bytes : List ℕ) (whole : Option (List ℕ)) → i < n
+    → AreStored ended least n i items bytes whole
     → (eqb (least - i) 0 && is_line_end ended bytes) ≡ false → after_gap bytes ≡ None → whole ≡ None
-stored_no_gap ended least n i items bytes whole l s goes gap = sym s.are ∙ numbers_no_gap ended (least - i) (n - i) (n - (i + 1)) (take i items) bytes (omega arith) goes gap
+stored_no_gap ended least n i items bytes whole l s goes gap =
+    sym s.are ∙ numbers_no_gap ended (least - i) (n - i) (n - (i + 1)) (take i items) bytes (omega arith) goes gap
 
-pub stored_no_digit : (ended : Bool) (least n i : ℕ) (items bytes digits : List ℕ) (whole : Option (List ℕ)) → i < n → AreStored ended least n i items bytes whole
-    → (eqb (least - i) 0 && is_line_end ended bytes) ≡ false → after_gap bytes ≡ Some digits → kept_first (number_at digits) ≡ None → whole ≡ None
-stored_no_digit ended least n i items bytes digits whole l s goes gap h = sym s.are ∙ numbers_no_digit ended (least - i) (n - i) (n - (i + 1)) (take i items) bytes digits (omega arith) goes gap h
+pub stored_no_digit : (ended : Bool) (least n i : ℕ) (items bytes digits : List ℕ) (whole : Option (List ℕ)) → i < n
+    → AreStored ended least n i items bytes whole
+    → (eqb (least - i) 0 && is_line_end ended bytes) ≡ false → after_gap bytes ≡ Some digits
+    → kept_first (number_at digits) ≡ None → whole ≡ None
+stored_no_digit ended least n i items bytes digits whole l s goes gap h =
+    sym s.are
+    ∙ numbers_no_digit ended (least - i) (n - i) (n - (i + 1)) (take i items) bytes digits (omega arith) goes gap h
 
 -- the line ends behind all numbers
-pub stored_full : (ended : Bool) (least n i : ℕ) (items bytes : List ℕ) (whole : Option (List ℕ)) → n ≤ i → AreStored ended least n i items bytes whole → is_line_end ended bytes ≡ true → whole ≡ Some items
+pub stored_full : (ended : Bool) (least n i : ℕ) (items bytes : List ℕ) (whole : Option (List ℕ)) → n ≤ i
+    → AreStored ended least n i items bytes whole → is_line_end ended bytes ≡ true → whole ≡ Some items
 stored_full ended least n i items bytes whole l s ends =
     let none : n - i ≡ 0 = omega arith in
     let all : take i items ≡ items = let e : length items ≡ n = s.long in take_all i items (omega arith) in
     sym s.are ∙ rw (none, all) (numbers_full ended (least - i) items bytes ends)
 
 -- the line goes on behind all numbers
-pub stored_no_end : (ended : Bool) (least n i : ℕ) (items bytes : List ℕ) (whole : Option (List ℕ)) → n ≤ i → AreStored ended least n i items bytes whole → is_line_end ended bytes ≡ false → whole ≡ None
+pub stored_no_end : (ended : Bool) (least n i : ℕ) (items bytes : List ℕ) (whole : Option (List ℕ)) → n ≤ i
+    → AreStored ended least n i items bytes whole → is_line_end ended bytes ≡ false → whole ≡ None
 stored_no_end ended least n i items bytes whole l s ends =
     let none : n - i ≡ 0 = omega arith in
     sym s.are ∙ rw none (numbers_no_end ended (least - i) (take i items) bytes ends)

@@ -1,5 +1,6 @@
 -- Symbol lines are judged by what is kept of their positions as by the positions.
-use Rattle.std.proofs.Common.{◌≡◌, ◌<◌, ◌≤◌, ◌^◌, ℕ, List, Bool, true, false, cond, refl, sym, ap, subst, ◌∙◌, arith, inl, inr, Option, Some, None, Ok, Err}
+use Rattle.std.proofs.Common.{◌≡◌, ◌<◌, ◌≤◌, ◌^◌, ℕ, List, Bool, true, false, cond, refl, sym, ap, subst, ◌∙◌, arith}
+use Rattle.std.proofs.Common.{inl, inr, Option, Some, None, Ok, Err}
 use Rattle.std.specs.Prelude.{nat_le, not}
 use Rattle.std.proofs.lemmas.Bool.{cases_lt, le-leb, lt-leb}
 use Rattle.aig_core.specs.declared.names.Names.{Names}
@@ -29,7 +30,8 @@ behind (Some s) k h =
 small_behind : (n k : ℕ) → kept n ≡ k → k < 2 ^ 33 → n ≡ k
 small_behind n k h small = elim (cases_lt n (2 ^ 33)) [
   | inl l ↦ sym (kept_small n l) ∙ h
-  | inr l ↦ let large : 2 ^ 33 ≤ k = subst (λ m. 2 ^ 33 ≤ m) (sym (kept_large n l) ∙ h) (omega arith) in absurd (omega arith)
+  | inr l ↦ let large : 2 ^ 33 ≤ k = subst (λ m. 2 ^ 33 ≤ m) (sym (kept_large n l) ∙ h) (omega arith) in
+  absurd (omega arith)
 ]
 
 far_behind : (count n k : ℕ) → kept n ≡ k → count < 2 ^ 33 → count ≤ k → count ≤ n
@@ -44,34 +46,43 @@ module _ (h : Header) (before : Names) where
   no_symbol None e = refl
   no_symbol (Some s) e = cc
 
-  judged : (s : Symbol) (far twice : Bool) → nat_le (count_named h s.kind) s.position ≡ far → is_named before s.kind s.position ≡ twice
-      → checked_symbol h before (Some s) ≡ unless_wrong s (cond far (Some kinds.SymbolRange) (cond twice (Some kinds.SymbolTwice) None))
+  judged : (s : Symbol) (far twice : Bool) → nat_le (count_named h s.kind) s.position ≡ far
+      → is_named before s.kind s.position ≡ twice
+      → checked_symbol h before (Some s)
+      ≡ unless_wrong s (cond far (Some kinds.SymbolRange) (cond twice (Some kinds.SymbolTwice) None))
   unfolding checked_symbol
   judged s far twice f t = rw (f, t) refl
 
-  judged_far : (s : Symbol) → nat_le (count_named h s.kind) s.position ≡ true → checked_symbol h before (Some s) ≡ Err kinds.SymbolRange
+  judged_far : (s : Symbol) → nat_le (count_named h s.kind) s.position ≡ true
+      → checked_symbol h before (Some s) ≡ Err kinds.SymbolRange
   unfolding checked_symbol
   judged_far s f = rw f refl
 
-  pub symbol_far : (o : Option Symbol) (kind : Kind) (position : ℕ) (name : List ℕ) → kept_symbol o ≡ Some (symbol kind position name) → count_named h kind < 2 ^ 33 → count_named h kind ≤ position
+  pub symbol_far : (o : Option Symbol) (kind : Kind) (position : ℕ) (name : List ℕ)
+      → kept_symbol o ≡ Some (symbol kind position name) → count_named h kind < 2 ^ 33 → count_named h kind ≤ position
       → checked_symbol h before o ≡ Err kinds.SymbolRange
   symbol_far o kind position name e small far =
       let b = behind o (symbol kind position name) e in
       ap (checked_symbol h before) b.is
-      ∙ judged_far (symbol kind b.position name) (le-leb (count_named h kind) b.position (far_behind (count_named h kind) b.position position b.kept_is small far))
+      ∙ judged_far (symbol kind b.position name)
+      (le-leb (count_named h kind) b.position (far_behind (count_named h kind) b.position position b.kept_is small far))
 
-  near : (o : Option Symbol) (kind : Kind) (position : ℕ) (name : List ℕ) → kept_symbol o ≡ Some (symbol kind position name) → count_named h kind < 2 ^ 33 → position < count_named h kind → o ≡ Some (symbol kind position name)
+  near : (o : Option Symbol) (kind : Kind) (position : ℕ) (name : List ℕ)
+      → kept_symbol o ≡ Some (symbol kind position name) → count_named h kind < 2 ^ 33 → position < count_named h kind
+      → o ≡ Some (symbol kind position name)
   near o kind position name e small close =
       let b = behind o (symbol kind position name) e in
       b.is ∙ ap (λ n. Some (symbol kind n name)) (small_behind b.position position b.kept_is (omega arith))
 
-  pub symbol_twice : (o : Option Symbol) (kind : Kind) (position : ℕ) (name : List ℕ) → kept_symbol o ≡ Some (symbol kind position name) → count_named h kind < 2 ^ 33 → position < count_named h kind
+  pub symbol_twice : (o : Option Symbol) (kind : Kind) (position : ℕ) (name : List ℕ)
+      → kept_symbol o ≡ Some (symbol kind position name) → count_named h kind < 2 ^ 33 → position < count_named h kind
       → is_named before kind position ≡ true → checked_symbol h before o ≡ Err kinds.SymbolTwice
   symbol_twice o kind position name e small close again =
       ap (checked_symbol h before) (near o kind position name e small close)
       ∙ judged (symbol kind position name) false true (lt-leb (count_named h kind) position close) again
 
-  pub symbol_right : (o : Option Symbol) (kind : Kind) (position : ℕ) (name : List ℕ) → kept_symbol o ≡ Some (symbol kind position name) → count_named h kind < 2 ^ 33 → position < count_named h kind
+  pub symbol_right : (o : Option Symbol) (kind : Kind) (position : ℕ) (name : List ℕ)
+      → kept_symbol o ≡ Some (symbol kind position name) → count_named h kind < 2 ^ 33 → position < count_named h kind
       → is_named before kind position ≡ false → checked_symbol h before o ≡ Ok (symbol kind position name)
   symbol_right o kind position name e small close new =
       ap (checked_symbol h before) (near o kind position name e small close)

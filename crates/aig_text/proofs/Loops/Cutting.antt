@@ -1,5 +1,6 @@
 -- Where a text is cut into lines: where memchr finds the first line feed, the first line ends.
-use Rattle.std.proofs.Common.{◌≡◌, ◌≢◌, ◌<◌, ⊎_elim, ℕ, zero, suc, List, [], ◌∷◌, Bool, true, false, take, drop, length, get_or, Some, None, refl, ap, arith, eqb}
+use Rattle.std.proofs.Common.{◌≡◌, ◌≢◌, ◌<◌, ⊎_elim, ℕ, zero, suc, List, [], ◌∷◌, Bool, true, false, take, drop}
+use Rattle.std.proofs.Common.{length, get_or, Some, None, refl, ap, arith, eqb}
 use Rattle.memchr.specs.Find.{IsFirstByte, is_byte}
 use Rattle.std.proofs.lemmas.Bool.Decides.{eqb_tells}
 use Rattle.aig_text.specs.Lines.{Line, line, lines_of, begun_by}
@@ -9,7 +10,8 @@ not_true : (b : Bool) → ¬ (b ≡ true) → b ≡ false
 not_true true h = absurd (h refl)
 not_true false h = refl
 
-cut : (bs : List ℕ) (at : ℕ) → at < length bs → ((k : ℕ) → k < at → eqb (get_or bs k 0) 10 ≡ false) → eqb (get_or bs at 0) 10 ≡ true
+cut : (bs : List ℕ) (at : ℕ) → at < length bs → ((k : ℕ) → k < at → eqb (get_or bs k 0) 10 ≡ false)
+    → eqb (get_or bs at 0) 10 ≡ true
     → lines_of bs ≡ line (take at bs) true ∷ lines_of (drop 1 (drop at bs))
 unfolding lines_of
 cut [] at l before here = absurd (omega arith)
@@ -18,17 +20,20 @@ cut (b ∷ bs) (suc n) l before here =
     let first : eqb b 10 ≡ false = before 0 (omega arith) in
     rw (first, cut bs n (omega arith) (λ k m. before (suc k) (omega arith)) here) refl
 
-uncut : (b : ℕ) (bs : List ℕ) → ((k : ℕ) → k < length (b ∷ bs) → eqb (get_or (b ∷ bs) k 0) 10 ≡ false) → lines_of (b ∷ bs) ≡ line (b ∷ bs) false ∷ []
+uncut : (b : ℕ) (bs : List ℕ) → ((k : ℕ) → k < length (b ∷ bs) → eqb (get_or (b ∷ bs) k 0) 10 ≡ false)
+    → lines_of (b ∷ bs) ≡ line (b ∷ bs) false ∷ []
 unfolding lines_of
 uncut b [] free = let first : eqb b 10 ≡ false = free 0 (omega arith) in rw first refl
 uncut b (c ∷ bs) free =
     let first : eqb b 10 ≡ false = free 0 (omega arith) in
     rw first (ap (begun_by b) (uncut c bs (λ k m. free (suc k) (omega arith))))
 
-pub line_some : (bs : List ℕ) (at : ℕ) → IsFirstByte (is_byte 10) bs (Some at) → lines_of bs ≡ line (take at bs) true ∷ lines_of (drop 1 (drop at bs))
+pub line_some : (bs : List ℕ) (at : ℕ) → IsFirstByte (is_byte 10) bs (Some at)
+    → lines_of bs ≡ line (take at bs) true ∷ lines_of (drop 1 (drop at bs))
 line_some bs at h = cut bs at (omega (arith, h.0.high)) (λ k l. not_true _ (h.0.before k (omega arith) l)) h.1
 
-pub line_none : (bs : List ℕ) → 0 < length bs → IsFirstByte (is_byte 10) bs None → lines_of bs ≡ line bs false ∷ lines_of []
+pub line_none : (bs : List ℕ) → 0 < length bs → IsFirstByte (is_byte 10) bs None
+    → lines_of bs ≡ line bs false ∷ lines_of []
 unfolding lines_of
 line_none [] l h = absurd (omega arith)
 line_none (b ∷ bs) l h = uncut b bs (λ k m. not_true _ (h k (omega arith) m))
@@ -53,8 +58,10 @@ begun b bs (l ∷ m ∷ ls) h a = record {
 }
 
 ended_line : (bs : List ℕ) (ls : List Line) → AreLines bs ls → AreLines (10 ∷ bs) (line [] true ∷ ls)
-ended_line bs [] a = record { joined = ap (λ (t : List ℕ). 10 ∷ t) a.joined; one_each = (tt, a.one_each); ended = λ e. cc }
-ended_line bs (l ∷ ls) a = record { joined = ap (λ (t : List ℕ). 10 ∷ t) a.joined; one_each = (tt, a.one_each); ended = (refl, a.ended) }
+ended_line bs [] a =
+    record { joined = ap (λ (t : List ℕ). 10 ∷ t) a.joined; one_each = (tt, a.one_each); ended = λ e. cc }
+ended_line bs (l ∷ ls) a =
+    record { joined = ap (λ (t : List ℕ). 10 ∷ t) a.joined; one_each = (tt, a.one_each); ended = (refl, a.ended) }
 
 pub pieces : (text : List ℕ) → AreLines text (lines_of text)
 unfolding lines_of

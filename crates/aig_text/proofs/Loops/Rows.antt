@@ -1,5 +1,7 @@
 -- Reading rows one after another, and sections one after another.
-use Rattle.std.proofs.Common.{◌≡◌, ◌+◌, ◌-◌, ◌<◌, ◌≤◌, ℕ, zero, suc, List, [], ◌∷◌, ◌++◌, map, drop, length, get_or, Ok, Err, refl, sym, ap, subst, ◌∙◌, ◌⊎◌, inl, inr, append_assoc, append-nil, arith, add-one}
+use Rattle.std.proofs.Common.{◌≡◌, ◌+◌, ◌-◌, ◌<◌, ◌≤◌, ℕ, zero, suc, List, [], ◌∷◌, ◌++◌, map, drop, length, get_or}
+use Rattle.std.proofs.Common.{Ok, Err, refl, sym, ap, subst, ◌∙◌, ◌⊎◌, inl, inr, append_assoc, append-nil, arith}
+use Rattle.std.proofs.Common.{add-one}
 use Rattle.std.proofs.Math.Seq.{drop-cons, drop-nil}
 use Rattle.aig_core.specs.declared.circuit.Circuit.{Circuit}
 use Rattle.aig_text.specs.declared.fault.ReadFault.{ReadFault}
@@ -12,7 +14,9 @@ use Rattle.aig_text.specs.Reading.{◌>>=◌, Told, row_at, rows_at, section_at,
 abbrev with_first : {X : Type 0} → X → List X × Ahead → Told (List X)
 with_first x others = Ok (x ∷ others.0, others.1)
 
-told_first : {A : Type 0} (tell : List ℕ → A) (found : List A) (ns : List ℕ) (r : Told (List (List ℕ))) → rows_told tell (found ++ tell ns ∷ []) r ≡ rows_told tell found (◌>>=◌ {B = List (List ℕ) × Ahead} r (with_first ns))
+told_first : {A : Type 0} (tell : List ℕ → A) (found : List A) (ns : List ℕ) (r : Told (List (List ℕ)))
+    → rows_told tell (found ++ tell ns ∷ []) r
+    ≡ rows_told tell found (◌>>=◌ {B = List (List ℕ) × Ahead} r (with_first ns))
 told_first tell found ns (Ok x) = ap (λ (xs : List _). Ok (xs, x.1)) (append_assoc found (tell ns ∷ []) (map tell x.0))
 told_first tell found ns (Err e) = refl
 
@@ -25,23 +29,29 @@ module _ {A : Type 0} (tell : List ℕ → A) (form : Form) (m : ℕ) where
   right_row count after found x (Err e) h = cc
   right_row count after found x (Ok y) h =
       let p : (tell y.0, y.1) ≡ (x, after) = cc in
-      subst (λ (q : A × Ahead). rows_told tell (found ++ q.0 ∷ []) (rows_at form m count q.1) ≡ rows_told tell found (then_rows count y)) p
+      subst
+      (λ (q : A × Ahead). rows_told tell (found ++ q.0 ∷ []) (rows_at form m count q.1) ≡ rows_told tell found
+      (then_rows count y)) p
       (told_first tell found y.0 (rows_at form m count y.1))
 
-  wrong_row : (count : ℕ) (found : List A) (e : ReadFault) (r : Told (List ℕ)) → row_told tell r ≡ Err e → rows_told tell found (r >>= then_rows count) ≡ Err e
+  wrong_row : (count : ℕ) (found : List A) (e : ReadFault) (r : Told (List ℕ)) → row_told tell r ≡ Err e
+      → rows_told tell found (r >>= then_rows count) ≡ Err e
   wrong_row count found e (Ok y) h = cc
   wrong_row count found e (Err f) h = let same : f ≡ e = cc in ap (λ (g : ReadFault). Err g) same
 
   -- one more row
-  pub rows_more : (i count : ℕ) (at after : Ahead) (found : List A) (x : A) → i < count → row_told tell (row_at form m at) ≡ Ok (x, after)
-      → rows_told tell (found ++ x ∷ []) (rows_at form m (count - (i + 1)) after) ≡ rows_told tell found (rows_at form m (count - i) at)
+  pub rows_more : (i count : ℕ) (at after : Ahead) (found : List A) (x : A) → i < count
+      → row_told tell (row_at form m at) ≡ Ok (x, after)
+      → rows_told tell (found ++ x ∷ []) (rows_at form m (count - (i + 1)) after)
+      ≡ rows_told tell found (rows_at form m (count - i) at)
   unfolding rows_at
   rows_more i count at after found x l h =
       let one : count - i ≡ suc (count - (i + 1)) = omega arith in
       rw one (right_row (count - (i + 1)) after found x (row_at form m at) h)
 
   -- a row that is not right
-  pub rows_wrong : (i count : ℕ) (at : Ahead) (found : List A) (e : ReadFault) (whole : Told (List A)) → i < count → row_told tell (row_at form m at) ≡ Err e
+  pub rows_wrong : (i count : ℕ) (at : Ahead) (found : List A) (e : ReadFault) (whole : Told (List A)) → i < count
+      → row_told tell (row_at form m at) ≡ Err e
       → rows_told tell found (rows_at form m (count - i) at) ≡ whole → whole ≡ Err e
   unfolding rows_at
   rows_wrong i count at found e whole l h w =
@@ -49,7 +59,8 @@ module _ {A : Type 0} (tell : List ℕ → A) (form : Form) (m : ℕ) where
       sym w ∙ rw one (wrong_row (count - (i + 1)) found e (row_at form m at) h)
 
   -- no row is left
-  pub rows_done : (i count : ℕ) (at : Ahead) (found : List A) (whole : Told (List A)) → count ≤ i → rows_told tell found (rows_at form m (count - i) at) ≡ whole → whole ≡ Ok (found, at)
+  pub rows_done : (i count : ℕ) (at : Ahead) (found : List A) (whole : Told (List A)) → count ≤ i
+      → rows_told tell found (rows_at form m (count - i) at) ≡ whole → whole ≡ Ok (found, at)
   unfolding rows_at
   rows_done i count at found whole l w =
       let none : count - i ≡ 0 = omega arith in
@@ -69,20 +80,25 @@ module _ (listed : Section → Listed) (h : Header) where
   then_sections ss told = sections_at listed h ss told.0 told.1
 
   next_section : (i : ℕ) (d : Section) (c : Circuit) (at : Ahead) → i < length sections
-      → sections_at listed h (left_from i) c at ≡ section_at (listed (get_or sections i d)) h c at >>= then_sections (left_from (i + 1))
+      → sections_at listed h (left_from i) c at
+      ≡ section_at (listed (get_or sections i d)) h c at >>= then_sections (left_from (i + 1))
   unfolding sections_at then_sections
   next_section i d c at l = rw (add-one, drop-cons sections i d l) refl
 
-  pub sections_more : (i : ℕ) (s : Section) (c d : Circuit) (at after : Ahead) → i < length sections → section_at (listed (get_or sections i s)) h c at ≡ Ok (d, after)
+  pub sections_more : (i : ℕ) (s : Section) (c d : Circuit) (at after : Ahead) → i < length sections
+      → section_at (listed (get_or sections i s)) h c at ≡ Ok (d, after)
       → sections_at listed h (left_from (i + 1)) d after ≡ sections_at listed h (left_from i) c at
   unfolding then_sections
   sections_more i s c d at after l r = sym (next_section i s c at l ∙ rw r refl)
 
-  pub sections_wrong : (i : ℕ) (s : Section) (c : Circuit) (at : Ahead) (e : ReadFault) (whole : Told Circuit) → i < length sections
-      → (e ≡ want_of_memory) ⊎ (section_at (listed (get_or sections i s)) h c at ≡ Err e) → sections_at listed h (left_from i) c at ≡ whole → (e ≡ want_of_memory) ⊎ (whole ≡ Err e)
+  pub sections_wrong : (i : ℕ) (s : Section) (c : Circuit) (at : Ahead) (e : ReadFault) (whole : Told Circuit)
+      → i < length sections
+      → (e ≡ want_of_memory) ⊎ (section_at (listed (get_or sections i s)) h c at ≡ Err e)
+      → sections_at listed h (left_from i) c at ≡ whole → (e ≡ want_of_memory) ⊎ (whole ≡ Err e)
   sections_wrong i s c at e whole l (inl m) w = inl m
   sections_wrong i s c at e whole l (inr r) w = inr (sym w ∙ next_section i s c at l ∙ rw r refl)
 
-  pub sections_done : (i : ℕ) (c : Circuit) (at : Ahead) (whole : Told Circuit) → length sections ≤ i → sections_at listed h (left_from i) c at ≡ whole → whole ≡ Ok (c, at)
+  pub sections_done : (i : ℕ) (c : Circuit) (at : Ahead) (whole : Told Circuit) → length sections ≤ i
+      → sections_at listed h (left_from i) c at ≡ whole → whole ≡ Ok (c, at)
   unfolding sections_at
   sections_done i c at whole l w = let none : left_from i ≡ [] = rest_none sections i l in sym w ∙ rw none refl

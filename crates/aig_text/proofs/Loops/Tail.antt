@@ -1,5 +1,6 @@
 -- Reading the tail line by line.
-use Rattle.std.proofs.Common.{◌≡◌, ◌+◌, ℕ, List, [], ◌∷◌, length, true, false, Result, Ok, Err, refl, ap, ◌∙◌, sym, ◌⊎◌, inl, inr}
+use Rattle.std.proofs.Common.{◌≡◌, ◌+◌, ℕ, List, [], ◌∷◌, length, true, false, Result, Ok, Err, refl, ap, ◌∙◌, sym}
+use Rattle.std.proofs.Common.{◌⊎◌, inl, inr}
 use Rattle.std.specs.Prelude.{OnOk, IfErr}
 use Rattle.aig_core.specs.declared.names.Names.{Names}
 use Rattle.aig_core.specs.declared.circuit.Circuit.{Circuit}
@@ -21,22 +22,28 @@ module _ (h : Header) (before : Names) (c : Circuit) (n : ℕ) where
   pub empty_tail : (bytes : List ℕ) → length bytes ≡ 0 → tail_at h before c n (lines_of bytes) ≡ Ok c
   empty_tail bytes none = no_tail bytes (no_lines bytes none)
 
-  pub comment_tail : (bytes rest : List ℕ) (l : Line) → lines_of bytes ≡ l ∷ lines_of rest → is_comment_line l ≡ true → tail_at h before c n (lines_of bytes) ≡ Ok (with_comment c rest)
+  pub comment_tail : (bytes rest : List ℕ) (l : Line) → lines_of bytes ≡ l ∷ lines_of rest → is_comment_line l ≡ true
+      → tail_at h before c n (lines_of bytes) ≡ Ok (with_comment c rest)
   unfolding tail_at
   comment_tail bytes rest l are is = rw (are, is) (ap (λ (t : List ℕ). Ok (with_comment c t)) (pieces rest).joined)
 
-  pub wrong_symbol : (bytes rest : List ℕ) (l : Line) (e : ReadFault) → lines_of bytes ≡ l ∷ lines_of rest → is_comment_line l ≡ false
-      → (e ≡ want_of_memory) ⊎ (at_line n (checked_symbol h before (symbol_at l.text)) ≡ Err e) → (e ≡ want_of_memory) ⊎ (tail_at h before c n (lines_of bytes) ≡ Err e)
+  pub wrong_symbol : (bytes rest : List ℕ) (l : Line) (e : ReadFault) → lines_of bytes ≡ l ∷ lines_of rest
+      → is_comment_line l ≡ false
+      → (e ≡ want_of_memory) ⊎ (at_line n (checked_symbol h before (symbol_at l.text)) ≡ Err e)
+      → (e ≡ want_of_memory) ⊎ (tail_at h before c n (lines_of bytes) ≡ Err e)
   unfolding tail_at
   wrong_symbol bytes rest l e are other (inl m) = inl m
   wrong_symbol bytes rest l e are other (inr r) = inr (rw (are, other, r) refl)
 
-  pub one_symbol : (bytes rest : List ℕ) (l : Line) (s : Symbol) → lines_of bytes ≡ l ∷ lines_of rest → is_comment_line l ≡ false → at_line n (checked_symbol h before (symbol_at l.text)) ≡ Ok s
-      → tail_at h (with_name before s.kind s.position) (with_symbol c s) (n + 1) (lines_of rest) ≡ tail_at h before c n (lines_of bytes)
+  pub one_symbol : (bytes rest : List ℕ) (l : Line) (s : Symbol) → lines_of bytes ≡ l ∷ lines_of rest
+      → is_comment_line l ≡ false → at_line n (checked_symbol h before (symbol_at l.text)) ≡ Ok s
+      → tail_at h (with_name before s.kind s.position) (with_symbol c s) (n + 1) (lines_of rest)
+      ≡ tail_at h before c n (lines_of bytes)
   unfolding tail_at
   one_symbol bytes rest l s are other r = sym (rw (are, other, r) refl)
 
 -- what a function that may want memory did to the circuit is what reading gives
-pub done_or_memory : (r : Result (Unit {0}) ReadFault) (c d : Circuit) (read : Result Circuit ReadFault) → read ≡ Ok d → OnOk r (c ≡ d) → IfErr r (λ e. e ≡ want_of_memory) → GivesOrMemory (λ _. c) r read
+pub done_or_memory : (r : Result (Unit {0}) ReadFault) (c d : Circuit) (read : Result Circuit ReadFault) → read ≡ Ok d
+    → OnOk r (c ≡ d) → IfErr r (λ e. e ≡ want_of_memory) → GivesOrMemory (λ _. c) r read
 done_or_memory (Ok u) c d read h ok err = h ∙ ap (λ (e : Circuit). Ok e) (sym ok)
 done_or_memory (Err e) c d read h ok err = inl err

@@ -3,7 +3,8 @@ use Rattle.aig_binary.proofs.Reading.{answers, delta_of_one}
 use Rattle.aig_binary.proofs.delta.get_delta.Goals as goal
 
 pub returns-in_default-clause-spelled : goal.returns-in_default-clause-spelled
-returns-in_default-clause-spelled c = answers c.args.bytes.now c.get_groups.result c.get_groups.ensures.delta c.get_groups.ensures.within
+returns-in_default-clause-spelled c =
+    answers c.args.bytes.now c.get_groups.result c.get_groups.ensures.delta c.get_groups.ensures.within
 
 pub returns-in-Some-clause-delta : goal.returns-in-Some-clause-delta
 returns-in-Some-clause-delta c =

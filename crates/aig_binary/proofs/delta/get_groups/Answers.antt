@@ -4,11 +4,15 @@ use Rattle.aig_binary.proofs.Reading.{delta_none, told}
 use Rattle.aig_binary.proofs.delta.get_groups.Goals as goal
 
 pub returns-clause-delta : goal.returns-clause-delta
-returns-clause-delta c = delta_none c.args.bytes.now (read_too_far c.args.bytes.now c.loop-at.at c.loop-at.value c.loop-at.weight (omega arith) c.loop-at.invariant)
+returns-clause-delta c =
+    delta_none c.args.bytes.now
+    (read_too_far c.args.bytes.now c.loop-at.at c.loop-at.value c.loop-at.weight (omega arith) c.loop-at.invariant)
 
 pub returns-then-at-bytes-clause-delta : goal.returns-then-at-bytes-clause-delta
 returns-then-at-bytes-clause-delta c =
-    delta_none c.args.bytes.now (read_without_end c.args.bytes.now c.loop-at.at c.loop-at.value c.loop-at.weight c.if-at-bytes.true c.loop-at.invariant)
+    delta_none c.args.bytes.now
+    (read_without_end c.args.bytes.now c.loop-at.at c.loop-at.value c.loop-at.weight c.if-at-bytes.true
+    c.loop-at.invariant)
 
 pub returns-then-byte-lt128-clause-delta : goal.returns-then-byte-lt128-clause-delta
 returns-then-byte-lt128-clause-delta c =
@@ -17,7 +21,8 @@ returns-then-byte-lt128-clause-delta c =
     let value = c.loop-at.value in
     let weight = c.loop-at.weight in
     let group : c.from.result ≡ get_or bytes at 0 % 128 = c.from.ensures in
-    (told bytes (value + get_or bytes at 0 % 128 * weight) (value + c.from.result * weight) (at + 1) c.small_only.result (ap (λ n. value + n * weight) group)
+    (told bytes (value + get_or bytes at 0 % 128 * weight) (value + c.from.result * weight)
+    (at + 1) c.small_only.result (ap (λ n. value + n * weight) group)
     (read_end bytes at value weight c.loop-at-test.true c.if-at-bytes.false c.if-byte-lt128.true c.loop-at.invariant)
     c.small_only.ensures.small c.small_only.ensures.large (omega arith)).0
 
@@ -29,4 +34,5 @@ loop-at-preserved c =
     let weight = c.loop-at.weight in
     let group : c.from.result ≡ get_or bytes at 0 % 128 = c.from.ensures in
     subst (λ n. AreRead bytes (at + 1) (value + n * weight) (weight * 128)) (sym group)
-    (read_on bytes at value weight c.if-at-bytes.false (c.if-byte-lt128.false, (c.type_inv.bytes at).fits) c.loop-at.invariant)
+    (read_on bytes at value weight c.if-at-bytes.false
+    (c.if-byte-lt128.false, (c.type_inv.bytes at).fits) c.loop-at.invariant)

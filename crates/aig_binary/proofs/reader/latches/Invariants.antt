@@ -4,4 +4,5 @@ use Rattle.aig_binary.proofs.reader.latches.Given as goal
 
 abbrev pub invariant-loop-next : goal.invariant-loop-next
 invariant-loop-next l =
-    (l.found ≡ latches_from l.variable (map output_row (take l.next-index l.nexts))) × (l.var ≡ l.variable + l.next-index)
+    (l.found ≡ latches_from l.variable
+    (map output_row (take l.next-index l.nexts))) × (l.var ≡ l.variable + l.next-index)

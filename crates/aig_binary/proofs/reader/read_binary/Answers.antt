@@ -7,17 +7,26 @@ use Rattle.aig_binary.proofs.reader.read_binary.Goals as goal
 
 pub returns-in_err-circuit-clause-only : goal.returns-in_err-circuit-clause-only
 returns-in_err-circuit-clause-only c = let h = err_from_is_err_and c.from_residual.result c.from_residual.ensures.1 in
-    rw (h.1, h.2) (λ net is. memory_only c.args.limits.max_var c.args.bytes.now net c.in_err-circuit.field-0.0 (line_fault c.args.limits.max_var c.args.bytes.now c.in_err-circuit.field-0.0 c.in_err-circuit.ensures) is)
+    rw (h.1, h.2)
+    (λ net is. memory_only c.args.limits.max_var c.args.bytes.now net c.in_err-circuit.field-0.0
+    (line_fault c.args.limits.max_var c.args.bytes.now c.in_err-circuit.field-0.0 c.in_err-circuit.ensures) is)
 
 pub from_well_formed-requires : goal.from_well_formed-requires
-from_well_formed-requires c = read_is_well_formed c.args.limits.max_var (lines_of c.args.bytes.now) c.in_ok-circuit.circuit c.in_ok-circuit.ensures
+from_well_formed-requires c =
+    read_is_well_formed c.args.limits.max_var
+    (lines_of c.args.bytes.now) c.in_ok-circuit.circuit c.in_ok-circuit.ensures
 
 pub returns-clause-ok : goal.returns-clause-ok
-returns-clause-ok c = rw c.from_well_formed.ensures (reading_is_accepted c.args.limits.max_var c.args.bytes.now c.in_ok-circuit.circuit c.in_ok-circuit.ensures)
+returns-clause-ok c =
+    rw c.from_well_formed.ensures
+    (reading_is_accepted c.args.limits.max_var c.args.bytes.now c.in_ok-circuit.circuit c.in_ok-circuit.ensures)
 
 pub returns-clause-ordered : goal.returns-clause-ordered
-returns-clause-ordered c = rw c.from_well_formed.ensures (read_is_ordered c.args.limits.max_var (lines_of c.args.bytes.now) c.in_ok-circuit.circuit c.in_ok-circuit.ensures)
+returns-clause-ordered c =
+    rw c.from_well_formed.ensures
+    (read_is_ordered c.args.limits.max_var (lines_of c.args.bytes.now) c.in_ok-circuit.circuit c.in_ok-circuit.ensures)
 
 pub returns-clause-only : goal.returns-clause-only
 returns-clause-only c = λ net is.
-    c.from_well_formed.ensures ∙ one_circuit c.args.limits.max_var c.args.bytes.now net c.in_ok-circuit.circuit c.in_ok-circuit.ensures is
+    c.from_well_formed.ensures
+    ∙ one_circuit c.args.limits.max_var c.args.bytes.now net c.in_ok-circuit.circuit c.in_ok-circuit.ensures is

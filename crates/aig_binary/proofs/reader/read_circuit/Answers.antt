@@ -16,11 +16,13 @@ returns-in_err-header c =
     let h = err_from_is_err_and c.from_residual-in_err-header.result c.from_residual-in_err-header.ensures.1 in
     rw (h.1, h.2) (inr (
     not_filled c.args.limits.max_var (lines_of c.args.bytes.now) c.in_ok-promised.promised c.header.new.at
-    (rw c.new-at.ensures at c.in_ok-promised.ensures.header) c.in_err-header.field-0.0 (sym c.in_err-header.ensures.value)))
+    (rw c.new-at.ensures at c.in_ok-promised.ensures.header) c.in_err-header.field-0.0
+    (sym c.in_err-header.ensures.value)))
 
 pub returns-in_err-read_sections : goal.returns-in_err-read_sections
 returns-in_err-read_sections c =
-    let h = err_from_is_err_and c.from_residual-in_err-read_sections.result c.from_residual-in_err-read_sections.ensures.1 in
+    let h =
+    err_from_is_err_and c.from_residual-in_err-read_sections.result c.from_residual-in_err-read_sections.ensures.1 in
     rw (h.1, h.2) (
     no_sections c.args.limits.max_var (lines_of c.args.bytes.now) c.in_ok-promised.promised c.header.new.at
     (rw c.new-at.ensures at c.in_ok-promised.ensures.header) c.in_ok-header.header (sym c.in_ok-header.ensures.value)

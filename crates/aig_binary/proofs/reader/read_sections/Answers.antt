@@ -5,12 +5,14 @@ use Rattle.aig_binary.proofs.reader.read_sections.Goals as goal
 
 pub returns-in-Err : goal.returns-in-Err
 returns-in-Err c =
-    sections_wrong in_binary c.args.header.now c.loop-section.section-index _ c.loop-section.circuit c.loop-section.at c.in-Err.fault _
+    sections_wrong in_binary c.args.header.now c.loop-section.section-index _ c.loop-section.circuit c.loop-section.at
+    c.in-Err.fault _
     c.loop-section-test.true c.in-Err.ensures c.loop-section.invariant
 
 pub loop-section-preserved : goal.loop-section-preserved
 loop-section-preserved c =
-    sections_more in_binary c.args.header.now c.loop-section.section-index _ c.loop-section.circuit c.read_lines.new.circuit c.loop-section.at
+    sections_more in_binary c.args.header.now c.loop-section.section-index _ c.loop-section.circuit
+    c.read_lines.new.circuit c.loop-section.at
     c.read_lines.new.at c.loop-section-test.true c.in_default.ensures
     ∙ c.loop-section.invariant
 

@@ -5,4 +5,5 @@ use Rattle.aig_binary.proofs.reader.read_sections.Given as goal
 
 abbrev pub invariant-loop-section : goal.invariant-loop-section
 invariant-loop-section l =
-    sections_at in_binary l.header (drop l.section-index sections) l.circuit l.at ≡ sections_at in_binary l.header sections l.fn.circuit l.fn.at
+    sections_at in_binary l.header
+    (drop l.section-index sections) l.circuit l.at ≡ sections_at in_binary l.header sections l.fn.circuit l.fn.at

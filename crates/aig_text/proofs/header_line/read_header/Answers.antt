@@ -6,7 +6,8 @@ use Rattle.aig_text.proofs.header_line.read_header.Goals as goal
 pub returns-in-Some-clause-value : goal.returns-in-Some-clause-value
 returns-in-Some-clause-value c =
     c.within.ensures.value ∙ ap (λ m. header_within m (Some c.in-Some.numbers)) c.min.ensures
-    ∙ header_told c.args.word.now c.args.line.text.now c.split_at.result.1.now c.args.limits.max_var c.args.line.ended (Some c.in-Some.numbers)
+    ∙ header_told c.args.word.now c.args.line.text.now c.split_at.result.1.now c.args.limits.max_var c.args.line.ended
+    (Some c.in-Some.numbers)
     (sym c.begins_with_word.ensures ∙ c.if-not-begins_with_word.false) c.split_at.ensures.back c.in-Some.ensures
 
 pub returns-in-None-clause-value : goal.returns-in-None-clause-value

@@ -16,7 +16,8 @@ returns c =
       λ other. rw other refl,
       λ begins. rw begins (
           by_scanner (HoldsHeader word l) (λ ns. header_within (min limit LARGEST) (Some ns)) kinds.BadHeader
-          (header_within (min limit LARGEST)) (more_numbers_at l.ended HEADER_NUMBERS HEADER_NUMBERS (drop (length word) l.text))
+          (header_within (min limit LARGEST))
+          (more_numbers_at l.ended HEADER_NUMBERS HEADER_NUMBERS (drop (length word) l.text))
           (λ ns held. (header_is_read word l HEADER_NUMBERS HEADER_NUMBERS ns (omega arith) plain held.0 held.1).1)
           (λ ns read. header_reads word l HEADER_NUMBERS HEADER_NUMBERS ns (omega arith) begins read) (λ ns. refl) refl
           ),

@@ -7,7 +7,9 @@ pub returns-then-is_empty-clause-lines : goal.returns-then-is_empty-clause-lines
 returns-then-is_empty-clause-lines c = no_lines _ (eqb-true _ _ (sym c.is_empty.ensures ∙ c.if-is_empty.true))
 
 pub returns-in-Some-clause-lines : goal.returns-in-Some-clause-lines
-returns-in-Some-clause-lines c = rw (c.split_at-in-Some.ensures.back, c.split_at.ensures.back, c.split_at.ensures.front) (line_some _ _ c.in-Some.ensures)
+returns-in-Some-clause-lines c =
+    rw (c.split_at-in-Some.ensures.back, c.split_at.ensures.back, c.split_at.ensures.front)
+    (line_some _ _ c.in-Some.ensures)
 
 pub returns-in-None-clause-lines : goal.returns-in-None-clause-lines
 returns-in-None-clause-lines c =

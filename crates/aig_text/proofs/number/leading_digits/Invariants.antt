@@ -4,4 +4,5 @@ use Rattle.aig_text.specs.Parts.Kept.{kept}
 use Rattle.aig_text.proofs.number.leading_digits.Given as goal
 
 abbrev pub invariant-loop-at : goal.invariant-loop-at
-invariant-loop-at l = (l.value ≡ kept (value_of (take l.at l.bytes))) × ((k : ℕ) → k < l.at → is_digit (get_or l.bytes k 0) ≡ true)
+invariant-loop-at l =
+    (l.value ≡ kept (value_of (take l.at l.bytes))) × ((k : ℕ) → k < l.at → is_digit (get_or l.bytes k 0) ≡ true)

@@ -9,6 +9,8 @@ pub returns : goal.returns
 returns c =
     let bytes = c.args.bytes.now in
     let stops = bit_and (0xffff_ffff_ffff_ffff - c.first_word-word.result) 0x1010_1010_1010_1010 in
-    short_number_is bytes c.split_at.result.1.now _ c.in_ok-value.value c.args.stop c.if-end-eq0.false (omega (arith, trailing_le 64 stops)) (omega arith)
-    (c.in_ok-value.ensures _ (eight_at bytes 0 (λ k. (c.type_inv.bytes k).fits) (omega arith)) (c.first_word-word.ensures ∙ word_at bytes 0 (omega arith)))
+    short_number_is bytes c.split_at.result.1.now _ c.in_ok-value.value c.args.stop c.if-end-eq0.false
+    (omega (arith, trailing_le 64 stops)) (omega arith)
+    (c.in_ok-value.ensures _ (eight_at bytes 0 (λ k. (c.type_inv.bytes k).fits) (omega arith))
+    (c.first_word-word.ensures ∙ word_at bytes 0 (omega arith)))
     (sym c.if-bytes-end.false) c.split_at.ensures.back

@@ -12,6 +12,7 @@ loop-at-preserved g c =
     record {
       long = length-set _ _ _ ∙ c.loop-at.invariant.long;
       begins =
-          stored_shortly g.row.N c.loop-at.at _ rest after c.loop-at.numbers number c.loop-at-test.true c.loop-at.invariant.long c.loop-at.invariant.begins
+          stored_shortly g.row.N c.loop-at.at _ rest after c.loop-at.numbers number c.loop-at-test.true
+          c.loop-at.invariant.long c.loop-at.invariant.begins
           (subst (λ b. BeginsWithNumber rest number (b ∷ after)) c.stop.ensures c.in_ok-number.ensures);
     }

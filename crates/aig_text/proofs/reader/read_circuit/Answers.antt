@@ -10,13 +10,16 @@ pub returns-in_err-header : goal.returns-in_err-header
 returns-in_err-header c =
     let h = err_from_is_err_and c.from_residual.result c.from_residual.ensures.1 in
     rw (h.1, h.2) (inr (
-    no_header c.args.limits.max_var (lines_of c.args.bytes.now) c.in_err-header.field-0.0 (rw c.new-at.ensures at c.in_err-header.ensures.header)))
+    no_header c.args.limits.max_var (lines_of c.args.bytes.now) c.in_err-header.field-0.0
+    (rw c.new-at.ensures at c.in_err-header.ensures.header)))
 
 pub returns-in_err-read_sections : goal.returns-in_err-read_sections
 returns-in_err-read_sections c =
-    let h = err_from_is_err_and c.from_residual-in_err-read_sections.result c.from_residual-in_err-read_sections.ensures.1 in
+    let h =
+    err_from_is_err_and c.from_residual-in_err-read_sections.result c.from_residual-in_err-read_sections.ensures.1 in
     rw (h.1, h.2) (
-    no_sections c.args.limits.max_var (lines_of c.args.bytes.now) c.header.new.at c.in_ok-header.header c.in_err-read_sections.field-0.0
+    no_sections c.args.limits.max_var
+    (lines_of c.args.bytes.now) c.header.new.at c.in_ok-header.header c.in_err-read_sections.field-0.0
     (rw c.new-at.ensures at c.in_ok-header.ensures.header)
     (rw c.empty_circuit-circuit.ensures at c.in_err-read_sections.ensures))
 
@@ -25,7 +28,8 @@ returns c =
     let after = c.read_sections.new.at in
     let same : circuit_at c.args.limits.max_var (lines_of c.args.bytes.now)
     ≡ tail_at c.in_ok-header.header nothing_named c.read_sections.new.circuit after.number after.lines =
-    then_tail c.args.limits.max_var (lines_of c.args.bytes.now) c.header.new.at after c.in_ok-header.header c.read_sections.new.circuit
+    then_tail c.args.limits.max_var
+    (lines_of c.args.bytes.now) c.header.new.at after c.in_ok-header.header c.read_sections.new.circuit
     (rw c.new-at.ensures at c.in_ok-header.ensures.header)
     (rw c.empty_circuit-circuit.ensures at c.in_ok-read_sections.ensures) in
     rw same c.tail.ensures

@@ -14,7 +14,8 @@ returns-in-None-clause-row g c =
 
 pub returns-in-None-clause-shorter : goal.returns-in-None-clause-shorter
 returns-in-None-clause-shorter g c =
-    shorter c.args.bytes.now c.in_ok-first.rest.now c.in-Some.found.1.now c.in-Some.found.0 c.in_ok-first.first c.in_ok-first.ensures
+    shorter c.args.bytes.now c.in_ok-first.rest.now c.in-Some.found.1.now c.in-Some.found.0 c.in_ok-first.first
+    c.in_ok-first.ensures
     c.in-Some.ensures.are
 
 pub returns-in-None-clause-literals : goal.returns-in-None-clause-literals

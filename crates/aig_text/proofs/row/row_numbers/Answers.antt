@@ -6,24 +6,29 @@ use Rattle.aig_text.proofs.row.row_numbers.Goals as goal
 pub returns-in_default-clause-row : goal.returns-in_default-clause-row
 returns-in_default-clause-row g c =
     rw (← c.form.view_is) (
-    no_row _ c.args.max_var g.row.N c.args.line.text.now c.args.line.ended c.form.invariant.0 c.form.invariant.1 c.requires c.in_default.ensures)
+    no_row _ c.args.max_var g.row.N c.args.line.text.now c.args.line.ended c.form.invariant.0 c.form.invariant.1
+    c.requires c.in_default.ensures)
 
 pub returns-in-Some-row_fault-clause-row : goal.returns-in-Some-row_fault-clause-row
 returns-in-Some-row_fault-clause-row g c =
     rw (← c.form.view_is) (
-    row_wrong _ c.args.max_var g.row.N c.args.line.text.now c.args.line.ended c.form.invariant.0 c.form.invariant.1 c.requires
-    (c.in-Some.found.0 ∷ c.in-Some.found.1) c.in-Some-row_fault.kind c.in-Some.ensures (sym c.in-Some-row_fault.ensures))
+    row_wrong _ c.args.max_var g.row.N c.args.line.text.now c.args.line.ended c.form.invariant.0 c.form.invariant.1
+    c.requires
+    (c.in-Some.found.0 ∷ c.in-Some.found.1) c.in-Some-row_fault.kind c.in-Some.ensures
+    (sym c.in-Some-row_fault.ensures))
 
 pub returns-in-None-clause-row : goal.returns-in-None-clause-row
 returns-in-None-clause-row g c =
     rw (← c.form.view_is) (
-    row_right _ c.args.max_var g.row.N c.args.line.text.now c.args.line.ended c.form.invariant.0 c.form.invariant.1 c.requires
+    row_right _ c.args.max_var g.row.N c.args.line.text.now c.args.line.ended c.form.invariant.0 c.form.invariant.1
+    c.requires
     (c.in-Some.found.0 ∷ c.in-Some.found.1) c.in-Some.ensures (sym c.in-None.ensures))
 
 pub returns-in-None-clause-literals : goal.returns-in-None-clause-literals
 returns-in-None-clause-literals g c =
     let long : length (c.in-Some.found.0 ∷ c.in-Some.found.1) ≡ suc g.row.N =
-    kept_long c.form.inside.least g.row.N (line c.args.line.text.now c.args.line.ended) _ (c.in-Some.found.0 ∷ c.in-Some.found.1)
+    kept_long c.form.inside.least g.row.N (line c.args.line.text.now c.args.line.ended) _
+    (c.in-Some.found.0 ∷ c.in-Some.found.1)
     c.form.invariant.0 refl c.in-Some.ensures in
     literals_are c.args.max_var c.form.inside.first c.form.inside.others c.in-Some.found.0 c.in-Some.found.1
     (ap pred long ∙ sym c.form.invariant.1) (sym c.in-None.ensures)

@@ -11,17 +11,20 @@ pub returns-in_err-row-in-None-clause-rows : goal.returns-in_err-row-in-None-cla
 returns-in_err-row-in-None-clause-rows g c =
     let h = err_from_is_err_and c.from_residual.result c.from_residual.ensures.1 in
     rw (h.1, h.2) (inr (
-    rows_wrong g.T.Row.told_by g.T.Row.form c.args.max_var c.loop.counter c.args.count (ahead c.loop.number (lines_of c.loop.rest.now)) c.loop.found
+    rows_wrong g.T.Row.told_by g.T.Row.form c.args.max_var c.loop.counter c.args.count
+    (ahead c.loop.number (lines_of c.loop.rest.now)) c.loop.found
     c.in_err-row-in-None.field-0.0 _ c.loop-test.true c.in_err-row-in-None.ensures c.loop.invariant.0))
 
 pub loop-preserved : goal.loop-preserved
 loop-preserved g c =
     let next = c.match-read_short in
     let at = ahead c.loop.number (lines_of c.loop.rest.now) in
-    let told : row_told g.T.Row.told_by (row_at g.T.Row.form c.args.max_var at) ≡ Ok (next.row, ahead next.number (lines_of next.rest.now)) =
+    let told : row_told g.T.Row.told_by (row_at g.T.Row.form c.args.max_var at) ≡ Ok
+    (next.row, ahead next.number (lines_of next.rest.now)) =
     elim c.match-read_short.branch [
       | in-Some w ↦ rw (w.row-is, w.rest-is, w.number-is) (w.in-Some.ensures.row c.loop.number)
-      | in-None+in_ok-row-in-None w ↦ rw (w.row-is, w.rest-is, w.number-is) (rw (← w.from.view_is) at w.in_ok-row-in-None.ensures)
+      | in-None+in_ok-row-in-None w ↦ rw (w.row-is, w.rest-is, w.number-is)
+      (rw (← w.from.view_is) at w.in_ok-row-in-None.ensures)
     ] in
     let counted : next.number + length next.rest.now < 2 ^ 64 =
     elim c.match-read_short.branch [
@@ -29,7 +32,8 @@ loop-preserved g c =
       | in-None+in_ok-row-in-None w ↦ rw (w.rest-is, w.number-is) w.from.invariant
     ] in (
       rw c.in_ok-push.ensures.ok (
-          rows_more g.T.Row.told_by g.T.Row.form c.args.max_var c.loop.counter c.args.count at (ahead next.number (lines_of next.rest.now)) c.loop.found
+          rows_more g.T.Row.told_by g.T.Row.form c.args.max_var c.loop.counter c.args.count at
+          (ahead next.number (lines_of next.rest.now)) c.loop.found
           next.row c.loop-test.true told
           ∙ c.loop.invariant.0),
       counted,
@@ -37,5 +41,6 @@ loop-preserved g c =
 
 pub returns-clause-rows : goal.returns-clause-rows
 returns-clause-rows g c =
-    rows_done g.T.Row.told_by g.T.Row.form c.args.max_var c.loop.counter c.args.count (ahead c.loop.number (lines_of c.loop.rest.now)) c.loop.found _
+    rows_done g.T.Row.told_by g.T.Row.form c.args.max_var c.loop.counter c.args.count
+    (ahead c.loop.number (lines_of c.loop.rest.now)) c.loop.found _
     c.loop-test.false c.loop.invariant.0

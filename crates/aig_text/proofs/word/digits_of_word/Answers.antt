@@ -11,5 +11,7 @@ returns c bytes eight is =
       | inl none ↦ omega (arith, all_digits bytes _ eight is flags c.flags_from_ten.ensures none)
       | inr some ↦ omega (arith, (first_other bytes _ eight is flags c.flags_from_ten.ensures some).0)
     ] in
-    let s = shifted_is bytes c.args.count c.keep_first.result eight many (omega arith) (c.keep_first.ensures ∙ rw (lanes_are bytes _ eight is) refl) in
+    let s =
+    shifted_is bytes c.args.count c.keep_first.result eight many (omega arith)
+    (c.keep_first.ensures ∙ rw (lanes_are bytes _ eight is) refl) in
     (many, c.value_of_eight.ensures s.0 s.1 s.2 ∙ s.3)
