@@ -148,11 +148,15 @@ impl<'a, W: Sink> Output<'a, W> {
         self.block.fill_number(number);
     }
 
-    /// Adds a line of few numbers: room is made for all of it, and then it is filled in.
+    /// Adds a line of few numbers. What is held is sent first where as many numbers of the most digits would not fit.
     #[inline(always)]
     pub fn put_row(&mut self, first: u64, others: &[u64])
         requires { (length others.now + 1) * (MOST_DIGITS + 1) ≤ ROOM }
-        ensures { Put self.old self.new (row_text first others.now) }
+        ensures put { Put self.old self.new (row_text first others.now) }
+        ensures kept { length self.old.held + (length others.now + 1) * (MOST_DIGITS + 1) ≤ ROOM
+            → self.new ≡ record self.old { held = self.old.held ++ row_text first others.now } }
+        ensures left { ROOM < length self.old.held + (length others.now + 1) * (MOST_DIGITS + 1)
+            → self.new.held ≡ row_text first others.now }
     {
         self.make_room((others.len() + 1) * (MOST_DIGITS + 1));
         self.block.fill_row(first, others);
