@@ -21,7 +21,8 @@ or_else fault (Some x) = Ok x
 or_else fault None = Err fault
 
 -- what so many lines tell, from the line of this number on, and what follows them
-unfoldable pub entries_at : {T : Type 0} → (List ℕ → Option (T × List ℕ)) → ℕ → ℕ → List ℕ → Result (List T × List ℕ) MapFault
+unfoldable pub entries_at : {T : Type 0} → (List ℕ → Option (T × List ℕ)) → ℕ → ℕ → List ℕ
+    → Result (List T × List ℕ) MapFault
 entries_at entry line zero bytes = Ok ([], bytes)
 entries_at entry line (suc count) bytes = do
   first ← or_else (Malformed line) (entry bytes)

@@ -1,6 +1,7 @@
--- The lines of a map block, read from left to right (this project's profile): canonical numbers with single spaces between
--- them, and a line feed.
-use Rattle.std.specs.Prelude.{◌==◌, ◌&&◌, ℕ, List, length, take, drop, Bool, nat_le, nat_lt, Option, None, Some, if◌then◌else◌}
+-- The lines of a map block, read from left to right (this project's profile): canonical numbers with single spaces
+-- between them, and a line feed.
+use Rattle.std.specs.Prelude.{◌==◌, ◌&&◌, ℕ, List, length, take, drop, Bool, nat_le, nat_lt, Option, None, Some}
+use Rattle.std.specs.Prelude.{if◌then◌else◌}
 use Rattle.std.specs.Str.{bytes_eq}
 use Rattle.aig_core.specs.declared.circuit.TheConstants.{LARGEST}
 use Rattle.aig_text.specs.Scanning.{◌>>=◌}

@@ -4,19 +4,20 @@ use Rattle.aig_order.proofs.map_reading.entries.Goals as goal
 
 pub returns-in-None : goal.returns-in-None
 returns-in-None g c =
-    inr (
-    entries_wrong (g.T.BlockEntry.entry c.args.max_var c.args.count) c.loop-at.at c.args.count c.args.line c.loop-at.rest.now c.loop-at.found _
-    c.loop-at-test.true c.in-None.ensures c.loop-at.invariant
-    )
+    let entry = g.T.BlockEntry.entry c.args.max_var c.args.count in
+    inr (entries_wrong entry c.loop-at.at c.args.count c.args.line c.loop-at.rest.now c.loop-at.found _
+    c.loop-at-test.true c.in-None.ensures c.loop-at.invariant)
 
 pub loop-at-preserved : goal.loop-at-preserved
 loop-at-preserved g c =
-    rw c.in_ok-push-in-Some.ensures.ok (
-    entries_more (g.T.BlockEntry.entry c.args.max_var c.args.count) c.loop-at.at c.args.count c.args.line c.loop-at.rest.now c.in-Some.after.now c.loop-at.found c.in-Some.told
-    c.loop-at-test.true c.in-Some.ensures
-    ∙ c.loop-at.invariant
-    )
+    let entry = g.T.BlockEntry.entry c.args.max_var c.args.count in
+    rw c.in_ok-push-in-Some.ensures.ok
+    (entries_more entry c.loop-at.at c.args.count c.args.line c.loop-at.rest.now c.loop-at.found
+    c.in-Some.after.now c.in-Some.told c.loop-at-test.true c.in-Some.ensures
+    ∙ c.loop-at.invariant)
 
 pub returns : goal.returns
 returns g c =
-    entries_done (g.T.BlockEntry.entry c.args.max_var c.args.count) c.loop-at.at c.args.count c.args.line c.loop-at.rest.now c.loop-at.found _ c.loop-at-test.false c.loop-at.invariant
+    let entry = g.T.BlockEntry.entry c.args.max_var c.args.count in
+    entries_done entry c.loop-at.at c.args.count c.args.line c.loop-at.rest.now c.loop-at.found _
+    c.loop-at-test.false c.loop-at.invariant
