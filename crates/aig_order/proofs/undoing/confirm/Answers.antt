@@ -10,7 +10,8 @@ has_image-requires-clause-formed c = subst IsWellFormed c.requires.is c.requires
 
 pub returns-in-Ok-true-clause-ok : goal.returns-in-Ok-true-clause-ok
 returns-in-Ok-true-clause-ok c =
-    let is = subst (λ (source : Circuit). IsMappedImage source c.args.image.now) (sym c.requires.is) (c.in-Ok-true.ensures.0 c.in-Ok-true.field-0-test) in
+    let is = subst (λ (source : Circuit). IsMappedImage source c.args.image.now) (sym c.requires.is)
+    (c.in-Ok-true.ensures.0 c.in-Ok-true.field-0-test) in
     (undoing_recovers c.args.source c.args.image.now c.requires.formed is).0
 
 pub returns-in-Ok-false-clause-err : goal.returns-in-Ok-false-clause-err

@@ -11,23 +11,33 @@ use Rattle.aig_order.proofs.undoing.undo_by_block.Goals as goal
 
 pub make_undone-requires-clause-counts : goal.make_undone-requires-clause-counts
 make_undone-requires-clause-counts c =
-    subst (HasCountsOf c.args.block) (sym c.circuit.ensures.value) (read_is_within c.args.image.now c.args.block c.args.comment.now c.requires.read).0
+    subst (HasCountsOf c.args.block) (sym c.circuit.ensures.value)
+    (read_is_within c.args.image.now c.args.block c.args.comment.now c.requires.read).0
 
 pub make_undone-requires-clause-bounds : goal.make_undone-requires-clause-bounds
-make_undone-requires-clause-bounds c = (read_is_within c.args.image.now c.args.block c.args.comment.now c.requires.read).1
+make_undone-requires-clause-bounds c =
+    (read_is_within c.args.image.now c.args.block c.args.comment.now c.requires.read).1
 
 pub returns-in-Err-clause-fault : goal.returns-in-Err-clause-fault
-returns-in-Err-clause-fault c = of_places c.args.image.now c.args.block c.args.comment.now c.requires.ordered c.requires.read c.in-Err.fault c.in-Err.ensures.err
+returns-in-Err-clause-fault c =
+    of_places c.args.image.now c.args.block c.args.comment.now c.requires.ordered c.requires.read c.in-Err.fault
+    c.in-Err.ensures.err
 
 pub returns-in-Err-check_source-clause-fault : goal.returns-in-Err-check_source-clause-fault
 returns-in-Err-check_source-clause-fault c =
-    of_source c.args.image.now c.args.block c.args.comment.now c.requires.ordered c.requires.read c.in-Ok.source c.in-Err-check_source.fault
-    (c.in-Ok.ensures.ok ∙ ap (undone c.args.block (comment_behind c.args.block c.args.comment.now)) c.circuit.ensures.value) c.in-Err-check_source.ensures.err
+    of_source c.args.image.now c.args.block c.args.comment.now c.requires.ordered c.requires.read
+    c.in-Ok.source c.in-Err-check_source.fault
+    (c.in-Ok.ensures.ok
+    ∙ ap (undone c.args.block (comment_behind c.args.block c.args.comment.now)) c.circuit.ensures.value)
+    c.in-Err-check_source.ensures.err
 
 pub returns-clause-fault : goal.returns-clause-fault
 returns-clause-fault c =
-    of_confirmed c.args.image.now c.args.block c.args.comment.now c.requires.ordered c.requires.read c.in-Ok-check_source.source c.confirm.result
-    (c.in-Ok-check_source.ensures.ok ∙ c.in-Ok.ensures.ok ∙ ap (undone c.args.block (comment_behind c.args.block c.args.comment.now)) c.circuit.ensures.value) c.confirm.ensures.err
+    of_confirmed c.args.image.now c.args.block c.args.comment.now c.requires.ordered c.requires.read
+    c.in-Ok-check_source.source c.confirm.result
+    (c.in-Ok-check_source.ensures.ok ∙ c.in-Ok.ensures.ok
+    ∙ ap (undone c.args.block (comment_behind c.args.block c.args.comment.now)) c.circuit.ensures.value)
+    c.confirm.ensures.err
 
 pub check_source-requires : goal.check_source-requires
 check_source-requires c =
