@@ -9,7 +9,7 @@ use Rattle.aig_core.specs.declared.circuit.Circuit.{Circuit}
 use Rattle.aig_core.specs.Literal.{literal_of}
 use Rattle.aig_core.specs.Wellformed.{IsWellFormed, operands}
 use Rattle.aig_core.specs.Form.{IsInForm, IsLiteralUpTo}
-use Rattle.aig_core.proofs.InForm.{front}
+use Rattle.aig_core.proofs.Checking.InForm.{front}
 use Rattle.aig_text.specs.Lines.{Line, lines_of}
 use Rattle.aig_text.specs.AsciiText.{header_text, line_text, tail_text}
 use Rattle.aig_text.specs.Rows.{Row, row, output_form, output_row, header_row}
@@ -25,7 +25,7 @@ use Rattle.aig_binary.specs.BinaryText.{binary_text, gate_text}
 use Rattle.aig_binary.specs.Delta.{shortest_delta}
 use Rattle.aig_text.specs.declared.header_line.TheConstants.{HEADER_NUMBERS}
 use Rattle.aig_binary.specs.Parts.Deltas.{HasDeltas}
-use Rattle.aig_binary.proofs.Shortest.{shortest_is_delta}
+use Rattle.aig_binary.proofs.Deltas.Shortest.{shortest_is_delta}
 use Rattle.aig_binary.proofs.Written.{gates_have_deltas}
 
 -- the lines of the canonical front

@@ -1,7 +1,4 @@
-pub mod Groups
-pub mod Shortest
-pub mod Reading
-pub mod Going
+pub mod Deltas
 pub mod OneByOne
 pub mod Defined
 pub mod Stages

@@ -54,7 +54,7 @@ impl<T: Kept> VarMap<T> {
     }
 
     /// The value of a variable.
-    #[tactic(auto, using(crate::proofs::Maps::map_has))]
+    #[tactic(auto, using(crate::proofs::Tables::Maps::map_has))]
     #[inline(always)]
     pub fn get(&self, var: Var) -> Option<T>
         ensures { result ≡ map.get self.now var }
@@ -68,7 +68,7 @@ impl<T: Kept> VarMap<T> {
     }
 
     /// Gives a variable its value, unless it has one, and answers whether it had none.
-    #[tactic(auto, using(crate::proofs::Maps::map_has))]
+    #[tactic(auto, using(crate::proofs::Tables::Maps::map_has))]
     #[inline(always)]
     pub fn insert(&mut self, var: Var, value: T) -> Result<bool, AllocError>
         requires { T.Table.fits value }

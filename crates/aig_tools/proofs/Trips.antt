@@ -4,7 +4,7 @@ use Rattle.std.proofs.Common.{◌≡◌, ◌∙◌, sym, refl, ap, subst, ℕ, L
 use Rattle.aig_core.specs.declared.circuit.Circuit.{Circuit}
 use Rattle.aig_core.specs.declared.circuit.TheConstants.{LARGEST}
 use Rattle.aig_core.specs.Wellformed.{IsWellFormed}
-use Rattle.aig_core.proofs.Fitting.{definitions_fit, well_formed_in_form}
+use Rattle.aig_core.proofs.Checking.Fitting.{definitions_fit, well_formed_in_form}
 use Rattle.aig_text.specs.AsciiText.{ascii_text}
 use Rattle.aig_text.proofs.Canonical.Text.{canonical_text}
 use Rattle.aig_text.specs.AsciiGrammar.{IsAsciiText}
@@ -14,11 +14,11 @@ use Rattle.aig_binary.proofs.Canonical.{canonical_binary}
 use Rattle.aig_image.specs.Image.{IsBinaryImage}
 use Rattle.aig_order.specs.MapBlock.{IsMappedImage}
 use Rattle.aig_order.specs.Undone.{IsUndoneFrom}
-use Rattle.aig_order.proofs.MappedOrder.{mapped_image_is_ordered}
-use Rattle.aig_image.proofs.One.{image_is_one}
-use Rattle.aig_order.proofs.OneSource.{one_source, undoing_recovers}
-use Rattle.aig_order.proofs.Refused.{one_mapped}
-use Rattle.aig_image.proofs.OwnImage.{own_image}
+use Rattle.aig_order.proofs.Mapping.MappedOrder.{mapped_image_is_ordered}
+use Rattle.aig_image.proofs.Imaging.One.{image_is_one}
+use Rattle.aig_order.proofs.Sources.OneSource.{one_source, undoing_recovers}
+use Rattle.aig_order.proofs.Sources.Refused.{one_mapped}
+use Rattle.aig_image.proofs.Imaging.OwnImage.{own_image}
 use Rattle.aig_command.specs.declared.request.ToAig.{ToAig}
 use Rattle.aig_tools.specs.File.{IsFileOf}
 use Rattle.aig_tools.specs.Conversion.{IsImageAs, IsSource, IsTextAs, IsConversionText, changed}

@@ -11,10 +11,10 @@ use Rattle.aig_order.specs.declared.fault.MapFault.{MapFault}
 use Rattle.aig_order.specs.declared.fault.MapFault.TheVariants.{OutOfMemory}
 use Rattle.aig_order.specs.MapBlock.{IsMappedImage}
 use Rattle.aig_order.specs.Undone.{IsMapFault}
-use Rattle.aig_order.proofs.MappedOrder.{mapped_image_is_one, mapped_image_is_ordered}
-use Rattle.aig_order.proofs.OneSource.{undoing_recovers}
-use Rattle.aig_image.proofs.OwnImage.{own_image}
-use Rattle.aig_order.proofs.Refused.{only_memory}
+use Rattle.aig_order.proofs.Mapping.MappedOrder.{mapped_image_is_one, mapped_image_is_ordered}
+use Rattle.aig_order.proofs.Sources.OneSource.{undoing_recovers}
+use Rattle.aig_image.proofs.Imaging.OwnImage.{own_image}
+use Rattle.aig_order.proofs.Sources.Refused.{only_memory}
 use Rattle.aig_command.specs.declared.request.ToAig.{ToAig}
 use Rattle.aig_tools.specs.File.{IsFileOf, first_fault}
 use Rattle.aig_tools.specs.Conversion.{IsConversionText, IsSource, IsTextAs}

@@ -18,7 +18,7 @@ use Rattle.aig_text.proofs.Grammar.WholeTail.{left_of, tail_holds, good_symbols}
 use Rattle.aig_core.specs.BinaryOrder.{IsInBinaryOrder}
 use Rattle.aig_binary.specs.BinaryGrammar.{binary_word, binary_rows_of, SpellsGates, EndsBefore, IsBinaryText}
 use Rattle.aig_binary.specs.BinaryReading.{binary_at, binary_reading}
-use Rattle.aig_core.proofs.WellOrdered.{HasLiteralsUpTo, well_formed}
+use Rattle.aig_core.proofs.Numbered.WellOrdered.{HasLiteralsUpTo, well_formed}
 use Rattle.aig_binary.proofs.Grammar.Numbered.{numbered_circuit, rows_are, literals_are, counts_are, order_is}
 use Rattle.aig_binary.proofs.Grammar.Told.{TellsBinary, binary_told}
 

@@ -15,7 +15,7 @@ use Rattle.aig_binary.specs.Delta.{IsDelta, delta_at}
 use Rattle.aig_core.specs.BinaryOrder.{AreOrderedGates}
 use Rattle.aig_binary.specs.BinaryGrammar.{SpellsGate, SpellsGates}
 use Rattle.aig_binary.specs.BinaryReading.{no_delta, lowered, lowered_at, gate_at, at_gate, gates_at}
-use Rattle.aig_binary.proofs.Reading.{delta_is, delta_read}
+use Rattle.aig_binary.proofs.Deltas.Reading.{delta_is, delta_read}
 
 -- what is left of a literal less the delta at the front
 record IsLowered (from least low : ℕ) (bytes rest : List ℕ) : Type 0 where

@@ -16,7 +16,7 @@ use Rattle.aig_text.proofs.Grammar.Sections.{rows_under, with_all}
 use Rattle.aig_core.specs.BinaryOrder.{AreOrderedGates, IsInBinaryOrder}
 use Rattle.aig_binary.specs.BinaryGrammar.{binary_rows_of}
 use Rattle.aig_binary.specs.BinaryReading.{with_definitions}
-use Rattle.aig_core.proofs.WellOrdered.{HasLiteralsUpTo}
+use Rattle.aig_core.proofs.Numbered.WellOrdered.{HasLiteralsUpTo}
 
 -- the rows of all sections: next literals and outputs alone
 abbrev pub own_rows : List (List ℕ) → List (List ℕ) → List (List (List ℕ))

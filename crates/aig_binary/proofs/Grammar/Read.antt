@@ -9,7 +9,7 @@ use Rattle.aig_core.specs.declared.circuit.Circuit.{Circuit}
 use Rattle.aig_core.specs.Names.{nothing_named}
 use Rattle.aig_core.specs.Wellformed.{operands}
 use Rattle.aig_core.specs.Form.{IsInForm}
-use Rattle.aig_core.proofs.Fitting.{well_formed_in_form}
+use Rattle.aig_core.proofs.Checking.Fitting.{well_formed_in_form}
 use Rattle.aig_text.specs.declared.fault.ReadKind.TheVariants as kinds
 use Rattle.aig_text.specs.declared.header_line.Header.{Header}
 use Rattle.aig_text.specs.Lines.{Line, ahead, lines_of, bytes_of}

@@ -38,7 +38,7 @@ fn define<T: Entry>(seen: &mut VarSet, entry: &T) -> Result<(), CheckFault>
 }
 
 /// Adds the variables of a section to those that were seen, unless one of them was seen before.
-#[tactic(auto, using(crate::proofs::Sections::joined_lists))]
+#[tactic(auto, using(crate::proofs::Checking::Sections::joined_lists))]
 fn define_all<T: Entry>(seen: &mut VarSet, entries: &Listing<T>) -> Result<(), CheckFault>
     ensures seen { OnOk result (seen.new ≡ with_all seen.old (flat_map T.defined entries.now)) }
     ensures ok { OnOk result (first_repeat seen.old (flat_map T.defined entries.now) ≡ None) }
@@ -89,7 +89,7 @@ fn unknown_use<T: Entry>(variables: &VarSet, entry: &T) -> Option<Lit>
 }
 
 /// The first literal of a section that is no constant and over none of the variables.
-#[tactic(auto, using(crate::proofs::Sections::joined_lists))]
+#[tactic(auto, using(crate::proofs::Checking::Sections::joined_lists))]
 fn first_unknown_use<T: Entry>(variables: &VarSet, entries: &Listing<T>) -> Option<Lit>
     ensures { result ≡ first_unknown variables.now (flat_map T.used entries.now) }
 {
@@ -103,7 +103,7 @@ fn first_unknown_use<T: Entry>(variables: &VarSet, entries: &Listing<T>) -> Opti
 
 /// Adds the variables of a section to those that were seen, unless one of them was seen before. Answers whether each
 /// entry uses nothing but constants and what was seen before it.
-#[tactic(auto, using(crate::proofs::Sections::joined_lists))]
+#[tactic(auto, using(crate::proofs::Checking::Sections::joined_lists))]
 fn define_in_order<T: Entry>(seen: &mut VarSet, entries: &Listing<T>) -> Result<bool, CheckFault>
     ensures seen { OnOk result (seen.new ≡ with_all seen.old (flat_map T.defined entries.now)) }
     ensures ok { OnOk result (first_repeat seen.old (flat_map T.defined entries.now) ≡ None) }

@@ -77,7 +77,7 @@ impl<T: Kept> Spread<T> {
     }
 
     /// The value of a variable.
-    #[tactic(auto, using(crate::proofs::Maps::map_has))]
+    #[tactic(auto, using(crate::proofs::Tables::Maps::map_has))]
     #[inline(never)]
     pub(super) fn get(&self, var: Var) -> Option<T>
         ensures { result ≡ map.get self.now var }

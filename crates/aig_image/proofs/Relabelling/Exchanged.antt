@@ -10,8 +10,8 @@ use Rattle.aig_core.specs.declared.circuit.Circuit.{Circuit}
 use Rattle.aig_core.specs.Literal.{variable_of}
 use Rattle.aig_core.specs.Wellformed.{IsAmong, AreDistinct, IsKnown, IsVariableUpTo, IsRank, IsWellFormed}
 use Rattle.aig_core.specs.Wellformed.{count_of, operands}
-use Rattle.aig_core.proofs.InForm.{joined, front, back}
-use Rattle.aig_core.proofs.Ranked.{variables}
+use Rattle.aig_core.proofs.Checking.InForm.{joined, front, back}
+use Rattle.aig_core.proofs.Ordering.Ranked.{variables}
 use Rattle.aig_image.specs.Reordered.{operands_sorted, has_smaller_first, exchanged_if, exchanged_by}
 use Rattle.aig_image.specs.Reordered.{with_operands_exchanged}
 use Rattle.aig_image.proofs.Relabelling.Formed.{symbols_kept}

@@ -15,8 +15,8 @@ use Rattle.aig_core.specs.Literal.{variable_of}
 use Rattle.aig_core.specs.Wellformed.{IsAmong, AreDistinct, IsKnown, IsRank, IsVariableUpTo}
 use Rattle.aig_core.specs.Wellformed.{HasGoodSymbols, NameApart, IsWellFormed}
 use Rattle.aig_core.specs.Wellformed.{count_of, defined_variables, line_feed, operands, used_literals}
-use Rattle.aig_core.proofs.InForm.{joined}
-use Rattle.aig_core.proofs.Ranked.{variables}
+use Rattle.aig_core.proofs.Checking.InForm.{joined}
+use Rattle.aig_core.proofs.Ordering.Ranked.{variables}
 use Rattle.aig_image.specs.Relabelled.{relabelled_literal, relabelled_latch, relabelled_gate, relabelled}
 use Rattle.aig_image.specs.Relabelled.{LatchNames, GateNames, NamesOnly}
 

@@ -6,9 +6,9 @@ use Rattle.aig_core.specs.declared.circuit.Gate.{Gate}
 use Rattle.aig_core.specs.declared.circuit.Circuit.{Circuit}
 use Rattle.aig_core.specs.Literal.{variable_of}
 use Rattle.aig_core.specs.Wellformed.{IsKnown, IsWellFormed, defined_variables, operands}
-use Rattle.aig_core.proofs.Fitting.{each}
-use Rattle.aig_core.proofs.InForm.{front, back}
-use Rattle.aig_core.proofs.Ranked.{variables}
+use Rattle.aig_core.proofs.Checking.Fitting.{each}
+use Rattle.aig_core.proofs.Checking.InForm.{front, back}
+use Rattle.aig_core.proofs.Ordering.Ranked.{variables}
 use Rattle.aig_image.specs.Relabelled.{LatchNames, GateNames, NamesOnly}
 
 module _ (P : ℕ → Type 0) (c : Circuit) (constant : P 0) (defined : AllByRecursion P (defined_variables c)) where

@@ -12,12 +12,12 @@ use Rattle.aig_core.specs.declared.circuit.Circuit.{Circuit}
 use Rattle.aig_core.specs.Literal.{variable_of}
 use Rattle.aig_core.specs.Wellformed.{IsAmong, AreDistinct, IsKnown, IsVariableUpTo, IsWellFormed, count_of, operands}
 use Rattle.aig_core.specs.Wellformed.{defined_variables}
-use Rattle.aig_core.proofs.Counted.{among_either}
-use Rattle.aig_core.proofs.Cyclic.{among_last}
-use Rattle.aig_core.proofs.Fitting.{each, all_weaker}
-use Rattle.aig_core.proofs.InForm.{joined, front, back}
-use Rattle.aig_core.proofs.Ranked.{variables, stands_there, distinct_back}
-use Rattle.aig_core.proofs.Steps.{all_of}
+use Rattle.aig_core.proofs.Ordering.Counted.{among_either}
+use Rattle.aig_core.proofs.Ordering.Cyclic.{among_last}
+use Rattle.aig_core.proofs.Checking.Fitting.{each, all_weaker}
+use Rattle.aig_core.proofs.Checking.InForm.{joined, front, back}
+use Rattle.aig_core.proofs.Ordering.Ranked.{variables, stands_there, distinct_back}
+use Rattle.aig_core.proofs.Ordering.Steps.{all_of}
 use Rattle.aig_image.specs.Reordered.{no_gate, taken, reordered, ArePlaces}
 use Rattle.aig_image.proofs.Relabelling.Formed.{symbols_kept}
 use Rattle.aig_image.proofs.Relabelling.Standing.{among_first, somewhere, at_place, by_places, same_place}

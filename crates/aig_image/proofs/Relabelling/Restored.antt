@@ -7,7 +7,7 @@ use Rattle.aig_core.specs.declared.circuit.Circuit.{Circuit}
 use Rattle.aig_image.specs.Relabelled.{relabelled, relabelled_gate, NamesOnly}
 use Rattle.aig_core.specs.declared.circuit.Latch.{Latch}
 use Rattle.aig_core.specs.Wellformed.{defined_variables}
-use Rattle.aig_core.proofs.Ranked.{variables}
+use Rattle.aig_core.proofs.Ordering.Ranked.{variables}
 use Rattle.aig_image.specs.Reordered.{no_gate, taken, reordered, operands_sorted, has_smaller_first, exchanged_by}
 use Rattle.aig_image.specs.Reordered.{with_operands_exchanged}
 use Rattle.aig_image.proofs.Relabelling.Exchanged.{same_variables}

@@ -14,13 +14,13 @@ use Rattle.aig_core.specs.declared.circuit.Gate.{Gate}
 use Rattle.aig_core.specs.declared.circuit.Circuit.{Circuit}
 use Rattle.aig_core.specs.BinaryOrder.{AreOrderedGates}
 use Rattle.aig_core.specs.Wellformed.{AreDistinct, IsVariableUpTo, IsWellFormed, defined_variables}
-use Rattle.aig_core.proofs.Fitting.{all_weaker}
+use Rattle.aig_core.proofs.Checking.Fitting.{all_weaker}
 use Rattle.aig_core.proofs.Makers.{gates_alike}
-use Rattle.aig_core.proofs.Ranked.{at, no_gate}
+use Rattle.aig_core.proofs.Ordering.Ranked.{at, no_gate}
 use Rattle.aig_image.specs.Relabelled.{relabelled_gate, relabelled_latch, GateNames, NamesOnly}
 use Rattle.aig_image.specs.Renumbering.{renumbered, source_variable}
 use Rattle.aig_image.specs.Reordered.{converted, exchanged_if, has_smaller_first, operands_sorted}
-use Rattle.aig_image.proofs.OneByOne.{ordered_at}
+use Rattle.aig_image.proofs.Imaging.OneByOne.{ordered_at}
 use Rattle.aig_image.proofs.Relabelling.Lists.{map_nothing, map_where}
 use Rattle.aig_image.proofs.Relabelling.Named.{names_only}
 use Rattle.aig_image.proofs.Relabelling.Relabelled.{gate_back}
@@ -32,7 +32,7 @@ use Rattle.aig_order.specs.MapBlock.{block_text, mapped_gate, map_block, mapped_
 use Rattle.aig_order.specs.Parts.Confirmed.{TellsExchanges, TellsComment}
 use Rattle.aig_order.specs.Parts.Had.{gate_had}
 use Rattle.aig_order.specs.Undone.{comment_behind, exchanges_told, undone}
-use Rattle.aig_order.proofs.ToldAt.{none_told, told_at}
+use Rattle.aig_order.proofs.Sources.ToldAt.{none_told, told_at}
 use Rattle.aig_order.proofs.Restoring.Places.{IsFit, places, order, too}
 use Rattle.aig_order.proofs.Restoring.Source.{vs, source, start, as_many, new_is, inputs_are, latches_are}
 use Rattle.aig_order.proofs.Restoring.Source.{variable_there, gates_are, back}

@@ -3,7 +3,7 @@ use Rattle.std.proofs.Common.{◌≡◌, ℕ, List, Bool, Option, refl}
 use Rattle.std.specs.List.{AllByRecursion}
 use Rattle.aig_core.specs.declared.circuit.Circuit.{Circuit}
 use Rattle.aig_core.specs.Wellformed.{AreDistinct, IsVariableUpTo, IsWellFormed, defined_variables}
-use Rattle.aig_core.proofs.Fitting.{all_weaker}
+use Rattle.aig_core.proofs.Checking.Fitting.{all_weaker}
 use Rattle.aig_image.specs.Renumbering.{renumbered, source_variable}
 use Rattle.aig_image.specs.Reordered.{reordered, with_operands_exchanged}
 use Rattle.aig_image.proofs.Relabelling.Exchanged.{exchange_keeps_form}

@@ -8,11 +8,11 @@ use Rattle.aig_core.specs.declared.circuit.Gate.{Gate}
 use Rattle.aig_core.specs.declared.circuit.Circuit.{Circuit}
 use Rattle.aig_core.specs.Literal.{variable_of}
 use Rattle.aig_core.specs.Wellformed.{IsAmong, AreDistinct, defined_variables, operands}
-use Rattle.aig_core.proofs.Ranked.{at, no_gate, variables, distinct_back}
+use Rattle.aig_core.proofs.Ordering.Ranked.{at, no_gate, variables, distinct_back}
 use Rattle.aig_image.specs.Relabelled.{relabelled_gate}
 use Rattle.aig_image.specs.Renumbering.{renumbered, source_variable}
 use Rattle.aig_image.specs.Reordered.{exchanged_if}
-use Rattle.aig_image.proofs.OneByOne.{ordered_at}
+use Rattle.aig_image.proofs.Imaging.OneByOne.{ordered_at}
 use Rattle.aig_image.proofs.Relabelling.Formed.{variable_there as carried_variable}
 use Rattle.aig_order.specs.declared.map_block.MappedGate.{MappedGate}
 use Rattle.aig_order.specs.declared.map_block.MapBlock.{MapBlock}
@@ -20,7 +20,7 @@ use Rattle.aig_order.specs.Parts.Had.{gate_had}
 use Rattle.aig_order.specs.Undone.{undone}
 use Rattle.aig_order.proofs.Restoring.Places.{IsFit, places, order, are, too, position_at}
 use Rattle.aig_order.proofs.Restoring.Source.{vs, source, start, gates_are, gates_many, back}
-use Rattle.aig_order.proofs.ToldAt.{none_told, told_at}
+use Rattle.aig_order.proofs.Sources.ToldAt.{none_told, told_at}
 
 -- a literal over the variable of a gate's operand, as it was carried back
 module _ (g : ℕ → ℕ) (h : Gate) (v : ℕ) where

@@ -10,14 +10,14 @@ use Rattle.aig_core.specs.declared.circuit.Gate.{Gate}
 use Rattle.aig_core.specs.declared.circuit.Circuit.{Circuit}
 use Rattle.aig_core.specs.Order.{IsLeastReadyOrder}
 use Rattle.aig_core.specs.Wellformed.{IsAmong, IsVariableUpTo, IsWellFormed, defined_variables}
-use Rattle.aig_core.proofs.Fitting.{each}
-use Rattle.aig_core.proofs.Ranked.{at, no_gate, variables}
-use Rattle.aig_core.proofs.Steps.{all_of}
+use Rattle.aig_core.proofs.Checking.Fitting.{each}
+use Rattle.aig_core.proofs.Ordering.Ranked.{at, no_gate, variables}
+use Rattle.aig_core.proofs.Ordering.Steps.{all_of}
 use Rattle.aig_image.specs.Relabelled.{relabelled_gate, NamesOnly}
 use Rattle.aig_image.specs.Renumbering.{in_new_order, renumbered, source_variable}
 use Rattle.aig_image.specs.Reordered.{ArePlaces, converted, operands_sorted, positions_of, restored, taken}
-use Rattle.aig_image.proofs.Back.{back_variable, back_again, by_place}
-use Rattle.aig_image.proofs.Members.{all_taken, has_defined, is_defined, new_once, order_is_places}
+use Rattle.aig_image.proofs.Numbering.Back.{back_variable, back_again, by_place}
+use Rattle.aig_image.proofs.Imaging.Members.{all_taken, has_defined, is_defined, new_once, order_is_places}
 use Rattle.aig_image.proofs.Relabelling.Named.{names_only}
 use Rattle.aig_image.proofs.Relabelling.Positions.{positions_are}
 use Rattle.aig_image.proofs.Relabelling.Restored.{converted_in_places, converted_is_restored, variables_taken}

@@ -11,14 +11,14 @@ use Rattle.aig_core.specs.declared.circuit.Latch.{Latch}
 use Rattle.aig_core.specs.declared.circuit.Gate.{Gate}
 use Rattle.aig_core.specs.declared.circuit.Circuit.{Circuit}
 use Rattle.aig_core.specs.Wellformed.{AreDistinct, IsVariableUpTo, defined_variables}
-use Rattle.aig_core.proofs.Fitting.{each}
-use Rattle.aig_core.proofs.InForm.{joined}
-use Rattle.aig_core.proofs.Ranges.{variables_are}
-use Rattle.aig_core.proofs.Ranked.{at}
+use Rattle.aig_core.proofs.Checking.Fitting.{each}
+use Rattle.aig_core.proofs.Checking.InForm.{joined}
+use Rattle.aig_core.proofs.Numbered.Ranges.{variables_are}
+use Rattle.aig_core.proofs.Ordering.Ranked.{at}
 use Rattle.aig_image.specs.Relabelled.{relabelled, relabelled_gate, relabelled_latch}
 use Rattle.aig_image.specs.Renumbering.{in_new_order, renumbered, source_variable}
 use Rattle.aig_image.specs.Reordered.{ArePlaces, exchanged_by, taken}
-use Rattle.aig_image.proofs.Back.{by_place, back_again}
+use Rattle.aig_image.proofs.Numbering.Back.{by_place, back_again}
 use Rattle.aig_image.proofs.Relabelling.Exchanged.{exchanged_each}
 use Rattle.aig_image.proofs.Relabelling.Permuted.{order_keeps_once}
 use Rattle.aig_image.proofs.Relabelling.Restored.{defined_in_order}
@@ -28,7 +28,7 @@ use Rattle.aig_order.specs.declared.map_block.MapBlock.{MapBlock}
 use Rattle.aig_order.specs.Parts.Had.{gate_had, in_order_had}
 use Rattle.aig_order.specs.Undone.{exchanges_told, places_told, source_variables, undone, variable_at_place}
 use Rattle.aig_order.proofs.Restoring.Places.{IsFit, places, order, are, too, by_position, row_in_range, variables_told}
-use Rattle.aig_order.proofs.ToldAt.{none_told, told_at}
+use Rattle.aig_order.proofs.Sources.ToldAt.{none_told, told_at}
 
 -- numbers from 1 on, carried back, are the variables in a row
 carried : (vs : List ℕ) → map (source_variable vs) (range_with_len 1 (length vs)) ≡ vs

@@ -5,8 +5,8 @@ use Rattle.std.specs.List.{AllByRecursion, AllZip}
 use Rattle.aig_core.specs.declared.circuit.Circuit.{Circuit}
 use Rattle.aig_core.specs.declared.fault.CheckFault.{CheckFault}
 use Rattle.aig_core.specs.Fault.{first_fault}
-use Rattle.aig_core.proofs.Faultless.{well_formed, faultless}
-use Rattle.aig_core.proofs.Fitting.{well_formed_in_form}
+use Rattle.aig_core.proofs.Checking.Faultless.{well_formed, faultless}
+use Rattle.aig_core.proofs.Checking.Fitting.{well_formed_in_form}
 use Rattle.aig_core.specs.declared.circuit.Symbol.{Symbol}
 use Rattle.aig_core.specs.Names.{nothing_named}
 use Rattle.aig_core.specs.Wellformed.{IsWellFormed, IsWithinLimits, IsVariableUpTo, HasGoodSymbols, defined_variables}

@@ -1,5 +1,5 @@
 use Rattle.std.proofs.Common.{◌≡◌, ◌<◌, get_or, sym, ◌∙◌, Some, subst}
-use Rattle.aig_binary.proofs.Reading.{answers, delta_of_one}
+use Rattle.aig_binary.proofs.Deltas.Reading.{answers, delta_of_one}
 use Rattle.aig_binary.proofs.delta.get_delta.Goals as goal
 
 pub returns-in_default-clause-spelled : goal.returns-in_default-clause-spelled

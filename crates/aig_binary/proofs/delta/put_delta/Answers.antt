@@ -1,4 +1,4 @@
-use Rattle.aig_binary.proofs.Shortest.{two_stored}
+use Rattle.aig_binary.proofs.Deltas.Shortest.{two_stored}
 use Rattle.aig_binary.proofs.delta.put_delta.Goals as goal
 
 pub returns-then-second-lt128 : goal.returns-then-second-lt128

@@ -1,4 +1,4 @@
-use Rattle.aig_binary.proofs.Shortest.{groups_stored}
+use Rattle.aig_binary.proofs.Deltas.Shortest.{groups_stored}
 use Rattle.aig_binary.proofs.delta.put_long.Goals as goal
 
 pub returns : goal.returns

@@ -1,7 +1,7 @@
 use Rattle.std.proofs.Common.{◌≡◌, ℕ, List, ◌++◌, Some, sym, ap, ◌∙◌}
 use Rattle.std.proofs.lemmas.List.{append_cancel_right}
 use Rattle.aig_binary.specs.Delta.{delta_at}
-use Rattle.aig_binary.proofs.Reading.{delta_read}
+use Rattle.aig_binary.proofs.Deltas.Reading.{delta_read}
 use Rattle.aig_binary.proofs.laws.deltas_are_unambiguous.Goals as goal
 
 pub returns : goal.returns

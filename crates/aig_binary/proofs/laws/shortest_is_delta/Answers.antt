@@ -1,4 +1,4 @@
-use Rattle.aig_binary.proofs.Shortest.{shortest_is_delta, shortest_is_shortest}
+use Rattle.aig_binary.proofs.Deltas.Shortest.{shortest_is_delta, shortest_is_shortest}
 use Rattle.aig_binary.proofs.laws.shortest_is_delta.Goals as goal
 
 pub returns : goal.returns

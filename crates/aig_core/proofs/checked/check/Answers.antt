@@ -1,4 +1,4 @@
-use Rattle.aig_core.proofs.Faultless.{refuted, well_formed}
+use Rattle.aig_core.proofs.Checking.Faultless.{refuted, well_formed}
 use Rattle.aig_core.proofs.checked.check.Goals as goal
 
 pub invariant_of-result : goal.invariant_of-result

@@ -1,4 +1,4 @@
-use Rattle.aig_core.proofs.Faultless.{told_once, told_twice}
+use Rattle.aig_core.proofs.Checking.Faultless.{told_once, told_twice}
 use Rattle.aig_core.specs.Wellformed.{defined_variables}
 use Rattle.aig_core.proofs.checked.is_defined_once.Goals as goal
 

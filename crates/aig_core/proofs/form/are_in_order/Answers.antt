@@ -1,6 +1,6 @@
 use Rattle.std.proofs.Common.{◌≡◌, [], drop}
 use Rattle.std.proofs.lemmas.List.{drop_all}
-use Rattle.aig_core.proofs.InForm.{rising_apart}
+use Rattle.aig_core.proofs.Checking.InForm.{rising_apart}
 use Rattle.aig_core.proofs.form.are_in_order.Goals as goal
 
 pub returns-clause-apart : goal.returns-clause-apart

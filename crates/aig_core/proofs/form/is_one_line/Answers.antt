@@ -1,4 +1,4 @@
-use Rattle.aig_core.proofs.InForm.{none_among}
+use Rattle.aig_core.proofs.Checking.InForm.{none_among}
 use Rattle.aig_core.proofs.form.is_one_line.Goals as goal
 
 pub returns : goal.returns

@@ -1,4 +1,4 @@
-use Rattle.aig_core.proofs.Faultless.{faultless_is_well_formed}
+use Rattle.aig_core.proofs.Checking.Faultless.{faultless_is_well_formed}
 use Rattle.aig_core.proofs.laws.faultless_is_well_formed.Goals as goal
 
 pub returns : goal.returns

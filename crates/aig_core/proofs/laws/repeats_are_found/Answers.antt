@@ -1,4 +1,4 @@
-use Rattle.aig_core.proofs.Reported.{repeats_are_found, no_repeat_where_distinct}
+use Rattle.aig_core.proofs.Checking.Reported.{repeats_are_found, no_repeat_where_distinct}
 use Rattle.aig_core.proofs.laws.repeats_are_found.Goals as goal
 
 pub returns : goal.returns

@@ -1,6 +1,6 @@
 use Rattle.std.proofs.Common.{◌≡◌, get_or, arith}
 use Rattle.aig_core.specs.Ready.{has}
-use Rattle.aig_core.proofs.Trees.{one_more_ready, none_more_ready}
+use Rattle.aig_core.proofs.Ordering.Trees.{one_more_ready, none_more_ready}
 use Rattle.aig_core.proofs.least_ready.all_ready.Goals as goal
 
 pub loop-gate-preserved : goal.loop-gate-preserved

@@ -9,8 +9,8 @@ use Rattle.aig_core.specs.Operands.{operands_of}
 use Rattle.aig_core.specs.Users.{uses}
 use Rattle.aig_core.specs.Progress.{Progress}
 use Rattle.aig_core.specs.Ready.{has}
-use Rattle.aig_core.proofs.TakenLeast.{Stands, no_longer, is_ready, is_full, goes_on}
-use Rattle.aig_core.proofs.Steps.{same_operands, over_gates, begins, enough, steps_are, few_steps}
+use Rattle.aig_core.proofs.Ordering.TakenLeast.{Stands, no_longer, is_ready, is_full, goes_on}
+use Rattle.aig_core.proofs.Ordering.Steps.{same_operands, over_gates, begins, enough, steps_are, few_steps}
 use Rattle.aig_core.proofs.least_ready.gate_order.Goals as goal
 
 pub new-requires-clause-gates : goal.new-requires-clause-gates

@@ -3,7 +3,7 @@ use Rattle.std.specs.List.{sum}
 use Rattle.aig_core.specs.declared.circuit.Gate.{Gate}
 use Rattle.aig_core.specs.Order.{gates_under, gate_operands}
 use Rattle.aig_core.specs.Ready.{has, room}
-use Rattle.aig_core.proofs.TakenLeast.{Stands}
+use Rattle.aig_core.proofs.Ordering.TakenLeast.{Stands}
 use Rattle.aig_core.proofs.least_ready.gate_order.Given as goal
 
 abbrev pub invariant-loop-gate : goal.invariant-loop-gate

@@ -2,8 +2,8 @@ use Rattle.std.proofs.Common.{◌∙◌, ap, sym, cond, eqb, get_or, Some, None}
 use Rattle.std.specs.Option.{option_or}
 use Rattle.std.specs.Ordering.{nat_cmp}
 use Rattle.std.specs.FinMap.{get, get-empty}
-use Rattle.aig_core.proofs.Gates.{gate_of_more}
-use Rattle.aig_core.proofs.Maps.{get-with_new}
+use Rattle.aig_core.proofs.Ordering.Gates.{gate_of_more}
+use Rattle.aig_core.proofs.Tables.Maps.{get-with_new}
 use Rattle.aig_core.proofs.operands.gate_index.Goals as goal
 
 pub loop-position-init : goal.loop-position-init

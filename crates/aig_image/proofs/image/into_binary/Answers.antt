@@ -1,7 +1,7 @@
 use Rattle.std.proofs.Common.{◌≡◌, refl, sym, subst}
 use Rattle.aig_core.specs.Wellformed.{IsWellFormed}
 use Rattle.aig_image.specs.Image.{IsBinaryImage}
-use Rattle.aig_image.proofs.OwnImage.{own_image}
+use Rattle.aig_image.proofs.Imaging.OwnImage.{own_image}
 use Rattle.aig_image.proofs.image.into_binary.Goals as goal
 
 pub returns-in-Ok : goal.returns-in-Ok

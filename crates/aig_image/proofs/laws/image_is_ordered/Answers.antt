@@ -1,4 +1,4 @@
-use Rattle.aig_image.proofs.Ordered.{image_is_ordered}
+use Rattle.aig_image.proofs.Imaging.Ordered.{image_is_ordered}
 use Rattle.aig_image.proofs.laws.image_is_ordered.Goals as goal
 
 pub returns : goal.returns

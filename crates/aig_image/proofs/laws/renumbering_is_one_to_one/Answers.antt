@@ -1,4 +1,4 @@
-use Rattle.aig_image.proofs.OneToOne.{one_to_one}
+use Rattle.aig_image.proofs.Numbering.OneToOne.{one_to_one}
 use Rattle.aig_image.proofs.laws.renumbering_is_one_to_one.Goals as goal
 
 pub returns : goal.returns

@@ -1,6 +1,6 @@
 use Rattle.std.proofs.Common.{◌∙◌, arith}
 use Rattle.std.proofs.lemmas.List.{length-set}
-use Rattle.aig_order.proofs.PositionsPut.{one_more_put, all_put}
+use Rattle.aig_order.proofs.Confirming.PositionsPut.{one_more_put, all_put}
 use Rattle.aig_order.proofs.turns.positions.Goals as goal
 
 pub loop-position-preserved : goal.loop-position-preserved

@@ -1,5 +1,5 @@
 use Rattle.std.proofs.Common.{◌≡◌, ◌<◌, ℕ, length, get_or}
-use Rattle.aig_order.proofs.ToldAt.{told_at}
+use Rattle.aig_order.proofs.Sources.ToldAt.{told_at}
 use Rattle.aig_order.proofs.turns.positions.Given as goal
 
 abbrev pub invariant-loop-position : goal.invariant-loop-position

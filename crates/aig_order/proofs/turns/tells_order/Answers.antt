@@ -3,8 +3,8 @@ use Rattle.std.proofs.lemmas.Result.{IfOk-weaker}
 use Rattle.aig_core.specs.Order.{IsLeastReadyOrder}
 use Rattle.aig_order.specs.Parts.Turns.{positions, AreTakenInTurn}
 use Rattle.aig_order.specs.Undone.{undone}
-use Rattle.aig_order.proofs.PositionsPut.{positions_many}
-use Rattle.aig_order.proofs.TakenInTurn.{tells_order}
+use Rattle.aig_order.proofs.Confirming.PositionsPut.{positions_many}
+use Rattle.aig_order.proofs.Confirming.TakenInTurn.{tells_order}
 use Rattle.aig_order.proofs.turns.tells_order.Goals as goal
 
 pub are_taken_in_turn-requires-clause-few : goal.are_taken_in_turn-requires-clause-few

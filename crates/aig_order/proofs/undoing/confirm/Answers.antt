@@ -2,7 +2,7 @@ use Rattle.std.proofs.Common.{◌∙◌, sym, refl, subst, inr, true≢false}
 use Rattle.aig_core.specs.declared.circuit.Circuit.{Circuit}
 use Rattle.aig_core.specs.Wellformed.{IsWellFormed}
 use Rattle.aig_order.specs.MapBlock.{IsMappedImage}
-use Rattle.aig_order.proofs.OneSource.{undoing_recovers}
+use Rattle.aig_order.proofs.Sources.OneSource.{undoing_recovers}
 use Rattle.aig_order.proofs.undoing.confirm.Goals as goal
 
 pub has_image-requires-clause-formed : goal.has_image-requires-clause-formed

@@ -11,8 +11,8 @@ use Rattle.aig_order.specs.Parts.Confirmed.{TellsExchanges}
 use Rattle.aig_order.specs.Parts.Turns.{positions}
 use Rattle.aig_order.specs.Undone.{undone, comment_behind}
 use Rattle.aig_order.proofs.BlockReading.Block.{read_is_within}
-use Rattle.aig_order.proofs.Judged.{by_comment, by_exchanges, by_order, told_of_same}
-use Rattle.aig_order.proofs.SourceVariables.{places_there}
+use Rattle.aig_order.proofs.Confirming.Judged.{by_comment, by_exchanges, by_order, told_of_same}
+use Rattle.aig_order.proofs.Sources.SourceVariables.{places_there}
 use Rattle.aig_order.proofs.undoing.has_image.Goals as goal
 
 pub returns-then-not-tells_comment : goal.returns-then-not-tells_comment

@@ -2,7 +2,7 @@ use Rattle.std.proofs.Common.{◌≡◌, ◌⊎◌, subst, Err}
 use Rattle.aig_core.specs.declared.circuit.Circuit.{Circuit}
 use Rattle.aig_order.specs.declared.fault.MapFault.TheVariants.{OutOfMemory}
 use Rattle.aig_order.specs.MapReading.{block_reading}
-use Rattle.aig_order.proofs.Refused.{unread}
+use Rattle.aig_order.proofs.Sources.Refused.{unread}
 use Rattle.aig_order.proofs.undoing.recover.Goals as goal
 
 pub returns-in-Err-clause-fault : goal.returns-in-Err-clause-fault

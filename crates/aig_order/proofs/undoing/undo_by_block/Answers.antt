@@ -6,7 +6,7 @@ use Rattle.aig_order.specs.MapReading.{HasCountsOf}
 use Rattle.aig_order.specs.Undone.{comment_behind, undone}
 use Rattle.aig_order.proofs.BlockReading.Block.{read_is_within}
 use Rattle.aig_order.proofs.Restoring.Formed.{well_formed_again}
-use Rattle.aig_order.proofs.Refused.{of_places, of_source, of_confirmed}
+use Rattle.aig_order.proofs.Sources.Refused.{of_places, of_source, of_confirmed}
 use Rattle.aig_order.proofs.undoing.undo_by_block.Goals as goal
 
 pub make_undone-requires-clause-counts : goal.make_undone-requires-clause-counts

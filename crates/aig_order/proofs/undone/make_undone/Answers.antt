@@ -4,7 +4,7 @@ use Rattle.aig_image.specs.Relabelled.{FitIntoLiterals, relabelled}
 use Rattle.aig_image.specs.Renumbering.{source_variable}
 use Rattle.aig_order.specs.Undone.{comment_behind}
 use Rattle.aig_order.proofs.Restoring.Source.{undone_is}
-use Rattle.aig_order.proofs.SourceVariables.{they_fit, places_there}
+use Rattle.aig_order.proofs.Sources.SourceVariables.{they_fit, places_there}
 use Rattle.aig_order.proofs.undone.make_undone.Goals as goal
 
 pub relabel-requires : goal.relabel-requires

@@ -2,7 +2,7 @@ use Rattle.std.proofs.Common.{◌≡◌, ◌∙◌, ◌++◌, Some, None, ap₂,
 use Rattle.std.proofs.lemmas.Result.{err_from_is_err_and}
 use Rattle.aig_order.specs.declared.fault.MapFault.TheVariants.{Forged, OutOfMemory}
 use Rattle.aig_order.specs.Parts.Placed.{table_of}
-use Rattle.aig_order.proofs.Placed.{places_once, place_twice, table_is}
+use Rattle.aig_order.proofs.Sources.Placed.{places_once, place_twice, table_is}
 use Rattle.aig_order.proofs.undone.source_variables.Goals as goal
 
 pub returns-in_err-placed-clause-err : goal.returns-in_err-placed-clause-err

@@ -1,5 +1,5 @@
 use Rattle.std.proofs.lemmas.Result.{err_from_is_err_and}
-use Rattle.aig_core.proofs.Sections.{told_of_inputs, told_of_latches, all_before, none_before}
+use Rattle.aig_core.proofs.Checking.Sections.{told_of_inputs, told_of_latches, all_before, none_before}
 use Rattle.aig_core.proofs.checked.faults.definitions_before_gates.Goals as goal
 
 pub returns-in_err-define_all-clause-err : goal.returns-in_err-define_all-clause-err

@@ -1,6 +1,6 @@
 use Rattle.std.proofs.Common.{◌∙◌, sym, ap, not}
-use Rattle.aig_core.proofs.Buckets.{none_of}
-use Rattle.aig_core.proofs.InOrder.{in_order_faultless}
+use Rattle.aig_core.proofs.Tables.Buckets.{none_of}
+use Rattle.aig_core.proofs.Checking.InOrder.{in_order_faultless}
 use Rattle.aig_core.proofs.checked.faults.find_fault.Goals as goal
 
 pub returns-then-is_none-clause-ok : goal.returns-then-is_none-clause-ok

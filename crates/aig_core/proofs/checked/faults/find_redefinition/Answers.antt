@@ -1,4 +1,4 @@
-use Rattle.aig_core.proofs.Sections.{gates_repeat}
+use Rattle.aig_core.proofs.Checking.Sections.{gates_repeat}
 use Rattle.aig_core.proofs.checked.faults.find_redefinition.Goals as goal
 
 pub returns-clause-ok : goal.returns-clause-ok

@@ -1,5 +1,5 @@
 use Rattle.std.proofs.Common.{◌∙◌, rules}
-use Rattle.aig_core.proofs.Sections.{unknowns}
+use Rattle.aig_core.proofs.Checking.Sections.{unknowns}
 use Rattle.aig_core.proofs.checked.faults.first_undefined.Goals as goal
 
 pub returns : goal.returns

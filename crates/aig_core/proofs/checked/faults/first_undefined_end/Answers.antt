@@ -1,5 +1,5 @@
 use Rattle.std.proofs.Common.{◌∙◌, rules}
-use Rattle.aig_core.proofs.Sections.{unknown_ends}
+use Rattle.aig_core.proofs.Checking.Sections.{unknown_ends}
 use Rattle.aig_core.proofs.checked.faults.first_undefined_end.Goals as goal
 
 pub returns : goal.returns

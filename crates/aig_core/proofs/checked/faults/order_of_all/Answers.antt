@@ -5,8 +5,8 @@ use Rattle.aig_core.specs.declared.circuit.Gate.{Gate}
 use Rattle.aig_core.specs.declared.circuit.TheConstants.{LARGEST}
 use Rattle.aig_core.specs.declared.fault.CheckFault.TheVariants.{Cyclic}
 use Rattle.aig_core.specs.Order.{first_cyclic}
-use Rattle.aig_core.proofs.Ranked.{no_gate, at}
-use Rattle.aig_core.proofs.Cyclic.{cyclic_at, cyclic_nowhere, in_bounds}
+use Rattle.aig_core.proofs.Ordering.Ranked.{no_gate, at}
+use Rattle.aig_core.proofs.Ordering.Cyclic.{cyclic_at, cyclic_nowhere, in_bounds}
 use Rattle.aig_core.proofs.checked.faults.order_of_all.Goals as goal
 
 pub own_literal-requires : goal.own_literal-requires

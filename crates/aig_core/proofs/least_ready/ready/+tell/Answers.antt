@@ -1,6 +1,6 @@
 use Rattle.std.proofs.Common.{arith, ◌/◌}
 use Rattle.std.proofs.lemmas.List.{length-set}
-use Rattle.aig_core.proofs.Trees.{to_tell, what_to_tell, lowest_put}
+use Rattle.aig_core.proofs.Ordering.Trees.{to_tell, what_to_tell, lowest_put}
 use Rattle.aig_core.proofs.least_ready.ready.+tell.Goals as goal
 
 pub tell-requires : goal.tell-requires

@@ -1,5 +1,5 @@
 use Rattle.aig_core.specs.Ready.{first_bit}
-use Rattle.aig_core.proofs.Trees.{IsLeastAt}
+use Rattle.aig_core.proofs.Ordering.Trees.{IsLeastAt}
 use Rattle.aig_core.proofs.least_ready.ready.least.Given as goal
 
 abbrev pub invariant-loop : goal.invariant-loop

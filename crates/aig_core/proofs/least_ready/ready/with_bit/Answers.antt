@@ -1,6 +1,6 @@
 use Rattle.std.proofs.Common.{◌∙◌, ap, sym, cond, eqb}
 use Rattle.std.specs.Int.{bit_at}
-use Rattle.aig_core.proofs.Trees.{bit_set, bit_cleared}
+use Rattle.aig_core.proofs.Ordering.Trees.{bit_set, bit_cleared}
 use Rattle.aig_core.proofs.least_ready.ready.with_bit.Goals as goal
 
 pub returns-then-on : goal.returns-then-on

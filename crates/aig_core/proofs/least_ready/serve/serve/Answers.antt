@@ -5,7 +5,7 @@ use Rattle.std.proofs.lemmas.List.{length-set}
 use Rattle.std.specs.List.{count_by, sum}
 use Rattle.aig_core.specs.Users.{users_from, uses}
 use Rattle.aig_core.specs.Ready.{has}
-use Rattle.aig_core.proofs.Served.{one_use, no_use, waits, there, never_more, still_waits, one_step, ready_now, not_yet_ready}
+use Rattle.aig_core.proofs.Ordering.Served.{one_use, no_use, waits, there, never_more, still_waits, one_step, ready_now, not_yet_ready}
 use Rattle.aig_core.proofs.least_ready.serve.serve.Goals as goal
 
 pub count_down-requires-clause-there : goal.count_down-requires-clause-there

@@ -1,7 +1,7 @@
 use Rattle.std.proofs.Common.{◌<◌, length, sym, subst}
 use Rattle.std.specs.List.{slice_index}
 use Rattle.aig_core.specs.Progress.{Progress}
-use Rattle.aig_core.proofs.Counted.{counts_down}
+use Rattle.aig_core.proofs.Ordering.Counted.{counts_down}
 use Rattle.aig_core.proofs.order.Order.count_down.Goals as goal
 
 pub invariant_of-self : goal.invariant_of-self

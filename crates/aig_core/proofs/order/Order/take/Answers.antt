@@ -2,7 +2,7 @@ use Rattle.std.proofs.Common.{◌<◌, ◌∙◌, ◌+◌, ◌++◌, ◌∷◌, 
 use Rattle.std.proofs.lemmas.List.{take_more_set}
 use Rattle.aig_core.specs.Wellformed.{IsAmong}
 use Rattle.aig_core.specs.Progress.{Progress}
-use Rattle.aig_core.proofs.Counted.{room_left, takes}
+use Rattle.aig_core.proofs.Ordering.Counted.{room_left, takes}
 use Rattle.aig_core.proofs.order.Order.take.Goals as goal
 
 pub index_mut-requires : goal.index_mut-requires

@@ -2,7 +2,7 @@ use Rattle.std.proofs.Common.{◌∙◌, ap, map, length, refl, arith}
 use Rattle.std.proofs.lemmas.List.{take_all}
 use Rattle.aig_core.specs.declared.operands.Operands.{Operands}
 use Rattle.aig_core.specs.Operands.{over}
-use Rattle.aig_core.proofs.Counted.{begins}
+use Rattle.aig_core.proofs.Ordering.Counted.{begins}
 use Rattle.aig_core.proofs.order.Order.waiting_for.Goals as goal
 
 pub invariant_of-result : goal.invariant_of-result

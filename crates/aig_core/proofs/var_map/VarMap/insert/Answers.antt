@@ -2,7 +2,7 @@ use Rattle.std.proofs.Common.{◌≤◌, ap, sym, ◌∙◌, rules, true≢false
 use Rattle.std.proofs.lemmas.Bool.{cases_lt}
 use Rattle.std.proofs.lemmas.Result.{on_ok_weaker}
 use Rattle.aig_core.specs.Parts.Places.{map_of, kept_at}
-use Rattle.aig_core.proofs.Maps.{grown, more_in_place, more_elsewhere}
+use Rattle.aig_core.proofs.Tables.Maps.{grown, more_in_place, more_elsewhere}
 use Rattle.aig_core.proofs.var_map.VarMap.insert.Goals as goal
 
 pub returns-then-covers-clause-ok : goal.returns-then-covers-clause-ok

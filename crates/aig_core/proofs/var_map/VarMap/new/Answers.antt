@@ -1,4 +1,4 @@
-use Rattle.aig_core.proofs.Maps.{nothing, none_kept}
+use Rattle.aig_core.proofs.Tables.Maps.{nothing, none_kept}
 use Rattle.aig_core.proofs.var_map.VarMap.new.Goals as goal
 
 pub returns : goal.returns

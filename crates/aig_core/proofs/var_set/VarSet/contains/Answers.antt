@@ -1,6 +1,6 @@
 use Rattle.std.proofs.Common.{ap, sym, ◌∙◌}
 use Rattle.std.specs.Option.{is_some}
-use Rattle.aig_core.proofs.Sets.{has_key}
+use Rattle.aig_core.proofs.Tables.Sets.{has_key}
 use Rattle.aig_core.proofs.var_set.VarSet.contains.Goals as goal
 
 pub returns : goal.returns

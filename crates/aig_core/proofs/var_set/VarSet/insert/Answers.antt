@@ -1,7 +1,7 @@
 use Rattle.std.proofs.Common.{◌≡◌, IfOk, not, ap, sym, subst, ◌∙◌}
 use Rattle.std.proofs.lemmas.Result.{on_ok_weaker}
 use Rattle.aig_core.specs.VarMap.{keys_of}
-use Rattle.aig_core.proofs.Sets.{has_key, one_more_key}
+use Rattle.aig_core.proofs.Tables.Sets.{has_key, one_more_key}
 use Rattle.aig_core.proofs.var_set.VarSet.insert.Goals as goal
 
 pub returns-clause-added : goal.returns-clause-added

@@ -1,4 +1,4 @@
-use Rattle.aig_core.proofs.Sets.{no_keys}
+use Rattle.aig_core.proofs.Tables.Sets.{no_keys}
 use Rattle.aig_core.proofs.var_set.VarSet.new.Goals as goal
 
 pub returns : goal.returns

@@ -4,8 +4,8 @@ use Rattle.aig_core.specs.declared.circuit.Latch.{Latch}
 use Rattle.aig_core.specs.declared.circuit.Gate.{Gate}
 use Rattle.aig_image.specs.Parts.Numbers.{AreNumbered}
 use Rattle.aig_image.specs.Reordered.{taken}
-use Rattle.aig_image.proofs.Members.{order_there}
-use Rattle.aig_image.proofs.Renewed.{fits}
+use Rattle.aig_image.proofs.Imaging.Members.{order_there}
+use Rattle.aig_image.proofs.Imaging.Renewed.{fits}
 use Rattle.aig_image.proofs.image.Renumbering.by_order.Goals as goal
 
 pub take_gates-requires : goal.take_gates-requires

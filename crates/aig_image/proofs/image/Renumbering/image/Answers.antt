@@ -2,8 +2,8 @@ use Rattle.std.proofs.Common.{sym, subst}
 use Rattle.aig_core.specs.BinaryOrder.{IsInBinaryOrder}
 use Rattle.aig_core.specs.Wellformed.{IsWellFormed}
 use Rattle.aig_image.specs.Image.{IsBinaryImage}
-use Rattle.aig_image.proofs.Ordered.{image_is_ordered}
-use Rattle.aig_image.proofs.Renewed.{made_is_image}
+use Rattle.aig_image.proofs.Imaging.Ordered.{image_is_ordered}
+use Rattle.aig_image.proofs.Imaging.Renewed.{made_is_image}
 use Rattle.aig_image.proofs.image.Renumbering.image.Goals as goal
 
 is_ordered : (c : goal.After-renumbered) → IsWellFormed c.renumbered.result × IsInBinaryOrder c.renumbered.result

@@ -4,7 +4,7 @@ use Rattle.aig_core.specs.Wellformed.{defined_variables}
 use Rattle.aig_image.specs.Parts.InOrder.{StandInOrder}
 use Rattle.aig_image.specs.Parts.Numbers.{number_of, AreNumbered}
 use Rattle.aig_image.specs.Relabelled.{FitIntoLiterals}
-use Rattle.aig_image.proofs.StandInOrder.{few, first, in_place}
+use Rattle.aig_image.proofs.Imaging.StandInOrder.{few, first, in_place}
 use Rattle.aig_image.proofs.image.Renumbering.of_circuit.Goals as goal
 
 pub of_ordered-requires : goal.of_ordered-requires

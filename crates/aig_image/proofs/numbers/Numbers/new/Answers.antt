@@ -1,7 +1,7 @@
 use Rattle.std.proofs.Common.{arith}
 use Rattle.aig_core.specs.declared.circuit.Latch.{Latch}
 use Rattle.aig_core.specs.declared.circuit.Gate.{Gate}
-use Rattle.aig_image.proofs.Noted.{few}
+use Rattle.aig_image.proofs.Numbering.Noted.{few}
 use Rattle.aig_image.proofs.numbers.Numbers.new.Goals as goal
 
 pub returns-clause-numbers : goal.returns-clause-numbers

@@ -1,6 +1,6 @@
 use Rattle.std.proofs.Common.{◌≡◌, ◌+◌, ap, suc, refl, arith}
 use Rattle.aig_core.specs.Ready.{first_bit}
-use Rattle.aig_core.proofs.Trees.{empty_tree}
+use Rattle.aig_core.proofs.Ordering.Trees.{empty_tree}
 use Rattle.aig_core.proofs.least_ready.ready.Ready.new.Goals as goal
 
 pub loop-first-init : goal.loop-first-init

@@ -4,7 +4,7 @@ use Rattle.std.proofs.lemmas.List.{get_or_default}
 use Rattle.std.proofs.Math.Seq.{take-append_seam}
 use Rattle.aig_core.specs.Ready.{Tree, has, Tells}
 use Rattle.aig_core.specs.Parts.Marks.{is_marked}
-use Rattle.aig_core.proofs.Trees.{none_set, still_tree}
+use Rattle.aig_core.proofs.Ordering.Trees.{none_set, still_tree}
 use Rattle.aig_core.proofs.least_ready.ready.Ready.pop_first.Goals as goal
 
 pub returns-then-index-eq0-clause-none : goal.returns-then-index-eq0-clause-none

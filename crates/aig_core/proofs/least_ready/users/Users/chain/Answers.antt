@@ -1,6 +1,6 @@
 use Rattle.std.proofs.Common.{◌<◌, length, ◌∙◌}
 use Rattle.std.proofs.lemmas.List.{get_or_default}
-use Rattle.aig_core.proofs.Chains.{one_more}
+use Rattle.aig_core.proofs.Ordering.Chains.{one_more}
 use Rattle.aig_core.proofs.least_ready.users.Users.chain.Goals as goal
 
 pub returns-in-Some-clause-one_more : goal.returns-in-Some-clause-one_more

@@ -6,7 +6,7 @@ use Rattle.std.proofs.lemmas.List.{length-replicate, take_all}
 use Rattle.aig_core.specs.declared.operands.Operands.{Operands}
 use Rattle.aig_core.specs.Operands.{operands_at}
 use Rattle.aig_core.specs.Users.{uses}
-use Rattle.aig_core.proofs.Chains.{zeros, no_uses, left_is_there, right_is_there, one_gate_more}
+use Rattle.aig_core.proofs.Ordering.Chains.{zeros, no_uses, left_is_there, right_is_there, one_gate_more}
 use Rattle.aig_core.proofs.least_ready.users.Users.new.Goals as goal
 
 pub loop-gate-init : goal.loop-gate-init

@@ -1,5 +1,5 @@
 use Rattle.std.proofs.Common.{◌/◌, ◌<◌, length, arith}
-use Rattle.aig_core.proofs.Bits.{more_marks}
+use Rattle.aig_core.proofs.Tables.Bits.{more_marks}
 use Rattle.aig_core.proofs.var_map.bits.BitsPlaces.insert.Goals as goal
 
 pub returns-clause-held : goal.returns-clause-held

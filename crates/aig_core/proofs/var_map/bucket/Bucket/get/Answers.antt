@@ -1,7 +1,7 @@
 use Rattle.std.proofs.Common.{ap, ◌∙◌, sym, arith, take}
 use Rattle.std.specs.Ordering.{nat_cmp}
 use Rattle.std.specs.FinMap.{find}
-use Rattle.aig_core.proofs.Buckets.{found_here, found_later, found_nowhere}
+use Rattle.aig_core.proofs.Tables.Buckets.{found_here, found_later, found_nowhere}
 use Rattle.aig_core.proofs.var_map.bucket.Bucket.get.Goals as goal
 
 pub loop-entry-init : goal.loop-entry-init

@@ -1,7 +1,7 @@
 use Rattle.std.proofs.Common.{◌≡◌, None, sym, ◌∙◌, rules}
 use Rattle.aig_core.specs.Parts.Places.{spread_at}
-use Rattle.aig_core.proofs.Maps.{map_has, grown}
-use Rattle.aig_core.proofs.Buckets.{none_of, more_in_bucket, still_spread, more_in_tree, spread_in_tree}
+use Rattle.aig_core.proofs.Tables.Maps.{map_has, grown}
+use Rattle.aig_core.proofs.Tables.Buckets.{none_of, more_in_bucket, still_spread, more_in_tree, spread_in_tree}
 use Rattle.aig_core.proofs.var_map.spread.Spread.insert.Goals as goal
 
 pub invariant_of-self : goal.invariant_of-self

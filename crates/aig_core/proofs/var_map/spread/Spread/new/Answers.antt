@@ -1,5 +1,5 @@
-use Rattle.aig_core.proofs.Maps.{nothing}
-use Rattle.aig_core.proofs.Buckets.{none_spread}
+use Rattle.aig_core.proofs.Tables.Maps.{nothing}
+use Rattle.aig_core.proofs.Tables.Buckets.{none_spread}
 use Rattle.aig_core.proofs.var_map.spread.Spread.new.Goals as goal
 
 pub returns : goal.returns

@@ -1,0 +1,5 @@
+-- Numbers in groups of seven bits.
+pub mod Groups
+pub mod Shortest
+pub mod Reading
+pub mod Going

@@ -1,0 +1,121 @@
+-- What is read at the front of bytes is exactly the number that is spelled there.
+use Rattle.std.proofs.Common.{◌≡◌, ◌^◌, ◌<◌, ◌≤◌, ◌↔◌, ℕ, List, [], ◌∷◌, ◌++◌, length, length-drop, get_or, subst}
+use Rattle.std.proofs.Common.{IfSome, take, drop, nat_lt, Option, None, Some, if◌then◌else◌, refl, sym, ap, ◌∙◌}
+use Rattle.std.proofs.Common.{arith, inl, inr}
+use Rattle.std.proofs.lemmas.Bool.{lt-ltb, le-ltb, cases_lt}
+use Rattle.std.proofs.lemmas.List.{append_cancel_right, take-append-drop}
+use Rattle.aig_text.specs.Outcomes.{Gives}
+use Rattle.aig_text.specs.Scanning.{◌>>=◌}
+use Rattle.aig_binary.specs.Delta.{IsDelta, BeginsWithDelta, groups_at, delta_at}
+use Rattle.aig_binary.proofs.Deltas.Groups.{groups_are, groups_read, read_last}
+
+-- a number below 2^32 alone
+abbrev pub small_only : Option (ℕ × List ℕ) → Option (ℕ × List ℕ)
+small_only r = r >>= λ groups. if nat_lt groups.0 (2 ^ 32) then Some groups else None
+
+pub small_is : (value : ℕ) (rest : List ℕ) → value < 2 ^ 32 → small_only (Some (value, rest)) ≡ Some (value, rest)
+small_is value rest h = rw (lt-ltb value (2 ^ 32) h) refl
+
+pub large_is_none : (value : ℕ) (rest : List ℕ) → 2 ^ 32 ≤ value → small_only (Some (value, rest)) ≡ None
+large_is_none value rest h = rw (le-ltb value (2 ^ 32) h) refl
+
+record IsSmall (r : Option (ℕ × List ℕ)) (value : ℕ) (rest : List ℕ) : Type 0 where
+  pub read : r ≡ Some (value, rest)
+  pub fits : value < 2 ^ 32
+
+is_small : (r : Option (ℕ × List ℕ)) (value : ℕ) (rest : List ℕ) → small_only r ≡ Some (value, rest)
+    → IsSmall r value rest
+is_small None value rest h = cc
+is_small (Some x) value rest h = elim (cases_lt x.0 (2 ^ 32)) [
+  | inl small ↦
+      let p : x ≡ (value, rest) = let e = small_is x.0 x.1 small in cc in
+      let fits : x.0 < 2 ^ 32 = small in
+      record { read = ap (λ (q : ℕ × List ℕ). Some q) p; fits = rw (ap (λ (q : ℕ × List ℕ). q.0) p) at fits }
+  | inr large ↦ let none = large_is_none x.0 x.1 large in cc
+]
+
+pub delta_is : (bytes rest : List ℕ) (value : ℕ) → delta_at bytes ≡ Some (value, rest)
+    → (d : List ℕ) × (bytes ≡ d ++ rest) × IsDelta d value
+unfolding delta_at
+delta_is bytes rest value h =
+    let small = is_small (groups_at 5 bytes) value rest h in
+    let g = groups_are 5 bytes rest value small.read in
+    (g.spelling, g.are, record { groups = g.groups; short = g.short; spells = g.spells; fits = small.fits })
+
+pub delta_read : (d rest : List ℕ) (value : ℕ) → IsDelta d value → delta_at (d ++ rest) ≡ Some (value, rest)
+unfolding delta_at
+delta_read d rest value h =
+    ap small_only (groups_read 5 d rest h.groups h.short ∙ ap (λ (n : ℕ). Some (n, rest)) h.spells)
+    ∙ small_is value rest h.fits
+
+pub delta_none : (bytes : List ℕ) → groups_at 5 bytes ≡ None → delta_at bytes ≡ None
+unfolding delta_at
+delta_none bytes h = ap small_only h
+
+pub delta_small : (bytes rest : List ℕ) (value : ℕ) → groups_at 5 bytes ≡ Some (value, rest) → value < 2 ^ 32
+    → delta_at bytes ≡ Some (value, rest)
+unfolding delta_at
+delta_small bytes rest value h fits = ap small_only h ∙ small_is value rest fits
+
+pub delta_large : (bytes rest : List ℕ) (value : ℕ) → groups_at 5 bytes ≡ Some (value, rest) → 2 ^ 32 ≤ value
+    → delta_at bytes ≡ None
+unfolding delta_at
+delta_large bytes rest value h large = ap small_only h ∙ large_is_none value rest large
+
+pub delta_of_one : (bytes : List ℕ) (byte : ℕ) → 0 < length bytes → byte ≡ get_or bytes 0 0 → byte < 128
+    → delta_at bytes ≡ Some (byte, drop 1 bytes)
+delta_of_one [] byte some e low = absurd (omega arith)
+delta_of_one (b ∷ bytes) byte some e low =
+    delta_small (b ∷ bytes) bytes byte (read_last 4 b bytes (omega arith) ∙ ap (λ (n : ℕ). Some (n, bytes)) (sym e))
+    (omega arith)
+
+-- What is answered of a front is exactly the number that it spells, and how long it is.
+front_is : (bytes : List ℕ) (value count : ℕ) → delta_at bytes ≡ Some (value, drop count bytes)
+    → IsDelta (take count bytes) value
+front_is bytes value count h =
+    let d = delta_is bytes (drop count bytes) value h in
+    subst (λ (xs : List ℕ). IsDelta xs value)
+    (append_cancel_right d.0 (take count bytes) (drop count bytes) (sym d.1 ∙ sym (take-append-drop count bytes))) d.2
+
+front_read : (bytes : List ℕ) (value count : ℕ) → IsDelta (take count bytes) value
+    → delta_at bytes ≡ Some (value, drop count bytes)
+front_read bytes value count h =
+    ap delta_at (sym (take-append-drop count bytes)) ∙ delta_read (take count bytes) (drop count bytes) value h
+
+same_count : (bytes : List ℕ) (m n : ℕ) → m ≤ length bytes → n ≤ length bytes → drop m bytes ≡ drop n bytes → m ≡ n
+same_count bytes m n a b e = let l = ap length e in omega (arith, length-drop m bytes, length-drop n bytes)
+
+answers_front : (bytes : List ℕ) (r : Option (ℕ × ℕ)) → Gives (λ x. (x.0, drop x.1 bytes)) r (delta_at bytes)
+    → IfSome r (λ x. x.1 ≤ length bytes)
+    → (value count : ℕ) → r ≡ Some (value, count) → BeginsWithDelta bytes value count
+answers_front bytes None h within value count e = cc
+answers_front bytes (Some x) h within value count e =
+    let p : x ≡ (value, count) = cc in
+    subst (λ (q : ℕ × ℕ). BeginsWithDelta bytes q.0 q.1) p (within, front_is bytes x.0 x.1 h)
+
+front_answers : (bytes : List ℕ) (r : Option (ℕ × ℕ)) → Gives (λ x. (x.0, drop x.1 bytes)) r (delta_at bytes)
+    → IfSome r (λ x. x.1 ≤ length bytes)
+    → (value count : ℕ) → BeginsWithDelta bytes value count → r ≡ Some (value, count)
+front_answers bytes None h within value count d = let e = front_read bytes value count d.1 in cc
+front_answers bytes (Some x) h within value count d =
+    let p : (x.0, drop x.1 bytes) ≡ (value, drop count bytes) = let e = front_read bytes value count d.1 in cc in
+    let same : x.0 ≡ value = ap (λ (q : ℕ × List ℕ). q.0) p in
+    let counts : x.1 ≡ count = same_count bytes x.1 count within d.0 (ap (λ (q : ℕ × List ℕ). q.1) p) in
+    ap (λ (v : ℕ). Some (v, x.1)) same ∙ ap (λ (n : ℕ). Some (value, n)) counts
+
+pub answers : (bytes : List ℕ) (r : Option (ℕ × ℕ)) → Gives (λ x. (x.0, drop x.1 bytes)) r (delta_at bytes)
+    → IfSome r (λ x. x.1 ≤ length bytes)
+    → (value count : ℕ) → (r ≡ Some (value, count)) ↔ BeginsWithDelta bytes value count
+answers bytes r h within value count =
+    (answers_front bytes r h within value count, front_answers bytes r h within value count)
+
+-- what is told of a number where it is below 2^32 alone
+pub told : (bytes : List ℕ) (value n count : ℕ) (r : Option (ℕ × ℕ)) → n ≡ value
+    → groups_at 5 bytes ≡ Some (value, drop count bytes)
+    → (n < 2 ^ 32 → r ≡ Some (n, count)) → (2 ^ 32 ≤ n → r ≡ None) → count ≤ length bytes
+    → Gives (λ x. (x.0, drop x.1 bytes)) r (delta_at bytes) × IfSome r (λ x. x.1 ≤ length bytes)
+told bytes value n count r e h small large within = elim (cases_lt n (2 ^ 32)) [
+  | inl low ↦ rw (small low)
+  (delta_small bytes (drop count bytes) n (h ∙ ap (λ (v : ℕ). Some (v, drop count bytes)) (sym e)) low, within)
+  | inr high ↦ rw (large high) (delta_large bytes (drop count bytes) value h (rw (← e) high), tt)
+]

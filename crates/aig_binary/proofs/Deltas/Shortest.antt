@@ -1,0 +1,204 @@
+-- The shortest spelling of a number: it is one, and there is no other.
+use Rattle.std.proofs.Common.{◌≡◌, ◌+◌, ◌*◌, ◌/◌, ◌%◌, ◌^◌, ◌<◌, ◌≤◌, ℕ, zero, suc, List, [], ◌∷◌, length, take, min}
+use Rattle.std.proofs.Common.{refl, sym, ap, ap₂, subst, ◌∙◌, arith, inl, inr}
+use Rattle.std.proofs.lemmas.Bool.{lt-ltb, le-ltb, cases_lt}
+use Rattle.std.proofs.Math.Nat.{div-lt_iff_lt-mul, pow-suc}
+use Rattle.aig_binary.specs.Delta.{value_of_groups, AreGroups, IsDelta, IsShortest, last_byte, shortest_groups}
+use Rattle.aig_binary.specs.Delta.{shortest_delta}
+use Rattle.aig_binary.proofs.Deltas.Groups.{put_first, one_value}
+
+pub shortest_last : (more value : ℕ) → value < 128 → shortest_groups more value ≡ value ∷ []
+unfolding shortest_groups
+shortest_last zero value h = refl
+shortest_last (suc more) value h = rw (lt-ltb value 128 h) refl
+
+pub shortest_more : (more value : ℕ) → 128 ≤ value
+    → shortest_groups (suc more) value ≡ (128 + value % 128) ∷ shortest_groups more (value / 128)
+unfolding shortest_groups
+shortest_more more value h = rw (le-ltb value 128 h) refl
+
+pub shortest_final : (value : ℕ) → shortest_groups zero value ≡ value ∷ []
+unfolding shortest_groups
+shortest_final value = refl
+
+pub one_group_less : (more value : ℕ) → value < 128 ^ suc more → value / 128 < 128 ^ more
+one_group_less more value h =
+    (div-lt_iff_lt-mul {k = 128} {x = value} {y = 128 ^ more} (omega arith)).1
+    (subst (λ n. value < n) (pow-suc 128 more) h)
+
+last_behind : (b : ℕ) (d : List ℕ) → 0 < length d → last_byte (b ∷ d) ≡ last_byte d
+last_behind b [] h = absurd (omega arith)
+last_behind b (c ∷ d) h = refl
+
+-- groups that spell the number, at most so many, with no zeros at the end of a number that is not 0
+record Spell (most value : ℕ) (bytes : List ℕ) : Type 0 where
+  pub groups : AreGroups bytes
+  pub some : 0 < length bytes
+  pub short : length bytes ≤ most
+  pub spells : value_of_groups bytes ≡ value
+  pub ends : 0 < value → 0 < last_byte bytes
+
+one_spells : (more value : ℕ) → value < 128 → Spell (suc more) value (value ∷ [])
+one_spells more value h =
+    record { groups = h; some = omega arith; short = omega arith; spells = one_value value h; ends = λ p. p }
+
+more_spell : (most value : ℕ) (d : List ℕ) → 128 ≤ value → Spell most (value / 128) d
+    → Spell (suc most) value ((128 + value % 128) ∷ d)
+more_spell most value d high h = record {
+  groups = put_first (128 + value % 128) d (omega arith) (omega arith) h.groups;
+  some = omega arith;
+  short = let s = h.short in omega arith;
+  spells = ap (λ n. (128 + value % 128) % 128 + 128 * n) h.spells ∙ omega arith;
+  ends = λ p. subst (λ n. 0 < n) (sym (last_behind (128 + value % 128) d h.some)) (h.ends (omega arith));
+}
+
+shortest_spell : (more value : ℕ) → value < 128 ^ suc more → Spell (suc more) value (shortest_groups more value)
+shortest_spell zero value h = subst (Spell 1 value) (sym (shortest_final value)) (one_spells 0 value h)
+shortest_spell (suc more) value h = elim (cases_lt value 128) [
+  | inl low ↦ subst (Spell (suc (suc more)) value) (sym (shortest_last (suc more) value low))
+  (one_spells (suc more) value low)
+  | inr high ↦
+      subst (Spell (suc (suc more)) value) (sym (shortest_more more value high))
+      (more_spell (suc more) value (shortest_groups more (value / 128)) high
+      (shortest_spell more (value / 128) (one_group_less (suc more) value h)))
+]
+
+spell_shortest : (value : ℕ) → value < 2 ^ 32 → Spell 5 value (shortest_delta value)
+unfolding shortest_delta
+spell_shortest value h = shortest_spell 4 value (omega arith)
+
+pub shortest_is_delta : (value : ℕ) → value < 2 ^ 32 → IsDelta (shortest_delta value) value
+shortest_is_delta value h =
+    let s = spell_shortest value h in record { groups = s.groups; short = s.short; spells = s.spells; fits = h }
+
+one_byte : (value : ℕ) → value < 128 → length (shortest_delta value) ≡ 1
+unfolding shortest_delta
+one_byte value h = ap length (shortest_last 4 value h)
+
+pub shortest_is_shortest : (value : ℕ) → value < 2 ^ 32 → IsShortest (shortest_delta value)
+shortest_is_shortest value h = elim (cases_lt value 128) [
+  | inl low ↦ inl (one_byte value low)
+  | inr high ↦ inr ((spell_shortest value h).ends (omega arith))
+]
+
+-- a number whose last group is not 0 is not 0
+positive : (bytes : List ℕ) → AreGroups bytes → 0 < last_byte bytes → 0 < value_of_groups bytes
+positive [] h last = absurd h
+positive (b ∷ []) h last = let e = one_value b h in omega arith
+positive (b ∷ c ∷ bytes) h last = let others = positive (c ∷ bytes) h.2 last in omega arith
+
+several : (b c : ℕ) (bytes : List ℕ) → IsShortest (b ∷ c ∷ bytes) → 0 < last_byte (c ∷ bytes)
+several b c bytes (inl one) = absurd (omega arith)
+several b c bytes (inr last) = last
+
+shortest_is : (more : ℕ) (bytes : List ℕ) → AreGroups bytes → IsShortest bytes → length bytes ≤ suc more
+    → bytes ≡ shortest_groups more (value_of_groups bytes)
+shortest_is more [] h none short = absurd h
+shortest_is more (b ∷ []) h none short =
+    let e = one_value b h in
+    ap (λ (n : ℕ). n ∷ []) (sym e) ∙ sym (shortest_last more (value_of_groups (b ∷ [])) (omega arith))
+shortest_is zero (b ∷ c ∷ bytes) h none short = absurd (omega arith)
+shortest_is (suc more) (b ∷ c ∷ bytes) h none short =
+    let last = several b c bytes none in
+    let n = value_of_groups (c ∷ bytes) in
+    let some : 0 < n = positive (c ∷ bytes) h.2 last in
+    let high : 128 ≤ b = h.0 in
+    let byte : b < 256 = h.1 in
+    let first : b ≡ 128 + (b % 128 + 128 * n) % 128 = omega arith in
+    let others : n ≡ (b % 128 + 128 * n) / 128 = omega arith in
+    ap (λ (x : ℕ). x ∷ c ∷ bytes) first
+    ∙ ap (λ (xs : List ℕ). (128 + (b % 128 + 128 * n) % 128) ∷ xs)
+    (shortest_is more (c ∷ bytes) h.2 (inr last) (omega arith) ∙ ap (shortest_groups more) others)
+    ∙ sym (shortest_more more (b % 128 + 128 * n) (omega arith))
+
+pub shortest_is_one : (bytes : List ℕ) (value : ℕ) → IsDelta bytes value → IsShortest bytes
+    → bytes ≡ shortest_delta value
+unfolding shortest_delta
+shortest_is_one bytes value h none = shortest_is 4 bytes h.groups none h.short ∙ ap (shortest_groups 4) h.spells
+
+-- the byte of a group, with the top bit where a number is left
+abbrev pub byte_of : ℕ → ℕ → ℕ
+byte_of group left = group % 128 + 128 * min left 1
+
+-- all five groups of a number
+abbrev pub all_groups : ℕ → List ℕ
+all_groups v =
+    byte_of v (v / 128) ∷ byte_of (v / 128) (v / 128 / 128) ∷ byte_of (v / 128 / 128) (v / 128 / 128 / 128)
+    ∷ byte_of (v / 128 / 128 / 128) (v / 128 / 128 / 128 / 128) ∷ byte_of (v / 128 / 128 / 128 / 128) 0 ∷ []
+
+-- how many groups follow the first
+abbrev pub more_groups : ℕ → ℕ
+more_groups v =
+    min (v / 128) 1 + min (v / 128 / 128) 1 + min (v / 128 / 128 / 128) 1 + min (v / 128 / 128 / 128 / 128) 1
+
+last_stored : (more v : ℕ) → v < 128 → shortest_groups more v ≡ byte_of v (v / 128) ∷ []
+last_stored more v h =
+    let byte : v ≡ byte_of v (v / 128) = omega arith in
+    shortest_last more v h ∙ ap (λ (b : ℕ). b ∷ []) byte
+
+more_stored : (more v : ℕ) (rest : List ℕ) → 128 ≤ v → shortest_groups more (v / 128) ≡ rest
+    → shortest_groups (suc more) v ≡ byte_of v (v / 128) ∷ rest
+more_stored more v rest h e =
+    let byte : 128 + v % 128 ≡ byte_of v (v / 128) = omega arith in
+    shortest_more more v h ∙ ap₂ (λ (b : ℕ) (bs : List ℕ). b ∷ bs) byte e
+
+final_stored : (v : ℕ) → v < 128 → shortest_groups 0 v ≡ byte_of v 0 ∷ []
+final_stored v h =
+    let byte : v ≡ byte_of v 0 = omega arith in
+    shortest_final v ∙ ap (λ (b : ℕ). b ∷ []) byte
+
+-- as many of the groups as the number wants
+pub groups_stored : (v : ℕ) → v < 2 ^ 32 → take (1 + more_groups v) (all_groups v) ≡ shortest_delta v
+unfolding shortest_delta
+groups_stored v fits = elim (cases_lt v 128) [
+  | inl low ↦
+      let none : more_groups v ≡ 0 = omega arith in
+      ap (λ n. take (1 + n) (all_groups v)) none ∙ sym (last_stored 4 v low)
+  | inr first ↦
+      elim (cases_lt (v / 128) 128) [
+        | inl low ↦
+            let one : more_groups v ≡ 1 = omega arith in
+            ap (λ n. take (1 + n) (all_groups v)) one ∙ sym (more_stored 3 v _ first (last_stored 3 (v / 128) low))
+        | inr second ↦
+            elim (cases_lt (v / 128 / 128) 128) [
+              | inl low ↦
+                  let two : more_groups v ≡ 2 = omega arith in
+                  ap (λ n. take (1 + n) (all_groups v)) two
+                  ∙ sym (more_stored 3 v _ first (more_stored 2 (v / 128) _ second (last_stored 2 (v / 128 / 128) low)))
+              | inr third ↦
+                  elim (cases_lt (v / 128 / 128 / 128) 128) [
+                    | inl low ↦
+                        let three : more_groups v ≡ 3 = omega arith in
+                        ap (λ n. take (1 + n) (all_groups v)) three
+                        ∙ sym
+                        (more_stored 3 v _ first
+                        (more_stored 2 (v / 128) _ second
+                        (more_stored 1 (v / 128 / 128) _ third (last_stored 1 (v / 128 / 128 / 128) low))))
+                    | inr fourth ↦
+                        let four : more_groups v ≡ 4 = omega arith in
+                        let fifth : v / 128 / 128 / 128 / 128 < 128 = omega arith in
+                        ap (λ n. take (1 + n) (all_groups v)) four
+                        ∙ sym
+                        (more_stored 3 v _ first
+                        (more_stored 2 (v / 128) _ second
+                        (more_stored 1 (v / 128 / 128) _ third
+                        (more_stored 0 (v / 128 / 128 / 128) _ fourth
+                        (final_stored (v / 128 / 128 / 128 / 128) fifth)))))
+                  ]
+            ]
+      ]
+]
+
+-- the same of one or two groups
+pub two_stored : (v : ℕ) → v / 128 < 128
+    → take (1 + min (v / 128) 1) (byte_of v (v / 128) ∷ v / 128 ∷ 0 ∷ 0 ∷ 0 ∷ []) ≡ shortest_delta v
+unfolding shortest_delta
+two_stored v few = elim (cases_lt v 128) [
+  | inl low ↦
+      let none : min (v / 128) 1 ≡ 0 = omega arith in
+      ap (λ n. take (1 + n) (byte_of v (v / 128) ∷ v / 128 ∷ 0 ∷ 0 ∷ 0 ∷ [])) none ∙ sym (last_stored 4 v low)
+  | inr high ↦
+      let one : min (v / 128) 1 ≡ 1 = omega arith in
+      ap (λ n. take (1 + n) (byte_of v (v / 128) ∷ v / 128 ∷ 0 ∷ 0 ∷ 0 ∷ [])) one
+      ∙ sym (more_stored 3 v _ high (shortest_last 3 (v / 128) few))
+]

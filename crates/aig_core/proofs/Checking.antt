@@ -1,0 +1,7 @@
+-- Form, well-formedness and the first fault.
+pub mod InForm
+pub mod Sections
+pub mod Faultless
+pub mod Reported
+pub mod Fitting
+pub mod InOrder

@@ -1,0 +1,4 @@
+-- Binary order.
+pub mod NumberedOn
+pub mod Ranges
+pub mod WellOrdered

@@ -1,0 +1,11 @@
+-- Orders of gates, and how the least ready one is made.
+pub mod Counted
+pub mod Gates
+pub mod LeastReady
+pub mod Ranked
+pub mod Chains
+pub mod Served
+pub mod TakenLeast
+pub mod Cyclic
+pub mod Steps
+pub mod Trees

@@ -1,0 +1,5 @@
+-- What tables of variables hold.
+pub mod Sets
+pub mod Maps
+pub mod Buckets
+pub mod Bits

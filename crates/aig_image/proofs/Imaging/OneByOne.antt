@@ -1,0 +1,86 @@
+-- A circuit in binary order: the order of its gates is 0, 1, 2 and so on.
+use Rattle.std.proofs.Common.{◌≡◌, ◌+◌, ◌*◌, ◌/◌, ◌<◌, ◌≤◌, ℕ, zero, suc, List, [], ◌∷◌, length, map, inl, inr}
+use Rattle.std.proofs.Common.{⊎_elim, arith}
+use Rattle.std.specs.List.{range_with_len}
+use Rattle.std.proofs.lemmas.Bool.{cases_lt}
+use Rattle.aig_core.specs.declared.circuit.Gate.{Gate}
+use Rattle.aig_core.specs.declared.circuit.Circuit.{Circuit}
+use Rattle.aig_core.specs.Literal.{variable_of}
+use Rattle.aig_core.specs.Wellformed.{IsAmong}
+use Rattle.aig_core.specs.Order.{IsLeastReadyOrder, IsReady, TakesLeast, IsFull, gate_operands}
+use Rattle.aig_core.proofs.Ordering.Ranked.{at, over_one, all_served}
+use Rattle.aig_core.specs.BinaryOrder.{AreOrderedGates, IsInBinaryOrder}
+use Rattle.aig_core.proofs.Numbered.Ranges.{among}
+
+-- where each gate needs only those before it, they are taken one after another
+module _ (count : ℕ) (needs : ℕ → List ℕ) (falls : (g h : ℕ) → g < count → IsAmong h (needs g) → h < g) where
+  -- exactly the gates below k were taken
+  abbrev AreBelow : ℕ → List ℕ → Type 0
+  AreBelow k seen = ((h : ℕ) → h < k → IsAmong h seen) × ((h : ℕ) → IsAmong h seen → h < k)
+
+  one_more : (k : ℕ) (seen : List ℕ) → AreBelow k seen → AreBelow (k + 1) (k ∷ seen)
+  one_more k seen below = (
+    λ h l. ⊎_elim (λ (b : h < k). inr (below.0 h b)) (λ (b : k ≤ h). inl (omega (arith, b, l))) (cases_lt h k),
+    λ h a. ⊎_elim (λ (e : h ≡ k). omega (arith, e))
+        (λ (i : IsAmong h seen). let b : h < k = below.1 h i in omega (arith, b)) a,
+  )
+
+  next_ready : (k : ℕ) (seen : List ℕ) → k < count → AreBelow k seen → IsReady count needs seen k
+  next_ready k seen there below = record {
+    there = there;
+    left = λ a. let b : k < k = below.1 k a in omega (arith, b);
+    served = all_served count needs seen (needs k) (λ h used. below.0 h (falls k h there used));
+  }
+
+  in_turn_from : (n k : ℕ) (seen : List ℕ) → k + n ≤ count → AreBelow k seen
+      → TakesLeast count needs seen (range_with_len k n)
+  in_turn_from zero k seen fits below = tt
+  in_turn_from (suc n) k seen fits below = (
+    next_ready k seen (omega (arith, fits)) below,
+    λ h ready. ⊎_elim (λ (b : h < k). absurd (ready.left (below.0 h b))) (λ (b : k ≤ h). b) (cases_lt h k),
+    in_turn_from n (k + 1) (k ∷ seen) (omega (arith, fits)) (one_more k seen below),
+  )
+
+  pub one_by_one : TakesLeast count needs [] (range_with_len 0 count)
+  one_by_one = in_turn_from count 0 [] (omega arith) (λ h l. absurd (omega (arith, l)), λ h a. absurd a)
+
+  pub all_of_them : IsFull count needs (range_with_len 0 count)
+  all_of_them g there served = among g 0 count (omega arith) (omega (arith, there))
+
+-- gates in binary order need only those before them
+pub ordered_at : (v : ℕ) (gates : List Gate) → AreOrderedGates v gates → (i : ℕ) → i < length gates
+    → ((at gates i).var ≡ v + i) × ((at gates i).left < 2 * (at gates i).var) × ((at gates i).right ≤ (at gates i).left)
+ordered_at v [] ordered i there = absurd (omega arith)
+ordered_at v (g ∷ gs) ordered zero there = (omega (arith, ordered.0), ordered.1, ordered.2)
+ordered_at v (g ∷ gs) ordered (suc i) there =
+    let later = ordered_at (suc v) gs ordered.3 i (omega (arith, there)) in
+    let number : (at gs i).var ≡ suc v + i = later.0 in
+    (omega (arith, number), later.1, later.2)
+
+lower_variable : (x var left right : ℕ) → left < 2 * var → right ≤ left
+    → IsAmong x (map variable_of (left ∷ right ∷ [])) → x < var
+lower_variable x var left right l r a =
+    ⊎_elim (λ (e : x ≡ left / 2). omega (arith, l, e))
+    (λ (i : IsAmong x (right / 2 ∷ [])). ⊎_elim (λ (e : x ≡ right / 2). omega (arith, l, r, e))
+    (λ (n : ⊥). absurd n) i) a
+
+needs_fall : (v : ℕ) (gates : List Gate) → AreOrderedGates v gates → (g h : ℕ) → g < length gates
+    → IsAmong h (gate_operands gates g) → h < g
+needs_fall v gates ordered g h there used =
+    let over = over_one gates g h there used in
+    let here = ordered_at v gates ordered g there in
+    let under = ordered_at v gates ordered h over.0 in
+    let number : (at gates g).var ≡ v + g = here.0 in
+    let number_under : (at gates h).var ≡ v + h = under.0 in
+    let low : (at gates h).var < (at gates g).var =
+    lower_variable (at gates h).var (at gates g).var (at gates g).left (at gates g).right here.1 here.2 over.1 in
+    omega (arith, number, number_under, low)
+
+-- so they are taken as they stand
+pub in_order : (c : Circuit) → IsInBinaryOrder c → IsLeastReadyOrder c (range_with_len 0 (length c.gates))
+in_order c ordered =
+    let falls = needs_fall (1 + length c.inputs + length c.latches) c.gates ordered.gates in
+    record {
+      in_turn = one_by_one (length c.gates) (gate_operands c.gates) falls;
+      full = all_of_them (length c.gates) (gate_operands c.gates) falls;
+    }

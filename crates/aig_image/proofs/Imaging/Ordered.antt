@@ -1,0 +1,64 @@
+-- The image of a well-formed circuit is well formed, since each step to it keeps a circuit well formed.
+use Rattle.std.proofs.Common.{◌≡◌, ◌+◌, ℕ, List, length, map, refl, sym, subst, arith}
+use Rattle.std.proofs.lemmas.List.{length-map}
+use Rattle.aig_core.specs.declared.circuit.Gate.{Gate}
+use Rattle.aig_core.specs.declared.circuit.Circuit.{Circuit}
+use Rattle.aig_core.specs.Wellformed.{IsVariableUpTo, IsWellFormed, defined_variables}
+use Rattle.aig_core.specs.BinaryOrder.{IsInBinaryOrder}
+use Rattle.aig_core.specs.Order.{IsLeastReadyOrder}
+use Rattle.aig_core.proofs.Ordering.Steps.{all_of}
+use Rattle.aig_image.specs.Image.{IsBinaryImage, image_by}
+use Rattle.aig_image.specs.Laws.{IsOneToOneOnto}
+use Rattle.aig_image.specs.Relabelled.{relabelled, relabelled_gate, NamesOnly}
+use Rattle.aig_image.specs.Reordered.{reordered, has_smaller_first, ArePlaces, positions_of}
+use Rattle.aig_image.specs.Renumbering.{in_new_order, renumbered, source_variable}
+use Rattle.aig_image.proofs.Imaging.Members.{new_fits, order_is_places}
+use Rattle.aig_image.proofs.Numbering.OneToOne.{back, one_to_one, many}
+use Rattle.aig_image.proofs.Relabelling.Exchanged.{exchange_keeps_form, sorted_by_flags}
+use Rattle.aig_image.proofs.Relabelling.Formed.{form_is_kept}
+use Rattle.aig_image.proofs.Relabelling.Named.{names_only}
+use Rattle.aig_image.proofs.Relabelling.Permuted.{order_keeps_form}
+use Rattle.aig_image.proofs.Relabelling.Relabelled.{with_gates}
+use Rattle.aig_image.proofs.Imaging.Sections.{in_binary_order}
+
+module _ (c : Circuit) (order : List ℕ) (good : IsWellFormed c) (least : IsLeastReadyOrder c order) where
+  abbrev vs : List ℕ
+  vs = in_new_order c order
+
+  -- each new number goes back to its variable
+  names_go_back : NamesOnly (λ v. source_variable vs (renumbered vs v) ≡ v) c
+  names_go_back =
+      let Back : ℕ → Type 0 = λ v. source_variable vs (renumbered vs v) ≡ v in
+      names_only Back c refl (all_of Back (defined_variables c) (back c order good least)) good
+
+  abbrev new : Circuit
+  new = record (relabelled (renumbered vs) c) { max_var = length vs }
+
+  new_is_well_formed : IsWellFormed new
+  new_is_well_formed =
+      let onto : IsOneToOneOnto (renumbered vs) (defined_variables c)
+      (length c.inputs + length c.latches + length c.gates) =
+      one_to_one c order good least in
+      let all : length vs ≡ length c.inputs + length c.latches + length c.gates = many c order good least in
+      let InRange : ℕ → Type 0 = λ v. IsVariableUpTo (length vs) (renumbered vs v) in
+      form_is_kept (renumbered vs) (source_variable vs) (length vs) c.comment c good refl names_go_back
+      (omega (arith, new_fits c order good least, good.limits.max_var))
+      (all_of InRange (defined_variables c)
+      (λ v a. subst (λ n. IsVariableUpTo n (renumbered vs v)) (sym all) (onto.within v a)))
+
+  image_is_well_formed : IsWellFormed (image_by order c)
+  image_is_well_formed =
+      let are = order_is_places c order good least in
+      let as_many : length c.gates ≡ length new.gates = sym (length-map c.gates (relabelled_gate (renumbered vs))) in
+      let placed : Circuit = reordered order new in
+      let good_placed : IsWellFormed placed =
+      order_keeps_form order (positions_of order) new (subst (ArePlaces order (positions_of order)) as_many are.1)
+      (subst (ArePlaces (positions_of order) order) as_many are.0) new_is_well_formed in
+      subst (λ (gs : List Gate). IsWellFormed (with_gates gs placed)) (sym (sorted_by_flags placed.gates))
+      (exchange_keeps_form (map has_smaller_first placed.gates) placed good_placed)
+
+pub image_is_ordered : (c image : Circuit) → IsWellFormed c → IsBinaryImage c image
+    → IsWellFormed image × IsInBinaryOrder image
+image_is_ordered c image good is =
+    subst (λ (d : Circuit). IsWellFormed d × IsInBinaryOrder d) (sym is.2)
+    (image_is_well_formed c is.0 good is.1, in_binary_order c is.0 good is.1)

@@ -1,0 +1,110 @@
+-- Where gates stand in order, their least ready order is 0, 1, 2 and so on.
+use Rattle.std.proofs.Common.{◌≡◌, ◌<◌, ◌≤◌, ◌+◌, ℕ, zero, suc, List, [], ◌∷◌, ◌++◌, length, map, take, Option, None}
+use Rattle.std.proofs.Common.{refl, sym, ap, subst, ◌∙◌, ⊎_elim, arith}
+use Rattle.std.specs.List.{range_with_len}
+use Rattle.std.specs.Option.{unwrap_or}
+use Rattle.std.proofs.lemmas.Simd.{pick_l_whole}
+use Rattle.aig_core.specs.declared.circuit.Gate.{Gate}
+use Rattle.aig_core.specs.declared.circuit.Latch.{Latch}
+use Rattle.aig_core.specs.declared.circuit.Circuit.{Circuit}
+use Rattle.aig_core.specs.declared.circuit.TheConstants.{LARGEST}
+use Rattle.aig_core.specs.Literal.{variable_of}
+use Rattle.aig_core.specs.Wellformed.{IsAmong, AreDistinct, IsKnown, IsVariableUpTo, IsWellFormed, defined_variables}
+use Rattle.aig_core.specs.Order.{IsLeastReadyOrder, gate_operands}
+use Rattle.aig_core.proofs.Ordering.Counted.{among_either}
+use Rattle.aig_core.proofs.Ordering.Cyclic.{among_last}
+use Rattle.aig_core.proofs.Checking.Fitting.{each, definitions_fit}
+use Rattle.aig_core.proofs.Ordering.Ranked.{at, no_gate, over_one, variables, stands_there, distinct_back}
+use Rattle.aig_image.specs.Parts.InOrder.{StandInOrder}
+use Rattle.aig_image.specs.declared.image.Renumbering.{Renumbering}
+use Rattle.aig_image.specs.Parts.Numbers.{number_of, AreNumbered, IsRenumberingOf}
+use Rattle.aig_image.specs.Relabelled.{FitIntoLiterals}
+use Rattle.aig_image.specs.Reordered.{taken}
+use Rattle.aig_image.proofs.Imaging.OneByOne.{one_by_one, all_of_them}
+use Rattle.aig_image.proofs.Imaging.Taken.{apart, same_gate}
+
+-- a variable of the first gates is that of one of them
+place_before : (gates : List Gate) (k v : ℕ) → IsAmong v (variables (take k gates))
+    → (p : ℕ) × (p < k) × (p < length gates) × ((at gates p).var ≡ v)
+place_before [] zero v a = absurd a
+place_before [] (suc k) v a = absurd a
+place_before (g ∷ gs) zero v a = absurd a
+place_before (g ∷ gs) (suc k) v a =
+    ⊎_elim (λ (e : v ≡ g.var). (zero, omega arith, omega arith, sym e))
+    (λ (i : IsAmong v (variables (take k gs))).
+    let later = place_before gs k v i in
+    let below : later.0 < k = later.1 in
+    let there : later.0 < length gs = later.2 in
+    (suc later.0, omega (arith, below), omega (arith, there), later.3)) a
+
+module _ (first : List ℕ) (gates : List Gate) (once : AreDistinct (first ++ variables gates))
+    (some : (h : ℕ) → h < length gates → 1 ≤ (at gates h).var) (stand : StandInOrder first gates) where
+  -- a gate that is known before another stands before it
+  known_falls : (g h lit : ℕ) → h < length gates → g < length gates → IsKnown (first ++ variables (take g gates)) lit
+      → (at gates h).var ≡ variable_of lit → h < g
+  known_falls g h lit h_there g_there known is =
+      ⊎_elim
+      (λ (z : variable_of lit ≡ 0). let v : 1 ≤ (at gates h).var = some h h_there in absurd (omega (arith, z, v, is)))
+      (λ (a : IsAmong (variable_of lit) (first ++ variables (take g gates))).
+      let among : IsAmong (at gates h).var (first ++ variables (take g gates)) =
+      subst (λ v. IsAmong v (first ++ variables (take g gates))) (sym is) a in
+      ⊎_elim
+      (λ (i : IsAmong (at gates h).var first). absurd
+      (apart first (variables gates) once (at gates h).var i (stands_there gates h h_there)))
+      (λ (i : IsAmong (at gates h).var (variables (take g gates))).
+      let p = place_before gates g (at gates h).var i in
+      let same : p.0 ≡ h = same_gate gates (distinct_back first (variables gates) once) p.0 h p.2 h_there p.3 in
+      let below : p.0 < g = p.1 in
+      omega (arith, below, same)) (among_either (at gates h).var first (variables (take g gates)) among)) known
+
+  falls : (g h : ℕ) → g < length gates → IsAmong h (gate_operands gates g) → h < g
+  falls g h there used =
+      let over = over_one gates g h there used in
+      let known = stand g there in
+      ⊎_elim
+      (λ (e : (at gates h).var ≡ variable_of (at gates g).left). known_falls g h
+      (at gates g).left over.0 there known.0 e)
+      (λ (later : IsAmong (at gates h).var (variable_of (at gates g).right ∷ [])).
+      ⊎_elim
+      (λ (e : (at gates h).var ≡ variable_of (at gates g).right). known_falls g h
+      (at gates g).right over.0 there known.1.0 e) (λ (n : ⊥). absurd n) later)
+      over.1
+
+module _ (c : Circuit) (good : IsWellFormed c) where
+  abbrev pub first : List ℕ
+  first = c.inputs ++ map (λ (l : Latch). l.var) c.latches
+
+  abbrev as_they_stand : List ℕ
+  as_they_stand = range_with_len 0 (length c.gates)
+
+  no_constant : (h : ℕ) → h < length c.gates → 1 ≤ (at c.gates h).var
+  no_constant h there =
+      (each (IsVariableUpTo c.max_var) (defined_variables c) good.in_range (at c.gates h).var
+      (among_last first (variables c.gates) (at c.gates h).var (stands_there c.gates h there))).0
+
+  least_as_they_stand : StandInOrder first c.gates → IsLeastReadyOrder c as_they_stand
+  least_as_they_stand stand =
+      let fall = falls first c.gates good.once no_constant stand in
+      record {
+        in_turn = one_by_one (length c.gates) (gate_operands c.gates) fall;
+        full =
+            all_of_them (length c.gates) (gate_operands c.gates) fall;
+      }
+
+  taken_as_they_stand : taken c.gates as_they_stand ≡ c.gates
+  taken_as_they_stand = pick_l_whole no_gate c.gates (length c.gates) refl
+
+  pub few : length c.inputs + length c.latches + length c.gates ≤ LARGEST
+  few = omega (arith, definitions_fit c good, good.limits.max_var)
+
+  -- so the gates as they stand, and numbers that were noted in their order, make the image
+  pub in_place : (r : Renumbering) → r.taken ≡ None → StandInOrder first c.gates
+      → AreNumbered r.numbers (defined_variables c)
+      → FitIntoLiterals (number_of r.numbers) → IsRenumberingOf c r
+  in_place r none stand numbered small = record {
+    order = as_they_stand;
+    least = least_as_they_stand stand;
+    gates = ap (λ (t : Option (List Gate)). unwrap_or t c.gates) none ∙ sym taken_as_they_stand;
+    numbers = subst (λ gs. AreNumbered r.numbers (first ++ variables gs)) (sym taken_as_they_stand) numbered;
+    small = small;
+  }

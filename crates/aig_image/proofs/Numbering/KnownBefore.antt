@@ -1,0 +1,39 @@
+-- Gates whose operands have numbers when they are noted.
+use Rattle.std.proofs.Common.{◌≡◌, ◌<◌, ◌+◌, ℕ, List, ◌++◌, length, take, get_or, subst, ◌∙◌, ◌⊎◌, inl, inr, ⊎_elim}
+use Rattle.std.proofs.Common.{below_more}
+use Rattle.std.specs.List.{AllByRecursion}
+use Rattle.std.proofs.lemmas.List.{get_or_default}
+use Rattle.aig_core.specs.declared.circuit.Gate.{Gate}
+use Rattle.aig_core.specs.Literal.{variable_of}
+use Rattle.aig_core.specs.Wellformed.{IsKnown, operands}
+use Rattle.aig_core.proofs.Ordering.Ranked.{at, no_gate, variables}
+use Rattle.aig_image.specs.declared.numbers.Numbers.{Numbers}
+use Rattle.aig_image.specs.Parts.Numbers.{number_of, AreNumbered}
+use Rattle.aig_image.proofs.Numbering.Noted.{was_noted}
+
+-- a literal is a constant, or its variable has a number
+abbrev HasNumber : Numbers → ℕ → Type 0
+HasNumber n l = (variable_of l ≡ 0) ⊎ (0 < number_of n (variable_of l))
+
+known : (n : Numbers) (vars : List ℕ) → AreNumbered n vars → (l : ℕ) → HasNumber n l → IsKnown vars l
+known n vars numbered l has =
+    ⊎_elim (λ (z : variable_of l ≡ 0). inl z)
+    (λ (s : 0 < number_of n (variable_of l)). inr (was_noted n vars numbered (variable_of l) s)) has
+
+module _ (before : List ℕ) (gates : List Gate) where
+  -- the operands of a gate are known by the gates before it
+  abbrev pub IsOverKnown : ℕ → Type 0
+  IsOverKnown k = AllByRecursion (IsKnown (before ++ variables (take k gates))) (operands (at gates k))
+
+  -- of the next gate too
+  pub next_over_known : (n : Numbers) (i : ℕ) (g : Gate) → AreNumbered n (before ++ variables (take i gates))
+      → i < length gates
+      → g ≡ get_or gates i g → HasNumber n g.left → HasNumber n g.right
+      → ((k : ℕ) → k < i → IsOverKnown k) → (k : ℕ) → k < i + 1 → IsOverKnown k
+  next_over_known n i g numbered there is left right sofar =
+      let vars : List ℕ = before ++ variables (take i gates) in
+      let here : AllByRecursion (IsKnown vars) (operands g) =
+      (known n vars numbered g.left left, (known n vars numbered g.right right, tt)) in
+      below_more _ _ sofar
+      (subst (λ (x : Gate). AllByRecursion (IsKnown vars) (operands x))
+      (is ∙ get_or_default gates i g no_gate there) here)

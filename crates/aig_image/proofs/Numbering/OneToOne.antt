@@ -1,0 +1,74 @@
+-- Renumbering is one to one from the defined variables onto the numbers from 1 on.
+use Rattle.std.proofs.Common.{◌≡◌, ◌+◌, ◌<◌, ◌≤◌, ℕ, zero, suc, List, ◌++◌, length, get_or, map}
+use Rattle.std.proofs.Common.{sym, ap, ap₂, ◌∙◌, inr, length-append, arith}
+use Rattle.std.proofs.lemmas.List.{length-map}
+use Rattle.aig_core.specs.declared.circuit.Latch.{Latch}
+use Rattle.aig_core.specs.declared.circuit.Gate.{Gate}
+use Rattle.aig_core.specs.declared.circuit.Circuit.{Circuit}
+use Rattle.aig_core.specs.Wellformed.{IsAmong, IsVariableUpTo, IsWellFormed, defined_variables}
+use Rattle.aig_core.specs.Order.{IsLeastReadyOrder}
+use Rattle.aig_core.proofs.Checking.Fitting.{each}
+use Rattle.aig_core.proofs.Ordering.Ranked.{at}
+use Rattle.aig_image.specs.Laws.{IsOneToOneOnto}
+use Rattle.aig_image.specs.Reordered.{taken}
+use Rattle.aig_image.specs.Renumbering.{in_new_order, renumbered, source_variable}
+use Rattle.aig_image.proofs.Numbering.Back.{back_variable}
+use Rattle.aig_image.proofs.Numbering.Places.{number_at}
+use Rattle.aig_image.proofs.Relabelling.Standing.{here, somewhere}
+use Rattle.aig_image.proofs.Imaging.Members.{new_once, has_defined, is_defined, all_taken}
+use Rattle.aig_image.proofs.Imaging.Taken.{taken_variables}
+
+module _ (c : Circuit) (order : List ℕ) (good : IsWellFormed c) (least : IsLeastReadyOrder c order) where
+  abbrev vs : List ℕ
+  vs = in_new_order c order
+
+  abbrev count : ℕ
+  count = length c.inputs + length c.latches + length c.gates
+
+  pub many : length vs ≡ count
+  many =
+      let latches : List ℕ = map (λ (l : Latch). l.var) c.latches in
+      let gates : List ℕ = taken_variables c.gates order in
+      let as_many : length latches ≡ length c.latches = length-map c.latches (λ (l : Latch). l.var) in
+      let all : length gates ≡ length c.gates =
+      length-map (taken c.gates order) (λ (g : Gate). g.var) ∙ length-map order (at c.gates)
+      ∙ all_taken c order good least in
+      length-append (c.inputs ++ latches) gates ∙ ap₂ (λ m n. m + n) (length-append c.inputs latches) all
+      ∙ ap (λ n. length c.inputs + n + length c.gates) as_many
+
+  some : (v : ℕ) → IsAmong v vs → 1 ≤ v
+  some v among =
+      let range : IsVariableUpTo c.max_var v =
+      each (IsVariableUpTo c.max_var) (defined_variables c) good.in_range v (is_defined c order good least v among) in
+      range.0
+
+  -- the variable at a place has the number that is one more
+  number_there : (j : ℕ) → j < length vs → renumbered vs (get_or vs j 0) ≡ 1 + j
+  number_there j below = number_at vs (new_once c order good least) j below (some (get_or vs j 0) (here vs j below))
+
+  within : (v : ℕ) → IsAmong v (defined_variables c) → IsVariableUpTo count (renumbered vs v)
+  within v defined =
+      let there = somewhere v vs (has_defined c order good least v defined) in
+      let below : there.0 < length vs = there.1 in
+      let number : renumbered vs v ≡ 1 + there.0 =
+      ap (renumbered vs) (sym there.2) ∙ number_there there.0 below in
+      (omega (arith, number), omega (arith, number, below, many))
+
+  -- what has a number is found again by it
+  pub back : (v : ℕ) → IsAmong v (defined_variables c) → source_variable vs (renumbered vs v) ≡ v
+  back v defined = back_variable vs v (inr (has_defined c order good least v defined))
+
+  reached : (n : ℕ) → IsVariableUpTo count n → (v : ℕ) × IsAmong v (defined_variables c) × (renumbered vs v ≡ n)
+  reached zero range = absurd (omega (arith, range.0))
+  reached (suc j) range =
+      let below : j < length vs = omega (arith, range.1, many) in
+      let number = number_there j below in
+      let v : ℕ = get_or vs j 0 in
+      (v, is_defined c order good least v (here vs j below), omega (arith, number))
+
+  pub one_to_one : IsOneToOneOnto (renumbered vs) (defined_variables c) count
+  one_to_one = record {
+    within = within;
+    apart = λ v w first second same. sym (back v first) ∙ ap (source_variable vs) same ∙ back w second;
+    reached = reached;
+  }

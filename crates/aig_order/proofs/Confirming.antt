@@ -1,0 +1,9 @@
+-- Whether what a block records is the record of a mapped image.
+pub mod LeastFirst
+pub mod TakenInTurn
+pub mod Links
+pub mod PositionsPut
+pub mod ToldRight
+pub mod OrderTold
+pub mod ConfirmedByOrder
+pub mod Judged

@@ -1,0 +1,51 @@
+-- What a block tells, judged: whether the circuit that is undone by it has the image that it was read of.
+use Rattle.std.proofs.Common.{◌≡◌, ◌↔◌, ◌∙◌, sym, subst, ℕ, List, Bool, false, true≢false, IsTrue, Ok}
+use Rattle.aig_core.specs.declared.circuit.Circuit.{Circuit}
+use Rattle.aig_core.specs.Order.{IsLeastReadyOrder}
+use Rattle.aig_core.specs.Wellformed.{AreDistinct, IsWellFormed}
+use Rattle.aig_core.specs.BinaryOrder.{IsInBinaryOrder}
+use Rattle.aig_order.specs.declared.map_block.MapBlock.{MapBlock}
+use Rattle.aig_order.specs.MapBlock.{IsMappedImage}
+use Rattle.aig_order.specs.MapReading.{block_reading}
+use Rattle.aig_order.specs.Parts.Confirmed.{TellsExchanges, TellsComment}
+use Rattle.aig_order.specs.Parts.Turns.{positions}
+use Rattle.aig_order.specs.Undone.{undone, comment_behind, places_told}
+use Rattle.aig_order.proofs.Confirming.ConfirmedByOrder.{confirmed_by_order}
+
+-- what is told of two things is told of the same ones
+pub told_of_same : {A B : Type 0} (P : A → B → Type 0) (told : Bool) (a c : A) (b d : B)
+    → a ≡ c → b ≡ d → (IsTrue told ↔ P a b) → IsTrue told ↔ P c d
+told_of_same P told a c b d p q tells = subst (λ y. IsTrue told ↔ P c y) q (subst (λ y. IsTrue told ↔ P y b) p tells)
+
+module _ (x : Circuit) (b : MapBlock) (rest : List ℕ) (good : IsWellFormed x) (ordered : IsInBinaryOrder x)
+    (read : block_reading x ≡ Ok (b, rest)) (apart : AreDistinct (places_told b.gates))
+    (formed : IsWellFormed (undone b (comment_behind b rest) x)) where
+  abbrev from : Circuit
+  from = undone b (comment_behind b rest) x
+
+  parts : IsMappedImage from x
+      ↔ (IsLeastReadyOrder from (positions b.gates) × TellsExchanges x.gates b.gates × TellsComment b rest)
+  parts = confirmed_by_order x b rest good ordered read apart formed
+
+  refuted : ¬ IsMappedImage from x → IsTrue false ↔ IsMappedImage from x
+  refuted never = (λ (e : IsTrue false). absurd (true≢false (sym e)), λ (is : IsMappedImage from x). absurd (never is))
+
+  -- something follows a block that tells of no comment section
+  pub by_comment : (told : Bool) → (IsTrue told ↔ TellsComment b rest) → told ≡ false
+      → IsTrue false ↔ IsMappedImage from x
+  by_comment told tells is =
+      refuted (λ (image : IsMappedImage from x). true≢false (sym (tells.1 (parts.0 image).2) ∙ is))
+
+  -- equal operands are told to be exchanged
+  pub by_exchanges : (told : Bool) → (IsTrue told ↔ TellsExchanges x.gates b.gates) → told ≡ false
+      → IsTrue false ↔ IsMappedImage from x
+  by_exchanges told tells is =
+      refuted (λ (image : IsMappedImage from x). true≢false (sym (tells.1 (parts.0 image).1) ∙ is))
+
+  -- where neither is so, the order decides
+  pub by_order : TellsComment b rest → TellsExchanges x.gates b.gates → (told : Bool)
+      → (IsTrue told ↔ IsLeastReadyOrder from (positions b.gates)) → IsTrue told ↔ IsMappedImage from x
+  by_order comment exchanges told tells = (
+    λ (t : IsTrue told). parts.1 (tells.0 t, exchanges, comment),
+    λ (image : IsMappedImage from x). tells.1 (parts.0 image).0,
+  )

@@ -1,0 +1,3 @@
+-- The mapped image.
+pub mod Told
+pub mod MappedOrder

@@ -1,0 +1,77 @@
+-- What is told of a circuit by the numbers that were found is its map block, so that its binary image with this comment
+-- is its mapped image.
+use Rattle.std.proofs.Common.{◌≡◌, ◌+◌, ◌-◌, ◌≤◌, ℕ, List, length, ap, ◌∙◌, Some, arith}
+use Rattle.aig_core.specs.declared.circuit.Gate.{Gate}
+use Rattle.aig_core.specs.declared.circuit.Circuit.{Circuit}
+use Rattle.aig_core.specs.declared.circuit.TheConstants.{LARGEST}
+use Rattle.aig_core.specs.Wellformed.{IsWellFormed}
+use Rattle.aig_core.specs.Order.{IsLeastReadyOrder}
+use Rattle.aig_core.proofs.Checking.Fitting.{definitions_fit}
+use Rattle.aig_core.proofs.Ordering.LeastReady.{one_least_ready_order}
+use Rattle.aig_image.specs.declared.image.Renumbering.{Renumbering}
+use Rattle.aig_image.specs.Image.{image_by, IsBinaryImage}
+use Rattle.aig_image.specs.Parts.Numbers.{number_of, number_in, IsRenumberingOf}
+use Rattle.aig_image.specs.Relabelled.{GateNames}
+use Rattle.aig_image.specs.Renumbering.{in_new_order, renumbered}
+use Rattle.aig_image.specs.Reordered.{has_smaller_first}
+use Rattle.aig_image.proofs.Relabelling.Lists.{map_where}
+use Rattle.aig_image.proofs.Relabelling.Relabelled.{same_gate}
+use Rattle.aig_image.proofs.Imaging.Renewed.{same_names}
+use Rattle.aig_order.specs.declared.map_block.MappedGate.{MappedGate}
+use Rattle.aig_order.specs.declared.map_block.MapBlock.{MapBlock}
+use Rattle.aig_order.specs.MapBlock.{block_by, map_block, mapped_comment, mapped_gate, IsMappedImage}
+
+-- what is told of a gate, by the gate that it becomes
+abbrev of_new : ℕ → Gate → Gate → MappedGate
+of_new first g new = record { var = g.var; place = new.var - first; exchanged = has_smaller_first new }
+
+module _ (c : Circuit) (order : List ℕ) (good : IsWellFormed c) (least : IsLeastReadyOrder c order)
+    (number : ℕ → ℕ) (told : (v : ℕ) → number v ≡ number_in (in_new_order c order) v) where
+  abbrev f : ℕ → ℕ
+  f = renumbered (in_new_order c order)
+
+  abbrev first : ℕ
+  first = 1 + length c.inputs + length c.latches
+
+  -- what is told is the map block
+  pub block_is : block_by number c ≡ map_block order c
+  block_is =
+      let Names : Gate → Type 0 = GateNames (λ v. number v ≡ f v) in
+      ap (λ (gates : List MappedGate). record (map_block order c) { gates = gates })
+      (map_where Names (mapped_gate number first) (mapped_gate f first)
+      (λ g named. ap (of_new first g) (same_gate number f g named)) c.gates
+      (same_names c order good least number told).gates)
+
+-- the first gate's number is small
+pub few_before_gates : (c : Circuit) → IsWellFormed c → length c.inputs + length c.latches ≤ LARGEST
+few_before_gates c good = omega (arith, definitions_fit c good, good.limits.max_var)
+
+-- another comment changes nothing in how gates are taken
+module _ (c : Circuit) (comment : List ℕ) where
+  abbrev commented : Circuit
+  commented = record c { comment = Some comment }
+
+  order_stays : (order : List ℕ) → IsLeastReadyOrder c order → IsLeastReadyOrder commented order
+  order_stays order least = record { in_turn = least.in_turn; full = least.full }
+
+  pub renumbering_stays : (r : Renumbering) → IsRenumberingOf c r → IsRenumberingOf commented r
+  renumbering_stays r of_it = record {
+    order = of_it.order;
+    least = order_stays of_it.order of_it.least;
+    gates = of_it.gates;
+    numbers = of_it.numbers;
+    small = of_it.small;
+  }
+
+  -- the binary image with the comment that tells the block
+  pub is_mapped_image : (r : Renumbering) (image : Circuit) → IsWellFormed c → IsRenumberingOf c r
+      → comment ≡ mapped_comment (block_by (number_of r.numbers) c) c → IsBinaryImage commented image
+      → IsMappedImage c image
+  is_mapped_image r image good of_it tells (order, least, is) =
+      let here : IsLeastReadyOrder c order = record { in_turn = least.in_turn; full = least.full } in
+      let same : of_it.order ≡ order = one_least_ready_order c of_it.order order of_it.least here in
+      let block : block_by (number_of r.numbers) c ≡ map_block order c =
+      block_is c of_it.order good of_it.least (number_of r.numbers) of_it.numbers.numbers
+      ∙ ap (λ at. map_block at c) same in
+      let text = tells ∙ ap (λ (b : MapBlock). mapped_comment b c) block in
+      (order, here, is ∙ ap (λ bytes. record (image_by order c) { comment = Some bytes }) text)
