@@ -1,6 +1,6 @@
 pub mod Gates
 pub mod Numbered
-pub mod Told
+pub mod Found
 pub mod Accepted
 pub mod Read
 pub mod Faults

@@ -9,8 +9,8 @@ use Rattle.aig_text.specs.declared.fault.ReadFault.{ReadFault}
 use Rattle.aig_text.specs.Lines.{Line, Ahead, ahead, lines_of}
 use Rattle.aig_text.specs.declared.header_line.Header.{Header}
 use Rattle.aig_text.specs.Rows.{Form, output_of, output_row, latches_from, sections, no_lines, in_binary}
-use Rattle.aig_text.specs.Outcomes.{rows_told}
-use Rattle.aig_text.specs.Reading.{◌>>=◌, Told, at_line, header_at, row_at, rows_at, section_at, sections_at}
+use Rattle.aig_text.specs.Outcomes.{rows_meant}
+use Rattle.aig_text.specs.Reading.{◌>>=◌, Found, at_line, header_at, row_at, rows_at, section_at, sections_at}
 use Rattle.aig_text.specs.Reading.{empty_circuit, tail_at, want_of_memory}
 use Rattle.aig_text.proofs.Loops.Cutting.{pieces}
 use Rattle.aig_text.proofs.Steps.{both_ok}
@@ -20,32 +20,32 @@ use Rattle.aig_binary.proofs.Defined.{latches_of_rows}
 
 -- the latches that the rows of their next literals make
 module _ (h : Header) (c : Circuit) where
-  abbrev with_nexts : List (List ℕ) × Ahead → Told Circuit
-  with_nexts told = Ok (record c { latches = latches_from (1 + h.inputs) told.0 }, told.1)
+  abbrev with_nexts : List (List ℕ) × Ahead → Found Circuit
+  with_nexts found = Ok (record c { latches = latches_from (1 + h.inputs) found.0 }, found.1)
 
-  pub nexts_make_latches : (r : Told (List (List ℕ))) (nexts : List ℕ) (after : Ahead)
-      → rows_told output_of [] r ≡ Ok (nexts, after)
+  pub nexts_make_latches : (r : Found (List (List ℕ))) (nexts : List ℕ) (after : Ahead)
+      → rows_meant output_of [] r ≡ Ok (nexts, after)
       → (r >>= with_nexts) ≡ Ok (record c { latches = latches_from (1 + h.inputs) (map output_row nexts) }, after)
-  nexts_make_latches (Ok x) nexts after told =
+  nexts_make_latches (Ok x) nexts after found =
       let p : (map output_of x.0, x.1) ≡ (nexts, after) = cc in
       ap (λ ls. Ok (record c { latches = ls }, x.1)) (sym (latches_of_rows (1 + h.inputs) x.0))
       ∙ ap (λ (q : List ℕ × Ahead). Ok (record c { latches = latches_from (1 + h.inputs) (map output_row q.0) }, q.1)) p
-  nexts_make_latches (Err e) nexts after told = cc
+  nexts_make_latches (Err e) nexts after found = cc
 
-  no_nexts : (r : Told (List (List ℕ))) (e : ReadFault) → rows_told output_of [] r ≡ Err e → (r >>= with_nexts) ≡ Err e
-  no_nexts (Ok x) e told = cc
-  no_nexts (Err f) e told = let same : f ≡ e = cc in ap (λ (g : ReadFault). Err g) same
+  no_nexts : (r : Found (List (List ℕ))) (e : ReadFault) → rows_meant output_of [] r ≡ Err e → (r >>= with_nexts) ≡ Err e
+  no_nexts (Ok x) e found = cc
+  no_nexts (Err f) e found = let same : f ≡ e = cc in ap (λ (g : ReadFault). Err g) same
 
-  pub no_latches : (r : Told (List (List ℕ))) (e : ReadFault)
-      → (e ≡ want_of_memory) ⊎ (rows_told output_of [] r ≡ Err e)
+  pub no_latches : (r : Found (List (List ℕ))) (e : ReadFault)
+      → (e ≡ want_of_memory) ⊎ (rows_meant output_of [] r ≡ Err e)
       → (e ≡ want_of_memory) ⊎ ((r >>= with_nexts) ≡ Err e)
   no_latches r e (inl m) = inl m
-  no_latches r e (inr told) = inr (no_nexts r e told)
+  no_latches r e (inr found) = inr (no_nexts r e found)
 
 -- a section without lines
-pub nothing_told : (h : Header) (c : Circuit) (at : Ahead) → section_at no_lines h c at ≡ Ok (c, at)
+pub nothing_found : (h : Header) (c : Circuit) (at : Ahead) → section_at no_lines h c at ≡ Ok (c, at)
 unfolding rows_at
-nothing_told h c at = refl
+nothing_found h c at = refl
 
 module _ (limit : ℕ) (ls : List Line) where
   pub no_header : (e : ReadFault) → header_at binary_word limit (ahead 1 ls) ≡ Err e → binary_at limit ls ≡ Err e
@@ -66,20 +66,20 @@ module _ (limit : ℕ) (ls : List Line) where
       no_sections e (inr r) = inr (rw (is, all, r) refl)
 
       module _ (c : Circuit) (n : ℕ) (bytes : List ℕ)
-          (told : sections_at in_binary h sections (empty_circuit h.max_var) at ≡ Ok (c, ahead n (lines_of bytes)))
+          (found : sections_at in_binary h sections (empty_circuit h.max_var) at ≡ Ok (c, ahead n (lines_of bytes)))
           where
         pub no_gates : (e : ReadFault)
             → (e ≡ want_of_memory) ⊎ (gates_at (1 + h.inputs + h.latches) 1 h.gates bytes ≡ Err e)
             → (e ≡ want_of_memory) ⊎ (binary_at limit ls ≡ Err e)
         unfolding binary_at
         no_gates e (inl m) = inl m
-        no_gates e (inr r) = let j = (pieces bytes).joined in inr (rw (is, all, told, j, r) refl)
+        no_gates e (inr r) = let j = (pieces bytes).joined in inr (rw (is, all, found, j, r) refl)
 
         pub then_tail : (gates : List Gate) (behind : List ℕ)
             → gates_at (1 + h.inputs + h.latches) 1 h.gates bytes ≡ Ok (gates, behind)
             → binary_at limit ls ≡ tail_at h nothing_named (with_definitions h gates c) n (lines_of behind)
         unfolding binary_at
-        then_tail gates behind g = let j = (pieces bytes).joined in rw (is, all, told, j, g) refl
+        then_tail gates behind g = let j = (pieces bytes).joined in rw (is, all, found, j, g) refl
 
 -- so many rows are read
 rows_count : (form : Form) (max_var count : ℕ) (at after : Ahead) (rows : List (List ℕ))
@@ -96,16 +96,16 @@ rows_count form max_var (suc count) at after rows h =
     ap (λ (q : List (List ℕ) × Ahead). length q.0) (sym p)
     ∙ ap (λ c. suc c) (rows_count form max_var count one.0.1 others.0.1 others.0.0 others.1)
 
-told_rows : (r : Told (List (List ℕ))) (ns : List ℕ) (after : Ahead) → rows_told output_of [] r ≡ Ok (ns, after)
+found_rows : (r : Found (List (List ℕ))) (ns : List ℕ) (after : Ahead) → rows_meant output_of [] r ≡ Ok (ns, after)
     → (rows : List (List ℕ)) × (r ≡ Ok (rows, after)) × (ns ≡ map output_of rows)
-told_rows (Ok x) ns after h =
+found_rows (Ok x) ns after h =
     let p : (map output_of x.0, x.1) ≡ (ns, after) = cc in
     (x.0, ap (λ (q : List ℕ × Ahead). Ok (x.0, q.1)) p, sym (ap (λ (q : List ℕ × Ahead). q.0) p))
-told_rows (Err e) ns after h = cc
+found_rows (Err e) ns after h = cc
 
-pub told_count : (form : Form) (max_var count : ℕ) (at after : Ahead) (ns : List ℕ)
-    → rows_told output_of [] (rows_at form max_var count at) ≡ Ok (ns, after)
+pub found_count : (form : Form) (max_var count : ℕ) (at after : Ahead) (ns : List ℕ)
+    → rows_meant output_of [] (rows_at form max_var count at) ≡ Ok (ns, after)
     → length ns ≡ count
-told_count form max_var count at after ns h =
-    let a = told_rows (rows_at form max_var count at) ns after h in
+found_count form max_var count at after ns h =
+    let a = found_rows (rows_at form max_var count at) ns after h in
     ap length a.2 ∙ length-map a.0 output_of ∙ rows_count form max_var count at after a.0 a.1

@@ -1,2 +1,2 @@
--- What only private functions cite: how parts of the work are told. What the crate promises stands in the other files.
+-- What only private functions cite: how parts of the work are described. What the crate promises stands in the other files.
 pub mod Deltas

@@ -39,11 +39,11 @@ abbrev pub first_undefined : set.FinSet nat_cmp → List ℕ → Option CheckFau
 first_undefined variables literals = option_map Undefined (first_unknown variables literals)
 
 -- the first redefinition, or else the first undefined literal, or else the first gate that depends on a cycle
-abbrev pub first_fault : Circuit → Option CheckFault
-first_fault c =
+abbrev pub first_structural_fault : Circuit → Option CheckFault
+first_structural_fault c =
     option_or (first_redefinition set.empty (defined_variables c))
     (option_or (first_undefined (with_all set.empty (defined_variables c)) (used_literals c)) (option_map Cyclic (first_cyclic c.gates)))
 
--- a fault that is told is this one, unless memory was refused
+-- a fault that is reported is this one, unless memory was refused
 abbrev pub IsFault : CheckFault → Option CheckFault → Type 0
-IsFault told first = (told ≡ OutOfMemory) ⊎ (first ≡ Some told)
+IsFault reported first = (reported ≡ OutOfMemory) ⊎ (first ≡ Some reported)

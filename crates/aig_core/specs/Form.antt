@@ -1,4 +1,4 @@
--- What can be told of a circuit part by part, before its definitions and uses are looked at together (this project's profile).
+-- What can be seen of a circuit part by part, before its definitions and uses are looked at together (this project's profile).
 use Rattle.std.specs.Prelude.{ℕ, List, [], ◌∷◌, ◌+◌, ◌*◌, ◌≤◌}
 use Rattle.std.specs.List.{All, AllByRecursion}
 use Rattle.aig_core.specs.declared.circuit.Circuit.{Circuit}

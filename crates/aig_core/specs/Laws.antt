@@ -9,12 +9,12 @@ use Rattle.aig_core.specs.Literal.{literal_of}
 use Rattle.aig_core.specs.Wellformed.{IsWellFormed, IsAmong, AreDistinct, IsKnown, HasRank}
 use Rattle.aig_core.specs.Wellformed.{defined_variables, used_literals}
 use Rattle.aig_core.specs.Form.{IsInForm}
-use Rattle.aig_core.specs.Fault.{first_fault, first_repeat, first_unknown, with_all}
+use Rattle.aig_core.specs.Fault.{first_structural_fault, first_repeat, first_unknown, with_all}
 use Rattle.aig_core.specs.Order.{IsLeastReadyOrder, ends_within}
 
 -- a circuit in form is well formed exactly where it has no fault
 abbrev pub FaultlessIsWellFormed : Type 0
-FaultlessIsWellFormed = (c : Circuit) → IsInForm c → (first_fault c ≡ None) ↔ IsWellFormed c
+FaultlessIsWellFormed = (c : Circuit) → IsInForm c → (first_structural_fault c ≡ None) ↔ IsWellFormed c
 
 -- a well-formed circuit has at most as many definitions as its largest index
 abbrev pub DefinitionsFit : Type 0
@@ -89,19 +89,19 @@ IsFullyDefined c = AreDistinct (defined_variables c) × AllByRecursion (IsKnown 
 
 -- the first fault is a redefinition exactly where a variable is defined twice, and then it is of the first such one
 abbrev pub RedefinedExactly : Type 0
-RedefinedExactly = (c : Circuit) (v : ℕ) → (first_fault c ≡ Some (Redefined v)) ↔ IsFirstRepeat (defined_variables c) v
+RedefinedExactly = (c : Circuit) (v : ℕ) → (first_structural_fault c ≡ Some (Redefined v)) ↔ IsFirstRepeat (defined_variables c) v
 
 -- it is an undefined literal exactly where none is defined twice and a literal is unknown, and then the first such one
 abbrev pub UndefinedExactly : Type 0
-UndefinedExactly = (c : Circuit) (literal : ℕ) → (first_fault c ≡ Some (Undefined literal))
+UndefinedExactly = (c : Circuit) (literal : ℕ) → (first_structural_fault c ≡ Some (Undefined literal))
     ↔ (AreDistinct (defined_variables c) × IsFirstUnknown (defined_variables c) (used_literals c) literal)
 
 -- it is a cycle exactly where neither is so and the order leaves out a gate, and then the first such one is reported
 abbrev pub CyclicExactly : Type 0
 CyclicExactly = (c : Circuit) (order : List ℕ) (literal : ℕ) → IsLeastReadyOrder c order
-    → (first_fault c ≡ Some (Cyclic literal)) ↔ (IsFullyDefined c × IsFirstLeftOut c.gates order literal)
+    → (first_structural_fault c ≡ Some (Cyclic literal)) ↔ (IsFullyDefined c × IsFirstLeftOut c.gates order literal)
 
 -- it is a cycle, of whichever gate, exactly where neither is so and the gates have no rank
 abbrev pub CycleExactlyWhereNoRank : Type 0
 CycleExactlyWhereNoRank = (c : Circuit)
-    → ((literal : ℕ) × (first_fault c ≡ Some (Cyclic literal))) ↔ (IsFullyDefined c × (¬ HasRank c.gates))
+    → ((literal : ℕ) × (first_structural_fault c ≡ Some (Cyclic literal))) ↔ (IsFullyDefined c × (¬ HasRank c.gates))

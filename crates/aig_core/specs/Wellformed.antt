@@ -48,7 +48,7 @@ IsRank rank gates = (g h : Gate) → Contains gates g → Contains gates h → I
 abbrev pub HasRank : List Gate → Type 0
 HasRank gates = (rank : ℕ → ℕ) × IsRank rank gates
 
--- the largest index and all counts are small enough to be told in a file
+-- the largest index and all counts are small enough to be written in a file
 pub record IsWithinLimits (c : Circuit) : Type 0 where
   pub max_var : c.max_var ≤ LARGEST
   pub inputs : length c.inputs ≤ LARGEST

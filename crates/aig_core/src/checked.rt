@@ -5,7 +5,7 @@ ghost use Rattle.aig_core.specs.declared.fault.CheckFault.TheVariants.{OutOfMemo
 ghost use Rattle.aig_core.specs.Wellformed.{AreDistinct, IsWellFormed, defined_variables};
 ghost use Rattle.aig_core.specs.Form.{IsInForm};
 ghost use Rattle.aig_core.specs.Order.{IsLeastReadyOrder};
-ghost use Rattle.aig_core.specs.Fault.{first_fault, IsFault};
+ghost use Rattle.aig_core.specs.Fault.{first_structural_fault, IsFault};
 
 use crate::checked::copies::copy_circuit;
 use crate::checked::faults::{find_fault, find_redefinition};
@@ -93,9 +93,9 @@ pub fn check(alloc: Global, circuit: Circuit) -> Result<Checked, (Circuit, Check
     requires in_form { IsInForm circuit }
     ensures ok { IfOk result (λ checked. checked ≡ circuit) }
     ensures well_formed { OnOk result (IsWellFormed circuit) }
-    ensures ok_faultless { OnOk result (first_fault circuit ≡ None) }
+    ensures ok_faultless { OnOk result (first_structural_fault circuit ≡ None) }
     ensures handed_back { IfErr result (λ e. e.0 ≡ circuit) }
-    ensures fault { IfErr result (λ e. IsFault e.1 (first_fault circuit)) }
+    ensures fault { IfErr result (λ e. IsFault e.1 (first_structural_fault circuit)) }
     ensures refused { IfErr result (λ e. e.1 ≢ WantOfMemory → ¬ IsWellFormed circuit) }
 {
     match find_fault(alloc, &circuit) {

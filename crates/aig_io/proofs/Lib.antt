@@ -1,4 +1,4 @@
-pub mod Told
+pub mod KnownBytes
 pub mod DigitCounts
 pub mod DigitWords
 pub mod LeadingDigits

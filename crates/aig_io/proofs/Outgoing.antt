@@ -6,7 +6,7 @@ use Rattle.std.proofs.Math.Seq.{take-append-add}
 use Rattle.std.proofs.Math.Nat.{min-le_right}
 use Rattle.std.specs.Io.KnownBytes.{Appends}
 use Rattle.aig_io.specs.Transfer.{WentOut, TookBeginning}
-use Rattle.aig_io.proofs.Told.{appends_twice}
+use Rattle.aig_io.proofs.KnownBytes.{appends_twice}
 
 -- what was sent, then what is left, are what was held and both texts
 joined : (h0 h1 h2 s1 s2 xs ys : List ℕ) → h0 ++ xs ≡ s1 ++ h1 → h1 ++ ys ≡ s2 ++ h2

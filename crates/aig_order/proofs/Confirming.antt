@@ -3,7 +3,7 @@ pub mod LeastFirst
 pub mod TakenInTurn
 pub mod Links
 pub mod PositionsPut
-pub mod ToldRight
-pub mod OrderTold
+pub mod RecordedRight
+pub mod OrderRecorded
 pub mod ConfirmedByOrder
 pub mod Judged

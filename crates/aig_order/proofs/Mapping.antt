@@ -1,3 +1,3 @@
 -- The mapped image.
-pub mod Told
+pub mod Recorded
 pub mod MappedOrder

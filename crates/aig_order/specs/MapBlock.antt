@@ -45,7 +45,7 @@ last_line = codes "aigmap end\n"
 unfoldable pub block_text : MapBlock → List ℕ
 block_text b = header_text map_word (first_row b) ++ (flat_map numbers_text (rows_of b) ++ last_line)
 
--- What is told of a gate whose variables become others by f. Its place is how far its new variable is from that of the
+-- What is recorded of a gate whose variables become others by f. Its place is how far its new variable is from that of the
 -- first gate, and its operands are exchanged where the smaller one would come first.
 abbrev pub mapped_gate : (ℕ → ℕ) → ℕ → Gate → MappedGate
 mapped_gate f first g = let new = relabelled_gate f g in record {
@@ -54,7 +54,7 @@ mapped_gate f first g = let new = relabelled_gate f g in record {
   exchanged = has_smaller_first new;
 }
 
--- what is told of a circuit whose variables become others by f
+-- what is recorded of a circuit whose variables become others by f
 abbrev pub block_by : (ℕ → ℕ) → Circuit → MapBlock
 block_by f c = record {
   max_var = c.max_var;
@@ -64,7 +64,7 @@ block_by f c = record {
   has_comment = is_some c.comment;
 }
 
--- what is told of a circuit whose gates are taken in this order
+-- what is recorded of a circuit whose gates are taken in this order
 abbrev pub map_block : List ℕ → Circuit → MapBlock
 map_block order c = block_by (renumbered (in_new_order c order)) c
 

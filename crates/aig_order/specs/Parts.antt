@@ -3,5 +3,5 @@ pub mod Confirmed
 pub mod Had
 pub mod MapOutcomes
 pub mod Placed
-pub mod Told
+pub mod Recorded
 pub mod Turns

@@ -26,16 +26,16 @@ abbrev pub source_variables : MapBlock → List ℕ
 source_variables b = b.inputs ++ b.latches ++ map (variable_at_place b.gates) (range_with_len 0 (length b.gates))
 
 -- the places of the gates that a block tells of, and whose operands are exchanged
-abbrev pub places_told : List MappedGate → List ℕ
-places_told gates = map (λ (g : MappedGate). g.place) gates
+abbrev pub places_recorded : List MappedGate → List ℕ
+places_recorded gates = map (λ (g : MappedGate). g.place) gates
 
-abbrev pub exchanges_told : List MappedGate → List Bool
-exchanges_told gates = map (λ (g : MappedGate). g.exchanged) gates
+abbrev pub exchanges_recorded : List MappedGate → List Bool
+exchanges_recorded gates = map (λ (g : MappedGate). g.exchanged) gates
 
 -- The gates from the places, their operands exchanged, and all by the variables of the source; with this comment.
 abbrev pub undone : MapBlock → Option (List ℕ) → Circuit → Circuit
 undone b comment x =
-    record (restored (source_variable (source_variables b)) (places_told b.gates) (exchanges_told b.gates) x) {
+    record (restored (source_variable (source_variables b)) (places_recorded b.gates) (exchanges_recorded b.gates) x) {
       max_var = b.max_var;
       comment = comment;
     }

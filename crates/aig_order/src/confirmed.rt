@@ -8,11 +8,11 @@ use crate::map_block::{MapBlock, MappedGate};
 use aig_core::Gate;
 
 /// Whether no gate with equal operands is recorded as exchanged.
-pub(crate) fn tells_exchanges(image: &[Gate], told: &[MappedGate]) -> bool
-    requires { AllByRecursion (λ (g : MappedGateRecord). g.place < length image.now) told.now }
-    ensures { IsTrue result ↔ TellsExchanges image.now told.now }
+pub(crate) fn tells_exchanges(image: &[Gate], recorded: &[MappedGate]) -> bool
+    requires { AllByRecursion (λ (g : MappedGateRecord). g.place < length image.now) recorded.now }
+    ensures { IsTrue result ↔ TellsExchanges image.now recorded.now }
 {
-    for gate in told {
+    for gate in recorded {
         let there = image[gate.place as usize];
         if gate.exchanged && there.left.0 == there.right.0 {
             return false;

@@ -92,8 +92,8 @@ fn entries<'a, T: BlockEntry>(
     let mut rest = bytes;
     for at in 0..count {
         match T::read_entry(rest, max_var, count) {
-            Some((told, after)) => {
-                found.push(told)?;
+            Some((recorded, after)) => {
+                found.push(recorded)?;
                 rest = after;
             }
             None => return Err(MapFault::Malformed(line + at)),

@@ -6,7 +6,7 @@ ghost use Rattle.aig_image.specs.Parts.Numbers.{number_of};
 ghost use Rattle.aig_image.specs.Relabelled.{FitIntoLiterals};
 ghost use Rattle.aig_order.specs.MapBlock.{block_by, block_text, gate_row, map_word, mapped_comment, mapped_gate};
 ghost use Rattle.aig_order.specs.MapBlock.{variable_row};
-ghost use Rattle.aig_order.specs.Parts.Told.{counted_row};
+ghost use Rattle.aig_order.specs.Parts.Recorded.{counted_row};
 
 use crate::map_block::MappedGate;
 use aig_core::{Circuit, Gate, LARGEST, Listing, OutOfMemory};

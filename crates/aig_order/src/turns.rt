@@ -68,7 +68,7 @@ pub(crate) fn are_taken_in_turn(
 ) -> Result<bool, OutOfMemory>
     requires few { length places.now ≤ LARGEST }
     requires many { length places.now ≡ length gates.now }
-    ensures { IfOk result (λ told. IsTrue told ↔ AreTakenInTurn first gates.now places.now) }
+    ensures { IfOk result (λ recorded. IsTrue recorded ↔ AreTakenInTurn first gates.now places.now) }
 {
     let mut links = Vec::with_capacity(alloc, gates.len())?;
     for gate in gates {
@@ -92,7 +92,7 @@ pub(crate) fn tells_order(
     requires bounds { IsWithinBounds block.now }
     requires places { AreDistinct (map (λ (g : MappedGateRecord). g.place) block.now.gates) }
     ensures { (comment : Option (List ℕ)) → AreDistinct (defined_variables (undone block.now comment image.now))
-        → IfOk result (λ told. IsTrue told
+        → IfOk result (λ recorded. IsTrue recorded
         ↔ IsLeastReadyOrder (undone block.now comment image.now) (positions block.now.gates)) }
 {
     let places = positions(alloc, block.gates.as_slice())?;

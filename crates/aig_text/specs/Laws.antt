@@ -18,7 +18,7 @@ use Rattle.aig_text.specs.AsciiGrammar.{IsAsciiText, IsRowLine}
 use Rattle.aig_text.specs.AsciiText.{ascii_text}
 use Rattle.aig_text.specs.Scanning.{numbers_at, more_numbers_at, symbol_at, is_comment_line}
 use Rattle.aig_text.specs.Reading.{ends_word, begins_with_word, header_within, header_of, fault_in_row}
-use Rattle.aig_text.specs.Reading.{unless_wrong, row_of, fault_in_symbol, checked_symbol, reading, first_fault}
+use Rattle.aig_text.specs.Reading.{unless_wrong, row_of, fault_in_symbol, checked_symbol, reading, first_ascii_fault}
 
 -- a line holds no line feed
 abbrev pub IsOneLine : Line → Type 0
@@ -46,7 +46,7 @@ ReadExactly = (text : List ℕ) (limit : ℕ) (c : Circuit) → (reading limit t
 -- a text is the file of a circuit exactly where it has no fault
 abbrev pub FaultyOrAccepted : Type 0
 FaultyOrAccepted =
-    (text : List ℕ) (limit : ℕ) → (first_fault limit text ≡ None) ↔ ((c : Circuit) × IsAsciiText text limit c)
+    (text : List ℕ) (limit : ℕ) → (first_ascii_fault limit text ≡ None) ↔ ((c : Circuit) × IsAsciiText text limit c)
 
 -- a text is the file of one circuit at most
 abbrev pub TextsAreUnambiguous : Type 0

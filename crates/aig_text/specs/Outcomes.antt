@@ -3,7 +3,7 @@
 use Rattle.std.specs.Prelude.{◌≡◌, ◌+◌, ◌*◌, ◌≤◌, ◌++◌, ◌⊎◌, ℕ, List, map, slice_index, Option, None, Some, Result}
 use Rattle.std.specs.Prelude.{Ok, Err}
 use Rattle.aig_text.specs.declared.fault.ReadFault.{ReadFault}
-use Rattle.aig_text.specs.Reading.{want_of_memory, Told}
+use Rattle.aig_text.specs.Reading.{want_of_memory, Found}
 
 -- What a function returned, seen by view, is what reading gives.
 abbrev pub Gives : {X Y : Type 0} → (X → Y) → Option X → Option Y → Type 0
@@ -20,15 +20,15 @@ abbrev pub GivesOrMemory : {X Y : Type 0} → (X → Y) → Result X ReadFault �
 GivesOrMemory view (Ok x) read = read ≡ Ok (view x)
 GivesOrMemory view (Err e) read = (e ≡ want_of_memory) ⊎ (read ≡ Err e)
 
--- what the next row tells, and what is ahead behind it
-abbrev pub row_told : {A : Type 0} → (List ℕ → A) → Told (List ℕ) → Told A
-row_told tell (Ok x) = Ok (tell x.0, x.1)
-row_told tell (Err e) = Err e
+-- what the next row means, and what is ahead behind it
+abbrev pub row_meant : {A : Type 0} → (List ℕ → A) → Found (List ℕ) → Found A
+row_meant tell (Ok x) = Ok (tell x.0, x.1)
+row_meant tell (Err e) = Err e
 
--- what rows tell behind what was found before, and what is ahead behind them
-abbrev pub rows_told : {A : Type 0} → (List ℕ → A) → List A → Told (List (List ℕ)) → Told (List A)
-rows_told tell found (Ok x) = Ok (found ++ map tell x.0, x.1)
-rows_told tell found (Err e) = Err e
+-- what rows mean behind what was found before, and what is ahead behind them
+abbrev pub rows_meant : {A : Type 0} → (List ℕ → A) → List A → Found (List (List ℕ)) → Found (List A)
+rows_meant tell found (Ok x) = Ok (found ++ map tell x.0, x.1)
+rows_meant tell found (Err e) = Err e
 
 -- a number and others are all literals over variables up to this one, also where a number is left out
 abbrev pub AreLiterals : ℕ → ℕ → List ℕ → Type 0

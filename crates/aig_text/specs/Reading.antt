@@ -113,23 +113,23 @@ checked_row form max_var (Some ns) = unless_wrong ns (fault_in_row max_var (role
 unfoldable pub row_of : Form → ℕ → Line → Result (List ℕ) ReadKind
 row_of form max_var l = checked_row form max_var (numbers_at l.ended form.least (length form.others) l.text)
 
--- what is told by the lines ahead, and what is ahead behind those
-abbrev pub Told : Type 0 → Type 0
-Told A = Result (A × Ahead) ReadFault
+-- what is found in the lines ahead, and what is ahead behind those
+abbrev pub Found : Type 0 → Type 0
+Found A = Result (A × Ahead) ReadFault
 
 -- what the first of these lines tells, or that none is left
-abbrev pub line_told : {A : Type 0} → ReadKind → (Line → Result A ReadKind) → ℕ → List Line → Told A
-line_told missing tell n [] = Err (fault_at n missing)
-line_told missing tell n (l ∷ ls) = do
-  told ← at_line n (tell l)
-  Ok (told, ahead (n + 1) ls)
+abbrev pub line_found : {A : Type 0} → ReadKind → (Line → Result A ReadKind) → ℕ → List Line → Found A
+line_found missing tell n [] = Err (fault_at n missing)
+line_found missing tell n (l ∷ ls) = do
+  found ← at_line n (tell l)
+  Ok (found, ahead (n + 1) ls)
 
 -- the row of the next line
-abbrev pub row_at : Form → ℕ → Ahead → Told (List ℕ)
-row_at form max_var at = line_told kinds.Truncated (row_of form max_var) at.number at.lines
+abbrev pub row_at : Form → ℕ → Ahead → Found (List ℕ)
+row_at form max_var at = line_found kinds.Truncated (row_of form max_var) at.number at.lines
 
 -- so many rows
-unfoldable pub rows_at : Form → ℕ → ℕ → Ahead → Told (List (List ℕ))
+unfoldable pub rows_at : Form → ℕ → ℕ → Ahead → Found (List (List ℕ))
 rows_at form max_var zero at = Ok ([], at)
 rows_at form max_var (suc count) at = do
   first ← row_at form max_var at
@@ -137,16 +137,16 @@ rows_at form max_var (suc count) at = do
   Ok (first.0 ∷ others.0, others.1)
 
 -- the circuit with the rows of a section, of all sections
-abbrev pub section_at : Listed → Header → Circuit → Ahead → Told Circuit
+abbrev pub section_at : Listed → Header → Circuit → Ahead → Found Circuit
 section_at listed h c at = do
-  told ← rows_at listed.form h.max_var (listed.count h c) at
-  Ok (listed.with_rows h told.0 c, told.1)
+  found ← rows_at listed.form h.max_var (listed.count h c) at
+  Ok (listed.with_rows h found.0 c, found.1)
 
-unfoldable pub sections_at : (Section → Listed) → Header → List Section → Circuit → Ahead → Told Circuit
+unfoldable pub sections_at : (Section → Listed) → Header → List Section → Circuit → Ahead → Found Circuit
 sections_at listed h [] c at = Ok (c, at)
 sections_at listed h (s ∷ ss) c at = do
-  told ← section_at (listed s) h c at
-  sections_at listed h ss told.0 told.1
+  found ← section_at (listed s) h c at
+  sections_at listed h ss found.0 found.1
 
 -- a circuit that has nothing in it
 abbrev pub empty_circuit : ℕ → Circuit
@@ -193,8 +193,8 @@ tail_at h before c n (l ∷ ls) =
       tail_at h (with_name before s.kind s.position) (with_symbol c s) (n + 1) ls)
 
 -- the header that the next line tells
-abbrev pub header_at : List ℕ → ℕ → Ahead → Told Header
-header_at word limit at = line_told kinds.NotAiger (header_of word limit) at.number at.lines
+abbrev pub header_at : List ℕ → ℕ → Ahead → Found Header
+header_at word limit at = line_found kinds.NotAiger (header_of word limit) at.number at.lines
 
 -- the circuit that the lines of a text tell, judged line by line
 unfoldable pub circuit_at : ℕ → List Line → Result Circuit ReadFault
@@ -220,20 +220,20 @@ unless_faulty c (Some fault) = Err (whole_fault (kind_of fault))
 unfoldable pub reading : ℕ → List ℕ → Result Circuit ReadFault
 reading limit text = do
   c ← circuit_at limit (lines_of text)
-  unless_faulty c (structure.first_fault c)
+  unless_faulty c (structure.first_structural_fault c)
 
 abbrev pub fault_of : {A : Type 0} → Result A ReadFault → Option ReadFault
 fault_of (Ok x) = None
 fault_of (Err fault) = Some fault
 
 -- the first fault of a text, where it has one
-abbrev pub first_fault : ℕ → List ℕ → Option ReadFault
-first_fault limit text = fault_of (reading limit text)
+abbrev pub first_ascii_fault : ℕ → List ℕ → Option ReadFault
+first_ascii_fault limit text = fault_of (reading limit text)
 
 -- memory was refused while the text was judged
 abbrev pub want_of_memory : ReadFault
 want_of_memory = whole_fault kinds.OutOfMemory
 
--- a fault that is told is the first one, unless memory was refused
+-- a fault that is reported is the first one, unless memory was refused
 abbrev pub IsFirstFault : ReadFault → Option ReadFault → Type 0
-IsFirstFault told first = (told ≡ want_of_memory) ⊎ (first ≡ Some told)
+IsFirstFault reported first = (reported ≡ want_of_memory) ⊎ (first ≡ Some reported)

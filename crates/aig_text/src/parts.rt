@@ -4,7 +4,7 @@ ghost use Rattle.aig_core.specs.declared.circuit.TheConstants.{LARGEST as larges
 ghost use Rattle.aig_core.specs.Names.{nothing_named};
 ghost use Rattle.aig_text.specs.Lines.{lines_of};
 ghost use Rattle.aig_text.specs.Rows.{output_form, output_of};
-ghost use Rattle.aig_text.specs.Outcomes.{AreLiterals, GivesOrFails, GivesOrMemory, rows_told};
+ghost use Rattle.aig_text.specs.Outcomes.{AreLiterals, GivesOrFails, GivesOrMemory, rows_meant};
 ghost use Rattle.aig_text.specs.Reading.{first_word_is, header_at, row_at, rows_at, tail_at};
 
 use crate::fault::{Place, ReadFault, ReadKind};
@@ -74,7 +74,7 @@ pub fn literals(
 ) -> Result<Listing<Lit>, ReadFault>
     requires { max_var ≤ largest_index }
     ensures literals { GivesOrMemory (λ found. (found, at.new)) result
-        (rows_told output_of [] (rows_at output_form max_var count at.old)) }
+        (rows_meant output_of [] (rows_at output_form max_var count at.old)) }
     ensures err { OnErr result (at.new ≡ at.old) }
 {
     let mut found = Listing::new(alloc);

@@ -4,7 +4,7 @@ ghost use Rattle.aig_core.specs.declared.circuit.Circuit.{Circuit as CircuitReco
 ghost use Rattle.aig_text.specs.Lines.{lines_of};
 ghost use Rattle.aig_text.specs.Rows.{ascii_word};
 ghost use Rattle.aig_text.specs.Outcomes.{GivesOrMemory};
-ghost use Rattle.aig_text.specs.Reading.{IsFirstFault, first_fault, want_of_memory, whole_fault, kind_of};
+ghost use Rattle.aig_text.specs.Reading.{IsFirstFault, first_ascii_fault, want_of_memory, whole_fault, kind_of};
 ghost use Rattle.aig_text.specs.Reading.{circuit_at, empty_circuit};
 ghost use Rattle.aig_text.specs.AsciiGrammar.{IsAsciiText};
 
@@ -60,7 +60,7 @@ pub fn read_ascii(alloc: Global, bytes: &[u8], limits: Limits) -> Result<Checked
     ensures ok { IfOk result (λ c. IsAsciiText bytes.now limits.max_var c) }
     ensures only { (c : CircuitRecord) → IsAsciiText bytes.now limits.max_var c
         → MatchResult result (λ d. d ≡ c) (λ e. e ≡ want_of_memory) }
-    ensures fault { IfErr result (λ e. IsFirstFault e (first_fault limits.max_var bytes.now)) }
+    ensures fault { IfErr result (λ e. IsFirstFault e (first_ascii_fault limits.max_var bytes.now)) }
 {
     let circuit = read_circuit(alloc, bytes, limits)?;
     match check(alloc, circuit) {

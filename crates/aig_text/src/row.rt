@@ -4,7 +4,7 @@ ghost use Rattle.aig_core.specs.declared.circuit.TheConstants.{LARGEST as larges
 ghost use Rattle.aig_text.specs.Lines.{ahead, line as line_of, lines_of};
 ghost use Rattle.aig_text.specs.Rows.{Form, input_form, latch_form, output_form, gate_form, input_of, latch_of};
 ghost use Rattle.aig_text.specs.Rows.{output_of, gate_of};
-ghost use Rattle.aig_text.specs.Outcomes.{AreLiterals, GivesOrFails, row_told};
+ghost use Rattle.aig_text.specs.Outcomes.{AreLiterals, GivesOrFails, row_meant};
 ghost use Rattle.aig_text.specs.Reading.{misdefines, exceeds, any_number, fault_in_row, row_of, row_at};
 
 use crate::fault::{Place, ReadFault, ReadKind};
@@ -82,21 +82,21 @@ pub(crate) trait Row: Copy {
     ghost form: { Form };
 
     /// The entry that the line's numbers mean.
-    ghost told_by: { List ℕ → Self };
+    ghost meant_by: { List ℕ → Self };
 
     /// Reads the next line, if it is right and has short numbers in plain spelling, as most rows do; also what follows
     /// it.
     fn read_short(bytes: &[u8], max_var: u32) -> Option<(Self, &[u8])>
         requires { max_var ≤ largest_index }
         ensures row { (number : ℕ) → IfSome result (λ x.
-            row_told told_by (row_at form max_var (ahead number (lines_of bytes.now)))
+            row_meant meant_by (row_at form max_var (ahead number (lines_of bytes.now)))
             ≡ Ok (x.0, ahead (number + 1) (lines_of x.1.now))) }
         ensures shorter { IfSome result (λ x. length x.1.now < length bytes.now) };
 
     /// Reads the next line, and moves behind it, unless it is not right.
     fn read_row(at: &mut Cursor, max_var: u32) -> Result<Self, ReadFault>
         requires { max_var ≤ largest_index }
-        ensures { GivesOrFails (λ row. (row, at.new)) result (row_told told_by (row_at form max_var at.old)) };
+        ensures { GivesOrFails (λ row. (row, at.new)) result (row_meant meant_by (row_at form max_var at.old)) };
 }
 
 /// Whether a number cannot be the definition that it stands for.
@@ -284,7 +284,7 @@ pub(crate) fn next_row<const N: usize>(
 impl Row for Var {
     ghost form = { input_form };
 
-    ghost told_by = { input_of };
+    ghost meant_by = { input_of };
 
     #[inline(always)]
     fn read_short(bytes: &[u8], max_var: u32) -> Option<(Var, &[u8])> {
@@ -305,7 +305,7 @@ impl Row for Var {
 impl Row for Latch {
     ghost form = { latch_form };
 
-    ghost told_by = { latch_of };
+    ghost meant_by = { latch_of };
 
     #[inline(always)]
     fn read_short(bytes: &[u8], max_var: u32) -> Option<(Latch, &[u8])> {
@@ -336,7 +336,7 @@ impl Row for Latch {
 impl Row for Lit {
     ghost form = { output_form };
 
-    ghost told_by = { output_of };
+    ghost meant_by = { output_of };
 
     #[inline(always)]
     fn read_short(bytes: &[u8], max_var: u32) -> Option<(Lit, &[u8])> {
@@ -356,7 +356,7 @@ impl Row for Lit {
 impl Row for Gate {
     ghost form = { gate_form };
 
-    ghost told_by = { gate_of };
+    ghost meant_by = { gate_of };
 
     #[inline(always)]
     fn read_short(bytes: &[u8], max_var: u32) -> Option<(Gate, &[u8])> {

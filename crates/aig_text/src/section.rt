@@ -2,7 +2,7 @@
 ghost use Rattle.std.specs.Prelude.{◌≡◌, ◌≤◌, OnErr};
 ghost use Rattle.aig_core.specs.declared.circuit.TheConstants.{LARGEST as largest_index};
 ghost use Rattle.aig_text.specs.Rows.{in_ascii, sections};
-ghost use Rattle.aig_text.specs.Outcomes.{GivesOrMemory, rows_told};
+ghost use Rattle.aig_text.specs.Outcomes.{GivesOrMemory, rows_meant};
 ghost use Rattle.aig_text.specs.Reading.{rows_at, section_at, sections_at};
 
 use crate::fault::ReadFault;
@@ -42,7 +42,7 @@ pub(crate) fn read_rows<T: Row>(
 ) -> Result<(), ReadFault>
     requires { max_var ≤ largest_index }
     ensures rows { GivesOrMemory (λ _. (found.new, at.new)) result
-        (rows_told T.told_by found.old (rows_at T.form max_var count at.old)) }
+        (rows_meant T.meant_by found.old (rows_at T.form max_var count at.old)) }
     ensures err { OnErr result (at.new ≡ at.old) }
 {
     // Out of the cursor, so that both can stay in registers; only where a row is read slowly, one is lent.

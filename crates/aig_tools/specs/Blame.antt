@@ -25,7 +25,7 @@ abbrev pub map_blamed : MapFault → Party
 map_blamed map_faults.OutOfMemory = Memory
 map_blamed _ = TheInput
 
--- want of memory while a text or a map is judged is told as a fault of it
+-- want of memory while a text or a map is judged is reported as a fault of it
 abbrev pub at_fault : ToolFault → Party
 at_fault (Read fault) = blamed fault.kind
 at_fault (Map fault) = map_blamed fault
@@ -33,12 +33,12 @@ at_fault Source = TheSource
 at_fault Sink = TheSink
 at_fault OutOfMemory = Memory
 
--- what is wrong with a text, where that is what is told
+-- what is wrong with a text, where that is what is reported
 abbrev pub text_fault : ToolFault → Option ReadFault
 text_fault (Read fault) = Some fault
 text_fault _ = None
 
--- what is wrong with a map, where that is what is told
+-- what is wrong with a map, where that is what is reported
 abbrev pub map_fault : ToolFault → Option MapFault
 map_fault (Map fault) = Some fault
 map_fault _ = None

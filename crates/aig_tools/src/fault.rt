@@ -74,7 +74,7 @@ impl From<ReadError> for ToolFault {
 }
 
 impl From<aig_core::OutOfMemory> for ToolFault {
-    ghost from_gives = { λ _ told. told ≡ OutOfMemory };
+    ghost from_gives = { λ _ error. error ≡ OutOfMemory };
 
     fn from(_refused: aig_core::OutOfMemory) -> ToolFault {
         ToolFault::OutOfMemory
@@ -82,7 +82,7 @@ impl From<aig_core::OutOfMemory> for ToolFault {
 }
 
 impl From<ReadFault> for ToolFault {
-    ghost from_gives = { λ fault told. told ≡ Read fault };
+    ghost from_gives = { λ fault error. error ≡ Read fault };
 
     fn from(fault: ReadFault) -> ToolFault {
         ToolFault::Read(fault)
@@ -90,7 +90,7 @@ impl From<ReadFault> for ToolFault {
 }
 
 impl From<MapFault> for ToolFault {
-    ghost from_gives = { λ fault told. told ≡ Map fault };
+    ghost from_gives = { λ fault error. error ≡ Map fault };
 
     fn from(fault: MapFault) -> ToolFault {
         ToolFault::Map(fault)
@@ -98,7 +98,7 @@ impl From<MapFault> for ToolFault {
 }
 
 impl From<WriteFault> for ToolFault {
-    ghost from_gives = { λ _ told. told ≡ Sink };
+    ghost from_gives = { λ _ error. error ≡ Sink };
 
     fn from(_fault: WriteFault) -> ToolFault {
         ToolFault::Sink

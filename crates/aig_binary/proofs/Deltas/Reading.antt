@@ -109,12 +109,12 @@ pub answers : (bytes : List ℕ) (r : Option (ℕ × ℕ)) → Gives (λ x. (x.0
 answers bytes r h within value count =
     (answers_front bytes r h within value count, front_answers bytes r h within value count)
 
--- what is told of a number where it is below 2^32 alone
-pub told : (bytes : List ℕ) (value n count : ℕ) (r : Option (ℕ × ℕ)) → n ≡ value
+-- what is found of a number where it is below 2^32 alone
+pub found : (bytes : List ℕ) (value n count : ℕ) (r : Option (ℕ × ℕ)) → n ≡ value
     → groups_at 5 bytes ≡ Some (value, drop count bytes)
     → (n < 2 ^ 32 → r ≡ Some (n, count)) → (2 ^ 32 ≤ n → r ≡ None) → count ≤ length bytes
     → Gives (λ x. (x.0, drop x.1 bytes)) r (delta_at bytes) × IfSome r (λ x. x.1 ≤ length bytes)
-told bytes value n count r e h small large within = elim (cases_lt n (2 ^ 32)) [
+found bytes value n count r e h small large within = elim (cases_lt n (2 ^ 32)) [
   | inl low ↦ rw (small low)
   (delta_small bytes (drop count bytes) n (h ∙ ap (λ (v : ℕ). Some (v, drop count bytes)) (sym e)) low, within)
   | inr high ↦ rw (large high) (delta_large bytes (drop count bytes) value h (rw (← e) high), tt)

@@ -20,7 +20,7 @@ use Rattle.aig_binary.specs.BinaryGrammar.{binary_word, binary_rows_of, SpellsGa
 use Rattle.aig_binary.specs.BinaryReading.{binary_at, binary_reading}
 use Rattle.aig_core.proofs.Numbered.WellOrdered.{HasLiteralsUpTo, well_formed}
 use Rattle.aig_binary.proofs.Grammar.Numbered.{numbered_circuit, rows_are, literals_are, counts_are, order_is}
-use Rattle.aig_binary.proofs.Grammar.Told.{TellsBinary, binary_told}
+use Rattle.aig_binary.proofs.Grammar.Found.{TellsBinary, binary_found}
 
 -- what the tail adds changes no order
 order_kept : (c : Circuit) (ss : List Symbol) (comment : Option (List ℕ)) → IsInBinaryOrder c
@@ -70,9 +70,9 @@ module _ (limit : ℕ) (ls : List Line) (c : Circuit) (t : TellsBinary limit ls 
       t.numbers.spelled
 
 -- a text whose lines tell a circuit is its file
-told_is_accepted : (limit : ℕ) (text : List ℕ) (c : Circuit) → TellsBinary limit (lines_of text) c
+found_is_accepted : (limit : ℕ) (text : List ℕ) (c : Circuit) → TellsBinary limit (lines_of text) c
     → IsBinaryText text limit c
-told_is_accepted limit text c t =
+found_is_accepted limit text c t =
     let ls : List Line = lines_of text in
     let cut : ls ≡ front limit ls c t ++ t.numbers.last = lines limit ls c t in
     let one : AllByRecursion IsOneLine (front limit ls c t ++ t.numbers.last) =
@@ -107,12 +107,12 @@ told_is_accepted limit text c t =
 
 -- what is read as a binary file is in binary order, and well formed
 pub read_is_ordered : (limit : ℕ) (ls : List Line) (c : Circuit) → binary_at limit ls ≡ Ok c → IsInBinaryOrder c
-read_is_ordered limit ls c is = ordered limit ls c (binary_told limit ls c is)
+read_is_ordered limit ls c is = ordered limit ls c (binary_found limit ls c is)
 
 pub read_is_well_formed : (limit : ℕ) (ls : List Line) (c : Circuit) → binary_at limit ls ≡ Ok c → IsWellFormed c
-read_is_well_formed limit ls c is = sound limit ls c (binary_told limit ls c is)
+read_is_well_formed limit ls c is = sound limit ls c (binary_found limit ls c is)
 
 -- a text that is read is the file of the circuit
 pub reading_is_accepted : (limit : ℕ) (text : List ℕ) (c : Circuit) → binary_reading limit text ≡ Ok c
     → IsBinaryText text limit c
-reading_is_accepted limit text c is = told_is_accepted limit text c (binary_told limit (lines_of text) c is)
+reading_is_accepted limit text c is = found_is_accepted limit text c (binary_found limit (lines_of text) c is)

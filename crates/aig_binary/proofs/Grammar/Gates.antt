@@ -47,10 +47,10 @@ lowered_is : (from least : ℕ) (bytes : List ℕ) (p : ℕ × List ℕ) → low
 unfolding lowered_at
 lowered_is from least bytes p h = lowered_by from least bytes (delta_at bytes) p refl h
 
-lowered_told : (from least low : ℕ) (d rest : List ℕ) → IsDelta d (from - low) → low + least ≤ from
+lowered_found : (from least low : ℕ) (d rest : List ℕ) → IsDelta d (from - low) → low + least ≤ from
     → lowered_at from least (d ++ rest) ≡ Ok (low, rest)
 unfolding lowered_at
-lowered_told from least low d rest delta below =
+lowered_found from least low d rest delta below =
     let enough : ltb (from - low) least ≡ false = le-ltb (from - low) least (omega arith) in
     let within : ltb from (from - low) ≡ false = le-ltb from (from - low) (omega arith) in
     let back : from - (from - low) ≡ low = omega arith in
@@ -101,14 +101,14 @@ gate_is variable bytes p h =
     (two_lowered variable a.0.0 b.0.0 bytes a.0.1 b.0.1 (lowered_is (literal_of variable) 1 bytes a.0 a.1)
     (lowered_is a.0.0 0 a.0.1 b.0 b.1))
 
-gate_told : (g : Gate) (bytes rest : List ℕ) → SpellsGate bytes g → g.left < literal_of g.var → g.right ≤ g.left
+gate_found : (g : Gate) (bytes rest : List ℕ) → SpellsGate bytes g → g.left < literal_of g.var → g.right ≤ g.left
     → gate_at g.var (bytes ++ rest) ≡ Ok (g, rest)
 unfolding gate_at
-gate_told g bytes rest s left right =
+gate_found g bytes rest s left right =
     let cut : bytes ++ rest ≡ s.first ++ (s.second ++ rest) = ap (λ (t : List ℕ). t ++ rest) s.are
     ∙ append_assoc s.first s.second rest in
-    rw (cut, lowered_told (literal_of g.var) 1 g.left s.first (s.second ++ rest) s.left
-    (omega arith), lowered_told g.left 0 g.right s.second rest s.right (omega arith)) refl
+    rw (cut, lowered_found (literal_of g.var) 1 g.left s.first (s.second ++ rest) s.left
+    (omega arith), lowered_found g.left 0 g.right s.second rest s.right (omega arith)) refl
 
 -- so many gates, one after the other
 pub record AreGates (variable count : ℕ) (bytes : List ℕ) (gs : List Gate) (rest : List ℕ) : Type 0 where
@@ -158,13 +158,13 @@ gates_are variable n (suc count) bytes p h =
     (gates_are (suc variable) (suc n) count a.0.1 b.0 b.1))
 
 -- and gates that are spelled in order are read
-pub gates_told : (variable n : ℕ) (bytes rest : List ℕ) (gs : List Gate) → SpellsGates bytes gs
+pub gates_found : (variable n : ℕ) (bytes rest : List ℕ) (gs : List Gate) → SpellsGates bytes gs
     → AreOrderedGates variable gs → gates_at variable n (length gs) (bytes ++ rest) ≡ Ok (gs, rest)
 unfolding gates_at
-gates_told variable n bytes rest [] s o = ap (λ (t : List ℕ). Ok ([], t ++ rest)) s
-gates_told variable n bytes rest (g ∷ gs) s o =
+gates_found variable n bytes rest [] s o = ap (λ (t : List ℕ). Ok ([], t ++ rest)) s
+gates_found variable n bytes rest (g ∷ gs) s o =
     let cut : bytes ++ rest ≡ s.0 ++ (s.1 ++ rest) = ap (λ (t : List ℕ). t ++ rest) s.2 ∙ append_assoc s.0 s.1 rest in
     let first : gate_at variable (s.0 ++ (s.1 ++ rest)) ≡ Ok (g, s.1 ++ rest) =
     subst (λ v. gate_at v (s.0 ++ (s.1 ++ rest)) ≡ Ok (g, s.1 ++ rest)) o.0
-    (gate_told g s.0 (s.1 ++ rest) s.3 o.1 o.2) in
-    rw (cut, first, gates_told (suc variable) (suc n) s.1 rest gs s.4 o.3) refl
+    (gate_found g s.0 (s.1 ++ rest) s.3 o.1 o.2) in
+    rw (cut, first, gates_found (suc variable) (suc n) s.1 rest gs s.4 o.3) refl

@@ -17,14 +17,14 @@ use Rattle.aig_text.specs.Rows.{output_form, output_row, output_of, latches_from
 use Rattle.aig_text.specs.Reading.{header_of, sections_at, empty_circuit, tail_at}
 use Rattle.aig_text.proofs.Loops.Cutting.{pieces}
 use Rattle.aig_text.proofs.Grammar.Entries.{IsGoodRow, IsLiteralUpTo, output_entry, all_again, all_mapped}
-use Rattle.aig_text.proofs.Grammar.Headers.{own_header, header_is_told}
+use Rattle.aig_text.proofs.Grammar.Headers.{own_header, header_is_found}
 use Rattle.aig_text.proofs.Grammar.Pieces.{lines_joined}
-use Rattle.aig_text.proofs.Grammar.Sections.{AllFit, sections_are_told, bare}
+use Rattle.aig_text.proofs.Grammar.Sections.{AllFit, sections_are_found, bare}
 use Rattle.aig_text.proofs.Grammar.WholeTail.{left_of, right_of, own_tail}
 use Rattle.aig_core.specs.BinaryOrder.{IsInBinaryOrder}
 use Rattle.aig_binary.specs.BinaryGrammar.{binary_word, EndsBefore, IsBinaryText}
 use Rattle.aig_binary.specs.BinaryReading.{filled, gates_at, with_definitions, binary_at, binary_reading}
-use Rattle.aig_binary.proofs.Grammar.Gates.{gates_told}
+use Rattle.aig_binary.proofs.Grammar.Gates.{gates_found}
 use Rattle.aig_binary.proofs.Grammar.Numbered.{own_rows, with_lines, numbered_circuit, next_row, latches_again}
 
 -- the rows of the numbered lines
@@ -120,7 +120,7 @@ module _ (text : List ℕ) (limit : ℕ) (c : Circuit) (a : IsBinaryText text li
   pub accepted_is_read : binary_reading limit text ≡ Ok c
   accepted_is_read =
       let s =
-      sections_are_told in_binary (own_header c) sections (own_rows (next_rows c) (output_rows c))
+      sections_are_found in_binary (own_header c) sections (own_rows (next_rows c) (output_rows c))
       (empty_circuit c.max_var) 2 a.numbered behind a.are_rows
       (rows_fit c form) in
       let t =
@@ -129,7 +129,7 @@ module _ (text : List ℕ) (limit : ℕ) (c : Circuit) (a : IsBinaryText text li
       ap (binary_at limit) lines
       ∙ steps limit s.0 a.header (a.numbered ++ behind) behind (a.gates ++ a.rest) a.rest c
       (with_lines (own_header c) (next_rows c) (output_rows c))
-      (header_is_told binary_word limit a.header c
+      (header_is_found binary_word limit a.header c
       (refl, (refl, (refl, tt))) a.is_header a.limited a.well_formed.limits fits)
       (own_filled c a.ordered) s.1 (pieces (a.gates ++ a.rest)).joined
-      (gates_told (1 + length c.inputs + length c.latches) 1 a.gates a.rest c.gates a.are_gates a.ordered.gates) t
+      (gates_found (1 + length c.inputs + length c.latches) 1 a.gates a.rest c.gates a.are_gates a.ordered.gates) t

@@ -16,7 +16,7 @@ use Rattle.aig_core.specs.Wellformed.{IsAmong, AreDistinct, IsKnown, HasRank, Is
 use Rattle.aig_core.specs.Form.{IsInForm}
 use Rattle.aig_core.specs.declared.fault.CheckFault.TheVariants.{OutOfMemory, Redefined, Undefined, Cyclic}
 use Rattle.aig_core.specs.Fault.{IsFault, first_repeat, first_redefinition, first_unknown}
-use Rattle.aig_core.specs.Fault.{with_all, is_known, first_fault}
+use Rattle.aig_core.specs.Fault.{with_all, is_known, first_structural_fault}
 use Rattle.std.specs.Option.{option_map, option_or}
 use Rattle.aig_core.specs.Order.{first_cyclic}
 use Rattle.aig_core.proofs.Ordering.LeastReady.{a_least_ready_order}
@@ -159,7 +159,7 @@ ranked_where_none_cyclic c once none =
     (rank_exactly_where_all_are_ordered c order.0 once order.1).1 (all_listed_where_none c.gates order.0 order.1.full order.1.in_turn none)
 
 -- a circuit in form without a fault is well formed
-pub well_formed : (c : Circuit) → IsInForm c → first_fault c ≡ None → IsWellFormed c
+pub well_formed : (c : Circuit) → IsInForm c → first_structural_fault c ≡ None → IsWellFormed c
 well_formed c form h =
     let n = nothing_told (first_repeat set.empty (defined_variables c)) (first_unknown (with_all set.empty (defined_variables c)) (used_literals c)) (first_cyclic c.gates) h in
     let once : AreDistinct (defined_variables c) = distinct set.empty (defined_variables c) n.0 in
@@ -173,7 +173,7 @@ well_formed c form h =
     }
 
 -- a well-formed circuit has no fault
-pub faultless : (c : Circuit) → IsWellFormed c → first_fault c ≡ None
+pub faultless : (c : Circuit) → IsWellFormed c → first_structural_fault c ≡ None
 faultless c w =
     let once : first_repeat set.empty (defined_variables c) ≡ None = nothing_repeats set.empty (defined_variables c) w.once (λ y _ h. none_in_empty y h) in
     let known : first_unknown (with_all set.empty (defined_variables c)) (used_literals c) ≡ None = none_unknown (defined_variables c) (used_literals c) w.known in
@@ -181,9 +181,9 @@ faultless c w =
     let acyclic : first_cyclic c.gates ≡ None = none_cyclic c.gates order.0 order.1.full order.1.in_turn ((rank_exactly_where_all_are_ordered c order.0 w.once order.1).0 w.ranked) in
     rw (once, known, acyclic) refl
 
-pub faultless_is_well_formed : (c : Circuit) → IsInForm c → (first_fault c ≡ None) ↔ IsWellFormed c
+pub faultless_is_well_formed : (c : Circuit) → IsInForm c → (first_structural_fault c ≡ None) ↔ IsWellFormed c
 faultless_is_well_formed c form = (well_formed c form, faultless c)
 
 -- a well-formed circuit is told nothing but want of memory
-pub refuted : (e : CheckFault) (c : Circuit) → IsWellFormed c → e ≢ OutOfMemory → IsFault e (first_fault c) → ⊥
+pub refuted : (e : CheckFault) (c : Circuit) → IsWellFormed c → e ≢ OutOfMemory → IsFault e (first_structural_fault c) → ⊥
 refuted e c good ne h = told_of_none e ne (subst (IsFault e) (faultless c good) h)

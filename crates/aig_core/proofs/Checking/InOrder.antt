@@ -14,7 +14,7 @@ use Rattle.aig_core.specs.Literal.{variable_of}
 use Rattle.aig_core.specs.Wellformed.{IsAmong, IsVariableUpTo, operands, defined_variables, used_literals}
 use Rattle.aig_core.specs.Form.{IsInForm}
 use Rattle.aig_core.specs.Order.{gate_operands, ends_within, depends_on_cycle, first_cyclic}
-use Rattle.aig_core.specs.Fault.{first_repeat, first_unknown, first_fault, with_all, is_known}
+use Rattle.aig_core.specs.Fault.{first_repeat, first_unknown, first_structural_fault, with_all, is_known}
 use Rattle.aig_core.specs.Parts.InOrder.{are_in_order, has_gates_in_order}
 use Rattle.aig_core.proofs.Checking.Fitting.{each}
 use Rattle.aig_core.proofs.Checking.Faultless.{no_repeat, apart, kept}
@@ -128,7 +128,7 @@ module _ (c : Circuit) (once : first_repeat set.empty (defined_variables c) ≡ 
       ∙ operands_known (with_all set.empty before) c.gates in_order
 
   -- where next literals and outputs are known too, there is no fault
-  pub in_order_faultless : IsInForm c → first_unknown (with_all set.empty (defined_variables c)) (map (λ (l : Latch). l.next) c.latches ++ c.outputs) ≡ None → first_fault c ≡ None
+  pub in_order_faultless : IsInForm c → first_unknown (with_all set.empty (defined_variables c)) (map (λ (l : Latch). l.next) c.latches ++ c.outputs) ≡ None → first_structural_fault c ≡ None
   in_order_faultless form ends =
       let s : FinSet nat_cmp = with_all set.empty (defined_variables c) in
       let known : first_unknown s (used_literals c) ≡ None = unknown_append s (map (λ (l : Latch). l.next) c.latches ++ c.outputs) (flat_map operands c.gates) ∙ rw (ends, gates_known) refl in

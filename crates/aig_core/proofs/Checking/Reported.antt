@@ -16,7 +16,7 @@ use Rattle.aig_core.specs.declared.circuit.Gate.{Gate}
 use Rattle.aig_core.specs.declared.fault.CheckFault.{CheckFault}
 use Rattle.aig_core.specs.declared.fault.CheckFault.TheVariants.{Redefined, Undefined, Cyclic}
 use Rattle.aig_core.specs.Wellformed.{IsAmong, AreDistinct, IsKnown, HasRank, defined_variables, used_literals}
-use Rattle.aig_core.specs.Fault.{first_repeat, first_unknown, with_all, is_known, first_fault}
+use Rattle.aig_core.specs.Fault.{first_repeat, first_unknown, with_all, is_known, first_structural_fault}
 use Rattle.aig_core.specs.Order.{gate_operands, TakesLeast, IsFull, IsLeastReadyOrder, depends_on_cycle, first_cyclic}
 use Rattle.aig_core.specs.Laws.{IsFirstRepeat, IsFirstUnknown, IsFirstLeftOut, IsFullyDefined}
 use Rattle.aig_core.proofs.Checking.Sections.{repeat_append, unknown_append}
@@ -238,13 +238,13 @@ module _ (c : Circuit) where
   abbrev unknown : Option ℕ
   unknown = first_unknown (with_all set.empty (defined_variables c)) (used_literals c)
 
-  pub redefined_exactly : (v : ℕ) → (first_fault c ≡ Some (Redefined v)) ↔ IsFirstRepeat (defined_variables c) v
+  pub redefined_exactly : (v : ℕ) → (first_structural_fault c ≡ Some (Redefined v)) ↔ IsFirstRepeat (defined_variables c) v
   redefined_exactly v = (
     λ h. (repeats_are_found (defined_variables c) v).0 (is_redefined repeat unknown (first_cyclic c.gates) v h),
     λ f. ap (λ o. reported o unknown (first_cyclic c.gates)) ((repeats_are_found (defined_variables c) v).1 f),
   )
 
-  pub undefined_exactly : (l : ℕ) → (first_fault c ≡ Some (Undefined l))
+  pub undefined_exactly : (l : ℕ) → (first_structural_fault c ≡ Some (Undefined l))
       ↔ (AreDistinct (defined_variables c) × IsFirstUnknown (defined_variables c) (used_literals c) l)
   undefined_exactly l = (
     λ h. let is = is_undefined repeat unknown (first_cyclic c.gates) l h in (
@@ -258,7 +258,7 @@ module _ (c : Circuit) where
   )
 
   -- where there is neither of the other two
-  cyclic_where : (l : ℕ) → (first_fault c ≡ Some (Cyclic l)) ↔ (IsFullyDefined c × (first_cyclic c.gates ≡ Some l))
+  cyclic_where : (l : ℕ) → (first_structural_fault c ≡ Some (Cyclic l)) ↔ (IsFullyDefined c × (first_cyclic c.gates ≡ Some l))
   cyclic_where l = (
     λ h. let is = is_cyclic repeat unknown (first_cyclic c.gates) l h in (
       (
@@ -274,7 +274,7 @@ module _ (c : Circuit) where
   )
 
   pub cyclic_exactly : (list : List ℕ) (l : ℕ) → IsLeastReadyOrder c list
-      → (first_fault c ≡ Some (Cyclic l)) ↔ (IsFullyDefined c × IsFirstLeftOut c.gates list l)
+      → (first_structural_fault c ≡ Some (Cyclic l)) ↔ (IsFullyDefined c × IsFirstLeftOut c.gates list l)
   cyclic_exactly list l order = (
     λ h. let is = (cyclic_where l).0 h in
         (is.0, left_out_where_cyclic c.gates list order.full order.in_turn l is.1),
@@ -289,11 +289,11 @@ module _ (c : Circuit) where
       let both : None ≡ Some l = sym none ∙ some in cc
 
   pub cycle_exactly_where_no_rank :
-      ((l : ℕ) × (first_fault c ≡ Some (Cyclic l))) ↔ (IsFullyDefined c × (¬ HasRank c.gates))
+      ((l : ℕ) × (first_structural_fault c ≡ Some (Cyclic l))) ↔ (IsFullyDefined c × (¬ HasRank c.gates))
   cycle_exactly_where_no_rank = (
     λ h. let is = (cyclic_where h.0).0 h.1 in (is.0, no_rank is.0.0 h.0 is.1),
     λ f.
-        elim (first_cyclic c.gates) as (λ o. first_cyclic c.gates ≡ o → (l : ℕ) × (first_fault c ≡ Some (Cyclic l))) [
+        elim (first_cyclic c.gates) as (λ o. first_cyclic c.gates ≡ o → (l : ℕ) × (first_structural_fault c ≡ Some (Cyclic l))) [
           | None ↦ λ none. absurd (f.1 (ranked_where_none_cyclic c f.0.0 none))
           | Some l ↦ λ some. (l, (cyclic_where l).1 (f.0, some))
         ] refl,

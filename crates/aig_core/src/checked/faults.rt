@@ -5,7 +5,7 @@ ghost use Rattle.std.specs.List.{flat_map};
 ghost use Rattle.std.specs.Option.{option_map, option_to_list, IfSome};
 ghost use Rattle.std.specs.FinSet as set;
 ghost use Rattle.aig_core.specs.Wellformed.{defined_variables, used_literals};
-ghost use Rattle.aig_core.specs.Fault.{first_fault, first_repeat, first_redefinition, first_unknown, with_all};
+ghost use Rattle.aig_core.specs.Fault.{first_structural_fault, first_repeat, first_redefinition, first_unknown, with_all};
 ghost use Rattle.aig_core.specs.Fault.{is_known, IsFault};
 ghost use Rattle.aig_core.specs.Form.{IsInForm};
 ghost use Rattle.aig_core.specs.Order.{first_cyclic, IsLeastReadyOrder};
@@ -203,9 +203,9 @@ fn order_of_all(alloc: Global, circuit: &Circuit) -> Result<Order, CheckFault>
 /// The first fault of a circuit. Where there is none, the order of its gates, where it had to be made.
 pub(crate) fn find_fault(alloc: Global, circuit: &Circuit) -> Result<Option<Order>, CheckFault>
     requires { IsInForm circuit.now }
-    ensures ok { OnOk result (first_fault circuit.now ≡ None) }
+    ensures ok { OnOk result (first_structural_fault circuit.now ≡ None) }
     ensures least { IfOk result (λ some. IfSome some (λ order. IsLeastReadyOrder circuit.now order.list)) }
-    ensures err { IfErr result (λ e. IsFault e (first_fault circuit.now)) }
+    ensures err { IfErr result (λ e. IsFault e (first_structural_fault circuit.now)) }
 {
     let (variables, in_order) = definitions(alloc, circuit)?;
     if in_order && first_undefined_end(&variables, circuit).is_none() {

@@ -20,7 +20,7 @@ use Rattle.aig_order.specs.MapBlock.{one_if}
 use Rattle.aig_order.specs.MapSpelling.{after_text, number_at, last_number_at, first_line_at}
 use Rattle.aig_order.specs.MapReading.{counts_match, counted_line}
 use Rattle.aig_order.proofs.BlockReading.Lines.{line, number_is_read, last_is_read, number_reads, last_reads}
-use Rattle.aig_order.proofs.BlockReading.Lines.{one_if_told, one_if_small, bit_told, at_most}
+use Rattle.aig_order.proofs.BlockReading.Lines.{one_if_recorded, one_if_small, bit_recorded, at_most}
 use Rattle.aig_order.proofs.BlockReading.Entries.{there}
 
 -- a text is read where it stands, and where it is read it stands there
@@ -66,7 +66,7 @@ first_is_read f rest few fits =
       number_is_read f.gates flag [] rest (omega arith),
       last_is_read flag rest (omega (arith, bit)),
       (line_test 1 f.max_var flag).1 (refl, (few, bit)),
-      one_if_told f.has_comment,
+      one_if_recorded f.has_comment,
     ) refl
 
 -- a first line stands there, if it fits
@@ -104,7 +104,7 @@ first_reads bytes r h =
     let version : bytes ≡ line (v.0.0 ∷ m.0.0 ∷ i.0.0 ∷ l.0.0 ∷ a.0.0 ∷ e.0.0 ∷ []) rest =
     number_reads v.0.0 m.0.0 (i.0.0 ∷ l.0.0 ∷ a.0.0 ∷ e.0.0 ∷ []) bytes v.0.1 rest (omega (arith, good.0)) v.1
     max_var in
-    version ∙ (λ j. line (good.0 j ∷ m.0.0 ∷ i.0.0 ∷ l.0.0 ∷ a.0.0 ∷ sym (bit_told e.0.0 bit) j ∷ []) rest) in
+    version ∙ (λ j. line (good.0 j ∷ m.0.0 ∷ i.0.0 ∷ l.0.0 ∷ a.0.0 ∷ sym (bit_recorded e.0.0 bit) j ∷ []) rest) in
     subst (IsFirstAt bytes) t.1 (few, stands)
 
 -- the first line stands at the front of the comment, fits, and counts what the circuit has

@@ -20,7 +20,7 @@ use Rattle.aig_order.specs.MapSpelling.{number_at, last_number_at, is_variable, 
 abbrev pub line : List ℕ → List ℕ → List ℕ
 line ns rest = numbers_text ns ++ rest
 
--- numbers that are told apart from others
+-- numbers that are recorded apart from others
 abbrev IsSmall : ℕ → Type 0
 IsSmall n = n < 2 ^ 33
 
@@ -48,18 +48,18 @@ last_reads n bytes rest small h =
     canonical_reads n 10 bytes rest small h ∙ sym (append_assoc (decimal n) (10 ∷ []) rest)
 
 -- the number of a flag, and back
-pub one_if_told : (t : Bool) → eqb (one_if t) 1 ≡ t
-one_if_told true = refl
-one_if_told false = refl
+pub one_if_recorded : (t : Bool) → eqb (one_if t) 1 ≡ t
+one_if_recorded true = refl
+one_if_recorded false = refl
 
 pub one_if_small : (t : Bool) → one_if t ≤ 1
 one_if_small true = omega arith
 one_if_small false = omega arith
 
-pub bit_told : (n : ℕ) → n ≤ 1 → one_if (eqb n 1) ≡ n
-bit_told zero low = refl
-bit_told (suc zero) low = refl
-bit_told (suc (suc n)) low = absurd (omega arith)
+pub bit_recorded : (n : ℕ) → n ≤ 1 → one_if (eqb n 1) ≡ n
+bit_recorded zero low = refl
+bit_recorded (suc zero) low = refl
+bit_recorded (suc (suc n)) low = absurd (omega arith)
 
 -- a line that tells x, which is good, and what follows it
 abbrev pub IsLineOf : {T : Type 0} → (T → List ℕ) → (T → Type 0) → List ℕ → T × List ℕ → Type 0
@@ -121,7 +121,7 @@ module _ (m : ℕ) (few : m ≤ LARGEST) where
           number_is_read g.place flag [] rest (omega (arith, good.1, fit)),
           last_is_read flag rest (omega (arith, bit)),
           (gate_test m count g.var g.place flag).1 (good.0, (good.1, bit)),
-          one_if_told g.exchanged,
+          one_if_recorded g.exchanged,
         ) refl
 
     gate_reads : (bytes : List ℕ) (x : MappedGate × List ℕ) → gate_at m count bytes ≡ Some x
@@ -142,7 +142,7 @@ module _ (m : ℕ) (few : m ≤ LARGEST) where
         let text : bytes ≡ line (a.0.0 ∷ b.0.0 ∷ d.0.0 ∷ []) d.0.1 =
         number_reads a.0.0 b.0.0 (d.0.0 ∷ []) bytes a.0.1 d.0.1 (omega (arith, good.0.1, few)) a.1 place in
         let flag : line (a.0.0 ∷ b.0.0 ∷ d.0.0 ∷ []) d.0.1 ≡ line (a.0.0 ∷ b.0.0 ∷ one_if (d.0.0 == 1) ∷ []) d.0.1 =
-        λ j. line (a.0.0 ∷ b.0.0 ∷ sym (bit_told d.0.0 bit) j ∷ []) d.0.1 in
+        λ j. line (a.0.0 ∷ b.0.0 ∷ sym (bit_recorded d.0.0 bit) j ∷ []) d.0.1 in
         subst (IsLineOf gate_row IsGoodGate bytes) t.1 ((good.0, low), text ∙ flag)
 
     -- the lines of gates

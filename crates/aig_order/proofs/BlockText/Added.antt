@@ -14,7 +14,7 @@ use Rattle.aig_text.proofs.Written.{more_text}
 use Rattle.aig_order.specs.declared.map_block.MappedGate.{MappedGate}
 use Rattle.aig_order.specs.MapBlock.{one_if, first_row, variable_row, gate_row, rows_of, map_word, last_line}
 use Rattle.aig_order.specs.MapBlock.{block_by, block_text, mapped_gate}
-use Rattle.aig_order.specs.Parts.Told.{counted_row}
+use Rattle.aig_order.specs.Parts.Recorded.{counted_row}
 
 -- the texts of the first items, and of one more
 pub added_more : {X : Type 0} (f : X → List ℕ) (before : List ℕ) (xs : List X) (i : ℕ) (d x : X) (now after : List ℕ)
@@ -52,8 +52,8 @@ module _ (number : ℕ → ℕ) (c : Circuit) where
   abbrev latch_variables : List ℕ
   latch_variables = map (λ (l : Latch). l.var) c.latches
 
-  abbrev told_gates : List MappedGate
-  told_gates = map (mapped_gate number first_gate) c.gates
+  abbrev recorded_gates : List MappedGate
+  recorded_gates = map (mapped_gate number first_gate) c.gates
 
   -- the numbers of the first line
   first_is : counted_row c ≡ first_row (block_by number c)
@@ -70,9 +70,9 @@ module _ (number : ℕ → ℕ) (c : Circuit) where
       flat_map-map numbers_text variable_row latch_variables
       ∙ flat_map-map of_variable (λ (l : Latch). l.var) c.latches
 
-  gates_text : flat_map numbers_text (map gate_row told_gates) ≡ flat_map (of_gate first_gate) c.gates
+  gates_text : flat_map numbers_text (map gate_row recorded_gates) ≡ flat_map (of_gate first_gate) c.gates
   gates_text =
-      flat_map-map numbers_text gate_row told_gates
+      flat_map-map numbers_text gate_row recorded_gates
       ∙ flat_map-map (λ x. numbers_text (gate_row x)) (mapped_gate number first_gate) c.gates
 
   -- the lines between the first and the last
@@ -81,7 +81,7 @@ module _ (number : ℕ → ℕ) (c : Circuit) where
   rows_text =
       let inputs : List (List ℕ) = map variable_row c.inputs in
       let latches : List (List ℕ) = map variable_row latch_variables in
-      sym (flat_map-append numbers_text (inputs ++ latches) (map gate_row told_gates)
+      sym (flat_map-append numbers_text (inputs ++ latches) (map gate_row recorded_gates)
       ∙ ap₂ (λ (a b : List ℕ). a ++ b)
       (flat_map-append numbers_text inputs latches ∙ ap₂ (λ (a b : List ℕ). a ++ b) inputs_text latches_text)
       gates_text)

@@ -1,5 +1,5 @@
--- A circuit that is undone by the block that was read has its mapped image again exactly where the places told are its
--- least ready order, no gate with equal operands is told as exchanged, and the block tells of a comment section where a
+-- A circuit that is undone by the block that was read has its mapped image again exactly where the places recorded are its
+-- least ready order, no gate with equal operands is recorded as exchanged, and the block tells of a comment section where a
 -- comment follows.
 use Rattle.std.proofs.Common.{◌≡◌, ◌↔◌, ℕ, List, Ok, sym}
 use Rattle.aig_core.specs.declared.circuit.Circuit.{Circuit}
@@ -11,15 +11,15 @@ use Rattle.aig_order.specs.MapBlock.{IsMappedImage}
 use Rattle.aig_order.specs.MapReading.{block_reading}
 use Rattle.aig_order.specs.Parts.Confirmed.{TellsExchanges, TellsComment}
 use Rattle.aig_order.specs.Parts.Turns.{positions}
-use Rattle.aig_order.specs.Undone.{undone, comment_behind, places_told}
+use Rattle.aig_order.specs.Undone.{undone, comment_behind, places_recorded}
 use Rattle.aig_order.proofs.BlockReading.Block.{read_is_within, read_is_text}
-use Rattle.aig_order.proofs.Confirming.OrderTold.{order_told}
+use Rattle.aig_order.proofs.Confirming.OrderRecorded.{order_recorded}
 use Rattle.aig_order.proofs.Restoring.Again.{image_again}
 use Rattle.aig_order.proofs.Restoring.Places.{IsFit}
-use Rattle.aig_order.proofs.Confirming.ToldRight.{told_right}
+use Rattle.aig_order.proofs.Confirming.RecordedRight.{recorded_right}
 
 pub confirmed_by_order : (x : Circuit) (b : MapBlock) (rest : List ℕ) → IsWellFormed x → IsInBinaryOrder x
-    → block_reading x ≡ Ok (b, rest) → AreDistinct (places_told b.gates)
+    → block_reading x ≡ Ok (b, rest) → AreDistinct (places_recorded b.gates)
     → IsWellFormed (undone b (comment_behind b rest) x)
     → IsMappedImage (undone b (comment_behind b rest) x) x
     ↔ (IsLeastReadyOrder (undone b (comment_behind b rest) x) (positions b.gates) × TellsExchanges x.gates b.gates
@@ -28,8 +28,8 @@ confirmed_by_order x b rest good ordered read apart from_good =
     let from : Circuit = undone b (comment_behind b rest) x in
     let within = read_is_within x b rest read in
     let fit : IsFit b x = record { ordered = ordered; counts = within.0; bounds = within.1; once = apart } in (
-      λ is. let right = told_right from x b rest from_good is read in
-          (order_told from x b rest from_good is read, right.0, right.1),
+      λ is. let right = recorded_right from x b rest from_good is read in
+          (order_recorded from x b rest from_good is read, right.0, right.1),
       λ (least, exchanges, tells). (
         positions b.gates,
         least,

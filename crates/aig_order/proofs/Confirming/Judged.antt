@@ -9,16 +9,16 @@ use Rattle.aig_order.specs.MapBlock.{IsMappedImage}
 use Rattle.aig_order.specs.MapReading.{block_reading}
 use Rattle.aig_order.specs.Parts.Confirmed.{TellsExchanges, TellsComment}
 use Rattle.aig_order.specs.Parts.Turns.{positions}
-use Rattle.aig_order.specs.Undone.{undone, comment_behind, places_told}
+use Rattle.aig_order.specs.Undone.{undone, comment_behind, places_recorded}
 use Rattle.aig_order.proofs.Confirming.ConfirmedByOrder.{confirmed_by_order}
 
--- what is told of two things is told of the same ones
-pub told_of_same : {A B : Type 0} (P : A → B → Type 0) (told : Bool) (a c : A) (b d : B)
-    → a ≡ c → b ≡ d → (IsTrue told ↔ P a b) → IsTrue told ↔ P c d
-told_of_same P told a c b d p q tells = subst (λ y. IsTrue told ↔ P c y) q (subst (λ y. IsTrue told ↔ P y b) p tells)
+-- what is recorded of two things is recorded of the same ones
+pub recorded_of_same : {A B : Type 0} (P : A → B → Type 0) (recorded : Bool) (a c : A) (b d : B)
+    → a ≡ c → b ≡ d → (IsTrue recorded ↔ P a b) → IsTrue recorded ↔ P c d
+recorded_of_same P recorded a c b d p q tells = subst (λ y. IsTrue recorded ↔ P c y) q (subst (λ y. IsTrue recorded ↔ P y b) p tells)
 
 module _ (x : Circuit) (b : MapBlock) (rest : List ℕ) (good : IsWellFormed x) (ordered : IsInBinaryOrder x)
-    (read : block_reading x ≡ Ok (b, rest)) (apart : AreDistinct (places_told b.gates))
+    (read : block_reading x ≡ Ok (b, rest)) (apart : AreDistinct (places_recorded b.gates))
     (formed : IsWellFormed (undone b (comment_behind b rest) x)) where
   abbrev from : Circuit
   from = undone b (comment_behind b rest) x
@@ -31,21 +31,21 @@ module _ (x : Circuit) (b : MapBlock) (rest : List ℕ) (good : IsWellFormed x) 
   refuted never = (λ (e : IsTrue false). absurd (true≢false (sym e)), λ (is : IsMappedImage from x). absurd (never is))
 
   -- something follows a block that tells of no comment section
-  pub by_comment : (told : Bool) → (IsTrue told ↔ TellsComment b rest) → told ≡ false
+  pub by_comment : (recorded : Bool) → (IsTrue recorded ↔ TellsComment b rest) → recorded ≡ false
       → IsTrue false ↔ IsMappedImage from x
-  by_comment told tells is =
+  by_comment recorded tells is =
       refuted (λ (image : IsMappedImage from x). true≢false (sym (tells.1 (parts.0 image).2) ∙ is))
 
-  -- equal operands are told to be exchanged
-  pub by_exchanges : (told : Bool) → (IsTrue told ↔ TellsExchanges x.gates b.gates) → told ≡ false
+  -- equal operands are recorded to be exchanged
+  pub by_exchanges : (recorded : Bool) → (IsTrue recorded ↔ TellsExchanges x.gates b.gates) → recorded ≡ false
       → IsTrue false ↔ IsMappedImage from x
-  by_exchanges told tells is =
+  by_exchanges recorded tells is =
       refuted (λ (image : IsMappedImage from x). true≢false (sym (tells.1 (parts.0 image).1) ∙ is))
 
   -- where neither is so, the order decides
-  pub by_order : TellsComment b rest → TellsExchanges x.gates b.gates → (told : Bool)
-      → (IsTrue told ↔ IsLeastReadyOrder from (positions b.gates)) → IsTrue told ↔ IsMappedImage from x
-  by_order comment exchanges told tells = (
-    λ (t : IsTrue told). parts.1 (tells.0 t, exchanges, comment),
+  pub by_order : TellsComment b rest → TellsExchanges x.gates b.gates → (recorded : Bool)
+      → (IsTrue recorded ↔ IsLeastReadyOrder from (positions b.gates)) → IsTrue recorded ↔ IsMappedImage from x
+  by_order comment exchanges recorded tells = (
+    λ (t : IsTrue recorded). parts.1 (tells.0 t, exchanges, comment),
     λ (image : IsMappedImage from x). tells.1 (parts.0 image).0,
   )

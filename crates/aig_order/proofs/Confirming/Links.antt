@@ -22,7 +22,7 @@ one_more_link places links at are back clear j low =
     (omega (arith, back, same), subst (IsClear places at) same clear))
     (cases_lt j (length links))
 
--- what is clear up to the next place, by what a link told
+-- what is clear up to the next place, by what a link recorded
 pub one_more_clear : (first : ℕ) (gates : List Gate) (places : List ℕ) (k at ready : ℕ) (g : Gate)
     → k < length gates → g ≡ get_or gates k g → ready ≡ ready_from first g → at ≤ ready → IsClear places at k
     → ((q : ℕ) → q < k → IsClear places (ready_at first gates q) q)

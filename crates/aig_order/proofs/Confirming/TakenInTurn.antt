@@ -36,7 +36,7 @@ module _ (b : MapBlock) (x : Circuit) (comment : Option (List ℕ)) (fit : IsFit
   needs = gate_operands source
 
   abbrev place : ℕ → ℕ
-  place i = (back.told b x comment fit once i).place
+  place i = (back.recorded b x comment fit once i).place
 
   abbrev position : ℕ → ℕ
   position = back.position b x comment fit once
@@ -57,7 +57,7 @@ module _ (b : MapBlock) (x : Circuit) (comment : Option (List ℕ)) (fit : IsFit
   by_then q low = let h = back.image_at b x comment fit once q low in omega (arith, h.0, h.1)
 
   abbrev exchanged : ℕ → Bool
-  exchanged q = (back.told b x comment fit once (position q)).exchanged
+  exchanged q = (back.recorded b x comment fit once (position q)).exchanged
 
   -- the source's gate of a place
   of_place : (q : ℕ) → q < count
@@ -135,11 +135,11 @@ module _ (b : MapBlock) (x : Circuit) (comment : Option (List ℕ)) (fit : IsFit
       omega (arith, less, position_there p (omega (arith, behind, there)), position_there q there)
 
   -- so a test for the one tells the other
-  pub tells_order : (n : ℕ) (gates : List Gate) (places : List ℕ) (told : Bool)
-      → n ≡ start → gates ≡ x.gates → places ≡ positions b.gates → IsTrue told ↔ AreTakenInTurn n gates places
-      → IsTrue told ↔ IsLeastReadyOrder (undone b comment x) (positions b.gates)
-  tells_order n gates places told n_is gates_are places_are is =
-      let first = subst (λ m. IsTrue told ↔ AreTakenInTurn m gates places) n_is is in
-      let second = subst (λ gs. IsTrue told ↔ AreTakenInTurn start gs places) gates_are first in
-      let third = subst (λ ps. IsTrue told ↔ AreTakenInTurn start x.gates ps) places_are second in
+  pub tells_order : (n : ℕ) (gates : List Gate) (places : List ℕ) (recorded : Bool)
+      → n ≡ start → gates ≡ x.gates → places ≡ positions b.gates → IsTrue recorded ↔ AreTakenInTurn n gates places
+      → IsTrue recorded ↔ IsLeastReadyOrder (undone b comment x) (positions b.gates)
+  tells_order n gates places recorded n_is gates_are places_are is =
+      let first = subst (λ m. IsTrue recorded ↔ AreTakenInTurn m gates places) n_is is in
+      let second = subst (λ gs. IsTrue recorded ↔ AreTakenInTurn start gs places) gates_are first in
+      let third = subst (λ ps. IsTrue recorded ↔ AreTakenInTurn start x.gates ps) places_are second in
       (λ t. in_turn (third.0 t), λ order. third.1 (in_turn_where_least order))

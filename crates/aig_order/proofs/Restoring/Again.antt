@@ -31,8 +31,8 @@ use Rattle.aig_order.specs.declared.map_block.MapBlock.{MapBlock}
 use Rattle.aig_order.specs.MapBlock.{block_text, mapped_gate, map_block, mapped_by}
 use Rattle.aig_order.specs.Parts.Confirmed.{TellsExchanges, TellsComment}
 use Rattle.aig_order.specs.Parts.Had.{gate_had}
-use Rattle.aig_order.specs.Undone.{comment_behind, exchanges_told, undone}
-use Rattle.aig_order.proofs.Sources.ToldAt.{none_told, told_at}
+use Rattle.aig_order.specs.Undone.{comment_behind, exchanges_recorded, undone}
+use Rattle.aig_order.proofs.Sources.RecordedAt.{none_recorded, recorded_at}
 use Rattle.aig_order.proofs.Restoring.Places.{IsFit, places, order, too}
 use Rattle.aig_order.proofs.Restoring.Source.{vs, source, start, as_many, new_is, inputs_are, latches_are}
 use Rattle.aig_order.proofs.Restoring.Source.{variable_there, gates_are, back}
@@ -45,9 +45,9 @@ was_there false rest = refl
 -- and what it was
 was_this : (has : Bool) (rest : List ℕ) → (has ≡ true) ⊎ (rest ≡ [])
     → unwrap_or (if has then Some rest else None) [] ≡ rest
-was_this true rest told = refl
-was_this false rest told =
-    ⊎_elim (λ (e : false ≡ true). let bad : ⊥ = cc in absurd bad) (λ (e : rest ≡ []). sym e) told
+was_this true rest recorded = refl
+was_this false rest recorded =
+    ⊎_elim (λ (e : false ≡ true). let bad : ⊥ = cc in absurd bad) (λ (e : rest ≡ []). sym e) recorded
 
 -- gates in binary order have sorted operands
 sorted : (v : ℕ) (gates : List Gate) → AreOrderedGates v gates → map operands_sorted gates ≡ gates
@@ -63,8 +63,8 @@ exchanged_back true g first two =
     lt-ltb g.right g.left (let other : g.left ≢ g.right = two refl in omega (arith, first, other))
 exchanged_back false g first two = le-ltb g.left g.right first
 
-abbrev told : ℕ → ℕ → Bool → MappedGate
-told var place is = record { var = var; place = place; exchanged = is }
+abbrev recorded : ℕ → ℕ → Bool → MappedGate
+recorded var place is = record { var = var; place = place; exchanged = is }
 
 module _ (b : MapBlock) (x : Circuit) (rest : List ℕ) (fit : IsFit b x) (good : IsWellFormed x)
     (once : AreDistinct (defined_variables (undone b (comment_behind b rest) x))) where
@@ -109,16 +109,16 @@ module _ (b : MapBlock) (x : Circuit) (rest : List ℕ) (fit : IsFit b x) (good 
       (exchanged_names (λ v. f (g v) ≡ v) m.exchanged (at x.gates m.place)
       (at_place (GateNames (λ v. f (g v) ≡ v)) no_gate x.gates names.gates m.place low))
 
-  -- the block tells of the gate what it told
-  told_again : (m : MappedGate) → m.place < length x.gates → g (start b x comment fit + m.place) ≡ m.var
+  -- the block tells of the gate what it recorded
+  recorded_again : (m : MappedGate) → m.place < length x.gates → g (start b x comment fit + m.place) ≡ m.var
       → (m.exchanged ≡ true → (at x.gates m.place).left ≢ (at x.gates m.place).right)
       → mapped_gate f first (relabelled_gate g (had m)) ≡ m
-  told_again m low variable two =
+  recorded_again m low variable two =
       let here = ordered_at (start b x comment fit) x.gates fit.ordered.gates m.place low in
       let again = had_again m low in
       let place : (at x.gates m.place).var - first ≡ m.place = omega (arith, here.0, first_is) in
-      ap₂ (λ var (h : Gate). told var (h.var - first) (has_smaller_first h)) (ap g here.0 ∙ variable) again
-      ∙ ap₂ (told m.var) place (exchanged_back m.exchanged (at x.gates m.place) here.2 two)
+      ap₂ (λ var (h : Gate). recorded var (h.var - first) (has_smaller_first h)) (ap g here.0 ∙ variable) again
+      ∙ ap₂ (recorded m.var) place (exchanged_back m.exchanged (at x.gates m.place) here.2 two)
 
   gates_again : TellsExchanges x.gates b.gates → map (mapped_gate f first) from.gates ≡ b.gates
   gates_again exchanges =
@@ -127,12 +127,12 @@ module _ (b : MapBlock) (x : Circuit) (rest : List ℕ) (fit : IsFit b x) (good 
       let Differs : MappedGate → Type 0 =
       λ m. m.exchanged ≡ true → (at x.gates m.place).left ≢ (at x.gates m.place).right in
       let all : AllByRecursion Again b.gates =
-      by_places Again none_told b.gates (λ i low.
-      let m : MappedGate = told_at b.gates i in
-      let within = at_place (λ (h : MappedGate). IsVariableUpTo b.max_var h.var × (h.place < length b.gates)) none_told
+      by_places Again none_recorded b.gates (λ i low.
+      let m : MappedGate = recorded_at b.gates i in
+      let within = at_place (λ (h : MappedGate). IsVariableUpTo b.max_var h.var × (h.place < length b.gates)) none_recorded
       b.gates fit.bounds.gates i low in
-      told_again m (omega (arith, within.1, fit.counts.gates)) (variable_there b x comment fit i low)
-      (at_place Differs none_told b.gates exchanges i low)) in
+      recorded_again m (omega (arith, within.1, fit.counts.gates)) (variable_there b x comment fit i low)
+      (at_place Differs none_recorded b.gates exchanges i low)) in
       ap (map (mapped_gate f first)) (gates_are b x comment fit)
       ∙ map-map (mapped_gate f first) made b.gates
       ∙ map_where Again (λ m. mapped_gate f first (made m)) (λ m. m) (λ m e. e) b.gates all
@@ -165,7 +165,7 @@ module _ (b : MapBlock) (x : Circuit) (rest : List ℕ) (fit : IsFit b x) (good 
       let by : List ℕ → Circuit = λ ns. converted (renumbered ns) (order b x fit) from in
       let circuit : by us ≡ record x { max_var = b.max_var; comment = comment } =
       ap (λ (d : Circuit). record d { max_var = b.max_var; comment = comment })
-      (restored_is_converted f g (order b x fit) (places b x fit) (exchanges_told b.gates) x refl names (too b x fit)
+      (restored_is_converted f g (order b x fit) (places b x fit) (exchanges_recorded b.gates) x refl names (too b x fit)
       (sorted (start b x comment fit) x.gates fit.ordered.gates)) in
       let new : List ℕ → Circuit = λ ns.
       record (by ns) { max_var = length ns; comment = (mapped_by (order b x fit) from).comment } in

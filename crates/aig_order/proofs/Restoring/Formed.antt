@@ -11,7 +11,7 @@ use Rattle.aig_image.proofs.Relabelling.Formed.{form_is_kept}
 use Rattle.aig_image.proofs.Relabelling.Named.{names_only}
 use Rattle.aig_image.proofs.Relabelling.Permuted.{order_keeps_form}
 use Rattle.aig_order.specs.declared.map_block.MapBlock.{MapBlock}
-use Rattle.aig_order.specs.Undone.{exchanges_told, undone}
+use Rattle.aig_order.specs.Undone.{exchanges_recorded, undone}
 use Rattle.aig_order.proofs.Restoring.Places.{IsFit, places, order, are, too}
 use Rattle.aig_order.proofs.Restoring.Source.{vs, back, in_range}
 
@@ -21,7 +21,7 @@ well_formed_again b x comment good fit once =
     let us : List ℕ = vs b x comment fit in
     let f : ℕ → ℕ = renumbered us in
     let g : ℕ → ℕ = source_variable us in
-    let flags : List Bool = exchanges_told b.gates in
+    let flags : List Bool = exchanges_recorded b.gates in
     let moved : Circuit = with_operands_exchanged flags (reordered (places b x fit) x) in
     let moved_good : IsWellFormed moved =
     exchange_keeps_form flags (reordered (places b x fit) x)

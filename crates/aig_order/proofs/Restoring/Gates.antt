@@ -20,7 +20,7 @@ use Rattle.aig_order.specs.Parts.Had.{gate_had}
 use Rattle.aig_order.specs.Undone.{undone}
 use Rattle.aig_order.proofs.Restoring.Places.{IsFit, places, order, are, too, position_at}
 use Rattle.aig_order.proofs.Restoring.Source.{vs, source, start, gates_are, gates_many, back}
-use Rattle.aig_order.proofs.Sources.ToldAt.{none_told, told_at}
+use Rattle.aig_order.proofs.Sources.RecordedAt.{none_recorded, recorded_at}
 
 -- a literal over the variable of a gate's operand, as it was carried back
 module _ (g : ℕ → ℕ) (h : Gate) (v : ℕ) where
@@ -55,37 +55,37 @@ module _ (b : MapBlock) (x : Circuit) (comment : Option (List ℕ)) (fit : IsFit
   abbrev pub count : ℕ
   count = length (places b x fit)
 
-  abbrev pub told : ℕ → MappedGate
-  told i = told_at b.gates i
+  abbrev pub recorded : ℕ → MappedGate
+  recorded i = recorded_at b.gates i
 
   abbrev pub position : ℕ → ℕ
   position = position_at b.gates
 
-  pub told_many : count ≡ length b.gates
-  told_many = length-map b.gates (λ (m : MappedGate). m.place)
+  pub recorded_many : count ≡ length b.gates
+  recorded_many = length-map b.gates (λ (m : MappedGate). m.place)
 
   pub many : length gates ≡ count
-  many = gates_many b x comment fit ∙ sym told_many
+  many = gates_many b x comment fit ∙ sym recorded_many
 
   pub image_many : count ≡ length x.gates
-  image_many = told_many ∙ fit.counts.gates
+  image_many = recorded_many ∙ fit.counts.gates
 
-  place_at : (i : ℕ) → i < count → get_or (places b x fit) i 0 ≡ (told i).place
-  place_at i low = get_or-map (λ (m : MappedGate). m.place) b.gates i none_told 0 (omega (arith, low, told_many))
+  place_at : (i : ℕ) → i < count → get_or (places b x fit) i 0 ≡ (recorded i).place
+  place_at i low = get_or-map (λ (m : MappedGate). m.place) b.gates i none_recorded 0 (omega (arith, low, recorded_many))
 
   pub position_there : (p : ℕ) → p < count → get_or (order b x fit) p 0 ≡ position p
   position_there p low = get_or-map-range_with_len position 0 count p p 0 low (omega arith)
 
-  pub at_gate : (i : ℕ) → i < count → ((told i).place < count) × (position (told i).place ≡ i)
+  pub at_gate : (i : ℕ) → i < count → ((recorded i).place < count) × (position (recorded i).place ≡ i)
   at_gate i low =
       let here = (are b x fit).1 i (omega (arith, low, image_many)) in
-      let there : (told i).place < count = omega (arith, here.0, place_at i low, (too b x fit).0, image_many) in (
+      let there : (recorded i).place < count = omega (arith, here.0, place_at i low, (too b x fit).0, image_many) in (
         there,
-        sym (position_there (told i).place there) ∙ ap (λ p. get_or (order b x fit) p 0) (sym (place_at i low))
+        sym (position_there (recorded i).place there) ∙ ap (λ p. get_or (order b x fit) p 0) (sym (place_at i low))
             ∙ here.1,
       )
 
-  pub at_place : (p : ℕ) → p < count → (position p < count) × ((told (position p)).place ≡ p)
+  pub at_place : (p : ℕ) → p < count → (position p < count) × ((recorded (position p)).place ≡ p)
   at_place p low =
       let here = (too b x fit).1 p (omega (arith, low, image_many)) in
       let same = position_there p low in
@@ -93,11 +93,11 @@ module _ (b : MapBlock) (x : Circuit) (comment : Option (List ℕ)) (fit : IsFit
       (there, sym (place_at (position p) there) ∙ ap (λ k. get_or (places b x fit) k 0) (sym same) ∙ here.1)
 
   -- a gate of the source is the one at its place, carried back
-  pub gate_at : (i : ℕ) → i < count → at gates i ≡ relabelled_gate g (gate_had x.gates (told i))
+  pub gate_at : (i : ℕ) → i < count → at gates i ≡ relabelled_gate g (gate_had x.gates (recorded i))
   gate_at i low =
       ap (λ (gs : List Gate). at gs i) (gates_are b x comment fit)
-      ∙ get_or-map (λ m. relabelled_gate g (gate_had x.gates m)) b.gates i none_told no_gate
-      (omega (arith, low, told_many))
+      ∙ get_or-map (λ m. relabelled_gate g (gate_had x.gates m)) b.gates i none_recorded no_gate
+      (omega (arith, low, recorded_many))
 
   pub gates_once : AreDistinct (variables gates)
   gates_once =
@@ -108,13 +108,13 @@ module _ (b : MapBlock) (x : Circuit) (comment : Option (List ℕ)) (fit : IsFit
       × ((at x.gates q).left < 2 * (at x.gates q).var) × ((at x.gates q).right ≤ (at x.gates q).left)
   image_at q low = ordered_at first x.gates fit.ordered.gates q (omega (arith, low, image_many))
 
-  pub variable_at : (i : ℕ) → i < count → (at gates i).var ≡ g (first + (told i).place)
-  variable_at i low = ap (λ (h : Gate). h.var) (gate_at i low) ∙ ap g (image_at (told i).place (at_gate i low).0).0
+  pub variable_at : (i : ℕ) → i < count → (at gates i).var ≡ g (first + (recorded i).place)
+  variable_at i low = ap (λ (h : Gate). h.var) (gate_at i low) ∙ ap g (image_at (recorded i).place (at_gate i low).0).0
 
   -- a number that is carried back to a gate's variable is that of the gate's place
-  pub place_by_number : (i v : ℕ) → i < count → v < first + count → (at gates i).var ≡ g v → v ≡ first + (told i).place
+  pub place_by_number : (i v : ℕ) → i < count → v < first + count → (at gates i).var ≡ g v → v ≡ first + (recorded i).place
   place_by_number i v low fits is =
       let there = (at_gate i low).0 in
       sym (back b x comment fit once v (omega (arith, fits, fit.ordered.all, image_many)))
       ∙ ap (renumbered (vs b x comment fit)) (sym is ∙ variable_at i low)
-      ∙ back b x comment fit once (first + (told i).place) (omega (arith, there, fit.ordered.all, image_many))
+      ∙ back b x comment fit once (first + (recorded i).place) (omega (arith, there, fit.ordered.all, image_many))

@@ -17,20 +17,20 @@ use Rattle.aig_image.proofs.Relabelling.Standing.{at_place, by_places}
 use Rattle.aig_order.specs.declared.map_block.MappedGate.{MappedGate}
 use Rattle.aig_order.specs.declared.map_block.MapBlock.{MapBlock}
 use Rattle.aig_order.specs.MapReading.{HasCountsOf, IsWithinBounds}
-use Rattle.aig_order.specs.Undone.{places_told, variable_at_place}
+use Rattle.aig_order.specs.Undone.{places_recorded, variable_at_place}
 
 -- a circuit in binary order, and a block that fits it
 pub record IsFit (b : MapBlock) (x : Circuit) : Type 0 where
   pub ordered : IsInBinaryOrder x
   pub counts : HasCountsOf b x
   pub bounds : IsWithinBounds b
-  pub once : AreDistinct (places_told b.gates)
+  pub once : AreDistinct (places_recorded b.gates)
 
-abbrev pub variables_told : List MappedGate → List ℕ
-variables_told gates = map (λ (g : MappedGate). g.var) gates
+abbrev pub variables_recorded : List MappedGate → List ℕ
+variables_recorded gates = map (λ (g : MappedGate). g.var) gates
 
 abbrev pub position_at : List MappedGate → ℕ → ℕ
-position_at gates place = position_or_len (λ p. eqb p place) (places_told gates)
+position_at gates place = position_or_len (λ p. eqb p place) (places_recorded gates)
 
 -- one place further, behind one more
 further : (v n : ℕ) (vs : List ℕ) → get_or (v ∷ vs) (1 + n) 0 ≡ get_or vs n 0
@@ -38,28 +38,28 @@ further v n vs = let same : 1 + n ≡ suc n = omega arith in ap (λ k. get_or (v
 
 -- the variable at a place is that of the gate at this place's position
 variable_by_position : (gates : List MappedGate) (p : ℕ)
-    → variable_at_place gates p ≡ get_or (variables_told gates) (position_at gates p) 0
+    → variable_at_place gates p ≡ get_or (variables_recorded gates) (position_at gates p) 0
 variable_by_position [] p = refl
 variable_by_position (g ∷ gates) p =
     ⊎_elim (λ (t : (eqb g.place p ≡ true) × (g.place ≡ p)). rw t.0 refl)
     (λ (f : (eqb g.place p ≡ false) × (g.place ≢ p)).
-    rw f.0 (variable_by_position gates p ∙ sym (further g.var (position_at gates p) (variables_told gates))))
+    rw f.0 (variable_by_position gates p ∙ sym (further g.var (position_at gates p) (variables_recorded gates))))
     (eqb_tells g.place p)
 
 -- so by their places the variables of gates are theirs in the order of the positions
 pub by_position : (gates : List MappedGate) → map (variable_at_place gates) (range_with_len 0 (length gates))
-    ≡ map (λ at. get_or (variables_told gates) at 0) (positions_of (places_told gates))
+    ≡ map (λ at. get_or (variables_recorded gates) at 0) (positions_of (places_recorded gates))
 by_position gates =
-    let variable : ℕ → ℕ = λ at. get_or (variables_told gates) at 0 in
+    let variable : ℕ → ℕ = λ at. get_or (variables_recorded gates) at 0 in
     map_each (variable_at_place gates) (λ p. variable (position_at gates p)) (variable_by_position gates)
     (range_with_len 0 (length gates))
     ∙ ap (λ n. map (λ p. variable (position_at gates p)) (range_with_len 0 n))
     (sym (length-map gates (λ (g : MappedGate). g.place)))
-    ∙ sym (map-map variable (position_at gates) (range_with_len 0 (length (places_told gates))))
+    ∙ sym (map-map variable (position_at gates) (range_with_len 0 (length (places_recorded gates))))
 
 module _ (b : MapBlock) (x : Circuit) (fit : IsFit b x) where
   abbrev pub places : List ℕ
-  places = places_told b.gates
+  places = places_recorded b.gates
 
   abbrev pub order : List ℕ
   order = positions_of places
@@ -84,8 +84,8 @@ module _ (b : MapBlock) (x : Circuit) (fit : IsFit b x) where
       (map (variable_at_place b.gates) (range_with_len 0 (length b.gates)))
   row_in_range =
       let InRange : ℕ → Type 0 = IsVariableUpTo b.max_var in
-      let all : List ℕ = variables_told b.gates in
-      let told : AllByRecursion InRange all =
+      let all : List ℕ = variables_recorded b.gates in
+      let recorded : AllByRecursion InRange all =
       all_through (λ (g : MappedGate). InRange g.var × (g.place < length b.gates)) InRange (λ (g : MappedGate). g.var)
       (λ g e. e.0) b.gates fit.bounds.gates in
       let there : AllByRecursion (λ i. i < length all) order =
@@ -98,4 +98,4 @@ module _ (b : MapBlock) (x : Circuit) (fit : IsFit b x) where
       )) in
       subst (AllByRecursion InRange) (sym (by_position b.gates))
       (all_through (λ i. i < length all) InRange (λ i. get_or all i 0)
-      (λ i low. at_place InRange 0 all told i low) order there)
+      (λ i low. at_place InRange 0 all recorded i low) order there)

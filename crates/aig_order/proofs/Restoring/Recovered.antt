@@ -24,7 +24,7 @@ use Rattle.aig_image.proofs.Relabelling.Restored.{converted_in_places, converted
 use Rattle.aig_order.specs.declared.map_block.MappedGate.{MappedGate}
 use Rattle.aig_order.specs.declared.map_block.MapBlock.{MapBlock}
 use Rattle.aig_order.specs.MapBlock.{mapped_gate, map_block, mapped_by}
-use Rattle.aig_order.specs.Undone.{comment_behind, exchanges_told, places_told, source_variables, undone}
+use Rattle.aig_order.specs.Undone.{comment_behind, exchanges_recorded, places_recorded, source_variables, undone}
 use Rattle.aig_order.proofs.Restoring.Places.{by_position}
 
 -- the comment behind a block is that of the circuit
@@ -52,11 +52,11 @@ module _ (c : Circuit) (order : List ℕ) (good : IsWellFormed c) (least : IsLea
   abbrev tell : Gate → MappedGate
   tell = mapped_gate f start
 
-  abbrev told : List MappedGate
-  told = map tell c.gates
+  abbrev recorded : List MappedGate
+  recorded = map tell c.gates
 
   abbrev pub places : List ℕ
-  places = places_told told
+  places = places_recorded recorded
 
   many : length order ≡ length c.gates
   many = all_taken c order good least
@@ -86,21 +86,21 @@ module _ (c : Circuit) (order : List ℕ) (good : IsWellFormed c) (least : IsLea
       ) in
       ap f (sym is ∙ sym (by_place vs k)) ∙ back_again vs (new_once c order good least) some (1 + k) fits ∙ number
 
-  -- the place that is told of a gate
+  -- the place that is recorded of a gate
   pub place_at : (i : ℕ) → i < length c.gates → get_or places i 0 ≡ (tell (at c.gates i)).place
   place_at i low =
       ap (λ xs. get_or xs i 0) (map-map (λ (m : MappedGate). m.place) tell c.gates)
       ∙ get_or-map (λ h. (tell h).place) c.gates i no_gate 0 low
 
-  -- so the places that are told are the positions in the order
+  -- so the places that are recorded are the positions in the order
   places_are : places ≡ positions_of order
   places_are =
-      let told_many : length told ≡ length c.gates = length-map c.gates tell in
-      let places_many : length places ≡ length told = length-map told (λ (m : MappedGate). m.place) in
+      let recorded_many : length recorded ≡ length c.gates = length-map c.gates tell in
+      let places_many : length places ≡ length recorded = length-map recorded (λ (m : MappedGate). m.place) in
       let position = (order_is_places c order good least).1 in
-      let long : length places ≡ length (positions_of order) = omega (arith, told_many, places_many, position.0) in
+      let long : length places ≡ length (positions_of order) = omega (arith, recorded_many, places_many, position.0) in
       ext_get_or 0 places (positions_of order) long (λ i below.
-      let low : i < length c.gates = omega (arith, below, places_many, told_many) in
+      let low : i < length c.gates = omega (arith, below, places_many, recorded_many) in
       let here = position.1 i low in
       let p : ℕ = get_or (positions_of order) i 0 in
       let number = number_taken p here.0 in
@@ -113,7 +113,7 @@ module _ (c : Circuit) (order : List ℕ) (good : IsWellFormed c) (least : IsLea
   pub too : ArePlaces places order (length c.gates)
   too = subst (λ ps. ArePlaces ps order (length c.gates)) (sym places_are) (order_is_places c order good least).0
 
-  -- and the order is told
+  -- and the order is recorded
   pub order_is : positions_of places ≡ order
   order_is = positions_are order places (length c.gates) are too
 
@@ -122,7 +122,7 @@ module _ (c : Circuit) (order : List ℕ) (good : IsWellFormed c) (least : IsLea
   variables_back =
       let pick : List ℕ → List ℕ → List ℕ = λ variables order. map (λ at. get_or variables at 0) order in
       ap (λ row. first ++ row)
-      (by_position told ∙ ap₂ pick (map-map (λ (m : MappedGate). m.var) tell c.gates) order_is
+      (by_position recorded ∙ ap₂ pick (map-map (λ (m : MappedGate). m.var) tell c.gates) order_is
       ∙ sym (variables_taken c.gates order))
 
   names : NamesOnly (λ v. g (f v) ≡ v) c
@@ -135,7 +135,7 @@ module _ (c : Circuit) (order : List ℕ) (good : IsWellFormed c) (least : IsLea
       (mapped_by order c) ≡ c
   carried_back =
       let comment : Option (List ℕ) = comment_behind (map_block order c) (unwrap_or c.comment []) in
-      let flags : List Bool = exchanges_told told in
+      let flags : List Bool = exchanges_recorded recorded in
       let by : List ℕ → List Bool → Circuit → Circuit =
       λ ns es d. record (restored (source_variable ns) places es d) { max_var = c.max_var; comment = comment } in
       ap (λ ns. by ns flags (mapped_by order c)) variables_back

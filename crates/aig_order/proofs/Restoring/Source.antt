@@ -26,9 +26,9 @@ use Rattle.aig_image.proofs.Relabelling.Standing.{at_place}
 use Rattle.aig_order.specs.declared.map_block.MappedGate.{MappedGate}
 use Rattle.aig_order.specs.declared.map_block.MapBlock.{MapBlock}
 use Rattle.aig_order.specs.Parts.Had.{gate_had, in_order_had}
-use Rattle.aig_order.specs.Undone.{exchanges_told, places_told, source_variables, undone, variable_at_place}
-use Rattle.aig_order.proofs.Restoring.Places.{IsFit, places, order, are, too, by_position, row_in_range, variables_told}
-use Rattle.aig_order.proofs.Sources.ToldAt.{none_told, told_at}
+use Rattle.aig_order.specs.Undone.{exchanges_recorded, places_recorded, source_variables, undone, variable_at_place}
+use Rattle.aig_order.proofs.Restoring.Places.{IsFit, places, order, are, too, by_position, row_in_range, variables_recorded}
+use Rattle.aig_order.proofs.Sources.RecordedAt.{none_recorded, recorded_at}
 
 -- numbers from 1 on, carried back, are the variables in a row
 carried : (vs : List ℕ) → map (source_variable vs) (range_with_len 1 (length vs)) ≡ vs
@@ -50,11 +50,11 @@ parts (x ∷ xs) (y ∷ ys) s t long e =
     (ap (λ z. z ∷ xs) first ∙ ap (λ zs. y ∷ zs) later.0, later.1)
 
 -- the gates at the places, with their operands as they were
-pub gates_had : (gates : List Gate) (told : List MappedGate)
-    → exchanged_by (exchanges_told told) (taken gates (places_told told)) ≡ map (gate_had gates) told
-gates_had gates told =
-    ap (exchanged_by (exchanges_told told)) (map-map (at gates) (λ (m : MappedGate). m.place) told)
-    ∙ exchanged_each (λ (m : MappedGate). m.exchanged) (λ (m : MappedGate). at gates m.place) told
+pub gates_had : (gates : List Gate) (recorded : List MappedGate)
+    → exchanged_by (exchanges_recorded recorded) (taken gates (places_recorded recorded)) ≡ map (gate_had gates) recorded
+gates_had gates recorded =
+    ap (exchanged_by (exchanges_recorded recorded)) (map-map (at gates) (λ (m : MappedGate). m.place) recorded)
+    ∙ exchanged_each (λ (m : MappedGate). m.exchanged) (λ (m : MappedGate). at gates m.place) recorded
 
 -- what was moved, by the variables of the source, is undone
 pub undone_is : (b : MapBlock) (comment : Option (List ℕ)) (x : Circuit)
@@ -96,7 +96,7 @@ module _ (b : MapBlock) (x : Circuit) (comment : Option (List ℕ)) (fit : IsFit
   -- in its order, the source defines the variables that the block tells of
   pub new_is : in_new_order source (order b x fit) ≡ vs
   new_is =
-      defined_in_order (source_variable vs) (order b x fit) (places b x fit) (exchanges_told b.gates) x refl
+      defined_in_order (source_variable vs) (order b x fit) (places b x fit) (exchanges_recorded b.gates) x refl
       (too b x fit)
       ∙ numbers_are
 
@@ -121,20 +121,20 @@ module _ (b : MapBlock) (x : Circuit) (comment : Option (List ℕ)) (fit : IsFit
   pub latches_are : map (λ (l : Latch). l.var) source.latches ≡ b.latches
   latches_are = first_is.1
 
-  -- the number of a gate's place, carried back, is the variable that is told of the gate
+  -- the number of a gate's place, carried back, is the variable that is recorded of the gate
   pub variable_there : (i : ℕ) → i < length b.gates
-      → source_variable vs (start + (told_at b.gates i).place) ≡ (told_at b.gates i).var
+      → source_variable vs (start + (recorded_at b.gates i).place) ≡ (recorded_at b.gates i).var
   variable_there i low =
-      let p : ℕ = (told_at b.gates i).place in
-      let at_i : get_or (places b x fit) i 0 ≡ p = get_or-map (λ (m : MappedGate). m.place) b.gates i none_told 0 low in
+      let p : ℕ = (recorded_at b.gates i).place in
+      let at_i : get_or (places b x fit) i 0 ≡ p = get_or-map (λ (m : MappedGate). m.place) b.gates i none_recorded 0 low in
       let here = (are b x fit).1 i (omega (arith, low, fit.counts.gates)) in
       let number : start + p ≡ 1 + (length first + p) = omega (arith, first_many) in
       ap (source_variable vs) number ∙ by_place vs (length first + p) ∙ get_or-append-add first row p 0
       ∙ ap (λ xs. get_or xs p 0) (by_position b.gates)
-      ∙ ap (λ q. get_or (map (λ at. get_or (variables_told b.gates) at 0) (order b x fit)) q 0) (sym at_i)
-      ∙ get_or-map (λ at. get_or (variables_told b.gates) at 0) (order b x fit) (get_or (places b x fit) i 0) 0 0 here.0
-      ∙ ap (λ k. get_or (variables_told b.gates) k 0) here.1
-      ∙ get_or-map (λ (m : MappedGate). m.var) b.gates i none_told 0 low
+      ∙ ap (λ q. get_or (map (λ at. get_or (variables_recorded b.gates) at 0) (order b x fit)) q 0) (sym at_i)
+      ∙ get_or-map (λ at. get_or (variables_recorded b.gates) at 0) (order b x fit) (get_or (places b x fit) i 0) 0 0 here.0
+      ∙ ap (λ k. get_or (variables_recorded b.gates) k 0) here.1
+      ∙ get_or-map (λ (m : MappedGate). m.var) b.gates i none_recorded 0 low
 
   -- the gates of the source, one by one
   pub gates_are : source.gates ≡ map (λ m. relabelled_gate (source_variable vs) (gate_had x.gates m)) b.gates

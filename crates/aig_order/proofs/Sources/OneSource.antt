@@ -46,14 +46,14 @@ module _ (c : Circuit) (order : List ℕ) (good : IsWellFormed c) (least : IsLea
   abbrev tell : Gate → MappedGate
   tell = mapped_gate f (1 + length c.inputs + length c.latches)
 
-  abbrev told : List MappedGate
-  told = map tell c.gates
+  abbrev recorded : List MappedGate
+  recorded = map tell c.gates
 
   abbrev InRange : ℕ → Type 0
   InRange = IsVariableUpTo c.max_var
 
-  told_many : length told ≡ length c.gates
-  told_many = length-map c.gates tell
+  recorded_many : length recorded ≡ length c.gates
+  recorded_many = length-map c.gates tell
 
   -- the block tells of as many inputs, latches and gates as the image has
   counts : HasCountsOf (map_block order c) (mapped_by order c)
@@ -64,7 +64,7 @@ module _ (c : Circuit) (order : List ℕ) (good : IsWellFormed c) (least : IsLea
       record {
         inputs = sym (length-map c.inputs f);
         latches = length-map c.latches (λ (l : Latch). l.var) ∙ sym (length-map c.latches (relabelled_latch f));
-        gates = omega (arith, told_many, many, all_taken c order good least);
+        gates = omega (arith, recorded_many, many, all_taken c order good least);
       }
 
   -- what the block tells is within bounds
@@ -74,7 +74,7 @@ module _ (c : Circuit) (order : List ℕ) (good : IsWellFormed c) (least : IsLea
       front InRange (c.inputs ++ latches) (variables c.gates) good.in_range in
       let vars : AllByRecursion InRange (variables c.gates) =
       back InRange (c.inputs ++ latches) (variables c.gates) good.in_range in
-      let IsGood : MappedGate → Type 0 = λ m. InRange m.var × (m.place < length told) in
+      let IsGood : MappedGate → Type 0 = λ m. InRange m.var × (m.place < length recorded) in
       let gates : AllByRecursion (λ h. IsGood (tell h)) c.gates =
       by_places (λ h. IsGood (tell h)) no_gate c.gates (λ i low. (
         subst InRange (get_or-map (λ (h : Gate). h.var) c.gates i no_gate 0 low)
@@ -84,13 +84,13 @@ module _ (c : Circuit) (order : List ℕ) (good : IsWellFormed c) (least : IsLea
           arith,
           ((are c order good least).1 i low).0,
           place_at c order good least i low,
-          told_many,
+          recorded_many,
           all_taken c order good least,
         ),
       )) in
       record {
         max_var = good.limits.max_var;
-        counts = omega (arith, definitions_fit c good, told_many, length-map c.latches (λ (l : Latch). l.var));
+        counts = omega (arith, definitions_fit c good, recorded_many, length-map c.latches (λ (l : Latch). l.var));
         inputs = front InRange c.inputs latches before;
         latches = back InRange c.inputs latches before;
         gates = all_through (λ h. IsGood (tell h)) IsGood tell (λ h e. e) c.gates gates;
@@ -129,9 +129,9 @@ pub recovered : (c x : Circuit) → IsWellFormed c → IsMappedImage c x → IsR
 recovered c x good is = subst (λ (y : Circuit). IsRecovered y c) (sym is.2) (recovered_from_mapped c is.0 good is.1)
 
 -- one thing is read
-pub one_reading : (reading : Result (MapBlock × List ℕ) MapFault) (told other : MapBlock × List ℕ)
-    → reading ≡ Ok told → reading ≡ Ok other → told ≡ other
-one_reading reading told other is is_too = cc
+pub one_reading : (reading : Result (MapBlock × List ℕ) MapFault) (recorded other : MapBlock × List ℕ)
+    → reading ≡ Ok recorded → reading ≡ Ok other → recorded ≡ other
+one_reading reading recorded other is is_too = cc
 
 -- no two well-formed circuits have one mapped image
 pub one_source : (c d x : Circuit) → IsWellFormed c → IsWellFormed d → IsMappedImage c x → IsMappedImage d x → c ≡ d
@@ -140,7 +140,7 @@ one_source c d x good good_too is is_too =
     let second = recovered d x good_too is_too in
     let read : (first.block, first.rest) ≡ (second.block, second.rest) =
     one_reading (block_reading x) (first.block, first.rest) (second.block, second.rest) first.read second.read in
-    first.is ∙ ap (λ (told : MapBlock × List ℕ). undone told.0 (comment_behind told.0 told.1) x) read ∙ sym second.is
+    first.is ∙ ap (λ (recorded : MapBlock × List ℕ). undone recorded.0 (comment_behind recorded.0 recorded.1) x) read ∙ sym second.is
 
 pub undoing_recovers : (c image : Circuit) → IsWellFormed c → IsMappedImage c image
     → IsUndoneFrom image c × ((other : Circuit) → IsUndoneFrom image other → other ≡ c)

@@ -11,7 +11,7 @@ use Rattle.std.proofs.lemmas.List.FromFn.{get_or-map-range_with_len, length-map-
 use Rattle.aig_core.specs.Wellformed.{IsAmong, AreDistinct, IsVariableUpTo}
 use Rattle.aig_order.specs.declared.map_block.MappedGate.{MappedGate}
 use Rattle.aig_order.specs.Parts.Placed.{with_gates, table_of}
-use Rattle.aig_order.specs.Undone.{places_told, variable_at_place}
+use Rattle.aig_order.specs.Undone.{places_recorded, variable_at_place}
 use Rattle.aig_order.proofs.Sources.AtZero.{only_at_zero, at_zero, elsewhere, or_zero}
 
 -- the variable of a place is that of the first gate if it has this place, and otherwise that of a later gate
@@ -38,15 +38,15 @@ expected placed gates p = if get_or placed p 0 == 0 then variable_at_place gates
 
 -- no gate's place has a variable yet
 abbrev AreFree : List ℕ → List MappedGate → Type 0
-AreFree placed gates = (p : ℕ) → IsAmong p (places_told gates) → get_or placed p 0 ≡ 0
+AreFree placed gates = (p : ℕ) → IsAmong p (places_recorded gates) → get_or placed p 0 ≡ 0
 
 -- gates of distinct free places are placed
 all_placed : (placed : List ℕ) (gates : List MappedGate)
-    → AreDistinct (places_told gates) → AreFree placed gates → with_gates placed gates ≢ None
+    → AreDistinct (places_recorded gates) → AreFree placed gates → with_gates placed gates ≢ None
 all_placed placed [] once free is = let bad : ⊥ = cc in bad
 all_placed placed (g ∷ gates) once free is =
-    let other : (p : ℕ) → IsAmong p (places_told gates) → p ≢ g.place =
-    λ p i e. once.0 (subst (λ q. IsAmong q (places_told gates)) e i) in
+    let other : (p : ℕ) → IsAmong p (places_recorded gates) → p ≢ g.place =
+    λ p i e. once.0 (subst (λ q. IsAmong q (places_recorded gates)) e i) in
     all_placed (put placed g) gates once.1 (λ p i. put_elsewhere placed g p (other p i) ∙ free p (inr i))
     (sym (at_zero (get_or placed g.place 0) (with_gates (put placed g) gates) None (free g.place (inl refl))) ∙ is)
 
@@ -58,19 +58,19 @@ module _ (most count : ℕ) where
   -- gates that were placed have each its place, which was free
   placed_once : (placed : List ℕ) (gates : List MappedGate) (table : List ℕ)
       → length placed ≡ count → AllByRecursion IsGood gates → with_gates placed gates ≡ Some table
-      → AreDistinct (places_told gates) × AreFree placed gates
+      → AreDistinct (places_recorded gates) × AreFree placed gates
   placed_once placed [] table many good is = (tt, λ p a. absurd a)
   placed_once placed (g ∷ gates) table many good is =
       let here = only_at_zero (get_or placed g.place 0) (with_gates (put placed g) gates) table is in
       let long : length (put placed g) ≡ count = length-set placed g.place g.var ∙ many in
       let later = placed_once (put placed g) gates table long good.1 here.1 in
       let new : get_or (put placed g) g.place 0 ≡ g.var = put_here placed g (omega (arith, many, good.0.1)) in
-      let apart : ¬ IsAmong g.place (places_told gates) = λ a. omega (arith, later.1 g.place a, new, good.0.0.0) in
-      let other : (p : ℕ) → IsAmong p (places_told gates) → p ≢ g.place =
-      λ p i e. apart (subst (λ q. IsAmong q (places_told gates)) e i) in (
+      let apart : ¬ IsAmong g.place (places_recorded gates) = λ a. omega (arith, later.1 g.place a, new, good.0.0.0) in
+      let other : (p : ℕ) → IsAmong p (places_recorded gates) → p ≢ g.place =
+      λ p i e. apart (subst (λ q. IsAmong q (places_recorded gates)) e i) in (
         (apart, later.0),
         λ p a. ⊎_elim (λ (e : p ≡ g.place). subst (λ q. get_or placed q 0 ≡ 0) (sym e) here.0)
-            (λ (i : IsAmong p (places_told gates)). sym (put_elsewhere placed g p (other p i)) ∙ later.1 p i) a,
+            (λ (i : IsAmong p (places_recorded gates)). sym (put_elsewhere placed g p (other p i)) ∙ later.1 p i) a,
       )
 
   -- what is expected stays while gates are placed
@@ -130,9 +130,9 @@ module _ (most : ℕ) (gates : List MappedGate) (good : AllByRecursion (IsGood m
       ∙ sym (get_or-map-range_with_len (variable_at_place gates) 0 n p p 0 (omega (arith, low, has.0)) (zero-add p)))
 
   -- where there is a table, the places are distinct
-  pub places_once : (table : List ℕ) → table_of gates ≡ Some table → AreDistinct (places_told gates)
+  pub places_once : (table : List ℕ) → table_of gates ≡ Some table → AreDistinct (places_recorded gates)
   places_once table is = (placed_once most (length gates) none gates table long good is).0
 
   -- where there is none, they are not
-  pub place_twice : table_of gates ≡ None → ¬ AreDistinct (places_told gates)
+  pub place_twice : table_of gates ≡ None → ¬ AreDistinct (places_recorded gates)
   place_twice is once = all_placed none gates once (λ p _. zeros (length gates) p) is

@@ -17,7 +17,7 @@ use Rattle.aig_order.specs.declared.map_block.FirstLine.{FirstLine}
 use Rattle.aig_order.specs.MapSpelling.{after_text, first_line_at, variable_at, gate_at}
 use Rattle.aig_order.specs.MapReading.{◌>>=◌, or_else, entries_at, counts_match, counted_line, rest_of_block}
 use Rattle.aig_order.specs.MapReading.{block_reading}
-use Rattle.aig_order.specs.Undone.{IsMapFault, IsUndoneFrom, comment_behind, places_told, undone}
+use Rattle.aig_order.specs.Undone.{IsMapFault, IsUndoneFrom, comment_behind, places_recorded, undone}
 use Rattle.aig_order.proofs.Sources.OneSource.{IsRecovered, one_reading, one_source, recovered}
 use Rattle.aig_order.proofs.Mapping.MappedOrder.{mapped_image_is_ordered}
 
@@ -100,12 +100,12 @@ of_reading x e failed =
 -- a block that is not read
 pub unread : (x : Circuit) (e : MapFault) → IsInBinaryOrder x
     → (e ≡ OutOfMemory) ⊎ (block_reading x ≡ Err e) → IsMapFault x e
-unread x Missing in_order told = ⊎_elim (λ e. absurd cc) (λ failed. (in_order, failed)) told
-unread x (Malformed line) in_order told = ⊎_elim (λ e. absurd cc) (λ failed. (in_order, failed)) told
-unread x Mismatch in_order told = ⊎_elim (λ e. absurd cc) (λ failed. (in_order, failed)) told
-unread x OutOfMemory in_order told = tt
-unread x NotOrdered in_order told = ⊎_elim (λ e. absurd cc) (λ failed. absurd (of_reading x NotOrdered failed)) told
-unread x Forged in_order told = ⊎_elim (λ e. absurd cc) (λ failed. absurd (of_reading x Forged failed)) told
+unread x Missing in_order recorded = ⊎_elim (λ e. absurd cc) (λ failed. (in_order, failed)) recorded
+unread x (Malformed line) in_order recorded = ⊎_elim (λ e. absurd cc) (λ failed. (in_order, failed)) recorded
+unread x Mismatch in_order recorded = ⊎_elim (λ e. absurd cc) (λ failed. (in_order, failed)) recorded
+unread x OutOfMemory in_order recorded = tt
+unread x NotOrdered in_order recorded = ⊎_elim (λ e. absurd cc) (λ failed. absurd (of_reading x NotOrdered failed)) recorded
+unread x Forged in_order recorded = ⊎_elim (λ e. absurd cc) (λ failed. absurd (of_reading x Forged failed)) recorded
 
 -- what is read is no fault
 no_fault : (b : MapBlock) (rest : List ℕ) (e : MapFault) (read : Result (MapBlock × List ℕ) MapFault)
@@ -119,24 +119,24 @@ module _ (x : Circuit) (b : MapBlock) (rest : List ℕ) (in_order : IsInBinaryOr
   was_read = rw read refl
 
   forged : (e : MapFault) → ((c : Circuit) → ¬ IsUndoneFrom x c) → (e ≡ OutOfMemory) ⊎ (e ≡ Forged) → IsMapFault x e
-  forged e never told =
+  forged e never recorded =
       ⊎_elim (λ (memory : e ≡ OutOfMemory). subst (IsMapFault x) (sym memory) tt)
-      (λ (is : e ≡ Forged). subst (IsMapFault x) (sym is) (in_order, was_read, never)) told
+      (λ (is : e ≡ Forged). subst (IsMapFault x) (sym is) (in_order, was_read, never)) recorded
 
   -- the circuit that is undone from x is undone by this block
   by_block : (c : Circuit) → IsUndoneFrom x c
-      → AreDistinct (places_told b.gates) × (c ≡ undone b (comment_behind b rest) x)
+      → AreDistinct (places_recorded b.gates) × (c ≡ undone b (comment_behind b rest) x)
   by_block c p =
       let r : IsRecovered x c = recovered c x p.well_formed p.image in
       let same : (r.block, r.rest) ≡ (b, rest) =
       one_reading (block_reading x) (r.block, r.rest) (b, rest) r.read read in (
-        subst (λ (told : MapBlock × List ℕ). AreDistinct (places_told told.0.gates)) same
+        subst (λ (recorded : MapBlock × List ℕ). AreDistinct (places_recorded recorded.0.gates)) same
             r.places,
-        r.is ∙ ap (λ (told : MapBlock × List ℕ). undone told.0 (comment_behind told.0 told.1) x) same,
+        r.is ∙ ap (λ (recorded : MapBlock × List ℕ). undone recorded.0 (comment_behind recorded.0 recorded.1) x) same,
       )
 
   pub of_places : (e : MapFault)
-      → (e ≡ OutOfMemory) ⊎ ((e ≡ Forged) × (¬ AreDistinct (places_told b.gates))) → IsMapFault x e
+      → (e ≡ OutOfMemory) ⊎ ((e ≡ Forged) × (¬ AreDistinct (places_recorded b.gates))) → IsMapFault x e
   of_places e (inl memory) = subst (IsMapFault x) (sym memory) tt
   of_places e (inr twice) = forged e (λ c p. twice.1 (by_block c p).0) (inr twice.0)
 
@@ -154,9 +154,9 @@ module _ (x : Circuit) (b : MapBlock) (rest : List ℕ) (in_order : IsInBinaryOr
       (λ c p. other.1 (subst (λ (d : Circuit). IsMappedImage d x) ((by_block c p).1 ∙ sym is) p.image)) (inr other.0)
 
   -- so why the last step refuses
-  pub of_confirmed : (source : Circuit) (told : Result Circuit MapFault)
+  pub of_confirmed : (source : Circuit) (recorded : Result Circuit MapFault)
       → source ≡ undone b (comment_behind b rest) x
-      → IfErr told (λ e. (e ≡ OutOfMemory) ⊎ ((e ≡ Forged) × (¬ IsMappedImage source x))) → IfErr told (IsMapFault x)
+      → IfErr recorded (λ e. (e ≡ OutOfMemory) ⊎ ((e ≡ Forged) × (¬ IsMappedImage source x))) → IfErr recorded (IsMapFault x)
   of_confirmed source (Ok c) is refused = tt
   of_confirmed source (Err e) is refused = of_image source e is refused
 
@@ -175,9 +175,9 @@ only_memory x Mismatch fault c p =
 only_memory x Forged fault c p = absurd (fault.2 c p)
 only_memory x OutOfMemory fault c p = refl
 
--- so what undoing gives is told by what it may give
-pub only_undone : (x : Circuit) (told : Result Circuit MapFault) → IfOk told (IsUndoneFrom x)
-    → IfErr told (IsMapFault x) → (c : Circuit) → IsUndoneFrom x c
-    → MatchResult told (λ d. d ≡ c) (λ e. e ≡ OutOfMemory)
+-- so what undoing gives is recorded by what it may give
+pub only_undone : (x : Circuit) (recorded : Result Circuit MapFault) → IfOk recorded (IsUndoneFrom x)
+    → IfErr recorded (IsMapFault x) → (c : Circuit) → IsUndoneFrom x c
+    → MatchResult recorded (λ d. d ≡ c) (λ e. e ≡ OutOfMemory)
 only_undone x (Ok d) ok fault c p = one_source d c x ok.well_formed p.well_formed ok.image p.image
 only_undone x (Err e) ok fault c p = only_memory x e fault c p

@@ -14,10 +14,10 @@ HasTwoOperands g = g.left ≢ g.right
 abbrev pub gate_in_place : List Gate → ℕ → Gate
 gate_in_place gates place = slice_index_or gates place (record { var = 0; left = 0; right = 0 })
 
--- no gate with equal operands is told as exchanged
+-- no gate with equal operands is recorded as exchanged
 abbrev pub TellsExchanges : List Gate → List MappedGate → Type 0
-TellsExchanges image_gates told =
-    AllByRecursion (λ (m : MappedGate). m.exchanged ≡ true → HasTwoOperands (gate_in_place image_gates m.place)) told
+TellsExchanges image_gates recorded =
+    AllByRecursion (λ (m : MappedGate). m.exchanged ≡ true → HasTwoOperands (gate_in_place image_gates m.place)) recorded
 
 -- nothing follows a block that tells of no comment section
 abbrev pub TellsComment : MapBlock → List ℕ → Type 0

@@ -4,11 +4,11 @@ use Rattle.aig_core.specs.declared.circuit.Gate.{Gate}
 use Rattle.aig_core.specs.Literal.{variable_of}
 use Rattle.aig_image.specs.Reordered.{positions_of}
 use Rattle.aig_order.specs.declared.map_block.MappedGate.{MappedGate}
-use Rattle.aig_order.specs.Undone.{places_told}
+use Rattle.aig_order.specs.Undone.{places_recorded}
 
 -- the positions in the source, place by place
 abbrev pub positions : List MappedGate → List ℕ
-positions gates = positions_of (places_told gates)
+positions gates = positions_of (places_recorded gates)
 
 -- The first place that a gate of the image may have, where the first gate has this variable: the one behind the gate
 -- that its larger operand is over, or 0 where that is over none.

@@ -88,23 +88,23 @@ name_is_plain : (name : List ℕ) → ¬ IsAmong 10 name → HasNoLineFeed name
 name_is_plain [] h = tt
 name_is_plain (b ∷ bs) h = (ne_eqb b 10 (λ e. h (inl (sym e))), name_is_plain bs (λ a. h (inr a)))
 
-abbrev IsTold : Symbol → Type 0
-IsTold s = (s.position < 2 ^ 64) × (¬ IsAmong 10 s.name)
+abbrev IsFound : Symbol → Type 0
+IsFound s = (s.position < 2 ^ 64) × (¬ IsAmong 10 s.name)
 
-plain_symbol : (s : Symbol) → IsTold s → HasNoLineFeed (kind_letter s.kind ++ (decimal s.position ++ (32 ∷ s.name)))
+plain_symbol : (s : Symbol) → IsFound s → HasNoLineFeed (kind_letter s.kind ++ (decimal s.position ++ (32 ∷ s.name)))
 plain_symbol s h =
     all_joined _ (kind_letter s.kind) (decimal s.position ++ (32 ∷ s.name)) (letter_is_plain s.kind)
     (all_joined _ (decimal s.position) (32 ∷ s.name)
     (digits_have_no_line_feed (decimal s.position) (decimal_is_number s.position h.0).digits)
     (refl, name_is_plain s.name h.1))
 
-symbol_is_good : (s : Symbol) → IsTold s → IsSymbolLine (symbol_line s) s
+symbol_is_good : (s : Symbol) → IsFound s → IsSymbolLine (symbol_line s) s
 symbol_is_good s h = record { digits = decimal s.position; text = refl; position = decimal_is_number s.position h.0 }
 
 abbrev symbol_lines : List Symbol → List Line
 symbol_lines ss = map symbol_line ss
 
-symbols_are_first : (ss : List Symbol) (rest : List ℕ) → AllByRecursion IsTold ss
+symbols_are_first : (ss : List Symbol) (rest : List ℕ) → AllByRecursion IsFound ss
     → lines_of (flat_map symbol_text ss ++ rest) ≡ symbol_lines ss ++ lines_of rest
 symbols_are_first [] rest h = refl
 symbols_are_first (s ∷ ss) rest h =
@@ -114,7 +114,7 @@ symbols_are_first (s ∷ ss) rest h =
     (plain_symbol s h.0)
     ∙ ap (λ (ls : List Line). symbol_line s ∷ ls) (symbols_are_first ss rest h.1)
 
-symbols_are_good : (ss : List Symbol) → AllByRecursion IsTold ss → AllZip IsSymbolLine (symbol_lines ss) ss
+symbols_are_good : (ss : List Symbol) → AllByRecursion IsFound ss → AllZip IsSymbolLine (symbol_lines ss) ss
 symbols_are_good [] h = tt
 symbols_are_good (s ∷ ss) h = (symbol_is_good s h.0, symbols_are_good ss h.1)
 
@@ -137,21 +137,21 @@ count_within c limits Input = limits.inputs
 count_within c limits Latch = limits.latches
 count_within c limits Output = limits.outputs
 
--- what may be said of a symbol can be told in a line
-all_told : (c : Circuit) → IsWithinLimits c → (ss : List Symbol)
+-- what may be said of a symbol can be found in a line
+all_found : (c : Circuit) → IsWithinLimits c → (ss : List Symbol)
     → AllByRecursion (λ (s : Symbol). s.position < count_of c s.kind) ss
-    → AllByRecursion (λ (s : Symbol). ¬ IsAmong 10 s.name) ss → AllByRecursion IsTold ss
-all_told c limits [] p l = tt
-all_told c limits (s ∷ ss) p l =
+    → AllByRecursion (λ (s : Symbol). ¬ IsAmong 10 s.name) ss → AllByRecursion IsFound ss
+all_found c limits [] p l = tt
+all_found c limits (s ∷ ss) p l =
     let top : count_of c s.kind ≤ LARGEST = count_within c limits s.kind in
     let low : s.position < count_of c s.kind = p.0 in
-    ((omega arith, l.0), all_told c limits ss p.1 l.1)
+    ((omega arith, l.0), all_found c limits ss p.1 l.1)
 
 -- the lines of the canonical tail
 tail_lines : (c : Circuit) → IsInForm c → lines_of (tail_text c) ≡ symbol_lines c.symbols ++ comment_lines c.comment
 tail_lines c form =
     symbols_are_first c.symbols (comment_text c.comment)
-    (all_told c form.limits c.symbols form.symbols.positions form.symbols.lines)
+    (all_found c form.limits c.symbols form.symbols.positions form.symbols.lines)
     ∙ ap (λ (ls : List Line). symbol_lines c.symbols ++ ls) (comment_is_first c.comment)
 
 pub tail_is_good : (c : Circuit) → IsInForm c → AreTailLines (lines_of (tail_text c)) c
@@ -159,7 +159,7 @@ tail_is_good c form = record {
   named = symbol_lines c.symbols;
   rest = comment_lines c.comment;
   are = tail_lines c form;
-  symbols = symbols_are_good c.symbols (all_told c form.limits c.symbols form.symbols.positions form.symbols.lines);
+  symbols = symbols_are_good c.symbols (all_found c form.limits c.symbols form.symbols.positions form.symbols.lines);
   comment = comment_is_good c.comment;
 }
 

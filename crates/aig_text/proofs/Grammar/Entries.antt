@@ -23,12 +23,12 @@ abbrev pub IsGoodRow : Form → ℕ → List ℕ → Type 0
 IsGoodRow form max_var ns = AllZip (MayStand max_var) (roles_of form) ns
 
 -- an entry and its row: each tells the other, and the one may stand in a circuit where the other may stand in a file
-pub record IsEntry {X : Type 0} (form : Form) (row : X → List ℕ) (told : List ℕ → X)
+pub record IsEntry {X : Type 0} (form : Form) (row : X → List ℕ) (found : List ℕ → X)
     (IsUpTo : ℕ → X → Type 0) : Type 0 where
-  pub again : (x : X) → told (row x) ≡ x
-  pub row_again : (m : ℕ) (ns : List ℕ) → IsGoodRow form m ns → row (told ns) ≡ ns
+  pub again : (x : X) → found (row x) ≡ x
+  pub row_again : (m : ℕ) (ns : List ℕ) → IsGoodRow form m ns → row (found ns) ≡ ns
   pub good : (m : ℕ) (x : X) → IsUpTo m x → IsGoodRow form m (row x)
-  pub up_to : (m : ℕ) (ns : List ℕ) → IsGoodRow form m ns → IsUpTo m (told ns)
+  pub up_to : (m : ℕ) (ns : List ℕ) → IsGoodRow form m ns → IsUpTo m (found ns)
 
 abbrev pub IsLiteralUpTo : ℕ → ℕ → Type 0
 IsLiteralUpTo m n = n ≤ 2 * m + 1
@@ -133,17 +133,17 @@ gate_entry = record {
 }
 
 -- the same of lists
-pub all_again : {X : Type 0} (row : X → List ℕ) (told : List ℕ → X) → ((x : X) → told (row x) ≡ x) → (xs : List X)
-    → map told (map row xs) ≡ xs
-all_again row told again [] = refl
-all_again row told again (x ∷ xs) = ap₂ (λ (y : _) (ys : List _). y ∷ ys) (again x) (all_again row told again xs)
+pub all_again : {X : Type 0} (row : X → List ℕ) (found : List ℕ → X) → ((x : X) → found (row x) ≡ x) → (xs : List X)
+    → map found (map row xs) ≡ xs
+all_again row found again [] = refl
+all_again row found again (x ∷ xs) = ap₂ (λ (y : _) (ys : List _). y ∷ ys) (again x) (all_again row found again xs)
 
-pub rows_again : {X : Type 0} (P : List ℕ → Type 0) (row : X → List ℕ) (told : List ℕ → X)
-    → ((ns : List ℕ) → P ns → row (told ns) ≡ ns) → (rows : List (List ℕ)) → AllByRecursion P rows
-    → map row (map told rows) ≡ rows
-rows_again P row told again [] h = refl
-rows_again P row told again (ns ∷ rows) h =
-    ap₂ (λ (y : List ℕ) (ys : List (List ℕ)). y ∷ ys) (again ns h.0) (rows_again P row told again rows h.1)
+pub rows_again : {X : Type 0} (P : List ℕ → Type 0) (row : X → List ℕ) (found : List ℕ → X)
+    → ((ns : List ℕ) → P ns → row (found ns) ≡ ns) → (rows : List (List ℕ)) → AllByRecursion P rows
+    → map row (map found rows) ≡ rows
+rows_again P row found again [] h = refl
+rows_again P row found again (ns ∷ rows) h =
+    ap₂ (λ (y : List ℕ) (ys : List (List ℕ)). y ∷ ys) (again ns h.0) (rows_again P row found again rows h.1)
 
 pub all_mapped : {X Y : Type 0} (P : X → Type 0) (Q : Y → Type 0) (f : X → Y) → ((x : X) → P x → Q (f x))
     → (xs : List X) → AllByRecursion P xs → AllByRecursion Q (map f xs)

@@ -81,10 +81,10 @@ header_tells word limit l h is =
     within_tells word limit l h
     (more_numbers_at l.ended HEADER_NUMBERS HEADER_NUMBERS (drop (length word) l.text)) p.0 refl p.1
 
-pub told_header : (word : List ℕ) (limit : ℕ) (l : Line) (h : Header) → TellsHeader word limit l h
+pub found_header : (word : List ℕ) (limit : ℕ) (l : Line) (h : Header) → TellsHeader word limit l h
     → header_of word limit l ≡ Ok h
 unfolding header_of header_within
-told_header word limit l h t =
+found_header word limit l h t =
     rw (t.begins, t.read, all_within (min limit LARGEST) t.numbers t.within, le-ltb (get_or t.numbers 0 0)
     (get_or t.numbers 1 0 + get_or t.numbers 2 0 + get_or t.numbers 4 0) t.counted, t.is) refl
 
@@ -155,13 +155,13 @@ abbrev pub own_header : Circuit → Header
 own_header c = header_of_row (header_row c)
 
 -- and a line that spells the circuit's header row tells its header
-pub header_is_told : (word : List ℕ) (limit : ℕ) (l : Line) (c : Circuit)
+pub header_is_found : (word : List ℕ) (limit : ℕ) (l : Line) (c : Circuit)
     → AllByRecursion (λ b. ends_word b ≡ false) word → IsHeaderLine word HEADER_NUMBERS l (header_row c)
     → AllByRecursion (λ n. n ≤ limit) (header_row c) → IsWithinLimits c
     → length c.inputs + length c.latches + length c.gates ≤ c.max_var → header_of word limit l ≡ Ok (own_header c)
-header_is_told word limit l c plain line small limits fits =
+header_is_found word limit l c plain line small limits fits =
     let s = header_is_read word l HEADER_NUMBERS HEADER_NUMBERS (header_row c) (omega arith) plain line refl in
-    told_header word limit l (own_header c) (record {
+    found_header word limit l (own_header c) (record {
       numbers = header_row c;
       begins = s.0;
       read = s.1;

@@ -106,9 +106,9 @@ more_reads least (suc most) ended bytes ns l h =
           let gap = gap_reads bytes a.0 a.1 in
           let number = number_reads a.0 b.0.1 b.0.0 b.1 in
           let others = more_reads (least - 1) most ended b.0.1 d.0 (omega arith) d.1 in
-          let told : b.0.0 ∷ d.0 ≡ ns = cc in
+          let found : b.0.0 ∷ d.0 ≡ ns = cc in
           let spelled : bytes ≡ gap.0 ++ (number.0 ++ b.0.1) = gap.1 ∙ ap (λ (t : List ℕ). gap.0 ++ t) number.1 in
-          subst (λ (t : List ℕ). IsEnd least (suc most) ended bytes t) told
+          subst (λ (t : List ℕ). IsEnd least (suc most) ended bytes t) found
           (subst (λ (t : List ℕ). EndInNumbers least ended t (b.0.0 ∷ d.0)) (sym spelled)
           (more_line least ended gap.0 number.0 b.0.1 b.0.0 d.0 gap.2 number.2 others.0), ap suc others.1)
     ]
@@ -174,18 +174,18 @@ row_reads l least most ns small h =
     let d = some_then _ _ _ b.2 in
     let number = number_reads l.text b.0.1 b.0.0 b.1 in
     let others = more_reads least most l.ended b.0.1 d.0 small d.1 in
-    let told : b.0.0 ∷ d.0 ≡ ns = cc in (
+    let found : b.0.0 ∷ d.0 ≡ ns = cc in (
       record {
         first = b.0.0;
         more = d.0;
         digits = number.0;
         rest = b.0.1;
-        are = sym told;
+        are = sym found;
         begins = number.1;
         spelled = number.2;
         others = others.0;
       },
-      sym (ap length told) ∙ ap suc others.1,
+      sym (ap length found) ∙ ap suc others.1,
     )
 
 numbers_are_read : (ended : Bool) (least most : ℕ) (digits rest : List ℕ) (n : ℕ) (ns : List ℕ) → IsNumber digits n
@@ -221,9 +221,9 @@ pub header_reads : (word : List ℕ) (l : Line) (least most : ℕ) (ns : List �
 header_reads word l least most ns small first h =
     let is_word : before_first ends_word l.text ≡ word =
     (bytes_eq-Decides (before_first ends_word l.text) word).0 first in
-    let told = more_reads least most l.ended (drop (length word) l.text) ns small h in
+    let found = more_reads least most l.ended (drop (length word) l.text) ns small h in
     (record { rest = drop (length word) l.text; begins =
-    after_word (position_or_len ends_word l.text) l.text word is_word; others = told.0 }, told.1)
+    after_word (position_or_len ends_word l.text) l.text word is_word; others = found.0 }, found.1)
 
 -- a word ends where the first byte that ends words stands
 word_len : (word : List ℕ) (b : ℕ) (rest : List ℕ) → AllByRecursion (λ c. ends_word c ≡ false) word

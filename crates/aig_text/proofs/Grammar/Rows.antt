@@ -13,8 +13,8 @@ use Rattle.aig_text.specs.Lines.{Line, Ahead, ahead}
 use Rattle.aig_text.specs.Scanning.{numbers_at}
 use Rattle.aig_text.specs.Rows.{Role, Form, roles_of, row}
 use Rattle.aig_text.specs.AsciiGrammar.{IsRowLine}
-use Rattle.aig_text.specs.Reading.{◌>>=◌, Told, at_line, is_no_variable, misdefines, exceeds, any_number}
-use Rattle.aig_text.specs.Reading.{fault_in_row, unless_wrong, checked_row, row_of, line_told, row_at, rows_at}
+use Rattle.aig_text.specs.Reading.{◌>>=◌, Found, at_line, is_no_variable, misdefines, exceeds, any_number}
+use Rattle.aig_text.specs.Reading.{fault_in_row, unless_wrong, checked_row, row_of, line_found, row_at, rows_at}
 use Rattle.aig_text.proofs.Steps.{both_ok, ok_at_line, ok_same}
 use Rattle.aig_text.proofs.Kept.Checks.{right_parts}
 use Rattle.aig_text.proofs.Grammar.NumberLines.{row_reads, row_is_read}
@@ -69,12 +69,12 @@ unless_none x y (Some k) h = cc
 abbrev pub IsSound : Form → Type 0
 IsSound form = form.least ≤ length form.others
 
-row_told : (form : Form) (m : ℕ) (l : Line) (read : Option (List ℕ)) (ns : List ℕ) → IsSound form
+row_meant : (form : Form) (m : ℕ) (l : Line) (read : Option (List ℕ)) (ns : List ℕ) → IsSound form
     → numbers_at l.ended form.least (length form.others) l.text ≡ read → checked_row form m read ≡ Ok ns
     → IsRowLine l (row form ns) × IsGoodRow form m ns
 unfolding checked_row
-row_told form m l None ns s is h = cc
-row_told form m l (Some ms) ns s is h =
+row_meant form m l None ns s is h = cc
+row_meant form m l (Some ms) ns s is h =
     let u = unless_none ms ns (fault_in_row m (roles_of form) ms) h in
     let t = row_reads l form.least (length form.others) ms s is in
     let p = right_parts m (roles_of form) ms u.0 in
@@ -84,13 +84,13 @@ row_told form m l (Some ms) ns s is h =
 row_tells : (form : Form) (m : ℕ) (l : Line) (ns : List ℕ) → IsSound form → row_of form m l ≡ Ok ns
     → IsRowLine l (row form ns) × IsGoodRow form m ns
 unfolding row_of
-row_tells form m l ns s h = row_told form m l (numbers_at l.ended form.least (length form.others) l.text) ns s refl h
+row_tells form m l ns s h = row_meant form m l (numbers_at l.ended form.least (length form.others) l.text) ns s refl h
 
 -- and a line that holds a good row is read as it
-pub row_is_told : (form : Form) (m : ℕ) (l : Line) (ns : List ℕ) → IsRowLine l (row form ns) → IsGoodRow form m ns
+pub row_is_found : (form : Form) (m : ℕ) (l : Line) (ns : List ℕ) → IsRowLine l (row form ns) → IsGoodRow form m ns
     → row_of form m l ≡ Ok ns
 unfolding row_of checked_row
-row_is_told form m l ns h g =
+row_is_found form m l ns h g =
     let long : length ns ≡ suc (length form.others) = AllZip-long (MayStand m) (roles_of form) ns g in
     let right = none_wrong m (roles_of form) ns g in
     rw (row_is_read l form.least (length form.others) ns h long, right.0, right.1) refl
@@ -118,17 +118,17 @@ one_row form m count l ls ns rows rest h a = record {
   counted = ap suc a.counted;
 }
 
-abbrev with_first : List ℕ → List (List ℕ) × Ahead → Told (List (List ℕ))
+abbrev with_first : List ℕ → List (List ℕ) × Ahead → Found (List (List ℕ))
 with_first first others = Ok (first ∷ others.0, others.1)
 
-abbrev then_rows : Form → ℕ → ℕ → List ℕ × Ahead → Told (List (List ℕ))
+abbrev then_rows : Form → ℕ → ℕ → List ℕ × Ahead → Found (List (List ℕ))
 then_rows form m count first = rows_at form m count first.1 >>= with_first first.0
 
 -- what a line tells, and what is ahead behind it
-pub first_told : {A : Type 0} (missing : ReadKind) (tell : Line → Result A ReadKind) (n : ℕ) (l : Line)
+pub first_found : {A : Type 0} (missing : ReadKind) (tell : Line → Result A ReadKind) (n : ℕ) (l : Line)
     (ls : List Line) (p : A × Ahead)
-    → line_told missing tell n (l ∷ ls) ≡ Ok p → (x : A) × (tell l ≡ Ok x) × ((x, ahead (n + 1) ls) ≡ p)
-first_told missing tell n l ls p h =
+    → line_found missing tell n (l ∷ ls) ≡ Ok p → (x : A) × (tell l ≡ Ok x) × ((x, ahead (n + 1) ls) ≡ p)
+first_found missing tell n l ls p h =
     let r = both_ok (at_line n (tell l)) (λ x. Ok (x, ahead (n + 1) ls)) p h in
     (r.0, ok_at_line n (tell l) r.0 r.1, ok_same {E = ReadFault} _ _ r.2)
 
@@ -141,7 +141,7 @@ rows_from form m zero n ls p s h =
 rows_from form m (suc count) n [] p s h = cc
 rows_from form m (suc count) n (l ∷ ls) p s h =
     let f = both_ok (row_at form m (ahead n (l ∷ ls))) (then_rows form m count) p h in
-    let r = first_told kinds.Truncated (row_of form m) n l ls f.0 f.1 in
+    let r = first_found kinds.Truncated (row_of form m) n l ls f.0 f.1 in
     let o = both_ok (rows_at form m count f.0.1) (with_first f.0.0) p f.2 in
     let whole : (f.0.0 ∷ o.0.0, o.0.1) ≡ p = ok_same {E = ReadFault} _ _ o.2 in
     let others : AreRows form m count f.0.1.lines o.0.0 o.0.1.lines =
@@ -154,21 +154,21 @@ rows_from form m (suc count) n (l ∷ ls) p s h =
     (one_row form m count l ls f.0.0 o.0.0 o.0.1.lines here
     (subst (λ (ks : List Line). AreRows form m count ks o.0.0 o.0.1.lines) (sym after) others))
 
-pub rows_told : (form : Form) (m count : ℕ) (at : Ahead) (p : List (List ℕ) × Ahead) → IsSound form
+pub rows_meant : (form : Form) (m count : ℕ) (at : Ahead) (p : List (List ℕ) × Ahead) → IsSound form
     → rows_at form m count at ≡ Ok p → AreRows form m count at.lines p.0 p.1.lines
-rows_told form m count at p s h = rows_from form m count at.number at.lines p s h
+rows_meant form m count at p s h = rows_from form m count at.number at.lines p s h
 
 -- and lines that hold good rows are read as them
 abbrev pub ReadsRows : Form → ℕ → ℕ → ℕ → List Line → List (List ℕ) → List Line → Type 0
 ReadsRows form m count n ls rows rest = (k : ℕ) × (rows_at form m count (ahead n ls) ≡ Ok (rows, ahead k rest))
 
-pub rows_are_told : (form : Form) (m n : ℕ) (front rest : List Line) (rows : List (List ℕ))
+pub rows_are_found : (form : Form) (m n : ℕ) (front rest : List Line) (rows : List (List ℕ))
     → AllZip IsRowLine front (map (row form) rows) → AllByRecursion (IsGoodRow form m) rows
     → ReadsRows form m (length rows) n (front ++ rest) rows rest
 unfolding rows_at
-rows_are_told form m n [] rest [] h g = (n, refl)
-rows_are_told form m n [] rest (ns ∷ rows) h g = absurd h
-rows_are_told form m n (l ∷ ls) rest [] h g = absurd h
-rows_are_told form m n (l ∷ ls) rest (ns ∷ rows) h g =
-    let others = rows_are_told form m (n + 1) ls rest rows h.1 g.1 in
-    (others.0, rw (row_is_told form m l ns h.0 g.0, others.1) refl)
+rows_are_found form m n [] rest [] h g = (n, refl)
+rows_are_found form m n [] rest (ns ∷ rows) h g = absurd h
+rows_are_found form m n (l ∷ ls) rest [] h g = absurd h
+rows_are_found form m n (l ∷ ls) rest (ns ∷ rows) h g =
+    let others = rows_are_found form m (n + 1) ls rest rows h.1 g.1 in
+    (others.0, rw (row_is_found form m l ns h.0 g.0, others.1) refl)

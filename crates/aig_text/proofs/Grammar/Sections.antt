@@ -16,11 +16,11 @@ use Rattle.aig_text.specs.Rows.{Header, Section, sections, Listed, in_ascii, For
 use Rattle.aig_text.specs.Rows.{input_row, latch_row, output_row, gate_row, input_of, latch_of, output_of, gate_of}
 use Rattle.aig_text.specs.Rows.{input_form, latch_form, output_form, gate_form}
 use Rattle.aig_text.specs.AsciiGrammar.{IsRowLine}
-use Rattle.aig_text.specs.Reading.{Told, rows_at, section_at, sections_at, header_of_row, empty_circuit}
+use Rattle.aig_text.specs.Reading.{Found, rows_at, section_at, sections_at, header_of_row, empty_circuit}
 use Rattle.aig_text.proofs.Steps.{both_ok, ok_same}
 use Rattle.aig_text.proofs.Grammar.Entries.{IsGoodRow, IsLiteralUpTo, IsLatchUpTo, IsGateUpTo, input_entry}
 use Rattle.aig_text.proofs.Grammar.Entries.{latch_entry, output_entry, gate_entry, all_again, rows_again, all_mapped}
-use Rattle.aig_text.proofs.Grammar.Rows.{IsSound, AreRows, rows_told, rows_are_told}
+use Rattle.aig_text.proofs.Grammar.Rows.{IsSound, AreRows, rows_meant, rows_are_found}
 
 -- rows that a section may have, and as many as it has
 pub record FitRows (form : Form) (m count : ℕ) (rows : List (List ℕ)) : Type 0 where
@@ -55,96 +55,96 @@ zips_split R (x ∷ xs) (y ∷ ys) zs h =
 module _ (listed : Section → Listed) (h : Header) where
   -- the rows of these sections, the circuit with them, and whether they may stand there
   abbrev pub rows_under : List Section → List (List (List ℕ)) → List Row
-  rows_under [] told = []
+  rows_under [] found = []
   rows_under (s ∷ ss) [] = []
-  rows_under (s ∷ ss) (rows ∷ told) = map (row (listed s).form) rows ++ rows_under ss told
+  rows_under (s ∷ ss) (rows ∷ found) = map (row (listed s).form) rows ++ rows_under ss found
 
   abbrev pub with_all : List Section → List (List (List ℕ)) → Circuit → Circuit
-  with_all [] told c = c
+  with_all [] found c = c
   with_all (s ∷ ss) [] c = c
-  with_all (s ∷ ss) (rows ∷ told) c = with_all ss told ((listed s).with_rows h rows c)
+  with_all (s ∷ ss) (rows ∷ found) c = with_all ss found ((listed s).with_rows h rows c)
 
   abbrev pub AllFit : List Section → List (List (List ℕ)) → Circuit → Type 0
   AllFit [] [] c = Unit {0}
-  AllFit [] (rows ∷ told) c = ⊥
+  AllFit [] (rows ∷ found) c = ⊥
   AllFit (s ∷ ss) [] c = ⊥
-  AllFit (s ∷ ss) (rows ∷ told) c =
-      FitRows (listed s).form h.max_var ((listed s).count h c) rows × AllFit ss told ((listed s).with_rows h rows c)
+  AllFit (s ∷ ss) (rows ∷ found) c =
+      FitRows (listed s).form h.max_var ((listed s).count h c) rows × AllFit ss found ((listed s).with_rows h rows c)
 
   -- lines that hold the rows of sections
   pub record AreSections (ss : List Section) (c d : Circuit) (ls rest : List Line) : Type 0 where
-    pub told : List (List (List ℕ))
+    pub found : List (List (List ℕ))
     pub front : List Line
     pub lines : ls ≡ front ++ rest
-    pub spelled : AllZip IsRowLine front (rows_under ss told)
-    pub fit : AllFit ss told c
-    pub circuit : with_all ss told c ≡ d
+    pub spelled : AllZip IsRowLine front (rows_under ss found)
+    pub fit : AllFit ss found c
+    pub circuit : with_all ss found c ≡ d
 
   -- one section at the front
   one_section : (s : Section) (ss : List Section) (c d : Circuit) (rows : List (List ℕ)) (ls between rest : List Line)
       → AreRows (listed s).form h.max_var ((listed s).count h c) ls rows between
       → AreSections ss ((listed s).with_rows h rows c) d between rest → AreSections (s ∷ ss) c d ls rest
   one_section s ss c d rows ls between rest a o = record {
-    told = rows ∷ o.told;
+    found = rows ∷ o.found;
     front = a.front ++ o.front;
     lines = a.lines ∙ ap (λ (ks : List Line). a.front ++ ks) o.lines ∙ sym (append_assoc a.front o.front rest);
     spelled =
         zips_joined IsRowLine a.front o.front (map (row (listed s).form) rows)
-        (rows_under ss o.told) a.spelled o.spelled;
+        (rows_under ss o.found) a.spelled o.spelled;
     fit = (record { good = a.good; counted = a.counted }, o.fit);
     circuit = o.circuit;
   }
 
-  abbrev after_rows : Section → Circuit → List (List ℕ) × Ahead → Told Circuit
-  after_rows s c told = Ok ((listed s).with_rows h told.0 c, told.1)
+  abbrev after_rows : Section → Circuit → List (List ℕ) × Ahead → Found Circuit
+  after_rows s c found = Ok ((listed s).with_rows h found.0 c, found.1)
 
-  abbrev then_sections : List Section → Circuit × Ahead → Told Circuit
-  then_sections ss told = sections_at listed h ss told.0 told.1
+  abbrev then_sections : List Section → Circuit × Ahead → Found Circuit
+  then_sections ss found = sections_at listed h ss found.0 found.1
 
-  pub sections_told : ((s : Section) → IsSound (listed s).form)
+  pub sections_found : ((s : Section) → IsSound (listed s).form)
       → (ss : List Section) (c : Circuit) (at : Ahead) (p : Circuit × Ahead)
       → sections_at listed h ss c at ≡ Ok p → AreSections ss c p.0 at.lines p.1.lines
   unfolding sections_at
-  sections_told sound [] c at p is =
+  sections_found sound [] c at p is =
       let e : (c, at) ≡ p = ok_same {E = ReadFault} _ _ is in
       subst (λ (q : Circuit × Ahead). AreSections [] c q.0 at.lines q.1.lines) e
-      (record { told = []; front = []; lines = refl; spelled = tt; fit = tt; circuit = refl })
-  sections_told sound (s ∷ ss) c at p is =
+      (record { found = []; front = []; lines = refl; spelled = tt; fit = tt; circuit = refl })
+  sections_found sound (s ∷ ss) c at p is =
       let f = both_ok (section_at (listed s) h c at) (then_sections ss) p is in
       let r = both_ok (rows_at (listed s).form h.max_var ((listed s).count h c) at) (after_rows s c) f.0 f.1 in
       let e : ((listed s).with_rows h r.0.0 c, r.0.1) ≡ f.0 = ok_same {E = ReadFault} _ _ r.2 in
       let rows : AreRows (listed s).form h.max_var ((listed s).count h c) at.lines r.0.0 r.0.1.lines =
-      rows_told (listed s).form h.max_var ((listed s).count h c) at r.0 (sound s) r.1 in
-      let others : AreSections ss f.0.0 p.0 f.0.1.lines p.1.lines = sections_told sound ss f.0.0 f.0.1 p f.2 in
+      rows_meant (listed s).form h.max_var ((listed s).count h c) at r.0 (sound s) r.1 in
+      let others : AreSections ss f.0.0 p.0 f.0.1.lines p.1.lines = sections_found sound ss f.0.0 f.0.1 p f.2 in
       one_section s ss c p.0 r.0.0 at.lines r.0.1.lines p.1.lines rows
       (subst (λ (q : Circuit × Ahead). AreSections ss q.0 p.0 q.1.lines p.1.lines) (sym e) others)
 
   -- and lines that hold such rows are read as them
   abbrev ReadsSections : List Section → List (List (List ℕ)) → Circuit → ℕ → List Line → List Line → Type 0
-  ReadsSections ss told c n ls rest =
-      (k : ℕ) × (sections_at listed h ss c (ahead n ls) ≡ Ok (with_all ss told c, ahead k rest))
+  ReadsSections ss found c n ls rest =
+      (k : ℕ) × (sections_at listed h ss c (ahead n ls) ≡ Ok (with_all ss found c, ahead k rest))
 
-  one_is_read : (s : Section) (ss : List Section) (c : Circuit) (rows : List (List ℕ)) (told : List (List (List ℕ)))
+  one_is_read : (s : Section) (ss : List Section) (c : Circuit) (rows : List (List ℕ)) (found : List (List (List ℕ)))
       (n k j : ℕ) (ls between rest : List Line)
       → rows_at (listed s).form h.max_var ((listed s).count h c) (ahead n ls) ≡ Ok (rows, ahead k between)
       → sections_at listed h ss ((listed s).with_rows h rows c) (ahead k between)
-      ≡ Ok (with_all ss told ((listed s).with_rows h rows c), ahead j rest)
-      → sections_at listed h (s ∷ ss) c (ahead n ls) ≡ Ok (with_all (s ∷ ss) (rows ∷ told) c, ahead j rest)
+      ≡ Ok (with_all ss found ((listed s).with_rows h rows c), ahead j rest)
+      → sections_at listed h (s ∷ ss) c (ahead n ls) ≡ Ok (with_all (s ∷ ss) (rows ∷ found) c, ahead j rest)
   unfolding sections_at
-  one_is_read s ss c rows told n k j ls between rest r o = rw (r, o) refl
+  one_is_read s ss c rows found n k j ls between rest r o = rw (r, o) refl
 
-  pub sections_are_told : (ss : List Section) (told : List (List (List ℕ))) (c : Circuit) (n : ℕ)
+  pub sections_are_found : (ss : List Section) (found : List (List (List ℕ))) (c : Circuit) (n : ℕ)
       (front rest : List Line)
-      → AllZip IsRowLine front (rows_under ss told) → AllFit ss told c → ReadsSections ss told c n (front ++ rest) rest
+      → AllZip IsRowLine front (rows_under ss found) → AllFit ss found c → ReadsSections ss found c n (front ++ rest) rest
   unfolding sections_at
-  sections_are_told [] [] c n [] rest z fit = (n, refl)
-  sections_are_told [] [] c n (l ∷ ls) rest z fit = absurd z
-  sections_are_told [] (rows ∷ told) c n front rest z fit = absurd fit
-  sections_are_told (s ∷ ss) [] c n front rest z fit = absurd fit
-  sections_are_told (s ∷ ss) (rows ∷ told) c n front rest z fit =
-      let two = zips_split IsRowLine front (map (row (listed s).form) rows) (rows_under ss told) z in
-      let r = rows_are_told (listed s).form h.max_var n two.first (two.second ++ rest) rows two.first_zips fit.0.good in
-      let o = sections_are_told ss told ((listed s).with_rows h rows c) r.0 two.second rest two.second_zips fit.1 in
+  sections_are_found [] [] c n [] rest z fit = (n, refl)
+  sections_are_found [] [] c n (l ∷ ls) rest z fit = absurd z
+  sections_are_found [] (rows ∷ found) c n front rest z fit = absurd fit
+  sections_are_found (s ∷ ss) [] c n front rest z fit = absurd fit
+  sections_are_found (s ∷ ss) (rows ∷ found) c n front rest z fit =
+      let two = zips_split IsRowLine front (map (row (listed s).form) rows) (rows_under ss found) z in
+      let r = rows_are_found (listed s).form h.max_var n two.first (two.second ++ rest) rows two.first_zips fit.0.good in
+      let o = sections_are_found ss found ((listed s).with_rows h rows c) r.0 two.second rest two.second_zips fit.1 in
       let lines : front ++ rest ≡ two.first ++ (two.second ++ rest) = ap (λ (ks : List Line). ks ++ rest) two.are
       ∙ append_assoc two.first two.second rest in
       let here : rows_at (listed s).form h.max_var ((listed s).count h c) (ahead n (front ++ rest)) ≡ Ok
@@ -153,7 +153,7 @@ module _ (listed : Section → Listed) (h : Header) where
       (subst
       (λ count. rows_at (listed s).form h.max_var count (ahead n (two.first ++ (two.second ++ rest))) ≡ Ok
       (rows, ahead r.0 (two.second ++ rest))) fit.0.counted r.1) in
-      (o.0, one_is_read s ss c rows told n r.0 o.0 (front ++ rest) (two.second ++ rest) rest here o.1)
+      (o.0, one_is_read s ss c rows found n r.0 o.0 (front ++ rest) (two.second ++ rest) rest here o.1)
 
 sound : (s : Section) → IsSound (in_ascii s).form
 sound Inputs = omega arith
@@ -187,10 +187,10 @@ pub record FourSections (h : Header) (c : Circuit) (ls rest : List Line) : Type 
   pub fit_gates : FitRows gate_form h.max_var h.gates gates
   pub circuit : circuit_of h.max_var inputs latches outputs gates ≡ c
 
-four : (h : Header) (c : Circuit) (ls rest front : List Line) (told : List (List (List ℕ))) → ls ≡ front ++ rest
-    → AllZip IsRowLine front (rows_under in_ascii h sections told)
-    → AllFit in_ascii h sections told (empty_circuit h.max_var)
-    → with_all in_ascii h sections told (empty_circuit h.max_var) ≡ c → FourSections h c ls rest
+four : (h : Header) (c : Circuit) (ls rest front : List Line) (found : List (List (List ℕ))) → ls ≡ front ++ rest
+    → AllZip IsRowLine front (rows_under in_ascii h sections found)
+    → AllFit in_ascii h sections found (empty_circuit h.max_var)
+    → with_all in_ascii h sections found (empty_circuit h.max_var) ≡ c → FourSections h c ls rest
 four h c ls rest front [] lines spelled fit is = absurd fit
 four h c ls rest front (i ∷ []) lines spelled fit is = absurd fit.1
 four h c ls rest front (i ∷ l ∷ []) lines spelled fit is = absurd fit.1.1
@@ -209,13 +209,13 @@ four h c ls rest front (i ∷ l ∷ o ∷ g ∷ []) lines spelled fit is = recor
   fit_gates = fit.1.1.1.0;
   circuit = is;
 }
-four h c ls rest front (i ∷ l ∷ o ∷ g ∷ x ∷ told) lines spelled fit is = absurd fit.1.1.1.1
+four h c ls rest front (i ∷ l ∷ o ∷ g ∷ x ∷ found) lines spelled fit is = absurd fit.1.1.1.1
 
-pub four_told : (h : Header) (at : Ahead) (p : Circuit × Ahead)
+pub four_found : (h : Header) (at : Ahead) (p : Circuit × Ahead)
     → sections_at in_ascii h sections (empty_circuit h.max_var) at ≡ Ok p → FourSections h p.0 at.lines p.1.lines
-four_told h at p is =
-    let a = sections_told in_ascii h sound sections (empty_circuit h.max_var) at p is in
-    four h p.0 at.lines p.1.lines a.front a.told a.lines a.spelled a.fit a.circuit
+four_found h at p is =
+    let a = sections_found in_ascii h sound sections (empty_circuit h.max_var) at p is in
+    four h p.0 at.lines p.1.lines a.front a.found a.lines a.spelled a.fit a.circuit
 
 -- the rows of the circuit are those that were read
 pub rows_read : (h : Header) (c : Circuit) (ls rest : List Line) (f : FourSections h c ls rest)
@@ -386,6 +386,6 @@ module _ (c : Circuit) (form : IsInForm c) where
       (bare c, ahead k rest))
   sections_are_read n front rest z =
       let t =
-      sections_are_told in_ascii own_header sections (map (λ s. (in_ascii s).rows c) sections)
+      sections_are_found in_ascii own_header sections (map (λ s. (in_ascii s).rows c) sections)
       (empty_circuit c.max_var) n front rest z own_rows in
       (t.0, t.1 ∙ ap (λ (d : Circuit). Ok (d, ahead t.0 rest)) rows_tell)

@@ -137,28 +137,28 @@ tail_tells h before c n (l ∷ ls) d none is =
     ]
 
 -- and lines that hold symbols and a comment are read as them
-comment_told : (h : Header) (before : Names) (c : Circuit) (n : ℕ) (ls : List Line) (comment : Option (List ℕ))
+comment_found : (h : Header) (before : Names) (c : Circuit) (n : ℕ) (ls : List Line) (comment : Option (List ℕ))
     → c.comment ≡ None → IsComment ls comment → tail_at h before c n ls ≡ Ok (record c { comment = comment })
 unfolding tail_at
-comment_told h before c n [] None none is = ap (λ (o : Option (List ℕ)). Ok (record c { comment = o })) none
-comment_told h before c n [] (Some bytes) none is = absurd is
-comment_told h before c n (l ∷ ls) None none is = absurd is
-comment_told h before c n (l ∷ ls) (Some bytes) none is =
+comment_found h before c n [] None none is = ap (λ (o : Option (List ℕ)). Ok (record c { comment = o })) none
+comment_found h before c n [] (Some bytes) none is = absurd is
+comment_found h before c n (l ∷ ls) None none is = absurd is
+comment_found h before c n (l ∷ ls) (Some bytes) none is =
     rw (comment_is_read l is.0) (ap (λ (b : List ℕ). Ok (with_comment c b)) (sym is.1))
 
-pub tail_is_told : (h : Header) (before : Names) (c : Circuit) (n : ℕ) (named rest : List Line) (ss : List Symbol)
+pub tail_is_found : (h : Header) (before : Names) (c : Circuit) (n : ℕ) (named rest : List Line) (ss : List Symbol)
     (comment : Option (List ℕ)) → c.comment ≡ None → AllZip IsSymbolLine named ss → AreNew h before ss → IsComment
     rest comment
     → tail_at h before c n (named ++ rest) ≡ Ok (with_tail c ss comment)
 unfolding tail_at
-tail_is_told h before c n [] rest [] comment none z new is =
-    comment_told h before c n rest comment none is
+tail_is_found h before c n [] rest [] comment none z new is =
+    comment_found h before c n rest comment none is
     ∙ ap (λ (ss : List Symbol). Ok (record c { symbols = ss; comment = comment })) (sym (append-nil c.symbols))
-tail_is_told h before c n [] rest (s ∷ ss) comment none z new is = absurd z
-tail_is_told h before c n (l ∷ ls) rest [] comment none z new is = absurd z
-tail_is_told h before c n (l ∷ ls) rest (s ∷ ss) comment none z new is =
+tail_is_found h before c n [] rest (s ∷ ss) comment none z new is = absurd z
+tail_is_found h before c n (l ∷ ls) rest [] comment none z new is = absurd z
+tail_is_found h before c n (l ∷ ls) rest (s ∷ ss) comment none z new is =
     rw (symbol_is_no_comment l s z.0, symbol_is_read l s z.0, new_is_checked h before s (new.0, new.1))
-    (tail_is_told h (with_name before s.kind s.position) (with_symbol c s) (n + 1) ls rest ss comment none z.1 new.2 is
+    (tail_is_found h (with_name before s.kind s.position) (with_symbol c s) (n + 1) ls rest ss comment none z.1 new.2 is
     ∙ ap (λ (ts : List Symbol). Ok (record c { symbols = ts; comment = comment })) (append_assoc c.symbols (s ∷ []) ss))
 
 -- a name stands in one line, as the line does

@@ -4,7 +4,7 @@ use Rattle.std.proofs.Common.{subst, ◌∙◌, sym}
 use Rattle.std.specs.List.{AllByRecursion, AllZip}
 use Rattle.aig_core.specs.declared.circuit.Circuit.{Circuit}
 use Rattle.aig_core.specs.declared.fault.CheckFault.{CheckFault}
-use Rattle.aig_core.specs.Fault.{first_fault}
+use Rattle.aig_core.specs.Fault.{first_structural_fault}
 use Rattle.aig_core.proofs.Checking.Faultless.{well_formed, faultless}
 use Rattle.aig_core.proofs.Checking.Fitting.{well_formed_in_form}
 use Rattle.aig_core.specs.declared.circuit.Symbol.{Symbol}
@@ -21,10 +21,10 @@ use Rattle.aig_text.specs.AsciiGrammar.{IsRowLine, IsAsciiText}
 use Rattle.aig_text.specs.Reading.{◌>>=◌, header_of, tail_at, header_at, sections_at, empty_circuit, circuit_at}
 use Rattle.aig_text.specs.Reading.{unless_faulty, reading}
 use Rattle.aig_text.proofs.Steps.{both_ok, ok_same}
-use Rattle.aig_text.proofs.Grammar.Rows.{first_told}
-use Rattle.aig_text.proofs.Grammar.Sections.{FourSections, four_told, rows_read, counts_read, in_form}
+use Rattle.aig_text.proofs.Grammar.Rows.{first_found}
+use Rattle.aig_text.proofs.Grammar.Sections.{FourSections, four_found, rows_read, counts_read, in_form}
 use Rattle.aig_text.proofs.Grammar.Sections.{sections_are_read, bare}
-use Rattle.aig_text.proofs.Grammar.Headers.{TellsHeader, HasCounts, own_header, header_tells, header_is_told, heads}
+use Rattle.aig_text.proofs.Grammar.Headers.{TellsHeader, HasCounts, own_header, header_tells, header_is_found, heads}
 use Rattle.aig_text.proofs.Grammar.Headers.{limited, definitions_counted, within_limits}
 use Rattle.aig_text.proofs.Grammar.WholeTail.{right_of, tail_holds, good_symbols, own_tail}
 use Rattle.aig_text.proofs.Grammar.Tail.{TellsTail, with_tail, tail_tells}
@@ -52,14 +52,14 @@ then_sections header =
 no_comment : (h : Header) (c : Circuit) (ls rest : List Line) → FourSections h c ls rest → c.comment ≡ None
 no_comment h c ls rest f = subst (λ (d : Circuit). d.comment ≡ None) f.circuit refl
 
-circuit_told : (limit : ℕ) (ls : List Line) (c : Circuit) → circuit_at limit ls ≡ Ok c → TellCircuit limit ls c
+circuit_found : (limit : ℕ) (ls : List Line) (c : Circuit) → circuit_at limit ls ≡ Ok c → TellCircuit limit ls c
 unfolding circuit_at
-circuit_told limit [] c is = cc
-circuit_told limit (l ∷ ls) c is =
+circuit_found limit [] c is = cc
+circuit_found limit (l ∷ ls) c is =
     let a = both_ok (header_at ascii_word limit (ahead 1 (l ∷ ls))) then_sections c is in
-    let f = first_told kinds.NotAiger (header_of ascii_word limit) 1 l ls a.0 a.1 in
+    let f = first_found kinds.NotAiger (header_of ascii_word limit) 1 l ls a.0 a.1 in
     let b = both_ok (sections_at in_ascii a.0.0 sections (empty_circuit a.0.0.max_var) a.0.1) (then_tail a.0.0) c a.2 in
-    let s : FourSections a.0.0 b.0.0 a.0.1.lines b.0.1.lines = four_told a.0.0 a.0.1 b.0 b.1 in
+    let s : FourSections a.0.0 b.0.0 a.0.1.lines b.0.1.lines = four_found a.0.0 a.0.1 b.0 b.1 in
     let t : TellsTail a.0.0 nothing_named b.0.0 c b.0.1.lines =
     tail_tells a.0.0 nothing_named b.0.0 b.0.1.number b.0.1.lines c
     (no_comment a.0.0 b.0.0 a.0.1.lines b.0.1.lines s) b.2 in
@@ -109,7 +109,7 @@ limits_back c d ss comment is limits =
 pub circuit_in_form : (limit : ℕ) (ls : List Line) (c : Circuit) → AllByRecursion IsOneLine ls
     → circuit_at limit ls ≡ Ok c → IsInForm c
 circuit_in_form limit ls c one is =
-    let t : TellCircuit limit ls c = circuit_told limit ls c is in
+    let t : TellCircuit limit ls c = circuit_found limit ls c is in
     let counts = counts_kept limit ls c t in
     let limits = within_limits ascii_word limit t.first t.header c t.heads counts in
     let numbered : IsInForm t.numbered =
@@ -125,9 +125,9 @@ circuit_in_form limit ls c one is =
     (no_symbols t.header t.numbered t.others t.rest t.sections) counts behind)
 
 -- a well-formed circuit that the lines of a text tell has the text as its file
-told_is_accepted : (limit : ℕ) (text : List ℕ) (c : Circuit) → TellCircuit limit (lines_of text) c → IsWellFormed c
+found_is_accepted : (limit : ℕ) (text : List ℕ) (c : Circuit) → TellCircuit limit (lines_of text) c → IsWellFormed c
     → IsAsciiText text limit c
-told_is_accepted limit text c t w =
+found_is_accepted limit text c t w =
     let counts = counts_kept limit (lines_of text) c t in
     record {
       header = t.first;
@@ -156,11 +156,11 @@ pub reading_is_accepted : (limit : ℕ) (text : List ℕ) (c : Circuit) → read
     → IsAsciiText text limit c
 unfolding reading
 reading_is_accepted limit text c h =
-    let r = both_ok (circuit_at limit (lines_of text)) (λ (d : Circuit). unless_faulty d (first_fault d)) c h in
-    let n = no_fault r.0 c (first_fault r.0) r.2 in
+    let r = both_ok (circuit_at limit (lines_of text)) (λ (d : Circuit). unless_faulty d (first_structural_fault d)) c h in
+    let n = no_fault r.0 c (first_structural_fault r.0) r.2 in
     let form : IsInForm r.0 = circuit_in_form limit (lines_of text) r.0 (pieces text).one_each r.1 in
     subst (λ (d : Circuit). IsAsciiText text limit d) n.1
-    (told_is_accepted limit text r.0 (circuit_told limit (lines_of text) r.0 r.1) (well_formed r.0 form n.0))
+    (found_is_accepted limit text r.0 (circuit_found limit (lines_of text) r.0 r.1) (well_formed r.0 form n.0))
 
 -- the lines of a circuit's file are read as the circuit
 steps : (limit k : ℕ) (l : Line) (others rest : List Line) (c : Circuit)
@@ -175,7 +175,7 @@ accepted_lines : (limit : ℕ) (text : List ℕ) (c : Circuit) → IsAsciiText t
     → circuit_at limit (lines_of text) ≡ Ok c
 accepted_lines limit text c a =
     let h =
-    header_is_told ascii_word limit a.header c
+    header_is_found ascii_word limit a.header c
     (refl, (refl, (refl, tt))) a.is_header a.limited a.well_formed.limits a.counted in
     let s = sections_are_read c (well_formed_in_form c a.well_formed) 2 a.numbered a.tail a.are_rows in
     rw a.lines

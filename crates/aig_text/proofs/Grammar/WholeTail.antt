@@ -16,7 +16,7 @@ use Rattle.aig_text.specs.Reading.{tail_at, count_named}
 use Rattle.aig_text.proofs.Grammar.Headers.{HasCounts, own_header}
 use Rattle.aig_text.proofs.Grammar.Sections.{bare}
 use Rattle.aig_text.proofs.Grammar.Named.{IsPlaced, new_apart, new_placed, apart_new}
-use Rattle.aig_text.proofs.Grammar.Tail.{TellsTail, tail_is_told, names_in_lines}
+use Rattle.aig_text.proofs.Grammar.Tail.{TellsTail, tail_is_found, names_in_lines}
 
 -- as many things as the header tells may be named
 count_is : (h : Header) (c : Circuit) → HasCounts h c → (k : Kind) → count_named h k ≡ count_of c k
@@ -40,15 +40,15 @@ right_of P (x ∷ xs) ys h = right_of P xs ys h.1
 -- lines that tell the tail of a circuit that had none
 module _ (h : Header) (before : Names) (c d : Circuit) (ls : List Line) (t : TellsTail h before c d ls)
     (none : c.symbols ≡ []) where
-  symbols_told : t.symbols ≡ d.symbols
-  symbols_told = ap (λ (ss : List Symbol). ss ++ t.symbols) (sym none) ∙ ap (λ (e : Circuit). e.symbols) t.circuit
+  symbols_found : t.symbols ≡ d.symbols
+  symbols_found = ap (λ (ss : List Symbol). ss ++ t.symbols) (sym none) ∙ ap (λ (e : Circuit). e.symbols) t.circuit
 
   pub tail_holds : AreTailLines ls d
   tail_holds = record {
     named = t.named;
     rest = t.rest;
     are = t.are;
-    symbols = subst (λ (ss : List Symbol). AllZip IsSymbolLine t.named ss) symbols_told t.spelled;
+    symbols = subst (λ (ss : List Symbol). AllZip IsSymbolLine t.named ss) symbols_found t.spelled;
     comment =
         subst (λ (o : Option (List ℕ)). IsComment t.rest o) (ap (λ (e : Circuit). e.comment) t.circuit) t.is_comment;
   }
@@ -59,7 +59,7 @@ pub good_symbols : (h : Header) (c d : Circuit) (ls : List Line) → TellsTail h
 good_symbols h c d ls t none counts one =
     let named : AllByRecursion IsOneLine t.named =
     left_of IsOneLine t.named t.rest (subst (λ (ks : List Line). AllByRecursion IsOneLine ks) t.are one) in
-    let symbols : t.symbols ≡ d.symbols = symbols_told h nothing_named c d ls t none in
+    let symbols : t.symbols ≡ d.symbols = symbols_found h nothing_named c d ls t none in
     record {
       positions =
           subst (λ (ss : List Symbol). AllByRecursion (λ (s : Symbol). s.position < count_of d s.kind) ss) symbols
@@ -85,5 +85,5 @@ pub own_tail : (c : Circuit) (n : ℕ) (ls : List Line) → HasGoodSymbols c →
     → tail_at (own_header c) nothing_named (bare c) n ls ≡ Ok c
 own_tail c n ls good a =
     ap (tail_at (own_header c) nothing_named (bare c) n) a.are
-    ∙ tail_is_told (own_header c) nothing_named (bare c) n a.named a.rest c.symbols c.comment refl a.symbols
+    ∙ tail_is_found (own_header c) nothing_named (bare c) n a.named a.rest c.symbols c.comment refl a.symbols
     (apart_new (own_header c) c.symbols (own_placed c c.symbols good.positions) good.apart) a.comment

@@ -53,21 +53,21 @@ header_kept limit (Some ns) l = elim (cases_Bool (list_any (λ n. ltb limit n) n
   | inr h ↦ rw (all_kept limit ns l h) refl
 ]
 
-pub header_told : (word text rest : List ℕ) (limit : ℕ) (ended : Bool) (read : Option (List ℕ))
+pub header_found : (word text rest : List ℕ) (limit : ℕ) (ended : Bool) (read : Option (List ℕ))
     → bytes_eq (before_first ends_word text) word ≡ true → rest ≡ drop (length word) text
     → kept_numbers (more_numbers_at ended HEADER_NUMBERS HEADER_NUMBERS rest) ≡ read
     → header_within (min limit LARGEST) read ≡ header_of word limit (line text ended)
 unfolding header_of
-header_told word text rest limit ended read same is h =
+header_found word text rest limit ended read same is h =
     rw (same, ← is, ← h)
     (header_kept (min limit LARGEST) (more_numbers_at ended HEADER_NUMBERS HEADER_NUMBERS rest) (omega arith))
 
-pub no_header_told : (word text rest : List ℕ) (limit : ℕ) (ended : Bool)
+pub no_header_found : (word text rest : List ℕ) (limit : ℕ) (ended : Bool)
     → bytes_eq (before_first ends_word text) word ≡ true → rest ≡ drop (length word) text
     → kept_numbers (more_numbers_at ended HEADER_NUMBERS HEADER_NUMBERS rest) ≡ None
     → Err kinds.BadHeader ≡ header_of word limit (line text ended)
 unfolding header_within
-no_header_told word text rest limit ended same is h = header_told word text rest limit ended None same is h
+no_header_found word text rest limit ended same is h = header_found word text rest limit ended None same is h
 
 -- a row
 variable_kept : (n : ℕ) → is_no_variable (kept n) ≡ is_no_variable n
@@ -146,12 +146,12 @@ kept_long least most l (Some ms) ns small is h =
     let same : map kept ms ≡ ns = cc in
     ap length (sym same) ∙ length-map ms kept ∙ (row_reads l least most ms small is).1
 
-pub row_told : (form : Form) (m : ℕ) (text : List ℕ) (ended : Bool) (read : Option (List ℕ))
+pub row_meant : (form : Form) (m : ℕ) (text : List ℕ) (ended : Bool) (read : Option (List ℕ))
     → form.least ≤ length form.others → m ≤ LARGEST
     → kept_numbers (numbers_at ended form.least (length form.others) text) ≡ read
     → checked_row form m read ≡ row_of form m (line text ended)
 unfolding row_of
-row_told form m text ended read small l h =
+row_meant form m text ended read small l h =
     rw (← h) (read_long form m text ended (numbers_at ended form.least (length form.others) text) small l refl)
 
 by_tests : (a b : Bool) → cond a (Some kinds.NotVariable) (cond b (Some kinds.LiteralRange) None) ≡ None
@@ -166,7 +166,7 @@ module _ (form : Form) (m most : ℕ) (text : List ℕ) (ended : Bool) (small : 
   row_is : (read : Option (List ℕ)) → kept_numbers (numbers_at ended form.least most text) ≡ read
       → row_of form m (line text ended) ≡ checked_row form m read
   row_is read h =
-      sym (row_told form m text ended read (subst (λ k. form.least ≤ k) (sym long) small) l
+      sym (row_meant form m text ended read (subst (λ k. form.least ≤ k) (sym long) small) l
       (ap (λ k. kept_numbers (numbers_at ended form.least k text)) long ∙ h))
 
   pub no_row : kept_numbers (numbers_at ended form.least most text) ≡ None

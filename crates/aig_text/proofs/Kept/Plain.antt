@@ -18,7 +18,7 @@ use Rattle.aig_text.specs.AsciiGrammar.{IsRowLine}
 use Rattle.aig_text.specs.Reading.{fault_in_row, row_at}
 use Rattle.aig_text.proofs.Kept.Checks.{right_parts}
 use Rattle.aig_text.proofs.Grammar.Entries.{IsGoodRow}
-use Rattle.aig_text.proofs.Grammar.Rows.{all_may_stand, row_is_told}
+use Rattle.aig_text.proofs.Grammar.Rows.{all_may_stand, row_is_found}
 use Rattle.aig_text.specs.Spelling.{is_digit, value_of, IsNumber, AreMoreNumbers}
 use Rattle.aig_text.specs.Parts.Plain.{HasNoLineFeed, BeginsWithNumber, BeginsWithMore, EndsPlainly, stop}
 use Rattle.aig_text.proofs.Grammar.Spellings.{front_passes}
@@ -38,10 +38,10 @@ small_mod n h = omega arith
 -- digits at the front, and what follows them
 digits_are_number : (bytes rest : List ℕ) (end value : ℕ) → end ≢ 0 → end ≤ length bytes → AreDigits (take end bytes)
     → value_of (take end bytes) ≡ value → rest ≡ drop end bytes → BeginsWithNumber bytes value rest
-digits_are_number bytes rest end value some within are told after = record {
+digits_are_number bytes rest end value some within are found after = record {
   digits = take end bytes;
   are = sym (take-append-drop end bytes) ∙ ap (λ (r : List ℕ). take end bytes ++ r) (sym after);
-  spelled = record { some = omega (arith, length-take-le end bytes within); digits = are; value = told };
+  spelled = record { some = omega (arith, length-take-le end bytes within); digits = are; value = found };
 }
 
 same_value : (digits : List ℕ) → AreDigits digits → value_of digits ≡ digits_value 10 digits
@@ -51,14 +51,14 @@ same_value digits are = decimal_model.same digits (decimal_model.to digits are)
 pub plain_number_is : (bytes rest : List ℕ) (end value : ℕ) → end ≢ 0 → end ≤ 18 → end ≤ length bytes
     → end ≡ digits_len bytes → value ≡ digits_value 10 (take end bytes) % 2 ^ 64 → rest ≡ drop end bytes
     → BeginsWithNumber bytes value rest
-plain_number_is bytes rest end value some few within is told after =
+plain_number_is bytes rest end value some few within is found after =
     let are : AreDigits (take end bytes) =
     subst (λ k. AreDigits (take k bytes)) (sym is) (front_passes is_digit bytes) in
     let short : value_of (take end bytes) < 10 ^ 18 =
     digits_value_short decimal_model (take end bytes) 18 are (omega (arith, length-take-le end bytes within)) in
     digits_are_number bytes rest end value some within are
     (sym
-    (told ∙ ap (λ n. n % 2 ^ 64) (sym (same_value (take end bytes) are))
+    (found ∙ ap (λ n. n % 2 ^ 64) (sym (same_value (take end bytes) are))
     ∙ small_mod (value_of (take end bytes)) short)) after
 
 first_digits : (n : ℕ) (bytes : List ℕ) → n ≤ digits_len bytes → AreDigits (take n bytes)
@@ -226,4 +226,4 @@ module _ (bytes rest after more : List ℕ) (first : ℕ) (b : BeginsWithNumber 
       let p = right_parts max_var (roles_of form) (first ∷ more) right in
       let good : IsGoodRow form max_var (first ∷ more) =
       all_may_stand max_var (roles_of form) (first ∷ more) (ap suc long) p.0 p.1 in
-      rw (cut, row_is_told form max_var (line text true) (first ∷ more) (holds form (omega arith)) good) refl
+      rw (cut, row_is_found form max_var (line text true) (first ∷ more) (holds form (omega arith)) good) refl

@@ -1,6 +1,6 @@
 use Rattle.std.proofs.Common.{◌≡◌, ◌+◌, ◌*◌, ◌%◌, get_or, arith, ap, sym, subst}
 use Rattle.aig_binary.proofs.Deltas.Going.{AreRead, read_on, read_end, read_without_end, read_too_far}
-use Rattle.aig_binary.proofs.Deltas.Reading.{delta_none, told}
+use Rattle.aig_binary.proofs.Deltas.Reading.{delta_none, found}
 use Rattle.aig_binary.proofs.delta.get_groups.Goals as goal
 
 pub returns-clause-delta : goal.returns-clause-delta
@@ -21,7 +21,7 @@ returns-then-byte-lt128-clause-delta c =
     let value = c.loop-at.value in
     let weight = c.loop-at.weight in
     let group : c.from.result ≡ get_or bytes at 0 % 128 = c.from.ensures in
-    (told bytes (value + get_or bytes at 0 % 128 * weight) (value + c.from.result * weight)
+    (found bytes (value + get_or bytes at 0 % 128 * weight) (value + c.from.result * weight)
     (at + 1) c.small_only.result (ap (λ n. value + n * weight) group)
     (read_end bytes at value weight c.loop-at-test.true c.if-at-bytes.false c.if-byte-lt128.true c.loop-at.invariant)
     c.small_only.ensures.small c.small_only.ensures.large (omega arith)).0

@@ -1,4 +1,4 @@
-use Rattle.aig_io.proofs.Told.{gave_more}
+use Rattle.aig_io.proofs.KnownBytes.{gave_more}
 use Rattle.aig_io.proofs.Outgoing.{failed_by}
 use Rattle.aig_io.proofs.transfer.read_all.Goals as goal
 

@@ -1,5 +1,5 @@
 use Rattle.std.proofs.Common.{rules}
-use Rattle.aig_io.proofs.Told.{appends_more, no_longer}
+use Rattle.aig_io.proofs.KnownBytes.{appends_more, no_longer}
 use Rattle.aig_io.proofs.transfer.send_all.Goals as goal
 
 pub returns-in_err-at-clause-longest : goal.returns-in_err-at-clause-longest

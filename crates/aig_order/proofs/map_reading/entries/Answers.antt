@@ -13,7 +13,7 @@ loop-at-preserved g c =
     let entry = g.T.BlockEntry.entry c.args.max_var c.args.count in
     rw c.in_ok-push-in-Some.ensures.ok
     (entries_more entry c.loop-at.at c.args.count c.args.line c.loop-at.rest.now c.loop-at.found
-    c.in-Some.after.now c.in-Some.told c.loop-at-test.true c.in-Some.ensures
+    c.in-Some.after.now c.in-Some.recorded c.loop-at-test.true c.in-Some.ensures
     ∙ c.loop-at.invariant)
 
 pub returns : goal.returns

@@ -7,7 +7,7 @@ use Rattle.aig_order.proofs.map_text.put_gates.Goals as goal
 
 pub loop-gate-preserved : goal.loop-gate-preserved
 loop-gate-preserved c =
-    let told = mapped_gate (number_of c.args.numbers.now) c.args.first in
-    added_more (λ g. numbers_text (gate_row (told g))) c.args.text.now.items c.args.gates.now c.loop-gate.gate-index
+    let recorded = mapped_gate (number_of c.args.numbers.now) c.args.first in
+    added_more (λ g. numbers_text (gate_row (recorded g))) c.args.text.now.items c.args.gates.now c.loop-gate.gate-index
     c.gate-item.result c.gate-item.result c.loop-gate.text.items _ (omega arith) c.gate-item.is c.loop-gate.invariant
     (c.in_ok-put_gate.ensures ∙ ap (λ g. c.loop-gate.text.items ++ numbers_text (gate_row g)) c.mapped_gate.ensures)

@@ -7,5 +7,5 @@ use Rattle.aig_order.proofs.map_text.put_gates.Given as goal
 
 abbrev pub invariant-loop-gate : goal.invariant-loop-gate
 invariant-loop-gate l =
-    let told = mapped_gate (number_of l.numbers) l.first in
-    l.text.items ≡ l.fn.text.items ++ flat_map (λ g. numbers_text (gate_row (told g))) (take l.gate-index l.gates)
+    let recorded = mapped_gate (number_of l.numbers) l.first in
+    l.text.items ≡ l.fn.text.items ++ flat_map (λ g. numbers_text (gate_row (recorded g))) (take l.gate-index l.gates)

@@ -6,7 +6,7 @@ use Rattle.aig_image.specs.Image.{IsBinaryImage}
 use Rattle.aig_image.specs.Parts.Numbers.{number_of, IsRenumberingOf}
 use Rattle.aig_order.specs.MapBlock.{block_by, mapped_comment}
 use Rattle.aig_order.proofs.Mapping.MappedOrder.{comment_is_free}
-use Rattle.aig_order.proofs.Mapping.Told.{few_before_gates, is_mapped_image, renumbering_stays}
+use Rattle.aig_order.proofs.Mapping.Recorded.{few_before_gates, is_mapped_image, renumbering_stays}
 use Rattle.aig_order.proofs.mapped.to_binary_with_map.Goals as goal
 
 pub map_comment-requires-clause-fits : goal.map_comment-requires-clause-fits

@@ -33,10 +33,10 @@ returns c = λ comment once.
     let start : 1 + c.len.result + c.len-2.result ≡ 1 + length x.inputs + length x.latches =
     omega (arith, c.len.ensures, c.len-2.ensures) in
     IfOk-weaker c.are_taken_in_turn.result
-    (λ told. IsTrue told
+    (λ recorded. IsTrue recorded
     ↔ AreTakenInTurn (1 + c.len.result + c.len-2.result) c.as_slice-2.result.now c.as_slice-3.result.now)
-    (λ told. IsTrue told ↔ IsLeastReadyOrder (undone b comment x) (positions b.gates))
-    (λ told is.
+    (λ recorded. IsTrue recorded ↔ IsLeastReadyOrder (undone b comment x) (positions b.gates))
+    (λ recorded is.
     tells_order b x comment
     (record {
       ordered = c.requires.ordered;
@@ -44,6 +44,6 @@ returns c = λ comment once.
       bounds = c.requires.bounds;
       once = c.requires.places;
     })
-    once (1 + c.len.result + c.len-2.result) c.as_slice-2.result.now c.as_slice-3.result.now told
+    once (1 + c.len.result + c.len-2.result) c.as_slice-2.result.now c.as_slice-3.result.now recorded
     start c.as_slice-2.ensures are is)
     c.are_taken_in_turn.ensures

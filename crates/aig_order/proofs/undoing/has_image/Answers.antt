@@ -11,7 +11,7 @@ use Rattle.aig_order.specs.Parts.Confirmed.{TellsExchanges}
 use Rattle.aig_order.specs.Parts.Turns.{positions}
 use Rattle.aig_order.specs.Undone.{undone, comment_behind}
 use Rattle.aig_order.proofs.BlockReading.Block.{read_is_within}
-use Rattle.aig_order.proofs.Confirming.Judged.{by_comment, by_exchanges, by_order, told_of_same}
+use Rattle.aig_order.proofs.Confirming.Judged.{by_comment, by_exchanges, by_order, recorded_of_same}
 use Rattle.aig_order.proofs.Sources.SourceVariables.{places_there}
 use Rattle.aig_order.proofs.undoing.has_image.Goals as goal
 
@@ -26,7 +26,7 @@ tells_exchanges-requires c =
     let within = read_is_within c.args.image.now c.args.block.now c.args.comment.now c.requires.read in
     let gates = c.as_slice.ensures ∙ ap (λ (d : Circuit). d.gates) c.circuit-circuit.ensures.value in
     let many : length c.args.block.now.gates ≡ length c.as_slice.result.now = within.0.gates ∙ sym (ap length gates) in
-    subst (λ told. AllByRecursion (λ (g : MappedGate). g.place < length c.as_slice.result.now) told)
+    subst (λ recorded. AllByRecursion (λ (g : MappedGate). g.place < length c.as_slice.result.now) recorded)
     (sym c.as_slice-2.ensures)
     (places_there c.args.block.now.max_var (length c.args.block.now.gates) c.args.block.now.gates within.1.gates
     (length c.as_slice.result.now) many)
@@ -36,7 +36,7 @@ returns-then-not-tells_exchanges c =
     by_exchanges c.args.image.now c.args.block.now c.args.comment.now c.circuit-circuit.ensures.well_formed
     c.requires.ordered c.requires.read c.requires.once c.requires.formed
     c.tells_exchanges.result
-    (told_of_same TellsExchanges c.tells_exchanges.result c.as_slice.result.now c.args.image.now.gates
+    (recorded_of_same TellsExchanges c.tells_exchanges.result c.as_slice.result.now c.args.image.now.gates
     c.as_slice-2.result.now c.args.block.now.gates
     (c.as_slice.ensures ∙ ap (λ (d : Circuit). d.gates) c.circuit-circuit.ensures.value) c.as_slice-2.ensures
     c.tells_exchanges.ensures)
@@ -55,14 +55,14 @@ pub returns : goal.returns
 returns c =
     let b = c.args.block.now in
     let comment = comment_behind b c.args.comment.now in
-    let exchanges = told_of_same TellsExchanges c.tells_exchanges.result c.as_slice.result.now c.args.image.now.gates
+    let exchanges = recorded_of_same TellsExchanges c.tells_exchanges.result c.as_slice.result.now c.args.image.now.gates
     c.as_slice-2.result.now c.args.block.now.gates
     (c.as_slice.ensures ∙ ap (λ (d : Circuit). d.gates) c.circuit-circuit.ensures.value) c.as_slice-2.ensures
     c.tells_exchanges.ensures in
-    let told = subst (λ (y : Circuit). (comment : Option (List ℕ))
+    let recorded = subst (λ (y : Circuit). (comment : Option (List ℕ))
     → AreDistinct (defined_variables (undone b comment y))
     → IfOk c.tells_order.result
-    (λ (told : Bool). IsTrue told ↔ IsLeastReadyOrder (undone b comment y) (positions b.gates)))
+    (λ (recorded : Bool). IsTrue recorded ↔ IsLeastReadyOrder (undone b comment y) (positions b.gates)))
     c.circuit-circuit.ensures.value c.tells_order.ensures in
     IfOk-weaker c.tells_order.result
     (λ (t : Bool). IsTrue t ↔ IsLeastReadyOrder (undone b comment c.args.image.now) (positions b.gates))
@@ -70,4 +70,4 @@ returns c =
     (by_order c.args.image.now b c.args.comment.now c.circuit-circuit.ensures.well_formed
     c.requires.ordered c.requires.read c.requires.once c.requires.formed
     (c.tells_comment.ensures.0 c.if-not-tells_comment.false) (exchanges.0 c.if-not-tells_exchanges.false))
-    (told comment c.requires.formed.once)
+    (recorded comment c.requires.formed.once)

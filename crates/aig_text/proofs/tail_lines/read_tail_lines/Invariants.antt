@@ -3,7 +3,7 @@ use Rattle.aig_text.specs.Lines.{lines_of}
 use Rattle.aig_text.specs.Reading.{tail_at}
 use Rattle.aig_text.proofs.tail_lines.read_tail_lines.Given as goal
 
--- what is left tells what all of it told, and the lines that are left can be counted
+-- what is left tells what all of it found, and the lines that are left can be counted
 abbrev pub invariant-loop-line : goal.invariant-loop-line
 invariant-loop-line l =
     (tail_at l.header l.names l.circuit l.number

@@ -4,7 +4,7 @@ use Rattle.aig_text.proofs.writer.write_ascii.Goals as goal
 
 pub returns-in_err-sent-clause-err : goal.returns-in_err-sent-clause-err
 returns-in_err-sent-clause-err g c =
-    let told =
+    let found =
     beginning_sent _ _ _ _ _ c.new-output.ensures refl refl (rw c.circuit.ensures.value at c.put_text.ensures)
     c.finish-sent.ensures.put (search rules) in
     search rules

@@ -1,7 +1,7 @@
 use Rattle.std.proofs.Common.{◌∙◌, sym, ap, arith, ◌+◌}
 use Rattle.std.proofs.lemmas.List.{drop_all}
 use Rattle.aig_io.specs.Memory.{SourceInMemory}
-use Rattle.aig_io.proofs.Told.{gives_next}
+use Rattle.aig_io.proofs.KnownBytes.{gives_next}
 use Rattle.aig_io.proofs.memory.MemorySourceSource.fetch.Goals as goal
 
 pub returns-clause-bytes : goal.returns-clause-bytes

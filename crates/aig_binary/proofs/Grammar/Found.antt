@@ -17,8 +17,8 @@ use Rattle.aig_text.specs.AsciiGrammar.{IsRowLine}
 use Rattle.aig_text.specs.Reading.{◌>>=◌, at_line, header_of, header_at, sections_at, empty_circuit, tail_at}
 use Rattle.aig_text.proofs.Steps.{both_ok, ok_at_line, ok_same, let_through}
 use Rattle.aig_text.proofs.Grammar.Headers.{TellsHeader, header_tells}
-use Rattle.aig_text.proofs.Grammar.Rows.{IsSound, first_told}
-use Rattle.aig_text.proofs.Grammar.Sections.{FitRows, rows_under, with_all, AllFit, sections_told}
+use Rattle.aig_text.proofs.Grammar.Rows.{IsSound, first_found}
+use Rattle.aig_text.proofs.Grammar.Sections.{FitRows, rows_under, with_all, AllFit, sections_found}
 use Rattle.aig_text.proofs.Grammar.Tail.{TellsTail, tail_tells}
 use Rattle.aig_binary.specs.BinaryGrammar.{binary_word}
 use Rattle.aig_binary.specs.BinaryReading.{filled, gates_at, with_definitions, binary_at}
@@ -73,17 +73,17 @@ sound Outputs = omega arith
 sound Gates = omega arith
 
 -- next literals and outputs have lines, and the other sections none
-record TwoSections (h : Header) (c : Circuit) (told : List (List (List ℕ))) : Type 0 where
+record TwoSections (h : Header) (c : Circuit) (found : List (List (List ℕ))) : Type 0 where
   pub nexts : List (List ℕ)
   pub outputs : List (List ℕ)
-  pub told_is : told ≡ own_rows nexts outputs
+  pub found_is : found ≡ own_rows nexts outputs
   pub fit_nexts : FitRows output_form h.max_var h.latches nexts
   pub fit_outputs : FitRows output_form h.max_var h.outputs outputs
   pub circuit : with_lines h nexts outputs ≡ c
 
-two : (h : Header) (c : Circuit) (told : List (List (List ℕ)))
-    → AllFit in_binary h sections told (empty_circuit h.max_var)
-    → with_all in_binary h sections told (empty_circuit h.max_var) ≡ c → TwoSections h c told
+two : (h : Header) (c : Circuit) (found : List (List (List ℕ)))
+    → AllFit in_binary h sections found (empty_circuit h.max_var)
+    → with_all in_binary h sections found (empty_circuit h.max_var) ≡ c → TwoSections h c found
 two h c [] fit is = absurd fit
 two h c (i ∷ []) fit is = absurd fit.1
 two h c (i ∷ l ∷ []) fit is = absurd fit.1.1
@@ -91,15 +91,15 @@ two h c (i ∷ l ∷ o ∷ []) fit is = absurd fit.1.1.1
 two h c ((i ∷ is) ∷ l ∷ o ∷ g ∷ []) fit e = absurd (omega (arith, fit.0.counted))
 two h c ([] ∷ l ∷ o ∷ (g ∷ gs) ∷ []) fit e = absurd (omega (arith, fit.1.1.1.0.counted))
 two h c ([] ∷ l ∷ o ∷ [] ∷ []) fit is =
-    record { nexts = l; outputs = o; told_is = refl; fit_nexts = fit.1.0; fit_outputs = fit.1.1.0; circuit = is }
-two h c (i ∷ l ∷ o ∷ g ∷ x ∷ told) fit is = absurd fit.1.1.1.1
+    record { nexts = l; outputs = o; found_is = refl; fit_nexts = fit.1.0; fit_outputs = fit.1.1.0; circuit = is }
+two h c (i ∷ l ∷ o ∷ g ∷ x ∷ found) fit is = absurd fit.1.1.1.1
 
-numbers_told : (h : Header) (at : Ahead) (c : Circuit) → numbers_at h at ≡ Ok c → TellsNumbers h at.lines c
-numbers_told h at c is =
+numbers_found : (h : Header) (at : Ahead) (c : Circuit) → numbers_at h at ≡ Ok c → TellsNumbers h at.lines c
+numbers_found h at c is =
     let a = both_ok (sections_at in_binary h sections (empty_circuit h.max_var) at) (then_gates h) c is in
     let b = both_ok (gates_at (1 + h.inputs + h.latches) 1 h.gates (bytes_of a.0.1.lines)) (then_tail h a.0) c a.2 in
-    let s = sections_told in_binary h sound sections (empty_circuit h.max_var) at a.0 a.1 in
-    let t = two h a.0.0 s.told s.fit s.circuit in
+    let s = sections_found in_binary h sound sections (empty_circuit h.max_var) at a.0 a.1 in
+    let t = two h a.0.0 s.found s.fit s.circuit in
     let tail : tail_at h nothing_named (numbered_circuit h t.nexts t.outputs b.0.0) a.0.1.number
     (lines_of b.0.1) ≡ Ok c =
     ap (λ (d : Circuit). tail_at h nothing_named (with_definitions h b.0.0 d) a.0.1.number (lines_of b.0.1)) t.circuit
@@ -114,7 +114,7 @@ numbers_told h at c is =
       lines = s.lines;
       spelled =
           subst
-          (λ (told : List (List (List ℕ))). AllZip IsRowLine s.front (rows_under in_binary h sections told)) t.told_is
+          (λ (found : List (List (List ℕ))). AllZip IsRowLine s.front (rows_under in_binary h sections found)) t.found_is
           s.spelled;
       fit_nexts = t.fit_nexts;
       fit_outputs = t.fit_outputs;
@@ -133,16 +133,16 @@ filled_is h k is =
     let t = let_through (eqb h.max_var (h.inputs + h.latches + h.gates)) kinds.BadHeader (Ok h) k is in
     (ok_same {E = ReadKind} h k t.1, eqb-true h.max_var (h.inputs + h.latches + h.gates) t.0)
 
-pub binary_told : (limit : ℕ) (ls : List Line) (c : Circuit) → binary_at limit ls ≡ Ok c → TellsBinary limit ls c
+pub binary_found : (limit : ℕ) (ls : List Line) (c : Circuit) → binary_at limit ls ≡ Ok c → TellsBinary limit ls c
 unfolding binary_at
-binary_told limit [] c is = cc
-binary_told limit (l ∷ ls) c is =
+binary_found limit [] c is = cc
+binary_found limit (l ∷ ls) c is =
     let a = both_ok (header_at binary_word limit (ahead 1 (l ∷ ls))) then_filled c is in
-    let f = first_told kinds.NotAiger (header_of binary_word limit) 1 l ls a.0 a.1 in
+    let f = first_found kinds.NotAiger (header_of binary_word limit) 1 l ls a.0 a.1 in
     let b = both_ok (at_line 1 (filled a.0.0)) (then_numbers a.0) c a.2 in
     let full = filled_is a.0.0 b.0 (ok_at_line 1 (filled a.0.0) b.0 b.1) in
     let same : f.0 ≡ b.0 = ap (λ (q : Header × Ahead). q.0) f.2 ∙ full.0 in
-    let numbers : TellsNumbers b.0 a.0.1.lines c = numbers_told b.0 a.0.1 c b.2 in
+    let numbers : TellsNumbers b.0 a.0.1.lines c = numbers_found b.0 a.0.1 c b.2 in
     record {
       first = l;
       others = ls;

@@ -1,4 +1,4 @@
--- What is told of a circuit by the numbers that were found is its map block, so that its binary image with this comment
+-- What is recorded of a circuit by the numbers that were found is its map block, so that its binary image with this comment
 -- is its mapped image.
 use Rattle.std.proofs.Common.{◌≡◌, ◌+◌, ◌-◌, ◌≤◌, ℕ, List, length, ap, ◌∙◌, Some, arith}
 use Rattle.aig_core.specs.declared.circuit.Gate.{Gate}
@@ -21,26 +21,26 @@ use Rattle.aig_order.specs.declared.map_block.MappedGate.{MappedGate}
 use Rattle.aig_order.specs.declared.map_block.MapBlock.{MapBlock}
 use Rattle.aig_order.specs.MapBlock.{block_by, map_block, mapped_comment, mapped_gate, IsMappedImage}
 
--- what is told of a gate, by the gate that it becomes
+-- what is recorded of a gate, by the gate that it becomes
 abbrev of_new : ℕ → Gate → Gate → MappedGate
 of_new first g new = record { var = g.var; place = new.var - first; exchanged = has_smaller_first new }
 
 module _ (c : Circuit) (order : List ℕ) (good : IsWellFormed c) (least : IsLeastReadyOrder c order)
-    (number : ℕ → ℕ) (told : (v : ℕ) → number v ≡ number_in (in_new_order c order) v) where
+    (number : ℕ → ℕ) (recorded : (v : ℕ) → number v ≡ number_in (in_new_order c order) v) where
   abbrev f : ℕ → ℕ
   f = renumbered (in_new_order c order)
 
   abbrev first : ℕ
   first = 1 + length c.inputs + length c.latches
 
-  -- what is told is the map block
+  -- what is recorded is the map block
   pub block_is : block_by number c ≡ map_block order c
   block_is =
       let Names : Gate → Type 0 = GateNames (λ v. number v ≡ f v) in
       ap (λ (gates : List MappedGate). record (map_block order c) { gates = gates })
       (map_where Names (mapped_gate number first) (mapped_gate f first)
       (λ g named. ap (of_new first g) (same_gate number f g named)) c.gates
-      (same_names c order good least number told).gates)
+      (same_names c order good least number recorded).gates)
 
 -- the first gate's number is small
 pub few_before_gates : (c : Circuit) → IsWellFormed c → length c.inputs + length c.latches ≤ LARGEST

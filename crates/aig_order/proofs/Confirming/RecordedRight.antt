@@ -38,9 +38,9 @@ none_empty : (comment : Option (List ℕ)) → (is_some comment ≡ true) ⊎ (u
 none_empty None = inr refl
 none_empty (Some text) = inl refl
 
--- what is told rightly of an image
+-- what is recorded rightly of an image
 abbrev IsRight : Circuit → MapBlock × List ℕ → Type 0
-IsRight x told = TellsExchanges x.gates told.0.gates × TellsComment told.0 told.1
+IsRight x recorded = TellsExchanges x.gates recorded.0.gates × TellsComment recorded.0 recorded.1
 
 module _ (c : Circuit) (order : List ℕ) (good : IsWellFormed c) (least : IsLeastReadyOrder c order) where
   abbrev vs : List ℕ
@@ -58,7 +58,7 @@ module _ (c : Circuit) (order : List ℕ) (good : IsWellFormed c) (least : IsLea
   abbrev tell : Gate → MappedGate
   tell = mapped_gate f start
 
-  -- a gate that is told as exchanged has an image with two operands
+  -- a gate that is recorded as exchanged has an image with two operands
   two_operands : (i : ℕ) → i < length c.gates → (tell (at c.gates i)).exchanged ≡ true
       → HasTwoOperands (at images (tell (at c.gates i)).place)
   two_operands i below is same =
@@ -85,11 +85,11 @@ module _ (c : Circuit) (order : List ℕ) (good : IsWellFormed c) (least : IsLea
     none_empty c.comment,
   )
 
--- what is read of a mapped image is told rightly
-pub told_right : (g x : Circuit) (b : MapBlock) (rest : List ℕ) → IsWellFormed g → IsMappedImage g x
+-- what is read of a mapped image is recorded rightly
+pub recorded_right : (g x : Circuit) (b : MapBlock) (rest : List ℕ) → IsWellFormed g → IsMappedImage g x
     → block_reading x ≡ Ok (b, rest)
     → TellsExchanges x.gates b.gates × TellsComment b rest
-told_right g x b rest good (order, least, is) read =
+recorded_right g x b rest good (order, least, is) read =
     let made : MapBlock × List ℕ = (map_block order g, unwrap_or g.comment []) in
     let first : block_reading x ≡ Ok made = ap block_reading is ∙ mapped_reading g order good least in
     let same : made ≡ (b, rest) = one_reading (block_reading x) made (b, rest) first read in

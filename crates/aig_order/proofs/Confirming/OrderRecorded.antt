@@ -12,12 +12,12 @@ use Rattle.aig_order.proofs.Sources.OneSource.{mapped_reading, one_reading}
 use Rattle.aig_order.proofs.Restoring.Recovered.{order_is}
 
 -- what is read of a mapped image tells the order of its source's gates
-pub order_told : (g x : Circuit) (b : MapBlock) (rest : List ℕ) → IsWellFormed g → IsMappedImage g x
+pub order_recorded : (g x : Circuit) (b : MapBlock) (rest : List ℕ) → IsWellFormed g → IsMappedImage g x
     → block_reading x ≡ Ok (b, rest) → IsLeastReadyOrder g (positions b.gates)
-order_told g x b rest good (order, least, is) read =
+order_recorded g x b rest good (order, least, is) read =
     let made : MapBlock × List ℕ = (map_block order g, unwrap_or g.comment []) in
     let first : block_reading x ≡ Ok made = ap block_reading is ∙ mapped_reading g order good least in
     let same : made ≡ (b, rest) = one_reading (block_reading x) made (b, rest) first read in
     let turn : IsLeastReadyOrder g (positions (map_block order g).gates) =
     subst (IsLeastReadyOrder g) (sym (order_is g order good least)) least in
-    subst (λ (told : MapBlock × List ℕ). IsLeastReadyOrder g (positions told.0.gates)) same turn
+    subst (λ (recorded : MapBlock × List ℕ). IsLeastReadyOrder g (positions recorded.0.gates)) same turn
