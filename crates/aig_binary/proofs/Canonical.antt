@@ -113,9 +113,10 @@ canonical_binary c good form ordered = record {
   are_rows = rows_are_good (binary_rows_of c) (rows_full c form);
   are_gates = gates_spelled c.gates (gates_have_deltas c form.limits ordered);
   is_tail = tail_is_good c form;
-  limited =
-      (form.limits.max_var,
-      (form.limits.inputs, (form.limits.latches, (form.limits.outputs, (form.limits.gates, tt)))));
+  limited = (
+    form.limits.max_var,
+    (form.limits.inputs, (form.limits.latches, (form.limits.outputs, (form.limits.gates, tt)))),
+  );
   ordered = ordered;
   well_formed = good;
 }

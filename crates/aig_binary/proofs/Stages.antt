@@ -32,7 +32,8 @@ module _ (h : Header) (c : Circuit) where
       ∙ ap (λ (q : List ℕ × Ahead). Ok (record c { latches = latches_from (1 + h.inputs) (map output_row q.0) }, q.1)) p
   nexts_make_latches (Err e) nexts after found = cc
 
-  no_nexts : (r : Found (List (List ℕ))) (e : ReadFault) → rows_meant output_of [] r ≡ Err e → (r >>= with_nexts) ≡ Err e
+  no_nexts : (r : Found (List (List ℕ))) (e : ReadFault) → rows_meant output_of [] r ≡ Err e
+      → (r >>= with_nexts) ≡ Err e
   no_nexts (Ok x) e found = cc
   no_nexts (Err f) e found = let same : f ≡ e = cc in ap (λ (g : ReadFault). Err g) same
 
@@ -67,19 +68,19 @@ module _ (limit : ℕ) (ls : List Line) where
 
       module _ (c : Circuit) (n : ℕ) (bytes : List ℕ)
           (found : sections_at in_binary h sections (empty_circuit h.max_var) at ≡ Ok (c, ahead n (lines_of bytes)))
-          where
-        pub no_gates : (e : ReadFault)
-            → (e ≡ want_of_memory) ⊎ (gates_at (1 + h.inputs + h.latches) 1 h.gates bytes ≡ Err e)
-            → (e ≡ want_of_memory) ⊎ (binary_at limit ls ≡ Err e)
-        unfolding binary_at
-        no_gates e (inl m) = inl m
-        no_gates e (inr r) = let j = (pieces bytes).joined in inr (rw (is, all, found, j, r) refl)
+        where
+          pub no_gates : (e : ReadFault)
+              → (e ≡ want_of_memory) ⊎ (gates_at (1 + h.inputs + h.latches) 1 h.gates bytes ≡ Err e)
+              → (e ≡ want_of_memory) ⊎ (binary_at limit ls ≡ Err e)
+          unfolding binary_at
+          no_gates e (inl m) = inl m
+          no_gates e (inr r) = let j = (pieces bytes).joined in inr (rw (is, all, found, j, r) refl)
 
-        pub then_tail : (gates : List Gate) (behind : List ℕ)
-            → gates_at (1 + h.inputs + h.latches) 1 h.gates bytes ≡ Ok (gates, behind)
-            → binary_at limit ls ≡ tail_at h nothing_named (with_definitions h gates c) n (lines_of behind)
-        unfolding binary_at
-        then_tail gates behind g = let j = (pieces bytes).joined in rw (is, all, found, j, g) refl
+          pub then_tail : (gates : List Gate) (behind : List ℕ)
+              → gates_at (1 + h.inputs + h.latches) 1 h.gates bytes ≡ Ok (gates, behind)
+              → binary_at limit ls ≡ tail_at h nothing_named (with_definitions h gates c) n (lines_of behind)
+          unfolding binary_at
+          then_tail gates behind g = let j = (pieces bytes).joined in rw (is, all, found, j, g) refl
 
 -- so many rows are read
 rows_count : (form : Form) (max_var count : ℕ) (at after : Ahead) (rows : List (List ℕ))

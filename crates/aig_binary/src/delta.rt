@@ -1,5 +1,6 @@
 //! Deltas: the numbers of gates in a binary file, in groups of seven bits, the lowest group first.
-ghost use Rattle.std.specs.Prelude.{◌≡◌, ◌+◌, ◌*◌, ◌%◌, ◌++◌, ◌^◌, ◌<◌, ◌≤◌, ◌↔◌, ℕ, length, drop, min, None, Some, IfSome};
+ghost use Rattle.std.specs.Prelude.{◌≡◌, ◌+◌, ◌*◌, ◌%◌, ◌++◌, ◌^◌, ◌<◌, ◌≤◌, ◌↔◌, ℕ, length, drop, min, None, Some};
+ghost use Rattle.std.specs.Prelude.{IfSome};
 ghost use Rattle.aig_io.specs.declared.block.TheConstants.{ROOM};
 ghost use Rattle.aig_text.specs.Outcomes.{Gives};
 ghost use Rattle.aig_binary.specs.Delta.{BeginsWithDelta, delta_at, shortest_delta};
@@ -128,8 +129,8 @@ fn get_groups(bytes: &[u8]) -> Option<(u32, usize)>
     None
 }
 
-/// The number at the front, and how many bytes spell it. There is none where no front of the bytes spells a number below
-/// 2^32 in one to five bytes.
+/// The number at the front, and how many bytes spell it. There is none where no front of the bytes spells a number
+/// below 2^32 in one to five bytes.
 #[inline]
 pub fn get_delta(bytes: &[u8]) -> Option<(u32, usize)>
     ensures delta { Gives (λ x. (x.0, drop x.1 bytes.now)) result (delta_at bytes.now) }

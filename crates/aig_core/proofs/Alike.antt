@@ -37,8 +37,10 @@ numbers_eq = pointwise nat_eq
 -- each part of two circuits is the same
 abbrev pub same_parts : Circuit → Circuit → Bool
 same_parts a b =
-    nat_eq a.max_var b.max_var && (numbers_eq a.inputs b.inputs && (pointwise latch_eq a.latches b.latches && (numbers_eq a.outputs b.outputs
-    && (pointwise gate_eq a.gates b.gates && (pointwise symbol_eq a.symbols b.symbols && option_eq numbers_eq a.comment b.comment)))))
+    nat_eq a.max_var b.max_var
+    && (numbers_eq a.inputs b.inputs && (pointwise latch_eq a.latches b.latches && (numbers_eq a.outputs b.outputs
+    && (pointwise gate_eq a.gates b.gates
+    && (pointwise symbol_eq a.symbols b.symbols && option_eq numbers_eq a.comment b.comment)))))
 
 -- a value made of its fields
 abbrev latch_of : ℕ → ℕ → Latch
@@ -57,10 +59,13 @@ same_latch a b =
 
 same_gate : (a b : Gate) → Decides (gate_eq a b) (a ≡ b)
 same_gate a b =
-    Decides-like _ (λ e. let t : gate_of a.var a.left a.right ≡ gate_of b.var b.left b.right = cc in t) (λ e. (cc, (cc, cc)))
-    (Decides-and _ _ (Decides-eqb a.var b.var) (Decides-and _ _ (Decides-eqb a.left b.left) (Decides-eqb a.right b.right)))
+    Decides-like _ (λ e. let t : gate_of a.var a.left a.right ≡ gate_of b.var b.left b.right = cc in t)
+    (λ e. (cc, (cc, cc)))
+    (Decides-and _ _ (Decides-eqb a.var b.var)
+    (Decides-and _ _ (Decides-eqb a.left b.left) (Decides-eqb a.right b.right)))
 
-same_option : {A : Type 0} {E : A → A → Bool} → ((a b : A) → Decides (E a b) (a ≡ b)) → (x y : Option A) → Decides (option_eq E x y) (x ≡ y)
+same_option : {A : Type 0} {E : A → A → Bool} → ((a b : A) → Decides (E a b) (a ≡ b)) → (x y : Option A)
+    → Decides (option_eq E x y) (x ≡ y)
 same_option h None None = (λ _. refl, λ _. refl)
 same_option h None (Some y) = (λ e. cc, λ e. cc)
 same_option h (Some x) None = (λ e. cc, λ e. cc)
@@ -79,11 +84,14 @@ same_kind Output LatchKind = (λ e. cc, λ e. cc)
 
 same_symbol : (a b : Symbol) → Decides (symbol_eq a b) (a ≡ b)
 same_symbol a b =
-    Decides-like _ (λ e. let t : symbol_of a.kind a.position a.name ≡ symbol_of b.kind b.position b.name = cc in t) (λ e. (cc, (cc, cc)))
-    (Decides-and _ _ (same_kind a.kind b.kind) (Decides-and _ _ (Decides-eqb a.position b.position) (bytes_eq-Decides a.name b.name)))
+    Decides-like _ (λ e. let t : symbol_of a.kind a.position a.name ≡ symbol_of b.kind b.position b.name = cc in t)
+    (λ e. (cc, (cc, cc)))
+    (Decides-and _ _ (same_kind a.kind b.kind)
+    (Decides-and _ _ (Decides-eqb a.position b.position) (bytes_eq-Decides a.name b.name)))
 
 abbrev circuit_of : ℕ → List ℕ → List Latch → List ℕ → List Gate → List Symbol → Option (List ℕ) → Circuit
-circuit_of m i l o g s c = record { max_var = m; inputs = i; latches = l; outputs = o; gates = g; symbols = s; comment = c }
+circuit_of m i l o g s c =
+    record { max_var = m; inputs = i; latches = l; outputs = o; gates = g; symbols = s; comment = c }
 
 same_circuit : (a b : Circuit) → Decides (same_parts a b) (a ≡ b)
 same_circuit a b =

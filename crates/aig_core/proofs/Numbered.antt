@@ -1,4 +1,4 @@
 -- Binary order.
-pub mod NumberedOn
+pub mod Sections
 pub mod Ranges
 pub mod WellOrdered

@@ -42,7 +42,8 @@ first_undefined variables literals = option_map Undefined (first_unknown variabl
 abbrev pub first_structural_fault : Circuit → Option CheckFault
 first_structural_fault c =
     option_or (first_redefinition set.empty (defined_variables c))
-    (option_or (first_undefined (with_all set.empty (defined_variables c)) (used_literals c)) (option_map Cyclic (first_cyclic c.gates)))
+    (option_or (first_undefined (with_all set.empty (defined_variables c)) (used_literals c))
+    (option_map Cyclic (first_cyclic c.gates)))
 
 -- a fault that is reported is this one, unless memory was refused
 abbrev pub IsFault : CheckFault → Option CheckFault → Type 0

@@ -1,10 +1,12 @@
--- What can be seen of a circuit part by part, before its definitions and uses are looked at together (this project's profile).
+-- What can be seen of a circuit part by part, before its definitions and uses are looked at together (this project's
+-- profile).
 use Rattle.std.specs.Prelude.{ℕ, List, [], ◌∷◌, ◌+◌, ◌*◌, ◌≤◌}
 use Rattle.std.specs.List.{All, AllByRecursion}
 use Rattle.aig_core.specs.declared.circuit.Circuit.{Circuit}
 use Rattle.aig_core.specs.declared.circuit.Latch.{Latch}
 use Rattle.aig_core.specs.declared.circuit.Gate.{Gate}
-use Rattle.aig_core.specs.Wellformed.{IsWithinLimits, IsVariableUpTo, HasGoodSymbols, defined_variables, used_literals, operands}
+use Rattle.aig_core.specs.Wellformed.{IsWithinLimits, IsVariableUpTo, HasGoodSymbols, defined_variables, used_literals}
+use Rattle.aig_core.specs.Wellformed.{operands}
 
 -- a literal that a circuit with this largest index may use
 abbrev pub IsLiteralUpTo : ℕ → ℕ → Type 0

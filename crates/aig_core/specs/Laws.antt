@@ -30,11 +30,13 @@ GatesHaveAnOrder = (c : Circuit) → (list : List ℕ) × IsLeastReadyOrder c li
 
 -- and no two
 abbrev pub GatesHaveOneOrder : Type 0
-GatesHaveOneOrder = (c : Circuit) (list other : List ℕ) → IsLeastReadyOrder c list → IsLeastReadyOrder c other → list ≡ other
+GatesHaveOneOrder = (c : Circuit) (list other : List ℕ) → IsLeastReadyOrder c list → IsLeastReadyOrder c other
+    → list ≡ other
 
 -- where each variable is defined once, the gates have a rank exactly where their order has all of them
 abbrev pub RankExactlyWhereAllAreOrdered : Type 0
-RankExactlyWhereAllAreOrdered = (c : Circuit) (list : List ℕ) → AreDistinct (defined_variables c) → IsLeastReadyOrder c list
+RankExactlyWhereAllAreOrdered = (c : Circuit) (list : List ℕ) → AreDistinct (defined_variables c)
+    → IsLeastReadyOrder c list
     → HasRank c.gates ↔ ((gate : ℕ) → gate < length c.gates → IsAmong gate list)
 
 -- a gate does not depend on a cycle exactly where the order has it
@@ -89,7 +91,8 @@ IsFullyDefined c = AreDistinct (defined_variables c) × AllByRecursion (IsKnown 
 
 -- the first fault is a redefinition exactly where a variable is defined twice, and then it is of the first such one
 abbrev pub RedefinedExactly : Type 0
-RedefinedExactly = (c : Circuit) (v : ℕ) → (first_structural_fault c ≡ Some (Redefined v)) ↔ IsFirstRepeat (defined_variables c) v
+RedefinedExactly = (c : Circuit) (v : ℕ) → (first_structural_fault c ≡ Some (Redefined v))
+    ↔ IsFirstRepeat (defined_variables c) v
 
 -- it is an undefined literal exactly where none is defined twice and a literal is unknown, and then the first such one
 abbrev pub UndefinedExactly : Type 0

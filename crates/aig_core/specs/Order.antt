@@ -1,5 +1,6 @@
 -- The order in which gates are taken: each time the least gate whose operands are all taken.
-use Rattle.std.specs.Prelude.{ℕ, zero, suc, ◌==◌, ◌*◌, ◌<◌, ◌≤◌, List, [], ◌∷◌, ◌++◌, Bool, false, not, Option, map, length, slice_index_or}
+use Rattle.std.specs.Prelude.{ℕ, zero, suc, ◌==◌, ◌*◌, ◌<◌, ◌≤◌, List, [], ◌∷◌, ◌++◌, Bool, false, not, Option, map}
+use Rattle.std.specs.Prelude.{length, slice_index_or}
 use Rattle.std.specs.List.{AllByRecursion, position, flat_map, count_by, list_any, list_all, find}
 use Rattle.std.specs.Option.{option_to_list, option_map}
 use Rattle.aig_core.specs.declared.circuit.Gate.{Gate}
@@ -13,7 +14,8 @@ gate_of gates variable = position (λ (g : Gate). g.var == variable) gates
 
 -- the positions of the gates that a gate's operands are over, the left operand's first
 abbrev pub gates_under : List Gate → Gate → List ℕ
-gates_under gates g = option_to_list (gate_of gates (variable_of g.left)) ++ option_to_list (gate_of gates (variable_of g.right))
+gates_under gates g = option_to_list (gate_of gates (variable_of g.left))
+    ++ option_to_list (gate_of gates (variable_of g.right))
 
 -- the same, by the gate's position
 abbrev pub gate_operands : List Gate → ℕ → List ℕ
@@ -28,7 +30,8 @@ pub record IsReady (count : ℕ) (needs : ℕ → List ℕ) (taken : List ℕ) (
 -- each gate of the list is the least that is ready once those before it are taken
 abbrev pub TakesLeast : ℕ → (ℕ → List ℕ) → List ℕ → List ℕ → Type 0
 TakesLeast count needs taken [] = Unit {0}
-TakesLeast count needs taken (g ∷ gs) = IsReady count needs taken g × ((h : ℕ) → IsReady count needs taken h → g ≤ h) × TakesLeast count needs (g ∷ taken) gs
+TakesLeast count needs taken (g ∷ gs) = IsReady count needs taken g × ((h : ℕ) → IsReady count needs taken h → g ≤ h)
+    × TakesLeast count needs (g ∷ taken) gs
 
 -- a gate that needs only listed ones is listed, so none can be added
 abbrev pub IsFull : ℕ → (ℕ → List ℕ) → List ℕ → Type 0

@@ -1,4 +1,5 @@
--- What only private functions cite: how parts of the work are described. What the crate promises stands in the other files.
+-- What only private functions cite: how parts of the work are described. What the crate promises stands in the other
+-- files.
 pub mod SymbolOrder
 pub mod Marks
 pub mod Places

@@ -13,7 +13,8 @@ pub record Progress : Type 0 where
 
 abbrev pub progress_code : Coded Progress
 progress_code =
-    code_by (List ℕ × (List ℕ × ℕ)) (coded× (coded_list coded_ℕ) (coded× (coded_list coded_ℕ) coded_ℕ)) (λ p. (p.list, (p.waiting, p.steps)))
+    code_by (List ℕ × (List ℕ × ℕ)) (coded× (coded_list coded_ℕ) (coded× (coded_list coded_ℕ) coded_ℕ))
+    (λ p. (p.list, (p.waiting, p.steps)))
     (λ p. record { list = p.0; waiting = p.1.0; steps = p.1.1 }) (λ _. refl)
 
 -- there is room for each gate, none is taken twice, and steps are made for what was taken or counted down

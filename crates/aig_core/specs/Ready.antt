@@ -1,6 +1,7 @@
--- The set of the gates that may be taken: a tree of words, 64 bits each. Below bit b stands word b + 1, so the levels follow
--- each other from the top, and the bits of the lowest level are the gates.
-use Rattle.std.specs.Prelude.{ℕ, zero, suc, ◌≡◌, ◌+◌, ◌-◌, ◌*◌, ◌<◌, ◌≤◌, ◌^◌, List, Bool, ◌==◌, ◌&&◌, length, nat_lt, slice_index, refl}
+-- The set of the gates that may be taken: a tree of words, 64 bits each. Below bit b stands word b + 1, so the levels
+-- follow each other from the top, and the bits of the lowest level are the gates.
+use Rattle.std.specs.Prelude.{ℕ, zero, suc, ◌≡◌, ◌+◌, ◌-◌, ◌*◌, ◌<◌, ◌≤◌, ◌^◌, List, Bool, ◌==◌, ◌&&◌, length, nat_lt}
+use Rattle.std.specs.Prelude.{slice_index, refl}
 use Rattle.std.specs.Coded.{Coded, code_by, coded×, coded_ℕ, coded_list}
 use Rattle.aig_core.specs.Parts.Marks.{is_marked}
 
@@ -10,7 +11,8 @@ pub record Tree : Type 0 where
   pub first : ℕ
 
 abbrev pub tree_code : Coded Tree
-tree_code = code_by (List ℕ × ℕ) (coded× (coded_list coded_ℕ) coded_ℕ) (λ t. (t.words, t.first)) (λ p. record { words = p.0; first = p.1 }) (λ _. refl)
+tree_code = code_by (List ℕ × ℕ) (coded× (coded_list coded_ℕ) coded_ℕ) (λ t. (t.words, t.first))
+    (λ p. record { words = p.0; first = p.1 }) (λ _. refl)
 
 -- the first bit below so many levels
 unfoldable pub first_bit : ℕ → ℕ

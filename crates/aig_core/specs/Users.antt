@@ -1,13 +1,15 @@
--- Which gates use a gate: chains of operands in one table. Operand 2g is the left one of gate g, and 2g + 1 its right one;
--- a link is one more than an operand, or 0 at the end of a chain.
-use Rattle.std.specs.Prelude.{ℕ, zero, suc, ◌==◌, ◌-◌, ◌/◌, ◌≤◌, List, [], ◌∷◌, slice_index, Option, None, Some, if◌then◌else◌}
+-- Which gates use a gate: chains of operands in one table. Operand 2g is the left one of gate g, and 2g + 1 its right
+-- one; a link is one more than an operand, or 0 at the end of a chain.
+use Rattle.std.specs.Prelude.{ℕ, zero, suc, ◌==◌, ◌-◌, ◌/◌, ◌≤◌, List, [], ◌∷◌, slice_index, Option, None, Some}
+use Rattle.std.specs.Prelude.{if◌then◌else◌}
 use Rattle.std.specs.List.{count_by}
 use Rattle.aig_core.specs.declared.least_ready.users.Users.{Users}
 
 -- the users along a chain, at most so many
 unfoldable pub users_up_to : ℕ → List ℕ → ℕ → List ℕ
 users_up_to zero links link = []
-users_up_to (suc most) links link = if link == 0 then [] else (link - 1) / 2 ∷ users_up_to most links (slice_index links (link - 1))
+users_up_to (suc most) links link =
+    if link == 0 then [] else (link - 1) / 2 ∷ users_up_to most links (slice_index links (link - 1))
 
 -- the users along a chain, whose links fall
 abbrev pub users_from : List ℕ → ℕ → List ℕ

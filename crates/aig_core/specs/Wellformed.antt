@@ -1,5 +1,6 @@
 -- Which circuits are well formed. The AIGER report asks that each variable is defined at most once, that each used
--- variable is defined, and that gates are acyclic. The limits, and what is asked of symbols, are this project's profile.
+-- variable is defined, and that gates are acyclic. The limits, and what is asked of symbols, are this project's
+-- profile.
 use Rattle.std.specs.Prelude.{◌≡◌, ◌<◌, ◌≤◌, ℕ, List, [], ◌∷◌, ◌++◌, ◌⊎◌, map, length}
 use Rattle.std.specs.List.{flat_map, AllByRecursion, Contains}
 use Rattle.aig_core.specs.declared.circuit.Latch.{Latch}
@@ -43,7 +44,8 @@ IsKnown variables literal = (variable_of literal ≡ 0) ⊎ IsAmong (variable_of
 
 -- a rank gives each gate more than each of its operands that is a gate, so no gate depends on itself
 abbrev pub IsRank : (ℕ → ℕ) → List Gate → Type 0
-IsRank rank gates = (g h : Gate) → Contains gates g → Contains gates h → IsAmong h.var (map variable_of (operands g)) → rank h.var < rank g.var
+IsRank rank gates = (g h : Gate) → Contains gates g → Contains gates h → IsAmong h.var (map variable_of (operands g))
+    → rank h.var < rank g.var
 
 abbrev pub HasRank : List Gate → Type 0
 HasRank gates = (rank : ℕ → ℕ) × IsRank rank gates

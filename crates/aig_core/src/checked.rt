@@ -20,7 +20,8 @@ mod faults;
 
 pub use crate::checked::copies::{copy_comment, copy_symbols};
 
-/// A circuit that is well formed. `check` makes one of any circuit that is, `from_well_formed` of one that is known to be.
+/// A circuit that is well formed. `check` makes one of any circuit that is, `from_well_formed` of one that is known to
+/// be.
 #[derive(Drop)]
 pub struct Checked {
     circuit: Circuit,

@@ -204,7 +204,7 @@ impl Circuit {
     /// Whether the circuit is in form: the limits hold, variables and literals are in range, and symbols are good.
     /// Definitions and uses are not compared. It takes no memory. The time is linear in the circuit's size, unless the
     /// symbols are not sorted by kind and position: then all pairs of them are compared.
-    #[tactic(auto, using(crate::proofs::Checking::InForm::in_form_by_parts, crate::proofs::Checking::InForm::entries_of_form))]
+    #[tactic(auto, using(crate::proofs::Checking::InForm::by_parts, crate::proofs::Checking::InForm::in_range))]
     pub fn in_form(&self) -> bool
         ensures { IsTrue result ↔ IsInForm self.now }
     {

@@ -1,6 +1,7 @@
 //! An order of gates that is being made. No module stands in this one: its fields are private, so steps change through
 //! `take` and `count_down` alone.
-ghost use Rattle.std.specs.Prelude.{◌≡◌, ◌+◌, ◌-◌, ◌*◌, ◌<◌, ◌≤◌, [], ◌∷◌, ◌++◌, length, map, nat_lt, slice_index, slice_set, IfOk};
+ghost use Rattle.std.specs.Prelude.{◌≡◌, ◌+◌, ◌-◌, ◌*◌, ◌<◌, ◌≤◌, [], ◌∷◌, ◌++◌, length, map, nat_lt, slice_index};
+ghost use Rattle.std.specs.Prelude.{slice_set, IfOk};
 ghost use Rattle.aig_core.specs.Wellformed.{IsAmong};
 ghost use Rattle.aig_core.specs.Order.{gates_under};
 ghost use Rattle.aig_core.specs.Operands.{how_many};

@@ -97,7 +97,7 @@ fn are_sections_in_order(circuit: &Circuit) -> bool
 }
 
 /// Whether a circuit is in binary order. It is gone over once, and no memory is taken.
-#[tactic(auto, using(crate::proofs::Numbered::NumberedOn::by_sections, crate::proofs::Numbered::NumberedOn::all_sections))]
+#[tactic(auto, using(crate::proofs::Numbered::Sections::by_sections, crate::proofs::Numbered::Sections::all_sections))]
 pub fn is_in_binary_order(checked: &Checked) -> bool
     ensures { IsTrue result ↔ IsInBinaryOrder checked.now }
 {

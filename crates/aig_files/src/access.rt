@@ -33,8 +33,8 @@ pub trait FileAccess {
     fn create(&self, name: &str) -> Result<Self::Writer, DeviceFault>
         ensures { IfOk result (λ writer. Self.Writer.contents writer ≡ made self.now name.now) };
 
-    /// Closes a file that was written, once the system keeps what it took. An error may only show now, as on a network's
-    /// file system, and then not all that was written is kept.
+    /// Closes a file that was written, once the system keeps what it took. An error may only show now, as on a
+    /// network's file system, and then not all that was written is kept.
     fn close(&self, writer: &mut Self::Writer) -> Result<(), DeviceFault>
         ensures bytes { Keeps (Self.Writer.contents writer.old) (Self.Writer.contents writer.new) }
         ensures closed { closed self.now writer.new ≡ true };
@@ -87,8 +87,8 @@ impl<'a, T: Files> HostFiles<'a, T> {
     }
 }
 
-/// Waits until the system keeps what was written. Closing a file of std loses its error, and this reports it. A pipe or a
-/// device keeps nothing, and would refuse this.
+/// Waits until the system keeps what was written. Closing a file of std loses its error, and this reports it. A pipe or
+/// a device keeps nothing, and would refuse this.
 fn keep<F: OpenFile>(file: &F) -> io::Result<()> {
     if file.metadata()?.is_file() {
         file.sync_data()?;

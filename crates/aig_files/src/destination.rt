@@ -1,5 +1,6 @@
 //! Files as sinks.
-ghost use Rattle.std.specs.Prelude.{◌≡◌, ◌+◌, ◌-◌, ◌^◌, ◌<◌, ◌≤◌, ℕ, None, length, max, take, is_ok, IfOk, if◌then◌else◌, true};
+ghost use Rattle.std.specs.Prelude.{◌≡◌, ◌+◌, ◌-◌, ◌^◌, ◌<◌, ◌≤◌, ℕ, None, length, max, take, is_ok, IfOk};
+ghost use Rattle.std.specs.Prelude.{if◌then◌else◌, true};
 ghost use Rattle.std.specs.Io.KnownBytes.{Keeps, WriteAppends};
 ghost use Rattle.aig_files.specs.Named.{bytes_of, unwritten};
 

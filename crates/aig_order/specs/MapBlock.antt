@@ -1,6 +1,6 @@
--- The map block and the mapped image (this project's profile). Conversion to binary gives variables new numbers, gates a
--- new order, and may exchange the operands of a gate. The block is a text that tells all of this, and the mapped image is
--- the binary image with it at the front of its comment.
+-- The map block and the mapped image (this project's profile). Conversion to binary gives variables new numbers, gates
+-- a new order, and may exchange the operands of a gate. The block is a text that tells all of this, and the mapped
+-- image is the binary image with it at the front of its comment.
 use Rattle.std.specs.Prelude.{◌≡◌, ◌+◌, ◌-◌, ◌++◌, ℕ, List, [], ◌∷◌, length, map, Bool, Some, codes}
 use Rattle.std.specs.Prelude.{if◌then◌else◌}
 use Rattle.std.specs.List.{flat_map}
@@ -45,8 +45,8 @@ last_line = codes "aigmap end\n"
 unfoldable pub block_text : MapBlock → List ℕ
 block_text b = header_text map_word (first_row b) ++ (flat_map numbers_text (rows_of b) ++ last_line)
 
--- What is recorded of a gate whose variables become others by f. Its place is how far its new variable is from that of the
--- first gate, and its operands are exchanged where the smaller one would come first.
+-- What is recorded of a gate whose variables become others by f. Its place is how far its new variable is from that of
+-- the first gate, and its operands are exchanged where the smaller one would come first.
 abbrev pub mapped_gate : (ℕ → ℕ) → ℕ → Gate → MappedGate
 mapped_gate f first g = let new = relabelled_gate f g in record {
   var = g.var;

@@ -186,7 +186,8 @@ pub(crate) fn stop(due: usize) -> u8
     if due == 0 { b'\n' } else { b' ' }
 }
 
-/// A number of one to eight digits at the front with the byte behind it, and what follows, where nine bytes stand there.
+/// A number of one to eight digits at the front with the byte behind it, and what follows, where nine bytes stand
+/// there.
 #[inline(always)]
 pub(crate) fn short_number(bytes: &[u8], stop: u8) -> Option<(u64, &[u8])>
     ensures { IfSome result (λ x. BeginsWithNumber bytes.now x.0 (stop ∷ x.1.now)) }

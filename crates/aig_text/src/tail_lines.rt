@@ -5,7 +5,8 @@ ghost use Rattle.aig_text.specs.Lines.{line as line_of};
 ghost use Rattle.aig_text.specs.Parts.Kept.{kept_symbol};
 ghost use Rattle.aig_text.specs.Outcomes.{Gives, GivesOrMemory};
 ghost use Rattle.aig_text.specs.Scanning.{is_comment_line, kind_at, symbol, symbol_at};
-ghost use Rattle.aig_text.specs.Reading.{at_line, checked_symbol, count_named, tail_at, want_of_memory, with_comment, with_symbol};
+ghost use Rattle.aig_text.specs.Reading.{at_line, checked_symbol, count_named, tail_at, want_of_memory, with_comment};
+ghost use Rattle.aig_text.specs.Reading.{with_symbol};
 
 use crate::fault::{Place, ReadFault, ReadKind};
 use crate::header_line::Header;

@@ -55,7 +55,8 @@ line_of_a_file request TheInput text other = refl
 line_of_a_file request Memory text other = absurd (other refl)
 
 -- a refusal that is no text of `clap` is reported in a line of its words
-pub line_of_usage : (usage : Usage) → ((text : _) → usage ≢ usages.Words text) → usage_text usage ≡ line_of [] (usage_words usage)
+pub line_of_usage : (usage : Usage) → ((text : _) → usage ≢ usages.Words text)
+    → usage_text usage ≡ line_of [] (usage_words usage)
 line_of_usage (usages.Words text) other = absurd (other text refl)
 line_of_usage usages.KeepMapNeedsBinary other = refl
 line_of_usage usages.KeepMapExcludesStrip other = refl

@@ -8,8 +8,8 @@ abbrev pub shown : Option (List ℕ) → List ℕ
 shown None = codes "-"
 shown (Some name) = name
 
--- a call's source, as it was before and as it is left: the bytes that it still gives, where they are known, and how often
--- it failed
+-- a call's source, as it was before and as it is left: the bytes that it still gives, where they are known, and how
+-- often it failed
 pub record SourceUse (R : Type 0) : Type 0 where
   pub coming : R → Option (List ℕ)
   pub failures : R → ℕ
@@ -24,8 +24,8 @@ source_use coming failures before after = record {
   after = after;
 }
 
--- a call's sink, as it was before and as it is left: the bytes that it took, where they are known, the longest slice that it
--- was handed, and how often it failed
+-- a call's sink, as it was before and as it is left: the bytes that it took, where they are known, the longest slice
+-- that it was handed, and how often it failed
 pub record SinkUse (W : Type 0) : Type 0 where
   pub taken : W → Option (List ℕ)
   pub longest : W → ℕ
@@ -46,8 +46,8 @@ sink_use taken longest failures before after = record {
 abbrev pub IsSentInBlocks : {W : Type 0} → SinkUse W → Type 0
 IsSentInBlocks sink = sink.longest sink.after ≤ max (sink.longest sink.before) ROOM
 
--- the files of the system by their names: the bytes that each holds, and those that it holds when it was just made, where
--- they are known
+-- the files of the system by their names: the bytes that each holds, and those that it holds when it was just made,
+-- where they are known
 pub record FilesByName : Type 0 where
   pub holds : List ℕ → Option (List ℕ)
   pub made : List ℕ → Option (List ℕ)

@@ -36,7 +36,8 @@ ConversionEnds request files input output errors status =
 -- Help was asked for: the output took the text, or it failed and that is reported.
 abbrev pub HelpEnds : {W E : Type 0} → List ℕ → SinkUse W → SinkUse E → ℕ → Type 0
 HelpEnds text output errors status =
-    ((status ≡ 0) × (errors.after ≡ errors.before) × Appends (output.taken output.before) (output.taken output.after) text
+    ((status ≡ 0) × (errors.after ≡ errors.before)
+    × Appends (output.taken output.before) (output.taken output.after) text
     × (output.failures output.after ≡ output.failures output.before))
     ⊎ ((status ≡ 1) × TookBeginning (output.taken output.before) (output.taken output.after) text
     × (output.failures output.after ≡ output.failures output.before + 1)

@@ -14,7 +14,8 @@ IsFileOf text limit c = IsAsciiText text limit c ⊎ IsBinaryText text limit c
 
 -- what a text is read as: its first word tells which kind of file it is to be
 abbrev pub file_reading : ℕ → List ℕ → Result Circuit ReadFault
-file_reading limit text = if first_word_is binary_word (lines_of text) then binary_reading limit text else reading limit text
+file_reading limit text =
+    if first_word_is binary_word (lines_of text) then binary_reading limit text else reading limit text
 
 -- the first fault of a text, where it has one
 abbrev pub first_fault : ℕ → List ℕ → Option ReadFault

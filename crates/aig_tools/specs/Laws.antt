@@ -16,11 +16,13 @@ use Rattle.aig_tools.specs.Conversion.{IsConversionText}
 
 -- what is read of a text is exactly the circuit whose file it is, of either kind
 abbrev pub FilesAreReadExactly : Type 0
-FilesAreReadExactly = (text : List ℕ) (limit : ℕ) (c : Circuit) → (file_reading limit text ≡ Ok c) ↔ IsFileOf text limit c
+FilesAreReadExactly = (text : List ℕ) (limit : ℕ) (c : Circuit) → (file_reading limit text ≡ Ok c)
+    ↔ IsFileOf text limit c
 
 -- a text is the file of one circuit at most: none is an ASCII file and a binary one
 abbrev pub FilesAreUnambiguous : Type 0
-FilesAreUnambiguous = (text : List ℕ) (limit : ℕ) (c d : Circuit) → IsFileOf text limit c → IsFileOf text limit d → c ≡ d
+FilesAreUnambiguous = (text : List ℕ) (limit : ℕ) (c d : Circuit) → IsFileOf text limit c → IsFileOf text limit d
+    → c ≡ d
 
 -- bytes have one conversion text at most
 abbrev pub ConversionsAreUnambiguous : Type 0
@@ -41,7 +43,8 @@ pub record IsPlain (request : ToAig) : Type 0 where
 -- every canonical binary file survives the trip through ASCII byte for byte
 abbrev pub BinarySurvivesAscii : Type 0
 BinarySurvivesAscii = (there back : ToAig) → IsPlain there → there.ascii ≡ true → IsPlain back → back.ascii ≡ false
-    → (file ascii binary : List ℕ) → IsCanonicalBinary file → IsConversionText there file ascii → IsConversionText back ascii binary → binary ≡ file
+    → (file ascii binary : List ℕ) → IsCanonicalBinary file → IsConversionText there file ascii
+    → IsConversionText back ascii binary → binary ≡ file
 
 -- a conversion to binary at the default limit that leaves nothing out and keeps the map
 pub record KeepsMap (request : ToAig) : Type 0 where
@@ -59,11 +62,12 @@ pub record UndoesMap (request : ToAig) : Type 0 where
   pub undo_map : request.undo_map ≡ true
   pub limit : request.max_var ≡ LARGEST
 
--- Of every ASCII file of a circuit, converted to binary with the map and undone, there is the canonical text of that very
--- circuit, which is a file of it, and the file itself where that is canonical.
+-- Of every ASCII file of a circuit, converted to binary with the map and undone, there is the canonical text of that
+-- very circuit, which is a file of it, and the file itself where that is canonical.
 abbrev pub UndoingGivesAsciiBack : Type 0
 UndoingGivesAsciiBack = (there back : ToAig) → KeepsMap there → UndoesMap back
-    → (c : Circuit) (file binary ascii : List ℕ) → IsAsciiText file LARGEST c → IsConversionText there file binary → IsConversionText back binary ascii
+    → (c : Circuit) (file binary ascii : List ℕ) → IsAsciiText file LARGEST c → IsConversionText there file binary
+    → IsConversionText back binary ascii
     → (ascii ≡ ascii_text c) × IsAsciiText ascii LARGEST c × (file ≡ ascii_text c → ascii ≡ file)
 
 -- the headline: its clauses so far

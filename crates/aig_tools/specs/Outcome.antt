@@ -41,8 +41,8 @@ pub record Refused (request : ToAig) (coming left : Option (List ℕ)) (fault : 
   pub gave : GaveAll coming left bytes
   pub is_first : IsFirstFault fault (first_fault request.max_var bytes)
 
--- The source gave all its bytes, which are the file of a circuit that was to be undone, and this is why it has no undone
--- one, unless memory was refused.
+-- The source gave all its bytes, which are the file of a circuit that was to be undone, and this is why it has no
+-- undone one, unless memory was refused.
 pub record MapRefused (request : ToAig) (coming left : Option (List ℕ)) (fault : MapFault) : Type 0 where
   pub bytes : List ℕ
   pub found : Circuit
@@ -51,7 +51,8 @@ pub record MapRefused (request : ToAig) (coming left : Option (List ℕ)) (fault
   pub asked : request.undo_map ≡ true
   pub is : IsMapFault found fault
 
--- A circuit is not written: memory was refused and nothing was sent, or the sink failed and took a beginning of the text.
+-- A circuit is not written: memory was refused and nothing was sent, or the sink failed and took a beginning of the
+-- text.
 abbrev pub NotWritten : {W : Type 0} → ToAig → Circuit → ToolFault → SinkUse W → Type 0
 NotWritten request written error sink =
     ((error ≡ faults.OutOfMemory) × (sink.after ≡ sink.before))

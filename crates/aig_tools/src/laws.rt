@@ -18,14 +18,15 @@ pub fn conversions_are_unambiguous()
     ensures { ConversionsAreUnambiguous }
 {}
 
-/// The headline, over the conversion texts that `run_toaig` writes. So far: an ASCII file comes back through binary with the
-/// map, as the canonical text of its circuit; and a canonical binary file comes back through ASCII byte for byte.
+/// The headline, over the conversion texts that `run_toaig` writes. So far: an ASCII file comes back through binary
+/// with the map, as the canonical text of its circuit; and a canonical binary file comes back through ASCII byte for
+/// byte.
 pub fn headline()
     ensures { Headline }
 {}
 
-/// The conversion texts that the headline speaks of exist: every ASCII file of a circuit has one to binary with the map, and
-/// that has one to ASCII with the map undone.
+/// The conversion texts that the headline speaks of exist: every ASCII file of a circuit has one to binary with the
+/// map, and that has one to ASCII with the map undone.
 pub fn ascii_files_convert_there_and_back()
     ensures { AsciiFilesConvertThereAndBack }
 {}

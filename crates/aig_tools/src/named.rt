@@ -3,7 +3,8 @@ ghost use Rattle.std.specs.Prelude.{◌≡◌, ◌-◌, ◌≤◌, ◌^◌, ◌<
 ghost use Rattle.aig_io.specs.declared.block.TheConstants.{ROOM};
 ghost use Rattle.aig_command.specs.Answer.{name_of};
 ghost use Rattle.aig_files.specs.Named.{FileSink, unwritten};
-ghost use Rattle.aig_tools.specs.Devices.{files_by_name, IsSentInBlocks, OfSink, sink_use, source_use, use_of_file_sink};
+ghost use Rattle.aig_tools.specs.Devices.{files_by_name, IsSentInBlocks, OfSink, sink_use, source_use};
+ghost use Rattle.aig_tools.specs.Devices.{use_of_file_sink};
 ghost use Rattle.aig_tools.specs.Outcome.{Converted, Done, IsUnusedWhere, NotConverted, NotDone};
 ghost use Rattle.aig_command.specs.Answer.{IsKeptAlone};
 

@@ -87,8 +87,9 @@ fn refuse<E: Sink>(errors: &mut E, usage: &Usage) -> u8
     }
 }
 
-/// Does what the arguments ask for, the program's name first, over the three streams and the files that they name, and answers
-/// the status: 0 done, 1 refused input, a device that failed or out of memory, 2 refused words. An error is reported on
+/// Does what the arguments ask for, the program's name first, over the three streams and the files that they name, and
+/// answers the status: 0 done, 1 refused input, a device that failed or out of memory, 2 refused words. An error is
+/// reported on
 /// `errors`; whether `errors` takes that changes nothing.
 pub fn serve<A: FileAccess, R: Source, W: Sink, E: Sink>(
     access: &A,

@@ -55,8 +55,12 @@ behind : (b : ℕ) (r : Option (ℕ × List ℕ)) (value : ℕ) (rest : List ℕ
 behind b None value rest h = cc
 behind b (Some x) value rest h =
     let p : (b % 128 + 128 * x.0, x.1) ≡ (value, rest) = cc in
-    record { other = x.0; read = ap (λ (r : List ℕ). Some (x.0, r)) (ap (λ (q : ℕ × List ℕ). q.1) p); is =
-    ap (λ (q : ℕ × List ℕ). q.0) p }
+    record {
+      other = x.0;
+      read = ap (λ (r : List ℕ). Some (x.0, r)) (ap (λ (q : ℕ × List ℕ). q.1) p);
+      is =
+          ap (λ (q : ℕ × List ℕ). q.0) p;
+    }
 
 -- what is read is spelled
 pub groups_are : (most : ℕ) (bytes rest : List ℕ) (value : ℕ) → groups_at most bytes ≡ Some (value, rest)

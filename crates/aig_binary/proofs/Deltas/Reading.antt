@@ -116,6 +116,6 @@ pub found : (bytes : List ℕ) (value n count : ℕ) (r : Option (ℕ × ℕ)) �
     → Gives (λ x. (x.0, drop x.1 bytes)) r (delta_at bytes) × IfSome r (λ x. x.1 ≤ length bytes)
 found bytes value n count r e h small large within = elim (cases_lt n (2 ^ 32)) [
   | inl low ↦ rw (small low)
-  (delta_small bytes (drop count bytes) n (h ∙ ap (λ (v : ℕ). Some (v, drop count bytes)) (sym e)) low, within)
+      (delta_small bytes (drop count bytes) n (h ∙ ap (λ (v : ℕ). Some (v, drop count bytes)) (sym e)) low, within)
   | inr high ↦ rw (large high) (delta_large bytes (drop count bytes) value h (rw (← e) high), tt)
 ]

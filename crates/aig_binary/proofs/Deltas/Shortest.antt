@@ -56,7 +56,7 @@ shortest_spell : (more value : ℕ) → value < 128 ^ suc more → Spell (suc mo
 shortest_spell zero value h = subst (Spell 1 value) (sym (shortest_final value)) (one_spells 0 value h)
 shortest_spell (suc more) value h = elim (cases_lt value 128) [
   | inl low ↦ subst (Spell (suc (suc more)) value) (sym (shortest_last (suc more) value low))
-  (one_spells (suc more) value low)
+      (one_spells (suc more) value low)
   | inr high ↦
       subst (Spell (suc (suc more)) value) (sym (shortest_more more value high))
       (more_spell (suc more) value (shortest_groups more (value / 128)) high

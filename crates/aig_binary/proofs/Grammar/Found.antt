@@ -114,7 +114,8 @@ numbers_found h at c is =
       lines = s.lines;
       spelled =
           subst
-          (λ (found : List (List (List ℕ))). AllZip IsRowLine s.front (rows_under in_binary h sections found)) t.found_is
+          (λ (found : List (List (List ℕ))). AllZip IsRowLine s.front (rows_under in_binary h sections found))
+          t.found_is
           s.spelled;
       fit_nexts = t.fit_nexts;
       fit_outputs = t.fit_outputs;

@@ -107,8 +107,12 @@ unfolding gate_at
 gate_found g bytes rest s left right =
     let cut : bytes ++ rest ≡ s.first ++ (s.second ++ rest) = ap (λ (t : List ℕ). t ++ rest) s.are
     ∙ append_assoc s.first s.second rest in
-    rw (cut, lowered_found (literal_of g.var) 1 g.left s.first (s.second ++ rest) s.left
-    (omega arith), lowered_found g.left 0 g.right s.second rest s.right (omega arith)) refl
+    rw (
+      cut,
+      lowered_found (literal_of g.var) 1 g.left s.first (s.second ++ rest) s.left
+          (omega arith),
+      lowered_found g.left 0 g.right s.second rest s.right (omega arith),
+    ) refl
 
 -- so many gates, one after the other
 pub record AreGates (variable count : ℕ) (bytes : List ℕ) (gs : List Gate) (rest : List ℕ) : Type 0 where

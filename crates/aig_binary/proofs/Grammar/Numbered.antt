@@ -93,9 +93,11 @@ module _ (h : Header) (nexts outputs : List (List ℕ)) (gates : List Gate) wher
   pub literals_are : AllByRecursion (IsGoodRow output_form h.max_var) nexts
       → AllByRecursion (IsGoodRow output_form h.max_var) outputs
       → HasLiteralsUpTo (numbered_circuit h nexts outputs gates)
-  literals_are n o =
-      (subst (λ (ms : List ℕ). AllByRecursion (IsLiteralUpTo h.max_var) ms) (sym (nexts_are (1 + h.inputs) nexts))
-      (up_to h.max_var nexts n), up_to h.max_var outputs o)
+  literals_are n o = (
+    subst (λ (ms : List ℕ). AllByRecursion (IsLiteralUpTo h.max_var) ms) (sym (nexts_are (1 + h.inputs) nexts))
+        (up_to h.max_var nexts n),
+    up_to h.max_var outputs o,
+  )
 
   pub counts_are : length nexts ≡ h.latches → length outputs ≡ h.outputs → length gates ≡ h.gates
       → HasCounts h (numbered_circuit h nexts outputs gates)

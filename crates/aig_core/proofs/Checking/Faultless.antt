@@ -1,5 +1,6 @@
 -- A circuit without a fault is well formed, and a well-formed circuit has no fault.
-use Rattle.std.proofs.Common.{◌≡◌, ℕ, List, [], ◌∷◌, eqb, Bool, true, false, cond, Option, None, Some, refl, sym, ap, subst, ◌∙◌, inl, inr, ⊎_elim}
+use Rattle.std.proofs.Common.{◌≡◌, ℕ, List, [], ◌∷◌, eqb, Bool, true, false, cond, Option, None, Some, refl, sym, ap}
+use Rattle.std.proofs.Common.{subst, ◌∙◌, inl, inr, ⊎_elim}
 use Rattle.std.specs.Prelude.{◌⊎◌, ◌↔◌, ◌≢◌, IsTrue}
 use mathlib.Core.Bool.{◌||◌}
 use Rattle.std.specs.List.{AllByRecursion}
@@ -12,7 +13,8 @@ use Rattle.std.specs.FinSet.{FinSet, contains-insert, contains-empty}
 use Rattle.aig_core.specs.declared.fault.CheckFault.{CheckFault}
 use Rattle.aig_core.specs.declared.circuit.Circuit.{Circuit}
 use Rattle.aig_core.specs.Literal.{variable_of}
-use Rattle.aig_core.specs.Wellformed.{IsAmong, AreDistinct, IsKnown, HasRank, IsWellFormed, defined_variables, used_literals}
+use Rattle.aig_core.specs.Wellformed.{IsAmong, AreDistinct, IsKnown, HasRank, IsWellFormed, defined_variables}
+use Rattle.aig_core.specs.Wellformed.{used_literals}
 use Rattle.aig_core.specs.Form.{IsInForm}
 use Rattle.aig_core.specs.declared.fault.CheckFault.TheVariants.{OutOfMemory, Redefined, Undefined, Cyclic}
 use Rattle.aig_core.specs.Fault.{IsFault, first_repeat, first_redefinition, first_unknown}
@@ -37,7 +39,8 @@ has_old : (s : FinSet nat_cmp) (x y : ℕ) → set.contains s y ≡ true → set
 has_old s x y h = contains-insert nat_cmp_total s x y ∙ or_true _ _ h
 
 -- what a set with one more has is that one, or was there
-was_there : (s : FinSet nat_cmp) (x y : ℕ) → set.contains (set.insert s x) y ≡ true → (y ≡ x) ⊎ (set.contains s y ≡ true)
+was_there : (s : FinSet nat_cmp) (x y : ℕ) → set.contains (set.insert s x) y ≡ true
+    → (y ≡ x) ⊎ (set.contains s y ≡ true)
 was_there s x y h =
     elim (eqb y x) as (λ b. eqb y x ≡ b → (b || set.contains s y) ≡ true → (y ≡ x) ⊎ (set.contains s y ≡ true)) [
       | true ↦ λ e _. inl ((Decides-eqb y x).0 e)
@@ -45,18 +48,22 @@ was_there s x y h =
     ] refl (sym (contains-insert nat_cmp_total s x y ∙ ap (λ b. b || set.contains s y) (unsigned_tied y x)) ∙ h)
 
 -- the first of no repeat is new, and no other is a repeat
-pub no_repeat : (s : FinSet nat_cmp) (x : ℕ) (xs : List ℕ) → first_repeat s (x ∷ xs) ≡ None → (set.contains s x ≡ false) × (first_repeat (set.insert s x) xs ≡ None)
+pub no_repeat : (s : FinSet nat_cmp) (x : ℕ) (xs : List ℕ) → first_repeat s (x ∷ xs) ≡ None → (set.contains s x ≡ false)
+    × (first_repeat (set.insert s x) xs ≡ None)
 no_repeat s x xs h =
-    elim (set.contains s x) as (λ b. cond b (Some x) (first_repeat (set.insert s x) xs) ≡ None → (b ≡ false) × (first_repeat (set.insert s x) xs ≡ None)) [
+    elim (set.contains s x) as (λ b. cond b (Some x) (first_repeat (set.insert s x) xs) ≡ None
+    → (b ≡ false) × (first_repeat (set.insert s x) xs ≡ None)) [
       | true ↦ λ e. cc
       | false ↦ λ e. (refl, e)
     ] h
 
-pub apart : (s : FinSet nat_cmp) (xs : List ℕ) → first_repeat s xs ≡ None → (y : ℕ) → set.contains s y ≡ true → ¬ IsAmong y xs
+pub apart : (s : FinSet nat_cmp) (xs : List ℕ) → first_repeat s xs ≡ None → (y : ℕ) → set.contains s y ≡ true
+    → ¬ IsAmong y xs
 apart s [] none y has a = a
 apart s (x ∷ xs) none y has a =
     let n : (set.contains s x ≡ false) × (first_repeat (set.insert s x) xs ≡ None) = no_repeat s x xs none in
-    ⊎_elim (λ (e : y ≡ x). let f : set.contains s x ≡ true = subst (λ z. set.contains s z ≡ true) e has in let g : set.contains s x ≡ false = n.0 in cc)
+    ⊎_elim (λ (e : y ≡ x). let f : set.contains s x ≡ true = subst (λ z. set.contains s z ≡ true) e has in
+    let g : set.contains s x ≡ false = n.0 in cc)
     (apart (set.insert s x) xs n.1 y (has_old s x y has)) a
 
 pub distinct : (s : FinSet nat_cmp) (xs : List ℕ) → first_repeat s xs ≡ None → AreDistinct xs
@@ -71,13 +78,15 @@ not_true true h = absurd (h refl)
 not_true false h = refl
 
 -- distinct numbers that a set does not have repeat nothing
-pub nothing_repeats : (s : FinSet nat_cmp) (xs : List ℕ) → AreDistinct xs → ((y : ℕ) → IsAmong y xs → ¬ (set.contains s y ≡ true)) → first_repeat s xs ≡ None
+pub nothing_repeats : (s : FinSet nat_cmp) (xs : List ℕ) → AreDistinct xs
+    → ((y : ℕ) → IsAmong y xs → ¬ (set.contains s y ≡ true)) → first_repeat s xs ≡ None
 nothing_repeats s [] d new = refl
 nothing_repeats s (x ∷ xs) d new =
     let fresh : set.contains s x ≡ false = not_true (set.contains s x) (new x (inl refl)) in
     ap (λ b. cond b (Some x) (first_repeat (set.insert s x) xs)) fresh
     ∙ nothing_repeats (set.insert s x) xs d.1 (λ y a has.
-    ⊎_elim (λ (e : y ≡ x). d.0 (subst (λ z. IsAmong z xs) e a)) (λ (old : set.contains s y ≡ true). new y (inr a) old) (was_there s x y has))
+    ⊎_elim (λ (e : y ≡ x). d.0 (subst (λ z. IsAmong z xs) e a)) (λ (old : set.contains s y ≡ true). new y (inr a) old)
+    (was_there s x y has))
 
 -- the empty set has nothing
 pub none_in_empty : (y : ℕ) → ¬ (set.contains (set.empty {R = nat_cmp}) y ≡ true)
@@ -103,10 +112,12 @@ told_twice v xs told = (
 )
 
 -- what the set of all has was there before or stands in the list
-pub found : (s : FinSet nat_cmp) (xs : List ℕ) (y : ℕ) → set.contains (with_all s xs) y ≡ true → (set.contains s y ≡ true) ⊎ IsAmong y xs
+pub found : (s : FinSet nat_cmp) (xs : List ℕ) (y : ℕ) → set.contains (with_all s xs) y ≡ true
+    → (set.contains s y ≡ true) ⊎ IsAmong y xs
 found s [] y h = inl h
 found s (x ∷ xs) y h =
-    ⊎_elim (λ (e : set.contains (set.insert s x) y ≡ true). ⊎_elim (λ (i : y ≡ x). inr (inl i)) (λ (t : set.contains s y ≡ true). inl t) (was_there s x y e))
+    ⊎_elim (λ (e : set.contains (set.insert s x) y ≡ true). ⊎_elim (λ (i : y ≡ x). inr (inl i))
+    (λ (t : set.contains s y ≡ true). inl t) (was_there s x y e))
     (λ (a : IsAmong y xs). inr (inr a)) (found (set.insert s x) xs y h)
 
 pub kept : (s : FinSet nat_cmp) (xs : List ℕ) (y : ℕ) → set.contains s y ≡ true → set.contains (with_all s xs) y ≡ true
@@ -117,35 +128,47 @@ kept s (x ∷ xs) y h = kept (set.insert s x) xs y (has_old s x y h)
 pub taken : (s : FinSet nat_cmp) (xs : List ℕ) (y : ℕ) → IsAmong y xs → set.contains (with_all s xs) y ≡ true
 taken s [] y a = absurd a
 taken s (x ∷ xs) y a =
-    ⊎_elim (λ (e : y ≡ x). kept (set.insert s x) xs y (subst (λ z. set.contains (set.insert s x) z ≡ true) (sym e) (has_new s x)))
+    ⊎_elim (λ (e : y ≡ x). kept (set.insert s x) xs y
+    (subst (λ z. set.contains (set.insert s x) z ≡ true) (sym e) (has_new s x)))
     (taken (set.insert s x) xs y) a
 
 pub known_is : (vars : List ℕ) (lit : ℕ) → is_known (with_all set.empty vars) lit ≡ true → IsKnown vars lit
 known_is vars lit h =
-    elim (eqb (variable_of lit) 0) as (λ b. eqb (variable_of lit) 0 ≡ b → (b || set.contains (with_all set.empty vars) (variable_of lit)) ≡ true → IsKnown vars lit) [
+    elim (eqb (variable_of lit) 0) as (λ b. eqb (variable_of lit) 0 ≡ b
+    → (b || set.contains (with_all set.empty vars) (variable_of lit)) ≡ true → IsKnown vars lit) [
       | true ↦ λ e _. inl ((Decides-eqb (variable_of lit) 0).0 e)
-      | false ↦ λ _ e. ⊎_elim (λ (n : set.contains (set.empty {R = nat_cmp}) (variable_of lit) ≡ true). absurd (none_in_empty _ n)) (λ (a : IsAmong (variable_of lit) vars). inr a) (found set.empty vars (variable_of lit) e)
+      | false ↦ λ _ e. ⊎_elim (λ (n : set.contains (set.empty {R = nat_cmp}) (variable_of lit) ≡ true).
+          absurd (none_in_empty _ n)) (λ (a : IsAmong (variable_of lit) vars). inr a)
+          (found set.empty vars (variable_of lit) e)
     ] refl h
 
 pub known_told : (vars : List ℕ) (lit : ℕ) → IsKnown vars lit → is_known (with_all set.empty vars) lit ≡ true
 known_told vars lit k =
-    ⊎_elim (λ (e : variable_of lit ≡ 0). ap (λ b. b || set.contains (with_all set.empty vars) (variable_of lit)) ((Decides-eqb (variable_of lit) 0).1 e))
+    ⊎_elim (λ (e : variable_of lit ≡ 0). ap (λ b. b || set.contains (with_all set.empty vars) (variable_of lit))
+    ((Decides-eqb (variable_of lit) 0).1 e))
     (λ (a : IsAmong (variable_of lit) vars). or_true _ _ (taken set.empty vars (variable_of lit) a)) k
 
-pub all_known : (vars lits : List ℕ) → first_unknown (with_all set.empty vars) lits ≡ None → AllByRecursion (IsKnown vars) lits
+pub all_known : (vars lits : List ℕ) → first_unknown (with_all set.empty vars) lits ≡ None
+    → AllByRecursion (IsKnown vars) lits
 all_known vars [] h = tt
 all_known vars (x ∷ xs) h =
-    elim (is_known (with_all set.empty vars) x) as (λ b. is_known (with_all set.empty vars) x ≡ b → cond b (first_unknown (with_all set.empty vars) xs) (Some x) ≡ None → AllByRecursion (IsKnown vars) (x ∷ xs)) [
+    elim (is_known (with_all set.empty vars) x) as (λ b. is_known (with_all set.empty vars) x ≡ b
+    → cond b (first_unknown (with_all set.empty vars) xs) (Some x) ≡ None
+    → AllByRecursion (IsKnown vars) (x ∷ xs)) [
       | true ↦ λ e n. (known_is vars x e, all_known vars xs n)
       | false ↦ λ _ n. cc
     ] refl h
 
-pub none_unknown : (vars lits : List ℕ) → AllByRecursion (IsKnown vars) lits → first_unknown (with_all set.empty vars) lits ≡ None
+pub none_unknown : (vars lits : List ℕ) → AllByRecursion (IsKnown vars) lits
+    → first_unknown (with_all set.empty vars) lits ≡ None
 none_unknown vars [] h = refl
 none_unknown vars (x ∷ xs) h =
-    ap (λ b. cond b (first_unknown (with_all set.empty vars) xs) (Some x)) (known_told vars x h.0) ∙ none_unknown vars xs h.1
+    ap (λ b. cond b (first_unknown (with_all set.empty vars) xs) (Some x)) (known_told vars x h.0)
+    ∙ none_unknown vars xs h.1
 
-nothing_told : (repeat unknown cyclic : Option ℕ) → option_or (option_map Redefined repeat) (option_or (option_map Undefined unknown) (option_map Cyclic cyclic)) ≡ None
+nothing_told : (repeat unknown cyclic : Option ℕ)
+    → option_or (option_map Redefined repeat) (option_or (option_map Undefined unknown) (option_map Cyclic cyclic))
+    ≡ None
     → (repeat ≡ None) × (unknown ≡ None) × (cyclic ≡ None)
 nothing_told None None None h = (refl, refl, refl)
 nothing_told None None (Some x) h = cc
@@ -153,15 +176,18 @@ nothing_told None (Some x) cyclic h = cc
 nothing_told (Some x) unknown cyclic h = cc
 
 -- where each variable is defined once and no gate depends on a cycle, the gates have a rank
-pub ranked_where_none_cyclic : (c : Circuit) → AreDistinct (defined_variables c) → first_cyclic c.gates ≡ None → HasRank c.gates
+pub ranked_where_none_cyclic : (c : Circuit) → AreDistinct (defined_variables c) → first_cyclic c.gates ≡ None
+    → HasRank c.gates
 ranked_where_none_cyclic c once none =
     let order = a_least_ready_order c in
-    (rank_exactly_where_all_are_ordered c order.0 once order.1).1 (all_listed_where_none c.gates order.0 order.1.full order.1.in_turn none)
+    (rank_exactly_where_all_are_ordered c order.0 once order.1).1
+    (all_listed_where_none c.gates order.0 order.1.full order.1.in_turn none)
 
 -- a circuit in form without a fault is well formed
 pub well_formed : (c : Circuit) → IsInForm c → first_structural_fault c ≡ None → IsWellFormed c
 well_formed c form h =
-    let n = nothing_told (first_repeat set.empty (defined_variables c)) (first_unknown (with_all set.empty (defined_variables c)) (used_literals c)) (first_cyclic c.gates) h in
+    let n = nothing_told (first_repeat set.empty (defined_variables c))
+    (first_unknown (with_all set.empty (defined_variables c)) (used_literals c)) (first_cyclic c.gates) h in
     let once : AreDistinct (defined_variables c) = distinct set.empty (defined_variables c) n.0 in
     record {
       limits = form.limits;
@@ -175,15 +201,20 @@ well_formed c form h =
 -- a well-formed circuit has no fault
 pub faultless : (c : Circuit) → IsWellFormed c → first_structural_fault c ≡ None
 faultless c w =
-    let once : first_repeat set.empty (defined_variables c) ≡ None = nothing_repeats set.empty (defined_variables c) w.once (λ y _ h. none_in_empty y h) in
-    let known : first_unknown (with_all set.empty (defined_variables c)) (used_literals c) ≡ None = none_unknown (defined_variables c) (used_literals c) w.known in
+    let once : first_repeat set.empty (defined_variables c) ≡ None =
+    nothing_repeats set.empty (defined_variables c) w.once (λ y _ h. none_in_empty y h) in
+    let known : first_unknown (with_all set.empty (defined_variables c)) (used_literals c) ≡ None =
+    none_unknown (defined_variables c) (used_literals c) w.known in
     let order = a_least_ready_order c in
-    let acyclic : first_cyclic c.gates ≡ None = none_cyclic c.gates order.0 order.1.full order.1.in_turn ((rank_exactly_where_all_are_ordered c order.0 w.once order.1).0 w.ranked) in
+    let acyclic : first_cyclic c.gates ≡ None =
+    none_cyclic c.gates order.0 order.1.full order.1.in_turn
+    ((rank_exactly_where_all_are_ordered c order.0 w.once order.1).0 w.ranked) in
     rw (once, known, acyclic) refl
 
 pub faultless_is_well_formed : (c : Circuit) → IsInForm c → (first_structural_fault c ≡ None) ↔ IsWellFormed c
 faultless_is_well_formed c form = (well_formed c form, faultless c)
 
 -- a well-formed circuit is told nothing but want of memory
-pub refuted : (e : CheckFault) (c : Circuit) → IsWellFormed c → e ≢ OutOfMemory → IsFault e (first_structural_fault c) → ⊥
+pub refuted : (e : CheckFault) (c : Circuit) → IsWellFormed c → e ≢ OutOfMemory → IsFault e (first_structural_fault c)
+    → ⊥
 refuted e c good ne h = told_of_none e ne (subst (IsFault e) (faultless c good) h)

@@ -20,7 +20,8 @@ use Rattle.aig_core.specs.Fault.{first_repeat, first_unknown, with_all, is_known
 use Rattle.aig_core.specs.Order.{gate_operands, TakesLeast, IsFull, IsLeastReadyOrder, depends_on_cycle, first_cyclic}
 use Rattle.aig_core.specs.Laws.{IsFirstRepeat, IsFirstUnknown, IsFirstLeftOut, IsFullyDefined}
 use Rattle.aig_core.proofs.Checking.Sections.{repeat_append, unknown_append}
-use Rattle.aig_core.proofs.Checking.Faultless.{distinct, nothing_repeats, none_in_empty, not_true, found, taken, known_is}
+use Rattle.aig_core.proofs.Checking.Faultless.{distinct, nothing_repeats, none_in_empty, not_true, found, taken}
+use Rattle.aig_core.proofs.Checking.Faultless.{known_is}
 use Rattle.aig_core.proofs.Checking.Faultless.{known_told, all_known, none_unknown, ranked_where_none_cyclic}
 use Rattle.aig_core.proofs.Ordering.LeastReady.{a_least_ready_order}
 use Rattle.aig_core.proofs.Ordering.Ranked.{no_gate, at, rank_exactly_where_all_are_ordered}
@@ -238,7 +239,8 @@ module _ (c : Circuit) where
   abbrev unknown : Option ℕ
   unknown = first_unknown (with_all set.empty (defined_variables c)) (used_literals c)
 
-  pub redefined_exactly : (v : ℕ) → (first_structural_fault c ≡ Some (Redefined v)) ↔ IsFirstRepeat (defined_variables c) v
+  pub redefined_exactly : (v : ℕ) → (first_structural_fault c ≡ Some (Redefined v))
+      ↔ IsFirstRepeat (defined_variables c) v
   redefined_exactly v = (
     λ h. (repeats_are_found (defined_variables c) v).0 (is_redefined repeat unknown (first_cyclic c.gates) v h),
     λ f. ap (λ o. reported o unknown (first_cyclic c.gates)) ((repeats_are_found (defined_variables c) v).1 f),
@@ -258,7 +260,8 @@ module _ (c : Circuit) where
   )
 
   -- where there is neither of the other two
-  cyclic_where : (l : ℕ) → (first_structural_fault c ≡ Some (Cyclic l)) ↔ (IsFullyDefined c × (first_cyclic c.gates ≡ Some l))
+  cyclic_where : (l : ℕ) → (first_structural_fault c ≡ Some (Cyclic l))
+      ↔ (IsFullyDefined c × (first_cyclic c.gates ≡ Some l))
   cyclic_where l = (
     λ h. let is = is_cyclic repeat unknown (first_cyclic c.gates) l h in (
       (
@@ -293,7 +296,8 @@ module _ (c : Circuit) where
   cycle_exactly_where_no_rank = (
     λ h. let is = (cyclic_where h.0).0 h.1 in (is.0, no_rank is.0.0 h.0 is.1),
     λ f.
-        elim (first_cyclic c.gates) as (λ o. first_cyclic c.gates ≡ o → (l : ℕ) × (first_structural_fault c ≡ Some (Cyclic l))) [
+        elim (first_cyclic c.gates) as (λ o. first_cyclic c.gates ≡ o
+        → (l : ℕ) × (first_structural_fault c ≡ Some (Cyclic l))) [
           | None ↦ λ none. absurd (f.1 (ranked_where_none_cyclic c f.0.0 none))
           | Some l ↦ λ some. (l, (cyclic_where l).1 (f.0, some))
         ] refl,

@@ -33,8 +33,14 @@ used_nexts = flat_map (λ (l : Latch). l.next ∷ [])
 abbrev pub used_outputs : List ℕ → List ℕ
 used_outputs = flat_map (λ (l : ℕ). l ∷ [])
 
-pub defined_is : (c : Circuit) → (defined_inputs c.inputs ++ defined_latches c.latches) ++ defined_gates c.gates ≡ defined_variables c
-defined_is c = rw (flat_map_single (λ (v : ℕ). v) c.inputs, map-id c.inputs, flat_map_single (λ (l : Latch). l.var) c.latches, flat_map_single (λ (g : Gate). g.var) c.gates) refl
+pub defined_is : (c : Circuit) → (defined_inputs c.inputs ++ defined_latches c.latches) ++ defined_gates c.gates
+    ≡ defined_variables c
+defined_is c = rw (
+  flat_map_single (λ (v : ℕ). v) c.inputs,
+  map-id c.inputs,
+  flat_map_single (λ (l : Latch). l.var) c.latches,
+  flat_map_single (λ (g : Gate). g.var) c.gates,
+) refl
 
 -- what they go through before the gates
 before_is : (c : Circuit)
@@ -43,25 +49,35 @@ before_is c =
     rw (flat_map_single (λ (v : ℕ). v) c.inputs, map-id c.inputs, flat_map_single (λ (l : Latch). l.var) c.latches)
     refl
 
-pub used_is : (c : Circuit) → (used_nexts c.latches ++ used_outputs c.outputs) ++ flat_map operands c.gates ≡ used_literals c
-used_is c = rw (flat_map_single (λ (l : ℕ). l) c.outputs, map-id c.outputs, flat_map_single (λ (l : Latch). l.next) c.latches) refl
+pub used_is : (c : Circuit) → (used_nexts c.latches ++ used_outputs c.outputs) ++ flat_map operands c.gates
+    ≡ used_literals c
+used_is c = rw (
+  flat_map_single (λ (l : ℕ). l) c.outputs,
+  map-id c.outputs,
+  flat_map_single (λ (l : Latch). l.next) c.latches,
+) refl
 
 pub with_all_append : (s : FinSet nat_cmp) (xs ys : List ℕ) → with_all s (xs ++ ys) ≡ with_all (with_all s xs) ys
 with_all_append s [] ys = refl
 with_all_append s (x ∷ xs) ys = with_all_append (set.insert s x) xs ys
 
-pub repeat_append : (s : FinSet nat_cmp) (xs ys : List ℕ) → first_repeat s (xs ++ ys) ≡ option_or (first_repeat s xs) (first_repeat (with_all s xs) ys)
+pub repeat_append : (s : FinSet nat_cmp) (xs ys : List ℕ)
+    → first_repeat s (xs ++ ys) ≡ option_or (first_repeat s xs) (first_repeat (with_all s xs) ys)
 repeat_append s [] ys = refl
 repeat_append s (x ∷ xs) ys =
-    elim (set.contains s x) as (λ b. cond b (Some x) (first_repeat (set.insert s x) (xs ++ ys)) ≡ option_or (cond b (Some x) (first_repeat (set.insert s x) xs)) (first_repeat (with_all (set.insert s x) xs) ys)) [
+    elim (set.contains s x) as (λ b. cond b (Some x) (first_repeat (set.insert s x) (xs ++ ys))
+    ≡ option_or (cond b (Some x) (first_repeat (set.insert s x) xs))
+    (first_repeat (with_all (set.insert s x) xs) ys)) [
       | true ↦ refl
       | false ↦ repeat_append (set.insert s x) xs ys
     ]
 
-pub unknown_append : (s : FinSet nat_cmp) (xs ys : List ℕ) → first_unknown s (xs ++ ys) ≡ option_or (first_unknown s xs) (first_unknown s ys)
+pub unknown_append : (s : FinSet nat_cmp) (xs ys : List ℕ)
+    → first_unknown s (xs ++ ys) ≡ option_or (first_unknown s xs) (first_unknown s ys)
 unknown_append s [] ys = refl
 unknown_append s (x ∷ xs) ys =
-    elim (is_known s x) as (λ b. cond b (first_unknown s (xs ++ ys)) (Some x) ≡ option_or (cond b (first_unknown s xs) (Some x)) (first_unknown s ys)) [
+    elim (is_known s x) as (λ b. cond b (first_unknown s (xs ++ ys)) (Some x)
+    ≡ option_or (cond b (first_unknown s xs) (Some x)) (first_unknown s ys)) [
       | true ↦ unknown_append s xs ys
       | false ↦ refl
     ]
@@ -70,26 +86,35 @@ unknown_append s (x ∷ xs) ys =
 -- the facts on joined lists, for loops over a section
 pub ruleset joined_lists = (common_steps, with_all_append, repeat_append, unknown_append)
 
-told_first : (o p : Option ℕ) (e : CheckFault) → IsFault e (option_map Redefined o) → IsFault e (option_map Redefined (option_or o p))
+told_first : (o p : Option ℕ) (e : CheckFault) → IsFault e (option_map Redefined o)
+    → IsFault e (option_map Redefined (option_or o p))
 told_first None p e told = ⊎_elim (λ out. inl out) (λ none. cc) told
 told_first (Some x) p e told = told
 
-told_at_front : (s : FinSet nat_cmp) (xs ys : List ℕ) (e : CheckFault) → IsFault e (first_redefinition s xs) → IsFault e (first_redefinition s (xs ++ ys))
+told_at_front : (s : FinSet nat_cmp) (xs ys : List ℕ) (e : CheckFault) → IsFault e (first_redefinition s xs)
+    → IsFault e (first_redefinition s (xs ++ ys))
 told_at_front s xs ys e told = rw repeat_append (told_first (first_repeat s xs) _ e told)
 
-goes_on : (s t : FinSet nat_cmp) (xs ys : List ℕ) → t ≡ with_all s xs → first_repeat s xs ≡ None → first_repeat s (xs ++ ys) ≡ first_repeat t ys
+goes_on : (s t : FinSet nat_cmp) (xs ys : List ℕ) → t ≡ with_all s xs → first_repeat s xs ≡ None
+    → first_repeat s (xs ++ ys) ≡ first_repeat t ys
 goes_on s t xs ys is none = repeat_append s xs ys ∙ rw (none, is) refl
 
 module _ (c : Circuit) where
-  pub told_of_inputs : (e : CheckFault) → IsFault e (first_redefinition set.empty (defined_inputs c.inputs)) → IsFault e (first_redefinition set.empty (defined_variables c))
-  told_of_inputs e told = rw (← defined_is c) (told_at_front _ _ (defined_gates c.gates) e (told_at_front _ _ (defined_latches c.latches) e told))
+  pub told_of_inputs : (e : CheckFault) → IsFault e (first_redefinition set.empty (defined_inputs c.inputs))
+      → IsFault e (first_redefinition set.empty (defined_variables c))
+  told_of_inputs e told = rw (← defined_is c)
+      (told_at_front _ _ (defined_gates c.gates) e (told_at_front _ _ (defined_latches c.latches) e told))
 
-  module _ (t : FinSet nat_cmp) (t_is : t ≡ with_all set.empty (defined_inputs c.inputs)) (none : first_repeat set.empty (defined_inputs c.inputs) ≡ None) where
-    latches_repeat : first_repeat t (defined_latches c.latches) ≡ first_repeat set.empty (defined_inputs c.inputs ++ defined_latches c.latches)
+  module _ (t : FinSet nat_cmp) (t_is : t ≡ with_all set.empty (defined_inputs c.inputs))
+      (none : first_repeat set.empty (defined_inputs c.inputs) ≡ None) where
+    latches_repeat : first_repeat t (defined_latches c.latches)
+        ≡ first_repeat set.empty (defined_inputs c.inputs ++ defined_latches c.latches)
     latches_repeat = sym (goes_on _ _ _ _ t_is none)
 
-    pub told_of_latches : (e : CheckFault) → IsFault e (first_redefinition t (defined_latches c.latches)) → IsFault e (first_redefinition set.empty (defined_variables c))
-    told_of_latches e told = rw (← defined_is c) (told_at_front _ _ (defined_gates c.gates) e (rw latches_repeat at told))
+    pub told_of_latches : (e : CheckFault) → IsFault e (first_redefinition t (defined_latches c.latches))
+        → IsFault e (first_redefinition set.empty (defined_variables c))
+    told_of_latches e told =
+        rw (← defined_is c) (told_at_front _ _ (defined_gates c.gates) e (rw latches_repeat at told))
 
     -- what inputs and latches define, where they repeat nothing
     pub all_before : (u : FinSet nat_cmp) → u ≡ with_all t (defined_latches c.latches)
@@ -117,8 +142,17 @@ module _ (c : Circuit) where
         (sym (with_all_append set.empty (c.inputs ++ map (λ (l : Latch). l.var) c.latches)
         (map (λ (g : Gate). g.var) c.gates)))
 
-pub unknown_ends : (s : FinSet nat_cmp) (c : Circuit) → option_or (first_unknown s (used_nexts c.latches)) (first_unknown s (used_outputs c.outputs)) ≡ first_unknown s (map (λ (l : Latch). l.next) c.latches ++ c.outputs)
-unknown_ends s c = rw (flat_map_single (λ (l : ℕ). l) c.outputs, map-id c.outputs, flat_map_single (λ (l : Latch). l.next) c.latches) (sym (unknown_append s (map (λ (l : Latch). l.next) c.latches) c.outputs))
+pub unknown_ends : (s : FinSet nat_cmp) (c : Circuit)
+    → option_or (first_unknown s (used_nexts c.latches)) (first_unknown s (used_outputs c.outputs))
+    ≡ first_unknown s (map (λ (l : Latch). l.next) c.latches ++ c.outputs)
+unknown_ends s c = rw (
+  flat_map_single (λ (l : ℕ). l) c.outputs,
+  map-id c.outputs,
+  flat_map_single (λ (l : Latch). l.next) c.latches,
+)
+    (sym (unknown_append s (map (λ (l : Latch). l.next) c.latches) c.outputs))
 
-pub unknowns : (s : FinSet nat_cmp) (c : Circuit) → option_or (first_unknown s (map (λ (l : Latch). l.next) c.latches ++ c.outputs)) (first_unknown s (flat_map operands c.gates)) ≡ first_unknown s (used_literals c)
+pub unknowns : (s : FinSet nat_cmp) (c : Circuit)
+    → option_or (first_unknown s (map (λ (l : Latch). l.next) c.latches ++ c.outputs))
+    (first_unknown s (flat_map operands c.gates)) ≡ first_unknown s (used_literals c)
 unknowns s c = sym (unknown_append s (map (λ (l : Latch). l.next) c.latches ++ c.outputs) (flat_map operands c.gates))

@@ -1,5 +1,6 @@
 -- Numbers one after another: the variables that a circuit in binary order defines.
-use Rattle.std.proofs.Common.{◌≡◌, ◌+◌, ◌*◌, ◌/◌, ◌<◌, ◌≤◌, ◌||◌, ℕ, zero, suc, List, [], ◌∷◌, ◌++◌, true, false, eqb, length, map, refl, sym, ap, ap₂, ◌∙◌, arith, inl, inr, ⊎_elim, add-one}
+use Rattle.std.proofs.Common.{◌≡◌, ◌+◌, ◌*◌, ◌/◌, ◌<◌, ◌≤◌, ◌||◌, ℕ, zero, suc, List, [], ◌∷◌, ◌++◌, true, false, eqb}
+use Rattle.std.proofs.Common.{length, map, refl, sym, ap, ap₂, ◌∙◌, arith, inl, inr, ⊎_elim, add-one}
 use Rattle.std.specs.List.{AllByRecursion, list_any, range_with_len}
 use Rattle.std.proofs.lemmas.Bool.{cases_lt}
 use Rattle.std.proofs.lemmas.Bool.Decides.{Decides-eqb}
@@ -33,9 +34,11 @@ pub range_more : (a n : ℕ) → range_with_len a (n + 1) ≡ range_with_len a n
 range_more a n = ap (range_with_len a) (add-one n) ∙ range_last a n
 
 -- what holds of each of them
-pub each_in_range : (P : ℕ → Type 0) (a n : ℕ) → ((x : ℕ) → a ≤ x → x < a + n → P x) → AllByRecursion P (range_with_len a n)
+pub each_in_range : (P : ℕ → Type 0) (a n : ℕ) → ((x : ℕ) → a ≤ x → x < a + n → P x)
+    → AllByRecursion P (range_with_len a n)
 each_in_range P a zero p = tt
-each_in_range P a (suc n) p = (p a (omega arith) (omega arith), each_in_range P (a + 1) n (λ x low high. p x (omega arith) (omega arith)))
+each_in_range P a (suc n) p =
+    (p a (omega arith) (omega arith), each_in_range P (a + 1) n (λ x low high. p x (omega arith) (omega arith)))
 
 pub among : (x a n : ℕ) → a ≤ x → x < a + n → IsAmong x (range_with_len a n)
 among x a zero low high = absurd (omega arith)
@@ -46,7 +49,9 @@ among x a (suc n) low high = elim (cases_lt a x) [
 
 pub not_below : (x a n : ℕ) → IsAmong x (range_with_len a n) → a ≤ x
 not_below x a zero h = absurd h
-not_below x a (suc n) h = ⊎_elim (λ (e : x ≡ a). omega arith) (λ (i : IsAmong x (range_with_len (a + 1) n)). let low : a + 1 ≤ x = not_below x (a + 1) n i in omega arith) h
+not_below x a (suc n) h =
+    ⊎_elim (λ (e : x ≡ a). omega arith)
+    (λ (i : IsAmong x (range_with_len (a + 1) n)). let low : a + 1 ≤ x = not_below x (a + 1) n i in omega arith) h
 
 pub distinct : (a n : ℕ) → AreDistinct (range_with_len a n)
 distinct a zero = tt
@@ -59,10 +64,12 @@ known m n h = elim (cases_lt 0 (n / 2)) [
   | inr none ↦ inl (omega arith)
 ]
 
-gates_define : (variable : ℕ) (gs : List Gate) → AreOrderedGates variable gs → map (λ (g : Gate). g.var) gs ≡ range_with_len variable (length gs)
+gates_define : (variable : ℕ) (gs : List Gate) → AreOrderedGates variable gs
+    → map (λ (g : Gate). g.var) gs ≡ range_with_len variable (length gs)
 gates_define variable [] o = refl
 gates_define variable (g ∷ gs) o =
-    ap₂ (λ (v : ℕ) (vs : List ℕ). v ∷ vs) o.0 (gates_define (suc variable) gs o.3 ∙ ap (λ (k : ℕ). range_with_len k (length gs)) (sym (add-one variable)))
+    ap₂ (λ (v : ℕ) (vs : List ℕ). v ∷ vs) o.0
+    (gates_define (suc variable) gs o.3 ∙ ap (λ (k : ℕ). range_with_len k (length gs)) (sym (add-one variable)))
 
 -- a circuit in binary order defines all variables
 pub variables_are : (c : Circuit) → IsInBinaryOrder c → defined_variables c ≡ range_with_len 1 c.max_var
@@ -80,7 +87,8 @@ test_from_among : (x : ℕ) (xs : List ℕ) → IsAmong x xs → list_any (eqb x
 test_from_among x [] a = absurd a
 test_from_among x (y ∷ ys) a =
     ⊎_elim (λ (e : x ≡ y). rw ((Decides-eqb x y).1 e) refl)
-    (λ (i : IsAmong x ys). ap (λ b. eqb x y || b) (test_from_among x ys i) ∙ elim (eqb x y) as (λ b. (b || true) ≡ true) [ true ↦ refl | false ↦ refl ]) a
+    (λ (i : IsAmong x ys). ap (λ b. eqb x y || b) (test_from_among x ys i)
+    ∙ elim (eqb x y) as (λ b. (b || true) ≡ true) [ true ↦ refl | false ↦ refl ]) a
 
 -- a list that has all numbers below n has n numbers at least
 pub at_least_below : (n : ℕ) (xs : List ℕ) → ((x : ℕ) → x < n → IsAmong x xs) → n ≤ length xs

@@ -1,5 +1,6 @@
 -- A circuit in binary order is well formed, where its counts, its symbols and its literals are right.
-use Rattle.std.proofs.Common.{◌≡◌, ◌+◌, ◌*◌, ◌/◌, ◌<◌, ◌≤◌, ℕ, suc, List, [], ◌∷◌, ◌++◌, length, map, sym, subst, arith, ⊎_elim}
+use Rattle.std.proofs.Common.{◌≡◌, ◌+◌, ◌*◌, ◌/◌, ◌<◌, ◌≤◌, ℕ, suc, List, [], ◌∷◌, ◌++◌, length, map, sym, subst, arith}
+use Rattle.std.proofs.Common.{⊎_elim}
 use Rattle.std.specs.Prelude.{◌⊎◌}
 use Rattle.std.specs.List.{AllByRecursion, range_with_len, flat_map}
 use Rattle.std.proofs.lemmas.List.Elements.{All-contains, All-from_recursion}
@@ -7,7 +8,8 @@ use Rattle.aig_core.specs.declared.circuit.Latch.{Latch}
 use Rattle.aig_core.specs.declared.circuit.Gate.{Gate}
 use Rattle.aig_core.specs.declared.circuit.Circuit.{Circuit}
 use Rattle.aig_core.specs.Literal.{literal_of}
-use Rattle.aig_core.specs.Wellformed.{AreDistinct, IsKnown, IsRank, IsVariableUpTo, IsWithinLimits, HasGoodSymbols, IsWellFormed, operands, used_literals}
+use Rattle.aig_core.specs.Wellformed.{AreDistinct, IsKnown, IsRank, IsVariableUpTo, IsWithinLimits, HasGoodSymbols}
+use Rattle.aig_core.specs.Wellformed.{IsWellFormed, operands, used_literals}
 use Rattle.aig_core.proofs.Checking.Fitting.{all_weaker}
 use Rattle.aig_core.specs.Form.{IsLiteralUpTo}
 use Rattle.aig_core.proofs.Checking.InForm.{joined}
@@ -22,15 +24,19 @@ all_over_lower variable [] o = tt
 all_over_lower variable (g ∷ gs) o = ((o.1, o.2), all_over_lower (suc variable) gs o.3)
 
 lower : (v left right w : ℕ) → left < 2 * v → right ≤ left → (w ≡ left / 2) ⊎ ((w ≡ right / 2) ⊎ ⊥) → w < v
-lower v left right w l r h = ⊎_elim (λ (e : w ≡ left / 2). omega arith) (λ (i : (w ≡ right / 2) ⊎ ⊥). ⊎_elim (λ (e : w ≡ right / 2). omega arith) (λ (n : ⊥). absurd n) i) h
+lower v left right w l r h =
+    ⊎_elim (λ (e : w ≡ left / 2). omega arith)
+    (λ (i : (w ≡ right / 2) ⊎ ⊥). ⊎_elim (λ (e : w ≡ right / 2). omega arith) (λ (n : ⊥). absurd n) i) h
 
 -- so the variable is a rank
 variable_ranks : (variable : ℕ) (gs : List Gate) → AreOrderedGates variable gs → IsRank (λ v. v) gs
 variable_ranks variable gs o = λ g h in_g in_h a.
-    let below : IsOverLower g = All-contains IsOverLower gs g (All-from_recursion IsOverLower gs (all_over_lower variable gs o)) in_g in
+    let below : IsOverLower g =
+    All-contains IsOverLower gs g (All-from_recursion IsOverLower gs (all_over_lower variable gs o)) in_g in
     lower g.var g.left g.right h.var below.0 below.1 a
 
-operands_up_to : (variable m : ℕ) (gs : List Gate) → AreOrderedGates variable gs → variable + length gs ≤ m + 1 → AllByRecursion (IsLiteralUpTo m) (flat_map operands gs)
+operands_up_to : (variable m : ℕ) (gs : List Gate) → AreOrderedGates variable gs → variable + length gs ≤ m + 1
+    → AllByRecursion (IsLiteralUpTo m) (flat_map operands gs)
 operands_up_to variable m [] o fits = tt
 operands_up_to variable m (g ∷ gs) o fits =
     let var : g.var ≡ variable = o.0 in
@@ -41,24 +47,30 @@ operands_up_to variable m (g ∷ gs) o fits =
 
 -- what the numbered lines tell may stand in the circuit
 abbrev pub HasLiteralsUpTo : Circuit → Type 0
-HasLiteralsUpTo c = AllByRecursion (IsLiteralUpTo c.max_var) (map (λ (l : Latch). l.next) c.latches) × AllByRecursion (IsLiteralUpTo c.max_var) c.outputs
+HasLiteralsUpTo c = AllByRecursion (IsLiteralUpTo c.max_var) (map (λ (l : Latch). l.next) c.latches)
+    × AllByRecursion (IsLiteralUpTo c.max_var) c.outputs
 
-all_up_to : (c : Circuit) → IsInBinaryOrder c → HasLiteralsUpTo c → AllByRecursion (IsLiteralUpTo c.max_var) (used_literals c)
+all_up_to : (c : Circuit) → IsInBinaryOrder c → HasLiteralsUpTo c
+    → AllByRecursion (IsLiteralUpTo c.max_var) (used_literals c)
 all_up_to c o literals =
     let all : c.max_var ≡ length c.inputs + length c.latches + length c.gates = o.all in
     joined (IsLiteralUpTo c.max_var) (map (λ (l : Latch). l.next) c.latches ++ c.outputs) (flat_map operands c.gates)
     (joined (IsLiteralUpTo c.max_var) (map (λ (l : Latch). l.next) c.latches) c.outputs literals.0 literals.1)
     (operands_up_to (1 + length c.inputs + length c.latches) c.max_var c.gates o.gates (omega arith))
 
-pub well_formed : (c : Circuit) → IsInBinaryOrder c → HasLiteralsUpTo c → IsWithinLimits c → HasGoodSymbols c → IsWellFormed c
+pub well_formed : (c : Circuit) → IsInBinaryOrder c → HasLiteralsUpTo c → IsWithinLimits c → HasGoodSymbols c
+    → IsWellFormed c
 well_formed c o literals limits symbols =
     let m : ℕ = c.max_var in
     let vars = variables_are c o in
     record {
       limits = limits;
-      in_range = subst (λ (vs : List ℕ). AllByRecursion (IsVariableUpTo m) vs) (sym vars) (each_in_range (IsVariableUpTo m) 1 m (λ x low high. (low, omega arith)));
+      in_range = subst (λ (vs : List ℕ). AllByRecursion (IsVariableUpTo m) vs) (sym vars)
+          (each_in_range (IsVariableUpTo m) 1 m (λ x low high. (low, omega arith)));
       once = subst AreDistinct (sym vars) (distinct 1 m);
-      known = subst (λ (vs : List ℕ). AllByRecursion (IsKnown vs) (used_literals c)) (sym vars) (all_weaker (IsLiteralUpTo m) (IsKnown (range_with_len 1 m)) (known m) (used_literals c) (all_up_to c o literals));
+      known = subst (λ (vs : List ℕ). AllByRecursion (IsKnown vs) (used_literals c)) (sym vars)
+          (all_weaker (IsLiteralUpTo m) (IsKnown (range_with_len 1 m)) (known m) (used_literals c)
+          (all_up_to c o literals));
       symbols = symbols;
       ranked = (λ v. v, variable_ranks (1 + length c.inputs + length c.latches) c.gates o.gates);
     }

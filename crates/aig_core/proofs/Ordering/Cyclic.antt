@@ -1,5 +1,7 @@
 -- Which gates depend on a cycle: those that the least ready order does not have.
-use Rattle.std.proofs.Common.{◌≡◌, ◌<◌, ◌≤◌, ◌+◌, ◌-◌, ◌*◌, ℕ, zero, suc, List, [], ◌∷◌, ◌++◌, Bool, true, false, not, ◌&&◌, cond, ltb, Option, None, Some, length, map, get_or, refl, sym, ap, subst, ◌∙◌, ◌⊎◌, ◌↔◌, inl, inr, ⊎_elim, arith, true≢false}
+use Rattle.std.proofs.Common.{◌≡◌, ◌<◌, ◌≤◌, ◌+◌, ◌-◌, ◌*◌, ℕ, zero, suc, List, [], ◌∷◌, ◌++◌, Bool, true, false, not}
+use Rattle.std.proofs.Common.{◌&&◌, cond, ltb, Option, None, Some, length, map, get_or, refl, sym, ap, subst, ◌∙◌, ◌⊎◌}
+use Rattle.std.proofs.Common.{◌↔◌, inl, inr, ⊎_elim, arith, true≢false}
 use Rattle.std.specs.List.{AllByRecursion, list_all, find, position, position_or_len, slice_get}
 use Rattle.std.specs.Option.{option_map}
 use Rattle.aig_core.specs.declared.circuit.Gate.{Gate}
@@ -8,7 +10,8 @@ use Rattle.aig_core.specs.declared.circuit.Latch.{Latch}
 use Rattle.aig_core.specs.declared.circuit.TheConstants.{LARGEST}
 use Rattle.aig_core.specs.Form.{IsInForm}
 use Rattle.aig_core.specs.Wellformed.{IsAmong, AreDistinct, IsVariableUpTo, defined_variables}
-use Rattle.aig_core.specs.Order.{gate_operands, IsReady, TakesLeast, IsFull, IsLeastReadyOrder, ends_within, depends_on_cycle, first_cyclic, left_over}
+use Rattle.aig_core.specs.Order.{gate_operands, IsReady, TakesLeast, IsFull, IsLeastReadyOrder, ends_within}
+use Rattle.aig_core.specs.Order.{depends_on_cycle, first_cyclic, left_over}
 use Rattle.aig_core.proofs.Checking.Fitting.{each, at_most_below}
 use Rattle.aig_core.proofs.Ordering.Ranked.{over_one, all_served, no_gate, at, needed, stands_there}
 use Rattle.aig_core.proofs.Ordering.TakenLeast.{none_open, all_in, each_served}
@@ -46,40 +49,50 @@ module _ (gates : List Gate) where
   unfolding ends_within
   one_more zero g h = cc
   one_more (suc n) g h =
-      all_true (ends_within (suc n) gates) (gate_operands gates g) (λ x a. one_more n x (each_true (ends_within n gates) (gate_operands gates g) h x a))
+      all_true (ends_within (suc n) gates) (gate_operands gates g)
+      (λ x a. one_more n x (each_true (ends_within n gates) (gate_operands gates g) h x a))
 
   many_more : (k n g : ℕ) → ends_within n gates g ≡ true → ends_within (n + k) gates g ≡ true
   many_more zero n g h = subst (λ m. ends_within m gates g ≡ true) (omega arith) h
-  many_more (suc k) n g h = subst (λ m. ends_within m gates g ≡ true) (omega arith) (many_more k (suc n) g (one_more n g h))
+  many_more (suc k) n g h =
+      subst (λ m. ends_within m gates g ≡ true) (omega arith) (many_more k (suc n) g (one_more n g h))
 
   abbrev count : ℕ
   count = length gates
 
   -- what is taken ends, within as many gates as were taken
-  listed_ends : (taken xs : List ℕ) → TakesLeast count (gate_operands gates) taken xs → AreDistinct taken → AllByRecursion (λ g. g < count) taken
-      → ((h : ℕ) → IsAmong h taken → ends_within (length taken) gates h ≡ true) → (h : ℕ) → (IsAmong h taken ⊎ IsAmong h xs) → ends_within count gates h ≡ true
+  listed_ends : (taken xs : List ℕ) → TakesLeast count (gate_operands gates) taken xs → AreDistinct taken
+      → AllByRecursion (λ g. g < count) taken
+      → ((h : ℕ) → IsAmong h taken → ends_within (length taken) gates h ≡ true) → (h : ℕ)
+      → (IsAmong h taken ⊎ IsAmong h xs) → ends_within count gates h ≡ true
   unfolding ends_within
   listed_ends taken [] in_turn once below ends h listed =
       ⊎_elim (λ (a : IsAmong h taken).
       let few : length taken ≤ count = at_most_below count taken once below in
-      subst (λ m. ends_within m gates h ≡ true) (omega (arith, few)) (many_more (count - length taken) (length taken) h (ends h a)))
+      subst (λ m. ends_within m gates h ≡ true) (omega (arith, few))
+      (many_more (count - length taken) (length taken) h (ends h a)))
       (λ (n : ⊥). absurd n) listed
   listed_ends taken (x ∷ xs) in_turn once below ends h listed =
       let ready : IsReady count (gate_operands gates) taken x = in_turn.0 in
       listed_ends (x ∷ taken) xs in_turn.2 (ready.left, once) (ready.there, below)
       (λ i i_taken. ⊎_elim
       (λ (e : i ≡ x). subst (λ z. ends_within (suc (length taken)) gates z ≡ true) (sym e)
-      (all_true (ends_within (length taken) gates) (gate_operands gates x) (λ j a. ends j (each (λ z. IsAmong z taken) (gate_operands gates x) ready.served j a))))
+      (all_true (ends_within (length taken) gates) (gate_operands gates x)
+      (λ j a. ends j (each (λ z. IsAmong z taken) (gate_operands gates x) ready.served j a))))
       (λ (s : IsAmong i taken). one_more (length taken) i (ends i s)) i_taken)
-      h (⊎_elim (λ (s : IsAmong h taken). inl (inr s)) (λ (later : IsAmong h (x ∷ xs)). ⊎_elim (λ (e : h ≡ x). inl (inl e)) (λ (l : IsAmong h xs). inr l) later) listed)
+      h (⊎_elim (λ (s : IsAmong h taken). inl (inr s))
+      (λ (later : IsAmong h (x ∷ xs)). ⊎_elim (λ (e : h ≡ x). inl (inl e)) (λ (l : IsAmong h xs). inr l) later)
+      listed)
 
   -- what ends is listed, where no gate can be added
-  ended_listed : (list : List ℕ) → IsFull count (gate_operands gates) list → (n g : ℕ) → g < count → ends_within n gates g ≡ true → IsAmong g list
+  ended_listed : (list : List ℕ) → IsFull count (gate_operands gates) list → (n g : ℕ) → g < count
+      → ends_within n gates g ≡ true → IsAmong g list
   unfolding ends_within
   ended_listed list full zero g there h = cc
   ended_listed list full (suc n) g there h =
       full g there (all_served count (gate_operands gates) list (gate_operands gates g)
-      (λ i a. ended_listed list full n i (over_one gates g i there a).0 (each_true (ends_within n gates) (gate_operands gates g) h i a)))
+      (λ i a. ended_listed list full n i (over_one gates g i there a).0
+      (each_true (ends_within n gates) (gate_operands gates g) h i a)))
 
 pub ordered_exactly_where_it_ends : (c : Circuit) (list : List ℕ) → IsLeastReadyOrder c list
     → (gate : ℕ) → gate < length c.gates → IsAmong gate list ↔ (ends_within (length c.gates) c.gates gate ≡ true)
@@ -89,12 +102,14 @@ ordered_exactly_where_it_ends c list order gate there = (
 )
 
 -- how a list is looked through
-pub find_none : (p : Gate → Bool) (gs : List Gate) → ((i : ℕ) → i < length gs → p (get_or gs i no_gate) ≡ false) → find p gs ≡ None
+pub find_none : (p : Gate → Bool) (gs : List Gate) → ((i : ℕ) → i < length gs → p (get_or gs i no_gate) ≡ false)
+    → find p gs ≡ None
 find_none p [] h = refl
 find_none p (g ∷ gs) h =
     ap (λ b. cond b (Some g) (find p gs)) (h 0 (omega arith)) ∙ find_none p gs (λ i l. h (suc i) (omega arith))
 
-none_found : (p : Gate → Bool) (gs : List Gate) → find p gs ≡ None → (i : ℕ) → i < length gs → p (get_or gs i no_gate) ≡ false
+none_found : (p : Gate → Bool) (gs : List Gate) → find p gs ≡ None → (i : ℕ) → i < length gs
+    → p (get_or gs i no_gate) ≡ false
 none_found p [] h i l = absurd (omega arith)
 none_found p (g ∷ gs) h zero l =
     elim (p g) as (λ b. cond b (Some g) (find p gs) ≡ None → b ≡ false) [
@@ -115,34 +130,44 @@ not_false : (b : Bool) → not b ≡ false → b ≡ true
 not_false true h = refl
 not_false false h = cc
 
-module _ (gates : List Gate) (list : List ℕ) (order_full : IsFull (length gates) (gate_operands gates) list) (order_in_turn : TakesLeast (length gates) (gate_operands gates) [] list) where
-  depends_where : (i : ℕ) → i < length gates → depends_on_cycle gates (at gates i) ≡ not (ends_within (suc (length gates)) gates i)
+module _ (gates : List Gate) (list : List ℕ) (order_full : IsFull (length gates) (gate_operands gates) list)
+    (order_in_turn : TakesLeast (length gates) (gate_operands gates) [] list) where
+  depends_where : (i : ℕ) → i < length gates
+      → depends_on_cycle gates (at gates i) ≡ not (ends_within (suc (length gates)) gates i)
   unfolding ends_within
   depends_where i there = ap (λ xs. not (list_all (ends_within (length gates) gates) xs)) (sym (needed gates i there))
 
   -- a gate of the order depends on no cycle
   pub free : (i : ℕ) → i < length gates → IsAmong i list → depends_on_cycle gates (at gates i) ≡ false
   free i there listed =
-      let ends : ends_within (length gates) gates i ≡ true = listed_ends gates [] list order_in_turn tt tt (λ h n. absurd n) i (inr listed) in
+      let ends : ends_within (length gates) gates i ≡ true =
+      listed_ends gates [] list order_in_turn tt tt (λ h n. absurd n) i (inr listed) in
       depends_where i there ∙ ap not (one_more gates (length gates) i ends)
 
   -- and the other way round
   pub placed_where_free : (i : ℕ) → i < length gates → depends_on_cycle gates (at gates i) ≡ false → IsAmong i list
   placed_where_free i there h =
-      ended_listed gates list order_full (suc (length gates)) i there (not_false (ends_within (suc (length gates)) gates i) (sym (depends_where i there) ∙ h))
+      ended_listed gates list order_full (suc (length gates)) i there
+      (not_false (ends_within (suc (length gates)) gates i) (sym (depends_where i there) ∙ h))
 
   pub none_cyclic : ((i : ℕ) → i < length gates → IsAmong i list) → first_cyclic gates ≡ None
-  none_cyclic all = ap (option_map (λ (g : Gate). 2 * g.var)) (find_none (depends_on_cycle gates) gates (λ i there. free i there (all i there)))
+  none_cyclic all = ap (option_map (λ (g : Gate). 2 * g.var))
+      (find_none (depends_on_cycle gates) gates (λ i there. free i there (all i there)))
 
   pub all_listed_where_none : first_cyclic gates ≡ None → (i : ℕ) → i < length gates → IsAmong i list
   all_listed_where_none h i there =
-      placed_where_free i there (none_found (depends_on_cycle gates) gates (none_mapped (find (depends_on_cycle gates) gates) h) i there)
+      placed_where_free i there
+      (none_found (depends_on_cycle gates) gates (none_mapped (find (depends_on_cycle gates) gates) h) i there)
 
-none_before : (ws : List ℕ) → position (λ n. ltb 0 n) ws ≡ None → (k : ℕ) → k < length ws → ltb 0 (get_or ws k 0) ≡ false
+none_before : (ws : List ℕ) → position (λ n. ltb 0 n) ws ≡ None → (k : ℕ) → k < length ws
+    → ltb 0 (get_or ws k 0) ≡ false
 none_before ws e k below =
     ⊎_elim (λ (there : position_or_len (λ n. ltb 0 n) ws < length ws).
-    let some : position (λ n. ltb 0 n) ws ≡ Some (position_or_len (λ n. ltb 0 n) ws) = ap (λ b. cond b (Some (position_or_len (λ n. ltb 0 n) ws)) None) (lt-ltb (position_or_len (λ n. ltb 0 n) ws) (length ws) there) in cc)
-    (λ (past : length ws ≤ position_or_len (λ n. ltb 0 n) ws). fails_before_first (λ n. ltb 0 n) ws k 0 (omega (arith, past, below)))
+    let some : position (λ n. ltb 0 n) ws ≡ Some (position_or_len (λ n. ltb 0 n) ws) =
+    ap (λ b. cond b (Some (position_or_len (λ n. ltb 0 n) ws)) None)
+    (lt-ltb (position_or_len (λ n. ltb 0 n) ws) (length ws) there) in cc)
+    (λ (past : length ws ≤ position_or_len (λ n. ltb 0 n) ws). fails_before_first (λ n. ltb 0 n) ws k 0
+    (omega (arith, past, below)))
     (cases_lt (position_or_len (λ n. ltb 0 n) ws) (length ws))
 
 some_below : (n : ℕ) → ¬ (n ≡ 0) → ltb 0 n ≡ true
@@ -154,35 +179,53 @@ among_last [] ys x a = a
 among_last (z ∷ xs) ys x a = inr (among_last xs ys x a)
 
 -- the first gate that waits is the first that depends on a cycle
-module _ (gates : List Gate) (list waiting : List ℕ) (full : IsFull (length gates) (gate_operands gates) list) (in_turn : TakesLeast (length gates) (gate_operands gates) [] list) (as_many : length waiting ≡ length gates)
+module _ (gates : List Gate) (list waiting : List ℕ) (full : IsFull (length gates) (gate_operands gates) list)
+    (in_turn : TakesLeast (length gates) (gate_operands gates) [] list) (as_many : length waiting ≡ length gates)
     (left : (u : ℕ) → u < length gates → get_or waiting u 0 ≡ left_over list (gate_operands gates u)) where
   waits_where : (i : ℕ) → i < length gates → depends_on_cycle gates (at gates i) ≡ ltb 0 (get_or waiting i 0)
   waits_where i there =
-      elim (depends_on_cycle gates (at gates i)) as (λ b. depends_on_cycle gates (at gates i) ≡ b → b ≡ ltb 0 (get_or waiting i 0)) [
+      elim (depends_on_cycle gates (at gates i)) as (λ b. depends_on_cycle gates (at gates i) ≡ b
+      → b ≡ ltb 0 (get_or waiting i 0)) [
         | true ↦ λ e. sym (some_below (get_or waiting i 0) (λ z.
-            let listed : IsAmong i list = full i there (none_open list (gate_operands gates i) (sym (left i there) ∙ z)) in
+            let listed : IsAmong i list =
+            full i there (none_open list (gate_operands gates i) (sym (left i there) ∙ z)) in
             true≢false (sym e ∙ free gates list full in_turn i there listed)))
         | false ↦ λ e.
             let listed : IsAmong i list = placed_where_free gates list full in_turn i there e in
-            let nothing : get_or waiting i 0 ≡ 0 = left i there ∙ all_in list (gate_operands gates i) (each_served (length gates) (gate_operands gates) [] list in_turn list (λ h n. absurd n) (λ h a. a) i listed) in
+            let nothing : get_or waiting i 0 ≡ 0 = left i there
+            ∙ all_in list (gate_operands gates i)
+            (each_served (length gates) (gate_operands gates) [] list in_turn list (λ h n. absurd n) (λ h a. a) i
+            listed) in
             ap (ltb 0) (sym nothing)
       ] refl
 
-  pub cyclic_at : (p : ℕ) → position (λ n. ltb 0 n) waiting ≡ Some p → (p < length gates) × (first_cyclic gates ≡ Some (2 * (at gates p).var))
+  pub cyclic_at : (p : ℕ) → position (λ n. ltb 0 n) waiting ≡ Some p
+      → (p < length gates) × (first_cyclic gates ≡ Some (2 * (at gates p).var))
   cyclic_at p e =
       let told = position-Some (λ n. ltb 0 n) waiting p 0 e in
       let there : p < length gates = omega (arith, told.0, as_many) in
       let place : position_or_len (depends_on_cycle gates) gates ≡ p =
-      position_or_len_is (depends_on_cycle gates) gates p no_gate (omega arith) (λ k before. waits_where k (omega (arith, before, there)) ∙ told.2 k before) (λ _. waits_where p there ∙ told.1) in
-      (there, ap (option_map (λ (g : Gate). 2 * g.var)) (find_at (depends_on_cycle gates) gates ∙ ap (slice_get gates) place ∙ slice_get-get_or gates p no_gate there))
+      position_or_len_is (depends_on_cycle gates) gates p no_gate (omega arith)
+      (λ k before. waits_where k (omega (arith, before, there)) ∙ told.2 k before)
+      (λ _. waits_where p there ∙ told.1) in (
+        there,
+        ap (option_map (λ (g : Gate). 2 * g.var))
+            (find_at (depends_on_cycle gates) gates ∙ ap (slice_get gates) place
+            ∙ slice_get-get_or gates p no_gate there),
+      )
 
   pub cyclic_nowhere : position (λ n. ltb 0 n) waiting ≡ None → first_cyclic gates ≡ None
   cyclic_nowhere e =
-      ap (option_map (λ (g : Gate). 2 * g.var)) (find_none (depends_on_cycle gates) gates (λ i there. waits_where i there ∙ none_before waiting e i (omega (arith, there, as_many))))
+      ap (option_map (λ (g : Gate). 2 * g.var))
+      (find_none (depends_on_cycle gates) gates
+      (λ i there. waits_where i there ∙ none_before waiting e i (omega (arith, there, as_many))))
 
 -- a gate's variable is one that a circuit in form may define
 pub in_bounds : (c : Circuit) → IsInForm c → (p : ℕ) → p < length c.gates → (at c.gates p).var ≤ LARGEST
 in_bounds c form p there =
-    let defined : IsAmong (at c.gates p).var (defined_variables c) = among_last (c.inputs ++ map (λ (l : Latch). l.var) c.latches) (map (λ (g : Gate). g.var) c.gates) (at c.gates p).var (stands_there c.gates p there) in
-    let range : IsVariableUpTo c.max_var (at c.gates p).var = each (IsVariableUpTo c.max_var) (defined_variables c) form.variables (at c.gates p).var defined in
+    let defined : IsAmong (at c.gates p).var (defined_variables c) =
+    among_last (c.inputs ++ map (λ (l : Latch). l.var) c.latches) (map (λ (g : Gate). g.var) c.gates)
+    (at c.gates p).var (stands_there c.gates p there) in
+    let range : IsVariableUpTo c.max_var (at c.gates p).var =
+    each (IsVariableUpTo c.max_var) (defined_variables c) form.variables (at c.gates p).var defined in
     omega (arith, range.1, form.limits.max_var)

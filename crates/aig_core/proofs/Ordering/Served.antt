@@ -1,5 +1,6 @@
 -- A user of a gate is counted down.
-use Rattle.std.proofs.Common.{◌≡◌, ◌≢◌, ◌<◌, ◌≤◌, ◌+◌, ◌-◌, ◌/◌, ℕ, List, length, get_or, Bool, cond, eqb, ltb, true, false, Option, None, Some, refl, sym, ap, ap₂, ◌∙◌, ⊎_elim, arith}
+use Rattle.std.proofs.Common.{◌≡◌, ◌≢◌, ◌<◌, ◌≤◌, ◌+◌, ◌-◌, ◌/◌, ℕ, List, length, get_or, Bool, cond, eqb, ltb, true}
+use Rattle.std.proofs.Common.{false, Option, None, Some, refl, sym, ap, ap₂, ◌∙◌, ⊎_elim, arith}
 use mathlib.Core.Bool.{◌||◌, ◌&&◌}
 use Rattle.std.specs.List.{count_by, sum}
 use Rattle.std.proofs.Math.ListN.{set as put}
@@ -37,18 +38,23 @@ module _ (links : List ℕ) (link user next : ℕ) (is : found user next ≡ fol
   unfolding next_found
   next_is = ap next_found told
 
-  pub one_use : LinksFall links → (u : ℕ) → count_by (λ x. eqb x u) (users_from links link) ≡ cond (eqb user u) 1 0 + count_by (λ x. eqb x u) (users_from links next)
+  pub one_use : LinksFall links → (u : ℕ)
+      → count_by (λ x. eqb x u) (users_from links link)
+      ≡ cond (eqb user u) 1 0 + count_by (λ x. eqb x u) (users_from links next)
   one_use fall u =
       ap (count_by (λ x. eqb x u)) (first_user links fall link some_link)
       ∙ sum_by-cons (λ x. cond (eqb x u) 1 0) ((link - 1) / 2) (users_from links (get_or links (link - 1) 0))
       ∙ ap₂ (λ v n. cond (eqb v u) 1 0 + count_by (λ x. eqb x u) (users_from links n)) (sym user_is) (sym next_is)
 
 -- at the end nothing is left
-pub no_use : (links : List ℕ) (link : ℕ) → None ≡ followed links link → (u : ℕ) → count_by (λ x. eqb x u) (users_from links link) ≡ 0
+pub no_use : (links : List ℕ) (link : ℕ) → None ≡ followed links link → (u : ℕ)
+    → count_by (λ x. eqb x u) (users_from links link) ≡ 0
 no_use links link is u =
-    ⊎_elim (λ (t : (eqb link 0 ≡ true) × (link ≡ 0)). ap (λ l. count_by (λ x. eqb x u) (users_from links l)) t.1 ∙ ap (count_by (λ x. eqb x u)) (ended 0 links))
+    ⊎_elim (λ (t : (eqb link 0 ≡ true) × (link ≡ 0)). ap (λ l. count_by (λ x. eqb x u) (users_from links l)) t.1
+    ∙ ap (count_by (λ x. eqb x u)) (ended 0 links))
     (λ (f : (eqb link 0 ≡ false) × (link ≢ 0)).
-    let some : followed links link ≡ found ((link - 1) / 2) (get_or links (link - 1) 0) = ap (λ b. cond b None (found ((link - 1) / 2) (get_or links (link - 1) 0))) f.0 in
+    let some : followed links link ≡ found ((link - 1) / 2) (get_or links (link - 1) 0) =
+    ap (λ b. cond b None (found ((link - 1) / 2) (get_or links (link - 1) 0))) f.0 in
     let both : None ≡ found ((link - 1) / 2) (get_or links (link - 1) 0) = is ∙ some in
     cc)
     (eqb_tells link 0)
@@ -65,7 +71,8 @@ module _ (first now : List ℕ) (user : ℕ) (some : 0 < get_or now user 0) wher
   less = put now user (get_or now user 0 - 1)
 
   pub there : user < length now
-  there = ⊎_elim (λ (l : user < length now). l) (λ (l : length now ≤ user). absurd (omega (arith, some, get_or_past now user 0 l))) (cases_lt user (length now))
+  there = ⊎_elim (λ (l : user < length now). l)
+      (λ (l : length now ≤ user). absurd (omega (arith, some, get_or_past now user 0 l))) (cases_lt user (length now))
 
   at_user : get_or less user 0 ≡ get_or now user 0 - 1
   at_user = get_or-set_same now user (get_or now user 0 - 1) 0 there
@@ -78,29 +85,36 @@ module _ (first now : List ℕ) (user : ℕ) (some : 0 < get_or now user 0) wher
       ⊎_elim (λ (t : (eqb u user ≡ true) × (u ≡ user)). rw (t.1, at_user) (omega (arith, before user)))
       (λ (f : (eqb u user ≡ false) × (u ≢ user)). rw (at_other u f.1) (before u)) (eqb_tells u user)
 
-  pub still_waits : (used rest : ℕ → ℕ) → ((u : ℕ) → get_or now u 0 + used u ≡ get_or first u 0 + (cond (eqb user u) 1 0 + rest u)) → (u : ℕ) → get_or less u 0 + used u ≡ get_or first u 0 + rest u
+  pub still_waits : (used rest : ℕ → ℕ)
+      → ((u : ℕ) → get_or now u 0 + used u ≡ get_or first u 0 + (cond (eqb user u) 1 0 + rest u)) → (u : ℕ)
+      → get_or less u 0 + used u ≡ get_or first u 0 + rest u
   still_waits used rest before u =
       ⊎_elim (λ (t : (eqb u user ≡ true) × (u ≡ user)).
       let same : eqb user u ≡ true = (Decides-eqb user u).1 (sym t.1) in
-      let was : get_or now u 0 + used u ≡ get_or first u 0 + (1 + rest u) = before u ∙ ap (λ b. get_or first u 0 + (cond b 1 0 + rest u)) same in
-      let is : get_or less u 0 ≡ get_or now u 0 - 1 = ap (λ v. get_or less v 0) t.1 ∙ at_user ∙ ap (λ v. get_or now v 0 - 1) (sym t.1) in
+      let was : get_or now u 0 + used u ≡ get_or first u 0 + (1 + rest u) = before u
+      ∙ ap (λ b. get_or first u 0 + (cond b 1 0 + rest u)) same in
+      let is : get_or less u 0 ≡ get_or now u 0 - 1 = ap (λ v. get_or less v 0) t.1 ∙ at_user
+      ∙ ap (λ v. get_or now v 0 - 1) (sym t.1) in
       let more : 0 < get_or now u 0 = rw t.1 some in
       omega (arith, was, is, more))
       (λ (f : (eqb u user ≡ false) × (u ≢ user)).
       let other : eqb user u ≡ false = ne_eqb user u (λ e. f.1 (sym e)) in
-      let was : get_or now u 0 + used u ≡ get_or first u 0 + (0 + rest u) = before u ∙ ap (λ b. get_or first u 0 + (cond b 1 0 + rest u)) other in
+      let was : get_or now u 0 + used u ≡ get_or first u 0 + (0 + rest u) = before u
+      ∙ ap (λ b. get_or first u 0 + (cond b 1 0 + rest u)) other in
       omega (arith, was, at_other u f.1))
       (eqb_tells u user)
 
   pub one_step : sum less + 1 ≡ sum now
-  one_step = let change : sum less + get_or now user 0 ≡ sum now + (get_or now user 0 - 1) = sum_by-set (λ x. x) now user (get_or now user 0 - 1) 0 there in omega (arith, change, some)
+  one_step = let change : sum less + get_or now user 0 ≡ sum now + (get_or now user 0 - 1) =
+      sum_by-set (λ x. x) now user (get_or now user 0 - 1) 0 there in omega (arith, change, some)
 
   -- who is ready: who was at first, and who waited and waits no more
   module _ (at_first : ℕ → Bool) (more : get_or now user 0 ≤ get_or first user 0) where
     abbrev Told : (ℕ → Bool) → List ℕ → Type 0
     Told has waiting = (u : ℕ) → has u ≡ (at_first u || (ltb 0 (get_or first u 0) && eqb (get_or waiting u 0) 0))
 
-    pub ready_now : (old new : ℕ → Bool) → Told old now → get_or less user 0 ≡ 0 → ((u : ℕ) → new u ≡ (eqb u user || old u)) → Told new less
+    pub ready_now : (old new : ℕ → Bool) → Told old now → get_or less user 0 ≡ 0
+        → ((u : ℕ) → new u ≡ (eqb u user || old u)) → Told new less
     ready_now old new before done added u =
         ⊎_elim (λ (t : (eqb u user ≡ true) × (u ≡ user)).
         let waited : 0 < get_or first u 0 = rw t.1 (omega (arith, some, more)) in

@@ -1,5 +1,6 @@
 //! The gates that may be taken.
-ghost use Rattle.std.specs.Prelude.{◌≡◌, ◌≢◌, ◌==◌, ◌||◌, ◌&&◌, ◌+◌, ◌/◌, ◌<◌, ◌≤◌, ℕ, true, false, not, length, nat_lt, slice_index, if◌then◌else◌, IfOk};
+ghost use Rattle.std.specs.Prelude.{◌≡◌, ◌≢◌, ◌==◌, ◌||◌, ◌&&◌, ◌+◌, ◌/◌, ◌<◌, ◌≤◌, ℕ, true, false, not, length};
+ghost use Rattle.std.specs.Prelude.{nat_lt, slice_index, if◌then◌else◌, IfOk};
 ghost use Rattle.std.specs.Int.{bit_at};
 ghost use Rattle.std.specs.Option.{IfSome, IfNone};
 ghost use Rattle.aig_core.specs.Parts.Marks.{is_marked};

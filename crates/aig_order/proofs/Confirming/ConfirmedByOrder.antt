@@ -1,6 +1,6 @@
--- A circuit that is undone by the block that was read has its mapped image again exactly where the places recorded are its
--- least ready order, no gate with equal operands is recorded as exchanged, and the block tells of a comment section where a
--- comment follows.
+-- A circuit that is undone by the block that was read has its mapped image again exactly where the places recorded are
+-- its least ready order, no gate with equal operands is recorded as exchanged, and the block tells of a comment section
+-- where a comment follows.
 use Rattle.std.proofs.Common.{◌≡◌, ◌↔◌, ℕ, List, Ok, sym}
 use Rattle.aig_core.specs.declared.circuit.Circuit.{Circuit}
 use Rattle.aig_core.specs.Order.{IsLeastReadyOrder}

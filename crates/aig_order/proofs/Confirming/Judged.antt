@@ -15,7 +15,8 @@ use Rattle.aig_order.proofs.Confirming.ConfirmedByOrder.{confirmed_by_order}
 -- what is recorded of two things is recorded of the same ones
 pub recorded_of_same : {A B : Type 0} (P : A → B → Type 0) (recorded : Bool) (a c : A) (b d : B)
     → a ≡ c → b ≡ d → (IsTrue recorded ↔ P a b) → IsTrue recorded ↔ P c d
-recorded_of_same P recorded a c b d p q tells = subst (λ y. IsTrue recorded ↔ P c y) q (subst (λ y. IsTrue recorded ↔ P y b) p tells)
+recorded_of_same P recorded a c b d p q tells =
+    subst (λ y. IsTrue recorded ↔ P c y) q (subst (λ y. IsTrue recorded ↔ P y b) p tells)
 
 module _ (x : Circuit) (b : MapBlock) (rest : List ℕ) (good : IsWellFormed x) (ordered : IsInBinaryOrder x)
     (read : block_reading x ≡ Ok (b, rest)) (apart : AreDistinct (places_recorded b.gates))

@@ -1,5 +1,5 @@
--- What is recorded of a circuit by the numbers that were found is its map block, so that its binary image with this comment
--- is its mapped image.
+-- What is recorded of a circuit by the numbers that were found is its map block, so that its binary image with this
+-- comment is its mapped image.
 use Rattle.std.proofs.Common.{◌≡◌, ◌+◌, ◌-◌, ◌≤◌, ℕ, List, length, ap, ◌∙◌, Some, arith}
 use Rattle.aig_core.specs.declared.circuit.Gate.{Gate}
 use Rattle.aig_core.specs.declared.circuit.Circuit.{Circuit}

@@ -129,7 +129,8 @@ module _ (b : MapBlock) (x : Circuit) (rest : List ℕ) (fit : IsFit b x) (good 
       let all : AllByRecursion Again b.gates =
       by_places Again none_recorded b.gates (λ i low.
       let m : MappedGate = recorded_at b.gates i in
-      let within = at_place (λ (h : MappedGate). IsVariableUpTo b.max_var h.var × (h.place < length b.gates)) none_recorded
+      let within = at_place (λ (h : MappedGate). IsVariableUpTo b.max_var h.var × (h.place < length b.gates))
+      none_recorded
       b.gates fit.bounds.gates i low in
       recorded_again m (omega (arith, within.1, fit.counts.gates)) (variable_there b x comment fit i low)
       (at_place Differs none_recorded b.gates exchanges i low)) in
@@ -165,7 +166,8 @@ module _ (b : MapBlock) (x : Circuit) (rest : List ℕ) (fit : IsFit b x) (good 
       let by : List ℕ → Circuit = λ ns. converted (renumbered ns) (order b x fit) from in
       let circuit : by us ≡ record x { max_var = b.max_var; comment = comment } =
       ap (λ (d : Circuit). record d { max_var = b.max_var; comment = comment })
-      (restored_is_converted f g (order b x fit) (places b x fit) (exchanges_recorded b.gates) x refl names (too b x fit)
+      (restored_is_converted f g (order b x fit) (places b x fit) (exchanges_recorded b.gates) x refl names
+      (too b x fit)
       (sorted (start b x comment fit) x.gates fit.ordered.gates)) in
       let new : List ℕ → Circuit = λ ns.
       record (by ns) { max_var = length ns; comment = (mapped_by (order b x fit) from).comment } in

@@ -71,7 +71,8 @@ module _ (b : MapBlock) (x : Circuit) (comment : Option (List ℕ)) (fit : IsFit
   image_many = recorded_many ∙ fit.counts.gates
 
   place_at : (i : ℕ) → i < count → get_or (places b x fit) i 0 ≡ (recorded i).place
-  place_at i low = get_or-map (λ (m : MappedGate). m.place) b.gates i none_recorded 0 (omega (arith, low, recorded_many))
+  place_at i low = get_or-map (λ (m : MappedGate). m.place) b.gates i none_recorded 0
+      (omega (arith, low, recorded_many))
 
   pub position_there : (p : ℕ) → p < count → get_or (order b x fit) p 0 ≡ position p
   position_there p low = get_or-map-range_with_len position 0 count p p 0 low (omega arith)
@@ -112,7 +113,8 @@ module _ (b : MapBlock) (x : Circuit) (comment : Option (List ℕ)) (fit : IsFit
   variable_at i low = ap (λ (h : Gate). h.var) (gate_at i low) ∙ ap g (image_at (recorded i).place (at_gate i low).0).0
 
   -- a number that is carried back to a gate's variable is that of the gate's place
-  pub place_by_number : (i v : ℕ) → i < count → v < first + count → (at gates i).var ≡ g v → v ≡ first + (recorded i).place
+  pub place_by_number : (i v : ℕ) → i < count → v < first + count → (at gates i).var ≡ g v
+      → v ≡ first + (recorded i).place
   place_by_number i v low fits is =
       let there = (at_gate i low).0 in
       sym (back b x comment fit once v (omega (arith, fits, fit.ordered.all, image_many)))

@@ -27,7 +27,8 @@ use Rattle.aig_order.specs.declared.map_block.MappedGate.{MappedGate}
 use Rattle.aig_order.specs.declared.map_block.MapBlock.{MapBlock}
 use Rattle.aig_order.specs.Parts.Had.{gate_had, in_order_had}
 use Rattle.aig_order.specs.Undone.{exchanges_recorded, places_recorded, source_variables, undone, variable_at_place}
-use Rattle.aig_order.proofs.Restoring.Places.{IsFit, places, order, are, too, by_position, row_in_range, variables_recorded}
+use Rattle.aig_order.proofs.Restoring.Places.{IsFit, places, order, are, too, by_position, row_in_range}
+use Rattle.aig_order.proofs.Restoring.Places.{variables_recorded}
 use Rattle.aig_order.proofs.Sources.RecordedAt.{none_recorded, recorded_at}
 
 -- numbers from 1 on, carried back, are the variables in a row
@@ -51,7 +52,8 @@ parts (x ∷ xs) (y ∷ ys) s t long e =
 
 -- the gates at the places, with their operands as they were
 pub gates_had : (gates : List Gate) (recorded : List MappedGate)
-    → exchanged_by (exchanges_recorded recorded) (taken gates (places_recorded recorded)) ≡ map (gate_had gates) recorded
+    → exchanged_by (exchanges_recorded recorded) (taken gates (places_recorded recorded))
+    ≡ map (gate_had gates) recorded
 gates_had gates recorded =
     ap (exchanged_by (exchanges_recorded recorded)) (map-map (at gates) (λ (m : MappedGate). m.place) recorded)
     ∙ exchanged_each (λ (m : MappedGate). m.exchanged) (λ (m : MappedGate). at gates m.place) recorded
@@ -126,13 +128,15 @@ module _ (b : MapBlock) (x : Circuit) (comment : Option (List ℕ)) (fit : IsFit
       → source_variable vs (start + (recorded_at b.gates i).place) ≡ (recorded_at b.gates i).var
   variable_there i low =
       let p : ℕ = (recorded_at b.gates i).place in
-      let at_i : get_or (places b x fit) i 0 ≡ p = get_or-map (λ (m : MappedGate). m.place) b.gates i none_recorded 0 low in
+      let at_i : get_or (places b x fit) i 0 ≡ p =
+      get_or-map (λ (m : MappedGate). m.place) b.gates i none_recorded 0 low in
       let here = (are b x fit).1 i (omega (arith, low, fit.counts.gates)) in
       let number : start + p ≡ 1 + (length first + p) = omega (arith, first_many) in
       ap (source_variable vs) number ∙ by_place vs (length first + p) ∙ get_or-append-add first row p 0
       ∙ ap (λ xs. get_or xs p 0) (by_position b.gates)
       ∙ ap (λ q. get_or (map (λ at. get_or (variables_recorded b.gates) at 0) (order b x fit)) q 0) (sym at_i)
-      ∙ get_or-map (λ at. get_or (variables_recorded b.gates) at 0) (order b x fit) (get_or (places b x fit) i 0) 0 0 here.0
+      ∙ get_or-map (λ at. get_or (variables_recorded b.gates) at 0) (order b x fit) (get_or (places b x fit) i 0) 0 0
+      here.0
       ∙ ap (λ k. get_or (variables_recorded b.gates) k 0) here.1
       ∙ get_or-map (λ (m : MappedGate). m.var) b.gates i none_recorded 0 low
 

@@ -140,7 +140,8 @@ one_source c d x good good_too is is_too =
     let second = recovered d x good_too is_too in
     let read : (first.block, first.rest) ≡ (second.block, second.rest) =
     one_reading (block_reading x) (first.block, first.rest) (second.block, second.rest) first.read second.read in
-    first.is ∙ ap (λ (recorded : MapBlock × List ℕ). undone recorded.0 (comment_behind recorded.0 recorded.1) x) read ∙ sym second.is
+    first.is ∙ ap (λ (recorded : MapBlock × List ℕ). undone recorded.0 (comment_behind recorded.0 recorded.1) x) read
+    ∙ sym second.is
 
 pub undoing_recovers : (c image : Circuit) → IsWellFormed c → IsMappedImage c image
     → IsUndoneFrom image c × ((other : Circuit) → IsUndoneFrom image other → other ≡ c)

@@ -104,7 +104,8 @@ unread x Missing in_order recorded = ⊎_elim (λ e. absurd cc) (λ failed. (in_
 unread x (Malformed line) in_order recorded = ⊎_elim (λ e. absurd cc) (λ failed. (in_order, failed)) recorded
 unread x Mismatch in_order recorded = ⊎_elim (λ e. absurd cc) (λ failed. (in_order, failed)) recorded
 unread x OutOfMemory in_order recorded = tt
-unread x NotOrdered in_order recorded = ⊎_elim (λ e. absurd cc) (λ failed. absurd (of_reading x NotOrdered failed)) recorded
+unread x NotOrdered in_order recorded =
+    ⊎_elim (λ e. absurd cc) (λ failed. absurd (of_reading x NotOrdered failed)) recorded
 unread x Forged in_order recorded = ⊎_elim (λ e. absurd cc) (λ failed. absurd (of_reading x Forged failed)) recorded
 
 -- what is read is no fault
@@ -156,7 +157,8 @@ module _ (x : Circuit) (b : MapBlock) (rest : List ℕ) (in_order : IsInBinaryOr
   -- so why the last step refuses
   pub of_confirmed : (source : Circuit) (recorded : Result Circuit MapFault)
       → source ≡ undone b (comment_behind b rest) x
-      → IfErr recorded (λ e. (e ≡ OutOfMemory) ⊎ ((e ≡ Forged) × (¬ IsMappedImage source x))) → IfErr recorded (IsMapFault x)
+      → IfErr recorded (λ e. (e ≡ OutOfMemory) ⊎ ((e ≡ Forged) × (¬ IsMappedImage source x)))
+      → IfErr recorded (IsMapFault x)
   of_confirmed source (Ok c) is refused = tt
   of_confirmed source (Err e) is refused = of_image source e is refused
 

@@ -17,7 +17,8 @@ gate_in_place gates place = slice_index_or gates place (record { var = 0; left =
 -- no gate with equal operands is recorded as exchanged
 abbrev pub TellsExchanges : List Gate → List MappedGate → Type 0
 TellsExchanges image_gates recorded =
-    AllByRecursion (λ (m : MappedGate). m.exchanged ≡ true → HasTwoOperands (gate_in_place image_gates m.place)) recorded
+    AllByRecursion (λ (m : MappedGate). m.exchanged ≡ true → HasTwoOperands (gate_in_place image_gates m.place))
+    recorded
 
 -- nothing follows a block that tells of no comment section
 abbrev pub TellsComment : MapBlock → List ℕ → Type 0

@@ -48,10 +48,12 @@ text_is (n ∷ ns) rest =
 
 more_front_has_no_line_feed : (ns : List ℕ) → AreSmall ns → HasNoLineFeed (more_front ns)
 more_front_has_no_line_feed [] small = tt
-more_front_has_no_line_feed (n ∷ ns) small =
-    (refl, all_joined _ (decimal n) (more_front ns)
-    (digits_have_no_line_feed (decimal n) (decimal_is_number n small.0).digits)
-    (more_front_has_no_line_feed ns small.1))
+more_front_has_no_line_feed (n ∷ ns) small = (
+  refl,
+  all_joined _ (decimal n) (more_front ns)
+      (digits_have_no_line_feed (decimal n) (decimal_is_number n small.0).digits)
+      (more_front_has_no_line_feed ns small.1),
+)
 
 front_has_no_line_feed : (ns : List ℕ) → AreSmall ns → HasNoLineFeed (front ns)
 front_has_no_line_feed [] small = tt
@@ -87,9 +89,15 @@ ends_at_once = ([], tt, inl refl)
 
 more_front_is_spelled : (ns : List ℕ) → AreSmall ns → AreMoreNumbers (more_front ns) ns
 more_front_is_spelled [] small = refl
-more_front_is_spelled (n ∷ ns) small =
-    (32 ∷ [], decimal n, more_front ns, refl,
-    (omega arith, (refl, tt)), decimal_is_number n small.0, more_front_is_spelled ns small.1)
+more_front_is_spelled (n ∷ ns) small = (
+  32 ∷ [],
+  decimal n,
+  more_front ns,
+  refl,
+  (omega arith, (refl, tt)),
+  decimal_is_number n small.0,
+  more_front_is_spelled ns small.1,
+)
 
 end_is_good : (least : ℕ) (ns : List ℕ) → least ≤ length ns → AreSmall ns → EndInNumbers least true (more_front ns) ns
 end_is_good least ns enough small = record {

@@ -49,8 +49,11 @@ long Gates ns h = omega arith
 full_row : (m : ℕ) → m ≤ LARGEST → (s : Section) (ns : List ℕ) → IsGoodRow (in_ascii s).form m ns
     → IsFullRow (row (in_ascii s).form ns)
 full_row m h s ns g =
-    record { some = long s ns (AllZip-long (MayStand m) (roles_of (in_ascii s).form) ns g); small =
-    small_numbers m h (roles_of (in_ascii s).form) ns g }
+    record {
+      some = long s ns (AllZip-long (MayStand m) (roles_of (in_ascii s).form) ns g);
+      small =
+          small_numbers m h (roles_of (in_ascii s).form) ns g;
+    }
 
 sections_full : (c : Circuit) → IsInForm c → (ss : List Section)
     → AllByRecursion IsFullRow (flat_map (λ s. map (row (in_ascii s).form) ((in_ascii s).rows c)) ss)
@@ -185,9 +188,10 @@ canonical_text c good form fits = record {
       header_line_is_good ascii_word HEADER_NUMBERS (header_row c) (omega arith) (header_is_small c form.limits);
   are_rows = rows_are_good (rows_of c) (sections_full c form sections);
   is_tail = tail_is_good c form;
-  limited =
-      (form.limits.max_var,
-      (form.limits.inputs, (form.limits.latches, (form.limits.outputs, (form.limits.gates, tt)))));
+  limited = (
+    form.limits.max_var,
+    (form.limits.inputs, (form.limits.latches, (form.limits.outputs, (form.limits.gates, tt)))),
+  );
   counted = fits;
   well_formed = good;
 }

@@ -6,7 +6,8 @@ use Rattle.aig_core.specs.Fault as structure
 use Rattle.aig_text.specs.declared.fault.ReadFault.{ReadFault}
 use Rattle.aig_text.specs.Lines.{lines_of}
 use Rattle.aig_text.specs.AsciiGrammar.{IsAsciiText}
-use Rattle.aig_text.specs.Reading.{reading, circuit_at, first_ascii_fault, fault_of, unless_faulty, kind_of, whole_fault}
+use Rattle.aig_text.specs.Reading.{reading, circuit_at, first_ascii_fault, fault_of, unless_faulty, kind_of}
+use Rattle.aig_text.specs.Reading.{whole_fault}
 use Rattle.aig_text.specs.Reading.{want_of_memory, IsFirstFault}
 use Rattle.aig_text.proofs.Grammar.Text.{accepted_is_read}
 
@@ -35,7 +36,8 @@ structural_fault limit text c f h (inl out) = inl (ap (λ found. whole_fault (ki
 structural_fault limit text c f h (inr is) = inr (ap fault_of (reading_of limit text c h ∙ ap (unless_faulty c) is))
 
 -- a text that is the file of a circuit is refused only for want of memory
-pub memory_only : (limit : ℕ) (text : List ℕ) (c : Circuit) (e : ReadFault) → IsFirstFault e (first_ascii_fault limit text)
+pub memory_only : (limit : ℕ) (text : List ℕ) (c : Circuit) (e : ReadFault)
+    → IsFirstFault e (first_ascii_fault limit text)
     → IsAsciiText text limit c → e ≡ want_of_memory
 memory_only limit text c e (inl m) a = m
 memory_only limit text c e (inr h) a =

@@ -85,8 +85,14 @@ pub found_header : (word : List ℕ) (limit : ℕ) (l : Line) (h : Header) → T
     → header_of word limit l ≡ Ok h
 unfolding header_of header_within
 found_header word limit l h t =
-    rw (t.begins, t.read, all_within (min limit LARGEST) t.numbers t.within, le-ltb (get_or t.numbers 0 0)
-    (get_or t.numbers 1 0 + get_or t.numbers 2 0 + get_or t.numbers 4 0) t.counted, t.is) refl
+    rw (
+      t.begins,
+      t.read,
+      all_within (min limit LARGEST) t.numbers t.within,
+      le-ltb (get_or t.numbers 0 0)
+          (get_or t.numbers 1 0 + get_or t.numbers 2 0 + get_or t.numbers 4 0) t.counted,
+      t.is,
+    ) refl
 
 -- the header's row, and its limits
 all_numbers : (ns : List ℕ) → length ns ≡ HEADER_NUMBERS → row_of_header (header_of_row ns) ≡ ns
@@ -134,9 +140,14 @@ module _ (word : List ℕ) (limit : ℕ) (l : Line) (h : Header) (c : Circuit) (
       let at : (k : ℕ) → get_or t.numbers k 0 ≤ min limit LARGEST =
       λ k. within_at (min limit LARGEST) t.numbers k t.within in
       let low : min limit LARGEST ≤ LARGEST = omega arith in
-      let are : AreLimits t.numbers =
-      (omega (arith, at 0, low), omega (arith, at 1, low), omega (arith, at 2, low), omega (arith, at 3, low), omega
-      (arith, at 4, low)) in
+      let are : AreLimits t.numbers = (
+        omega (arith, at 0, low),
+        omega (arith, at 1, low),
+        omega (arith, at 2, low),
+        omega (arith, at 3, low),
+        omega
+            (arith, at 4, low),
+      ) in
       let own : AreLimits (header_row c) = subst AreLimits (sym numbers_are) are in
       record { max_var = own.0; inputs = own.1; latches = own.2; outputs = own.3; gates = own.4 }
 
@@ -144,11 +155,16 @@ module _ (word : List ℕ) (limit : ℕ) (l : Line) (h : Header) (c : Circuit) (
 both_limits : (limit : ℕ) (c : Circuit) → AllByRecursion (λ n. n ≤ limit) (header_row c) → IsWithinLimits c
     → AllByRecursion (λ n. n ≤ min limit LARGEST) (header_row c)
 both_limits limit c h w =
-    let least : (n : ℕ) → n ≤ limit → n ≤ LARGEST → n ≤ min limit LARGEST = λ n a b. omega arith in
-    (least c.max_var h.0 w.max_var,
-    (least (length c.inputs) h.1.0 w.inputs,
-    (least (length c.latches) h.1.1.0 w.latches,
-    (least (length c.outputs) h.1.1.1.0 w.outputs, (least (length c.gates) h.1.1.1.1.0 w.gates, tt)))))
+    let least : (n : ℕ) → n ≤ limit → n ≤ LARGEST → n ≤ min limit LARGEST = λ n a b. omega arith in (
+      least c.max_var h.0 w.max_var,
+      (
+        least (length c.inputs) h.1.0 w.inputs,
+        (
+          least (length c.latches) h.1.1.0 w.latches,
+          (least (length c.outputs) h.1.1.1.0 w.outputs, (least (length c.gates) h.1.1.1.1.0 w.gates, tt)),
+        ),
+      ),
+    )
 
 -- the header of a circuit, by its header row
 abbrev pub own_header : Circuit → Header

@@ -87,7 +87,7 @@ both_false s t h =
     elim (same_kind s.kind t.kind && eqb t.position s.position) as
     (λ b. (same_kind s.kind t.kind && eqb t.position s.position) ≡ b → b ≡ false) [
       | true ↦ λ e. let p = and_parts (same_kind s.kind t.kind) (eqb t.position s.position) e in
-      absurd (h (same_is_kind s.kind t.kind p.0, sym (eqb-true t.position s.position p.1)))
+          absurd (h (same_is_kind s.kind t.kind p.0, sym (eqb-true t.position s.position p.1)))
       | false ↦ λ e. refl
     ] refl
 
@@ -121,17 +121,22 @@ new_placed h before (s ∷ ss) n = (n.0, new_placed h (with_name before s.kind s
 still_new : (before : Names) (s : Symbol) (ss : List Symbol) → AllByRecursion (Unnamed before) ss
     → AllByRecursion (λ t. ¬ NameTheSame s t) ss → AllByRecursion (Unnamed (with_name before s.kind s.position)) ss
 still_new before s [] old apart = tt
-still_new before s (t ∷ ts) old apart =
-    (named_after before s.kind t.kind s.position t.position
-    ∙ or_from (same_kind s.kind t.kind && eqb t.position s.position) (is_named before t.kind t.position)
-    (both_false s t apart.0) old.0, still_new before s ts old.1 apart.1)
+still_new before s (t ∷ ts) old apart = (
+  named_after before s.kind t.kind s.position t.position
+      ∙ or_from (same_kind s.kind t.kind && eqb t.position s.position) (is_named before t.kind t.position)
+      (both_false s t apart.0) old.0,
+  still_new before s ts old.1 apart.1,
+)
 
 apart_from : (h : Header) (before : Names) (ss : List Symbol) → AllByRecursion (IsPlaced h) ss
     → AllByRecursion (Unnamed before) ss → NameApart ss → AreNew h before ss
 apart_from h before [] placed old apart = tt
-apart_from h before (s ∷ ss) placed old apart =
-    (placed.0, old.0, apart_from h (with_name before s.kind s.position) ss placed.1
-    (still_new before s ss old.1 apart.0) apart.1)
+apart_from h before (s ∷ ss) placed old apart = (
+  placed.0,
+  old.0,
+  apart_from h (with_name before s.kind s.position) ss placed.1
+      (still_new before s ss old.1 apart.0) apart.1,
+)
 
 none_before : (ss : List Symbol) → AllByRecursion (Unnamed nothing_named) ss
 none_before [] = tt

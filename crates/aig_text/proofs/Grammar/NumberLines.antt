@@ -70,9 +70,11 @@ zeros_end : (least most : ℕ) (ended : Bool) (bytes ns : List ℕ) → (eqb lea
     → zeros most ≡ ns → IsEnd least most ended bytes ns
 zeros_end least most ended bytes ns t is =
     let both = and_parts (eqb least 0) (is_line_end ended bytes) t in
-    subst (λ (ms : List ℕ). IsEnd least most ended bytes ms) is
-    (subst (λ (k : ℕ). EndInNumbers k ended bytes (zeros most)) (sym (eqb-true least 0 both.0))
-    (no_more ended bytes most both.1), length-zeros most)
+    subst (λ (ms : List ℕ). IsEnd least most ended bytes ms) is (
+      subst (λ (k : ℕ). EndInNumbers k ended bytes (zeros most)) (sym (eqb-true least 0 both.0))
+          (no_more ended bytes most both.1),
+      length-zeros most,
+    )
 
 -- one of two
 branches : {A : Type 0} (t : Bool) (x y z : A) → cond t x y ≡ z → ((t ≡ true) × (x ≡ z)) ⊎ ((t ≡ false) × (y ≡ z))
@@ -108,9 +110,11 @@ more_reads least (suc most) ended bytes ns l h =
           let others = more_reads (least - 1) most ended b.0.1 d.0 (omega arith) d.1 in
           let found : b.0.0 ∷ d.0 ≡ ns = cc in
           let spelled : bytes ≡ gap.0 ++ (number.0 ++ b.0.1) = gap.1 ∙ ap (λ (t : List ℕ). gap.0 ++ t) number.1 in
-          subst (λ (t : List ℕ). IsEnd least (suc most) ended bytes t) found
-          (subst (λ (t : List ℕ). EndInNumbers least ended t (b.0.0 ∷ d.0)) (sym spelled)
-          (more_line least ended gap.0 number.0 b.0.1 b.0.0 d.0 gap.2 number.2 others.0), ap suc others.1)
+          subst (λ (t : List ℕ). IsEnd least (suc most) ended bytes t) found (
+            subst (λ (t : List ℕ). EndInNumbers least ended t (b.0.0 ∷ d.0)) (sym spelled)
+                (more_line least ended gap.0 number.0 b.0.1 b.0.0 d.0 gap.2 number.2 others.0),
+            ap suc others.1,
+          )
     ]
 
 and_no : (t : Bool) → (t && false) ≡ false
@@ -122,8 +126,14 @@ one_more_is_read : (ended : Bool) (least most : ℕ) (gap digits rest : List ℕ
     → more_numbers_at ended least (suc most) (gap ++ (digits ++ rest)) ≡ Some (n ∷ ns)
 unfolding more_numbers_at
 one_more_is_read ended least most gap digits rest n ns g d follows others =
-    rw (gap_is_no_end ended gap digits rest n g d, and_no (eqb least 0), gap_is_read gap (digits ++ rest) g
-    (number_begins digits rest n d), number_is_read digits rest n d follows, others) refl
+    rw (
+      gap_is_no_end ended gap digits rest n g d,
+      and_no (eqb least 0),
+      gap_is_read gap (digits ++ rest) g
+          (number_begins digits rest n d),
+      number_is_read digits rest n d follows,
+      others,
+    ) refl
 
 -- numbers that are left out are read as zeros
 left_out_is_read : (ended : Bool) (bytes : List ℕ) (most : ℕ) → is_line_end ended bytes ≡ true
@@ -221,9 +231,15 @@ pub header_reads : (word : List ℕ) (l : Line) (least most : ℕ) (ns : List �
 header_reads word l least most ns small first h =
     let is_word : before_first ends_word l.text ≡ word =
     (bytes_eq-Decides (before_first ends_word l.text) word).0 first in
-    let found = more_reads least most l.ended (drop (length word) l.text) ns small h in
-    (record { rest = drop (length word) l.text; begins =
-    after_word (position_or_len ends_word l.text) l.text word is_word; others = found.0 }, found.1)
+    let found = more_reads least most l.ended (drop (length word) l.text) ns small h in (
+      record {
+        rest = drop (length word) l.text;
+        begins =
+            after_word (position_or_len ends_word l.text) l.text word is_word;
+        others = found.0;
+      },
+      found.1,
+    )
 
 -- a word ends where the first byte that ends words stands
 word_len : (word : List ℕ) (b : ℕ) (rest : List ℕ) → AllByRecursion (λ c. ends_word c ≡ false) word
@@ -258,6 +274,8 @@ header_is_read word l least most ns some plain h long =
     let is_word : before_first ends_word l.text ≡ word =
     rw (h.begins, h.others.text_is)
     (word_before_numbers word h.others.numbers h.others.ending h.others.written (omega arith) plain h.others.spelled) in
-    let rest : drop (length word) l.text ≡ h.rest = ap (drop (length word)) h.begins ∙ drop-append_seam word h.rest in
-    ((bytes_eq-Decides (before_first ends_word l.text) word).1 is_word, rw rest
-    (end_is_numbers l.ended least most h.rest ns h.others long))
+    let rest : drop (length word) l.text ≡ h.rest = ap (drop (length word)) h.begins ∙ drop-append_seam word h.rest in (
+      (bytes_eq-Decides (before_first ends_word l.text) word).1 is_word,
+      rw rest
+          (end_is_numbers l.ended least most h.rest ns h.others long),
+    )

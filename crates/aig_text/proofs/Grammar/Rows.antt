@@ -57,9 +57,11 @@ none_wrong m [] (n ∷ ns) h = absurd h
 none_wrong m (r ∷ rs) [] h = absurd h
 none_wrong m (r ∷ rs) (n ∷ ns) h =
     let here = is_right m r n h.0 in
-    let rest = none_wrong m rs ns h.1 in
-    (or_from (misdefines r n) (any_number misdefines rs ns) here.0 rest.0, or_from (exceeds m r n)
-    (any_number (exceeds m) rs ns) here.1 rest.1)
+    let rest = none_wrong m rs ns h.1 in (
+      or_from (misdefines r n) (any_number misdefines rs ns) here.0 rest.0,
+      or_from (exceeds m r n)
+          (any_number (exceeds m) rs ns) here.1 rest.1,
+    )
 
 unless_none : {A : Type 0} (x y : A) (o : Option _) → unless_wrong x o ≡ Ok y → (o ≡ None) × (x ≡ y)
 unless_none x y None h = (refl, ok_same x y h)

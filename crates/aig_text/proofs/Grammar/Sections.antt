@@ -48,8 +48,14 @@ zips_split R xs [] zs h = record { first = []; second = xs; are = refl; first_zi
 zips_split R [] (y ∷ ys) zs h = absurd h
 zips_split R (x ∷ xs) (y ∷ ys) zs h =
     let t = zips_split R xs ys zs h.1 in
-    record { first = x ∷ t.first; second = t.second; are = ap (λ (l : List _). x ∷ l) t.are; first_zips =
-    (h.0, t.first_zips); second_zips = t.second_zips }
+    record {
+      first = x ∷ t.first;
+      second = t.second;
+      are = ap (λ (l : List _). x ∷ l) t.are;
+      first_zips =
+          (h.0, t.first_zips);
+      second_zips = t.second_zips;
+    }
 
 -- sections as a file of some format lists them, under a header
 module _ (listed : Section → Listed) (h : Header) where
@@ -135,7 +141,8 @@ module _ (listed : Section → Listed) (h : Header) where
 
   pub sections_are_found : (ss : List Section) (found : List (List (List ℕ))) (c : Circuit) (n : ℕ)
       (front rest : List Line)
-      → AllZip IsRowLine front (rows_under ss found) → AllFit ss found c → ReadsSections ss found c n (front ++ rest) rest
+      → AllZip IsRowLine front (rows_under ss found) → AllFit ss found c
+      → ReadsSections ss found c n (front ++ rest) rest
   unfolding sections_at
   sections_are_found [] [] c n [] rest z fit = (n, refl)
   sections_are_found [] [] c n (l ∷ ls) rest z fit = absurd z
@@ -143,7 +150,8 @@ module _ (listed : Section → Listed) (h : Header) where
   sections_are_found (s ∷ ss) [] c n front rest z fit = absurd fit
   sections_are_found (s ∷ ss) (rows ∷ found) c n front rest z fit =
       let two = zips_split IsRowLine front (map (row (listed s).form) rows) (rows_under ss found) z in
-      let r = rows_are_found (listed s).form h.max_var n two.first (two.second ++ rest) rows two.first_zips fit.0.good in
+      let r = rows_are_found (listed s).form h.max_var n two.first (two.second ++ rest) rows two.first_zips
+      fit.0.good in
       let o = sections_are_found ss found ((listed s).with_rows h rows c) r.0 two.second rest two.second_zips fit.1 in
       let lines : front ++ rest ≡ two.first ++ (two.second ++ rest) = ap (λ (ks : List Line). ks ++ rest) two.are
       ∙ append_assoc two.first two.second rest in

@@ -78,8 +78,12 @@ pub number_is_read : (digits rest : List ℕ) (n : ℕ) → IsNumber digits n �
     → number_at (digits ++ rest) ≡ Some (n, rest)
 unfolding number_at
 number_is_read digits rest n h follows =
-    rw (front_len is_digit digits rest h.digits follows, take-append_seam digits rest, drop-append_seam digits rest,
-    h.value)
+    rw (
+      front_len is_digit digits rest h.digits follows,
+      take-append_seam digits rest,
+      drop-append_seam digits rest,
+      h.value,
+    )
     (some_cond (eqb (length digits) 0) (n, rest) (long_is_some digits h.some))
 
 -- one gap
@@ -87,9 +91,11 @@ pub gap_reads : (bytes rest : List ℕ) → after_gap bytes ≡ Some rest → (g
 unfolding after_gap
 gap_reads bytes rest h =
     let k : ℕ = prefix_len is_space bytes in
-    let g : (eqb k 0 ≡ false) × (drop k bytes ≡ rest) = guard_some _ _ _ h in
-    (take k bytes, cut_at_front is_space bytes rest g.1,
-    (front_is_long is_space bytes g.0, front_passes is_space bytes))
+    let g : (eqb k 0 ≡ false) × (drop k bytes ≡ rest) = guard_some _ _ _ h in (
+      take k bytes,
+      cut_at_front is_space bytes rest g.1,
+      (front_is_long is_space bytes g.0, front_passes is_space bytes),
+    )
 
 pub gap_is_read : (gap rest : List ℕ) → IsGap gap → StopsAt is_space rest → after_gap (gap ++ rest) ≡ Some rest
 unfolding after_gap
@@ -220,5 +226,8 @@ pub gap_is_no_end : (ended : Bool) (gap digits rest : List ℕ) (n : ℕ) → Is
     → is_line_end ended (gap ++ (digits ++ rest)) ≡ false
 unfolding is_line_end
 gap_is_no_end ended gap digits rest n g d =
-    rw (front_len is_space gap (digits ++ rest) g.1
-    (number_begins digits rest n d), drop-append_seam gap (digits ++ rest)) (digit_is_no_rest ended digits rest n d)
+    rw (
+      front_len is_space gap (digits ++ rest) g.1
+          (number_begins digits rest n d),
+      drop-append_seam gap (digits ++ rest),
+    ) (digit_is_no_rest ended digits rest n d)

@@ -36,7 +36,7 @@ space_reads [] rest h = cc
 space_reads (b ∷ bytes) rest h =
     elim (eqb b 32) as (λ t. eqb b 32 ≡ t → cond t (Some bytes) None ≡ Some rest → b ∷ bytes ≡ 32 ∷ rest) [
       | true ↦ λ e g. let same : bytes ≡ rest = cc in ap (λ (n : ℕ). n ∷ bytes) (eqb-true b 32 e)
-      ∙ ap (λ (t : List ℕ). 32 ∷ t) same
+          ∙ ap (λ (t : List ℕ). 32 ∷ t) same
       | false ↦ λ e g. cc
     ] refl h
 
@@ -85,8 +85,12 @@ comment_begins : (l : Line) (text : List ℕ) → l.text ≡ text → begins_com
 comment_begins l [] is h = cc
 comment_begins l (b ∷ bytes) is h =
     let both = and_parts (eqb b 99) (is_line_end l.ended bytes) h in
-    record { ending = bytes; text = is ∙ ap (λ (n : ℕ). n ∷ bytes) (eqb-true b 99 both.0); ends =
-    end_reads l.ended bytes both.1 }
+    record {
+      ending = bytes;
+      text = is ∙ ap (λ (n : ℕ). n ∷ bytes) (eqb-true b 99 both.0);
+      ends =
+          end_reads l.ended bytes both.1;
+    }
 
 pub comment_reads : (l : Line) → is_comment_line l ≡ true → IsCommentLine l
 unfolding is_comment_line

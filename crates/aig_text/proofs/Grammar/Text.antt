@@ -156,7 +156,8 @@ pub reading_is_accepted : (limit : ℕ) (text : List ℕ) (c : Circuit) → read
     → IsAsciiText text limit c
 unfolding reading
 reading_is_accepted limit text c h =
-    let r = both_ok (circuit_at limit (lines_of text)) (λ (d : Circuit). unless_faulty d (first_structural_fault d)) c h in
+    let r = both_ok (circuit_at limit (lines_of text)) (λ (d : Circuit). unless_faulty d (first_structural_fault d)) c
+    h in
     let n = no_fault r.0 c (first_structural_fault r.0) r.2 in
     let form : IsInForm r.0 = circuit_in_form limit (lines_of text) r.0 (pieces text).one_each r.1 in
     subst (λ (d : Circuit). IsAsciiText text limit d) n.1

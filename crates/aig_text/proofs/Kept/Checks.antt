@@ -125,8 +125,8 @@ row_kept form m ns l long =
     any_number_kept (exceeds m) (exceeds_kept m l) (roles_of form) ns in
     elim (cases_Bool (any_number (exceeds m) (roles_of form) ns)) [
       | inl h ↦ rw (defined, within)
-      (wrong_anyway (map kept ns) ns (any_number misdefines (roles_of form) ns)
-      (any_number (exceeds m) (roles_of form) ns) h)
+          (wrong_anyway (map kept ns) ns (any_number misdefines (roles_of form) ns)
+          (any_number (exceeds m) (roles_of form) ns) h)
       | inr h ↦ ap (λ ms. checked_row form m (Some ms)) (none_above m l (roles_of form) ns long h)
     ]
 

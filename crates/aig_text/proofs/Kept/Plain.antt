@@ -99,9 +99,16 @@ one_more : (text ns digits : List ℕ) (n : ℕ) → AreMoreNumbers text ns → 
 one_more text [] digits n h d =
     rw h
     (32 ∷ [], digits, [], ap (λ (t : List ℕ). 32 ∷ t) (sym (append-nil digits)), (omega arith, (refl, tt)), d, refl)
-one_more text (m ∷ ns) digits n h d =
-    (h.0, h.1, h.2 ++ 32 ∷ digits, ap (λ (t : List ℕ). t ++ 32 ∷ digits) h.3
-    ∙ simp append_assoc, h.4, h.5, one_more h.2 ns digits n h.6 d)
+one_more text (m ∷ ns) digits n h d = (
+  h.0,
+  h.1,
+  h.2 ++ 32 ∷ digits,
+  ap (λ (t : List ℕ). t ++ 32 ∷ digits) h.3
+      ∙ simp append_assoc,
+  h.4,
+  h.5,
+  one_more h.2 ns digits n h.6 d,
+)
 
 digit_is_no_line_feed : (b : ℕ) → is_digit b ≡ true → (b == 10) ≡ false
 digit_is_no_line_feed b h = search rules

@@ -31,7 +31,7 @@ small_behind : (n k : ℕ) → kept n ≡ k → k < 2 ^ 33 → n ≡ k
 small_behind n k h small = elim (cases_lt n (2 ^ 33)) [
   | inl l ↦ sym (kept_small n l) ∙ h
   | inr l ↦ let large : 2 ^ 33 ≤ k = subst (λ m. 2 ^ 33 ≤ m) (sym (kept_large n l) ∙ h) (omega arith) in
-  absurd (omega arith)
+      absurd (omega arith)
 ]
 
 far_behind : (count n k : ℕ) → kept n ≡ k → count < 2 ^ 33 → count ≤ k → count ≤ n

@@ -24,7 +24,8 @@ module _ {A : Type 0} (tell : List ℕ → A) (form : Form) (m : ℕ) where
   abbrev then_rows : ℕ → List ℕ × Ahead → Found (List (List ℕ))
   then_rows count first = ◌>>=◌ {B = List (List ℕ) × Ahead} (rows_at form m count first.1) (with_first first.0)
 
-  right_row : (count : ℕ) (after : Ahead) (found : List A) (x : A) (r : Found (List ℕ)) → row_meant tell r ≡ Ok (x, after)
+  right_row : (count : ℕ) (after : Ahead) (found : List A) (x : A) (r : Found (List ℕ))
+      → row_meant tell r ≡ Ok (x, after)
       → rows_meant tell (found ++ x ∷ []) (rows_at form m count after) ≡ rows_meant tell found (r >>= then_rows count)
   right_row count after found x (Err e) h = cc
   right_row count after found x (Ok y) h =

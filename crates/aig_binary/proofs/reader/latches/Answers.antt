@@ -8,8 +8,13 @@ loop-next-init c =
 
 pub loop-next-preserved : goal.loop-next-preserved
 loop-next-preserved c = (
-  rw (c.in_ok-push.ensures.ok, c.loop-next.invariant.0, c.loop-next.invariant.1, c.next-item.is,
-  c.as_slice-next-items.ensures)
+  rw (
+    c.in_ok-push.ensures.ok,
+    c.loop-next.invariant.0,
+    c.loop-next.invariant.1,
+    c.next-item.is,
+    c.as_slice-next-items.ensures,
+  )
       (sym
       (latches_more c.args.variable c.loop-next.next-index _ c.args.nexts.now
       (rw c.as_slice-next-items.ensures at c.loop-next-test.true))),

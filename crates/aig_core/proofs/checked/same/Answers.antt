@@ -4,8 +4,10 @@ use Rattle.aig_core.proofs.checked.same.Goals as goal
 
 pub returns-then-eq-5 : goal.returns-then-eq-5
 returns-then-eq-5 c =
-    told c.eq-then-eq-5.result c.circuit-first.result.now c.circuit-second.result.now _ _ c.circuit-first.ensures.value c.circuit-second.ensures.value (search rules)
+    told c.eq-then-eq-5.result c.circuit-first.result.now c.circuit-second.result.now _ _ c.circuit-first.ensures.value
+    c.circuit-second.ensures.value (search rules)
 
 pub returns-else-eq-5 : goal.returns-else-eq-5
 returns-else-eq-5 c =
-    told c.if-eq-4.value c.circuit-first.result.now c.circuit-second.result.now _ _ c.circuit-first.ensures.value c.circuit-second.ensures.value (search rules)
+    told c.if-eq-4.value c.circuit-first.result.now c.circuit-second.result.now _ _ c.circuit-first.ensures.value
+    c.circuit-second.ensures.value (search rules)

@@ -8,7 +8,8 @@ use Rattle.aig_core.proofs.least_ready.gate_order.Given as goal
 
 abbrev pub invariant-loop-gate : goal.invariant-loop-gate
 invariant-loop-gate l = record {
-  stands : Stands (length l.circuit.gates) (gate_operands l.circuit.gates) l.order.list l.order.waiting (has l.ready) l.order.steps (sum (map (λ (g : Gate). length (gates_under l.circuit.gates g)) l.circuit.gates));
+  stands : Stands (length l.circuit.gates) (gate_operands l.circuit.gates) l.order.list l.order.waiting (has l.ready)
+      l.order.steps (sum (map (λ (g : Gate). length (gates_under l.circuit.gates g)) l.circuit.gates));
   room : length l.circuit.gates ≤ room l.ready;
 }
 

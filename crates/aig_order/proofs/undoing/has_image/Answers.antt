@@ -55,7 +55,8 @@ pub returns : goal.returns
 returns c =
     let b = c.args.block.now in
     let comment = comment_behind b c.args.comment.now in
-    let exchanges = recorded_of_same TellsExchanges c.tells_exchanges.result c.as_slice.result.now c.args.image.now.gates
+    let exchanges = recorded_of_same TellsExchanges c.tells_exchanges.result c.as_slice.result.now
+    c.args.image.now.gates
     c.as_slice-2.result.now c.args.block.now.gates
     (c.as_slice.ensures ∙ ap (λ (d : Circuit). d.gates) c.circuit-circuit.ensures.value) c.as_slice-2.ensures
     c.tells_exchanges.ensures in

@@ -19,9 +19,11 @@ returns-in_err-circuit-clause-fault c = let h = err_from_is_err_and c.from_resid
 
 pub check-requires : goal.check-requires
 check-requires c =
-    record { in_form =
-    circuit_in_form c.args.limits.max_var (lines_of c.args.bytes.now) c.in_ok-circuit.circuit
-    (pieces c.args.bytes.now).one_each c.in_ok-circuit.ensures }
+    record {
+      in_form =
+          circuit_in_form c.args.limits.max_var (lines_of c.args.bytes.now) c.in_ok-circuit.circuit
+          (pieces c.args.bytes.now).one_each c.in_ok-circuit.ensures;
+    }
 
 pub returns-in-Ok-clause-ok : goal.returns-in-Ok-clause-ok
 returns-in-Ok-clause-ok c =

@@ -24,7 +24,7 @@ loop-preserved g c =
     elim c.match-read_short.branch [
       | in-Some w ↦ rw (w.row-is, w.rest-is, w.number-is) (w.in-Some.ensures.row c.loop.number)
       | in-None+in_ok-row-in-None w ↦ rw (w.row-is, w.rest-is, w.number-is)
-      (rw (← w.from.view_is) at w.in_ok-row-in-None.ensures)
+          (rw (← w.from.view_is) at w.in_ok-row-in-None.ensures)
     ] in
     let counted : next.number + length next.rest.now < 2 ^ 64 =
     elim c.match-read_short.branch [

@@ -8,5 +8,6 @@ invariant-loop-entry g l =
     let variables = flat_map g.T.Entry.defined in
     record {
       seen : with_all l.seen (variables (drop l.entry-index l.entries)) ≡ with_all l.fn.seen (variables l.entries);
-      told : first_repeat l.seen (variables (drop l.entry-index l.entries)) ≡ first_repeat l.fn.seen (variables l.entries);
+      told : first_repeat l.seen (variables (drop l.entry-index l.entries))
+          ≡ first_repeat l.fn.seen (variables l.entries);
     }

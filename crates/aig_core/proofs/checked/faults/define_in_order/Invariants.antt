@@ -10,6 +10,7 @@ invariant-loop-entry g l =
     let follow = are_in_order g.T.Entry.defined g.T.Entry.used in
     record {
       seen : with_all l.seen (variables (drop l.entry-index l.entries)) ≡ with_all l.fn.seen (variables l.entries);
-      told : first_repeat l.seen (variables (drop l.entry-index l.entries)) ≡ first_repeat l.fn.seen (variables l.entries);
+      told : first_repeat l.seen (variables (drop l.entry-index l.entries))
+          ≡ first_repeat l.fn.seen (variables l.entries);
       order : (l.in_order && follow l.seen (drop l.entry-index l.entries)) ≡ follow l.fn.seen l.entries;
     }

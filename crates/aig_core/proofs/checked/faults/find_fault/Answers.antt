@@ -7,4 +7,5 @@ pub returns-then-is_none-clause-ok : goal.returns-then-is_none-clause-ok
 returns-then-is_none-clause-ok c =
     let told = c.in_ok-variables.ensures in
     let none = none_of c.first_undefined_end.result (c.is_none.ensures ∙ ap not c.if-is_none.true) in
-    in_order_faultless c.args.circuit.now told.ok (sym told.in_order ∙ c.if-in_order.true) c.requires (rw (← told.variables, ← c.first_undefined_end.ensures) none)
+    in_order_faultless c.args.circuit.now told.ok (sym told.in_order ∙ c.if-in_order.true) c.requires
+    (rw (← told.variables, ← c.first_undefined_end.ensures) none)

@@ -12,21 +12,32 @@ use Rattle.aig_core.proofs.checked.faults.order_of_all.Goals as goal
 pub own_literal-requires : goal.own_literal-requires
 own_literal-requires c =
     let gates : List Gate = c.args.circuit.now.gates in
-    let found = cyclic_at gates c.in_ok-order.order.list c.in_ok-order.order.waiting c.in_ok-order.ensures.least.full c.in_ok-order.ensures.least.in_turn c.in_ok-order.ensures.as_many c.in_ok-order.ensures.waiting c.in-Some.gate (sym c.first_waiting.ensures ∙ c.in-Some.is) in
-    let read : c.index-as_slice-gate.result ≡ at gates c.in-Some.gate = c.index-as_slice-gate.is ∙ ap (λ gs. get_or gs c.in-Some.gate c.index-as_slice-gate.result) c.as_slice.ensures ∙ get_or_default gates c.in-Some.gate c.index-as_slice-gate.result no_gate found.0 in
+    let found = cyclic_at gates c.in_ok-order.order.list c.in_ok-order.order.waiting c.in_ok-order.ensures.least.full
+    c.in_ok-order.ensures.least.in_turn c.in_ok-order.ensures.as_many c.in_ok-order.ensures.waiting c.in-Some.gate
+    (sym c.first_waiting.ensures ∙ c.in-Some.is) in
+    let read : c.index-as_slice-gate.result ≡ at gates c.in-Some.gate = c.index-as_slice-gate.is
+    ∙ ap (λ gs. get_or gs c.in-Some.gate c.index-as_slice-gate.result) c.as_slice.ensures
+    ∙ get_or_default gates c.in-Some.gate c.index-as_slice-gate.result no_gate found.0 in
     subst (λ (g : Gate). g.var ≤ LARGEST) (sym read) (in_bounds c.args.circuit.now c.requires c.in-Some.gate found.0)
 
 pub returns-in-Some : goal.returns-in-Some
 returns-in-Some c =
     let gates : List Gate = c.args.circuit.now.gates in
-    let found = cyclic_at gates c.in_ok-order.order.list c.in_ok-order.order.waiting c.in_ok-order.ensures.least.full c.in_ok-order.ensures.least.in_turn c.in_ok-order.ensures.as_many c.in_ok-order.ensures.waiting c.in-Some.gate (sym c.first_waiting.ensures ∙ c.in-Some.is) in
-    let read : c.index-as_slice-gate.result ≡ at gates c.in-Some.gate = c.index-as_slice-gate.is ∙ ap (λ gs. get_or gs c.in-Some.gate c.index-as_slice-gate.result) c.as_slice.ensures ∙ get_or_default gates c.in-Some.gate c.index-as_slice-gate.result no_gate found.0 in
-    let first : Some c.own_literal.result ≡ first_cyclic gates = ap Some (c.own_literal.ensures ∙ ap (λ (g : Gate). 2 * g.var) read) ∙ sym found.1 in
+    let found = cyclic_at gates c.in_ok-order.order.list c.in_ok-order.order.waiting c.in_ok-order.ensures.least.full
+    c.in_ok-order.ensures.least.in_turn c.in_ok-order.ensures.as_many c.in_ok-order.ensures.waiting c.in-Some.gate
+    (sym c.first_waiting.ensures ∙ c.in-Some.is) in
+    let read : c.index-as_slice-gate.result ≡ at gates c.in-Some.gate = c.index-as_slice-gate.is
+    ∙ ap (λ gs. get_or gs c.in-Some.gate c.index-as_slice-gate.result) c.as_slice.ensures
+    ∙ get_or_default gates c.in-Some.gate c.index-as_slice-gate.result no_gate found.0 in
+    let first : Some c.own_literal.result ≡ first_cyclic gates =
+    ap Some (c.own_literal.ensures ∙ ap (λ (g : Gate). 2 * g.var) read) ∙ sym found.1 in
     record { ok = tt; least = tt; err = inr (ap (option_map Cyclic) (sym first)) }
 
 pub returns-in-None : goal.returns-in-None
 returns-in-None c = record {
-  ok = cyclic_nowhere c.args.circuit.now.gates c.in_ok-order.order.list c.in_ok-order.order.waiting c.in_ok-order.ensures.least.full c.in_ok-order.ensures.least.in_turn c.in_ok-order.ensures.as_many c.in_ok-order.ensures.waiting (sym c.first_waiting.ensures ∙ c.in-None.is);
+  ok = cyclic_nowhere c.args.circuit.now.gates c.in_ok-order.order.list c.in_ok-order.order.waiting
+      c.in_ok-order.ensures.least.full c.in_ok-order.ensures.least.in_turn c.in_ok-order.ensures.as_many
+      c.in_ok-order.ensures.waiting (sym c.first_waiting.ensures ∙ c.in-None.is);
   least = c.in_ok-order.ensures.least;
   err = tt;
 }

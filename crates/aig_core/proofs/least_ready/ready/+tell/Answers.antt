@@ -9,11 +9,15 @@ tell-requires t c = (
   (
     omega (arith, c.requires.there, length-set c.args.words.now (c.args.bit / 64) c.with_bit-after.result),
     (
-      to_tell c.args.words.now c.args.bit c.args.on c.with_bit-after.result c.requires.there c.with_bit-after.ensures c.requires.told c.requires.below c.if-at-eq0.false,
-      λ l. what_to_tell c.args.words.now c.args.bit c.args.on c.with_bit-after.result c.requires.there c.with_bit-after.ensures c.requires.told c.requires.below c.if-at-eq0.false,
+      to_tell c.args.words.now c.args.bit c.args.on c.with_bit-after.result c.requires.there c.with_bit-after.ensures
+          c.requires.told c.requires.below c.if-at-eq0.false,
+      λ l. what_to_tell c.args.words.now c.args.bit c.args.on c.with_bit-after.result c.requires.there
+          c.with_bit-after.ensures c.requires.told c.requires.below c.if-at-eq0.false,
     ),
   ),
 )
 
 pub returns-clause-lowest : goal.returns-clause-lowest
-returns-clause-lowest t c = lowest_put c.args.words.now c.args.bit c.args.on c.with_bit-after.result c.requires.there c.with_bit-after.ensures c.tell.new.words _ c.if-at-eq0.false c.tell.ensures.lowest
+returns-clause-lowest t c =
+    lowest_put c.args.words.now c.args.bit c.args.on c.with_bit-after.result c.requires.there c.with_bit-after.ensures
+    c.tell.new.words _ c.if-at-eq0.false c.tell.ensures.lowest

@@ -6,22 +6,31 @@ use Rattle.aig_core.proofs.Ordering.Trees.{IsLeastAt, at_top, there_below, found
 use Rattle.aig_core.proofs.least_ready.ready.least.Goals as goal
 
 pub loop-init : goal.loop-init
-loop-init c = at_top c.args.words.now (first_bit c.args.levels) c.args.levels c.requires.tree (λ i. Fits-lt-pow (c.type_inv.words i)) c.requires.some _ refl
+loop-init c = at_top c.args.words.now (first_bit c.args.levels) c.args.levels c.requires.tree
+    (λ i. Fits-lt-pow (c.type_inv.words i)) c.requires.some _ refl
 
 pub overflow_add-below : goal.overflow_add-below
-overflow_add-below c = omega (arith, c.requires.tree.few, there_below c.args.words.now (first_bit c.args.levels) c.args.levels c.requires.tree (λ i. Fits-lt-pow (c.type_inv.words i)) c.loop.counter c.loop.bit c.loop-test.true c.loop.invariant)
+overflow_add-below c = omega (
+  arith,
+  c.requires.tree.few,
+  there_below c.args.words.now (first_bit c.args.levels) c.args.levels c.requires.tree
+      (λ i. Fits-lt-pow (c.type_inv.words i)) c.loop.counter c.loop.bit c.loop-test.true c.loop.invariant,
+)
 
 pub bounds-words-below : goal.bounds-words-below
-bounds-words-below c = there_below c.args.words.now (first_bit c.args.levels) c.args.levels c.requires.tree (λ i. Fits-lt-pow (c.type_inv.words i)) c.loop.counter c.loop.bit c.loop-test.true c.loop.invariant
+bounds-words-below c = there_below c.args.words.now (first_bit c.args.levels) c.args.levels c.requires.tree
+    (λ i. Fits-lt-pow (c.type_inv.words i)) c.loop.counter c.loop.bit c.loop-test.true c.loop.invariant
 
 pub overflow_add-bit : goal.overflow_add-bit
 overflow_add-bit c =
     let few : 64 * (c.loop.bit + 1) + trailing_zeros w64 (get_or c.args.words.now (c.loop.bit + 1) 0) < 2199023255552 =
-    found_fits c.args.words.now (first_bit c.args.levels) c.args.levels c.requires.tree (λ i. Fits-lt-pow (c.type_inv.words i)) c.loop.counter c.loop.bit c.loop-test.true c.loop.invariant in
+    found_fits c.args.words.now (first_bit c.args.levels) c.args.levels c.requires.tree
+    (λ i. Fits-lt-pow (c.type_inv.words i)) c.loop.counter c.loop.bit c.loop-test.true c.loop.invariant in
     omega (arith, few)
 
 pub loop-preserved : goal.loop-preserved
-loop-preserved c = one_down c.args.words.now (first_bit c.args.levels) c.args.levels c.requires.tree (λ i. Fits-lt-pow (c.type_inv.words i)) c.loop.counter c.loop.bit c.loop-test.true c.loop.invariant _ refl
+loop-preserved c = one_down c.args.words.now (first_bit c.args.levels) c.args.levels c.requires.tree
+    (λ i. Fits-lt-pow (c.type_inv.words i)) c.loop.counter c.loop.bit c.loop-test.true c.loop.invariant _ refl
 
 pub returns-clause-there : goal.returns-clause-there
 returns-clause-there c =
@@ -31,4 +40,7 @@ returns-clause-there c =
 pub returns-clause-least : goal.returns-clause-least
 returns-clause-least c = λ b.
     let all : c.loop.counter ≡ c.args.levels = omega (arith, c.loop-test.false, c.loop.auto.counter-end) in
-    at_end c.args.words.now (first_bit c.args.levels) c.args.levels c.requires.tree (λ i. Fits-lt-pow (c.type_inv.words i)) c.loop.bit b (subst (λ n. IsLeastAt c.args.words.now (first_bit c.args.levels) c.args.levels n c.loop.bit) all c.loop.invariant)
+    at_end c.args.words.now (first_bit c.args.levels) c.args.levels c.requires.tree
+    (λ i. Fits-lt-pow (c.type_inv.words i)) c.loop.bit b
+    (subst (λ n. IsLeastAt c.args.words.now (first_bit c.args.levels) c.args.levels n c.loop.bit) all
+    c.loop.invariant)

@@ -11,4 +11,7 @@ pub returns : goal.returns
 returns c =
     let all : c.as_slice.result.now ≡ map (operands_of c.args.circuit.now.gates) c.args.circuit.now.gates =
     c.as_slice.ensures.value ∙ c.in_ok-operands.ensures in
-    c.in_ok-waiting_for.ensures ∙ ap (λ waiting. record { list = []; waiting = waiting; steps = 0 }) (ap counts all ∙ map-map (λ (o : Operands). length (over o)) (operands_of c.args.circuit.now.gates) c.args.circuit.now.gates)
+    c.in_ok-waiting_for.ensures
+    ∙ ap (λ waiting. record { list = []; waiting = waiting; steps = 0 })
+    (ap counts all ∙ map-map (λ (o : Operands). length (over o)) (operands_of c.args.circuit.now.gates)
+    c.args.circuit.now.gates)

@@ -18,4 +18,6 @@ loop-first-preserved c =
 
 pub invariant_of-result : goal.invariant_of-result
 invariant_of-result c =
-    empty_tree _ _ c.loop-first.first c.loop-first.levels c.args.gates (c.in_ok-vec.ensures.items_if_clones_equal (λ y e. e)) refl c.loop-first.invariant.first_is c.loop-first.invariant.few (omega (arith, c.loop-first-test.false)) (omega (arith, c.requires))
+    empty_tree _ _ c.loop-first.first c.loop-first.levels c.args.gates
+    (c.in_ok-vec.ensures.items_if_clones_equal (λ y e. e)) refl c.loop-first.invariant.first_is
+    c.loop-first.invariant.few (omega (arith, c.loop-first-test.false)) (omega (arith, c.requires))

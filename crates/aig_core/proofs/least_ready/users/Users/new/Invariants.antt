@@ -10,5 +10,6 @@ invariant-loop-gate l = record {
   as_many_links : length l.users.links.items ≡ 2 * length l.operands;
   heads : (g : ℕ) → slice_index l.users.heads.items g ≤ 2 * l.gate;
   links : LinksFall l.users.links.items;
-  uses : (g u : ℕ) → uses l.users.heads.items l.users.links.items g u ≡ count_by (λ h. eqb h g) (operands_at (take l.gate l.operands) u);
+  uses : (g u : ℕ) → uses l.users.heads.items l.users.links.items g u
+      ≡ count_by (λ h. eqb h g) (operands_at (take l.gate l.operands) u);
 }

@@ -12,7 +12,9 @@ use Rattle.aig_core.specs.Parts.Numbered.{AreNumbered, AreSectionsInOrder, IsGat
 module _ {X : Type 0} (f : X → ℕ) where
   numbered_to : (n : ℕ) (xs : List X) → AreNumbered (λ v x. f x ≡ v) n xs → map f xs ≡ range_with_len n (length xs)
   numbered_to n [] h = refl
-  numbered_to n (x ∷ xs) h = ap₂ (λ (v : ℕ) (vs : List ℕ). v ∷ vs) h.0 (numbered_to (suc n) xs h.1 ∙ ap (λ m. range_with_len m (length xs)) (sym (add-one n)))
+  numbered_to n (x ∷ xs) h =
+      ap₂ (λ (v : ℕ) (vs : List ℕ). v ∷ vs) h.0
+      (numbered_to (suc n) xs h.1 ∙ ap (λ m. range_with_len m (length xs)) (sym (add-one n)))
 
   numbered_from : (n : ℕ) (xs : List X) → map f xs ≡ range_with_len n (length xs) → AreNumbered (λ v x. f x ≡ v) n xs
   numbered_from n [] h = tt
