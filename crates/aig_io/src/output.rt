@@ -61,7 +61,7 @@ impl<'a, W: Sink> Output<'a, W> {
     pub fn flush(&mut self) -> Result<(), DeviceFault>
         ensures put { Put self.old self.new [] }
         ensures empty { self.new.held ≡ [] }
-        ensures told { self.new.failed ≡ is_err result }
+        ensures reported { self.new.failed ≡ is_err result }
     {
         self.send_held();
         if self.failed {

@@ -14,12 +14,12 @@ abbrev pub mark_of : List ℕ → ℕ → Option (Unit {0})
 mark_of words index = if is_marked words index then Some tt else None
 
 -- a place has one more than the number, and 0 where there is none
-abbrev pub told_by : ℕ → Option ℕ
-told_by place = if place == 0 then None else Some (place - 1)
+abbrev pub number_at_place : ℕ → Option ℕ
+number_at_place place = if place == 0 then None else Some (place - 1)
 
 -- the number that the place of an index tells
 abbrev pub number_of : List ℕ → ℕ → Option ℕ
-number_of places index = told_by (slice_index_or places index 0)
+number_of places index = number_at_place (slice_index_or places index 0)
 
 -- which of so many buckets an index belongs to: multiples of this odd number spread over all of them
 abbrev pub bucket_of : ℕ → ℕ → ℕ

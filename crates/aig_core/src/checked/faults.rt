@@ -145,8 +145,8 @@ fn definitions_before_gates(alloc: Global, circuit: &Circuit) -> Result<VarSet, 
 /// The variables that a circuit defines, unless one of them is defined twice, and whether its gates stand after those
 /// that they use.
 fn definitions(alloc: Global, circuit: &Circuit) -> Result<(VarSet, bool), CheckFault>
-    ensures variables { IfOk result (λ told. told.0 ≡ with_all set.empty (defined_variables circuit.now)) }
-    ensures in_order { IfOk result (λ told. told.1 ≡ has_gates_in_order circuit.now) }
+    ensures variables { IfOk result (λ found. found.0 ≡ with_all set.empty (defined_variables circuit.now)) }
+    ensures in_order { IfOk result (λ found. found.1 ≡ has_gates_in_order circuit.now) }
     ensures ok { OnOk result (first_repeat set.empty (defined_variables circuit.now) ≡ None) }
     ensures err { IfErr result (λ e. IsFault e (first_redefinition set.empty (defined_variables circuit.now))) }
 {
