@@ -86,6 +86,17 @@ rows() {
     rows_deltas
     rows_binary_lines
     rows_cuts
+    rows_counts
+    rows_resets
+    rows_binary_resets
+    rows_properties
+    rows_sizes
+    rows_uses
+    rows_named_properties
+    rows_binary_properties
+    rows_property_cuts
+    rows_property_limits
+    rows_property_images
     rows_images
     rows_maps
     rows_undone
@@ -140,7 +151,7 @@ rows_header() {
     refuses 'the first word and CR LF' 'aag\r\n' 'line 1: bad header'
     refuses 'the first word and CR' 'aag\r' 'line 1: bad header'
     refuses 'four numbers' 'aag 0 0 0 0\n' 'line 1: bad header'
-    refuses 'six numbers' 'aag 0 0 0 0 0 0\n' 'line 1: bad header'
+    refuses 'ten numbers' 'aag 0 0 0 0 0 0 0 0 0 0\n' 'line 1: bad header'
     refuses 'a sign' 'aag 0 0 0 0 -0\n' 'line 1: bad header'
     refuses 'a plus' 'aag +0 0 0 0 0\n' 'line 1: bad header'
     refuses 'a TAB between numbers' 'aag 0 0\t0 0 0\n' 'line 1: bad header'
@@ -178,7 +189,7 @@ rows_lines() {
     refuses 'an earlier wrong literal before a later bad line' 'aag 2 2 0 0 0\n8\nx\n' 'line 2: literal out of range'
     refuses 'two numbers for an input' 'aag 1 1 0 0 0\n2 2\n' 'line 2: bad line'
     refuses 'one number for a latch' 'aag 1 0 1 0 0\n2\n' 'line 2: bad line'
-    refuses 'three numbers for a latch' 'aag 1 0 1 0 0\n2 3 0\n' 'line 2: bad line'
+    refuses 'four numbers for a latch' 'aag 1 0 1 0 0\n2 3 0 0\n' 'line 2: bad line'
     refuses 'two numbers for an output' 'aag 0 0 0 1 0\n0 0\n' 'line 2: bad line'
     refuses 'a space first in a line' 'aag 1 1 0 0 0\n 2\n' 'line 2: bad line'
     refuses 'a TAB in a latch' 'aag 1 0 1 0 0\n2\t3\n' 'line 2: bad line'
@@ -293,7 +304,6 @@ rows_tail() {
     refuses 'an empty line between symbols' 'aag 1 1 0 0 0\n2\n\ni0 a\n' 'line 3: bad symbol line'
     refuses 'a line CR LF at the end' 'aag 0 0 0 0 0\n\r\n' 'line 2: bad symbol line'
     refuses 'another letter' 'aag 1 1 0 0 0\n2\nx\n' 'line 3: bad symbol line'
-    refuses 'a letter of a later version' 'aag 1 1 0 1 0\n2\n2\nb0 a\n' 'line 4: bad symbol line'
     refuses 'a capital letter' 'aag 1 1 0 0 0\n2\nI0 a\n' 'line 3: bad symbol line'
     refuses 'a number too many' 'aag 1 1 0 0 0\n2\n2\n' 'line 3: bad symbol line'
     refuses 'a letter alone' 'aag 1 1 0 0 0\n2\ni\n' 'line 3: bad symbol line'
@@ -306,7 +316,7 @@ rows_tail() {
     refuses 'a space before the letter' 'aag 1 1 0 0 0\n2\n i0 a\n' 'line 3: bad symbol line'
     refuses 'a space before the position' 'aag 1 1 0 0 0\n2\ni 0 a\n' 'line 3: bad symbol line'
     refuses 'a sign in a position' 'aag 1 1 0 0 0\n2\ni-0 a\n' 'line 3: bad symbol line'
-    refuses 'a line that begins with c' 'aag 1 1 0 0 0\n2\nc0 a\n' 'line 3: bad symbol line'
+    refuses 'c with a position, and no name' 'aag 1 1 0 0 0\n2\nc0\n' 'line 3: bad symbol line'
     refuses 'a word after c' 'aag 0 0 0 0 0\nc x\n' 'line 2: bad symbol line'
     refuses 'a TAB after c' 'aag 0 0 0 0 0\nc\t\n' 'line 2: bad symbol line'
     refuses 'c, CR and the end of the file' 'aag 0 0 0 0 0\nc\r' 'line 2: bad symbol line'
@@ -426,7 +436,7 @@ rows_deltas() {
 
 rows_binary_lines() {
     refuses 'a next literal out of range' 'aig 1 0 1 0 0\n4\n' 'line 2: literal out of range'
-    refuses 'two numbers for a latch in binary' 'aig 1 0 1 0 0\n2 3\n' 'line 2: bad line'
+    refuses 'three numbers for a latch in binary' 'aig 1 0 1 0 0\n2 0 0\n' 'line 2: bad line'
     refuses 'an output out of range in binary' 'aig 1 1 0 1 0\n4\n' 'line 2: literal out of range'
     refuses 'a missing latch line' 'aig 1 0 1 0 0' 'line 2: file ends too early'
     refuses 'a missing output line' 'aig 1 0 1 1 0\n2\n' 'line 3: file ends too early'
@@ -475,6 +485,325 @@ rows_cuts() {
         accepts "a file with a tail cut after $count" "$(first_of $count "${tail[@]}")" "${head}i0 a\nc\n"
     done
     accepts 'the whole file with a tail' "$(first_of 22 "${tail[@]}")" "${head}i0 a\nc\nx"
+}
+
+# What version 1.9 added: up to four more counts in the header, resets of latches, and the lines of bad states, constraints,
+# justice properties and fairness constraints.
+rows_counts() {
+    accepts 'nine numbers' 'aag 0 0 0 0 0 0 0 0 0\n' 'aag 0 0 0 0 0\n'
+    accepts 'six numbers, the last one 0' 'aag 1 1 0 1 0 0\n2\n2\n' 'aag 1 1 0 1 0\n2\n2\n'
+    accepts 'zeros after the last count that is not 0' 'aag 1 1 0 0 0 1 0 0 0\n2\n3\n' 'aag 1 1 0 0 0 1\n2\n3\n'
+    accepts 'a zero after seven numbers' 'aag 1 1 0 0 0 0 1 0\n2\n3\n' 'aag 1 1 0 0 0 0 1\n2\n3\n'
+    accepts 'leading zeros and spaces in nine numbers' 'aag  1 01 0 0 0  00 0 0  01 \r\n2\n3\n' 'aag 1 1 0 0 0 0 0 0 1\n2\n3\n'
+    accepts 'nine numbers without LF' 'aag 0 0 0 0 0 0 0 0 0' 'aag 0 0 0 0 0\n'
+    same 'six numbers' 'aag 1 0 1 0 0 1\n2 3\n2\n'
+    same 'seven numbers' 'aag 1 0 1 0 0 0 1\n2 3\n2\n'
+    same 'eight numbers' 'aag 1 0 1 0 0 0 0 1\n2 3\n0\n'
+    same 'nine numbers, the last one not 0' 'aag 1 0 1 0 0 0 0 0 1\n2 3\n2\n'
+    same 'more bad states than variables' 'aag 0 0 0 0 0 3\n0\n1\n0\n'
+    refuses 'ten numbers, the last one not 0' 'aag 0 0 0 0 0 0 0 0 0 1\n0\n' 'line 1: bad header'
+    refuses 'a sign in a ninth number' 'aag 0 0 0 0 0 0 0 0 -0\n' 'line 1: bad header'
+    refuses 'a word after nine numbers' 'aag 0 0 0 0 0 0 0 0 0 x\n' 'line 1: bad header'
+    refuses 'nine numbers and CR alone' 'aag 0 0 0 0 0 0 0 0 0\r' 'line 1: bad header'
+    refuses 'the form of nine numbers before the limit' 'aag 0 0 0 0 0 99999999999 0 0 x\n' 'line 1: bad header'
+    refuses 'the limit of a ninth number before the counts' 'aag 0 1 0 0 0 0 0 0 99999999999\n' 'line 1: number above the limit'
+    refuses 'the counts, where there are bad states' 'aag 0 1 0 0 0 1\n2\n0\n' 'line 1: bad header'
+    local counts
+    for counts in '' '0 ' '0 0 ' '0 0 0 '; do
+        refuses "a count above the limit after the counts '$counts'" "aag 0 0 0 0 0 ${counts}2147483648\n" 'line 1: number above the limit'
+        refuses "a count of 2^64 after the counts '$counts'" "aag 0 0 0 0 0 ${counts}18446744073709551616\n" 'line 1: number above the limit'
+        refuses "a count of 400 digits after the counts '$counts'" "aag 0 0 0 0 0 ${counts}$(digits 400 9)\n" 'line 1: number above the limit'
+        refuses "a header alone that asks for all after the counts '$counts'" "aag 0 0 0 0 0 ${counts}2147483647\n" 'line 2: file ends too early'
+    done
+}
+
+rows_resets() {
+    accepts 'a reset of 0 is left out' 'aag 1 0 1 0 0\n2 3 0\n' 'aag 1 0 1 0 0\n2 3\n'
+    same 'a latch that starts at 1' 'aag 1 0 1 0 0\n2 3 1\n'
+    same 'an uninitialised latch' 'aag 1 0 1 0 0\n2 3 2\n'
+    same 'latches of each reset' 'aag 3 0 3 0 0\n2 4 1\n4 6\n6 2 6\n'
+    same 'the largest variable, uninitialised' 'aag 2147483647 0 1 0 0\n4294967294 1 4294967294\n'
+    accepts 'a reset without LF' 'aag 1 0 1 0 0\n2 3 1' 'aag 1 0 1 0 0\n2 3 1\n'
+    accepts 'a reset with spaces, leading zeros and CR LF' 'aag 1 0 1 0 0\n2 3   02 \r\n' 'aag 1 0 1 0 0\n2 3 2\n'
+    accepts 'four hundred leading zeros of a reset' "aag 1 0 1 0 0\n2 3 $(digits 400 0)1\n" 'aag 1 0 1 0 0\n2 3 1\n'
+    accepts 'a reset of four hundred zeros' "aag 1 0 1 0 0\n2 3 $(digits 400 0)\n" 'aag 1 0 1 0 0\n2 3\n'
+    refuses 'the literal of an input as reset' 'aag 2 1 1 0 0\n2\n4 3 2\n' 'line 3: bad reset'
+    refuses 'the literal of the latch before as reset' 'aag 2 0 2 0 0\n2 3\n4 5 2\n' 'line 3: bad reset'
+    refuses 'the literal of the next latch as reset' 'aag 2 0 2 0 0\n2 3 4\n4 5\n' 'line 2: bad reset'
+    refuses 'the next literal as reset' 'aag 2 1 1 0 0\n2\n4 2 2\n' 'line 3: bad reset'
+    refuses 'the negation of the latch as reset' 'aag 1 0 1 0 0\n2 3 3\n' 'line 2: bad reset'
+    refuses 'a reset that is out of range' 'aag 1 0 1 0 0\n2 3 9\n' 'line 2: bad reset'
+    refuses 'a reset of 2^32' 'aag 1 0 1 0 0\n2 3 4294967296\n' 'line 2: bad reset'
+    refuses 'a reset of 2^32 + 2' 'aag 1 0 1 0 0\n2 3 4294967298\n' 'line 2: bad reset'
+    refuses 'a reset of 2^33' 'aag 1 0 1 0 0\n2 3 8589934592\n' 'line 2: bad reset'
+    refuses 'a reset of 2^64' 'aag 1 0 1 0 0\n2 3 18446744073709551616\n' 'line 2: bad reset'
+    refuses 'a reset of 2^64 + 1' 'aag 1 0 1 0 0\n2 3 18446744073709551617\n' 'line 2: bad reset'
+    refuses 'a reset of 2^64 + 2' 'aag 1 0 1 0 0\n2 3 18446744073709551618\n' 'line 2: bad reset'
+    refuses 'a reset of 400 digits' "aag 1 0 1 0 0\n2 3 $(digits 400 8)\n" 'line 2: bad reset'
+    refuses 'a number after the reset' 'aag 1 0 1 0 0\n2 3 1 0\n' 'line 2: bad line'
+    refuses 'a letter in a reset' 'aag 1 0 1 0 0\n2 3 x\n' 'line 2: bad line'
+    refuses 'a sign in a reset' 'aag 1 0 1 0 0\n2 3 -1\n' 'line 2: bad line'
+    refuses 'a TAB before a reset' 'aag 1 0 1 0 0\n2 3\t1\n' 'line 2: bad line'
+    refuses 'the form before a bad reset' 'aag 1 0 1 0 0\n2 3 3 x\n' 'line 2: bad line'
+    refuses 'an odd latch before a bad reset' 'aag 1 0 1 0 0\n3 0 9\n' 'line 2: not a variable'
+    refuses 'an odd latch that is its own reset' 'aag 1 0 1 0 0\n3 0 3\n' 'line 2: not a variable'
+    refuses 'a next literal out of range before a bad reset' 'aag 1 0 1 0 0\n2 9 9\n' 'line 2: literal out of range'
+    refuses 'a latch out of range that is its own reset' 'aag 1 0 1 0 0\n4 3 4\n' 'line 2: literal out of range'
+    refuses 'a latch of 2^32 that is its own reset' 'aag 1 0 1 0 0\n4294967296 3 4294967296\n' 'line 2: literal out of range'
+    refuses 'a bad reset before a later bad line' 'aag 2 0 2 0 0\n2 3 3\nx\n' 'line 2: bad reset'
+    refuses 'a bad line before a later bad reset' 'aag 2 0 2 0 0\n2\n4 5 5\n' 'line 2: bad line'
+    refuses 'a bad reset before a later missing line' 'aag 2 0 2 0 0\n2 3 3\n' 'line 2: bad reset'
+    refuses 'a bad reset before a variable defined twice' 'aag 2 0 2 0 0\n2 3\n2 3 4\n' 'line 3: bad reset'
+    refuses 'a bad reset before a literal not defined' 'aag 2 0 1 0 0\n2 4 3\n' 'line 2: bad reset'
+    refuses 'a bad reset before a bad symbol line' 'aag 1 0 1 0 0\n2 3 3\nx\n' 'line 2: bad reset'
+    refuses 'an uninitialised latch given twice' 'aag 2 0 2 0 0\n2 3 2\n2 3 2\n' 'variable 1 defined twice'
+    refuses 'an input with a reset' 'aag 1 1 0 0 0\n2 0\n' 'line 2: bad line'
+}
+
+# In a binary file the literal of the latch at place j, counted from 1, is 2(I + j).
+rows_binary_resets() {
+    accepts 'a reset of 0 in binary' 'aig 1 0 1 0 0\n3 0\n' 'aag 1 0 1 0 0\n2 3\n'
+    accepts 'a latch that starts at 1 in binary' 'aig 1 0 1 0 0\n3 1\n' 'aag 1 0 1 0 0\n2 3 1\n'
+    accepts 'an uninitialised latch in binary' 'aig 1 0 1 0 0\n3 2\n' 'aag 1 0 1 0 0\n2 3 2\n'
+    accepts 'latches of each reset in binary' 'aig 5 2 3 0 0\n2 6\n3\n5 1\n' 'aag 5 2 3 0 0\n2\n4\n6 2 6\n8 3\n10 5 1\n'
+    accepts 'two uninitialised latches in binary' 'aig 3 1 2 0 0\n6 4\n4 6\n' 'aag 3 1 2 0 0\n2\n4 6 4\n6 4 6\n'
+    accepts 'a lenient reset in binary' 'aig 1 0 1 0 0\n3  02 \r\n' 'aag 1 0 1 0 0\n2 3 2\n'
+    accepts 'a reset without LF in binary' 'aig 1 0 1 0 0\n3 1' 'aag 1 0 1 0 0\n2 3 1\n'
+    refuses 'the literal of the next latch as reset in binary' 'aig 3 1 2 0 0\n6 6\n4\n' 'line 2: bad reset'
+    refuses 'the literal of the latch before as reset in binary' 'aig 3 1 2 0 0\n6\n4 4\n' 'line 3: bad reset'
+    refuses 'the literal of an input as reset in binary' 'aig 3 1 2 0 0\n6 2\n4\n' 'line 2: bad reset'
+    refuses 'the place of the latch alone as reset in binary' 'aig 3 2 1 0 0\n6 2\n' 'line 2: bad reset'
+    refuses 'the negation of the latch as reset in binary' 'aig 1 0 1 0 0\n2 3\n' 'line 2: bad reset'
+    refuses 'a reset of 2^32 in binary' 'aig 1 0 1 0 0\n3 4294967296\n' 'line 2: bad reset'
+    refuses 'a reset of 400 digits in binary' "aig 1 0 1 0 0\n3 $(digits 400 9)\n" 'line 2: bad reset'
+    refuses 'a next literal out of range before a bad reset in binary' 'aig 1 0 1 0 0\n4 9\n' 'line 2: literal out of range'
+    refuses 'a letter in a reset in binary' 'aig 1 0 1 0 0\n3 x\n' 'line 2: bad line'
+}
+
+# the sections whose lines are a literal each, with the counts of the header up to theirs
+literal_sections=('a bad state:1' 'a constraint:0 1' 'a fairness constraint:0 0 0 1')
+
+rows_properties() {
+    local all='aag 4 1 2 1 1 2 1 2 1\n2\n4 3 1\n6 4 6\n8\n6\n7\n9\n2\n1\n3\n4\n8\n5\n8 6 3\n'
+    local names='b1 second\nb0 \nc0 env\nj1 j\nj0 a justice property\nf0 fair\ni0 in\nl1 x\nl0 y\no0 z\n'
+    local section name counts
+    same 'each section' "$all"
+    same 'each section, with symbols and a comment' "$all${names}c\neach section\n"
+    accepts 'each section, CR LF' "${all//\\n/\\r\\n}" "$all"
+    accepts 'each section, spaces before LF' "${all//\\n/  \\n}" "$all"
+    row 'symbols of each section left out' "$all${names}c\n" "$all" '' 0 aigtoaig --ascii --strip
+    for section in "${literal_sections[@]}"; do
+        name=${section%%:*} counts=${section#*:}
+        same "$name" "aag 1 1 0 0 0 $counts\n2\n3\n"
+        same "$name that is a constant" "aag 0 0 0 0 0 $counts\n1\n"
+        same "$name that is a later gate" "aag 2 1 0 0 1 $counts\n2\n5\n4 2 2\n"
+        same "$name over the largest variable" "aag 2147483647 1 0 0 0 $counts\n4294967294\n4294967295\n"
+        accepts "$name in a lenient spelling" "aag 1 1 0 0 0 $counts\n2\n003 \r\n" "aag 1 1 0 0 0 $counts\n2\n3\n"
+        accepts "$name without LF" "aag 1 1 0 0 0 $counts\n2\n3" "aag 1 1 0 0 0 $counts\n2\n3\n"
+        refuses "$name that is missing" "aag 1 1 0 0 0 $counts\n2\n" 'line 3: file ends too early'
+        refuses "$name with two numbers" "aag 1 1 0 0 0 $counts\n2\n2 3\n" 'line 3: bad line'
+        refuses "$name on an empty line" "aag 1 1 0 0 0 $counts\n2\n\n" 'line 3: bad line'
+        refuses "$name with a letter" "aag 1 1 0 0 0 $counts\n2\n2x\n" 'line 3: bad line'
+        refuses "$name out of range" "aag 1 1 0 0 0 $counts\n2\n4\n" 'line 3: literal out of range'
+        refuses "$name of 2^32" "aag 2147483647 1 0 0 0 $counts\n2\n4294967296\n" 'line 3: literal out of range'
+        refuses "$name of 400 digits" "aag 1 1 0 0 0 $counts\n2\n$(digits 400 9)\n" 'line 3: literal out of range'
+        refuses "$name that is not defined" "aag 2 1 0 0 0 $counts\n2\n5\n" 'literal 5 not defined'
+        refuses "$name too many" "aag 1 1 0 0 0 $counts\n2\n3\n3\n" 'line 4: bad symbol line'
+    done
+    same 'bad states in their order' 'aag 1 1 0 0 0 3\n2\n3\n2\n3\n'
+    refuses 'the second of two bad states out of range' 'aag 1 1 0 0 0 2\n2\n3\n4\n' 'line 4: literal out of range'
+    refuses 'a wrong bad state before a wrong constraint' 'aag 1 1 0 0 0 1 1\n2\n4\nx\n' 'line 3: literal out of range'
+    refuses 'a missing constraint after a bad state' 'aag 1 1 0 0 0 1 1\n2\n3\n' 'line 4: file ends too early'
+    refuses 'a gate where a bad state is due' 'aag 2 1 0 0 1 1\n2\n4 2 2\n4\n' 'line 3: bad line'
+}
+
+rows_sizes() {
+    local many=2147483647
+    same 'a justice property of two literals' 'aag 1 1 0 0 0 0 0 1\n2\n2\n2\n3\n'
+    same 'a justice property of no literals' 'aag 1 1 0 0 0 0 0 1\n2\n0\n'
+    same 'two justice properties of no literals' 'aag 0 0 0 0 0 0 0 2\n0\n0\n'
+    same 'justice properties of several sizes' 'aag 1 1 0 0 0 0 0 4\n2\n1\n0\n2\n0\n3\n2\n1\n'
+    same 'all sizes stand before the first literal' 'aag 2 2 0 0 0 0 0 2\n2\n4\n1\n2\n3\n4\n5\n'
+    same 'a size is no literal' 'aag 2 1 0 0 0 0 0 1\n2\n5\n2\n2\n2\n2\n2\n'
+    same 'justice literals out of their order' 'aag 2 2 0 0 0 0 0 2\n2\n4\n2\n2\n4\n3\n5\n2\n'
+    accepts 'a size in a lenient spelling' 'aag 1 1 0 0 0 0 0 1\n2\n001  \r\n03\n' 'aag 1 1 0 0 0 0 0 1\n2\n1\n3\n'
+    accepts 'a last size without LF' 'aag 0 0 0 0 0 0 0 1\n0' 'aag 0 0 0 0 0 0 0 1\n0\n'
+    refuses 'a missing size' 'aag 1 1 0 0 0 0 0 2\n2\n0\n' 'line 4: file ends too early'
+    refuses 'two numbers for a size' 'aag 1 1 0 0 0 0 0 1\n2\n0 0\n' 'line 3: bad line'
+    refuses 'an empty line for a size' 'aag 1 1 0 0 0 0 0 1\n2\n\n' 'line 3: bad line'
+    refuses 'a size with a sign' 'aag 1 1 0 0 0 0 0 1\n2\n-0\n' 'line 3: bad line'
+    refuses 'a missing justice literal' 'aag 1 1 0 0 0 0 0 1\n2\n2\n3\n' 'line 5: file ends too early'
+    refuses 'a missing literal of the second justice property' 'aag 1 1 0 0 0 0 0 2\n2\n1\n1\n3\n' 'line 6: file ends too early'
+    refuses 'a justice literal too many' 'aag 1 1 0 0 0 0 0 1\n2\n1\n2\n3\n' 'line 5: bad symbol line'
+    refuses 'a justice literal out of range' 'aag 1 1 0 0 0 0 0 1\n2\n1\n4\n' 'line 4: literal out of range'
+    refuses 'a justice literal of 2^32' "aag $many 1 0 0 0 0 0 1\n2\n1\n4294967296\n" 'line 4: literal out of range'
+    refuses 'two numbers for a justice literal' 'aag 1 1 0 0 0 0 0 1\n2\n1\n2 3\n' 'line 4: bad line'
+    refuses 'a justice literal that is not defined' 'aag 2 1 0 0 0 0 0 2\n2\n1\n1\n2\n5\n' 'literal 5 not defined'
+    refuses 'a size above the literals that are there' 'aag 1 1 0 0 0 0 0 1\n2\n9\n' 'line 4: file ends too early'
+    refuses 'the largest size' "aag 1 1 0 0 0 0 0 1\n2\n$many\n" 'line 4: file ends too early'
+    refuses 'a size above the limit' 'aag 1 1 0 0 0 0 0 1\n2\n2147483648\n' 'line 3: number above the limit'
+    refuses 'a size of 2^32' 'aag 1 1 0 0 0 0 0 1\n2\n4294967296\n' 'line 3: number above the limit'
+    refuses 'a size of 2^64 + 1' 'aag 1 1 0 0 0 0 0 1\n2\n18446744073709551617\n' 'line 3: number above the limit'
+    refuses 'a size of 400 digits' "aag 1 1 0 0 0 0 0 1\n2\n$(digits 400 9)\n" 'line 3: number above the limit'
+    refuses 'a size of 400 digits after another' "aag 1 1 0 0 0 0 0 2\n2\n1\n$(digits 400 9)\n" 'line 4: number above the limit'
+    refuses 'sizes that add up to more than the limit' "aag 1 1 0 0 0 0 0 2\n2\n$many\n1\n" 'line 4: number above the limit'
+    refuses 'sizes that add up to the limit' "aag 1 1 0 0 0 0 0 3\n2\n2147483646\n1\n0\n" 'line 6: file ends too early'
+    refuses 'sizes that add up to 2^32' 'aag 1 1 0 0 0 0 0 2\n2\n2147483647\n2147483649\n' 'line 4: number above the limit'
+    refuses 'the form of a size before its limit' 'aag 1 1 0 0 0 0 0 1\n2\n2147483648 x\n' 'line 3: bad line'
+    refuses 'the form of a size before the limit of the sum' "aag 1 1 0 0 0 0 0 2\n2\n$many\n1 1\n" 'line 4: bad line'
+    refuses 'a size above the limit before a later bad line' 'aag 1 1 0 0 0 0 0 2\n2\n2147483648\nx\n' 'line 3: number above the limit'
+    refuses 'a wrong constraint before a size above the limit' 'aag 1 1 0 0 0 0 1 1\n2\n4\n2147483648\n' 'line 3: literal out of range'
+    refuses 'a wrong justice literal before a wrong fairness constraint' 'aag 1 1 0 0 0 0 0 1 1\n2\n1\n4\nx\n' 'line 4: literal out of range'
+}
+
+# the first literal that is not defined: each section before the next one
+rows_uses() {
+    refuses 'a next literal before a bad state' 'aag 3 0 1 0 0 1\n2 5\n6\n' 'literal 5 not defined'
+    refuses 'an output before a bad state' 'aag 4 1 0 1 0 1\n2\n9\n4\n' 'literal 9 not defined'
+    refuses 'a bad state before a constraint' 'aag 4 1 0 0 0 1 1\n2\n8\n4\n' 'literal 8 not defined'
+    refuses 'a constraint before a justice literal' 'aag 4 1 0 0 0 0 1 1\n2\n9\n1\n4\n' 'literal 9 not defined'
+    refuses 'a justice literal before a fairness constraint' 'aag 4 1 0 0 0 0 0 1 1\n2\n1\n7\n4\n' 'literal 7 not defined'
+    refuses 'a fairness constraint before an operand' 'aag 4 1 0 0 1 0 0 0 1\n2\n7\n4 9 8\n' 'literal 7 not defined'
+    refuses 'a bad state before an operand' 'aag 4 1 0 0 1 1\n2\n7\n4 9 8\n' 'literal 7 not defined'
+    refuses 'an operand after properties that are defined' 'aag 4 1 0 0 1 1 1 1 1\n2\n2\n3\n1\n2\n3\n4 2 8\n' 'literal 8 not defined'
+    refuses 'the second bad state' 'aag 3 1 0 0 0 2\n2\n3\n6\n' 'literal 6 not defined'
+    refuses 'a variable defined twice before a bad state' 'aag 3 2 0 0 0 1\n2\n2\n6\n' 'variable 1 defined twice'
+    refuses 'a bad state before a cycle' 'aag 3 1 0 0 1 1\n2\n6\n4 4 2\n' 'literal 6 not defined'
+    refuses 'a cycle that a bad state uses' 'aag 2 1 0 0 1 1\n2\n4\n4 4 2\n' 'gate 4 depends on a cycle'
+}
+
+rows_named_properties() {
+    local letter counts text
+    same 'a symbol of the constraint, and an empty comment' 'aag 1 1 0 0 0 0 1\n2\n2\nc0 env\nc\n'
+    same 'a symbol of the constraint behind another' 'aag 1 1 0 0 0 0 1\n2\n2\ni0 a\nc0 env\nc\nc0 env\n'
+    same 'one position in each section' \
+        'aag 1 1 0 0 0 1 1 1 1\n2\n2\n2\n0\n2\nf0 a\nj0 a\nc0 a\nb0 a\ni0 a\n'
+    for letter in b c j f; do
+        case $letter in
+            b) counts='2' ;;
+            c) counts='0 2' ;;
+            j) counts='0 0 2' ;;
+            f) counts='0 0 0 2' ;;
+        esac
+        text="aag 0 0 0 0 0 $counts\n0\n0\n"
+        same "symbols $letter" "$text${letter}1 a\n${letter}0 b\n"
+        same "an empty name, a CR and any bytes, $letter" "$text${letter}0 \n${letter}1 \0000\0377 \r\n"
+        accepts "leading zeros of a position, $letter" "$text${letter}001 a" "$text${letter}1 a\n"
+        refuses "a position that is not there, $letter" "$text${letter}2 a\n" 'line 4: symbol position out of range'
+        refuses "a position of 2^32, $letter" "$text${letter}4294967296 a\n" 'line 4: symbol position out of range'
+        refuses "a position of 400 digits, $letter" "$text${letter}$(digits 400 9) a\n" 'line 4: symbol position out of range'
+        refuses "a symbol of an empty section, $letter" "aag 1 1 0 1 0\n2\n2\n${letter}0 a\n" 'line 4: symbol position out of range'
+        refuses "a symbol given twice, $letter" "$text${letter}1 a\n${letter}1 a\n" 'line 5: symbol given twice'
+        refuses "a position and no name, $letter" "$text${letter}0\n" 'line 4: bad symbol line'
+        refuses "a letter, a space and a position, $letter" "$text$letter 0 a\n" 'line 4: bad symbol line'
+    done
+    refuses 'a position below the literals of justice' 'aag 1 1 0 0 0 0 0 1\n2\n2\n2\n3\nj1 a\n' 'line 6: symbol position out of range'
+    refuses 'a capital letter of a bad state' 'aag 0 0 0 0 0 1\n0\nB0 a\n' 'line 3: bad symbol line'
+    refuses 'the line c twice is a comment, and a wrong line before it is not' 'aag 0 0 0 0 0 0 1\n0\ncc\nc\n' 'line 3: bad symbol line'
+    refuses 'the position of a constraint before its second name' 'aag 0 0 0 0 0 0 1\n0\nc0 a\nc1 a\nc0 a\n' 'line 4: symbol position out of range'
+    accepts 'a comment without constraints' 'aag 0 0 0 0 0\nc\nc0 a' 'aag 0 0 0 0 0\nc\nc0 a'
+}
+
+rows_binary_properties() {
+    local lines='aig 4 1 2 1 1 2 1 2 1\n3 1\n4 6\n8\n6\n7\n9\n2\n1\n3\n4\n8\n5\n' section name counts
+    accepts 'each section in binary' "$lines\x02\x03b1 a\nc\nx" \
+        'aag 4 1 2 1 1 2 1 2 1\n2\n4 3 1\n6 4 6\n8\n6\n7\n9\n2\n1\n3\n4\n8\n5\n8 6 3\nb1 a\nc\nx'
+    refuses 'the first line behind each section and the gates' "$lines\x02\x03x\n" 'line 14: bad symbol line'
+    refuses 'the second line behind each section and the gates' "$lines\x02\x03c0 a\nc0 a\n" 'line 15: symbol given twice'
+    refuses 'a gate that is missing behind each section' "${lines}" 'gate 1: file ends too early'
+    refuses 'a wrong delta behind each section' "${lines}\x00\x00" 'gate 1: bad delta'
+    refuses 'the last line without LF before the gates' "${lines%\\n}" 'gate 1: file ends too early'
+    for section in "${literal_sections[@]}"; do
+        name=${section%%:*} counts=${section#*:}
+        accepts "$name in binary" "aig 1 1 0 0 0 $counts\n3\n" "aag 1 1 0 0 0 $counts\n2\n3\n"
+        refuses "$name out of range in binary" "aig 1 1 0 0 0 $counts\n4\n" 'line 2: literal out of range'
+        refuses "$name that is missing in binary" "aig 1 1 0 0 0 $counts\n" 'line 2: file ends too early'
+        refuses "$name with two numbers in binary" "aig 1 1 0 0 0 $counts\n2 0\n" 'line 2: bad line'
+        refuses "$name and many inputs" "aig 2147483647 2147483647 0 0 0 $counts\n" 'line 2: file ends too early'
+        refuses "a line behind $name" "aig 1 1 0 0 0 $counts\n3\nx\n" 'line 3: bad symbol line'
+    done
+    accepts 'a latch and a bad state in binary' 'aig 1 0 1 0 0 1\n3\n2\n' 'aag 1 0 1 0 0 1\n2 3\n2\n'
+    refuses 'a symbol behind a latch and a bad state in binary' 'aig 1 0 1 0 0 1\n3\n2\nb1 a\n' 'line 4: symbol position out of range'
+    accepts 'a justice property in binary' 'aig 1 1 0 0 0 0 0 2\n2\n0\n2\n3\n' 'aag 1 1 0 0 0 0 0 2\n2\n2\n0\n2\n3\n'
+    refuses 'a size above the limit in binary' 'aig 1 1 0 0 0 0 0 1\n2147483648\n' 'line 2: number above the limit'
+    refuses 'sizes that add up to more than the limit in binary' 'aig 1 1 0 0 0 0 0 2\n2147483647\n1\n' 'line 3: number above the limit'
+    refuses 'a missing justice literal in binary' 'aig 1 1 0 0 0 0 0 1\n2\n3\n' 'line 4: file ends too early'
+    refuses 'ten numbers in binary' 'aig 0 0 0 0 0 0 0 0 0 0\n' 'line 1: bad header'
+    refuses 'unused variables, where there are bad states' 'aig 1 0 0 0 0 1\n0\n' 'line 1: bad header'
+    refuses 'a ninth number above the limit in binary' 'aig 0 0 0 0 0 0 0 0 2147483648\n' 'line 1: number above the limit'
+}
+
+# a text with a reset, a bad state and a justice property, cut after each of its bytes
+rows_property_cuts() {
+    local text='aag 1 0 1 0 0 1 0 1\n2 3 2\n2\n1\n3\n' cut answer plain
+    plain=$(printf '%b.' "$text")
+    for ((cut = 3; cut <= 32; cut++)); do
+        case $cut in
+            3 | 4 | 5 | 6 | 7 | 8 | 9 | 10 | 11 | 12) answer='line 1: bad header' ;;
+            13 | 14 | 15 | 16 | 17 | 18 | 19 | 20) answer='line 2: file ends too early' ;;
+            21 | 22) answer='line 2: bad line' ;;
+            23 | 24 | 25 | 26) answer='line 3: file ends too early' ;;
+            27 | 28) answer='line 4: file ends too early' ;;
+            29 | 30) answer='line 5: file ends too early' ;;
+            *) answer='' ;;
+        esac
+        if [ -n "$answer" ]; then
+            refuses "a file with properties cut after $cut" "${plain:0:cut}" "$answer"
+        else
+            accepts "a file with properties cut after $cut" "${plain:0:cut}" "$text"
+        fi
+    done
+}
+
+# The limit of the option bounds each count, and the sum of the sizes.
+rows_property_limits() {
+    local above='aiger: -: line 1: number above the limit\n' counts text
+    for counts in 3 '0 3' '0 0 3' '0 0 0 3'; do
+        text="aag 0 0 0 0 0 $counts\n0\n0\n0\n"
+        row "counts $counts within the limit" "$text" "$text" '' 0 aigtoaig --ascii --max-var 3
+        row "counts $counts above the limit" "$text" '' "$above" 1 aigtoaig --ascii --max-var 2
+    done
+    text='aag 1 1 0 0 0 0 0 2\n2\n1\n2\n2\n3\n2\n'
+    row 'sizes that add up to the limit of the option' "$text" "$text" '' 0 aigtoaig --ascii --max-var 3
+    row 'sizes that add up to more than the option' "$text" '' 'aiger: -: line 4: number above the limit\n' 1 aigtoaig --ascii --max-var 2
+    row 'a size above the option' 'aag 1 1 0 0 0 0 0 1\n2\n3\n2\n2\n2\n' '' 'aiger: -: line 3: number above the limit\n' 1 \
+        aigtoaig --ascii --max-var 2
+    row 'a size above the option in binary' 'aig 1 1 0 0 0 0 0 1\n3\n2\n2\n2\n' '' 'aiger: -: line 2: number above the limit\n' 1 \
+        aigtoaig --ascii --max-var 2
+    row 'a reset above the option' 'aag 2 0 2 0 0\n2 3\n4 3 4\n' 'aag 2 0 2 0 0\n2 3\n4 3 4\n' '' 0 aigtoaig --ascii --max-var 2
+}
+
+rows_property_images() {
+    local source='aag 9 1 2 1 1 2 1 2 1\n18\n4 19 1\n14 4 14\n6\n14\n15\n7\n2\n1\n19\n4\n6\n5\n6 19 14\n' text
+    local image='aig 4 1 2 1 1 2 1 2 1\n3 1\n4 6\n8\n6\n7\n9\n2\n1\n3\n4\n8\n5\n\x02\x03'
+    local names='b1 a\nc0 b\nj0 c\nf0 d\n'
+    images 'a bad state to binary' 'aag 1 0 1 0 0 1\n2 3\n2\n' 'aig 1 0 1 0 0 1\n3\n2\n'
+    images 'a reset of 0 to binary' 'aag 1 0 1 0 0\n2 3 0\n' 'aig 1 0 1 0 0\n3\n'
+    images 'the own literal becomes the new one' 'aag 3 1 2 0 0\n6\n4 2 4\n2 7 1\n' 'aig 3 1 2 0 0\n6 4\n3 1\n'
+    images 'each section to binary' "$source" "$image"
+    images 'zeros of the header to binary' 'aag 0 0 0 0 0 0 0 0 0\n' 'aig 0 0 0 0 0\n'
+    images 'each section stays in binary' "$image${names}c\nx" "$image${names}c\nx"
+    images 'constants in each section' 'aag 9 0 0 0 0 1 1 1 1\n1\n0\n1\n1\n0\n' 'aig 0 0 0 0 0 1 1 1 1\n1\n0\n1\n1\n0\n'
+    images 'justice literals are not sorted' 'aag 9 3 0 0 0 0 0 2\n18\n4\n10\n2\n1\n11\n4\n18\n' \
+        'aig 3 3 0 0 0 0 0 2\n2\n1\n7\n4\n2\n'
+    images 'bad states that are the same' 'aag 9 1 0 0 0 2\n18\n19\n19\n' 'aig 1 1 0 0 0 2\n3\n3\n'
+    there_and_back 'a bad state' 'aag 1 0 1 0 0 1\n2 3\n2\n' 'aig 1 0 1 0 0 1\n3\n2\nc\naigmap 1 1 0 1 0 0\n1\naigmap end\n'
+    there_and_back 'a justice property' 'aag 1 1 0 0 0 0 0 1\n2\n2\n2\n3\n' \
+        'aig 1 1 0 0 0 0 0 1\n2\n2\n3\nc\naigmap 1 1 1 0 0 0\n1\naigmap end\n'
+    there_and_back 'a constraint with a name, and an empty comment' 'aag 1 1 0 0 0 0 1\n2\n2\nc0 env\nc\n' \
+        'aig 1 1 0 0 0 0 1\n2\nc0 env\nc\naigmap 1 1 1 0 0 1\n1\naigmap end\n'
+    there_and_back 'resets' 'aag 3 1 2 0 0\n6\n4 2 4\n2 7 1\n' \
+        'aig 3 1 2 0 0\n6 4\n3 1\nc\naigmap 1 3 1 2 0 0\n3\n2\n1\naigmap end\n'
+    there_and_back 'an uninitialised latch and a constraint' 'aag 4 0 1 0 0 0 1\n8 9 8\n8\n' \
+        'aig 1 0 1 0 0 0 1\n3 2\n2\nc\naigmap 1 4 0 1 0 0\n4\naigmap end\n'
+    there_and_back 'each section' "$source" "${image}c\naigmap 1 9 1 2 1 0\n9\n2\n7\n3 0 1\naigmap end\n"
+    there_and_back 'each section, with symbols and a comment' "$source${names}c\nx" \
+        "$image${names}c\naigmap 1 9 1 2 1 1\n9\n2\n7\n3 0 1\naigmap end\nx"
+    maps 'a reset of 0 with the map' 'aag 1 0 1 0 0\n2 3 0\n' 'aig 1 0 1 0 0\n3\nc\naigmap 1 1 0 1 0 0\n1\naigmap end\n'
+    no_undone 'bad states, and no map' 'aig 1 0 1 0 0 1\n3\n2\n' 'no map'
+    text='aag 3 1 2 0 0\n2\n4 2 4\n6 3 1\nc\naigmap 1 9 1 2 0 0\n9\n5\n7\naigmap end\n'
+    undoes 'resets of an ASCII file in binary order are undone' "$text" 'aag 9 1 2 0 0\n18\n10 18 10\n14 19 1\n'
+    row 'a bad reset with the map' 'aag 1 0 1 0 0\n2 3 3\n' '' 'aiger: -: line 2: bad reset\n' 1 aigtoaig --keep-map
 }
 
 # Conversion to binary: inputs and latches are numbered in the order of the file, and then gates, the next one always the

@@ -7,23 +7,23 @@ use Rattle.aig_core.specs.declared.circuit.Gate.{Gate}
 use Rattle.aig_core.specs.declared.circuit.Latch.{Latch}
 use Rattle.aig_core.specs.declared.circuit.Circuit.{Circuit}
 use Rattle.aig_core.specs.Literal.{literal_of}
-use Rattle.aig_core.specs.Wellformed.{IsWellFormed, operands}
-use Rattle.aig_core.specs.Form.{IsInForm, IsLiteralUpTo}
-use Rattle.aig_core.proofs.Checking.InForm.{front}
+use Rattle.aig_core.specs.Wellformed.{IsWellFormed}
+use Rattle.aig_core.specs.Form.{IsInForm}
 use Rattle.aig_text.specs.Lines.{Line, lines_of}
 use Rattle.aig_text.specs.AsciiText.{header_text, line_text, tail_text}
-use Rattle.aig_text.specs.Rows.{Row, row, output_form, output_row, header_row}
+use Rattle.aig_text.specs.Rows.{Row, row, next_form, next_row, literal_rows_of, header_row}
 use Rattle.aig_text.proofs.Canonical.Lines.{IsFullRow, header_line, row_lines, header_is_first, header_line_is_good}
 use Rattle.aig_text.proofs.Canonical.Lines.{rows_are_first, rows_are_good}
 use Rattle.aig_text.proofs.Kept.Plain.{all_joined}
-use Rattle.aig_text.proofs.Grammar.WholeTail.{left_of, right_of}
-use Rattle.aig_binary.proofs.Grammar.Numbered.{next_row}
+use Rattle.aig_text.proofs.Grammar.Entries.{IsLatchUpTo}
+use Rattle.aig_text.proofs.Grammar.Headers.{header_limited}
+use Rattle.aig_text.proofs.Grammar.Sections.{latches_up_to}
+use Rattle.aig_text.proofs.Canonical.Text.{entries_full, small_reset, literal_rows_full, sizes_are_small}
 use Rattle.aig_text.proofs.Canonical.Text.{header_is_small, tail_is_good}
 use Rattle.aig_core.specs.BinaryOrder.{IsInBinaryOrder}
 use Rattle.aig_binary.specs.BinaryGrammar.{IsBinaryText, SpellsGates, binary_word, binary_rows_of}
 use Rattle.aig_binary.specs.BinaryText.{binary_text, gate_text}
 use Rattle.aig_binary.specs.Delta.{shortest_delta}
-use Rattle.aig_text.specs.declared.header_line.TheConstants.{HEADER_NUMBERS}
 use Rattle.aig_binary.specs.Parts.Deltas.{HasDeltas}
 use Rattle.aig_binary.proofs.Deltas.Shortest.{shortest_is_delta}
 use Rattle.aig_binary.proofs.Written.{gates_have_deltas}
@@ -42,31 +42,21 @@ all_ended : (rows : List Row) → AllByRecursion (λ (l : Line). l.ended ≡ tru
 all_ended [] = tt
 all_ended (r ∷ rows) = (refl, all_ended rows)
 
-literals_full : {X : Type 0} (m : ℕ) → m ≤ LARGEST → (literal : X → ℕ) (xs : List X)
-    → AllByRecursion (IsLiteralUpTo m) (map literal xs)
-    → AllByRecursion IsFullRow (map (row output_form) (map (λ x. output_row (literal x)) xs))
-literals_full m top literal [] h = tt
-literals_full m top literal (x ∷ xs) h =
-    let low : literal x ≤ 2 * m + 1 = h.0 in
-    (record { some = omega arith; small = (omega arith, tt) }, literals_full m top literal xs h.1)
-
-outputs_full : (m : ℕ) → m ≤ LARGEST → (os : List ℕ) → AllByRecursion (IsLiteralUpTo m) os
-    → AllByRecursion IsFullRow (map (row output_form) (map output_row os) ++ [])
-outputs_full m top [] h = tt
-outputs_full m top (o ∷ os) h =
-    let low : o ≤ 2 * m + 1 = h.0 in
-    (record { some = omega arith; small = (omega arith, tt) }, outputs_full m top os h.1)
+full_next : (m : ℕ) → m ≤ LARGEST → (l : Latch) → IsLatchUpTo m l → IsFullRow (row next_form (next_row l))
+full_next m top l h =
+    let high : l.var ≤ m = h.0.1 in
+    let next : l.next ≤ 2 * m + 1 = h.1 in
+    record {
+      some = omega arith;
+      small = (omega arith, (small_reset (literal_of l.var) l.reset (omega arith), tt));
+    }
 
 rows_full : (c : Circuit) → IsInForm c → AllByRecursion IsFullRow (binary_rows_of c)
 rows_full c form =
-    let nexts = map (λ (l : Latch). l.next) c.latches in
-    let all : AllByRecursion (IsLiteralUpTo c.max_var) (nexts ++ c.outputs) =
-    front (IsLiteralUpTo c.max_var) (nexts ++ c.outputs) (flat_map operands c.gates) form.literals in
-    all_joined IsFullRow (map (row output_form) (map next_row c.latches))
-    (map (row output_form) (map output_row c.outputs) ++ [])
-    (literals_full c.max_var form.limits.max_var (λ (l : Latch). l.next) c.latches
-    (left_of (IsLiteralUpTo c.max_var) nexts c.outputs all))
-    (outputs_full c.max_var form.limits.max_var c.outputs (right_of (IsLiteralUpTo c.max_var) nexts c.outputs all))
+    all_joined IsFullRow (map (row next_form) (map next_row c.latches)) (literal_rows_of c)
+    (entries_full (IsLatchUpTo c.max_var) next_form next_row (full_next c.max_var form.limits.max_var) c.latches
+    (latches_up_to c form))
+    (literal_rows_full c form)
 
 gates_spelled : (gs : List Gate) → AllByRecursion HasDeltas gs → SpellsGates (flat_map gate_text gs) gs
 gates_spelled [] h = refl
@@ -109,14 +99,12 @@ canonical_binary c good form ordered = record {
   lines = front_lines (header_row c) (binary_rows_of c) (header_is_small c form.limits) (rows_full c form);
   cut = inr (refl, all_ended (binary_rows_of c));
   is_header =
-      header_line_is_good binary_word HEADER_NUMBERS (header_row c) (omega arith) (header_is_small c form.limits);
+      header_line_is_good binary_word (header_row c) (omega arith) (header_is_small c form.limits);
   are_rows = rows_are_good (binary_rows_of c) (rows_full c form);
   are_gates = gates_spelled c.gates (gates_have_deltas c form.limits ordered);
   is_tail = tail_is_good c form;
-  limited = (
-    form.limits.max_var,
-    (form.limits.inputs, (form.limits.latches, (form.limits.outputs, (form.limits.gates, tt)))),
-  );
+  limited = header_limited c form.limits;
+  sizes_limited = sizes_are_small c form.limits;
   ordered = ordered;
   well_formed = good;
 }

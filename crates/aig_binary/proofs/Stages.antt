@@ -1,6 +1,7 @@
 -- The steps of reading a binary file, one after another.
 use Rattle.std.proofs.lemmas.List.{length-map}
 use Rattle.std.proofs.Common.{◌≡◌, ◌+◌, ℕ, zero, suc, List, [], ◌∷◌, map, length, Ok, Err, refl, sym, ap, ◌∙◌, ◌⊎◌}
+use Rattle.std.specs.Prelude.{slice_index}
 use Rattle.std.proofs.Common.{inl, inr}
 use Rattle.aig_core.specs.declared.circuit.Circuit.{Circuit}
 use Rattle.aig_core.specs.declared.circuit.Gate.{Gate}
@@ -8,37 +9,39 @@ use Rattle.aig_core.specs.Names.{nothing_named}
 use Rattle.aig_text.specs.declared.fault.ReadFault.{ReadFault}
 use Rattle.aig_text.specs.Lines.{Line, Ahead, ahead, lines_of}
 use Rattle.aig_text.specs.declared.header_line.Header.{Header}
-use Rattle.aig_text.specs.Rows.{Form, output_of, output_row, latches_from, sections, no_lines, in_binary}
+use Rattle.aig_text.specs.declared.row.NextState.{NextState}
+use Rattle.aig_text.specs.Rows.{Form, next_form, next_of, latches_from, sections, no_lines, in_binary}
 use Rattle.aig_text.specs.Outcomes.{rows_meant}
-use Rattle.aig_text.specs.Reading.{◌>>=◌, Found, at_line, header_at, row_at, rows_at, section_at, sections_at}
-use Rattle.aig_text.specs.Reading.{empty_circuit, tail_at, want_of_memory}
+use Rattle.aig_text.specs.Reading.{◌>>=◌, Found, at_line, header_at, carried_on, row_at, rows_at, section_at}
+use Rattle.aig_text.specs.Reading.{sections_at, empty_circuit, tail_at, want_of_memory}
 use Rattle.aig_text.proofs.Loops.Cutting.{pieces}
 use Rattle.aig_text.proofs.Steps.{both_ok}
 use Rattle.aig_binary.specs.BinaryGrammar.{binary_word}
 use Rattle.aig_binary.specs.BinaryReading.{filled, gates_at, with_definitions, binary_at}
+use Rattle.aig_binary.specs.Parts.NextStates.{latches_by}
 use Rattle.aig_binary.proofs.Defined.{latches_of_rows}
 
--- the latches that the rows of their next literals make
+-- the latches that the rows of their next states make
 module _ (h : Header) (c : Circuit) where
   abbrev with_nexts : List (List ℕ) × Ahead → Found Circuit
   with_nexts found = Ok (record c { latches = latches_from (1 + h.inputs) found.0 }, found.1)
 
-  pub nexts_make_latches : (r : Found (List (List ℕ))) (nexts : List ℕ) (after : Ahead)
-      → rows_meant output_of [] r ≡ Ok (nexts, after)
-      → (r >>= with_nexts) ≡ Ok (record c { latches = latches_from (1 + h.inputs) (map output_row nexts) }, after)
+  pub nexts_make_latches : (r : Found (List (List ℕ))) (nexts : List NextState) (after : Ahead)
+      → rows_meant next_of [] r ≡ Ok (nexts, after)
+      → (r >>= with_nexts) ≡ Ok (record c { latches = latches_by (1 + h.inputs) nexts }, after)
   nexts_make_latches (Ok x) nexts after found =
-      let p : (map output_of x.0, x.1) ≡ (nexts, after) = cc in
+      let p : (map next_of x.0, x.1) ≡ (nexts, after) = cc in
       ap (λ ls. Ok (record c { latches = ls }, x.1)) (sym (latches_of_rows (1 + h.inputs) x.0))
-      ∙ ap (λ (q : List ℕ × Ahead). Ok (record c { latches = latches_from (1 + h.inputs) (map output_row q.0) }, q.1)) p
+      ∙ ap (λ (q : List NextState × Ahead). Ok (record c { latches = latches_by (1 + h.inputs) q.0 }, q.1)) p
   nexts_make_latches (Err e) nexts after found = cc
 
-  no_nexts : (r : Found (List (List ℕ))) (e : ReadFault) → rows_meant output_of [] r ≡ Err e
+  no_nexts : (r : Found (List (List ℕ))) (e : ReadFault) → rows_meant next_of [] r ≡ Err e
       → (r >>= with_nexts) ≡ Err e
   no_nexts (Ok x) e found = cc
   no_nexts (Err f) e found = let same : f ≡ e = cc in ap (λ (g : ReadFault). Err g) same
 
   pub no_latches : (r : Found (List (List ℕ))) (e : ReadFault)
-      → (e ≡ want_of_memory) ⊎ (rows_meant output_of [] r ≡ Err e)
+      → (e ≡ want_of_memory) ⊎ (rows_meant next_of [] r ≡ Err e)
       → (e ≡ want_of_memory) ⊎ ((r >>= with_nexts) ≡ Err e)
   no_latches r e (inl m) = inl m
   no_latches r e (inr found) = inr (no_nexts r e found)
@@ -83,30 +86,35 @@ module _ (limit : ℕ) (ls : List Line) where
           then_tail gates behind g = let j = (pieces bytes).joined in rw (is, all, found, j, g) refl
 
 -- so many rows are read
-rows_count : (form : Form) (max_var count : ℕ) (at after : Ahead) (rows : List (List ℕ))
-    → rows_at form max_var count at ≡ Ok (rows, after)
+rows_count : (form : Form) (bound carried count : ℕ) (at after : Ahead) (rows : List (List ℕ))
+    → rows_at form bound carried count at ≡ Ok (rows, after)
     → length rows ≡ count
 unfolding rows_at
-rows_count form max_var zero at after rows h =
+rows_count form bound carried zero at after rows h =
     let p : ◌≡◌ {A = List (List ℕ) × Ahead} ([], at) (rows, after) = cc in
     ap (λ (q : List (List ℕ) × Ahead). length q.0) (sym p)
-rows_count form max_var (suc count) at after rows h =
-    let one = both_ok (row_at form max_var at) _ (rows, after) h in
-    let others = both_ok (rows_at form max_var count one.0.1) _ (rows, after) one.2 in
+rows_count form bound carried (suc count) at after rows h =
+    let one = both_ok (row_at form bound carried at) _ (rows, after) h in
+    let next : ℕ = carried_on form.first carried (slice_index one.0.0 0) in
+    let others = both_ok (rows_at form bound next count one.0.1) _ (rows, after) one.2 in
     let p : (one.0.0 ∷ others.0.0, others.0.1) ≡ (rows, after) = let e = others.2 in cc in
     ap (λ (q : List (List ℕ) × Ahead). length q.0) (sym p)
-    ∙ ap (λ c. suc c) (rows_count form max_var count one.0.1 others.0.1 others.0.0 others.1)
+    ∙ ap (λ c. suc c) (rows_count form bound next count one.0.1 others.0.1 others.0.0 others.1)
 
-found_rows : (r : Found (List (List ℕ))) (ns : List ℕ) (after : Ahead) → rows_meant output_of [] r ≡ Ok (ns, after)
-    → (rows : List (List ℕ)) × (r ≡ Ok (rows, after)) × (ns ≡ map output_of rows)
+found_rows : (r : Found (List (List ℕ))) (ns : List NextState) (after : Ahead)
+    → rows_meant next_of [] r ≡ Ok (ns, after)
+    → (rows : List (List ℕ)) × (r ≡ Ok (rows, after)) × (ns ≡ map next_of rows)
 found_rows (Ok x) ns after h =
-    let p : (map output_of x.0, x.1) ≡ (ns, after) = cc in
-    (x.0, ap (λ (q : List ℕ × Ahead). Ok (x.0, q.1)) p, sym (ap (λ (q : List ℕ × Ahead). q.0) p))
+    let p : (map next_of x.0, x.1) ≡ (ns, after) = cc in (
+      x.0,
+      ap (λ (q : List NextState × Ahead). Ok (x.0, q.1)) p,
+      sym (ap (λ (q : List NextState × Ahead). q.0) p),
+    )
 found_rows (Err e) ns after h = cc
 
-pub found_count : (form : Form) (max_var count : ℕ) (at after : Ahead) (ns : List ℕ)
-    → rows_meant output_of [] (rows_at form max_var count at) ≡ Ok (ns, after)
+pub found_count : (bound start count : ℕ) (at after : Ahead) (ns : List NextState)
+    → rows_meant next_of [] (rows_at next_form bound start count at) ≡ Ok (ns, after)
     → length ns ≡ count
-found_count form max_var count at after ns h =
-    let a = found_rows (rows_at form max_var count at) ns after h in
-    ap length a.2 ∙ length-map a.0 output_of ∙ rows_count form max_var count at after a.0 a.1
+found_count bound start count at after ns h =
+    let a = found_rows (rows_at next_form bound start count at) ns after h in
+    ap length a.2 ∙ length-map a.0 next_of ∙ rows_count next_form bound start count at after a.0 a.1

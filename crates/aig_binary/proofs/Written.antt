@@ -1,6 +1,6 @@
 -- What the binary writer has put, part by part.
-use Rattle.std.proofs.Common.{◌≡◌, ◌+◌, ◌-◌, ◌≤◌, ℕ, suc, List, [], ◌∷◌, ◌++◌, append-nil, length, ap, ap₂, ◌∙◌}
-use Rattle.std.proofs.Common.{append_assoc, arith}
+use Rattle.std.proofs.Common.{◌≡◌, ◌+◌, ◌-◌, ◌≤◌, ℕ, suc, List, [], ◌∷◌, ◌++◌, map, length, ap, ap₂, ◌∙◌}
+use Rattle.std.proofs.Common.{append_assoc, arith, sym}
 use Rattle.std.specs.List.{All, AllByRecursion, flat_map}
 use Rattle.std.proofs.lemmas.List.Concat.{flat_map-append}
 use Rattle.std.proofs.lemmas.List.Folds.{flat_map-map}
@@ -12,7 +12,8 @@ use Rattle.aig_core.specs.declared.circuit.TheConstants.{LARGEST}
 use Rattle.aig_core.specs.declared.circuit.Latch.{Latch}
 use Rattle.aig_core.specs.declared.circuit.Gate.{Gate}
 use Rattle.aig_core.specs.declared.circuit.Circuit.{Circuit}
-use Rattle.aig_text.specs.AsciiText.{line_text, numbers_text}
+use Rattle.aig_text.specs.AsciiText.{line_text, row_text}
+use Rattle.aig_text.specs.Rows.{row, next_form, next_row, literal_rows_of}
 use Rattle.aig_binary.specs.BinaryGrammar.{binary_rows_of}
 use Rattle.aig_core.specs.BinaryOrder.{AreOrderedGates, IsInBinaryOrder}
 use Rattle.aig_binary.specs.BinaryText.{gate_text}
@@ -36,12 +37,14 @@ module _ {W : Type 0} where
       ∙ ap (λ (text : List ℕ). record a { held = a.held ++ text })
       (ap₂ (λ (x y : List ℕ). x ++ y) first second ∙ ap gate_text e)
 
--- the lines of latches and outputs
+-- the lines of latches, and those of the sections that ASCII files list alike
 pub lines_text : (c : Circuit)
-    → flat_map (λ (l : Latch). numbers_text (l.next ∷ [])) c.latches
-    ++ flat_map (λ (literal : ℕ). numbers_text (literal ∷ [])) c.outputs
+    → flat_map (λ (l : Latch). row_text 0 (next_row l)) c.latches ++ flat_map line_text (literal_rows_of c)
     ≡ flat_map line_text (binary_rows_of c)
-lines_text c = simp (flat_map-append, flat_map-map, append-nil)
+lines_text c =
+    sym
+    (flat_map-append line_text (map (row next_form) (map next_row c.latches)) (literal_rows_of c)
+    ∙ ap (λ (t : List ℕ). t ++ flat_map line_text (literal_rows_of c)) (simp flat_map-map))
 
 deltas_from : (n : ℕ) (gs : List Gate) → AreOrderedGates n gs → n + length gs ≤ LARGEST + 1
     → AllByRecursion HasDeltas gs

@@ -1,12 +1,12 @@
 -- Which texts are binary AIGER files of which circuits (AIGER report, with the lenient spellings and the limits of this
 -- project's profile). A relation that knows of no reading from left to right.
 use Rattle.std.specs.Prelude.{◌≡◌, ◌≤◌, ◌-◌, ◌⊎◌, ℕ, List, [], ◌∷◌, ◌++◌, true, codes}
-use Rattle.std.specs.List.{AllByRecursion, AllZip}
+use Rattle.std.specs.List.{AllByRecursion, AllZip, sum}
 use Rattle.aig_core.specs.declared.circuit.Gate.{Gate}
 use Rattle.aig_core.specs.declared.circuit.Circuit.{Circuit}
 use Rattle.aig_core.specs.Literal.{literal_of}
 use Rattle.aig_core.specs.Wellformed.{IsWellFormed}
-use Rattle.aig_text.specs.declared.header_line.TheConstants.{HEADER_NUMBERS}
+use Rattle.aig_text.specs.declared.header_line.TheConstants.{HEADER_LEAST}
 use Rattle.aig_text.specs.Lines.{Line, lines_of}
 use Rattle.aig_text.specs.Spelling.{IsHeaderLine}
 use Rattle.aig_text.specs.Tail.{AreTailLines}
@@ -19,7 +19,8 @@ use Rattle.aig_binary.specs.Delta.{IsDelta}
 abbrev pub binary_word : List ℕ
 binary_word = codes "aig"
 
--- the rows of the numbered lines: the next literal of each latch, and then the outputs
+-- the rows of the numbered lines: the next literal and the reset of each latch, and then the literals and sizes that
+-- ASCII files list alike
 abbrev pub binary_rows_of : Circuit → List Row
 binary_rows_of c = listed_rows in_binary c
 
@@ -51,11 +52,12 @@ pub record IsBinaryText (text : List ℕ) (limit : ℕ) (c : Circuit) : Type 0 w
   pub text_is : text ≡ front ++ (gates ++ rest)
   pub lines : lines_of front ≡ header ∷ numbered
   pub cut : EndsBefore (header ∷ numbered) (gates ++ rest)
-  pub is_header : IsHeaderLine binary_word HEADER_NUMBERS header (header_row c)
+  pub is_header : IsHeaderLine binary_word HEADER_LEAST header (header_row c)
   pub are_rows : AllZip IsRowLine numbered (binary_rows_of c)
   pub are_gates : SpellsGates gates c.gates
   pub is_tail : AreTailLines (lines_of rest) c
-  -- The largest index and the counts are within the limit.
+  -- The largest index, the counts and the sizes are within the limit.
   pub limited : AllByRecursion (λ n. n ≤ limit) (header_row c)
+  pub sizes_limited : sum c.justice.sizes ≤ limit
   pub ordered : IsInBinaryOrder c
   pub well_formed : IsWellFormed c

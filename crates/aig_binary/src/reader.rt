@@ -1,22 +1,23 @@
 //! The reader of binary files.
 ghost use Rattle.std.specs.Prelude.{◌≡◌, ◌+◌, ◌^◌, ◌<◌, ◌≤◌, IfOk, IfErr, MatchResult, OnOk, map, length};
-ghost use Rattle.std.specs.List.{range_with_len};
+ghost use Rattle.std.specs.List.{range_with_len, sum};
 ghost use Rattle.aig_core.specs.declared.circuit.TheConstants.{LARGEST as largest_index};
 ghost use Rattle.aig_text.specs.Lines.{lines_of};
 ghost use Rattle.aig_text.specs.declared.section.Section.TheVariants.{Latches};
-ghost use Rattle.aig_text.specs.Rows.{in_binary, latches_from, output_row, sections};
+ghost use Rattle.aig_text.specs.Rows.{in_binary, sections};
 ghost use Rattle.aig_text.specs.Outcomes.{GivesOrMemory};
 ghost use Rattle.aig_core.specs.declared.circuit.Circuit.{Circuit as CircuitRecord};
 ghost use Rattle.aig_text.specs.Reading.{IsFirstFault, at_line, section_at, sections_at, want_of_memory};
 ghost use Rattle.aig_core.specs.BinaryOrder.{IsInBinaryOrder};
 ghost use Rattle.aig_binary.specs.BinaryGrammar.{IsBinaryText};
 ghost use Rattle.aig_binary.specs.BinaryReading.{filled, with_definitions, binary_at, first_binary_fault};
+ghost use Rattle.aig_binary.specs.Parts.NextStates.{latches_by};
 
 use crate::gates::read_gates;
-use aig_core::{Checked, Circuit, Gate, Latch, Listing, Lit, Var};
+use aig_core::{Checked, Circuit, Gate, Latch, Listing, Var};
 use aig_text::{
-    Cursor, Header, Limits, Place, ReadFault, ReadKind, SECTIONS, Section, empty_circuit, header,
-    literals, read_section, tail,
+    Cursor, Header, Limits, NextState, Place, ReadFault, ReadKind, SECTIONS, Section,
+    empty_circuit, header, next_states, read_section, tail,
 };
 use std::alloc::Global;
 
@@ -52,10 +53,14 @@ fn inputs(alloc: Global, count: u32) -> Result<Listing<Var>, ReadFault>
     Ok(found)
 }
 
-/// The latches of this variable and the next ones, which become these literals.
-fn latches(alloc: Global, variable: u32, nexts: &Listing<Lit>) -> Result<Listing<Latch>, ReadFault>
+/// The latches of this variable and the next ones, which have these next states.
+fn latches(
+    alloc: Global,
+    variable: u32,
+    nexts: &Listing<NextState>,
+) -> Result<Listing<Latch>, ReadFault>
     requires { variable + length nexts.now < 2 ^ 32 }
-    ensures ok { IfOk result (λ found. found ≡ latches_from variable (map output_row nexts.now)) }
+    ensures ok { IfOk result (λ found. found ≡ latches_by variable nexts.now) }
     ensures err { IfErr result (λ e. e ≡ want_of_memory) }
 {
     let mut found = Listing::from_vec(Vec::with_capacity(alloc, nexts.len())?);
@@ -63,14 +68,15 @@ fn latches(alloc: Global, variable: u32, nexts: &Listing<Lit>) -> Result<Listing
     for next in nexts.as_slice() {
         found.push(Latch {
             var: Var(var),
-            next: *next,
+            next: next.next,
+            reset: next.reset,
         })?;
         var += 1;
     }
     Ok(found)
 }
 
-/// Makes the latches those of the next literals that the lines from here on hold, and moves behind these lines.
+/// Makes the latches those of the next states that the lines from here on hold, and moves behind these lines.
 fn read_latches(
     alloc: Global,
     header: &Header,
@@ -82,7 +88,8 @@ fn read_latches(
     ensures { GivesOrMemory (λ _. (circuit.new, at.new)) result
         (section_at (in_binary Latches) header.now circuit.old at.old) }
 {
-    let nexts = literals(alloc, header.latches, at, header.max_var)?;
+    let first = 2 * (1 + u64::from(header.inputs));
+    let nexts = next_states(alloc, header.latches, first, at, header.max_var)?;
     circuit.latches = latches(alloc, 1 + header.inputs, &nexts)?;
     Ok(())
 }
@@ -96,14 +103,22 @@ fn read_lines(
     at: &mut Cursor,
 ) -> Result<(), ReadFault>
     requires max_var { header.now.max_var ≤ largest_index }
+    requires limit { header.now.limit ≤ largest_index }
     requires definitions { header.now.inputs + header.now.latches ≤ header.now.max_var }
-    ensures { GivesOrMemory (λ _. (circuit.new, at.new)) result
+    requires sizes { sum circuit.old.justice.sizes ≤ header.now.limit }
+    ensures read { GivesOrMemory (λ _. (circuit.new, at.new)) result
         (section_at (in_binary section) header.now circuit.old at.old) }
+    ensures sizes { OnOk result (sum circuit.new.justice.sizes ≤ header.now.limit) }
 {
     match section {
         Section::Inputs | Section::Gates => Ok(()),
         Section::Latches => read_latches(alloc, header, circuit, at),
-        Section::Outputs => read_section(section, header, circuit, at),
+        Section::Outputs
+        | Section::Bad
+        | Section::Constraints
+        | Section::JusticeSizes
+        | Section::JusticeLiterals
+        | Section::Fairness => read_section(section, header, circuit, at),
     }
 }
 
@@ -115,7 +130,9 @@ fn read_sections(
     at: &mut Cursor,
 ) -> Result<(), ReadFault>
     requires max_var { header.now.max_var ≤ largest_index }
+    requires limit { header.now.limit ≤ largest_index }
     requires definitions { header.now.inputs + header.now.latches ≤ header.now.max_var }
+    requires sizes { sum circuit.old.justice.sizes ≤ header.now.limit }
     ensures { GivesOrMemory (λ _. (circuit.new, at.new)) result
         (sections_at in_binary header.now sections circuit.old at.old) }
 {

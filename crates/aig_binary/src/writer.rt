@@ -1,14 +1,15 @@
 //! The canonical binary text of a circuit in binary order, written to a sink in blocks.
 ghost use Rattle.std.specs.Io.KnownBytes.{Appends};
 ghost use Rattle.std.specs.List.{All, flat_map};
-ghost use Rattle.std.specs.Prelude.{◌≡◌, ◌+◌, ◌-◌, ◌^◌, ◌<◌, ◌≤◌, [], ◌∷◌, max, is_ok, OnErr, OnOk};
+ghost use Rattle.std.specs.Prelude.{◌≡◌, ◌+◌, ◌-◌, ◌^◌, ◌<◌, ◌≤◌, max, is_ok, OnErr, OnOk};
 ghost use Rattle.std.specs.Prelude.{if◌then◌else◌};
 ghost use Rattle.aig_io.specs.Output.{Put};
 ghost use Rattle.aig_io.specs.Transfer.{TookBeginning};
 ghost use Rattle.aig_core.specs.Wellformed.{IsWithinLimits};
 ghost use Rattle.aig_io.specs.declared.block.TheConstants.{ROOM};
 ghost use Rattle.aig_core.specs.declared.circuit.Latch.{Latch as LatchRecord};
-ghost use Rattle.aig_text.specs.AsciiText.{line_text, numbers_text};
+ghost use Rattle.aig_text.specs.AsciiText.{line_text, row_text};
+ghost use Rattle.aig_text.specs.Rows.{next_row};
 ghost use Rattle.aig_binary.specs.BinaryGrammar.{binary_rows_of};
 ghost use Rattle.aig_core.specs.BinaryOrder.{IsInBinaryOrder};
 ghost use Rattle.aig_binary.specs.BinaryText.{binary_text, gate_text};
@@ -16,24 +17,30 @@ ghost use Rattle.aig_binary.specs.Parts.Deltas.{HasDeltas};
 
 use crate::delta::{LONGEST, put_delta};
 use crate::reader::BINARY_WORD;
-use aig_core::{Circuit, Gate, Latch, Lit, Ordered, Output, Sink};
-use aig_text::{WriteFault, header_numbers, put_header, put_numbers, put_tail};
+use aig_core::{Circuit, Gate, Latch, Ordered, Output, Sink};
+use aig_text::{
+    WriteFault, header_numbers, put_header, put_literal_sections, put_numbers, put_tail,
+    reset_number,
+};
 
-/// The line of each latch: its next literal.
-fn put_nexts<W: Sink>(output: &mut Output<W>, latches: &[Latch])
-    ensures { Put output.old output.new (flat_map (λ (l : LatchRecord). numbers_text (l.next ∷ [])) latches.now) }
+/// The line of a latch: its next literal, and its reset where that is not 0.
+#[inline(always)]
+fn put_next<W: Sink>(output: &mut Output<W>, latch: Latch)
+    ensures { Put output.old output.new (row_text 0 (next_row latch)) }
 {
-    for latch in latches {
-        put_numbers(output, u64::from(latch.next.0), &[]);
+    let next = u64::from(latch.next.0);
+    match reset_number(2 * u64::from(latch.var.0), latch.reset) {
+        0 => put_numbers(output, next, &[]),
+        reset => put_numbers(output, next, &[reset]),
     }
 }
 
-/// The line of each output: its literal.
-fn put_outputs<W: Sink>(output: &mut Output<W>, outputs: &[Lit])
-    ensures { Put output.old output.new (flat_map (λ literal. numbers_text (literal ∷ [])) outputs.now) }
+/// The line of each latch.
+fn put_nexts<W: Sink>(output: &mut Output<W>, latches: &[Latch])
+    ensures { Put output.old output.new (flat_map (λ (l : LatchRecord). row_text 0 (next_row l)) latches.now) }
 {
-    for literal in outputs {
-        put_numbers(output, u64::from(literal.0), &[]);
+    for latch in latches {
+        put_next(output, *latch);
     }
 }
 
@@ -42,7 +49,7 @@ fn put_lines<W: Sink>(output: &mut Output<W>, circuit: &Circuit)
     ensures { Put output.old output.new (flat_map line_text (binary_rows_of circuit.now)) }
 {
     put_nexts(output, circuit.latches.as_slice());
-    put_outputs(output, circuit.outputs.as_slice());
+    put_literal_sections(output, circuit);
 }
 
 /// A gate: room is made for the longest deltas, and then both are filled in.

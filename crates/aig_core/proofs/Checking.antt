@@ -5,3 +5,4 @@ pub mod Faultless
 pub mod Reported
 pub mod Fitting
 pub mod InOrder
+pub mod Properties

@@ -2,9 +2,10 @@
 use Rattle.std.proofs.Common.{◌≡◌, ℕ, ap₂}
 use Rattle.aig_core.specs.declared.circuit.Latch.{Latch}
 use Rattle.aig_core.specs.declared.circuit.Gate.{Gate}
+use Rattle.aig_core.specs.declared.circuit.Reset.{Reset}
 
-abbrev pub latch : ℕ → ℕ → Latch
-latch var next = record { var = var; next = next }
+abbrev pub latch : ℕ → ℕ → Reset → Latch
+latch var next reset = record { var = var; next = next; reset = reset }
 
 abbrev pub gate : ℕ → ℕ → ℕ → Gate
 gate var left right = record { var = var; left = left; right = right }

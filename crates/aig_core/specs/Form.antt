@@ -6,7 +6,7 @@ use Rattle.aig_core.specs.declared.circuit.Circuit.{Circuit}
 use Rattle.aig_core.specs.declared.circuit.Latch.{Latch}
 use Rattle.aig_core.specs.declared.circuit.Gate.{Gate}
 use Rattle.aig_core.specs.Wellformed.{IsWithinLimits, IsVariableUpTo, HasGoodSymbols, defined_variables, used_literals}
-use Rattle.aig_core.specs.Wellformed.{operands}
+use Rattle.aig_core.specs.Wellformed.{literal_lists, operands}
 
 -- a literal that a circuit with this largest index may use
 abbrev pub IsLiteralUpTo : ℕ → ℕ → Type 0
@@ -21,7 +21,7 @@ AreInRange max_var variables literals =
 pub record HasEntriesInRange (c : Circuit) : Type 0 where
   pub inputs : All (λ v. AreInRange c.max_var (v ∷ []) []) c.inputs
   pub latches : All (λ (l : Latch). AreInRange c.max_var (l.var ∷ []) (l.next ∷ [])) c.latches
-  pub outputs : All (λ l. AreInRange c.max_var [] (l ∷ [])) c.outputs
+  pub literals : AllByRecursion (AllByRecursion (IsLiteralUpTo c.max_var)) (literal_lists c)
   pub gates : All (λ (g : Gate). AreInRange c.max_var (g.var ∷ []) (operands g)) c.gates
 
 pub record IsInForm (c : Circuit) : Type 0 where

@@ -1,6 +1,6 @@
 -- What the definitions of this crate say of one another.
 use Rattle.std.specs.Prelude.{ℕ, List, ◌∷◌, ◌++◌, ◌≡◌, ◌<◌, ◌≤◌, ◌+◌, ◌↔◌, Some, None, length, true}
-use Rattle.std.specs.List.{AllByRecursion, slice_get}
+use Rattle.std.specs.List.{AllByRecursion, slice_get, sum}
 use Rattle.std.specs.FinSet as set
 use Rattle.aig_core.specs.declared.circuit.Circuit.{Circuit}
 use Rattle.aig_core.specs.declared.circuit.Gate.{Gate}
@@ -8,6 +8,8 @@ use Rattle.aig_core.specs.declared.fault.CheckFault.TheVariants.{Redefined, Unde
 use Rattle.aig_core.specs.Literal.{literal_of}
 use Rattle.aig_core.specs.Wellformed.{IsWellFormed, IsAmong, AreDistinct, IsKnown, HasRank}
 use Rattle.aig_core.specs.Wellformed.{defined_variables, used_literals}
+use Rattle.aig_core.specs.declared.circuit.Justice.{Justice}
+use Rattle.aig_core.specs.Justice.{end_to_end, properties_of}
 use Rattle.aig_core.specs.Form.{IsInForm}
 use Rattle.aig_core.specs.Fault.{first_structural_fault, first_repeat, first_unknown, with_all}
 use Rattle.aig_core.specs.Order.{IsLeastReadyOrder, ends_within}
@@ -23,6 +25,15 @@ DefinitionsFit = (c : Circuit) → IsWellFormed c → length c.inputs + length c
 -- a well-formed circuit is in form
 abbrev pub WellFormedIsInForm : Type 0
 WellFormedIsInForm = (c : Circuit) → IsWellFormed c → IsInForm c
+
+-- where the sizes are those of the literals that there are, justice properties are a list of lists
+abbrev pub JusticeIsOfLists : Type 0
+JusticeIsOfLists = (j : Justice) → sum j.sizes ≡ length j.literals → end_to_end (properties_of j) ≡ j
+
+-- and each list of lists is such
+abbrev pub ListsAreJustice : Type 0
+ListsAreJustice = (properties : List (List ℕ)) → (properties_of (end_to_end properties) ≡ properties)
+    × (sum (end_to_end properties).sizes ≡ length (end_to_end properties).literals)
 
 -- the gates of a circuit have a least ready order
 abbrev pub GatesHaveAnOrder : Type 0

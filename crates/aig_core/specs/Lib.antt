@@ -1,5 +1,6 @@
 pub mod Literal
 pub mod Wellformed
+pub mod Justice
 pub mod Form
 pub mod Names
 pub mod VarMap

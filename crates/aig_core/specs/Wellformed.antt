@@ -2,7 +2,7 @@
 -- variable is defined, and that gates are acyclic. The limits, and what is asked of symbols, are this project's
 -- profile.
 use Rattle.std.specs.Prelude.{◌≡◌, ◌<◌, ◌≤◌, ℕ, List, [], ◌∷◌, ◌++◌, ◌⊎◌, map, length}
-use Rattle.std.specs.List.{flat_map, AllByRecursion, Contains}
+use Rattle.std.specs.List.{concat, flat_map, AllByRecursion, Contains, sum}
 use Rattle.aig_core.specs.declared.circuit.Latch.{Latch}
 use Rattle.aig_core.specs.declared.circuit.Gate.{Gate}
 use Rattle.aig_core.specs.declared.circuit.Kind.{Kind}
@@ -20,9 +20,13 @@ defined_variables c = c.inputs ++ map (λ (l : Latch). l.var) c.latches ++ map (
 abbrev pub operands : Gate → List ℕ
 operands g = g.left ∷ g.right ∷ []
 
--- the literals that are used: next literals, outputs and operands, in the order of the file
+-- the lists of literals that a circuit has beside its latches and gates, in the order of the file
+abbrev pub literal_lists : Circuit → List (List ℕ)
+literal_lists c = c.outputs ∷ c.bad ∷ c.constraints ∷ c.justice.literals ∷ c.fairness ∷ []
+
+-- the literals that are used: next literals, those lists, and operands, in the order of the file
 abbrev pub used_literals : Circuit → List ℕ
-used_literals c = map (λ (l : Latch). l.next) c.latches ++ c.outputs ++ flat_map operands c.gates
+used_literals c = map (λ (l : Latch). l.next) c.latches ++ concat (literal_lists c) ++ flat_map operands c.gates
 
 -- the number stands in the list
 abbrev pub IsAmong : ℕ → List ℕ → Type 0
@@ -50,12 +54,15 @@ IsRank rank gates = (g h : Gate) → Contains gates g → Contains gates h → I
 abbrev pub HasRank : List Gate → Type 0
 HasRank gates = (rank : ℕ → ℕ) × IsRank rank gates
 
--- the largest index and all counts are small enough to be written in a file
+-- The largest index and all counts are small enough to be written in a file, and the sizes of the justice properties
+-- are those of the literals that there are.
 pub record IsWithinLimits (c : Circuit) : Type 0 where
   pub max_var : c.max_var ≤ LARGEST
   pub inputs : length c.inputs ≤ LARGEST
   pub latches : length c.latches ≤ LARGEST
-  pub outputs : length c.outputs ≤ LARGEST
+  pub literals : AllByRecursion (λ (ls : List ℕ). length ls ≤ LARGEST) (literal_lists c)
+  pub justice : length c.justice.sizes ≤ LARGEST
+  pub sizes : sum c.justice.sizes ≡ length c.justice.literals
   pub gates : length c.gates ≤ LARGEST
 
 -- how many things there are that a symbol of this kind may name
@@ -63,6 +70,10 @@ abbrev pub count_of : Circuit → Kind → ℕ
 count_of c kinds.Input = length c.inputs
 count_of c kinds.Latch = length c.latches
 count_of c kinds.Output = length c.outputs
+count_of c kinds.Bad = length c.bad
+count_of c kinds.Constraint = length c.constraints
+count_of c kinds.Justice = length c.justice.sizes
+count_of c kinds.Fairness = length c.fairness
 
 abbrev pub NameTheSame : Symbol → Symbol → Type 0
 NameTheSame s t = (s.kind ≡ t.kind) × (s.position ≡ t.position)

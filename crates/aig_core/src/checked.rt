@@ -6,6 +6,7 @@ ghost use Rattle.aig_core.specs.Wellformed.{AreDistinct, IsWellFormed, defined_v
 ghost use Rattle.aig_core.specs.Form.{IsInForm};
 ghost use Rattle.aig_core.specs.Order.{IsLeastReadyOrder};
 ghost use Rattle.aig_core.specs.Fault.{first_structural_fault, IsFault};
+ghost use Rattle.aig_core.specs.Parts.SameLists.{same_lists};
 
 use crate::checked::copies::copy_circuit;
 use crate::checked::faults::{find_fault, find_redefinition};
@@ -18,7 +19,7 @@ use std::marker::Model;
 mod copies;
 mod faults;
 
-pub use crate::checked::copies::{copy_comment, copy_symbols};
+pub use crate::checked::copies::{copy_comment, copy_justice, copy_symbols};
 
 /// A circuit that is well formed. `check` makes one of any circuit that is, `from_well_formed` of one that is known to
 /// be.
@@ -116,6 +117,17 @@ pub fn is_defined_once(alloc: Global, circuit: &Circuit) -> Result<bool, OutOfMe
     }
 }
 
+/// Whether the two circuits list the same outputs, bad states, constraints, justice properties and fairness constraints.
+fn list_the_same(first: &Circuit, second: &Circuit) -> bool
+    ensures { result ≡ same_lists first.now second.now }
+{
+    first.outputs == second.outputs
+        && first.bad == second.bad
+        && first.constraints == second.constraints
+        && first.justice == second.justice
+        && first.fairness == second.fairness
+}
+
 /// Whether the two hold the same circuit: the order of entries and of symbols, the names and the comment too.
 pub fn same(first: &Checked, second: &Checked) -> bool
     ensures { IsTrue result ↔ (first.now ≡ second.now) }
@@ -124,7 +136,7 @@ pub fn same(first: &Checked, second: &Checked) -> bool
     first.max_var == second.max_var
         && first.inputs == second.inputs
         && first.latches == second.latches
-        && first.outputs == second.outputs
+        && list_the_same(first, second)
         && first.gates == second.gates
         && first.symbols == second.symbols
         && first.comment == second.comment

@@ -6,13 +6,26 @@ use crate::literal::{Lit, Var};
 /// fits into 32 bits.
 pub const LARGEST: u32 = 2_147_483_647;
 
-/// A latch: a variable that holds its state, and the literal whose value it takes in the next step. It starts at 0.
+/// What a latch starts at (AIGER 1.9).
+#[derive(Clone, Copy, PartialEq)]
+pub enum Reset {
+    /// It starts at 0, as every latch did before version 1.9.
+    Zero,
+    /// It starts at 1.
+    One,
+    /// It is uninitialised: it may start at either.
+    Uninit,
+}
+
+/// A latch: a variable that holds its state, the literal whose value it takes in the next step, and what it starts at.
 #[derive(Clone, Copy, PartialEq)]
 pub struct Latch {
     /// The variable that holds the state.
     pub var: Var,
     /// The literal of the next state.
     pub next: Lit,
+    /// What the state is in the first step.
+    pub reset: Reset,
 }
 
 /// An AND gate: the variable that it defines, and its two operands in the order of the file.
@@ -35,17 +48,35 @@ pub enum Kind {
     Latch,
     /// An output.
     Output,
+    /// A bad state.
+    Bad,
+    /// An invariant constraint.
+    Constraint,
+    /// A justice property.
+    Justice,
+    /// A fairness constraint.
+    Fairness,
 }
 
-/// The name of the input, latch or output at a position, counted from 0.
+/// The name of what stands at a position among its kind, counted from 0.
 #[derive(Clone, PartialEq, Drop)]
 pub struct Symbol {
-    /// Whether it names an input, a latch or an output.
+    /// What it names.
     pub kind: Kind,
     /// Which of these, counted from 0 in the order of the file.
     pub position: u32,
     /// The bytes of the name. A line feed among them is against the form of a circuit.
     pub name: Listing<u8>,
+}
+
+/// The justice properties (AIGER 1.9): each is a list of literals. The literals of all properties stand in one list, one
+/// property behind the other, and the sizes tell where each ends.
+#[derive(Clone, PartialEq, Drop)]
+pub struct Justice {
+    /// How many literals each property has.
+    pub sizes: Listing<u32>,
+    /// The literals of all properties.
+    pub literals: Listing<Lit>,
 }
 
 /// What an AIGER file says, in the order of the file. A circuit may hold anything: `in_form` and `check` check it.
@@ -59,9 +90,17 @@ pub struct Circuit {
     pub latches: Listing<Latch>,
     /// The literal of each output.
     pub outputs: Listing<Lit>,
+    /// The literal of each bad state: one that is not to be reached (AIGER 1.9).
+    pub bad: Listing<Lit>,
+    /// The literal of each invariant constraint: only runs in which it always holds count (AIGER 1.9).
+    pub constraints: Listing<Lit>,
+    /// The justice properties.
+    pub justice: Justice,
+    /// The literal of each fairness constraint (AIGER 1.9).
+    pub fairness: Listing<Lit>,
     /// The AND gates; one may stand before those that it uses.
     pub gates: Listing<Gate>,
-    /// The names of inputs, latches and outputs.
+    /// The names of inputs, latches, outputs and the rest.
     pub symbols: Listing<Symbol>,
     /// The bytes of the comment section, perhaps none; `None` where there is no such section.
     pub comment: Option<Listing<u8>>,

@@ -1,8 +1,9 @@
 //! What can be checked of a circuit part by part, before its definitions and its uses are compared.
-ghost use Rattle.std.specs.Prelude.{◌≡◌, ◌↔◌, ◌^◌, ◌<◌, ◌≤◌, length, map, IsTrue};
-ghost use Rattle.std.specs.List.{All, AllByRecursion};
+ghost use Rattle.std.specs.Prelude.{◌≡◌, ◌↔◌, ◌^◌, ◌<◌, ◌≤◌, ℕ, List, length, map, IsTrue};
+ghost use Rattle.std.specs.List.{All, AllByRecursion, sum};
 ghost use Rattle.aig_core.specs.Wellformed.{IsWithinLimits, IsVariableUpTo, count_of};
 ghost use Rattle.aig_core.specs.Wellformed.{HasGoodSymbols, NameApart, NameTheSame, IsAmong, line_feed};
+ghost use Rattle.aig_core.specs.Wellformed.{literal_lists};
 ghost use Rattle.aig_core.specs.Form.{IsInForm, HasEntriesInRange, AreInRange, IsLiteralUpTo};
 ghost use Rattle.aig_core.specs.Parts.SymbolOrder.{place_of, IsRisingFrom};
 
@@ -16,6 +17,30 @@ fn is_short_enough<T>(items: &Listing<T>) -> bool
     ensures { IsTrue result ↔ (length items.now ≤ LARGEST) }
 {
     items.len() <= LARGEST as usize
+}
+
+/// Whether each of these lists is short enough for a file.
+fn are_short_enough(lists: &[&[Lit]]) -> bool
+    ensures { IsTrue result ↔ AllByRecursion (λ (ls : List ℕ). length ls ≤ LARGEST) (map (λ ls. ls.now) lists.now) }
+{
+    for list in lists {
+        if list.len() > LARGEST as usize {
+            return false;
+        }
+    }
+    true
+}
+
+/// The sum of sizes.
+fn sum_of_sizes(sizes: &[u32]) -> u64
+    requires { length sizes.now ≤ LARGEST }
+    ensures { result ≡ sum sizes.now }
+{
+    let mut all = 0;
+    for size in sizes {
+        all += u64::from(*size);
+    }
+    all
 }
 
 /// Whether a circuit with this largest index may define the variable.
@@ -38,6 +63,18 @@ fn are_literals_up_to(max_var: u32, literals: &[Lit]) -> bool
 {
     for literal in literals {
         if !is_literal_up_to(max_var, *literal) {
+            return false;
+        }
+    }
+    true
+}
+
+/// Whether a circuit with this largest index may use all literals of these lists.
+fn are_lists_up_to(max_var: u32, lists: &[&[Lit]]) -> bool
+    ensures { IsTrue result ↔ AllByRecursion (AllByRecursion (IsLiteralUpTo max_var)) (map (λ ls. ls.now) lists.now) }
+{
+    for list in lists {
+        if !are_literals_up_to(max_var, list) {
             return false;
         }
     }
@@ -78,12 +115,16 @@ fn is_one_line(name: &[u8]) -> bool
 /// A number that rises along the symbols of a file as they usually stand: by kind, then by position.
 fn place_of(symbol: &Symbol) -> u64
     ensures place { result ≡ place_of symbol.now }
-    ensures below { result < 2 ^ 34 }
+    ensures below { result < 2 ^ 35 }
 {
     let first = match symbol.kind {
         Kind::Input => 0,
         Kind::Latch => 1 << 32,
         Kind::Output => 2 << 32,
+        Kind::Bad => 3 << 32,
+        Kind::Constraint => 4 << 32,
+        Kind::Justice => 5 << 32,
+        Kind::Fairness => 6 << 32,
     };
     first + u64::from(symbol.position)
 }
@@ -141,6 +182,28 @@ fn are_apart(symbols: &[Symbol]) -> bool
 }
 
 impl Circuit {
+    /// The lists of literals that a circuit has beside its latches and gates, in the order of a file.
+    pub(crate) fn literal_lists(&self) -> [&[Lit]; 5]
+        ensures { map (λ ls. ls.now) result ≡ literal_lists self.now }
+    {
+        [
+            self.outputs.as_slice(),
+            self.bad.as_slice(),
+            self.constraints.as_slice(),
+            self.justice.literals.as_slice(),
+            self.fairness.as_slice(),
+        ]
+    }
+
+    /// Whether the sizes of the justice properties are those of the literals that there are.
+    fn has_sizes_of_justice(&self) -> bool
+        ensures { IsTrue result ↔ ((length self.now.justice.sizes ≤ LARGEST)
+            × (sum self.now.justice.sizes ≡ length self.now.justice.literals)) }
+    {
+        is_short_enough(&self.justice.sizes)
+            && sum_of_sizes(self.justice.sizes.as_slice()) == self.justice.literals.len() as u64
+    }
+
     /// Whether the largest index and all counts are small enough for a file.
     fn is_within_limits(&self) -> bool
         ensures { IsTrue result ↔ IsWithinLimits self.now }
@@ -148,8 +211,17 @@ impl Circuit {
         self.max_var <= LARGEST
             && is_short_enough(&self.inputs)
             && is_short_enough(&self.latches)
-            && is_short_enough(&self.outputs)
             && is_short_enough(&self.gates)
+            && are_short_enough(&self.literal_lists())
+            && self.has_sizes_of_justice()
+    }
+
+    /// Whether each literal of the lists beside latches and gates is in range.
+    fn has_lists_in_range(&self) -> bool
+        ensures { IsTrue result ↔ AllByRecursion (AllByRecursion (IsLiteralUpTo self.now.max_var))
+            (literal_lists self.now) }
+    {
+        are_lists_up_to(self.max_var, &self.literal_lists())
     }
 
     /// Whether each variable that is defined, and each literal that is used, is in range.
@@ -158,8 +230,8 @@ impl Circuit {
     {
         are_in_range(self.max_var, &self.inputs)
             && are_in_range(self.max_var, &self.latches)
-            && are_in_range(self.max_var, &self.outputs)
             && are_in_range(self.max_var, &self.gates)
+            && self.has_lists_in_range()
     }
 
     /// Whether the symbol names something that is there.
@@ -170,6 +242,10 @@ impl Circuit {
             Kind::Input => self.inputs.len(),
             Kind::Latch => self.latches.len(),
             Kind::Output => self.outputs.len(),
+            Kind::Bad => self.bad.len(),
+            Kind::Constraint => self.constraints.len(),
+            Kind::Justice => self.justice.sizes.len(),
+            Kind::Fairness => self.fairness.len(),
         };
         (symbol.position as usize) < count
     }

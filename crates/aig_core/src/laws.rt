@@ -1,5 +1,6 @@
 //! Laws: facts about the definitions alone, each the contract of a function with an empty body.
 ghost use Rattle.aig_core.specs.Laws.{FaultlessIsWellFormed, DefinitionsFit, WellFormedIsInForm};
+ghost use Rattle.aig_core.specs.Laws.{JusticeIsOfLists, ListsAreJustice};
 ghost use Rattle.aig_core.specs.Laws.{GatesHaveAnOrder, GatesHaveOneOrder};
 ghost use Rattle.aig_core.specs.Laws.{RankExactlyWhereAllAreOrdered, OrderedExactlyWhereItEnds};
 ghost use Rattle.aig_core.specs.Laws.{RepeatsAreFound, NoneRepeatsWhereDistinct};
@@ -19,6 +20,12 @@ pub fn definitions_fit()
 /// A well-formed circuit keeps to its form, so each of its literals is in range.
 pub fn well_formed_is_in_form()
     ensures { WellFormedIsInForm }
+{}
+
+/// Justice properties whose sizes are those of the literals that there are, are the same as a list of lists of literals.
+pub fn justice_is_a_list_of_lists()
+    ensures of_lists { JusticeIsOfLists }
+    ensures of_justice { ListsAreJustice }
 {}
 
 /// The gates of a circuit have exactly one least ready order.

@@ -17,13 +17,15 @@ mod ordered;
 mod var_map;
 mod var_set;
 
-pub use crate::checked::{Checked, check, copy_comment, copy_symbols, is_defined_once, same};
-pub use crate::circuit::{Circuit, Gate, Kind, LARGEST, Latch, Symbol};
+pub use crate::checked::{
+    Checked, check, copy_comment, copy_justice, copy_symbols, is_defined_once, same,
+};
+pub use crate::circuit::{Circuit, Gate, Justice, Kind, LARGEST, Latch, Reset, Symbol};
 pub use crate::fault::{CheckFault, OutOfMemory};
 pub use crate::least_ready::gate_order;
 pub use crate::listing::Listing;
 pub use crate::literal::{Lit, Var};
-pub use crate::names::Names;
+pub use crate::names::{NamedCounts, Names};
 pub use crate::order::Order;
 pub use crate::ordered::{Ordered, is_in_binary_order};
 pub use crate::var_map::VarMap;

@@ -1,5 +1,6 @@
 //! What symbols name.
 ghost use Rattle.std.specs.Prelude.{◌≡◌, IfOk, OnOk, OnErr, not};
+ghost use Rattle.std.specs.FinSet as set;
 ghost use Rattle.aig_core.specs.Names.{is_named, nothing_named, with_name};
 
 use crate::circuit::Kind;
@@ -7,26 +8,50 @@ use crate::literal::Var;
 use crate::var_set::VarSet;
 use std::alloc::{AllocError, Global};
 
-/// The inputs, latches and outputs that have a name, by their positions.
+/// How many things of each kind a circuit has.
+#[derive(Clone, Copy)]
+pub struct NamedCounts {
+    pub inputs: u32,
+    pub latches: u32,
+    pub outputs: u32,
+    pub bad: u32,
+    pub constraints: u32,
+    pub justice: u32,
+    pub fairness: u32,
+}
+
+/// What has a name, by its kind and its position.
 #[derive(Drop)]
 pub struct Names {
     inputs: VarSet,
     latches: VarSet,
     outputs: VarSet,
+    bad: VarSet,
+    constraints: VarSet,
+    justice: VarSet,
+    fairness: VarSet,
+}
+
+/// No position yet, of so many.
+fn no_positions(alloc: Global, count: u32) -> Result<VarSet, AllocError>
+    ensures { IfOk result (λ positions. positions ≡ set.empty) }
+{
+    VarSet::new(alloc, count as usize, count)
 }
 
 impl Names {
-    /// None yet, for a circuit with so many inputs, latches and outputs. It takes a bit for each of them.
-    pub fn new(alloc: Global, inputs: u32, latches: u32, outputs: u32) -> Result<Self, AllocError>
+    /// None yet, for a circuit with so many things of each kind. It takes a bit for each of them.
+    pub fn new(alloc: Global, counts: NamedCounts) -> Result<Self, AllocError>
         ensures { IfOk result (λ names. names ≡ nothing_named) }
     {
-        let inputs = VarSet::new(alloc, inputs as usize, inputs)?;
-        let latches = VarSet::new(alloc, latches as usize, latches)?;
-        let outputs = VarSet::new(alloc, outputs as usize, outputs)?;
         Ok(Names {
-            inputs,
-            latches,
-            outputs,
+            inputs: no_positions(alloc, counts.inputs)?,
+            latches: no_positions(alloc, counts.latches)?,
+            outputs: no_positions(alloc, counts.outputs)?,
+            bad: no_positions(alloc, counts.bad)?,
+            constraints: no_positions(alloc, counts.constraints)?,
+            justice: no_positions(alloc, counts.justice)?,
+            fairness: no_positions(alloc, counts.fairness)?,
         })
     }
 
@@ -41,6 +66,10 @@ impl Names {
             Kind::Input => self.inputs.insert(named),
             Kind::Latch => self.latches.insert(named),
             Kind::Output => self.outputs.insert(named),
+            Kind::Bad => self.bad.insert(named),
+            Kind::Constraint => self.constraints.insert(named),
+            Kind::Justice => self.justice.insert(named),
+            Kind::Fairness => self.fairness.insert(named),
         }
     }
 }

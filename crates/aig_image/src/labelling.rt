@@ -1,9 +1,9 @@
 //! Circuits by other variables.
 ghost use Rattle.std.specs.Prelude.{◌≡◌, ℕ, map};
 ghost use Rattle.aig_image.specs.Relabelled.{FitIntoLiterals, relabelled};
-ghost use Rattle.aig_image.specs.Relabelled.{relabelled_literal, relabelled_latch, relabelled_gate};
+ghost use Rattle.aig_image.specs.Relabelled.{relabelled_literal, relabelled_latch, relabelled_gate, relabelled_justice};
 
-use aig_core::{Circuit, Gate, Latch, Listing, Lit, Var};
+use aig_core::{Circuit, Gate, Justice, Latch, Listing, Lit, Var};
 
 /// What has a label for each variable: another variable.
 pub trait Labels {
@@ -53,6 +53,7 @@ impl NamesVariables for Latch {
         Latch {
             var: self.var.relabel(labels),
             next: self.next.relabel(labels),
+            reset: self.reset,
         }
     }
 }
@@ -82,6 +83,17 @@ fn relabel_all<L: Labels, T: NamesVariables>(labels: &L, items: Listing<T>) -> L
     Listing::from_vec(found)
 }
 
+/// Justice properties by the labels of their variables, in the same memory: as many, of the same sizes.
+fn relabel_justice<L: Labels>(labels: &L, justice: Justice) -> Justice
+    requires { FitIntoLiterals (L.label labels.now) }
+    ensures { result ≡ relabelled_justice (L.label labels.now) justice }
+{
+    Justice {
+        sizes: justice.sizes,
+        literals: relabel_all(labels, justice.literals),
+    }
+}
+
 /// The circuit by the labels of its variables, in the same memory.
 pub fn relabel<L: Labels>(labels: &L, circuit: Circuit) -> Circuit
     requires { FitIntoLiterals (L.label labels.now) }
@@ -92,6 +104,10 @@ pub fn relabel<L: Labels>(labels: &L, circuit: Circuit) -> Circuit
         inputs: relabel_all(labels, circuit.inputs),
         latches: relabel_all(labels, circuit.latches),
         outputs: relabel_all(labels, circuit.outputs),
+        bad: relabel_all(labels, circuit.bad),
+        constraints: relabel_all(labels, circuit.constraints),
+        justice: relabel_justice(labels, circuit.justice),
+        fairness: relabel_all(labels, circuit.fairness),
         gates: relabel_all(labels, circuit.gates),
         symbols: circuit.symbols,
         comment: circuit.comment,

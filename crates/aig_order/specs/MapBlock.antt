@@ -9,7 +9,7 @@ use Rattle.aig_core.specs.declared.circuit.Latch.{Latch}
 use Rattle.aig_core.specs.declared.circuit.Gate.{Gate}
 use Rattle.aig_core.specs.declared.circuit.Circuit.{Circuit}
 use Rattle.aig_core.specs.Order.{IsLeastReadyOrder}
-use Rattle.aig_text.specs.AsciiText.{header_text, numbers_text}
+use Rattle.aig_text.specs.AsciiText.{more_numbers_text, numbers_text}
 use Rattle.aig_order.specs.declared.map_block.MappedGate.{MappedGate}
 use Rattle.aig_order.specs.declared.map_block.MapBlock.{MapBlock}
 use Rattle.aig_image.specs.Relabelled.{relabelled_gate}
@@ -41,9 +41,13 @@ map_word = codes "aigmap"
 abbrev pub last_line : List ℕ
 last_line = codes "aigmap end\n"
 
+-- the first line: the word, and each of its numbers after a space, a zero at the end too
+abbrev pub first_line_text : List ℕ → List ℕ
+first_line_text ns = map_word ++ more_numbers_text ns
+
 -- the text of a block, in canonical numbers and single spaces
 unfoldable pub block_text : MapBlock → List ℕ
-block_text b = header_text map_word (first_row b) ++ (flat_map numbers_text (rows_of b) ++ last_line)
+block_text b = first_line_text (first_row b) ++ (flat_map numbers_text (rows_of b) ++ last_line)
 
 -- What is recorded of a gate whose variables become others by f. Its place is how far its new variable is from that of
 -- the first gate, and its operands are exchanged where the smaller one would come first.

@@ -1,10 +1,10 @@
 //! The text of a map block.
 ghost use Rattle.std.specs.Prelude.{◌≡◌, ◌+◌, ◌++◌, ◌∷◌, ◌≤◌, [], length, decimal, IfOk, OnOk};
 ghost use Rattle.std.specs.List.{flat_map};
-ghost use Rattle.aig_text.specs.AsciiText.{spaced_number, more_numbers_text, numbers_text, header_text};
+ghost use Rattle.aig_text.specs.AsciiText.{spaced_number, more_numbers_text, numbers_text};
 ghost use Rattle.aig_image.specs.Parts.Numbers.{number_of};
 ghost use Rattle.aig_image.specs.Relabelled.{FitIntoLiterals};
-ghost use Rattle.aig_order.specs.MapBlock.{block_by, block_text, gate_row, map_word, mapped_comment, mapped_gate};
+ghost use Rattle.aig_order.specs.MapBlock.{block_by, block_text, first_line_text, gate_row, mapped_comment, mapped_gate};
 ghost use Rattle.aig_order.specs.MapBlock.{variable_row};
 ghost use Rattle.aig_order.specs.Parts.Recorded.{counted_row};
 
@@ -64,7 +64,7 @@ fn put_row(text: &mut Vec<u8>, first: u64, others: &[u64]) -> Result<(), OutOfMe
 
 /// Adds the first line.
 fn put_first_line(text: &mut Vec<u8>, circuit: &Circuit) -> Result<(), OutOfMemory>
-    ensures { OnOk result (text.new.items ≡ text.old.items ++ header_text map_word (counted_row circuit.now)) }
+    ensures { OnOk result (text.new.items ≡ text.old.items ++ first_line_text (counted_row circuit.now)) }
 {
     let row = [
         VERSION,

@@ -13,7 +13,7 @@ ghost use Rattle.aig_order.specs.Undone.{comment_behind, source_variables, undon
 
 use crate::fault::MapFault;
 use crate::map_block::{MapBlock, MappedGate};
-use aig_core::{Circuit, Gate, Listing, OutOfMemory, Var, copy_symbols};
+use aig_core::{Circuit, Gate, Listing, OutOfMemory, Var, copy_justice, copy_symbols};
 use aig_image::{Labels, relabel};
 use std::alloc::Global;
 
@@ -150,6 +150,10 @@ fn in_order_had(
         inputs: image.inputs.copy(alloc)?,
         latches: image.latches.copy(alloc)?,
         outputs: image.outputs.copy(alloc)?,
+        bad: image.bad.copy(alloc)?,
+        constraints: image.constraints.copy(alloc)?,
+        justice: copy_justice(alloc, &image.justice)?,
+        fairness: image.fairness.copy(alloc)?,
         gates: gates_had(alloc, image.gates.as_slice(), block.gates.as_slice())?,
         symbols: copy_symbols(alloc, &image.symbols)?,
         comment: source_comment(alloc, block, comment)?,

@@ -1,3 +1,4 @@
+pub mod Shortened
 pub mod Numbers
 pub mod Lines
 pub mod Text

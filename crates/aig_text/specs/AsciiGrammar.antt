@@ -1,10 +1,10 @@
 -- Which texts are ASCII AIGER files of which circuits (AIGER report, with the lenient spellings and the limits of this
 -- project's profile). A relation that knows of no reading from left to right.
 use Rattle.std.specs.Prelude.{◌≡◌, ◌≤◌, ◌+◌, ℕ, List, ◌∷◌, ◌++◌, length}
-use Rattle.std.specs.List.{AllByRecursion, AllZip}
+use Rattle.std.specs.List.{AllByRecursion, AllZip, sum}
 use Rattle.aig_core.specs.declared.circuit.Circuit.{Circuit}
 use Rattle.aig_core.specs.Wellformed.{IsWellFormed}
-use Rattle.aig_text.specs.declared.header_line.TheConstants.{HEADER_NUMBERS}
+use Rattle.aig_text.specs.declared.header_line.TheConstants.{HEADER_LEAST}
 use Rattle.aig_text.specs.Lines.{Line, lines_of}
 use Rattle.aig_text.specs.Spelling.{IsNumberLine, IsHeaderLine}
 use Rattle.aig_text.specs.Tail.{AreTailLines}
@@ -20,10 +20,11 @@ pub record IsAsciiText (text : List ℕ) (limit : ℕ) (c : Circuit) : Type 0 wh
   pub tail : List Line
   -- The first line is the header, the next ones are the rows of the circuit, and the others are its tail.
   pub lines : lines_of text ≡ header ∷ (numbered ++ tail)
-  pub is_header : IsHeaderLine ascii_word HEADER_NUMBERS header (header_row c)
+  pub is_header : IsHeaderLine ascii_word HEADER_LEAST header (header_row c)
   pub are_rows : AllZip IsRowLine numbered (rows_of c)
   pub is_tail : AreTailLines tail c
-  -- The largest index and the counts are within the limit, and the definitions fit below the largest index.
+  -- The largest index, the counts and the sizes are within the limit, and the definitions fit below the largest index.
   pub limited : AllByRecursion (λ n. n ≤ limit) (header_row c)
+  pub sizes_limited : sum c.justice.sizes ≤ limit
   pub counted : length c.inputs + length c.latches + length c.gates ≤ c.max_var
   pub well_formed : IsWellFormed c

@@ -1,9 +1,11 @@
 -- The canonical ASCII text of a circuit (this project's profile): canonical numbers, single spaces, a line feed after
 -- each line.
-use Rattle.std.specs.Prelude.{ℕ, List, [], ◌∷◌, ◌++◌, Option, None, Some, codes, decimal}
+use Rattle.std.specs.Prelude.{◌-◌, ◌==◌, ◌&&◌, ℕ, List, [], ◌∷◌, ◌++◌, Option, None, Some, codes, decimal}
+use Rattle.std.specs.Prelude.{if◌then◌else◌}
 use Rattle.std.specs.List.{flat_map}
 use Rattle.aig_core.specs.declared.circuit.Symbol.{Symbol}
 use Rattle.aig_core.specs.declared.circuit.Circuit.{Circuit}
+use Rattle.aig_text.specs.declared.header_line.TheConstants.{HEADER_LEAST}
 pub use Rattle.aig_text.specs.Tail.{kind_letter}
 use Rattle.aig_text.specs.Rows.{ascii_word, header_row, rows_of, Row}
 
@@ -20,8 +22,18 @@ abbrev pub numbers_text : List ℕ → List ℕ
 numbers_text [] = codes "\n"
 numbers_text (n ∷ ns) = decimal n ++ more_numbers_text ns
 
+-- a number before others that are written; a zero that would stand last, where none needs to, is left out
+abbrev pub number_before : ℕ → ℕ → List ℕ → List ℕ
+number_before least n [] = if (least == 0) && (n == 0) then [] else n ∷ []
+number_before least n (m ∷ ms) = n ∷ m ∷ ms
+
+-- the numbers that are written of these: all up to the last one that is not 0, and at least so many
+abbrev pub shortened : ℕ → List ℕ → List ℕ
+shortened least [] = []
+shortened least (n ∷ ns) = number_before least n (shortened (least - 1) ns)
+
 abbrev pub header_text : List ℕ → List ℕ → List ℕ
-header_text word ns = word ++ more_numbers_text ns
+header_text word ns = word ++ more_numbers_text (shortened HEADER_LEAST ns)
 
 abbrev pub name_text : List ℕ → List ℕ
 name_text name = codes " " ++ (name ++ codes "\n")
@@ -37,8 +49,13 @@ comment_text (Some bytes) = codes "c\n" ++ bytes
 abbrev pub tail_text : Circuit → List ℕ
 tail_text c = flat_map symbol_text c.symbols ++ comment_text c.comment
 
+-- the line of a row, without the zeros that its form lets be left out
+abbrev pub row_text : ℕ → List ℕ → List ℕ
+row_text least [] = numbers_text []
+row_text least (n ∷ ns) = numbers_text (n ∷ shortened least ns)
+
 abbrev pub line_text : Row → List ℕ
-line_text row = numbers_text row.numbers
+line_text row = row_text row.form.least row.numbers
 
 unfoldable pub ascii_text : Circuit → List ℕ
 ascii_text c = header_text ascii_word (header_row c) ++ (flat_map line_text (rows_of c) ++ tail_text c)

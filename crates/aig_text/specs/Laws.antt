@@ -9,7 +9,7 @@ use Rattle.aig_core.specs.declared.names.Names.{Names}
 use Rattle.aig_core.specs.Wellformed.{IsWellFormed}
 use Rattle.aig_text.specs.declared.fault.ReadKind.{ReadKind}
 use Rattle.aig_text.specs.declared.fault.ReadKind.TheVariants as kinds
-use Rattle.aig_text.specs.declared.header_line.TheConstants.{HEADER_NUMBERS}
+use Rattle.aig_text.specs.declared.header_line.TheConstants.{HEADER_LEAST, HEADER_NUMBERS}
 use Rattle.aig_text.specs.Lines.{Line, lines_of, bytes_of}
 use Rattle.aig_text.specs.Spelling.{IsHeaderLine}
 use Rattle.aig_text.specs.Rows.{Header, Form, roles_of, row}
@@ -77,14 +77,14 @@ IsOneWord word = AllByRecursion (λ b. ends_word b ≡ false) word
 
 -- the line holds these numbers as a header that begins with the word, and none is missing
 abbrev pub HoldsHeader : List ℕ → Line → List ℕ → Type 0
-HoldsHeader word l ns = IsHeaderLine word HEADER_NUMBERS l ns × (length ns ≡ HEADER_NUMBERS)
+HoldsHeader word l ns = IsHeaderLine word HEADER_LEAST l ns × (length ns ≡ HEADER_NUMBERS)
 
 -- from left to right a first word and the numbers of a header are read exactly where the line holds that header
 abbrev pub HeadersReadExactly : Type 0
 HeadersReadExactly =
     (word : List ℕ) (l : Line) (ns : List ℕ) → IsOneWord word
     → ((begins_with_word word l.text ≡ true)
-    × (more_numbers_at l.ended HEADER_NUMBERS HEADER_NUMBERS (drop (length word) l.text) ≡ Some ns))
+    × (more_numbers_at l.ended HEADER_LEAST HEADER_NUMBERS (drop (length word) l.text) ≡ Some ns))
     ↔ HoldsHeader word l ns
 
 -- from left to right a symbol is read exactly where the line names it
@@ -101,12 +101,13 @@ pub record IsJudged {A B : Type 0} (Holds : A → Type 0) (judge : A → Result 
   pub held : (x : A) → Holds x → read ≡ judge x
   pub empty : ¬ ((x : A) × Holds x) → read ≡ Err otherwise
 
--- where a row is due: a line without one is a bad line; else its numbers are judged, and nothing else of the line
+-- where a row is due: a line without one is a bad line; else its numbers are judged, beside what is carried, and nothing
+-- else of the line
 abbrev pub RowsAreJudged : Type 0
 RowsAreJudged =
-    (form : Form) (max_var : ℕ) (l : Line) → CanBeMet form
-    → IsJudged (HoldsRow form l) (λ ns. unless_wrong ns (fault_in_row max_var (roles_of form) ns)) kinds.BadLine
-    (row_of form max_var l)
+    (form : Form) (bound carried : ℕ) (l : Line) → CanBeMet form
+    → IsJudged (HoldsRow form l) (λ ns. unless_wrong ns (fault_in_row form bound carried ns)) kinds.BadLine
+    (row_of form bound carried l)
 
 -- where a header is due: a line whose first word is another is of no such file; one without the numbers of a header
 -- has a bad one; else its numbers are judged, and nothing else of the line

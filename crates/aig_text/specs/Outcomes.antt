@@ -1,7 +1,9 @@
 -- How what a function of the reader returned is compared with what is read: seen by a view, and unless memory was
 -- refused.
 use Rattle.std.specs.Prelude.{◌≡◌, ◌+◌, ◌*◌, ◌≤◌, ◌++◌, ◌⊎◌, ℕ, List, map, slice_index, Option, None, Some, Result}
-use Rattle.std.specs.Prelude.{Ok, Err}
+use Rattle.std.specs.Prelude.{Ok, Err, get_or, ⊤}
+use Rattle.aig_text.specs.declared.row.Role.TheVariants as roles
+use Rattle.aig_text.specs.Rows.{Role, Form}
 use Rattle.aig_text.specs.declared.fault.ReadFault.{ReadFault}
 use Rattle.aig_text.specs.Reading.{want_of_memory, Found}
 
@@ -30,6 +32,15 @@ abbrev pub rows_meant : {A : Type 0} → (List ℕ → A) → List A → Found (
 rows_meant tell found (Ok x) = Ok (found ++ map tell x.0, x.1)
 rows_meant tell found (Err e) = Err e
 
--- a number and others are all literals over variables up to this one, also where a number is left out
-abbrev pub AreLiterals : ℕ → ℕ → List ℕ → Type 0
-AreLiterals max_var first others = (first ≤ 2 * max_var + 1) × ((k : ℕ) → slice_index others k ≤ 2 * max_var + 1)
+-- a number is not above the largest literal, unless it is a reset
+abbrev pub IsBounded : ℕ → Role → ℕ → Type 0
+IsBounded bound roles.Definition n = n ≤ 2 * bound + 1
+IsBounded bound roles.Literal n = n ≤ 2 * bound + 1
+IsBounded bound roles.Reset n = ⊤
+IsBounded bound roles.Size n = n ≤ 2 * bound + 1
+
+-- no number of a row is above the largest literal, unless it is a reset, also where a number is left out
+abbrev pub AreBounded : Form → ℕ → ℕ → List ℕ → Type 0
+AreBounded form bound first others =
+    IsBounded bound form.first first
+    × ((k : ℕ) → IsBounded bound (get_or form.others k roles.Reset) (slice_index others k))

@@ -2,3 +2,4 @@
 -- files.
 pub mod Kept
 pub mod Plain
+pub mod Right

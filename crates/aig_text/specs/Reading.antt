@@ -1,6 +1,6 @@
 -- What a text is read as, or its first fault (this project's profile): the first line that is not right for its
 -- place, with the first kind that applies; only where every line is right, the first structural fault of the circuit.
-use Rattle.std.specs.Prelude.{◌≡◌, ◌+◌, ◌*◌, ◌%◌, ◌==◌, ◌||◌, ◌⊎◌, ◌++◌, ℕ, zero, suc, List, [], ◌∷◌, min, drop}
+use Rattle.std.specs.Prelude.{◌≡◌, ◌+◌, ◌*◌, ◌%◌, ◌==◌, ◌||◌, ◌⊎◌, ◌++◌, ℕ, not, zero, suc, List, [], ◌∷◌, min, drop}
 use Rattle.std.specs.Prelude.{length, slice_index, Bool, false, nat_lt, nat_le, Option, None, Some, Result, Ok, Err}
 use Rattle.std.specs.Prelude.{if◌then◌else◌}
 use Rattle.std.specs.List.{list_any, before_first, zip}
@@ -14,7 +14,7 @@ use Rattle.aig_text.specs.declared.fault.Place.TheVariants as places
 use Rattle.aig_text.specs.declared.fault.ReadKind.{ReadKind}
 use Rattle.aig_text.specs.declared.fault.ReadKind.TheVariants as kinds
 use Rattle.aig_text.specs.declared.fault.ReadFault.{ReadFault}
-use Rattle.aig_text.specs.declared.header_line.TheConstants.{HEADER_NUMBERS}
+use Rattle.aig_text.specs.declared.header_line.TheConstants.{HEADER_LEAST, HEADER_NUMBERS}
 use Rattle.aig_core.specs.declared.circuit.Kind.{Kind}
 use Rattle.aig_core.specs.declared.circuit.Kind.TheVariants as named
 use Rattle.aig_core.specs.declared.circuit.Symbol.{Symbol}
@@ -50,13 +50,19 @@ abbrev pub first_word_is : List ℕ → List Line → Bool
 first_word_is word [] = false
 first_word_is word (l ∷ ls) = begins_with_word word l.text
 
-abbrev pub header_of_row : List ℕ → Header
-header_of_row ns = record {
+-- a header of these numbers, in a file that is read within this limit
+abbrev pub header_of_row : ℕ → List ℕ → Header
+header_of_row limit ns = record {
   max_var = slice_index ns 0;
   inputs = slice_index ns 1;
   latches = slice_index ns 2;
   outputs = slice_index ns 3;
   gates = slice_index ns 4;
+  bad = slice_index ns 5;
+  constraints = slice_index ns 6;
+  justice = slice_index ns 7;
+  fairness = slice_index ns 8;
+  limit = limit;
 }
 
 -- the header of its numbers, where they are within the limit and the definitions fit below the largest index
@@ -65,14 +71,14 @@ header_within limit None = Err kinds.BadHeader
 header_within limit (Some ns) =
     if list_any (λ n. nat_lt limit n) ns then Err kinds.TooLarge
     else if nat_lt (slice_index ns 0) (slice_index ns 1 + slice_index ns 2 + slice_index ns 4) then Err kinds.BadHeader
-    else Ok (header_of_row ns)
+    else Ok (header_of_row limit ns)
 
 -- the header that a line tells: the word, then its numbers
 unfoldable pub header_of : List ℕ → ℕ → Line → Result Header ReadKind
 header_of word limit l =
     if begins_with_word word l.text
     then header_within (min limit LARGEST)
-    (more_numbers_at l.ended HEADER_NUMBERS HEADER_NUMBERS (drop (length word) l.text))
+    (more_numbers_at l.ended HEADER_LEAST HEADER_NUMBERS (drop (length word) l.text))
     else Err kinds.NotAiger
 
 -- a number that cannot be a definition: an odd one or a constant
@@ -83,21 +89,58 @@ is_no_variable n = (n % 2 == 1) || nat_lt n 2
 abbrev pub misdefines : Role → ℕ → Bool
 misdefines roles.Definition n = is_no_variable n
 misdefines roles.Literal n = false
+misdefines roles.Reset n = false
+misdefines roles.Size n = false
 
--- a number above what may stand there
+-- a definition or a literal above the largest index
 abbrev pub exceeds : ℕ → Role → ℕ → Bool
 exceeds max_var roles.Definition n = nat_lt (2 * max_var + 1) n
 exceeds max_var roles.Literal n = nat_lt (2 * max_var + 1) n
+exceeds max_var roles.Reset n = false
+exceeds max_var roles.Size n = false
+
+-- a reset that is neither a constant nor the latch's own literal
+abbrev pub misresets : ℕ → Role → ℕ → Bool
+misresets own roles.Definition n = false
+misresets own roles.Literal n = false
+misresets own roles.Reset n = not (nat_lt n 2 || (n == own))
+misresets own roles.Size n = false
+
+-- a size that makes the sum of those before it too large
+abbrev pub oversizes : ℕ → ℕ → Role → ℕ → Bool
+oversizes limit before roles.Definition n = false
+oversizes limit before roles.Literal n = false
+oversizes limit before roles.Reset n = false
+oversizes limit before roles.Size n = nat_lt limit (before + n)
+
+-- the literal of the variable that a row is for: its first number where that is the definition, or else the literal
+-- that is carried from row to row
+abbrev pub own_literal : Role → ℕ → ℕ → ℕ
+own_literal roles.Definition carried n = n
+own_literal roles.Literal carried n = carried
+own_literal roles.Reset carried n = carried
+own_literal roles.Size carried n = carried
+
+-- what is carried to the next row: of sizes their sum, and where lines do not tell their variable, the literal of the
+-- next variable
+abbrev pub carried_on : Role → ℕ → ℕ → ℕ
+carried_on roles.Definition carried n = carried
+carried_on roles.Literal carried n = carried + 2
+carried_on roles.Reset carried n = carried + 2
+carried_on roles.Size carried n = carried + n
 
 -- one of the numbers of a row is such in its role
 abbrev pub any_number : (Role → ℕ → Bool) → List Role → List ℕ → Bool
 any_number test rs ns = list_any (λ p. test p.0 p.1) (zip rs ns)
 
--- what is wrong with the numbers of a row
-abbrev pub fault_in_row : ℕ → List Role → List ℕ → Option ReadKind
-fault_in_row max_var rs ns =
-    if any_number misdefines rs ns then Some kinds.NotVariable
-    else if any_number (exceeds max_var) rs ns then Some kinds.LiteralRange
+-- what is wrong with the numbers of a row, where its literals or the sum of sizes may go up to the bound
+abbrev pub fault_in_row : Form → ℕ → ℕ → List ℕ → Option ReadKind
+fault_in_row form bound carried ns =
+    if any_number misdefines (roles_of form) ns then Some kinds.NotVariable
+    else if any_number (exceeds bound) (roles_of form) ns then Some kinds.LiteralRange
+    else if any_number (misresets (own_literal form.first carried (slice_index ns 0))) (roles_of form) ns
+    then Some kinds.BadReset
+    else if any_number (oversizes bound carried) (roles_of form) ns then Some kinds.TooLarge
     else None
 
 abbrev pub unless_wrong : {A : Type 0} → A → Option ReadKind → Result A ReadKind
@@ -105,13 +148,14 @@ unless_wrong x None = Ok x
 unless_wrong x (Some kind) = Err kind
 
 -- the numbers of a row, where there is one
-unfoldable pub checked_row : Form → ℕ → Option (List ℕ) → Result (List ℕ) ReadKind
-checked_row form max_var None = Err kinds.BadLine
-checked_row form max_var (Some ns) = unless_wrong ns (fault_in_row max_var (roles_of form) ns)
+unfoldable pub checked_row : Form → ℕ → ℕ → Option (List ℕ) → Result (List ℕ) ReadKind
+checked_row form bound carried None = Err kinds.BadLine
+checked_row form bound carried (Some ns) = unless_wrong ns (fault_in_row form bound carried ns)
 
 -- the row that a line tells
-unfoldable pub row_of : Form → ℕ → Line → Result (List ℕ) ReadKind
-row_of form max_var l = checked_row form max_var (numbers_at l.ended form.least (length form.others) l.text)
+unfoldable pub row_of : Form → ℕ → ℕ → Line → Result (List ℕ) ReadKind
+row_of form bound carried l =
+    checked_row form bound carried (numbers_at l.ended form.least (length form.others) l.text)
 
 -- what is found in the lines ahead, and what is ahead behind those
 abbrev pub Found : Type 0 → Type 0
@@ -125,21 +169,21 @@ line_found missing tell n (l ∷ ls) = do
   Ok (found, ahead (n + 1) ls)
 
 -- the row of the next line
-abbrev pub row_at : Form → ℕ → Ahead → Found (List ℕ)
-row_at form max_var at = line_found kinds.Truncated (row_of form max_var) at.number at.lines
+abbrev pub row_at : Form → ℕ → ℕ → Ahead → Found (List ℕ)
+row_at form bound carried at = line_found kinds.Truncated (row_of form bound carried) at.number at.lines
 
 -- so many rows
-unfoldable pub rows_at : Form → ℕ → ℕ → Ahead → Found (List (List ℕ))
-rows_at form max_var zero at = Ok ([], at)
-rows_at form max_var (suc count) at = do
-  first ← row_at form max_var at
-  others ← rows_at form max_var count first.1
+unfoldable pub rows_at : Form → ℕ → ℕ → ℕ → Ahead → Found (List (List ℕ))
+rows_at form bound carried zero at = Ok ([], at)
+rows_at form bound carried (suc count) at = do
+  first ← row_at form bound carried at
+  others ← rows_at form bound (carried_on form.first carried (slice_index first.0 0)) count first.1
   Ok (first.0 ∷ others.0, others.1)
 
 -- the circuit with the rows of a section, of all sections
 abbrev pub section_at : Listed → Header → Circuit → Ahead → Found Circuit
 section_at listed h c at = do
-  found ← rows_at listed.form h.max_var (listed.count h c) at
+  found ← rows_at listed.form (listed.bound h) (listed.start h c) (listed.count h c) at
   Ok (listed.with_rows h found.0 c, found.1)
 
 unfoldable pub sections_at : (Section → Listed) → Header → List Section → Circuit → Ahead → Found Circuit
@@ -155,6 +199,10 @@ empty_circuit max_var = record {
   inputs = [];
   latches = [];
   outputs = [];
+  bad = [];
+  constraints = [];
+  justice = record { sizes = []; literals = [] };
+  fairness = [];
   gates = [];
   symbols = [];
   comment = None;
@@ -165,6 +213,10 @@ abbrev pub count_named : Header → Kind → ℕ
 count_named h named.Input = h.inputs
 count_named h named.Latch = h.latches
 count_named h named.Output = h.outputs
+count_named h named.Bad = h.bad
+count_named h named.Constraint = h.constraints
+count_named h named.Justice = h.justice
+count_named h named.Fairness = h.fairness
 
 -- what is wrong with a symbol where these things are named before
 abbrev pub fault_in_symbol : Header → Names → Symbol → Option ReadKind

@@ -3,7 +3,8 @@ use Rattle.std.specs.Prelude.{◌-◌, ◌==◌, ◌&&◌, ◌||◌, ℕ, zero, 
 use Rattle.std.specs.Prelude.{Bool, false, Option, None, Some, if◌then◌else◌}
 use Rattle.std.specs.List.{prefix_len}
 use Rattle.aig_core.specs.declared.circuit.Kind.{Kind}
-use Rattle.aig_core.specs.declared.circuit.Kind.TheVariants.{Input, Latch, Output}
+use Rattle.aig_core.specs.declared.circuit.Kind.TheVariants.{Input, Latch, Output, Bad, Constraint, Justice}
+use Rattle.aig_core.specs.declared.circuit.Kind.TheVariants.{Fairness}
 use Rattle.aig_core.specs.declared.circuit.Symbol.{Symbol}
 use Rattle.aig_text.specs.Lines.{Line}
 use Rattle.aig_text.specs.Spelling.{is_digit, is_space, value_of, zeros}
@@ -47,7 +48,10 @@ numbers_at ended least most bytes = do
 
 -- what the letter at the front of a symbol line names
 abbrev pub kind_at : ℕ → Option Kind
-kind_at b = if b == 105 then Some Input else if b == 108 then Some Latch else if b == 111 then Some Output else None
+kind_at b =
+    if b == 105 then Some Input else if b == 108 then Some Latch else if b == 111 then Some Output
+    else if b == 98 then Some Bad else if b == 99 then Some Constraint else if b == 106 then Some Justice
+    else if b == 102 then Some Fairness else None
 
 -- what follows one space
 abbrev pub after_space : List ℕ → Option (List ℕ)

@@ -46,9 +46,10 @@ impl fmt::Display for Place {
 pub enum ReadKind {
     /// The first word is not the reader's.
     NotAiger,
-    /// The header has not exactly five numbers, or its counts do not fit below its largest index.
+    /// The header has not five to nine numbers, or its counts do not fit below its largest index.
     BadHeader,
-    /// The largest index or a count is above the limit.
+    /// The largest index or a count is above the limit, or the size of a justice property, or the sum of the sizes up to
+    /// it.
     TooLarge,
     /// The line does not have the numbers that its section asks for, or has other bytes.
     BadLine,
@@ -56,6 +57,8 @@ pub enum ReadKind {
     NotVariable,
     /// A literal above the largest index.
     LiteralRange,
+    /// The reset of a latch is neither 0 nor 1 nor the latch's own literal.
+    BadReset,
     /// The text ends where a line or a byte of a gate should follow.
     Truncated,
     /// A delta of a binary gate that has no end within five bytes, or a value of 2^32 or more; a first delta that is 0;
@@ -89,6 +92,7 @@ impl ReadKind {
             ReadKind::BadLine => Message::new("bad line"),
             ReadKind::NotVariable => Message::new("not a variable"),
             ReadKind::LiteralRange => Message::new("literal out of range"),
+            ReadKind::BadReset => Message::new("bad reset"),
             ReadKind::Truncated => Message::new("file ends too early"),
             ReadKind::BadDelta => Message::new("bad delta"),
             ReadKind::BadSymbol => Message::new("bad symbol line"),

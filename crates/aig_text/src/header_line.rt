@@ -14,10 +14,13 @@ use aig_core::LARGEST;
 /// The first word of an ASCII file.
 pub(crate) const ASCII_WORD: &[u8] = b"aag";
 
-/// How many numbers a header has.
-pub const HEADER_NUMBERS: usize = 5;
+/// How many numbers a header has at most.
+pub const HEADER_NUMBERS: usize = 9;
 
-/// The numbers of a header (AIGER report): the largest variable index and the counts.
+/// How many of them are never left out. A number that is left out is 0.
+pub const HEADER_LEAST: usize = 5;
+
+/// The numbers of a header (AIGER report, AIGER 1.9): the largest variable index and the counts.
 #[derive(Clone, Copy, Debug, PartialEq, Eq)]
 pub struct Header {
     /// The largest variable index.
@@ -30,6 +33,16 @@ pub struct Header {
     pub outputs: u32,
     /// How many AND gates.
     pub gates: u32,
+    /// How many bad states.
+    pub bad: u32,
+    /// How many invariant constraints.
+    pub constraints: u32,
+    /// How many justice properties.
+    pub justice: u32,
+    /// How many fairness constraints.
+    pub fairness: u32,
+    /// The limit within which the file is read: the sizes of its justice properties add up to so much at most.
+    pub limit: u32,
 }
 
 /// How long the word at the front of a line is.
@@ -54,12 +67,22 @@ pub(crate) fn begins_with_word(text: &[u8], word: &[u8]) -> bool
 #[tactic(auto, unfolding(crate::specs::Reading::header_within))]
 fn within(limit: u32, numbers: [u64; HEADER_NUMBERS]) -> Result<Header, ReadKind>
     ensures value { result ≡ header_within limit (Some numbers) }
-    ensures limited { IfOk result (λ h. h.max_var ≤ limit) }
+    ensures limited { IfOk result (λ h. (h.max_var ≤ limit) × (h.limit ≤ limit)) }
 {
     if any_above(u64::from(limit), &numbers) {
         return Err(ReadKind::TooLarge);
     }
-    let [max_var, inputs, latches, outputs, gates] = numbers;
+    let [
+        max_var,
+        inputs,
+        latches,
+        outputs,
+        gates,
+        bad,
+        constraints,
+        justice,
+        fairness,
+    ] = numbers;
     if max_var < inputs + latches + gates {
         return Err(ReadKind::BadHeader);
     }
@@ -69,6 +92,11 @@ fn within(limit: u32, numbers: [u64; HEADER_NUMBERS]) -> Result<Header, ReadKind
         latches: latches as u32,
         outputs: outputs as u32,
         gates: gates as u32,
+        bad: bad as u32,
+        constraints: constraints as u32,
+        justice: justice as u32,
+        fairness: fairness as u32,
+        limit,
     })
 }
 
@@ -76,13 +104,13 @@ fn within(limit: u32, numbers: [u64; HEADER_NUMBERS]) -> Result<Header, ReadKind
 #[tactic(auto, unfolding(crate::specs::Reading::header_of))]
 pub(crate) fn read_header(word: &[u8], line: Line, limits: Limits) -> Result<Header, ReadKind>
     ensures value { result ≡ header_of word.now limits.max_var (line_of line.entry.text.now line.entry.ended) }
-    ensures limited { IfOk result (λ h. h.max_var ≤ largest_index) }
+    ensures limited { IfOk result (λ h. (h.max_var ≤ largest_index) × (h.limit ≤ largest_index)) }
 {
     if !begins_with_word(line.text, word) {
         return Err(ReadKind::NotAiger);
     }
     let (_, rest) = line.text.split_at(word.len());
-    match more_numbers::<HEADER_NUMBERS>(rest, line.ended, HEADER_NUMBERS) {
+    match more_numbers::<HEADER_NUMBERS>(rest, line.ended, HEADER_LEAST) {
         Some(numbers) => within(limits.max_var.min(LARGEST), numbers),
         None => Err(ReadKind::BadHeader),
     }

@@ -33,7 +33,8 @@ pub fn rows_read_exactly()
     ensures { RowsReadExactly }
 {}
 
-/// From left to right a first word and five numbers are read exactly where the line is a header that holds them.
+/// From left to right a first word and the numbers of a header are read exactly where the line is a header that holds
+/// them.
 pub fn headers_read_exactly()
     ensures { HeadersReadExactly }
 {}
@@ -53,8 +54,8 @@ pub fn rows_are_judged()
     ensures { RowsAreJudged }
 {}
 
-/// Where a header is due, a line with another first word is of no such file, one without five numbers has a bad header,
-/// and of any other the numbers alone are judged.
+/// Where a header is due, a line with another first word is of no such file, one without the numbers of a header has a
+/// bad header, and of any other the numbers alone are judged.
 pub fn headers_are_judged()
     ensures { HeadersAreJudged }
 {}

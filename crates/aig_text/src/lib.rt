@@ -17,15 +17,16 @@ mod word;
 mod writer;
 
 pub use crate::fault::{Place, ReadFault, ReadKind};
-pub use crate::header_line::{HEADER_NUMBERS, Header};
+pub use crate::header_line::{HEADER_LEAST, HEADER_NUMBERS, Header};
 pub use crate::limits::Limits;
 pub use crate::line::Cursor;
 pub use crate::message::Message;
 pub use crate::number::canonical_number;
-pub use crate::parts::{first_word_is, header, literals, numbers, tail};
+pub use crate::parts::{first_word_is, header, next_states, numbers, tail};
 pub use crate::reader::{empty_circuit, read_ascii};
-pub use crate::row::{Role, RowForm};
+pub use crate::row::{NextState, Role, RowForm};
 pub use crate::section::{SECTIONS, Section, read_section};
 pub use crate::writer::{
-    WriteFault, header_numbers, put_header, put_numbers, put_tail, write_ascii,
+    WriteFault, header_numbers, put_header, put_literal_sections, put_numbers, put_tail,
+    reset_number, write_ascii,
 };

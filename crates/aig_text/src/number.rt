@@ -1,11 +1,11 @@
 //! Numbers of any length, and lines of numbers.
 ghost use Rattle.std.specs.Prelude.{◌≡◌, ◌==◌, ◌&&◌, ◌+◌, ◌-◌, ◌*◌, ◌^◌, ◌<◌, ◌≤◌, ◌∷◌, false, length, nat_lt, take};
-ghost use Rattle.std.specs.Prelude.{IfSome};
+ghost use Rattle.std.specs.Prelude.{IfSome, slice_index};
 ghost use Rattle.std.specs.List.{list_any, prefix_len};
 ghost use Rattle.aig_text.specs.Spelling.{is_digit, is_space, value_of};
 ghost use Rattle.aig_text.specs.CanonicalNumber.{canonical_before, is_padded, number_before};
 ghost use Rattle.aig_text.specs.Scanning.{number_at, after_gap, is_line_end, more_numbers_at, numbers_at};
-ghost use Rattle.aig_text.specs.Parts.Plain.{BeginsWithNumber, EndsPlainly, stop};
+ghost use Rattle.aig_text.specs.Parts.Plain.{BeginsWithNumber, EndsPlainly};
 ghost use Rattle.aig_text.specs.Parts.Kept.{kept, kept_numbers, kept_first};
 ghost use Rattle.aig_text.specs.Outcomes.{Gives};
 
@@ -13,15 +13,19 @@ use crate::line::Line;
 use crate::word::{digits_of_word, first_word};
 use core::dec2flt::read_digits;
 
-/// Numbers from here on are all above each limit, and only whether they are odd is kept of them.
-const LARGE: u64 = 1 << 33;
+/// Numbers from here on are all above each limit and above each literal that is carried from row to row, and only
+/// whether they are odd is kept of them.
+const LARGE: u64 = 1 << 36;
+
+/// Canonical numbers from here on are all taken as this one.
+const FAR: u64 = 1 << 33;
 
 /// How many digits always spell a number of 64 bits.
 const LONGEST: usize = 18;
 
 /// What is kept of a number with one more digit.
 fn with_digit(value: u64, digit: u8) -> u64
-    requires value { value ≤ 2 ^ 33 + 1 }
+    requires value { value ≤ 2 ^ 36 + 1 }
     requires digit { digit < 10 }
     ensures { result ≡ kept (10 * value + digit) }
 {
@@ -137,88 +141,120 @@ pub(crate) fn numbers<const N: usize>(line: Line, least: usize) -> Option<(u64, 
     Some((first, others))
 }
 
-/// A number of at most 18 digits at the front, and what follows it.
+/// A number of at most 18 digits at the front, the byte behind it, and what follows that.
 #[inline(always)]
-pub(crate) fn plain_number(bytes: &[u8]) -> Option<(u64, &[u8])>
-    ensures { IfSome result (λ x. BeginsWithNumber bytes.now x.0 x.1.now) }
+fn plain_number(bytes: &[u8]) -> Option<(u64, u8, &[u8])>
+    ensures { IfSome result (λ x. BeginsWithNumber bytes.now x.0 (x.1 ∷ x.2.now)) }
 {
     let (end, value) = read_digits(bytes, 0, 0);
-    if end == 0 || end > LONGEST {
+    if end == 0 || end > LONGEST || end >= bytes.len() {
         return None;
     }
-    let (_, rest) = bytes.split_at(end);
-    Some((value, rest))
+    let behind = bytes[end];
+    let (_, rest) = bytes.split_at(end + 1);
+    Some((value, behind, rest))
 }
 
-/// What follows a byte at the front.
+/// How many digits stand at the front, where they are one to eight and nine bytes stand there.
 #[inline(always)]
-fn after_byte(bytes: &[u8], byte: u8) -> Option<&[u8]>
-    ensures { IfSome result (λ rest. bytes.now ≡ byte ∷ rest.now) }
-{
-    match bytes.split_first() {
-        Some((first, rest)) if *first == byte => Some(rest),
-        _ => None,
-    }
-}
-
-/// Numbers at the front, each after one space, the line feed behind them, and what follows it.
-#[inline(always)]
-pub(crate) fn plain_numbers<const N: usize>(bytes: &[u8]) -> Option<([u64; N], &[u8])>
-    ensures are { IfSome result (λ x. EndsPlainly bytes.now x.0 x.1.now) }
-    ensures long { IfSome result (λ x. length x.0 ≡ N) }
-{
-    let mut numbers = [0; N];
-    let mut rest = bytes;
-    for at in 0..N {
-        let (number, after) = plain_number(after_byte(rest, b' ')?)?;
-        numbers[at] = number;
-        rest = after;
-    }
-    let rest = after_byte(rest, b'\n')?;
-    Some((numbers, rest))
-}
-
-/// The byte behind a number where so many more are due in its line.
-#[inline(always)]
-pub(crate) fn stop(due: usize) -> u8
-    ensures { result ≡ stop due }
-{
-    if due == 0 { b'\n' } else { b' ' }
-}
-
-/// A number of one to eight digits at the front with the byte behind it, and what follows, where nine bytes stand
-/// there.
-#[inline(always)]
-pub(crate) fn short_number(bytes: &[u8], stop: u8) -> Option<(u64, &[u8])>
-    ensures { IfSome result (λ x. BeginsWithNumber bytes.now x.0 (stop ∷ x.1.now)) }
+fn short_end(bytes: &[u8]) -> Option<u32>
+    ensures { IfSome result (λ end. (0 < end) × (end ≤ 8) × (8 < length bytes.now)) }
 {
     if bytes.len() < 9 {
         return None;
     }
-    let word = first_word(bytes);
     // digits have this bit, and neither spaces nor line feeds have it
-    let stops = !word & 0x1010_1010_1010_1010;
+    let stops = !first_word(bytes) & 0x1010_1010_1010_1010;
     let end = stops.trailing_zeros() / 8;
-    if end == 0 || bytes[end as usize] != stop {
+    if end == 0 {
         return None;
     }
-    let value = digits_of_word(word, end)?;
+    Some(end)
+}
+
+/// The number of so many digits at the front, the byte behind it, and what follows that.
+#[inline(always)]
+fn short_at(bytes: &[u8], end: u32) -> Option<(u64, u8, &[u8])>
+    requires some { 0 < end }
+    requires few { end ≤ 8 }
+    requires within { 8 < length bytes.now }
+    ensures number { IfSome result (λ x. BeginsWithNumber bytes.now x.0 (x.1 ∷ x.2.now)) }
+    ensures behind { IfSome result (λ x. x.1 ≡ slice_index bytes.now end) }
+{
+    let value = digits_of_word(first_word(bytes), end)?;
+    let behind = bytes[end as usize];
     let (_, rest) = bytes.split_at(end as usize + 1);
+    Some((value, behind, rest))
+}
+
+/// A number of one to eight digits at the front, the byte behind it, and what follows that, where nine bytes stand
+/// there.
+#[inline(always)]
+fn short_number(bytes: &[u8]) -> Option<(u64, u8, &[u8])>
+    ensures { IfSome result (λ x. BeginsWithNumber bytes.now x.0 (x.1 ∷ x.2.now)) }
+{
+    let end = short_end(bytes)?;
+    short_at(bytes, end)
+}
+
+/// A number of one to eight digits at the front with this byte behind it, and what follows that, where nine bytes stand
+/// there.
+#[inline(always)]
+pub(crate) fn short_number_before(bytes: &[u8], stop: u8) -> Option<(u64, &[u8])>
+    ensures { IfSome result (λ x. BeginsWithNumber bytes.now x.0 (stop ∷ x.1.now)) }
+{
+    let end = short_end(bytes)?;
+    // before its digits are looked at, so that little is to be kept where another byte is tried
+    if bytes[end as usize] != stop {
+        return None;
+    }
+    let (value, _, rest) = short_at(bytes, end)?;
     Some((value, rest))
 }
 
-/// Short numbers at the front, each with the byte behind it, and what follows the last.
+/// The number at the front, the byte behind it, and what follows that, where it is short or else where it has not too
+/// many digits.
 #[inline(always)]
-pub(crate) fn short_numbers<const N: usize>(bytes: &[u8]) -> Option<([u64; N], &[u8])>
-    ensures are { IfSome result (λ x. EndsPlainly (stop N ∷ bytes.now) x.0 x.1.now) }
+pub(crate) fn front_number(bytes: &[u8], short: bool) -> Option<(u64, u8, &[u8])>
+    ensures { IfSome result (λ x. BeginsWithNumber bytes.now x.0 (x.1 ∷ x.2.now)) }
+{
+    if short {
+        short_number(bytes)
+    } else {
+        plain_number(bytes)
+    }
+}
+
+/// Numbers at the front, each after one space, the line feed behind them, and what follows it. The first byte is given
+/// apart. There are at least `least` numbers; those that are left out are 0.
+#[inline(always)]
+pub(crate) fn plain_numbers<const N: usize>(
+    byte: u8,
+    bytes: &[u8],
+    least: usize,
+    short: bool,
+) -> Option<([u64; N], &[u8])>
+    requires { least ≤ N }
+    ensures are { IfSome result (λ x. EndsPlainly least (byte ∷ bytes.now) x.0 x.1.now) }
     ensures long { IfSome result (λ x. length x.0 ≡ N) }
 {
     let mut numbers = [0; N];
+    let mut behind = byte;
     let mut rest = bytes;
     for at in 0..N {
-        let (number, after) = short_number(rest, stop(N - 1 - at))?;
+        if least <= at && behind == b'\n' {
+            return Some((numbers, rest));
+        }
+        if behind != b' ' {
+            return None;
+        }
+        let (number, next, after) = front_number(rest, short)?;
         numbers[at] = number;
+        behind = next;
         rest = after;
+    }
+    if behind != b'\n' {
+        return None;
     }
     Some((numbers, rest))
 }
@@ -239,7 +275,7 @@ fn long_number(bytes: &[u8], stop: u8) -> Option<(u64, &[u8])>
 {
     let (value, end) = number(bytes)?;
     match end.split_first() {
-        Some((first, rest)) if *first == stop => Some((value.min(LARGE), rest)),
+        Some((first, rest)) if *first == stop => Some((value.min(FAR), rest)),
         _ => None,
     }
 }
@@ -266,8 +302,8 @@ pub fn canonical_number(bytes: &[u8], stop: u8) -> Option<(u64, &[u8])>
     if is_padded(bytes) {
         return None;
     }
-    match short_number(bytes, stop) {
-        Some((value, rest)) => Some((value.min(LARGE), rest)),
+    match short_number_before(bytes, stop) {
+        Some((value, rest)) => Some((value.min(FAR), rest)),
         None => long_number(bytes, stop),
     }
 }

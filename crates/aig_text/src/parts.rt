@@ -1,20 +1,20 @@
 //! The parts that ASCII and binary files have in common: the header, numbered lines, and the tail.
-ghost use Rattle.std.specs.Prelude.{◌≡◌, ◌≤◌, ◌∷◌, [], IfOk, OnErr};
+ghost use Rattle.std.specs.Prelude.{◌≡◌, ◌^◌, ◌≤◌, ◌∷◌, [], IfOk, OnErr};
 ghost use Rattle.aig_core.specs.declared.circuit.TheConstants.{LARGEST as largest_index};
 ghost use Rattle.aig_core.specs.Names.{nothing_named};
 ghost use Rattle.aig_text.specs.Lines.{lines_of};
-ghost use Rattle.aig_text.specs.Rows.{output_form, output_of};
-ghost use Rattle.aig_text.specs.Outcomes.{AreLiterals, GivesOrFails, GivesOrMemory, rows_meant};
+ghost use Rattle.aig_text.specs.Rows.{next_form, next_of};
+ghost use Rattle.aig_text.specs.Outcomes.{AreBounded, GivesOrFails, GivesOrMemory, rows_meant};
 ghost use Rattle.aig_text.specs.Reading.{first_word_is, header_at, row_at, rows_at, tail_at};
 
 use crate::fault::{Place, ReadFault, ReadKind};
 use crate::header_line::{Header, begins_with_word, read_header};
 use crate::limits::Limits;
 use crate::line::{Cursor, split_line};
-use crate::row::{RowForm, next_row};
+use crate::row::{NextState, RowForm, next_row};
 use crate::section::read_rows;
 use crate::tail_lines::read_tail;
-use aig_core::{Circuit, Listing, Lit};
+use aig_core::{Circuit, Listing};
 use std::alloc::Global;
 
 /// Whether the first word of a text is this one. A word ends at a space, a carriage return, a line feed or the end of
@@ -31,7 +31,7 @@ pub fn first_word_is(bytes: &[u8], word: &[u8]) -> bool
 /// Reads the header line, which has to begin with this word, and moves behind it, unless it is not right.
 pub fn header(word: &[u8], at: &mut Cursor, limits: Limits) -> Result<Header, ReadFault>
     ensures header { GivesOrFails (λ header. (header, at.new)) result (header_at word.now limits.max_var at.old) }
-    ensures limited { IfOk result (λ header. header.max_var ≤ largest_index) }
+    ensures limited { IfOk result (λ header. (header.max_var ≤ largest_index) × (header.limit ≤ largest_index)) }
     ensures err { OnErr result (at.new ≡ at.old) }
 {
     let place = Place::Line(at.number);
@@ -55,30 +55,35 @@ pub fn header(word: &[u8], at: &mut Cursor, limits: Limits) -> Result<Header, Re
 pub fn numbers<const N: usize>(
     form: RowForm<N>,
     at: &mut Cursor,
-    max_var: u32,
+    bound: u32,
+    carried: u64,
 ) -> Result<(u64, [u64; N]), ReadFault>
-    requires { max_var ≤ largest_index }
-    ensures row { GivesOrFails (λ x. (x.0 ∷ x.1, at.new)) result (row_at form.entry max_var at.old) }
-    ensures literals { IfOk result (λ x. AreLiterals max_var x.0 x.1) }
+    requires bound { bound ≤ largest_index }
+    requires carried { carried ≤ 2 ^ 35 }
+    ensures row { GivesOrFails (λ x. (x.0 ∷ x.1, at.new)) result (row_at form.entry bound carried at.old) }
+    ensures bounded { IfOk result (λ x. AreBounded form.entry bound x.0 x.1) }
     ensures err { OnErr result (at.new ≡ at.old) }
 {
-    next_row::<N>(form, at, max_var)
+    next_row::<N>(form, at, bound, carried)
 }
 
-/// The literals that so many lines hold, one on each. Goes behind them, unless one is not right.
-pub fn literals(
+/// What so many latches become and start at, as a binary file lists them, one on each line; the first latch has this
+/// literal. Goes behind these lines, unless one is not right.
+pub fn next_states(
     alloc: Global,
     count: u32,
+    own: u64,
     at: &mut Cursor,
     max_var: u32,
-) -> Result<Listing<Lit>, ReadFault>
-    requires { max_var ≤ largest_index }
-    ensures literals { GivesOrMemory (λ found. (found, at.new)) result
-        (rows_meant output_of [] (rows_at output_form max_var count at.old)) }
+) -> Result<Listing<NextState>, ReadFault>
+    requires max_var { max_var ≤ largest_index }
+    requires own { own ≤ 2 ^ 33 }
+    ensures states { GivesOrMemory (λ found. (found, at.new)) result
+        (rows_meant next_of [] (rows_at next_form max_var own count at.old)) }
     ensures err { OnErr result (at.new ≡ at.old) }
 {
     let mut found = Listing::new(alloc);
-    match read_rows::<Lit>(&mut found, count, max_var, at) {
+    match read_rows::<NextState>(&mut found, count, max_var, own, at) {
         Ok(()) => Ok(found),
         Err(fault) => Err(fault),
     }

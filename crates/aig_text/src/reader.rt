@@ -14,7 +14,7 @@ use crate::limits::Limits;
 use crate::line::Cursor;
 use crate::parts::{header, tail};
 use crate::section::read_sections;
-use aig_core::{CheckFault, Checked, Circuit, Listing, check};
+use aig_core::{CheckFault, Checked, Circuit, Justice, Listing, check};
 use std::alloc::Global;
 
 /// A circuit that has nothing in it.
@@ -26,6 +26,13 @@ pub fn empty_circuit(alloc: Global, max_var: u32) -> Circuit
         inputs: Listing::new(alloc),
         latches: Listing::new(alloc),
         outputs: Listing::new(alloc),
+        bad: Listing::new(alloc),
+        constraints: Listing::new(alloc),
+        justice: Justice {
+            sizes: Listing::new(alloc),
+            literals: Listing::new(alloc),
+        },
+        fairness: Listing::new(alloc),
         gates: Listing::new(alloc),
         symbols: Listing::new(alloc),
         comment: None,

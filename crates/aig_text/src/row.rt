@@ -1,16 +1,19 @@
 //! Rows: lines of numbers, and what they mean.
-ghost use Rattle.std.specs.Prelude.{◌≡◌, ◌+◌, ◌*◌, ◌<◌, ◌≤◌, ℕ, List, ◌∷◌, Ok, IfOk, IfSome, OnErr, length};
+ghost use Rattle.std.specs.Prelude.{◌≡◌, ◌+◌, ◌*◌, ◌^◌, ◌<◌, ◌≤◌, ℕ, List, [], ◌∷◌, Ok, IfOk, IfSome, OnErr, length};
+ghost use Rattle.std.specs.Prelude.{slice_index, IsTrue, None};
 ghost use Rattle.aig_core.specs.declared.circuit.TheConstants.{LARGEST as largest_index};
 ghost use Rattle.aig_text.specs.Lines.{ahead, line as line_of, lines_of};
-ghost use Rattle.aig_text.specs.Rows.{Form, input_form, latch_form, output_form, gate_form, input_of, latch_of};
-ghost use Rattle.aig_text.specs.Rows.{output_of, gate_of};
-ghost use Rattle.aig_text.specs.Outcomes.{AreLiterals, GivesOrFails, row_meant};
-ghost use Rattle.aig_text.specs.Reading.{misdefines, exceeds, any_number, fault_in_row, row_of, row_at};
+ghost use Rattle.aig_text.specs.Rows.{Form, input_form, latch_form, literal_form, size_form, gate_form, next_form};
+ghost use Rattle.aig_text.specs.Rows.{input_of, latch_of, literal_in, size_of, gate_of, next_of, reset_of};
+ghost use Rattle.aig_text.specs.Outcomes.{AreBounded, GivesOrFails, row_meant};
+ghost use Rattle.aig_text.specs.Reading.{misdefines, exceeds, misresets, oversizes, own_literal, carried_on};
+ghost use Rattle.aig_text.specs.Parts.Right.{is_right};
+ghost use Rattle.aig_text.specs.Reading.{any_number, fault_in_row, row_of, row_at};
 
 use crate::fault::{Place, ReadFault, ReadKind};
 use crate::line::{Cursor, Line, split_line};
-use crate::number::{numbers, plain_number, plain_numbers, short_number, short_numbers, stop};
-use aig_core::{Gate, Latch, Lit, Var};
+use crate::number::{front_number, numbers, plain_numbers, short_number_before};
+use aig_core::{Gate, Latch, Lit, Reset, Var};
 use std::marker::Model;
 
 /// What a number of a row is.
@@ -20,6 +23,10 @@ pub enum Role {
     Definition,
     /// A literal.
     Literal,
+    /// What a latch starts at: 0, 1, or the literal of the latch.
+    Reset,
+    /// How many literals a justice property has. It is judged with the sum of those before it.
+    Size,
 }
 
 /// What a line of numbers has to hold: one of the first role, and then `least` or more of the others. A number that is
@@ -55,16 +62,30 @@ const INPUT: RowForm<0> = RowForm {
     least: 0,
 };
 
-/// The line of a latch: its literal and what it becomes.
-const LATCH: RowForm<1> = RowForm {
+/// The line of a latch: its literal, what it becomes and what it starts at.
+const LATCH: RowForm<2> = RowForm {
     first: Role::Definition,
-    others: [Role::Literal],
+    others: [Role::Literal, Role::Reset],
     least: 1,
 };
 
-/// The line of an output: its literal.
-const OUTPUT: RowForm<0> = RowForm {
+/// The line of a latch in a binary file: what it becomes and what it starts at.
+const NEXT: RowForm<1> = RowForm {
     first: Role::Literal,
+    others: [Role::Reset],
+    least: 0,
+};
+
+/// The line of a literal that is listed by itself.
+const LITERAL: RowForm<0> = RowForm {
+    first: Role::Literal,
+    others: [],
+    least: 0,
+};
+
+/// The line of a size.
+const SIZE: RowForm<0> = RowForm {
+    first: Role::Size,
     others: [],
     least: 0,
 };
@@ -76,7 +97,18 @@ const GATE: RowForm<2> = RowForm {
     least: 2,
 };
 
-/// What one line of numbers means: an entry of a section.
+/// What a latch becomes and what it starts at, as its line in a binary file tells.
+#[derive(Clone, Copy)]
+pub struct NextState {
+    /// The literal of the next state.
+    pub next: Lit,
+    /// What the state is in the first step.
+    pub reset: Reset,
+}
+
+/// What one line of numbers means: an entry of a section. Lines are judged beside the largest index, or what sizes may
+/// add up to (`bound`), and beside what the lines before it leave (`carried`): of sizes their sum, and elsewhere the
+/// literal of the line's variable in a binary file.
 pub(crate) trait Row: Copy {
     /// What the line has to hold.
     ghost form: { Form };
@@ -86,35 +118,78 @@ pub(crate) trait Row: Copy {
 
     /// Reads the next line, if it is right and has short numbers in plain spelling, as most rows do; also what follows
     /// it.
-    fn read_short(bytes: &[u8], max_var: u32) -> Option<(Self, &[u8])>
-        requires { max_var ≤ largest_index }
+    fn read_short(bytes: &[u8], bound: u32, carried: u64) -> Option<(Self, &[u8])>
+        requires { bound ≤ largest_index }
         ensures row { (number : ℕ) → IfSome result (λ x.
-            row_meant meant_by (row_at form max_var (ahead number (lines_of bytes.now)))
+            row_meant meant_by (row_at form bound carried (ahead number (lines_of bytes.now)))
             ≡ Ok (x.0, ahead (number + 1) (lines_of x.1.now))) }
         ensures shorter { IfSome result (λ x. length x.1.now < length bytes.now) };
 
     /// Reads the next line, and moves behind it, unless it is not right.
-    fn read_row(at: &mut Cursor, max_var: u32) -> Result<Self, ReadFault>
-        requires { max_var ≤ largest_index }
-        ensures { GivesOrFails (λ row. (row, at.new)) result (row_meant meant_by (row_at form max_var at.old)) };
+    fn read_row(at: &mut Cursor, bound: u32, carried: u64) -> Result<Self, ReadFault>
+        requires bound { bound ≤ largest_index }
+        requires carried { carried ≤ 2 ^ 35 }
+        ensures { GivesOrFails (λ row. (row, at.new)) result (row_meant meant_by (row_at form bound carried at.old)) };
+
+    /// What is carried to the next line.
+    fn carry(self, carried: u64) -> u64
+        requires { carried ≤ 2 ^ 35 }
+        ensures { (ns : List ℕ) → meant_by ns ≡ self → result ≡ carried_on form.first carried (slice_index ns 0) };
 }
 
 /// Whether a number cannot be the definition that it stands for.
+#[inline(always)]
 fn misdefines(role: Role, number: u64) -> bool
     ensures { result ≡ misdefines role number }
 {
     match role {
         Role::Definition => number % 2 == 1 || number < 2,
-        Role::Literal => false,
+        Role::Literal | Role::Reset | Role::Size => false,
     }
 }
 
-/// Whether a number is above what may stand there.
-fn exceeds(max_var: u32, role: Role, number: u64) -> bool
-    ensures { result ≡ exceeds max_var role number }
+/// Whether a number is a literal above what may stand there.
+#[inline(always)]
+fn exceeds(bound: u32, role: Role, number: u64) -> bool
+    ensures { result ≡ exceeds bound role number }
 {
     match role {
-        Role::Definition | Role::Literal => number > 2 * u64::from(max_var) + 1,
+        Role::Definition | Role::Literal => number > 2 * u64::from(bound) + 1,
+        Role::Reset | Role::Size => false,
+    }
+}
+
+/// Whether a number is a reset that is neither a constant nor the latch's own literal.
+#[inline(always)]
+fn misresets(own: u64, role: Role, number: u64) -> bool
+    ensures { result ≡ misresets own role number }
+{
+    match role {
+        Role::Reset => number >= 2 && number != own,
+        Role::Definition | Role::Literal | Role::Size => false,
+    }
+}
+
+/// Whether a number is a size that makes the sum of those before it too large.
+#[inline(always)]
+fn oversizes(limit: u32, before: u64, role: Role, number: u64) -> bool
+    ensures { result ≡ oversizes limit before role number }
+{
+    let limit = u64::from(limit);
+    match role {
+        Role::Size => before > limit || number > limit - before,
+        Role::Definition | Role::Literal | Role::Reset => false,
+    }
+}
+
+/// The literal of the variable that a row is for, where this is its first number.
+#[inline(always)]
+fn own_literal(role: Role, carried: u64, number: u64) -> u64
+    ensures { result ≡ own_literal role carried number }
+{
+    match role {
+        Role::Definition => number,
+        Role::Literal | Role::Reset | Role::Size => carried,
     }
 }
 
@@ -128,52 +203,95 @@ fn any_misdefines(roles: &[Role], numbers: &[u64]) -> bool
         .any(|(role, number)| misdefines(*role, *number))
 }
 
-/// Whether one of the numbers is above what may stand there.
-fn any_exceeds(max_var: u32, roles: &[Role], numbers: &[u64]) -> bool
-    ensures { result ≡ any_number (exceeds max_var) roles.now numbers.now }
+/// Whether one of the numbers is a literal above what may stand there.
+fn any_exceeds(bound: u32, roles: &[Role], numbers: &[u64]) -> bool
+    ensures { result ≡ any_number (exceeds bound) roles.now numbers.now }
 {
     roles
         .iter()
         .zip(numbers)
-        .any(|(role, number)| exceeds(max_var, *role, *number))
+        .any(|(role, number)| exceeds(bound, *role, *number))
+}
+
+/// Whether one of the numbers is a reset that is neither a constant nor the latch's own literal.
+fn any_misresets(own: u64, roles: &[Role], numbers: &[u64]) -> bool
+    ensures { result ≡ any_number (misresets own) roles.now numbers.now }
+{
+    roles
+        .iter()
+        .zip(numbers)
+        .any(|(role, number)| misresets(own, *role, *number))
+}
+
+/// Whether one of the numbers is a size that makes the sum of those before it too large.
+fn any_oversizes(limit: u32, before: u64, roles: &[Role], numbers: &[u64]) -> bool
+    ensures { result ≡ any_number (oversizes limit before) roles.now numbers.now }
+{
+    roles
+        .iter()
+        .zip(numbers)
+        .any(|(role, number)| oversizes(limit, before, *role, *number))
 }
 
 /// What is wrong with the numbers of a row, the first apart from the others.
 fn row_fault(
-    max_var: u32,
+    bound: u32,
+    carried: u64,
     role: Role,
     others: &[Role],
     first: u64,
     more: &[u64],
 ) -> Option<ReadKind>
-    ensures { result ≡ fault_in_row max_var (role ∷ others.now) (first ∷ more.now) }
+    ensures { result ≡ fault_in_row (record { first = role; others = others.now; least = 0 }) bound carried
+        (first ∷ more.now) }
 {
     if misdefines(role, first) || any_misdefines(others, more) {
         return Some(ReadKind::NotVariable);
     }
-    if exceeds(max_var, role, first) || any_exceeds(max_var, others, more) {
+    if exceeds(bound, role, first) || any_exceeds(bound, others, more) {
         return Some(ReadKind::LiteralRange);
     }
+    let own = own_literal(role, carried, first);
+    if misresets(own, role, first) || any_misresets(own, others, more) {
+        return Some(ReadKind::BadReset);
+    }
+    if oversizes(bound, carried, role, first) || any_oversizes(bound, carried, others, more) {
+        return Some(ReadKind::TooLarge);
+    }
     None
+}
+
+/// What a latch starts at by the number that says it.
+#[inline(always)]
+fn reset_of(number: u64) -> Reset
+    ensures { result ≡ reset_of number }
+{
+    match number {
+        0 => Reset::Zero,
+        1 => Reset::One,
+        _ => Reset::Uninit,
+    }
 }
 
 /// The numbers of the row that a line holds, the first apart from the others.
 fn row_numbers<const N: usize>(
     form: RowForm<N>,
     line: Line,
-    max_var: u32,
+    bound: u32,
+    carried: u64,
 ) -> Result<(u64, [u64; N]), ReadKind>
-    requires { max_var ≤ largest_index }
+    requires bound { bound ≤ largest_index }
+    requires carried { carried ≤ 2 ^ 35 }
     ensures row { GivesOrFails (λ x. x.0 ∷ x.1) result
-        (row_of form.entry max_var (line_of line.entry.text.now line.entry.ended)) }
-    ensures literals { IfOk result (λ x. AreLiterals max_var x.0 x.1) }
+        (row_of form.entry bound carried (line_of line.entry.text.now line.entry.ended)) }
+    ensures bounded { IfOk result (λ x. AreBounded form.entry bound x.0 x.1) }
 {
     let Some(found) = numbers::<N>(line, form.least) else {
         return Err(ReadKind::BadLine);
     };
     let first = found.0;
     let more = found.1;
-    match row_fault(max_var, form.first, &form.others, first, &more) {
+    match row_fault(bound, carried, form.first, &form.others, first, &more) {
         Some(kind) => Err(kind),
         None => Ok((first, more)),
     }
@@ -185,11 +303,13 @@ fn row_numbers<const N: usize>(
 fn lenient_row<const N: usize>(
     form: RowForm<N>,
     at: &mut Cursor,
-    max_var: u32,
+    bound: u32,
+    carried: u64,
 ) -> Result<(u64, [u64; N]), ReadFault>
-    requires { max_var ≤ largest_index }
-    ensures row { GivesOrFails (λ x. (x.0 ∷ x.1, at.new)) result (row_at form.entry max_var at.old) }
-    ensures literals { IfOk result (λ x. AreLiterals max_var x.0 x.1) }
+    requires bound { bound ≤ largest_index }
+    requires carried { carried ≤ 2 ^ 35 }
+    ensures row { GivesOrFails (λ x. (x.0 ∷ x.1, at.new)) result (row_at form.entry bound carried at.old) }
+    ensures bounded { IfOk result (λ x. AreBounded form.entry bound x.0 x.1) }
     ensures err { OnErr result (at.new ≡ at.old) }
 {
     let place = Place::Line(at.number);
@@ -199,7 +319,7 @@ fn lenient_row<const N: usize>(
             kind: ReadKind::Truncated,
         });
     };
-    match row_numbers::<N>(form, line, max_var) {
+    match row_numbers::<N>(form, line, bound, carried) {
         Ok(found) => {
             let number = at.number + 1;
             *at = Cursor { rest, number };
@@ -209,54 +329,66 @@ fn lenient_row<const N: usize>(
     }
 }
 
-/// The numbers of a good row in plain spelling at the front, and what follows it.
+/// Whether a number is right in its role, where the row is for the variable of this literal, and this is carried.
+#[inline(always)]
+fn is_right(bound: u32, own: u64, carried: u64, role: Role, number: u64) -> bool
+    ensures { result ≡ is_right bound own carried role number }
+{
+    !misdefines(role, number)
+        && !exceeds(bound, role, number)
+        && !misresets(own, role, number)
+        && !oversizes(bound, carried, role, number)
+}
+
+/// Whether the numbers of a row are right, all in one pass; `row_fault` finds what is wrong with those that are not.
+#[inline(always)]
+fn is_right_row<const N: usize>(
+    form: RowForm<N>,
+    bound: u32,
+    carried: u64,
+    first: u64,
+    more: &[u64; N],
+) -> bool
+    ensures { IsTrue result → fault_in_row form.entry bound carried (first ∷ more.now) ≡ None }
+{
+    let own = own_literal(form.first, carried, first);
+    if !is_right(bound, own, carried, form.first, first) {
+        return false;
+    }
+    for at in 0..N {
+        if !is_right(bound, own, carried, form.others[at], more[at]) {
+            return false;
+        }
+    }
+    true
+}
+
+/// The numbers of a good row in plain spelling at the front, and what follows it; or only where all numbers are short.
 #[inline(always)]
 fn plain_row<const N: usize>(
     form: RowForm<N>,
     bytes: &[u8],
-    max_var: u32,
+    bound: u32,
+    carried: u64,
+    short: bool,
 ) -> Option<((u64, [u64; N]), &[u8])>
-    requires { max_var ≤ largest_index }
-    ensures row { (number : ℕ) → IfSome result (λ x. row_at form.entry max_var (ahead number (lines_of bytes.now))
+    requires { bound ≤ largest_index }
+    ensures row { (number : ℕ) → IfSome result (λ x.
+        row_at form.entry bound carried (ahead number (lines_of bytes.now))
         ≡ Ok (x.0.0 ∷ x.0.1, ahead (number + 1) (lines_of x.1.now))) }
     ensures shorter { IfSome result (λ x. length x.1.now < length bytes.now) }
-    ensures literals { IfSome result (λ x. AreLiterals max_var x.0.0 x.0.1) }
+    ensures bounded { IfSome result (λ x. AreBounded form.entry bound x.0.0 x.0.1) }
 {
-    let (first, rest) = plain_number(bytes)?;
-    let Some(found) = plain_numbers::<N>(rest) else {
+    let (first, behind, rest) = front_number(bytes, short)?;
+    let Some(found) = plain_numbers::<N>(behind, rest, form.least, short) else {
         return None;
     };
     let more = found.0;
     let rest = found.1;
-    match row_fault(max_var, form.first, &form.others, first, &more) {
-        Some(_) => None,
-        None => Some(((first, more), rest)),
-    }
-}
-
-/// The numbers of a good row in plain spelling at the front, where all are short, and what follows it.
-#[inline(always)]
-fn short_row<const N: usize>(
-    form: RowForm<N>,
-    bytes: &[u8],
-    max_var: u32,
-) -> Option<((u64, [u64; N]), &[u8])>
-    requires { max_var ≤ largest_index }
-    ensures row { (number : ℕ) → IfSome result (λ x. row_at form.entry max_var (ahead number (lines_of bytes.now))
-        ≡ Ok (x.0.0 ∷ x.0.1, ahead (number + 1) (lines_of x.1.now))) }
-    ensures shorter { IfSome result (λ x. length x.1.now < length bytes.now) }
-    ensures literals { IfSome result (λ x. AreLiterals max_var x.0.0 x.0.1) }
-{
-    let (first, rest) = short_number(bytes, stop(N))?;
-    let Some(found) = short_numbers::<N>(rest) else {
+    if !is_right_row::<N>(form, bound, carried, first, &more) {
         return None;
-    };
-    let more = found.0;
-    let rest = found.1;
-    match row_fault(max_var, form.first, &form.others, first, &more) {
-        Some(_) => None,
-        None => Some(((first, more), rest)),
     }
+    Some(((first, more), rest))
 }
 
 /// The numbers of the row that the next line holds. Most of them are in plain spelling.
@@ -264,20 +396,22 @@ fn short_row<const N: usize>(
 pub(crate) fn next_row<const N: usize>(
     form: RowForm<N>,
     at: &mut Cursor,
-    max_var: u32,
+    bound: u32,
+    carried: u64,
 ) -> Result<(u64, [u64; N]), ReadFault>
-    requires { max_var ≤ largest_index }
-    ensures row { GivesOrFails (λ x. (x.0 ∷ x.1, at.new)) result (row_at form.entry max_var at.old) }
-    ensures literals { IfOk result (λ x. AreLiterals max_var x.0 x.1) }
+    requires bound { bound ≤ largest_index }
+    requires carried { carried ≤ 2 ^ 35 }
+    ensures row { GivesOrFails (λ x. (x.0 ∷ x.1, at.new)) result (row_at form.entry bound carried at.old) }
+    ensures bounded { IfOk result (λ x. AreBounded form.entry bound x.0 x.1) }
     ensures err { OnErr result (at.new ≡ at.old) }
 {
-    match plain_row::<N>(form, at.rest, max_var) {
+    match plain_row::<N>(form, at.rest, bound, carried, false) {
         Some((found, rest)) => {
             let number = at.number + 1;
             *at = Cursor { rest, number };
             Ok(found)
         }
-        None => lenient_row::<N>(form, at, max_var),
+        None => lenient_row::<N>(form, at, bound, carried),
     }
 }
 
@@ -287,19 +421,41 @@ impl Row for Var {
     ghost meant_by = { input_of };
 
     #[inline(always)]
-    fn read_short(bytes: &[u8], max_var: u32) -> Option<(Var, &[u8])> {
-        let (found, rest) = short_row::<0>(INPUT, bytes, max_var)?;
+    fn read_short(bytes: &[u8], bound: u32, carried: u64) -> Option<(Var, &[u8])> {
+        let (found, rest) = plain_row::<0>(INPUT, bytes, bound, carried, true)?;
         Some((Var((found.0 / 2) as u32), rest))
     }
 
     #[inline(never)]
-    fn read_row(at: &mut Cursor, max_var: u32) -> Result<Var, ReadFault> {
+    fn read_row(at: &mut Cursor, bound: u32, carried: u64) -> Result<Var, ReadFault> {
         // For a `?` here, and in the rows below, the kit's borrow checker makes no proof.
-        match next_row::<0>(INPUT, at, max_var) {
+        match next_row::<0>(INPUT, at, bound, carried) {
             Ok(found) => Ok(Var((found.0 / 2) as u32)),
             Err(fault) => Err(fault),
         }
     }
+
+    #[inline(always)]
+    fn carry(self, carried: u64) -> u64 {
+        carried
+    }
+}
+
+/// The latch of these numbers, where they are right.
+#[inline(always)]
+fn right_latch(bound: u32, carried: u64, first: u64, next: u64, reset: u64) -> Option<Latch>
+    requires { bound ≤ largest_index }
+    ensures right { IfSome result (λ _. fault_in_row latch_form bound carried (first ∷ next ∷ reset ∷ []) ≡ None) }
+    ensures latch { IfSome result (λ latch. latch ≡ latch_of (first ∷ next ∷ reset ∷ [])) }
+{
+    if !is_right_row::<2>(LATCH, bound, carried, first, &[next, reset]) {
+        return None;
+    }
+    Some(Latch {
+        var: Var((first / 2) as u32),
+        next: Lit(next as u32),
+        reset: reset_of(reset),
+    })
 }
 
 impl Row for Latch {
@@ -308,48 +464,124 @@ impl Row for Latch {
     ghost meant_by = { latch_of };
 
     #[inline(always)]
-    fn read_short(bytes: &[u8], max_var: u32) -> Option<(Latch, &[u8])> {
-        let (found, rest) = short_row::<1>(LATCH, bytes, max_var)?;
-        let [next] = found.1;
-        let latch = Latch {
-            var: Var((found.0 / 2) as u32),
-            next: Lit(next as u32),
-        };
+    fn read_short(bytes: &[u8], bound: u32, carried: u64) -> Option<(Latch, &[u8])> {
+        let (first, behind) = short_number_before(bytes, b' ')?;
+        // most files have no resets, and this path none of their tests
+        if let Some((next, rest)) = short_number_before(behind, b'\n') {
+            let latch = right_latch(bound, carried, first, next, 0)?;
+            return Some((latch, rest));
+        }
+        let (next, behind) = short_number_before(behind, b' ')?;
+        let (reset, rest) = short_number_before(behind, b'\n')?;
+        let latch = right_latch(bound, carried, first, next, reset)?;
         Some((latch, rest))
     }
 
     #[inline(never)]
-    fn read_row(at: &mut Cursor, max_var: u32) -> Result<Latch, ReadFault> {
-        match next_row::<1>(LATCH, at, max_var) {
+    fn read_row(at: &mut Cursor, bound: u32, carried: u64) -> Result<Latch, ReadFault> {
+        match next_row::<2>(LATCH, at, bound, carried) {
             Ok(found) => {
-                let [next] = found.1;
+                let [next, reset] = found.1;
                 Ok(Latch {
                     var: Var((found.0 / 2) as u32),
                     next: Lit(next as u32),
+                    reset: reset_of(reset),
                 })
             }
             Err(fault) => Err(fault),
         }
     }
+
+    #[inline(always)]
+    fn carry(self, carried: u64) -> u64 {
+        carried
+    }
+}
+
+impl Row for NextState {
+    ghost form = { next_form };
+
+    ghost meant_by = { next_of };
+
+    #[inline(always)]
+    fn read_short(bytes: &[u8], bound: u32, carried: u64) -> Option<(NextState, &[u8])> {
+        let (found, rest) = plain_row::<1>(NEXT, bytes, bound, carried, true)?;
+        let [reset] = found.1;
+        let state = NextState {
+            next: Lit(found.0 as u32),
+            reset: reset_of(reset),
+        };
+        Some((state, rest))
+    }
+
+    #[inline(never)]
+    fn read_row(at: &mut Cursor, bound: u32, carried: u64) -> Result<NextState, ReadFault> {
+        match next_row::<1>(NEXT, at, bound, carried) {
+            Ok(found) => {
+                let [reset] = found.1;
+                Ok(NextState {
+                    next: Lit(found.0 as u32),
+                    reset: reset_of(reset),
+                })
+            }
+            Err(fault) => Err(fault),
+        }
+    }
+
+    #[inline(always)]
+    fn carry(self, carried: u64) -> u64 {
+        carried + 2
+    }
 }
 
 impl Row for Lit {
-    ghost form = { output_form };
+    ghost form = { literal_form };
 
-    ghost meant_by = { output_of };
+    ghost meant_by = { literal_in };
 
     #[inline(always)]
-    fn read_short(bytes: &[u8], max_var: u32) -> Option<(Lit, &[u8])> {
-        let (found, rest) = short_row::<0>(OUTPUT, bytes, max_var)?;
+    fn read_short(bytes: &[u8], bound: u32, carried: u64) -> Option<(Lit, &[u8])> {
+        let (found, rest) = plain_row::<0>(LITERAL, bytes, bound, carried, true)?;
         Some((Lit(found.0 as u32), rest))
     }
 
     #[inline(never)]
-    fn read_row(at: &mut Cursor, max_var: u32) -> Result<Lit, ReadFault> {
-        match next_row::<0>(OUTPUT, at, max_var) {
+    fn read_row(at: &mut Cursor, bound: u32, carried: u64) -> Result<Lit, ReadFault> {
+        match next_row::<0>(LITERAL, at, bound, carried) {
             Ok(found) => Ok(Lit(found.0 as u32)),
             Err(fault) => Err(fault),
         }
+    }
+
+    #[inline(always)]
+    fn carry(self, carried: u64) -> u64 {
+        carried + 2
+    }
+}
+
+/// A size.
+impl Row for u32 {
+    ghost form = { size_form };
+
+    ghost meant_by = { size_of };
+
+    #[inline(always)]
+    fn read_short(bytes: &[u8], bound: u32, carried: u64) -> Option<(u32, &[u8])> {
+        let (found, rest) = plain_row::<0>(SIZE, bytes, bound, carried, true)?;
+        Some((found.0 as u32, rest))
+    }
+
+    #[inline(never)]
+    fn read_row(at: &mut Cursor, bound: u32, carried: u64) -> Result<u32, ReadFault> {
+        match next_row::<0>(SIZE, at, bound, carried) {
+            Ok(found) => Ok(found.0 as u32),
+            Err(fault) => Err(fault),
+        }
+    }
+
+    #[inline(always)]
+    fn carry(self, carried: u64) -> u64 {
+        carried + u64::from(self)
     }
 }
 
@@ -359,8 +591,8 @@ impl Row for Gate {
     ghost meant_by = { gate_of };
 
     #[inline(always)]
-    fn read_short(bytes: &[u8], max_var: u32) -> Option<(Gate, &[u8])> {
-        let (found, rest) = short_row::<2>(GATE, bytes, max_var)?;
+    fn read_short(bytes: &[u8], bound: u32, carried: u64) -> Option<(Gate, &[u8])> {
+        let (found, rest) = plain_row::<2>(GATE, bytes, bound, carried, true)?;
         let [left, right] = found.1;
         let gate = Gate {
             var: Var((found.0 / 2) as u32),
@@ -371,8 +603,8 @@ impl Row for Gate {
     }
 
     #[inline(never)]
-    fn read_row(at: &mut Cursor, max_var: u32) -> Result<Gate, ReadFault> {
-        match next_row::<2>(GATE, at, max_var) {
+    fn read_row(at: &mut Cursor, bound: u32, carried: u64) -> Result<Gate, ReadFault> {
+        match next_row::<2>(GATE, at, bound, carried) {
             Ok(found) => {
                 let [left, right] = found.1;
                 Ok(Gate {
@@ -383,5 +615,10 @@ impl Row for Gate {
             }
             Err(fault) => Err(fault),
         }
+    }
+
+    #[inline(always)]
+    fn carry(self, carried: u64) -> u64 {
+        carried
     }
 }

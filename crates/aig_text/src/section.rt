@@ -1,6 +1,8 @@
 //! Sections: rows of one kind, one to a line.
-ghost use Rattle.std.specs.Prelude.{◌≡◌, ◌≤◌, OnErr};
+ghost use Rattle.std.specs.Prelude.{◌≡◌, ◌^◌, ◌≤◌, OnOk, OnErr};
+ghost use Rattle.std.specs.List.{sum};
 ghost use Rattle.aig_core.specs.declared.circuit.TheConstants.{LARGEST as largest_index};
+ghost use Rattle.aig_text.specs.declared.section.Section.TheVariants.{JusticeSizes};
 ghost use Rattle.aig_text.specs.Rows.{in_ascii, sections};
 ghost use Rattle.aig_text.specs.Outcomes.{GivesOrMemory, rows_meant};
 ghost use Rattle.aig_text.specs.Reading.{rows_at, section_at, sections_at};
@@ -16,40 +18,59 @@ use aig_core::{Circuit, Listing};
 pub enum Section {
     /// The variable of each input.
     Inputs,
-    /// The variable and the next state of each latch.
+    /// The variable, the next state and the reset of each latch.
     Latches,
     /// The literal of each output.
     Outputs,
+    /// The literal of each bad state.
+    Bad,
+    /// The literal of each invariant constraint.
+    Constraints,
+    /// How many literals each justice property has.
+    JusticeSizes,
+    /// The literals of all justice properties.
+    JusticeLiterals,
+    /// The literal of each fairness constraint.
+    Fairness,
     /// The variable and the operands of each gate.
     Gates,
 }
 
 /// The sections, in the order of a file.
-pub const SECTIONS: [Section; 4] = [
+pub const SECTIONS: [Section; 9] = [
     Section::Inputs,
     Section::Latches,
     Section::Outputs,
+    Section::Bad,
+    Section::Constraints,
+    Section::JusticeSizes,
+    Section::JusticeLiterals,
+    Section::Fairness,
     Section::Gates,
 ];
 
-/// Adds the entries of the next `count` lines, and moves behind them.
+/// Adds the entries of the next `count` lines, which are judged beside `bound` and what is carried to the first, and
+/// moves behind them.
 #[inline(never)]
 pub(crate) fn read_rows<T: Row>(
     found: &mut Listing<T>,
     count: u32,
-    max_var: u32,
+    bound: u32,
+    start: u64,
     at: &mut Cursor,
 ) -> Result<(), ReadFault>
-    requires { max_var ≤ largest_index }
+    requires bound { bound ≤ largest_index }
+    requires start { start ≤ 2 ^ 33 }
     ensures rows { GivesOrMemory (λ _. (found.new, at.new)) result
-        (rows_meant T.meant_by found.old (rows_at T.form max_var count at.old)) }
+        (rows_meant T.meant_by found.old (rows_at T.form bound start count at.old)) }
     ensures err { OnErr result (at.new ≡ at.old) }
 {
     // Out of the cursor, so that both can stay in registers; only where a row is read slowly, one is lent.
     let mut rest = at.rest;
     let mut number = at.number;
+    let mut carried = start;
     for _ in 0..count {
-        let row = match T::read_short(rest, max_var) {
+        let row = match T::read_short(rest, bound, carried) {
             Some(found) => {
                 rest = found.1;
                 number += 1;
@@ -57,16 +78,47 @@ pub(crate) fn read_rows<T: Row>(
             }
             None => {
                 let mut from = Cursor { rest, number };
-                let row = T::read_row(&mut from, max_var)?;
+                let row = T::read_row(&mut from, bound, carried)?;
                 rest = from.rest;
                 number = from.number;
                 row
             }
         };
+        carried = row.carry(carried);
         found.push(row)?;
     }
     *at = Cursor { rest, number };
     Ok(())
+}
+
+/// The sum of sizes.
+fn total(sizes: &[u32]) -> u32
+    requires { sum sizes.now ≤ largest_index }
+    ensures { result ≡ sum sizes.now }
+{
+    let mut all = 0;
+    for size in sizes {
+        all += *size;
+    }
+    all
+}
+
+/// Adds the sizes of justice properties, and moves behind their lines.
+fn read_sizes(header: &Header, circuit: &mut Circuit, at: &mut Cursor) -> Result<(), ReadFault>
+    requires limit { header.now.limit ≤ largest_index }
+    requires sizes { sum circuit.old.justice.sizes ≤ header.now.limit }
+    ensures read { GivesOrMemory (λ _. (circuit.new, at.new)) result
+        (section_at (in_ascii JusticeSizes) header.now circuit.old at.old) }
+    ensures sizes { OnOk result (sum circuit.new.justice.sizes ≤ header.now.limit) }
+{
+    let before = u64::from(total(circuit.justice.sizes.as_slice()));
+    read_rows(
+        &mut circuit.justice.sizes,
+        header.justice,
+        header.limit,
+        before,
+        at,
+    )
 }
 
 /// Adds the entries of a section as an ASCII file lists them, and moves behind its lines.
@@ -76,16 +128,29 @@ pub fn read_section(
     circuit: &mut Circuit,
     at: &mut Cursor,
 ) -> Result<(), ReadFault>
-    requires { header.now.max_var ≤ largest_index }
-    ensures { GivesOrMemory (λ _. (circuit.new, at.new)) result
+    requires max_var { header.now.max_var ≤ largest_index }
+    requires limit { header.now.limit ≤ largest_index }
+    requires sizes { sum circuit.old.justice.sizes ≤ header.now.limit }
+    ensures read { GivesOrMemory (λ _. (circuit.new, at.new)) result
         (section_at (in_ascii section) header.now circuit.old at.old) }
+    ensures sizes { OnOk result (sum circuit.new.justice.sizes ≤ header.now.limit) }
 {
     let max_var = header.max_var;
     match section {
-        Section::Inputs => read_rows(&mut circuit.inputs, header.inputs, max_var, at),
-        Section::Latches => read_rows(&mut circuit.latches, header.latches, max_var, at),
-        Section::Outputs => read_rows(&mut circuit.outputs, header.outputs, max_var, at),
-        Section::Gates => read_rows(&mut circuit.gates, header.gates, max_var, at),
+        Section::Inputs => read_rows(&mut circuit.inputs, header.inputs, max_var, 0, at),
+        Section::Latches => read_rows(&mut circuit.latches, header.latches, max_var, 0, at),
+        Section::Outputs => read_rows(&mut circuit.outputs, header.outputs, max_var, 0, at),
+        Section::Bad => read_rows(&mut circuit.bad, header.bad, max_var, 0, at),
+        Section::Constraints => {
+            read_rows(&mut circuit.constraints, header.constraints, max_var, 0, at)
+        }
+        Section::JusticeSizes => read_sizes(header, circuit, at),
+        Section::JusticeLiterals => {
+            let count = total(circuit.justice.sizes.as_slice());
+            read_rows(&mut circuit.justice.literals, count, max_var, 0, at)
+        }
+        Section::Fairness => read_rows(&mut circuit.fairness, header.fairness, max_var, 0, at),
+        Section::Gates => read_rows(&mut circuit.gates, header.gates, max_var, 0, at),
     }
 }
 
@@ -95,7 +160,9 @@ pub(crate) fn read_sections(
     circuit: &mut Circuit,
     at: &mut Cursor,
 ) -> Result<(), ReadFault>
-    requires { header.now.max_var ≤ largest_index }
+    requires max_var { header.now.max_var ≤ largest_index }
+    requires limit { header.now.limit ≤ largest_index }
+    requires sizes { sum circuit.old.justice.sizes ≤ header.now.limit }
     ensures { GivesOrMemory (λ _. (circuit.new, at.new)) result
         (sections_at in_ascii header.now sections circuit.old at.old) }
 {

@@ -12,7 +12,7 @@ use crate::fault::{Place, ReadFault, ReadKind};
 use crate::header_line::Header;
 use crate::line::{Cursor, Line, split_line};
 use crate::number::{ends_line, number};
-use aig_core::{Circuit, Kind, Listing, Names, Symbol};
+use aig_core::{Circuit, Kind, Listing, NamedCounts, Names, Symbol};
 use std::alloc::Global;
 
 /// What a symbol line holds.
@@ -32,6 +32,10 @@ fn kind_of_letter(letter: u8) -> Option<Kind>
         b'i' => Some(Kind::Input),
         b'l' => Some(Kind::Latch),
         b'o' => Some(Kind::Output),
+        b'b' => Some(Kind::Bad),
+        b'c' => Some(Kind::Constraint),
+        b'j' => Some(Kind::Justice),
+        b'f' => Some(Kind::Fairness),
         _ => None,
     }
 }
@@ -73,6 +77,10 @@ fn count_named(header: &Header, kind: Kind) -> u32
         Kind::Input => header.inputs,
         Kind::Latch => header.latches,
         Kind::Output => header.outputs,
+        Kind::Bad => header.bad,
+        Kind::Constraint => header.constraints,
+        Kind::Justice => header.justice,
+        Kind::Fairness => header.fairness,
     }
 }
 
@@ -171,6 +179,15 @@ pub(crate) fn read_tail(
     if at.rest.is_empty() {
         return Ok(());
     }
-    let mut names = Names::new(alloc, header.inputs, header.latches, header.outputs)?;
+    let counts = NamedCounts {
+        inputs: header.inputs,
+        latches: header.latches,
+        outputs: header.outputs,
+        bad: header.bad,
+        constraints: header.constraints,
+        justice: header.justice,
+        fairness: header.fairness,
+    };
+    let mut names = Names::new(alloc, counts)?;
     read_tail_lines(alloc, header, &mut names, circuit, at)
 }

@@ -7,15 +7,17 @@ ghost use Rattle.aig_io.specs.Output.{Put};
 ghost use Rattle.aig_io.specs.Transfer.{TookBeginning};
 ghost use Rattle.aig_io.specs.declared.block.TheConstants.{ROOM};
 ghost use Rattle.aig_text.specs.AsciiText.{ascii_text, comment_text, header_text, kind_letter, line_text};
-ghost use Rattle.aig_text.specs.AsciiText.{more_numbers_text};
+ghost use Rattle.aig_text.specs.AsciiText.{more_numbers_text, row_text, shortened};
 ghost use Rattle.aig_text.specs.AsciiText.{name_text, numbers_text, spaced_number, symbol_text, tail_text};
-ghost use Rattle.aig_text.specs.Rows.{ascii_word, gate_row, header_row, input_row, latch_row, output_row, rows_of};
+ghost use Rattle.aig_text.specs.Rows.{ascii_word, gate_row, header_row, input_row, latch_row, literal_row, rows_of};
+ghost use Rattle.aig_text.specs.Rows.{literal_rows_of, reset_number, size_row};
 ghost use Rattle.aig_text.specs.declared.writer.TheConstants.{FEW};
 ghost use Rattle.aig_text.specs.declared.writer.WriteFault.TheVariants.{Device};
 
-use crate::header_line::{ASCII_WORD, HEADER_NUMBERS};
+use crate::header_line::{ASCII_WORD, HEADER_LEAST, HEADER_NUMBERS};
 use aig_core::{
-    Checked, Circuit, DeviceFault, Gate, Kind, Latch, Listing, Lit, Output, Sink, Symbol, Var,
+    Checked, Circuit, DeviceFault, Gate, Kind, Latch, Listing, Lit, Output, Reset, Sink, Symbol,
+    Var,
 };
 use thiserror::Error;
 
@@ -76,26 +78,51 @@ pub fn put_numbers<W: Sink>(output: &mut Output<W>, first: u64, others: &[u64])
     }
 }
 
+/// The numbers that are written of these: all up to the last one that is not 0, and at least so many.
+#[inline(always)]
+fn shortened(numbers: &[u64], least: usize) -> &[u64]
+    ensures { result.now ≡ shortened least numbers.now }
+{
+    let mut end = numbers.len();
+    while end > least && numbers[end - 1] == 0 {
+        end -= 1;
+    }
+    let (written, _) = numbers.split_at(end);
+    written
+}
+
 /// Puts the header line: its word and its numbers.
 pub fn put_header<W: Sink>(output: &mut Output<W>, word: &[u8], numbers: &[u64])
     ensures { Put output.old output.new (header_text word.now numbers.now) }
 {
     output.put(word);
-    put_more_numbers(output, numbers);
+    put_more_numbers(output, shortened(numbers, HEADER_LEAST));
+}
+
+/// The number that says what a latch with this literal starts at.
+#[inline(always)]
+pub fn reset_number(own: u64, reset: Reset) -> u64
+    ensures { result ≡ reset_number own reset }
+{
+    match reset {
+        Reset::Zero => 0,
+        Reset::One => 1,
+        Reset::Uninit => own,
+    }
 }
 
 /// What has a numbered line of its own.
 trait NumberedLine {
-    /// The numbers of the line.
-    ghost line_numbers: { Self → List ℕ };
+    /// The line.
+    ghost line: { Self → List ℕ };
 
     /// Adds the line.
     fn put_line<W: Sink>(&self, output: &mut Output<W>)
-        ensures { Put output.old output.new (numbers_text (line_numbers self.now)) };
+        ensures { Put output.old output.new (line self.now) };
 }
 
 impl NumberedLine for Var {
-    ghost line_numbers = { input_row };
+    ghost line = { λ v. numbers_text (input_row v) };
 
     #[inline(always)]
     fn put_line<W: Sink>(&self, output: &mut Output<W>) {
@@ -104,16 +131,21 @@ impl NumberedLine for Var {
 }
 
 impl NumberedLine for Latch {
-    ghost line_numbers = { latch_row };
+    ghost line = { λ l. row_text 1 (latch_row l) };
 
     #[inline(always)]
     fn put_line<W: Sink>(&self, output: &mut Output<W>) {
-        put_numbers(output, 2 * u64::from(self.var.0), &[u64::from(self.next.0)]);
+        let own = 2 * u64::from(self.var.0);
+        let next = u64::from(self.next.0);
+        match reset_number(own, self.reset) {
+            0 => put_numbers(output, own, &[next]),
+            reset => put_numbers(output, own, &[next, reset]),
+        }
     }
 }
 
 impl NumberedLine for Lit {
-    ghost line_numbers = { output_row };
+    ghost line = { λ l. numbers_text (literal_row l) };
 
     #[inline(always)]
     fn put_line<W: Sink>(&self, output: &mut Output<W>) {
@@ -122,7 +154,7 @@ impl NumberedLine for Lit {
 }
 
 impl NumberedLine for Gate {
-    ghost line_numbers = { gate_row };
+    ghost line = { λ g. numbers_text (gate_row g) };
 
     #[inline(always)]
     fn put_line<W: Sink>(&self, output: &mut Output<W>) {
@@ -131,10 +163,20 @@ impl NumberedLine for Gate {
     }
 }
 
+/// A size.
+impl NumberedLine for u32 {
+    ghost line = { λ size. numbers_text (size_row size) };
+
+    #[inline(always)]
+    fn put_line<W: Sink>(&self, output: &mut Output<W>) {
+        put_numbers(output, u64::from(*self), &[]);
+    }
+}
+
 /// The numbered lines of a section.
 #[inline(never)]
 fn put_lines<T: NumberedLine, W: Sink>(output: &mut Output<W>, items: &[T])
-    ensures { Put output.old output.new (flat_map (λ x. numbers_text (T.line_numbers x)) items.now) }
+    ensures { Put output.old output.new (flat_map T.line items.now) }
 {
     for item in items {
         item.put_line(output);
@@ -149,6 +191,10 @@ fn letter(kind: Kind) -> &'static [u8]
         Kind::Input => b"i",
         Kind::Latch => b"l",
         Kind::Output => b"o",
+        Kind::Bad => b"b",
+        Kind::Constraint => b"c",
+        Kind::Justice => b"j",
+        Kind::Fairness => b"f",
     }
 }
 
@@ -197,13 +243,25 @@ pub fn put_tail<W: Sink>(output: &mut Output<W>, circuit: &Circuit)
     put_comment(output, &circuit.comment);
 }
 
+/// The numbered lines of the sections between latches and gates, which ASCII and binary files list alike.
+pub fn put_literal_sections<W: Sink>(output: &mut Output<W>, circuit: &Circuit)
+    ensures { Put output.old output.new (flat_map line_text (literal_rows_of circuit.now)) }
+{
+    put_lines(output, circuit.outputs.as_slice());
+    put_lines(output, circuit.bad.as_slice());
+    put_lines(output, circuit.constraints.as_slice());
+    put_lines(output, circuit.justice.sizes.as_slice());
+    put_lines(output, circuit.justice.literals.as_slice());
+    put_lines(output, circuit.fairness.as_slice());
+}
+
 /// The numbered lines of all sections.
 fn put_sections<W: Sink>(output: &mut Output<W>, circuit: &Circuit)
     ensures { Put output.old output.new (flat_map line_text (rows_of circuit.now)) }
 {
     put_lines(output, circuit.inputs.as_slice());
     put_lines(output, circuit.latches.as_slice());
-    put_lines(output, circuit.outputs.as_slice());
+    put_literal_sections(output, circuit);
     put_lines(output, circuit.gates.as_slice());
 }
 
@@ -217,6 +275,10 @@ pub fn header_numbers(circuit: &Circuit) -> [u64; HEADER_NUMBERS]
         circuit.latches.len() as u64,
         circuit.outputs.len() as u64,
         circuit.gates.len() as u64,
+        circuit.bad.len() as u64,
+        circuit.constraints.len() as u64,
+        circuit.justice.sizes.len() as u64,
+        circuit.fairness.len() as u64,
     ]
 }
 

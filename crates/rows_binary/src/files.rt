@@ -21,9 +21,40 @@ o0 s
 o1 c
 c
 half adder
+#aig 4 1 2 1 1 2 1 2 1
+3 1
+4 6
+8
+6
+7
+9
+2
+1
+3
+4
+8
+5
+\u{2}\u{3}b1 a
+f0 b
+c
 #aig 6 5 0 1 1
 12
 \n\0c
+#aig 3 1 2 1 0 1 1 2 1
+3 1
+0 6
+2
+5
+4
+2
+0
+6
+7
+1
+b0 x
+c0 y
+j1 z
+f0 f
 ";
 
 /// The circuit of a text, in binary order.

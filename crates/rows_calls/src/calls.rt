@@ -1,6 +1,8 @@
 //! Calls that are given what they need.
 use crate::forms::{numbers_of, symbols_of};
-use aig_core::{Circuit, Listing, Lit, MemorySink, MemorySource, Names, Output, Var, read_all};
+use aig_core::{
+    Circuit, Listing, Lit, MemorySink, MemorySource, NamedCounts, Names, Output, Var, read_all,
+};
 use aig_text::{Limits, read_ascii};
 use std::alloc::Global;
 use std::test::Fail;
@@ -19,11 +21,28 @@ const LIMITED: &str = "\
 aag 4 0 0 0 0\n:yes;\
 aag 4 0 0 4 0\n0\n0\n0\n0\n:yes;\
 aag 4 1 0 0 0\n2\ni0 5\nc\n5\n:yes;\
+aag 0 0 0 0 0 0 4\n0\n0\n0\n0\n:yes;\
+aag 0 0 0 0 0 0 0 2\n1\n3\n0\n0\n0\n0\n:yes;\
+aag 0 0 0 0 0 0 0 2\n2\n3\n0\n0\n0\n0\n0\n:no;\
+aag 0 0 0 0 0 5\n0\n0\n0\n0\n0\n:no;\
 aag 5 0 0 0 0\n:no;\
 aag 4 0 0 5 0\n0\n0\n0\n0\n0\n:no";
 
 /// What is named in turn, and whether it had no name before.
-const NAMED: &str = "i0 new,l0 new,o0 new,i0 old,l0 old,o0 old,i9 new,i9 old";
+const NAMED: &str = "\
+i0 new,l0 new,o0 new,b0 new,c0 new,j0 new,f0 new,\
+i0 old,l0 old,o0 old,b0 old,c0 old,j0 old,f0 old,i9 new,i9 old";
+
+/// One thing of each kind that may have a name.
+const ONE_OF_EACH: NamedCounts = NamedCounts {
+    inputs: 1,
+    latches: 1,
+    outputs: 1,
+    bad: 1,
+    constraints: 1,
+    justice: 1,
+    fairness: 1,
+};
 
 /// The circuit of a text.
 pub(crate) fn circuit_of(alloc: Global, text: &str) -> Result<Circuit, Fail> {
@@ -66,7 +85,7 @@ fn listings_are_copied(rt: HostRuntime) -> Result<(), Fail> {
 
 #[test]
 fn names(rt: HostRuntime) -> Result<(), Fail> {
-    let mut names = Names::new(rt.alloc(), 1, 1, 1)?;
+    let mut names = Names::new(rt.alloc(), ONE_OF_EACH)?;
     for symbol in symbols_of(rt.alloc(), NAMED)?.as_slice() {
         let is_new = names.insert(symbol.kind, symbol.position)?;
         assert!(rt; is_new == (symbol.name.as_slice() == b"new".as_slice()));

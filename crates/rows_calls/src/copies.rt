@@ -7,15 +7,25 @@ use std::alloc::Global;
 use std::test::Fail;
 
 /// A half adder, then others that differ from it in the comment alone, in the order of two symbols, in a name, in the
-/// order of a gate's operands, in the order of two gates, and in having no comment; with a `#` between them.
-const HALF_ADDERS: &str = "\
+/// order of a gate's operands, in the order of two gates, and in having no comment; with a `#` between them. Then a latch
+/// with properties, and others that differ from it in the reset, in a bad state, in a constraint, in the sizes of the justice
+/// properties, in the order of their literals, and in a fairness constraint.
+const CIRCUITS: &str = "\
 aag 7 2 0 2 3\n2\n4\n6\n12\n6 13 15\n12 2 4\n14 3 5\ni0 x\ni1 y\no0 s\no1 c\nc\nhalf adder\n#\
 aag 7 2 0 2 3\n2\n4\n6\n12\n6 13 15\n12 2 4\n14 3 5\ni0 x\ni1 y\no0 s\no1 c\nc\nhalf adder#\
 aag 7 2 0 2 3\n2\n4\n6\n12\n6 13 15\n12 2 4\n14 3 5\ni0 x\ni1 y\no1 c\no0 s\nc\nhalf adder\n#\
 aag 7 2 0 2 3\n2\n4\n6\n12\n6 13 15\n12 2 4\n14 3 5\ni0 x\ni1 y\no0 s\no1 d\nc\nhalf adder\n#\
 aag 7 2 0 2 3\n2\n4\n6\n12\n6 13 15\n12 4 2\n14 3 5\ni0 x\ni1 y\no0 s\no1 c\nc\nhalf adder\n#\
 aag 7 2 0 2 3\n2\n4\n6\n12\n6 13 15\n14 3 5\n12 2 4\ni0 x\ni1 y\no0 s\no1 c\nc\nhalf adder\n#\
-aag 7 2 0 2 3\n2\n4\n6\n12\n6 13 15\n12 2 4\n14 3 5\ni0 x\ni1 y\no0 s\no1 c\n";
+aag 7 2 0 2 3\n2\n4\n6\n12\n6 13 15\n12 2 4\n14 3 5\ni0 x\ni1 y\no0 s\no1 c\n#\
+aag 1 0 1 0 0 1 1 2 1\n2 3\n2\n3\n1\n1\n2\n3\n0\n#\
+aag 1 0 1 0 0 1 1 2 1\n2 3 1\n2\n3\n1\n1\n2\n3\n0\n#\
+aag 1 0 1 0 0 1 1 2 1\n2 3 2\n2\n3\n1\n1\n2\n3\n0\n#\
+aag 1 0 1 0 0 1 1 2 1\n2 3\n3\n3\n1\n1\n2\n3\n0\n#\
+aag 1 0 1 0 0 1 1 2 1\n2 3\n2\n2\n1\n1\n2\n3\n0\n#\
+aag 1 0 1 0 0 1 1 2 1\n2 3\n2\n3\n0\n2\n2\n3\n0\n#\
+aag 1 0 1 0 0 1 1 2 1\n2 3\n2\n3\n1\n1\n3\n2\n0\n#\
+aag 1 0 1 0 0 1 1 2 1\n2 3\n2\n3\n1\n1\n2\n3\n1\n";
 
 /// The text of a circuit whose symbols and comment were put in by hand.
 const BY_HAND: &str = "aag 7 1 1 2 0\n2\n4 3\n5\n0\no1 a b\r\nl0 \ni0 c\nc\nmade by hand\n\n";
@@ -57,7 +67,10 @@ fn made_by_hand(alloc: Global) -> Result<Checked, Fail> {
 
 #[test]
 fn circuits_are_copied(rt: HostRuntime) -> Result<(), Fail> {
-    let circuit = circuit_of(rt.alloc(), "aag 2 1 1 1 0\n2\n4 3\n5\no0 b\ni0 a\nc\nx")?;
+    let circuit = circuit_of(
+        rt.alloc(),
+        "aag 2 1 1 1 0 1 1 1 1\n2\n4 3 4\n5\n2\n3\n1\n4\n5\no0 b\ni0 a\nc\nx",
+    )?;
     assert!(rt; same_as_own_copy(&circuit)?);
     Ok(())
 }
@@ -65,9 +78,9 @@ fn circuits_are_copied(rt: HostRuntime) -> Result<(), Fail> {
 /// A copy is the same as what it was made of, and as no other.
 #[test]
 fn copies_and_others(rt: HostRuntime) -> Result<(), Fail> {
-    for text in HALF_ADDERS.split('#') {
+    for text in CIRCUITS.split('#') {
         let first = read_ascii(rt.alloc(), text.as_bytes(), Limits::default())?;
-        for other in HALF_ADDERS.split('#') {
+        for other in CIRCUITS.split('#') {
             let is_same = same_as_copy_of(rt.alloc(), &first, other)?;
             assert!(rt; is_same == (text == other), "{text}{other}");
         }

@@ -1,6 +1,7 @@
 //! Which circuits are in form.
 use crate::calls::circuit_of;
-use aig_core::{Circuit, Gate, Kind, Latch, Listing, Lit, Symbol, Var};
+use aig_core::{Circuit, Gate, Kind, Latch, Listing, Lit, Reset, Symbol, Var};
+use aig_text::empty_circuit;
 use std::alloc::Global;
 use std::test::Fail;
 
@@ -24,10 +25,34 @@ const SECTIONS: &str = "\
 4 1 2 3 0 0 0 10 no
 ";
 
-/// Symbols of a circuit of two inputs, one latch and one output, and whether it is in form with them. One of the names
-/// has a line feed.
+/// Bad states, constraints, sizes of justice properties, their literals and fairness constraints of a circuit with the
+/// largest index 4, and whether it is in form with them.
+const PROPERTIES: &str = "\
+b 9 0,c 9,s 1 0 2,j 3 9 0,f 9:yes;\
+b 0 10:no;\
+c 10:no;\
+f 10:no;\
+s 1,j 10:no;\
+s 0 0:yes;\
+s 1:no;\
+j 1:no;\
+s 2,j 1:no;\
+s 1 1,j 1 1 1:no;\
+s 4294967295 1:no;\
+s 4294967295 2,j 1:no";
+
+/// Symbols of a circuit of two inputs and one of each other kind, and whether it is in form with them. One of the names has
+/// a line feed.
 const SYMBOLS: &str = "\
-i0 a,i1 a,l0 a,o0 a:yes;\
+i0 a,i1 a,l0 a,o0 a,b0 a,c0 a,j0 a,f0 a:yes;\
+f0 a,j0 a,c0 a,b0 a,o0 a,l0 a,i0 a:yes;\
+b1 a:no;\
+c1 a:no;\
+j1 a:no;\
+f1 a:no;\
+b0 a,b0 b:no;\
+f0 a,c0 a,j0 a,f0 b:no;\
+j0 a,i0 a,j0 b:no;\
 o0 a,l0 b,i1 c,i0 d:yes;\
 i1 a,o0 :yes;\
 i2 a:no;\
@@ -51,6 +76,15 @@ pub(crate) fn numbers_of(alloc: Global, row: &str) -> Result<Vec<u32>, Fail> {
     Ok(numbers)
 }
 
+/// Literals of these numbers.
+fn literals_of(alloc: Global, numbers: &[u32]) -> Result<Listing<Lit>, Fail> {
+    let mut literals = Listing::new(alloc);
+    for number in numbers {
+        literals.push(Lit(*number))?;
+    }
+    Ok(literals)
+}
+
 /// A circuit of the numbers of a row.
 fn circuit_of_row(alloc: Global, row: &str) -> Result<Circuit, Fail> {
     let numbers = numbers_of(alloc, row)?;
@@ -60,6 +94,7 @@ fn circuit_of_row(alloc: Global, row: &str) -> Result<Circuit, Fail> {
     let latch = Latch {
         var: Var(latch),
         next: Lit(next),
+        reset: Reset::Uninit,
     };
     let gate = Gate {
         var: Var(gate),
@@ -67,14 +102,27 @@ fn circuit_of_row(alloc: Global, row: &str) -> Result<Circuit, Fail> {
         right: Lit(right),
     };
     Ok(Circuit {
-        max_var,
         inputs: Listing::from_vec(Vec::from_slice(alloc, &[Var(input)])?),
         latches: Listing::from_vec(Vec::from_slice(alloc, &[latch])?),
         outputs: Listing::from_vec(Vec::from_slice(alloc, &[Lit(output)])?),
         gates: Listing::from_vec(Vec::from_slice(alloc, &[gate])?),
-        symbols: Listing::new(alloc),
-        comment: None,
+        ..empty_circuit(alloc, max_var)
     })
+}
+
+/// Gives a circuit what a part of a row lists, as `b 9 0`.
+fn with_part(alloc: Global, circuit: &mut Circuit, part: &str) -> Result<(), Fail> {
+    let (letter, numbers) = part.split_once(' ').ok_or("a part has numbers")?;
+    let numbers = numbers_of(alloc, numbers)?;
+    let literals = literals_of(alloc, numbers.as_slice())?;
+    match letter {
+        "b" => circuit.bad = literals,
+        "c" => circuit.constraints = literals,
+        "j" => circuit.justice.literals = literals,
+        "f" => circuit.fairness = literals,
+        _ => circuit.justice.sizes = Listing::from_vec(numbers),
+    }
+    Ok(())
 }
 
 /// What a symbol with this letter names.
@@ -82,6 +130,10 @@ fn kind_of(letter: u8) -> Kind {
     match letter {
         b'i' => Kind::Input,
         b'l' => Kind::Latch,
+        b'b' => Kind::Bad,
+        b'c' => Kind::Constraint,
+        b'j' => Kind::Justice,
+        b'f' => Kind::Fairness,
         _ => Kind::Output,
     }
 }
@@ -118,10 +170,26 @@ fn variables_and_literals(rt: HostRuntime) -> Result<(), Fail> {
 }
 
 #[test]
+fn properties(rt: HostRuntime) -> Result<(), Fail> {
+    for row in PROPERTIES.split(';') {
+        let (parts, answer) = row.split_once(':').ok_or("a row has an answer")?;
+        let mut circuit = empty_circuit(rt.alloc(), 4);
+        for part in parts.split(',') {
+            with_part(rt.alloc(), &mut circuit, part)?;
+        }
+        assert!(rt; circuit.in_form() == (answer == "yes"), "{row}");
+    }
+    Ok(())
+}
+
+/// A circuit with something of each kind that may have a symbol.
+const NAMELESS: &str = "aag 3 2 1 1 0 1 1 1 1\n2\n4\n6 6\n6\n2\n2\n0\n2\n";
+
+#[test]
 fn symbols(rt: HostRuntime) -> Result<(), Fail> {
     for row in SYMBOLS.split(';') {
         let (symbols, answer) = row.split_once(':').ok_or("a row has an answer")?;
-        let mut circuit = circuit_of(rt.alloc(), "aag 3 2 1 1 0\n2\n4\n6 6\n6\n")?;
+        let mut circuit = circuit_of(rt.alloc(), NAMELESS)?;
         circuit.symbols = symbols_of(rt.alloc(), symbols)?;
         assert!(rt; circuit.in_form() == (answer == "yes"), "{row}");
     }

@@ -1,6 +1,6 @@
 -- A text that is read as a binary file is the file of the circuit, which is well formed and in binary order.
-use Rattle.std.proofs.Common.{◌≡◌, ℕ, List, ◌∷◌, ◌++◌, Option, Ok, refl, sym, ap, subst, ◌∙◌}
-use Rattle.std.specs.List.{AllByRecursion, AllZip}
+use Rattle.std.proofs.Common.{◌≡◌, ◌≤◌, ℕ, List, ◌∷◌, ◌++◌, length, Option, Ok, refl, sym, ap, subst, ◌∙◌}
+use Rattle.std.specs.List.{AllByRecursion, AllZip, sum}
 use Rattle.aig_core.specs.declared.circuit.Symbol.{Symbol}
 use Rattle.aig_core.specs.declared.circuit.Gate.{Gate}
 use Rattle.aig_core.specs.declared.circuit.Circuit.{Circuit}
@@ -11,7 +11,7 @@ use Rattle.aig_text.specs.Laws.{IsOneLine, EndInLineFeeds}
 use Rattle.aig_text.specs.Rows.{Row, header_row}
 use Rattle.aig_text.specs.AsciiGrammar.{IsRowLine}
 use Rattle.aig_text.proofs.Loops.Cutting.{pieces}
-use Rattle.aig_text.proofs.Grammar.Headers.{HasCounts, heads, limited, within_limits}
+use Rattle.aig_text.proofs.Grammar.Headers.{HasCounts, heads, limited, sizes_within_limit, within_limits}
 use Rattle.aig_text.proofs.Grammar.Pieces.{lines_again, first_ended, ended_before, bytes_joined}
 use Rattle.aig_text.proofs.Grammar.Tail.{with_tail}
 use Rattle.aig_text.proofs.Grammar.WholeTail.{left_of, tail_holds, good_symbols}
@@ -19,7 +19,8 @@ use Rattle.aig_core.specs.BinaryOrder.{IsInBinaryOrder}
 use Rattle.aig_binary.specs.BinaryGrammar.{binary_word, binary_rows_of, SpellsGates, EndsBefore, IsBinaryText}
 use Rattle.aig_binary.specs.BinaryReading.{binary_at, binary_reading}
 use Rattle.aig_core.proofs.Numbered.WellOrdered.{HasLiteralsUpTo, well_formed}
-use Rattle.aig_binary.proofs.Grammar.Numbered.{numbered_circuit, rows_are, literals_are, counts_are, order_is}
+use Rattle.aig_binary.proofs.Grammar.Numbered.{numbered_circuit, rows_are, literals_are, sizes_are, sizes_within}
+use Rattle.aig_binary.proofs.Grammar.Numbered.{counts_are, order_is}
 use Rattle.aig_binary.proofs.Grammar.Found.{TellsBinary, binary_found}
 
 -- what the tail adds changes no order
@@ -29,29 +30,38 @@ order_kept c ss comment o = record { inputs = o.inputs; latches = o.latches; gat
 
 module _ (limit : ℕ) (ls : List Line) (c : Circuit) (t : TellsBinary limit ls c) where
   abbrev numbered : Circuit
-  numbered = numbered_circuit t.header t.numbers.nexts t.numbers.outputs t.numbers.gates
+  numbered = numbered_circuit t.header t.numbers.found t.numbers.gates
 
   counts : HasCounts t.header c
   counts =
       sym (ap header_row t.numbers.tail.circuit)
-      ∙ counts_are t.header t.numbers.nexts t.numbers.outputs t.numbers.gates t.numbers.fit_nexts.counted
-      t.numbers.fit_outputs.counted t.numbers.are_gates.counted
+      ∙ counts_are t.header t.numbers.found t.numbers.fit t.numbers.gates t.numbers.are_gates.counted
 
   pub ordered : IsInBinaryOrder c
   ordered =
       subst IsInBinaryOrder t.numbers.tail.circuit (order_kept numbered t.numbers.tail.symbols t.numbers.tail.comment
-      (order_is t.header t.numbers.nexts t.numbers.outputs t.numbers.gates t.numbers.fit_nexts.counted
-      t.numbers.are_gates.counted t.full t.numbers.are_gates.ordered))
+      (order_is t.header t.numbers.found t.numbers.fit t.numbers.gates t.numbers.are_gates.counted t.full
+      t.numbers.are_gates.ordered))
 
   literals : HasLiteralsUpTo c
   literals =
       subst HasLiteralsUpTo t.numbers.tail.circuit
-      (literals_are t.header t.numbers.nexts t.numbers.outputs t.numbers.gates t.numbers.fit_nexts.good
-      t.numbers.fit_outputs.good)
+      (literals_are t.header t.numbers.found t.numbers.fit t.numbers.gates)
+
+  sizes : sum c.justice.sizes ≡ length c.justice.literals
+  sizes =
+      subst (λ (d : Circuit). sum d.justice.sizes ≡ length d.justice.literals) t.numbers.tail.circuit
+      (sizes_are t.header t.numbers.found t.numbers.fit t.numbers.gates)
+
+  pub small_sizes : sum c.justice.sizes ≤ t.header.limit
+  small_sizes =
+      subst (λ (d : Circuit). sum d.justice.sizes ≤ t.header.limit) t.numbers.tail.circuit
+      (sizes_within t.header t.numbers.found t.numbers.fit t.numbers.gates)
 
   pub sound : IsWellFormed c
   sound =
-      well_formed c ordered literals (within_limits binary_word limit t.first t.header c t.heads counts)
+      well_formed c ordered literals
+      (within_limits binary_word limit t.first t.header c t.heads counts sizes small_sizes)
       (good_symbols t.header numbered c (lines_of t.numbers.rest) t.numbers.tail refl counts
       (pieces t.numbers.rest).one_each)
 
@@ -65,8 +75,8 @@ module _ (limit : ℕ) (ls : List Line) (c : Circuit) (t : TellsBinary limit ls 
   rows_spelled : AllZip IsRowLine t.numbers.front (binary_rows_of c)
   rows_spelled =
       subst (λ (rs : List Row). AllZip IsRowLine t.numbers.front rs)
-      (rows_are t.header t.numbers.nexts t.numbers.outputs t.numbers.gates
-      t.numbers.fit_nexts.good t.numbers.fit_outputs.good ∙ ap binary_rows_of t.numbers.tail.circuit)
+      (rows_are t.header t.numbers.found t.numbers.fit t.numbers.gates
+      ∙ ap binary_rows_of t.numbers.tail.circuit)
       t.numbers.spelled
 
 -- a text whose lines tell a circuit is its file
@@ -101,6 +111,9 @@ found_is_accepted limit text c t =
       is_tail =
           tail_holds t.header nothing_named (numbered limit ls c t) c (lines_of t.numbers.rest) t.numbers.tail refl;
       limited = limited binary_word limit t.first t.header c t.heads (counts limit ls c t);
+      sizes_limited =
+          sizes_within_limit binary_word limit t.first t.header c t.heads (counts limit ls c t)
+          (small_sizes limit ls c t);
       ordered = ordered limit ls c t;
       well_formed = sound limit ls c t;
     }

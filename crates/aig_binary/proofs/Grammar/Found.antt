@@ -10,35 +10,34 @@ use Rattle.aig_text.specs.declared.fault.ReadKind.TheVariants as kinds
 use Rattle.aig_text.specs.declared.fault.ReadFault.{ReadFault}
 use Rattle.aig_text.specs.Lines.{Line, Ahead, ahead, lines_of, bytes_of}
 use Rattle.aig_text.specs.declared.header_line.Header.{Header}
-use Rattle.aig_text.specs.Rows.{output_form, sections, in_binary}
+use Rattle.aig_text.specs.Rows.{sections, in_binary}
 use Rattle.aig_text.specs.declared.section.Section.{Section}
-use Rattle.aig_text.specs.declared.section.Section.TheVariants.{Inputs, Latches, Outputs, Gates}
+use Rattle.aig_text.specs.declared.section.Section.TheVariants.{Inputs, Latches, Outputs, Bad, Constraints}
+use Rattle.aig_text.specs.declared.section.Section.TheVariants.{JusticeSizes, JusticeLiterals, Fairness, Gates}
 use Rattle.aig_text.specs.AsciiGrammar.{IsRowLine}
 use Rattle.aig_text.specs.Reading.{◌>>=◌, at_line, header_of, header_at, sections_at, empty_circuit, tail_at}
 use Rattle.aig_text.proofs.Steps.{both_ok, ok_at_line, ok_same, let_through}
 use Rattle.aig_text.proofs.Grammar.Headers.{TellsHeader, header_tells}
 use Rattle.aig_text.proofs.Grammar.Rows.{IsSound, first_found}
-use Rattle.aig_text.proofs.Grammar.Sections.{FitRows, rows_under, with_all, AllFit, sections_found}
+use Rattle.aig_text.proofs.Grammar.Sections.{FoundIn, rows_under, AllFit, sections_found}
 use Rattle.aig_text.proofs.Grammar.Tail.{TellsTail, tail_tells}
 use Rattle.aig_binary.specs.BinaryGrammar.{binary_word}
 use Rattle.aig_binary.specs.BinaryReading.{filled, gates_at, with_definitions, binary_at}
-use Rattle.aig_binary.proofs.Grammar.Numbered.{own_rows, with_lines, numbered_circuit}
+use Rattle.aig_binary.proofs.Grammar.Numbered.{numbered_circuit}
 use Rattle.aig_binary.proofs.Grammar.Gates.{AreGates, gates_are}
 
 -- lines that tell rows, with gates and the lines of a tail behind them
 pub record TellsNumbers (h : Header) (ls : List Line) (c : Circuit) : Type 0 where
-  pub nexts : List (List ℕ)
-  pub outputs : List (List ℕ)
+  pub found : FoundIn sections
   pub gates : List Gate
   pub front : List Line
   pub last : List Line
   pub rest : List ℕ
   pub lines : ls ≡ front ++ last
-  pub spelled : AllZip IsRowLine front (rows_under in_binary h sections (own_rows nexts outputs))
-  pub fit_nexts : FitRows output_form h.max_var h.latches nexts
-  pub fit_outputs : FitRows output_form h.max_var h.outputs outputs
+  pub spelled : AllZip IsRowLine front (rows_under in_binary h sections found)
+  pub fit : AllFit in_binary h sections found (empty_circuit h.max_var)
   pub are_gates : AreGates (1 + h.inputs + h.latches) h.gates (bytes_of last) gates rest
-  pub tail : TellsTail h nothing_named (numbered_circuit h nexts outputs gates) c (lines_of rest)
+  pub tail : TellsTail h nothing_named (numbered_circuit h found gates) c (lines_of rest)
 
 pub record TellsBinary (limit : ℕ) (ls : List Line) (c : Circuit) : Type 0 where
   pub first : Line
@@ -70,59 +69,33 @@ sound : (s : Section) → IsSound (in_binary s).form
 sound Inputs = omega arith
 sound Latches = omega arith
 sound Outputs = omega arith
+sound Bad = omega arith
+sound Constraints = omega arith
+sound JusticeSizes = omega arith
+sound JusticeLiterals = omega arith
+sound Fairness = omega arith
 sound Gates = omega arith
-
--- next literals and outputs have lines, and the other sections none
-record TwoSections (h : Header) (c : Circuit) (found : List (List (List ℕ))) : Type 0 where
-  pub nexts : List (List ℕ)
-  pub outputs : List (List ℕ)
-  pub found_is : found ≡ own_rows nexts outputs
-  pub fit_nexts : FitRows output_form h.max_var h.latches nexts
-  pub fit_outputs : FitRows output_form h.max_var h.outputs outputs
-  pub circuit : with_lines h nexts outputs ≡ c
-
-two : (h : Header) (c : Circuit) (found : List (List (List ℕ)))
-    → AllFit in_binary h sections found (empty_circuit h.max_var)
-    → with_all in_binary h sections found (empty_circuit h.max_var) ≡ c → TwoSections h c found
-two h c [] fit is = absurd fit
-two h c (i ∷ []) fit is = absurd fit.1
-two h c (i ∷ l ∷ []) fit is = absurd fit.1.1
-two h c (i ∷ l ∷ o ∷ []) fit is = absurd fit.1.1.1
-two h c ((i ∷ is) ∷ l ∷ o ∷ g ∷ []) fit e = absurd (omega (arith, fit.0.counted))
-two h c ([] ∷ l ∷ o ∷ (g ∷ gs) ∷ []) fit e = absurd (omega (arith, fit.1.1.1.0.counted))
-two h c ([] ∷ l ∷ o ∷ [] ∷ []) fit is =
-    record { nexts = l; outputs = o; found_is = refl; fit_nexts = fit.1.0; fit_outputs = fit.1.1.0; circuit = is }
-two h c (i ∷ l ∷ o ∷ g ∷ x ∷ found) fit is = absurd fit.1.1.1.1
 
 numbers_found : (h : Header) (at : Ahead) (c : Circuit) → numbers_at h at ≡ Ok c → TellsNumbers h at.lines c
 numbers_found h at c is =
     let a = both_ok (sections_at in_binary h sections (empty_circuit h.max_var) at) (then_gates h) c is in
     let b = both_ok (gates_at (1 + h.inputs + h.latches) 1 h.gates (bytes_of a.0.1.lines)) (then_tail h a.0) c a.2 in
     let s = sections_found in_binary h sound sections (empty_circuit h.max_var) at a.0 a.1 in
-    let t = two h a.0.0 s.found s.fit s.circuit in
-    let tail : tail_at h nothing_named (numbered_circuit h t.nexts t.outputs b.0.0) a.0.1.number
-    (lines_of b.0.1) ≡ Ok c =
-    ap (λ (d : Circuit). tail_at h nothing_named (with_definitions h b.0.0 d) a.0.1.number (lines_of b.0.1)) t.circuit
+    let tail : tail_at h nothing_named (numbered_circuit h s.found b.0.0) a.0.1.number (lines_of b.0.1) ≡ Ok c =
+    ap (λ (d : Circuit). tail_at h nothing_named (with_definitions h b.0.0 d) a.0.1.number (lines_of b.0.1)) s.circuit
     ∙ b.2 in
     record {
-      nexts = t.nexts;
-      outputs = t.outputs;
+      found = s.found;
       gates = b.0.0;
       front = s.front;
       last = a.0.1.lines;
       rest = b.0.1;
       lines = s.lines;
-      spelled =
-          subst
-          (λ (found : List (List (List ℕ))). AllZip IsRowLine s.front (rows_under in_binary h sections found))
-          t.found_is
-          s.spelled;
-      fit_nexts = t.fit_nexts;
-      fit_outputs = t.fit_outputs;
+      spelled = s.spelled;
+      fit = s.fit;
       are_gates = gates_are (1 + h.inputs + h.latches) 1 h.gates (bytes_of a.0.1.lines) b.0 b.1;
       tail =
-          tail_tells h nothing_named (numbered_circuit h t.nexts t.outputs b.0.0) a.0.1.number
-          (lines_of b.0.1) c refl tail;
+          tail_tells h nothing_named (numbered_circuit h s.found b.0.0) a.0.1.number (lines_of b.0.1) c refl tail;
     }
 
 -- a header whose definitions are all the variables

@@ -1,40 +1,54 @@
--- The numbered lines of a binary file: latches by their next literals, outputs, and what they make of a circuit.
-use Rattle.std.proofs.Common.{◌≡◌, ◌+◌, ℕ, suc, List, [], ◌∷◌, ◌++◌, length, map, refl, sym, ap, ap₂, subst, ◌∙◌}
-use Rattle.std.proofs.Common.{add-one}
-use Rattle.std.specs.List.{AllByRecursion, range_with_len}
-use Rattle.std.proofs.lemmas.List.{length-map}
+-- The numbered lines of a binary file: latches by their next states, the sections that ASCII files list alike, and what
+-- they make of a circuit.
+use Rattle.std.proofs.Common.{◌≡◌, ◌+◌, ◌≤◌, ℕ, suc, List, [], ◌∷◌, ◌++◌, drop, get_or, length, map, refl, sym, ap}
+use Rattle.std.proofs.Common.{ap₂, subst, ◌∙◌, add-one, arith}
+use Rattle.std.specs.List.{AllByRecursion, range_with_len, sum}
 use Rattle.std.proofs.lemmas.List.FromFn.{length-range_with_len}
 use Rattle.aig_core.specs.declared.circuit.Latch.{Latch}
 use Rattle.aig_core.specs.declared.circuit.Gate.{Gate}
 use Rattle.aig_core.specs.declared.circuit.Circuit.{Circuit}
-use Rattle.aig_text.specs.declared.header_line.Header.{Header}
-use Rattle.aig_text.specs.Rows.{row, output_form, output_row, output_of, latches_from, sections, in_binary}
-use Rattle.aig_text.specs.Reading.{empty_circuit}
-use Rattle.aig_text.proofs.Grammar.Entries.{IsGoodRow, IsLiteralUpTo, output_entry, rows_again, all_mapped}
-use Rattle.aig_text.proofs.Grammar.Headers.{HasCounts}
-use Rattle.aig_text.proofs.Grammar.Sections.{rows_under, with_all}
+use Rattle.aig_core.specs.Literal.{literal_of}
+use Rattle.aig_core.specs.Form.{IsLiteralUpTo}
 use Rattle.aig_core.specs.BinaryOrder.{AreOrderedGates, IsInBinaryOrder}
+use Rattle.aig_core.proofs.Numbered.WellOrdered.{HasLiteralsUpTo}
+use Rattle.aig_text.specs.declared.header_line.Header.{Header}
+use Rattle.aig_text.specs.Rows.{Row, row, next_form, next_row, latches_from, sections, in_ascii, in_binary}
+use Rattle.aig_text.specs.Reading.{empty_circuit}
+use Rattle.aig_text.proofs.Grammar.Entries.{AreGoodRows, reset_again}
+use Rattle.aig_text.proofs.Grammar.Headers.{HasCounts}
+use Rattle.aig_text.proofs.Grammar.Sections.{FoundIn, AllFit, rows_under, with_all, same_rows, same_counts}
+use Rattle.aig_text.proofs.Grammar.Sections.{same_sizes, small_sizes, entries_in_range}
 use Rattle.aig_binary.specs.BinaryGrammar.{binary_rows_of}
 use Rattle.aig_binary.specs.BinaryReading.{with_definitions}
-use Rattle.aig_core.proofs.Numbered.WellOrdered.{HasLiteralsUpTo}
 
--- the rows of all sections: next literals and outputs alone
-abbrev pub own_rows : List (List ℕ) → List (List ℕ) → List (List (List ℕ))
-own_rows nexts outputs = [] ∷ nexts ∷ outputs ∷ [] ∷ []
+-- the circuit with the rows of all sections, and with what no line tells
+abbrev pub numbered_circuit : Header → FoundIn sections → List Gate → Circuit
+numbered_circuit h found gates =
+    with_definitions h gates (with_all in_binary h sections found (empty_circuit h.max_var))
 
--- the circuit with them, and with what no line tells
-abbrev pub with_lines : Header → List (List ℕ) → List (List ℕ) → Circuit
-with_lines h nexts outputs = with_all in_binary h sections (own_rows nexts outputs) (empty_circuit h.max_var)
+-- latches by the rows of their next states
+next_literal : (v : ℕ) → literal_of v + 2 ≡ literal_of (suc v)
+next_literal v = omega arith
 
-abbrev pub numbered_circuit : Header → List (List ℕ) → List (List ℕ) → List Gate → Circuit
-numbered_circuit h nexts outputs gates = with_definitions h gates (with_lines h nexts outputs)
-
--- latches by the rows of their next literals
-nexts_are : (variable : ℕ) (rows : List (List ℕ))
-    → map (λ (l : Latch). l.next) (latches_from variable rows) ≡ map output_of rows
+next_rows_again : (m v : ℕ) (rows : List (List ℕ)) → AreGoodRows next_form m (literal_of v) rows
+    → map next_row (latches_from v rows) ≡ rows
 unfolding latches_from
-nexts_are variable [] = refl
-nexts_are variable (ns ∷ rows) = ap (λ (ms : List ℕ). output_of ns ∷ ms) (nexts_are (suc variable) rows)
+next_rows_again m v [] good = refl
+next_rows_again m v ([] ∷ rows) good = absurd good.0
+next_rows_again m v ((n ∷ []) ∷ rows) good = absurd good.0.1
+next_rows_again m v ((n ∷ r ∷ []) ∷ rows) good =
+    let others : AreGoodRows next_form m (literal_of (suc v)) rows =
+    subst (λ (k : ℕ). AreGoodRows next_form m k rows) (next_literal v) good.1 in
+    ap₂ (λ (s : ℕ) (others : List (List ℕ)). (n ∷ s ∷ []) ∷ others) (reset_again (literal_of v) r good.0.1.0)
+    (next_rows_again m (suc v) rows others)
+next_rows_again m v ((n ∷ r ∷ o ∷ ns) ∷ rows) good = absurd good.0.1.1
+
+nexts_up_to : (m k v : ℕ) (rows : List (List ℕ)) → AreGoodRows next_form m k rows
+    → AllByRecursion (IsLiteralUpTo m) (map (λ (l : Latch). l.next) (latches_from v rows))
+unfolding latches_from
+nexts_up_to m k v [] good = tt
+nexts_up_to m k v ([] ∷ rows) good = absurd good.0
+nexts_up_to m k v ((n ∷ ns) ∷ rows) good = (good.0.0, nexts_up_to m (k + 2) (suc v) rows good.1)
 
 define : (variable : ℕ) (rows : List (List ℕ))
     → map (λ (l : Latch). l.var) (latches_from variable rows) ≡ range_with_len variable (length rows)
@@ -49,74 +63,112 @@ unfolding latches_from
 as_many variable [] = refl
 as_many variable (ns ∷ rows) = ap suc (as_many (suc variable) rows)
 
--- the row of a latch
-abbrev pub next_row : Latch → List ℕ
-next_row l = output_row l.next
+none : (rows : List (List ℕ)) → length rows ≡ 0 → rows ≡ []
+none [] e = refl
+none (ns ∷ rows) e = absurd (omega arith)
 
-next_rows_are : (variable : ℕ) (rows : List (List ℕ))
-    → map next_row (latches_from variable rows) ≡ map output_row (map output_of rows)
-unfolding latches_from
-next_rows_are variable [] = refl
-next_rows_are variable (ns ∷ rows) =
-    ap (λ (ms : List (List ℕ)). output_row (output_of ns) ∷ ms) (next_rows_are (suc variable) rows)
+-- The sections between latches and gates are those of an ASCII file that has no inputs, no latches and no gates: this
+-- is its header, and these are its rows.
+abbrev header_between : Header → Header
+header_between h = record h { inputs = 0; latches = 0; gates = 0 }
 
-pub latches_again : (variable : ℕ) (ls : List Latch)
-    → map (λ (l : Latch). l.var) ls ≡ range_with_len variable (length ls) → latches_from variable (map next_row ls) ≡ ls
-unfolding latches_from
-latches_again variable [] e = refl
-latches_again variable (l ∷ ls) e =
-    let here : l.var ≡ variable = cc in
-    let others : map (λ (l : Latch). l.var) ls ≡ range_with_len (variable + 1) (length ls) = cc in
-    ap₂ (λ (v : ℕ) (ms : List Latch). record { var = v; next = l.next } ∷ ms) (sym here)
-    (latches_again (suc variable) ls (others ∙ ap (λ (k : ℕ). range_with_len k (length ls)) (add-one variable)))
+abbrev rows_between : FoundIn sections → FoundIn sections
+rows_between found =
+    let literals = found.1.1 in (
+      [],
+      (
+        [],
+        (
+          literals.0,
+          (
+            literals.1.0,
+            (literals.1.1.0, (literals.1.1.1.0, (literals.1.1.1.1.0, (literals.1.1.1.1.1.0, ([], tt))))),
+          ),
+        ),
+      ),
+    )
 
--- rows of one literal
-literals_again : (m : ℕ) (rows : List (List ℕ)) → AllByRecursion (IsGoodRow output_form m) rows
-    → map output_row (map output_of rows) ≡ rows
-literals_again m rows good =
-    rows_again (IsGoodRow output_form m) output_row output_of (output_entry.row_again m) rows good
+module _ (h : Header) (found : FoundIn sections) (fit : AllFit in_binary h sections found (empty_circuit h.max_var))
+  where
+    fit_between : AllFit in_ascii (header_between h) sections (rows_between found) (empty_circuit h.max_var)
+    fit_between =
+        let literals = fit.1.1 in (
+          record { good = tt; counted = refl },
+          (
+            record { good = tt; counted = refl },
+            (
+              literals.0,
+              (
+                literals.1.0,
+                (
+                  literals.1.1.0,
+                  (
+                    literals.1.1.1.0,
+                    (
+                      literals.1.1.1.1.0,
+                      (literals.1.1.1.1.1.0, (record { good = tt; counted = refl }, tt)),
+                    ),
+                  ),
+                ),
+              ),
+            ),
+          ),
+        )
 
-up_to : (m : ℕ) (rows : List (List ℕ)) → AllByRecursion (IsGoodRow output_form m) rows
-    → AllByRecursion (IsLiteralUpTo m) (map output_of rows)
-up_to m rows good = all_mapped (IsGoodRow output_form m) (IsLiteralUpTo m) output_of (output_entry.up_to m) rows good
+    abbrev nexts : List (List ℕ)
+    nexts = found.1.0
 
--- what a header, rows and gates make of a circuit
-module _ (h : Header) (nexts outputs : List (List ℕ)) (gates : List Gate) where
-  pub rows_are : AllByRecursion (IsGoodRow output_form h.max_var) nexts
-      → AllByRecursion (IsGoodRow output_form h.max_var) outputs
-      → rows_under in_binary h sections (own_rows nexts outputs)
-      ≡ binary_rows_of (numbered_circuit h nexts outputs gates)
-  rows_are n o =
-      sym (ap₂ (λ (xs ys : List (List ℕ)). map (row output_form) xs ++ (map (row output_form) ys ++ []))
-      (next_rows_are (1 + h.inputs) nexts ∙ literals_again h.max_var nexts n) (literals_again h.max_var outputs o))
+    module _ (gates : List Gate) where
+      abbrev numbered : Circuit
+      numbered = numbered_circuit h found gates
 
-  pub literals_are : AllByRecursion (IsGoodRow output_form h.max_var) nexts
-      → AllByRecursion (IsGoodRow output_form h.max_var) outputs
-      → HasLiteralsUpTo (numbered_circuit h nexts outputs gates)
-  literals_are n o = (
-    subst (λ (ms : List ℕ). AllByRecursion (IsLiteralUpTo h.max_var) ms) (sym (nexts_are (1 + h.inputs) nexts))
-        (up_to h.max_var nexts n),
-    up_to h.max_var outputs o,
-  )
+      -- the rows of the circuit are those that were read
+      pub rows_are : rows_under in_binary h sections found ≡ binary_rows_of numbered
+      rows_are =
+          let between = same_rows (header_between h) (rows_between found) fit_between in
+          let latches = next_rows_again h.max_var (1 + h.inputs) nexts fit.1.0.good in
+          let inputs = none found.0 fit.0.counted in
+          let gates = none found.1.1.1.1.1.1.1.1.0 fit.1.1.1.1.1.1.1.1.0.counted in
+          rw (inputs, gates, latches) (ap (λ (rows : List Row). map (row next_form) nexts ++ rows) between)
 
-  pub counts_are : length nexts ≡ h.latches → length outputs ≡ h.outputs → length gates ≡ h.gates
-      → HasCounts h (numbered_circuit h nexts outputs gates)
-  counts_are l o g =
-      let inputs : length (range_with_len 1 h.inputs) ≡ h.inputs = length-range_with_len 1 h.inputs in
-      let latches : length (latches_from (1 + h.inputs) nexts) ≡ h.latches = as_many (1 + h.inputs) nexts ∙ l in
-      let outs : length (map output_of outputs) ≡ h.outputs = length-map outputs output_of ∙ o in
-      rw (inputs, latches, outs, g) refl
+      pub literals_are : HasLiteralsUpTo numbered
+      literals_are = (
+        nexts_up_to h.max_var (literal_of (1 + h.inputs)) (1 + h.inputs) nexts fit.1.0.good,
+        (entries_in_range (header_between h) (rows_between found) fit_between).literals,
+      )
 
-  pub order_is : length nexts ≡ h.latches → length gates ≡ h.gates → h.max_var ≡ h.inputs + h.latches + h.gates
-      → AreOrderedGates (1 + h.inputs + h.latches) gates → IsInBinaryOrder (numbered_circuit h nexts outputs gates)
-  order_is l g full ordered =
-      let inputs : length (range_with_len 1 h.inputs) ≡ h.inputs = length-range_with_len 1 h.inputs in
-      let latches : length (latches_from (1 + h.inputs) nexts) ≡ length nexts = as_many (1 + h.inputs) nexts in
-      record {
-        inputs = ap (range_with_len 1) (sym inputs);
-        latches = define (1 + h.inputs) nexts ∙ ap₂ (λ (i k : ℕ). range_with_len (1 + i) k) (sym inputs) (sym latches);
-        gates =
-            subst (λ (v : ℕ). AreOrderedGates v gates)
-            (ap₂ (λ (i k : ℕ). 1 + i + k) (sym inputs) (sym (latches ∙ l))) ordered;
-        all = full ∙ ap₂ (λ (k n : ℕ). k + n) (ap₂ (λ (i k : ℕ). i + k) (sym inputs) (sym (latches ∙ l))) (sym g);
-      }
+      -- the sizes are those of the literals, and their sum is within the limit
+      pub sizes_are : sum numbered.justice.sizes ≡ length numbered.justice.literals
+      sizes_are = same_sizes (header_between h) (rows_between found) fit_between
+
+      pub sizes_within : sum numbered.justice.sizes ≤ h.limit
+      sizes_within = small_sizes (header_between h) (rows_between found) fit_between
+
+      -- the counts of the definitions, in a header row
+      abbrev with_counts : ℕ → ℕ → ℕ → List ℕ → List ℕ
+      with_counts inputs latches gates row = get_or row 0 0 ∷ inputs ∷ latches ∷ get_or row 3 0 ∷ gates ∷ drop 5 row
+
+      pub counts_are : length gates ≡ h.gates → HasCounts h numbered
+      counts_are g =
+          let inputs : length (range_with_len 1 h.inputs) ≡ h.inputs = length-range_with_len 1 h.inputs in
+          let latches : length (latches_from (1 + h.inputs) nexts) ≡ h.latches =
+          as_many (1 + h.inputs) nexts ∙ fit.1.0.counted in
+          ap
+          (with_counts (length (range_with_len 1 h.inputs)) (length (latches_from (1 + h.inputs) nexts)) (length gates))
+          (same_counts (header_between h) (rows_between found) fit_between)
+          ∙ rw (inputs, latches, g) refl
+
+      pub order_is : length gates ≡ h.gates → h.max_var ≡ h.inputs + h.latches + h.gates
+          → AreOrderedGates (1 + h.inputs + h.latches) gates → IsInBinaryOrder numbered
+      order_is g full ordered =
+          let inputs : length (range_with_len 1 h.inputs) ≡ h.inputs = length-range_with_len 1 h.inputs in
+          let many : length (latches_from (1 + h.inputs) nexts) ≡ length nexts = as_many (1 + h.inputs) nexts in
+          let latches : length (latches_from (1 + h.inputs) nexts) ≡ h.latches = many ∙ fit.1.0.counted in
+          record {
+            inputs = ap (range_with_len 1) (sym inputs);
+            latches = define (1 + h.inputs) nexts ∙ ap₂ (λ (i k : ℕ). range_with_len (1 + i) k) (sym inputs) (sym many);
+            gates =
+                subst (λ (v : ℕ). AreOrderedGates v gates)
+                (ap₂ (λ (i k : ℕ). 1 + i + k) (sym inputs) (sym latches)) ordered;
+            all = full ∙ ap₂ (λ (k n : ℕ). k + n) (ap₂ (λ (i k : ℕ). i + k) (sym inputs) (sym latches)) (sym g);
+          }

@@ -1,7 +1,7 @@
 -- Facts on each item of a section, joined to facts on the circuit's lists, and symbols in order.
 use Rattle.std.proofs.Common.{◌≡◌, ℕ, ◌+◌, ◌<◌, Bool, List, [], ◌∷◌, ◌++◌, map, arith, sym, ap₂, flat_map, Decides, not}
 use Rattle.std.proofs.Common.{◌==◌}
-use Rattle.std.specs.List.{All, AllByRecursion, list_any}
+use Rattle.std.specs.List.{All, AllByRecursion, concat, list_any}
 use Rattle.std.proofs.lemmas.Bool.Decides.{Decides-eqb, Decides-or, Decides-not, Decides-like, Decides-at}
 use Rattle.std.proofs.lemmas.List.Elements.{All-from_recursion, recursion_from_All}
 use Rattle.aig_core.specs.declared.circuit.Latch.{Latch}
@@ -9,9 +9,9 @@ use Rattle.aig_core.specs.declared.circuit.Gate.{Gate}
 use Rattle.aig_core.specs.declared.circuit.Symbol.{Symbol}
 use Rattle.aig_core.specs.declared.circuit.Circuit.{Circuit}
 use Rattle.aig_core.specs.Wellformed.{IsAmong, IsWithinLimits, IsVariableUpTo, HasGoodSymbols, NameTheSame, NameApart}
-use Rattle.aig_core.specs.Wellformed.{operands}
+use Rattle.aig_core.specs.Wellformed.{literal_lists, operands}
 use Rattle.aig_core.specs.Form.{IsInForm, IsLiteralUpTo, AreInRange, HasEntriesInRange}
-use Rattle.aig_core.proofs.Checking.Sections.{defined_inputs, defined_latches, defined_gates, used_nexts, used_outputs}
+use Rattle.aig_core.proofs.Checking.Sections.{defined_inputs, defined_latches, defined_gates, used_nexts}
 use Rattle.aig_core.proofs.Checking.Sections.{defined_is, used_is}
 use Rattle.aig_core.specs.Parts.SymbolOrder.{start_of, place_of, IsRisingFrom}
 
@@ -28,6 +28,16 @@ module _ {X : Type 0} (P : X → Type 0) where
   pub back : (xs ys : List X) → AllByRecursion P (xs ++ ys) → AllByRecursion P ys
   back [] ys h = h
   back (x ∷ xs) ys h = back xs ys h.1
+
+-- a fact on each number of each list, and on each of all of them joined
+module _ (P : ℕ → Type 0) where
+  pub joined_all : (xss : List (List ℕ)) → AllByRecursion (AllByRecursion P) xss → AllByRecursion P (concat xss)
+  joined_all [] h = tt
+  joined_all (xs ∷ xss) h = joined P xs (concat xss) h.0 (joined_all xss h.1)
+
+  pub each_of : (xss : List (List ℕ)) → AllByRecursion P (concat xss) → AllByRecursion (AllByRecursion P) xss
+  each_of [] h = tt
+  each_of (xs ∷ xss) h = (front P xs (concat xss) h, each_of xss (back P xs (concat xss) h))
 
 -- what the entries of a section define and use is in range, one by one and in a row
 module _ {X : Type 0} (max_var : ℕ) (defined used : X → List ℕ) where
@@ -75,8 +85,8 @@ module _ (c : Circuit) where
   abbrev nexts : List ℕ
   nexts = used_nexts c.latches
 
-  abbrev outputs : List ℕ
-  outputs = used_outputs c.outputs
+  abbrev listed : List ℕ
+  listed = concat (literal_lists c)
 
   pub by_parts : IsWithinLimits c → HasEntriesInRange c → HasGoodSymbols c → IsInForm c
   by_parts limits entries symbols =
@@ -86,16 +96,15 @@ module _ (c : Circuit) where
       entries_to c.max_var (λ (g : Gate). g.var ∷ []) operands c.gates entries.gates in
       let first_inputs : AllByRecursion Defines inputs =
       (entries_to c.max_var (λ (v : ℕ). v ∷ []) (λ _. []) c.inputs entries.inputs).0 in
-      let all_outputs : AllByRecursion Uses outputs =
-      (entries_to c.max_var (λ (l : ℕ). []) (λ (l : ℕ). l ∷ []) c.outputs entries.outputs).1 in
+      let all_listed : AllByRecursion Uses listed = joined_all Uses (literal_lists c) entries.literals in
       record {
         limits = limits;
         variables = rw (← defined_is c)
             (joined Defines (inputs ++ latches) (defined_gates c.gates)
             (joined Defines inputs latches first_inputs latch_entries.0) gate_entries.0);
         literals = rw (← used_is c)
-            (joined Uses (nexts ++ outputs) (flat_map operands c.gates)
-            (joined Uses nexts outputs latch_entries.1 all_outputs) gate_entries.1);
+            (joined Uses (nexts ++ listed) (flat_map operands c.gates)
+            (joined Uses nexts listed latch_entries.1 all_listed) gate_entries.1);
         symbols = symbols;
       }
 
@@ -103,20 +112,19 @@ module _ (c : Circuit) where
   in_range form =
       let variables : AllByRecursion Defines ((inputs ++ latches) ++ defined_gates c.gates) =
       rw (← defined_is c) at form.variables in
-      let literals : AllByRecursion Uses ((nexts ++ outputs) ++ flat_map operands c.gates) =
+      let literals : AllByRecursion Uses ((nexts ++ listed) ++ flat_map operands c.gates) =
       rw (← used_is c) at form.literals in
       let sequential = front Defines (inputs ++ latches) (defined_gates c.gates) variables in
-      let without_gates = front Uses (nexts ++ outputs) (flat_map operands c.gates) literals in
+      let without_gates = front Uses (nexts ++ listed) (flat_map operands c.gates) literals in
       record {
         inputs = entries_from c.max_var (λ (v : ℕ). v ∷ []) (λ _. []) c.inputs
             (front Defines inputs latches sequential, none_of Uses c.inputs);
         latches = entries_from c.max_var (λ (l : Latch). l.var ∷ []) (λ (l : Latch). l.next ∷ []) c.latches
-            (back Defines inputs latches sequential, front Uses nexts outputs without_gates);
-        outputs = entries_from c.max_var (λ (l : ℕ). []) (λ (l : ℕ). l ∷ []) c.outputs
-            (none_of Defines c.outputs, back Uses nexts outputs without_gates);
+            (back Defines inputs latches sequential, front Uses nexts listed without_gates);
+        literals = each_of Uses (literal_lists c) (back Uses nexts listed without_gates);
         gates = entries_from c.max_var (λ (g : Gate). g.var ∷ []) operands c.gates (
           back Defines (inputs ++ latches) (defined_gates c.gates) variables,
-          back Uses (nexts ++ outputs) (flat_map operands c.gates) literals,
+          back Uses (nexts ++ listed) (flat_map operands c.gates) literals,
         );
       }
 

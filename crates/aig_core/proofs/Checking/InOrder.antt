@@ -1,7 +1,7 @@
 -- Where gates stand after those that they use, no gate depends on a cycle and each operand is known.
 use Rattle.std.proofs.Common.{◌≡◌, ◌<◌, ◌≤◌, ◌*◌, ℕ, zero, suc, List, [], ◌∷◌, ◌++◌, Bool, true, false, ◌||◌, not, cond}
 use Rattle.std.proofs.Common.{eqb, Option, None, Some, length, map, refl, sym, ap, subst, ◌∙◌, ⊎_elim, arith}
-use Rattle.std.specs.List.{list_all, flat_map}
+use Rattle.std.specs.List.{concat, list_all, flat_map}
 use Rattle.std.specs.Option.{is_none, option_map, option_or}
 use Rattle.std.specs.Ordering.{nat_cmp}
 use Rattle.std.specs.FinSet as set
@@ -12,7 +12,7 @@ use Rattle.aig_core.specs.declared.circuit.Circuit.{Circuit}
 use Rattle.aig_core.specs.declared.circuit.Latch.{Latch}
 use Rattle.aig_core.specs.declared.circuit.Gate.{Gate}
 use Rattle.aig_core.specs.Literal.{variable_of}
-use Rattle.aig_core.specs.Wellformed.{IsAmong, IsVariableUpTo, operands, defined_variables, used_literals}
+use Rattle.aig_core.specs.Wellformed.{IsAmong, IsVariableUpTo, operands, defined_variables, literal_lists, used_literals}
 use Rattle.aig_core.specs.Form.{IsInForm}
 use Rattle.aig_core.specs.Order.{gate_operands, ends_within, depends_on_cycle, first_cyclic}
 use Rattle.aig_core.specs.Fault.{first_repeat, first_unknown, first_structural_fault, with_all, is_known}
@@ -149,13 +149,13 @@ module _ (c : Circuit) (once : first_repeat set.empty (defined_variables c) ≡ 
       ap (λ s. first_unknown s (flat_map operands c.gates)) (with_all_append set.empty before (variables c.gates))
       ∙ operands_known (with_all set.empty before) c.gates in_order
 
-  -- where next literals and outputs are known too, there is no fault
+  -- where what is used outside of gates is known too, there is no fault
   pub in_order_faultless : IsInForm c
-      → first_unknown (with_all set.empty (defined_variables c)) (map (λ (l : Latch). l.next) c.latches ++ c.outputs)
+      → first_unknown (with_all set.empty (defined_variables c)) (map (λ (l : Latch). l.next) c.latches ++ concat (literal_lists c))
       ≡ None → first_structural_fault c ≡ None
   in_order_faultless form ends =
       let s : FinSet nat_cmp = with_all set.empty (defined_variables c) in
       let known : first_unknown s (used_literals c) ≡ None =
-      unknown_append s (map (λ (l : Latch). l.next) c.latches ++ c.outputs) (flat_map operands c.gates)
+      unknown_append s (map (λ (l : Latch). l.next) c.latches ++ concat (literal_lists c)) (flat_map operands c.gates)
       ∙ rw (ends, gates_known) refl in
       rw (once, known, none_cyclic form) refl

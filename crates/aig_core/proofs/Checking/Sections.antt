@@ -1,7 +1,7 @@
 -- Definitions and uses over sections end to end, as the loops over each section tell them.
 use Rattle.std.proofs.Common.{◌≡◌, ℕ, List, [], ◌∷◌, ◌++◌, true, false, cond, Option, None, Some}
 use Rattle.std.proofs.Common.{refl, sym, ap, ◌∙◌, inl, ⊎_elim, map}
-use Rattle.std.specs.List.{flat_map}
+use Rattle.std.specs.List.{concat, flat_map}
 use Rattle.std.specs.Option.{option_map, option_or}
 use Rattle.std.specs.Ordering.{nat_cmp}
 use Rattle.std.specs.FinSet as set
@@ -14,7 +14,7 @@ use Rattle.aig_core.specs.declared.circuit.Gate.{Gate}
 use Rattle.aig_core.specs.declared.circuit.Circuit.{Circuit}
 use Rattle.aig_core.specs.declared.fault.CheckFault.{CheckFault}
 use Rattle.aig_core.specs.declared.fault.CheckFault.TheVariants.{Redefined}
-use Rattle.aig_core.specs.Wellformed.{defined_variables, used_literals, operands}
+use Rattle.aig_core.specs.Wellformed.{defined_variables, literal_lists, used_literals, operands}
 use Rattle.aig_core.specs.Fault.{first_repeat, first_redefinition, first_unknown, with_all, is_known, IsFault}
 
 -- what the loops over the sections go through
@@ -29,9 +29,6 @@ defined_gates = flat_map (λ (g : Gate). g.var ∷ [])
 
 abbrev pub used_nexts : List Latch → List ℕ
 used_nexts = flat_map (λ (l : Latch). l.next ∷ [])
-
-abbrev pub used_outputs : List ℕ → List ℕ
-used_outputs = flat_map (λ (l : ℕ). l ∷ [])
 
 pub defined_is : (c : Circuit) → (defined_inputs c.inputs ++ defined_latches c.latches) ++ defined_gates c.gates
     ≡ defined_variables c
@@ -49,13 +46,9 @@ before_is c =
     rw (flat_map_single (λ (v : ℕ). v) c.inputs, map-id c.inputs, flat_map_single (λ (l : Latch). l.var) c.latches)
     refl
 
-pub used_is : (c : Circuit) → (used_nexts c.latches ++ used_outputs c.outputs) ++ flat_map operands c.gates
+pub used_is : (c : Circuit) → (used_nexts c.latches ++ concat (literal_lists c)) ++ flat_map operands c.gates
     ≡ used_literals c
-used_is c = rw (
-  flat_map_single (λ (l : ℕ). l) c.outputs,
-  map-id c.outputs,
-  flat_map_single (λ (l : Latch). l.next) c.latches,
-) refl
+used_is c = rw (flat_map_single (λ (l : Latch). l.next) c.latches) refl
 
 pub with_all_append : (s : FinSet nat_cmp) (xs ys : List ℕ) → with_all s (xs ++ ys) ≡ with_all (with_all s xs) ys
 with_all_append s [] ys = refl
@@ -143,16 +136,14 @@ module _ (c : Circuit) where
         (map (λ (g : Gate). g.var) c.gates)))
 
 pub unknown_ends : (s : FinSet nat_cmp) (c : Circuit)
-    → option_or (first_unknown s (used_nexts c.latches)) (first_unknown s (used_outputs c.outputs))
-    ≡ first_unknown s (map (λ (l : Latch). l.next) c.latches ++ c.outputs)
-unknown_ends s c = rw (
-  flat_map_single (λ (l : ℕ). l) c.outputs,
-  map-id c.outputs,
-  flat_map_single (λ (l : Latch). l.next) c.latches,
-)
-    (sym (unknown_append s (map (λ (l : Latch). l.next) c.latches) c.outputs))
+    → option_or (first_unknown s (used_nexts c.latches)) (first_unknown s (concat (literal_lists c)))
+    ≡ first_unknown s (map (λ (l : Latch). l.next) c.latches ++ concat (literal_lists c))
+unknown_ends s c = rw (flat_map_single (λ (l : Latch). l.next) c.latches)
+    (sym (unknown_append s (map (λ (l : Latch). l.next) c.latches) (concat (literal_lists c))))
 
 pub unknowns : (s : FinSet nat_cmp) (c : Circuit)
-    → option_or (first_unknown s (map (λ (l : Latch). l.next) c.latches ++ c.outputs))
+    → option_or (first_unknown s (map (λ (l : Latch). l.next) c.latches ++ concat (literal_lists c)))
     (first_unknown s (flat_map operands c.gates)) ≡ first_unknown s (used_literals c)
-unknowns s c = sym (unknown_append s (map (λ (l : Latch). l.next) c.latches ++ c.outputs) (flat_map operands c.gates))
+unknowns s c =
+    sym (unknown_append s (map (λ (l : Latch). l.next) c.latches ++ concat (literal_lists c))
+    (flat_map operands c.gates))

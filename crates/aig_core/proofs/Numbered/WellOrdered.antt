@@ -2,17 +2,17 @@
 use Rattle.std.proofs.Common.{◌≡◌, ◌+◌, ◌*◌, ◌/◌, ◌<◌, ◌≤◌, ℕ, suc, List, [], ◌∷◌, ◌++◌, length, map, sym, subst, arith}
 use Rattle.std.proofs.Common.{⊎_elim}
 use Rattle.std.specs.Prelude.{◌⊎◌}
-use Rattle.std.specs.List.{AllByRecursion, range_with_len, flat_map}
+use Rattle.std.specs.List.{AllByRecursion, concat, range_with_len, flat_map}
 use Rattle.std.proofs.lemmas.List.Elements.{All-contains, All-from_recursion}
 use Rattle.aig_core.specs.declared.circuit.Latch.{Latch}
 use Rattle.aig_core.specs.declared.circuit.Gate.{Gate}
 use Rattle.aig_core.specs.declared.circuit.Circuit.{Circuit}
 use Rattle.aig_core.specs.Literal.{literal_of}
 use Rattle.aig_core.specs.Wellformed.{AreDistinct, IsKnown, IsRank, IsVariableUpTo, IsWithinLimits, HasGoodSymbols}
-use Rattle.aig_core.specs.Wellformed.{IsWellFormed, operands, used_literals}
+use Rattle.aig_core.specs.Wellformed.{IsWellFormed, literal_lists, operands, used_literals}
 use Rattle.aig_core.proofs.Checking.Fitting.{all_weaker}
 use Rattle.aig_core.specs.Form.{IsLiteralUpTo}
-use Rattle.aig_core.proofs.Checking.InForm.{joined}
+use Rattle.aig_core.proofs.Checking.InForm.{joined, joined_all}
 use Rattle.aig_core.specs.BinaryOrder.{AreOrderedGates, IsInBinaryOrder}
 use Rattle.aig_core.proofs.Numbered.Ranges.{each_in_range, distinct, known, variables_are}
 
@@ -48,14 +48,16 @@ operands_up_to variable m (g ∷ gs) o fits =
 -- what the numbered lines tell may stand in the circuit
 abbrev pub HasLiteralsUpTo : Circuit → Type 0
 HasLiteralsUpTo c = AllByRecursion (IsLiteralUpTo c.max_var) (map (λ (l : Latch). l.next) c.latches)
-    × AllByRecursion (IsLiteralUpTo c.max_var) c.outputs
+    × AllByRecursion (AllByRecursion (IsLiteralUpTo c.max_var)) (literal_lists c)
 
 all_up_to : (c : Circuit) → IsInBinaryOrder c → HasLiteralsUpTo c
     → AllByRecursion (IsLiteralUpTo c.max_var) (used_literals c)
 all_up_to c o literals =
     let all : c.max_var ≡ length c.inputs + length c.latches + length c.gates = o.all in
-    joined (IsLiteralUpTo c.max_var) (map (λ (l : Latch). l.next) c.latches ++ c.outputs) (flat_map operands c.gates)
-    (joined (IsLiteralUpTo c.max_var) (map (λ (l : Latch). l.next) c.latches) c.outputs literals.0 literals.1)
+    joined (IsLiteralUpTo c.max_var) (map (λ (l : Latch). l.next) c.latches ++ concat (literal_lists c))
+    (flat_map operands c.gates)
+    (joined (IsLiteralUpTo c.max_var) (map (λ (l : Latch). l.next) c.latches) (concat (literal_lists c)) literals.0
+    (joined_all (IsLiteralUpTo c.max_var) (literal_lists c) literals.1))
     (operands_up_to (1 + length c.inputs + length c.latches) c.max_var c.gates o.gates (omega arith))
 
 pub well_formed : (c : Circuit) → IsInBinaryOrder c → HasLiteralsUpTo c → IsWithinLimits c → HasGoodSymbols c

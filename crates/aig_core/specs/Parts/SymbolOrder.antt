@@ -1,4 +1,4 @@
--- The order in which files usually list symbols: inputs, then latches, then outputs, each by rising position.
+-- The order in which files usually list symbols: by kind, each by rising position.
 use Rattle.std.specs.Prelude.{◌+◌, ◌*◌, ◌^◌, ◌≤◌, ℕ, List, [], ◌∷◌}
 use Rattle.aig_core.specs.declared.circuit.Kind.{Kind}
 use Rattle.aig_core.specs.declared.circuit.Kind.TheVariants as kinds
@@ -9,6 +9,10 @@ abbrev pub start_of : Kind → ℕ
 start_of kinds.Input = 0
 start_of kinds.Latch = 2 ^ 32
 start_of kinds.Output = 2 * 2 ^ 32
+start_of kinds.Bad = 3 * 2 ^ 32
+start_of kinds.Constraint = 4 * 2 ^ 32
+start_of kinds.Justice = 5 * 2 ^ 32
+start_of kinds.Fairness = 6 * 2 ^ 32
 
 -- one number that rises by kind and then by position
 abbrev pub place_of : Symbol → ℕ

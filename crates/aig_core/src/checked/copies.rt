@@ -1,7 +1,7 @@
 //! Copies of circuits.
 ghost use Rattle.std.specs.Prelude.{◌≡◌, IfOk};
 
-use crate::circuit::{Circuit, Symbol};
+use crate::circuit::{Circuit, Justice, Symbol};
 use crate::fault::OutOfMemory;
 use crate::listing::Listing;
 use std::alloc::Global;
@@ -37,6 +37,16 @@ pub fn copy_comment(
     }
 }
 
+/// The same justice properties in memory of their own.
+pub fn copy_justice(alloc: Global, justice: &Justice) -> Result<Justice, OutOfMemory>
+    ensures { IfOk result (λ copy. copy ≡ justice.now) }
+{
+    Ok(Justice {
+        sizes: justice.sizes.copy(alloc)?,
+        literals: justice.literals.copy(alloc)?,
+    })
+}
+
 /// The same circuit in memory of its own.
 pub(crate) fn copy_circuit(alloc: Global, circuit: &Circuit) -> Result<Circuit, OutOfMemory>
     ensures { IfOk result (λ copy. copy ≡ circuit.now) }
@@ -46,6 +56,10 @@ pub(crate) fn copy_circuit(alloc: Global, circuit: &Circuit) -> Result<Circuit, 
         inputs: circuit.inputs.copy(alloc)?,
         latches: circuit.latches.copy(alloc)?,
         outputs: circuit.outputs.copy(alloc)?,
+        bad: circuit.bad.copy(alloc)?,
+        constraints: circuit.constraints.copy(alloc)?,
+        justice: copy_justice(alloc, &circuit.justice)?,
+        fairness: circuit.fairness.copy(alloc)?,
         gates: circuit.gates.copy(alloc)?,
         symbols: copy_symbols(alloc, &circuit.symbols)?,
         comment: copy_comment(alloc, &circuit.comment)?,

@@ -1,10 +1,10 @@
 //! What is wrong with a circuit: the first variable that is defined twice, or else the first literal that is used and
 //! not defined, or else the first gate that depends on a cycle.
 ghost use Rattle.std.specs.Prelude.{◌≡◌, ◌≤◌, ◌*◌, ◌++◌, IfOk, IfErr, OnOk, None, map};
-ghost use Rattle.std.specs.List.{flat_map};
+ghost use Rattle.std.specs.List.{concat, flat_map};
 ghost use Rattle.std.specs.Option.{option_map, option_to_list, IfSome};
 ghost use Rattle.std.specs.FinSet as set;
-ghost use Rattle.aig_core.specs.Wellformed.{defined_variables, used_literals};
+ghost use Rattle.aig_core.specs.Wellformed.{defined_variables, literal_lists, used_literals};
 ghost use Rattle.aig_core.specs.Fault.{first_structural_fault, first_repeat, first_redefinition, first_unknown};
 ghost use Rattle.aig_core.specs.Fault.{with_all};
 ghost use Rattle.aig_core.specs.Fault.{is_known, IsFault};
@@ -164,12 +164,26 @@ pub(crate) fn find_redefinition(alloc: Global, circuit: &Circuit) -> Result<(), 
     define_all(&mut variables, &circuit.gates)
 }
 
-/// The first next literal or output of a circuit, of those that are no constants and over none of the variables.
+/// The first literal of these lists that is no constant and over none of the variables.
+#[tactic(auto, using(crate::proofs::Checking::Sections::joined_lists))]
+fn unknown_in_lists(variables: &VarSet, lists: &[&[Lit]]) -> Option<Lit>
+    ensures { result ≡ first_unknown variables.now (concat (map (λ ls. ls.now) lists.now)) }
+{
+    for list in lists {
+        if let Some(literal) = unknown_among(variables, list) {
+            return Some(literal);
+        }
+    }
+    None
+}
+
+/// The first literal that is used outside of gates, of those that are no constants and over none of the variables.
 fn first_undefined_end(variables: &VarSet, circuit: &Circuit) -> Option<Lit>
-    ensures { result ≡ first_unknown variables.now (map (λ l. l.next) circuit.now.latches ++ circuit.now.outputs) }
+    ensures { result ≡ first_unknown variables.now
+        (map (λ l. l.next) circuit.now.latches ++ concat (literal_lists circuit.now)) }
 {
     let next = first_unknown_use(variables, &circuit.latches);
-    next.or_else(|| first_unknown_use(variables, &circuit.outputs))
+    next.or_else(|| unknown_in_lists(variables, &circuit.literal_lists()))
 }
 
 /// The first literal that a circuit uses, of those that are no constants and over none of the variables.

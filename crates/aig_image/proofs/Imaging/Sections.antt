@@ -1,13 +1,14 @@
 -- The image of a well-formed circuit is in binary order.
 use Rattle.std.proofs.Common.{◌≡◌, ◌+◌, ◌<◌, ◌≤◌, ℕ, zero, suc, List, [], ◌∷◌, ◌++◌, length, length-append, map, refl}
 use Rattle.std.proofs.Common.{sym, ap, ap₂, subst, ◌∙◌, append_assoc, arith}
-use Rattle.std.specs.List.{AllByRecursion, range_with_len, flat_map}
+use Rattle.std.specs.List.{AllByRecursion, concat, range_with_len, flat_map}
 use Rattle.std.proofs.lemmas.List.{length-map}
 use Rattle.std.proofs.lemmas.Simd.{map-map}
 use Rattle.aig_core.specs.declared.circuit.Latch.{Latch}
 use Rattle.aig_core.specs.declared.circuit.Gate.{Gate}
 use Rattle.aig_core.specs.declared.circuit.Circuit.{Circuit}
-use Rattle.aig_core.specs.Wellformed.{IsAmong, IsKnown, IsVariableUpTo, IsWellFormed, defined_variables, operands}
+use Rattle.aig_core.specs.Wellformed.{IsAmong, IsKnown, IsVariableUpTo, IsWellFormed}
+use Rattle.aig_core.specs.Wellformed.{defined_variables, literal_lists, operands}
 use Rattle.aig_core.specs.Order.{IsLeastReadyOrder}
 use Rattle.aig_core.proofs.Ordering.Cyclic.{among_last}
 use Rattle.aig_core.proofs.Checking.Fitting.{each, all_weaker}
@@ -72,7 +73,7 @@ module _ (c : Circuit) (order : List ℕ) (good : IsWellFormed c) (least : IsLea
   known : (g l : ℕ) → g < length c.gates → IsAmong l (operands (at c.gates g)) → IsKnown (defined_variables c) l
   known g l there a =
       of_gate (IsKnown (defined_variables c)) c.gates
-      (back (IsKnown (defined_variables c)) (map (λ (l : Latch). l.next) c.latches ++ c.outputs)
+      (back (IsKnown (defined_variables c)) (map (λ (l : Latch). l.next) c.latches ++ concat (literal_lists c))
       (flat_map operands c.gates) good.known) g l there a
 
   many : length (c.inputs ++ latches) ≡ length (map number c.inputs) + length (map (relabelled_latch number) c.latches)

@@ -1,20 +1,18 @@
 -- A well-formed circuit stays well formed with operands exchanged, and sorting is such an exchange.
 use Rattle.std.proofs.Common.{◌≡◌, ◌<◌, ℕ, zero, suc, List, [], ◌∷◌, ◌++◌, Bool, true, false, length, map}
 use Rattle.std.proofs.Common.{refl, sym, ap, ap₂, subst, ◌∙◌, inl, inr, ⊎_elim, arith}
-use Rattle.std.specs.List.{AllByRecursion, flat_map, Contains}
-use Rattle.aig_core.specs.declared.circuit.Kind.{Kind}
-use Rattle.aig_core.specs.declared.circuit.Kind.TheVariants as kinds
+use Rattle.std.specs.List.{AllByRecursion, concat, flat_map, Contains}
 use Rattle.aig_core.specs.declared.circuit.Latch.{Latch}
 use Rattle.aig_core.specs.declared.circuit.Gate.{Gate}
 use Rattle.aig_core.specs.declared.circuit.Circuit.{Circuit}
 use Rattle.aig_core.specs.Literal.{variable_of}
 use Rattle.aig_core.specs.Wellformed.{IsAmong, AreDistinct, IsKnown, IsVariableUpTo, IsRank, IsWellFormed}
-use Rattle.aig_core.specs.Wellformed.{count_of, operands}
+use Rattle.aig_core.specs.Wellformed.{literal_lists, operands}
 use Rattle.aig_core.proofs.Checking.InForm.{joined, front, back}
 use Rattle.aig_core.proofs.Ordering.Ranked.{variables}
 use Rattle.aig_image.specs.Reordered.{operands_sorted, has_smaller_first, exchanged_if, exchanged_by}
 use Rattle.aig_image.specs.Reordered.{with_operands_exchanged}
-use Rattle.aig_image.proofs.Relabelling.Formed.{symbols_kept}
+use Rattle.aig_image.proofs.Relabelling.Formed.{symbols_kept, gates_uncounted}
 use Rattle.aig_image.proofs.Relabelling.Permuted.{OperandsHave, gate_by_gate, end_to_end}
 use Rattle.aig_image.proofs.Relabelling.Reordered.{sorted_operands_go_back}
 
@@ -60,17 +58,12 @@ as_many [] gs = refl
 as_many (e ∷ es) [] = refl
 as_many (e ∷ es) (g ∷ gs) = ap suc (as_many es gs)
 
-same_counts : (flags : List Bool) (c : Circuit) (k : Kind) → count_of c k ≡ count_of (with_operands_exchanged flags c) k
-same_counts flags c kinds.Input = refl
-same_counts flags c kinds.Latch = refl
-same_counts flags c kinds.Output = refl
-
 pub exchange_keeps_form : (flags : List Bool) (c : Circuit) → IsWellFormed c
     → IsWellFormed (with_operands_exchanged flags c)
 exchange_keeps_form flags c good =
     let new : List Gate = exchanged_by flags c.gates in
     let first : List ℕ = c.inputs ++ map (λ (l : Latch). l.var) c.latches in
-    let ends : List ℕ = map (λ (l : Latch). l.next) c.latches ++ c.outputs in
+    let ends : List ℕ = map (λ (l : Latch). l.next) c.latches ++ concat (literal_lists c) in
     let used : List ℕ = flat_map operands c.gates in
     let Known : ℕ → Type 0 = IsKnown (first ++ variables c.gates) in
     let same = ap (λ vs. first ++ vs) (sym (same_variables flags c.gates)) in
@@ -79,7 +72,9 @@ exchange_keeps_form flags c good =
         max_var = good.limits.max_var;
         inputs = good.limits.inputs;
         latches = good.limits.latches;
-        outputs = good.limits.outputs;
+        literals = good.limits.literals;
+        justice = good.limits.justice;
+        sizes = good.limits.sizes;
         gates = omega (arith, as_many flags c.gates, good.limits.gates);
       };
       in_range = subst (AllByRecursion (IsVariableUpTo c.max_var)) same good.in_range;
@@ -89,7 +84,7 @@ exchange_keeps_form flags c good =
           (joined Known ends (flat_map operands new) (front Known ends used good.known)
           (end_to_end Known new (operands_have Known flags c.gates
           (gate_by_gate Known c.gates (back Known ends used good.known)))));
-      symbols = symbols_kept c (with_operands_exchanged flags c) (same_counts flags c) refl good.symbols;
+      symbols = symbols_kept c (with_operands_exchanged flags c) (gates_uncounted new c) refl good.symbols;
       ranked = (good.ranked.0, same_rank good.ranked.0 flags c.gates good.ranked.1);
     }
 

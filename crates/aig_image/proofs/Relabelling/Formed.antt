@@ -1,7 +1,7 @@
 -- A well-formed circuit stays well formed by other variables from which there is a way back.
-use Rattle.std.proofs.Common.{◌≡◌, ◌+◌, ◌*◌, ◌/◌, ◌%◌, ◌<◌, ◌≤◌, ℕ, zero, suc, List, [], ◌∷◌, ◌++◌, map, Option}
+use Rattle.std.proofs.Common.{◌≡◌, ◌+◌, ◌*◌, ◌/◌, ◌%◌, ◌<◌, ◌≤◌, ℕ, zero, suc, List, [], ◌∷◌, ◌++◌, length, map, Option}
 use Rattle.std.proofs.Common.{refl, sym, ap, ap₂, subst, ◌∙◌, inl, inr, ⊎_elim, arith}
-use Rattle.std.specs.List.{AllByRecursion, flat_map, Contains}
+use Rattle.std.specs.List.{AllByRecursion, concat, flat_map, Contains}
 use Rattle.std.proofs.lemmas.List.{map-append, length-map}
 use Rattle.std.proofs.lemmas.Simd.{map-map}
 use Rattle.aig_core.specs.declared.circuit.Kind.{Kind}
@@ -14,11 +14,12 @@ use Rattle.aig_core.specs.declared.circuit.TheConstants.{LARGEST}
 use Rattle.aig_core.specs.Literal.{variable_of}
 use Rattle.aig_core.specs.Wellformed.{IsAmong, AreDistinct, IsKnown, IsRank, IsVariableUpTo}
 use Rattle.aig_core.specs.Wellformed.{HasGoodSymbols, NameApart, IsWellFormed}
-use Rattle.aig_core.specs.Wellformed.{count_of, defined_variables, line_feed, operands, used_literals}
+use Rattle.aig_core.specs.Wellformed.{count_of, defined_variables, line_feed, literal_lists, operands, used_literals}
 use Rattle.aig_core.proofs.Checking.InForm.{joined}
 use Rattle.aig_core.proofs.Ordering.Ranked.{variables}
 use Rattle.aig_image.specs.Relabelled.{relabelled_literal, relabelled_latch, relabelled_gate, relabelled}
 use Rattle.aig_image.specs.Relabelled.{LatchNames, GateNames, NamesOnly}
+use Rattle.aig_image.proofs.Relabelling.Relabelled.{lists_there, with_gates}
 
 -- the symbols of a circuit are good in another that has as much of each kind
 module _ (c d : Circuit) (same : (k : Kind) → count_of c k ≡ count_of d k) where
@@ -35,6 +36,16 @@ module _ (c d : Circuit) (same : (k : Kind) → count_of c k ≡ count_of d k) w
     apart = subst NameApart are good.apart;
     lines = subst (AllByRecursion (λ (s : Symbol). ¬ IsAmong line_feed s.name)) are good.lines;
   }
+
+-- no symbol names a gate
+pub gates_uncounted : (gates : List Gate) (c : Circuit) (k : Kind) → count_of c k ≡ count_of (with_gates gates c) k
+gates_uncounted gates c kinds.Input = refl
+gates_uncounted gates c kinds.Latch = refl
+gates_uncounted gates c kinds.Output = refl
+gates_uncounted gates c kinds.Bad = refl
+gates_uncounted gates c kinds.Constraint = refl
+gates_uncounted gates c kinds.Justice = refl
+gates_uncounted gates c kinds.Fairness = refl
 
 module _ {X Y : Type 0} where
   -- what holds of elements, for what holds of those that a map gives
@@ -90,13 +101,27 @@ module _ (f : ℕ → ℕ) where
   operands_relabelled (g ∷ gs) =
       ap (λ (ls : List ℕ). relabelled_literal f g.left ∷ relabelled_literal f g.right ∷ ls) (operands_relabelled gs)
 
+  -- lists that are mapped each by itself, or joined first
+  joined_either_way : (lists : List (List ℕ))
+      → concat (map (map (relabelled_literal f)) lists) ≡ map (relabelled_literal f) (concat lists)
+  joined_either_way [] = refl
+  joined_either_way (ls ∷ lists) =
+      ap (λ rest. map (relabelled_literal f) ls ++ rest) (joined_either_way lists)
+      ∙ sym (map-append (relabelled_literal f) ls (concat lists))
+
+  listed_relabelled : (c : Circuit)
+      → concat (literal_lists (relabelled f c)) ≡ map (relabelled_literal f) (concat (literal_lists c))
+  listed_relabelled c = ap concat (lists_there f c) ∙ joined_either_way (literal_lists c)
+
   used_relabelled : (c : Circuit) → used_literals (relabelled f c) ≡ map (relabelled_literal f) (used_literals c)
   used_relabelled c =
       let nexts =
       map-map (λ (l : Latch). l.next) (relabelled_latch f) c.latches
       ∙ sym (map-map (relabelled_literal f) (λ (l : Latch). l.next) c.latches) in
-      ap₂ (λ ls os. ls ++ map (relabelled_literal f) c.outputs ++ os) nexts (operands_relabelled c.gates)
-      ∙ sym (map_three (relabelled_literal f) (map (λ (l : Latch). l.next) c.latches) c.outputs
+      ap₂ (λ ls os. ls ++ concat (literal_lists (relabelled f c)) ++ os) nexts (operands_relabelled c.gates)
+      ∙ ap (λ ls. map (relabelled_literal f) (map (λ (l : Latch). l.next) c.latches) ++ ls
+      ++ map (relabelled_literal f) (flat_map operands c.gates)) (listed_relabelled c)
+      ∙ sym (map_three (relabelled_literal f) (map (λ (l : Latch). l.next) c.latches) (concat (literal_lists c))
       (flat_map operands c.gates))
 
   among_there : (v : ℕ) (xs : List ℕ) → IsAmong v xs → IsAmong (f v) (map f xs)
@@ -152,6 +177,10 @@ same_counts : (f : ℕ → ℕ) (c : Circuit) (k : Kind) → count_of c k ≡ co
 same_counts f c kinds.Input = sym (length-map c.inputs f)
 same_counts f c kinds.Latch = sym (length-map c.latches (relabelled_latch f))
 same_counts f c kinds.Output = sym (length-map c.outputs (relabelled_literal f))
+same_counts f c kinds.Bad = sym (length-map c.bad (relabelled_literal f))
+same_counts f c kinds.Constraint = sym (length-map c.constraints (relabelled_literal f))
+same_counts f c kinds.Justice = refl
+same_counts f c kinds.Fairness = sym (length-map c.fairness (relabelled_literal f))
 
 pub form_is_kept : (f g : ℕ → ℕ) (max_var : ℕ) (comment : Option (List ℕ)) (c : Circuit) → IsWellFormed c
     → f 0 ≡ 0 → NamesOnly (λ v. g (f v) ≡ v) c → max_var ≤ LARGEST
@@ -169,7 +198,11 @@ form_is_kept f g max_var comment c good constant back low range =
         max_var = low;
         inputs = omega (arith, length-map c.inputs f, good.limits.inputs);
         latches = omega (arith, length-map c.latches (relabelled_latch f), good.limits.latches);
-        outputs = omega (arith, length-map c.outputs literals, good.limits.outputs);
+        literals =
+            all_through (λ ls. length ls ≤ LARGEST) (λ ls. length ls ≤ LARGEST) (map literals)
+            (λ ls fit. omega (arith, length-map ls literals, fit)) (literal_lists c) good.limits.literals;
+        justice = good.limits.justice;
+        sizes = good.limits.sizes ∙ sym (length-map c.justice.literals literals);
         gates = omega (arith, length-map c.gates (relabelled_gate f), good.limits.gates);
       };
       in_range = subst (AllByRecursion (IsVariableUpTo max_var)) defined fits;

@@ -1,12 +1,12 @@
 -- What holds of 0 and of all that a well-formed circuit defines holds of all that it names.
 use Rattle.std.proofs.Common.{◌≡◌, ℕ, List, [], ◌∷◌, ◌++◌, map, sym, subst, ⊎_elim}
-use Rattle.std.specs.List.{AllByRecursion, flat_map}
+use Rattle.std.specs.List.{AllByRecursion, concat, flat_map}
 use Rattle.aig_core.specs.declared.circuit.Latch.{Latch}
 use Rattle.aig_core.specs.declared.circuit.Gate.{Gate}
 use Rattle.aig_core.specs.declared.circuit.Circuit.{Circuit}
 use Rattle.aig_core.specs.Literal.{variable_of}
-use Rattle.aig_core.specs.Wellformed.{IsKnown, IsWellFormed, defined_variables, operands}
-use Rattle.aig_core.proofs.Checking.Fitting.{each}
+use Rattle.aig_core.specs.Wellformed.{IsKnown, IsWellFormed, defined_variables, literal_lists, operands}
+use Rattle.aig_core.proofs.Checking.Fitting.{each, all_weaker}
 use Rattle.aig_core.proofs.Checking.InForm.{front, back}
 use Rattle.aig_core.proofs.Ordering.Ranked.{variables}
 use Rattle.aig_image.specs.Relabelled.{LatchNames, GateNames, NamesOnly}
@@ -25,9 +25,13 @@ module _ (P : ℕ → Type 0) (c : Circuit) (constant : P 0) (defined : AllByRec
   of_latches [] vars known = tt
   of_latches (l ∷ ls) vars known = ((vars.0, of_literal l.next known.0), of_latches ls vars.1 known.1)
 
-  of_outputs : (ls : List ℕ) → AllByRecursion Known ls → AllByRecursion (λ l. P (variable_of l)) ls
-  of_outputs [] known = tt
-  of_outputs (l ∷ ls) known = (of_literal l known.0, of_outputs ls known.1)
+  of_lists : (lists : List (List ℕ)) → AllByRecursion Known (concat lists)
+      → AllByRecursion (AllByRecursion (λ l. P (variable_of l))) lists
+  of_lists [] known = tt
+  of_lists (ls ∷ lists) known = (
+    all_weaker Known (λ l. P (variable_of l)) of_literal ls (front Known ls (concat lists) known),
+    of_lists lists (back Known ls (concat lists) known),
+  )
 
   of_gates : (gs : List Gate) → AllByRecursion P (variables gs) → AllByRecursion Known (flat_map operands gs)
       → AllByRecursion (GateNames P) gs
@@ -41,12 +45,13 @@ module _ (P : ℕ → Type 0) (c : Circuit) (constant : P 0) (defined : AllByRec
       let nexts : List ℕ = map (λ (l : Latch). l.next) c.latches in
       let used : List ℕ = flat_map operands c.gates in
       let first = front P (c.inputs ++ latches) (variables c.gates) defined in
-      let ends = front Known (nexts ++ c.outputs) used good.known in
+      let lists : List ℕ = concat (literal_lists c) in
+      let ends = front Known (nexts ++ lists) used good.known in
       record {
         inputs = front P c.inputs latches first;
-        latches = of_latches c.latches (back P c.inputs latches first) (front Known nexts c.outputs ends);
-        outputs = of_outputs c.outputs (back Known nexts c.outputs ends);
+        latches = of_latches c.latches (back P c.inputs latches first) (front Known nexts lists ends);
+        literals = of_lists (literal_lists c) (back Known nexts lists ends);
         gates =
             of_gates c.gates (back P (c.inputs ++ latches) (variables c.gates) defined)
-            (back Known (nexts ++ c.outputs) used good.known);
+            (back Known (nexts ++ lists) used good.known);
       }

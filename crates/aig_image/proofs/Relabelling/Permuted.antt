@@ -1,17 +1,15 @@
 -- A well-formed circuit stays well formed with its gates in another order.
 use Rattle.std.proofs.Common.{◌≡◌, ◌<◌, ℕ, List, ◌∷◌, [], ◌++◌, length, get_or, map, refl, sym, ap, subst, ◌∙◌}
 use Rattle.std.proofs.Common.{inl, inr, ⊎_elim, arith}
-use Rattle.std.specs.List.{AllByRecursion, flat_map, Contains}
+use Rattle.std.specs.List.{AllByRecursion, concat, flat_map, Contains}
 use Rattle.std.proofs.lemmas.List.{length-map, get_or-map, get_or_default}
 use Rattle.std.proofs.lemmas.List.Elements.{Contains-get_or}
-use Rattle.aig_core.specs.declared.circuit.Kind.{Kind}
-use Rattle.aig_core.specs.declared.circuit.Kind.TheVariants as kinds
 use Rattle.aig_core.specs.declared.circuit.Latch.{Latch}
 use Rattle.aig_core.specs.declared.circuit.Gate.{Gate}
 use Rattle.aig_core.specs.declared.circuit.Circuit.{Circuit}
 use Rattle.aig_core.specs.Literal.{variable_of}
-use Rattle.aig_core.specs.Wellformed.{IsAmong, AreDistinct, IsKnown, IsVariableUpTo, IsWellFormed, count_of, operands}
-use Rattle.aig_core.specs.Wellformed.{defined_variables}
+use Rattle.aig_core.specs.Wellformed.{IsAmong, AreDistinct, IsKnown, IsVariableUpTo, IsWellFormed, operands}
+use Rattle.aig_core.specs.Wellformed.{defined_variables, literal_lists, used_literals}
 use Rattle.aig_core.proofs.Ordering.Counted.{among_either}
 use Rattle.aig_core.proofs.Ordering.Cyclic.{among_last}
 use Rattle.aig_core.proofs.Checking.Fitting.{each, all_weaker}
@@ -19,7 +17,7 @@ use Rattle.aig_core.proofs.Checking.InForm.{joined, front, back}
 use Rattle.aig_core.proofs.Ordering.Ranked.{variables, stands_there, distinct_back}
 use Rattle.aig_core.proofs.Ordering.Steps.{all_of}
 use Rattle.aig_image.specs.Reordered.{no_gate, taken, reordered, ArePlaces}
-use Rattle.aig_image.proofs.Relabelling.Formed.{symbols_kept}
+use Rattle.aig_image.proofs.Relabelling.Formed.{symbols_kept, gates_uncounted}
 use Rattle.aig_image.proofs.Relabelling.Standing.{among_first, somewhere, at_place, by_places, same_place}
 use Rattle.aig_image.proofs.Relabelling.Standing.{distinct_by_places, swapped_last}
 
@@ -107,11 +105,6 @@ module _ (gates : List Gate) (order places : List ℕ) (are : ArePlaces order pl
       subst (Contains gates) (sym (taken_at k low) ∙ get_or_default now k no_gate g below ∙ is)
       (Contains-get_or gates (position k) no_gate (position_in k low))
 
-same_counts : (order : List ℕ) (c : Circuit) (k : Kind) → count_of c k ≡ count_of (reordered order c) k
-same_counts order c kinds.Input = refl
-same_counts order c kinds.Latch = refl
-same_counts order c kinds.Output = refl
-
 -- the circuit defines the same variables, each once where it did
 module _ (order places : List ℕ) (c : Circuit) (are : ArePlaces order places (length c.gates))
     (too : ArePlaces places order (length c.gates)) where
@@ -155,9 +148,9 @@ module _ (order places : List ℕ) (c : Circuit) (are : ArePlaces order places (
       inr (order_keeps_defined order places c are too v a))
       known
 
-  all_known : AllByRecursion Now (map (λ (l : Latch). l.next) c.latches ++ c.outputs ++ flat_map operands current)
+  all_known : AllByRecursion Now (used_literals (reordered order c))
   all_known =
-      let ends : List ℕ = map (λ (l : Latch). l.next) c.latches ++ c.outputs in
+      let ends : List ℕ = map (λ (l : Latch). l.next) c.latches ++ concat (literal_lists c) in
       joined Now ends (flat_map operands current)
       (all_weaker Then Now known_now ends (front Then ends (flat_map operands c.gates) good.known))
       (all_weaker Then Now known_now (flat_map operands current)
@@ -176,13 +169,15 @@ module _ (order places : List ℕ) (c : Circuit) (are : ArePlaces order places (
           max_var = good.limits.max_var;
           inputs = good.limits.inputs;
           latches = good.limits.latches;
-          outputs = good.limits.outputs;
+          literals = good.limits.literals;
+          justice = good.limits.justice;
+          sizes = good.limits.sizes;
           gates = omega (arith, long c.gates order places are too, good.limits.gates);
         };
         in_range = joined InRange first (variables current) (front InRange first then good.in_range) gates;
         once = order_keeps_once order places c are too good.once;
         known = all_known;
-        symbols = symbols_kept c (reordered order c) (same_counts order c) refl good.symbols;
+        symbols = symbols_kept c (reordered order c) (gates_uncounted current c) refl good.symbols;
         ranked = (
           good.ranked.0,
           λ g h g_in h_in. good.ranked.1 g h (contained c.gates order places are too g g_in)

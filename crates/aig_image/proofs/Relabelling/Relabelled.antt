@@ -1,5 +1,6 @@
 -- Relabelling composes, and only the variables that are named matter.
-use Rattle.std.proofs.Common.{◌≡◌, ◌+◌, ◌*◌, ◌/◌, ◌%◌, ℕ, List, ap, ap₂, ◌∙◌, arith}
+use Rattle.std.proofs.Common.{◌≡◌, ◌+◌, ◌*◌, ◌/◌, ◌%◌, ℕ, List, [], get_or, map, refl, ap, ap₂, ◌∙◌, arith}
+use Rattle.std.specs.List.{AllByRecursion}
 use Rattle.std.proofs.lemmas.List.{map-id}
 use Rattle.std.proofs.lemmas.Simd.{map-map}
 use Rattle.aig_core.specs.declared.circuit.Latch.{Latch}
@@ -8,20 +9,34 @@ use Rattle.aig_core.specs.declared.circuit.Circuit.{Circuit}
 use Rattle.aig_image.specs.Relabelled.{relabelled_literal, relabelled_latch, relabelled_gate, relabelled}
 use Rattle.aig_image.specs.Relabelled.{LatchNames, GateNames, NamesOnly}
 use Rattle.aig_core.specs.Literal.{variable_of}
+use Rattle.aig_core.specs.Wellformed.{literal_lists}
 use Rattle.aig_core.proofs.Makers.{latch, gate, gates_alike}
 use Rattle.aig_image.proofs.Relabelling.Lists.{map_where, map_twice, map_nothing}
 
--- the circuit with other sections
-abbrev pub sections : Circuit → List ℕ → List Latch → List ℕ → List Gate → Circuit
-sections c inputs latches outputs gates =
-    record c { inputs = inputs; latches = latches; outputs = outputs; gates = gates }
+-- the circuit with other sections; the lists of literals stand in the order of `literal_lists`
+abbrev sections : Circuit → List ℕ → List Latch → List (List ℕ) → List Gate → Circuit
+sections c inputs latches lists gates = record c {
+  inputs = inputs;
+  latches = latches;
+  outputs = get_or lists 0 [];
+  bad = get_or lists 1 [];
+  constraints = get_or lists 2 [];
+  justice = record c.justice { literals = get_or lists 3 [] };
+  fairness = get_or lists 4 [];
+  gates = gates;
+}
 
 abbrev pub with_gates : List Gate → Circuit → Circuit
 with_gates gates c = record c { gates = gates }
 
-pub alike : (c : Circuit) {i j : List ℕ} {l m : List Latch} {o p : List ℕ} {g h : List Gate}
-    → i ≡ j → l ≡ m → o ≡ p → g ≡ h → sections c i l o g ≡ sections c j m p h
-alike c i l o g = ap₂ (λ f x. f x) (ap₂ (λ f x. f x) (ap₂ (sections c) i l) o) g
+alike : (c : Circuit) {i j : List ℕ} {l m : List Latch} {n o : List (List ℕ)} {g h : List Gate}
+    → i ≡ j → l ≡ m → n ≡ o → g ≡ h → sections c i l n g ≡ sections c j m o h
+alike c i l n g = ap₂ (λ f x. f x) (ap₂ (λ f x. f x) (ap₂ (sections c) i l) n) g
+
+-- each list of literals is relabelled by itself
+pub lists_there : (f : ℕ → ℕ) (c : Circuit)
+    → literal_lists (relabelled f c) ≡ map (map (relabelled_literal f)) (literal_lists c)
+lists_there f c = refl
 
 module _ (f g : ℕ → ℕ) where
   literal_twice : (l : ℕ) → relabelled_literal g (relabelled_literal f l) ≡ relabelled_literal (λ v. g (f v)) l
@@ -32,7 +47,7 @@ module _ (f g : ℕ → ℕ) where
       ap₂ (λ v s. 2 * g v + s) half sign
 
   latch_twice : (l : Latch) → relabelled_latch g (relabelled_latch f l) ≡ relabelled_latch (λ v. g (f v)) l
-  latch_twice l = ap (latch (g (f l.var))) (literal_twice l.next)
+  latch_twice l = ap (λ next. latch (g (f l.var)) next l.reset) (literal_twice l.next)
 
   gate_twice : (h : Gate) → relabelled_gate g (relabelled_gate f h) ≡ relabelled_gate (λ v. g (f v)) h
   gate_twice h = ap₂ (gate (g (f h.var))) (literal_twice h.left) (literal_twice h.right)
@@ -42,7 +57,9 @@ relabellings_compose f g c =
     let gf : ℕ → ℕ = λ v. g (f v) in
     alike c (map-map g f c.inputs)
     (map_twice (relabelled_latch f) (relabelled_latch g) (relabelled_latch gf) (latch_twice f g) c.latches)
-    (map_twice (relabelled_literal f) (relabelled_literal g) (relabelled_literal gf) (literal_twice f g) c.outputs)
+    (map_twice (map (relabelled_literal f)) (map (relabelled_literal g)) (map (relabelled_literal gf))
+    (map_twice (relabelled_literal f) (relabelled_literal g) (relabelled_literal gf) (literal_twice f g))
+    (literal_lists c))
     (map_twice (relabelled_gate f) (relabelled_gate g) (relabelled_gate gf) (gate_twice f g) c.gates)
 
 module _ (f g : ℕ → ℕ) where
@@ -59,9 +76,10 @@ module _ (f g : ℕ → ℕ) where
   only_names_matter c same = alike c
       (map_where Same f g (λ v e. e) c.inputs same.inputs)
       (map_where (LatchNames Same) (relabelled_latch f) (relabelled_latch g)
-      (λ l e. ap₂ latch e.0 (same_literal l.next e.1)) c.latches same.latches)
-      (map_where (λ l. Same (variable_of l)) (relabelled_literal f) (relabelled_literal g) same_literal
-      c.outputs same.outputs)
+      (λ l e. ap₂ (λ var next. latch var next l.reset) e.0 (same_literal l.next e.1)) c.latches same.latches)
+      (map_where (AllByRecursion (λ l. Same (variable_of l))) (map (relabelled_literal f)) (map (relabelled_literal g))
+      (map_where (λ l. Same (variable_of l)) (relabelled_literal f) (relabelled_literal g) same_literal)
+      (literal_lists c) same.literals)
       (map_where (GateNames Same) (relabelled_gate f) (relabelled_gate g) same_gate c.gates same.gates)
 
 -- a gate that is relabelled and then by the way back
@@ -81,8 +99,8 @@ own_literal l = omega arith
 
 own_names : (c : Circuit) → relabelled self c ≡ c
 own_names c = alike c (map-id c.inputs)
-    (map_nothing (relabelled_latch self) (λ l. ap (latch l.var) (own_literal l.next)) c.latches)
-    (map_nothing (relabelled_literal self) own_literal c.outputs)
+    (map_nothing (relabelled_latch self) (λ l. ap (λ next. latch l.var next l.reset) (own_literal l.next)) c.latches)
+    (map_nothing (map (relabelled_literal self)) (map_nothing (relabelled_literal self) own_literal) (literal_lists c))
     (map_nothing (relabelled_gate self) (λ h. ap₂ (gate h.var) (own_literal h.left) (own_literal h.right)) c.gates)
 
 pub names_kept_keep_all : (f : ℕ → ℕ) (c : Circuit) → NamesOnly (λ v. f v ≡ v) c → relabelled f c ≡ c

@@ -12,7 +12,7 @@ use Rattle.aig_image.specs.Reordered.{no_gate, taken, reordered, operands_sorted
 use Rattle.aig_image.specs.Reordered.{exchanged_by, with_operands_exchanged, ArePlaces}
 use Rattle.aig_image.proofs.Relabelling.Lists.{map_each, read_mapped}
 use Rattle.aig_core.proofs.Makers.{gate}
-use Rattle.aig_image.proofs.Relabelling.Relabelled.{alike}
+use Rattle.aig_image.proofs.Relabelling.Relabelled.{with_gates}
 
 -- what keeps the gate that stands nowhere is done to gates before or after they are taken
 pub taken_mapped : (h : Gate → Gate) → h no_gate ≡ no_gate → (gates : List Gate) (order : List ℕ)
@@ -24,7 +24,7 @@ taken_mapped h kept gates order =
 
 pub order_commutes : (f : ℕ → ℕ) (order : List ℕ) (c : Circuit) → f 0 ≡ 0
     → relabelled f (reordered order c) ≡ reordered order (relabelled f c)
-order_commutes f order c constant = alike c refl refl refl
+order_commutes f order c constant = ap (λ gs. with_gates gs (relabelled f c))
     (taken_mapped (relabelled_gate f) (ap (λ v. gate v (2 * v + 0) (2 * v + 0)) constant) c.gates order)
 
 -- gates taken in an order, then at their places, are the gates
@@ -68,7 +68,7 @@ all_relabelled f (false ∷ es) (g ∷ gs) =
 
 pub exchange_commutes : (f : ℕ → ℕ) (flags : List Bool) (c : Circuit)
     → relabelled f (with_operands_exchanged flags c) ≡ with_operands_exchanged flags (relabelled f c)
-exchange_commutes f flags c = alike c refl refl refl (all_relabelled f flags c.gates)
+exchange_commutes f flags c = ap (λ gs. with_gates gs (relabelled f c)) (all_relabelled f flags c.gates)
 
 -- operands are sorted alike, exchanged or not
 sorted_again : (e : Bool) (g : Gate) → operands_sorted (exchanged_if e g) ≡ operands_sorted g

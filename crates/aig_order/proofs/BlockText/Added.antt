@@ -9,10 +9,10 @@ use Rattle.std.proofs.lemmas.List.Folds.{flat_map-map}
 use Rattle.aig_core.specs.declared.circuit.Latch.{Latch}
 use Rattle.aig_core.specs.declared.circuit.Gate.{Gate}
 use Rattle.aig_core.specs.declared.circuit.Circuit.{Circuit}
-use Rattle.aig_text.specs.AsciiText.{spaced_number, more_numbers_text, numbers_text, header_text}
+use Rattle.aig_text.specs.AsciiText.{spaced_number, more_numbers_text, numbers_text}
 use Rattle.aig_text.proofs.Written.{more_text}
 use Rattle.aig_order.specs.declared.map_block.MappedGate.{MappedGate}
-use Rattle.aig_order.specs.MapBlock.{one_if, first_row, variable_row, gate_row, rows_of, map_word, last_line}
+use Rattle.aig_order.specs.MapBlock.{one_if, first_row, variable_row, gate_row, rows_of, first_line_text, last_line}
 use Rattle.aig_order.specs.MapBlock.{block_by, block_text, mapped_gate}
 use Rattle.aig_order.specs.Parts.Recorded.{counted_row}
 
@@ -89,13 +89,13 @@ module _ (number : ℕ → ℕ) (c : Circuit) where
   -- the lines of a block, one section after the other
   pub block_added : (t u v w x y : List ℕ) (first : ℕ) (inputs : List ℕ) (latches : List Latch) (gates : List Gate)
       → first ≡ first_gate → inputs ≡ c.inputs → latches ≡ c.latches → gates ≡ c.gates
-      → u ≡ t ++ header_text map_word (counted_row c)
+      → u ≡ t ++ first_line_text (counted_row c)
       → v ≡ u ++ flat_map of_variable inputs → w ≡ v ++ flat_map of_latch latches
       → x ≡ w ++ flat_map (of_gate first) gates → y ≡ x ++ last_line
       → y ≡ t ++ block_text (block_by number c)
   unfolding block_text
   block_added t u v w x y first inputs latches gates is_f is_i is_l is_g to_u to_v to_w to_x to_y =
-      let front : List ℕ = header_text map_word (counted_row c) in
+      let front : List ℕ = first_line_text (counted_row c) in
       let a : List ℕ = flat_map of_variable c.inputs in
       let b : List ℕ = flat_map of_latch c.latches in
       let d : List ℕ = flat_map (of_gate first_gate) c.gates in
@@ -105,4 +105,4 @@ module _ (number : ℕ → ℕ) (c : Circuit) where
       ap₂ (λ n gs. flat_map (of_gate n) gs) is_f is_g in
       let x_is : x ≡ (((t ++ front) ++ a) ++ b) ++ d = to_x ∙ ap₂ (λ (n m : List ℕ). n ++ m) w_is gates_here in
       to_y ∙ ap (λ n. n ++ last_line) x_is ∙ in_turn t front a b d last_line
-      ∙ ap₂ (λ row (rows : List ℕ). t ++ (header_text map_word row ++ (rows ++ last_line))) first_is rows_text
+      ∙ ap₂ (λ row (rows : List ℕ). t ++ (first_line_text row ++ (rows ++ last_line))) first_is rows_text

@@ -22,6 +22,10 @@ module _ (c : Circuit) (comment : Option (List ℕ)) where
   same_counts kinds.Input = refl
   same_counts kinds.Latch = refl
   same_counts kinds.Output = refl
+  same_counts kinds.Bad = refl
+  same_counts kinds.Constraint = refl
+  same_counts kinds.Justice = refl
+  same_counts kinds.Fairness = refl
 
   -- it is well formed too
   pub comment_is_free : IsWellFormed c → IsWellFormed commented
@@ -30,7 +34,9 @@ module _ (c : Circuit) (comment : Option (List ℕ)) where
       max_var = good.limits.max_var;
       inputs = good.limits.inputs;
       latches = good.limits.latches;
-      outputs = good.limits.outputs;
+      literals = good.limits.literals;
+      justice = good.limits.justice;
+      sizes = good.limits.sizes;
       gates = good.limits.gates;
     };
     in_range = good.in_range;

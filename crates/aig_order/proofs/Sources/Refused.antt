@@ -1,6 +1,6 @@
 -- Why undoing refuses.
 use Rattle.std.proofs.Common.{◌≡◌, ◌↔◌, ap, ◌∙◌, sym, subst, refl, ◌⊎◌, inl, inr, ⊎_elim, ℕ, zero, suc, ◌+◌, cond, IsOk}
-use Rattle.std.proofs.Common.{IfOk, IfErr, MatchResult, List, map, Bool, true, false, true≢false, IsTrue, Result, Ok}
+use Rattle.std.proofs.Common.{IfOk, IfErr, MatchResult, List, Bool, true, false, true≢false, IsTrue, Result, Ok}
 use Rattle.std.proofs.Common.{Err, Option, None, Some}
 use Rattle.aig_core.specs.declared.circuit.Circuit.{Circuit}
 use Rattle.aig_core.specs.Form.{IsInForm}

@@ -11,7 +11,9 @@ use Rattle.aig_text.specs.Rows.{Row}
 use Rattle.aig_text.specs.AsciiGrammar.{IsRowLine}
 use Rattle.aig_text.specs.Parts.Plain.{HasNoLineFeed}
 use Rattle.aig_text.proofs.Kept.Plain.{decimal_model, all_joined, digits_have_no_line_feed, first_line}
-use Rattle.aig_text.specs.AsciiText.{more_numbers_text, numbers_text, line_text, header_text}
+use Rattle.aig_text.specs.declared.header_line.TheConstants.{HEADER_LEAST}
+use Rattle.aig_text.specs.AsciiText.{more_numbers_text, numbers_text, shortened, row_text, line_text, header_text}
+use Rattle.aig_text.proofs.Canonical.Shortened.{leaves_out, enough_are_left, all_left}
 
 pub decimal_is_number : (n : ℕ) → n < 2 ^ 64 → IsNumber (decimal n) n
 decimal_is_number n small = record {
@@ -61,27 +63,44 @@ front_has_no_line_feed (n ∷ ns) small =
     all_joined _ (decimal n) (more_front ns)
     (digits_have_no_line_feed (decimal n) (decimal_is_number n small.0).digits) (more_front_has_no_line_feed ns small.1)
 
--- the line of these numbers
-abbrev pub number_line : List ℕ → Line
-number_line ns = line (front ns) true
+-- the numbers that a row's line holds
+abbrev pub written : ℕ → List ℕ → List ℕ
+written least [] = []
+written least (n ∷ ns) = n ∷ shortened least ns
+
+row_text_is : (least : ℕ) (ns : List ℕ) → row_text least ns ≡ numbers_text (written least ns)
+row_text_is least [] = refl
+row_text_is least (n ∷ ns) = refl
+
+written_are_small : (least : ℕ) (ns : List ℕ) → AreSmall ns → AreSmall (written least ns)
+written_are_small least [] small = tt
+written_are_small least (n ∷ ns) small = (small.0, all_left (λ n. n < 2 ^ 64) least ns small.1)
+
+-- the line of a row
+abbrev pub number_line : ℕ → List ℕ → Line
+number_line least ns = line (front (written least ns)) true
 
 -- the line of a header
 abbrev pub header_line : List ℕ → List ℕ → Line
-header_line word ns = line (word ++ more_front ns) true
+header_line word ns = line (word ++ more_front (shortened HEADER_LEAST ns)) true
 
-pub row_is_first : (ns rest : List ℕ) → AreSmall ns
-    → lines_of (numbers_text ns ++ rest) ≡ number_line ns ∷ lines_of rest
-row_is_first ns rest small =
-    ap lines_of (text_is ns rest) ∙ first_line (front ns) rest (front_has_no_line_feed ns small)
+pub row_is_first : (least : ℕ) (ns rest : List ℕ) → AreSmall ns
+    → lines_of (row_text least ns ++ rest) ≡ number_line least ns ∷ lines_of rest
+row_is_first least ns rest small =
+    ap (λ (t : List ℕ). lines_of (t ++ rest)) (row_text_is least ns) ∙ ap lines_of (text_is (written least ns) rest)
+    ∙ first_line (front (written least ns)) rest
+    (front_has_no_line_feed (written least ns) (written_are_small least ns small))
 
 pub header_is_first : (word ns rest : List ℕ) → HasNoLineFeed word → AreSmall ns
     → lines_of (header_text word ns ++ rest) ≡ header_line word ns ∷ lines_of rest
 header_is_first word ns rest plain small =
+    let ms : List ℕ = shortened HEADER_LEAST ns in
     ap lines_of
-    (append_assoc word (more_numbers_text ns) rest ∙ ap (λ (t : List ℕ). word ++ t) (more_text_is ns rest)
-    ∙ sym (append_assoc word (more_front ns) (10 ∷ rest)))
-    ∙ first_line (word ++ more_front ns) rest
-    (all_joined _ word (more_front ns) plain (more_front_has_no_line_feed ns small))
+    (append_assoc word (more_numbers_text ms) rest ∙ ap (λ (t : List ℕ). word ++ t) (more_text_is ms rest)
+    ∙ sym (append_assoc word (more_front ms) (10 ∷ rest)))
+    ∙ first_line (word ++ more_front ms) rest
+    (all_joined _ word (more_front ms) plain
+    (more_front_has_no_line_feed ms (all_left (λ n. n < 2 ^ 64) HEADER_LEAST ns small)))
 
 -- a line may end where its text ends
 ends_at_once : IsLineEnd true []
@@ -99,49 +118,57 @@ more_front_is_spelled (n ∷ ns) small = (
   more_front_is_spelled ns small.1,
 )
 
-end_is_good : (least : ℕ) (ns : List ℕ) → least ≤ length ns → AreSmall ns → EndInNumbers least true (more_front ns) ns
-end_is_good least ns enough small = record {
-  written = ns;
-  left_out = 0;
-  numbers = more_front ns;
-  ending = [];
-  are = sym (append-nil ns);
-  enough = enough;
-  text_is = sym (append-nil (more_front ns));
-  spelled = more_front_is_spelled ns small;
-  ends = ends_at_once;
-}
+-- the numbers that are written tell all of them
+end_is_good : (least : ℕ) (ns : List ℕ) → least ≤ length ns → AreSmall ns
+    → EndInNumbers least true (more_front (shortened least ns)) ns
+end_is_good least ns enough small =
+    let out = leaves_out least ns in
+    record {
+      written = shortened least ns;
+      left_out = out.left_out;
+      numbers = more_front (shortened least ns);
+      ending = [];
+      are = out.are;
+      enough = enough_are_left least ns enough;
+      text_is = sym (append-nil (more_front (shortened least ns)));
+      spelled = more_front_is_spelled (shortened least ns) (all_left (λ n. n < 2 ^ 64) least ns small);
+      ends = ends_at_once;
+    }
 
-pub header_line_is_good : (word : List ℕ) (least : ℕ) (ns : List ℕ) → least ≤ length ns → AreSmall ns
-    → IsHeaderLine word least (header_line word ns) ns
-header_line_is_good word least ns enough small =
-    record { rest = more_front ns; begins = refl; others = end_is_good least ns enough small }
+pub header_line_is_good : (word ns : List ℕ) → HEADER_LEAST ≤ length ns → AreSmall ns
+    → IsHeaderLine word HEADER_LEAST (header_line word ns) ns
+header_line_is_good word ns enough small =
+    record {
+      rest = more_front (shortened HEADER_LEAST ns);
+      begins = refl;
+      others = end_is_good HEADER_LEAST ns enough small;
+    }
 
--- as many numbers as the form has roles, which a file can tell
+-- as many numbers as the form asks for at least, which a file can tell
 pub record IsFullRow (r : Row) : Type 0 where
   pub some : r.form.least < length r.numbers
   pub small : AreSmall r.numbers
 
 -- the lines of rows
 abbrev pub row_lines : List Row → List Line
-row_lines rows = map (λ (r : Row). number_line r.numbers) rows
+row_lines rows = map (λ (r : Row). number_line r.form.least r.numbers) rows
 
 pub rows_are_first : (rows : List Row) (rest : List ℕ) → AllByRecursion IsFullRow rows
     → lines_of (flat_map line_text rows ++ rest) ≡ row_lines rows ++ lines_of rest
 rows_are_first [] rest h = refl
 rows_are_first (r ∷ rows) rest h =
     ap lines_of (append_assoc (line_text r) (flat_map line_text rows) rest)
-    ∙ row_is_first r.numbers (flat_map line_text rows ++ rest) h.0.small
-    ∙ ap (λ (ls : List Line). number_line r.numbers ∷ ls) (rows_are_first rows rest h.1)
+    ∙ row_is_first r.form.least r.numbers (flat_map line_text rows ++ rest) h.0.small
+    ∙ ap (λ (ls : List Line). number_line r.form.least r.numbers ∷ ls) (rows_are_first rows rest h.1)
 
 number_line_is_good : (least : ℕ) (ns : List ℕ) → least < length ns → AreSmall ns
-    → IsNumberLine least (number_line ns) ns
+    → IsNumberLine least (number_line least ns) ns
 number_line_is_good least [] some small = absurd (omega arith)
 number_line_is_good least (n ∷ ns) some small = record {
   first = n;
   more = ns;
   digits = decimal n;
-  rest = more_front ns;
+  rest = more_front (shortened least ns);
   are = refl;
   begins = refl;
   spelled = decimal_is_number n small.0;

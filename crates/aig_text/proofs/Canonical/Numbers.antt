@@ -1,5 +1,5 @@
 -- Canonical numbers: what `decimal` writes is read as its number, and what is read is what `decimal` writes.
-use Rattle.std.proofs.Common.{◌≡◌, ◌<◌, ◌^◌, ◌&&◌, ℕ, zero, suc, Bool, true, false, true≢false, cond, min, eqb, arith}
+use Rattle.std.proofs.Common.{◌≡◌, ◌<◌, ◌^◌, ℕ, zero, suc, Bool, true, false, true≢false, cond, min, eqb, arith}
 use Rattle.std.proofs.Common.{List, [], ◌∷◌, ◌++◌, length, get_or, Option, Some, None, refl, sym, ap, subst, ◌∙◌}
 use Rattle.std.specs.Prelude.{decimal}
 use Rattle.std.proofs.lemmas.Bool.{eqb-true, eq-eqb, ne_eqb}
@@ -10,7 +10,7 @@ use Rattle.aig_text.specs.Scanning.{number_at}
 use Rattle.aig_text.specs.CanonicalNumber.{after_byte, number_before, is_padded, canonical_before}
 use Rattle.aig_text.specs.Parts.Plain.{BeginsWithNumber}
 use Rattle.aig_text.proofs.Grammar.Spellings.{number_reads, number_is_read}
-use Rattle.aig_text.proofs.Grammar.NumberLines.{some_then}
+use Rattle.aig_text.proofs.Grammar.NumberLines.{some_then, and_no}
 use Rattle.aig_text.proofs.Kept.Plain.{AreDigits, decimal_model}
 use Rattle.aig_text.proofs.Canonical.Lines.{decimal_is_number}
 
@@ -30,10 +30,6 @@ decimal_is_plain : (n : ℕ) → n < 2 ^ 64 → IsPlain (decimal n)
 decimal_is_plain zero small h = ap length (decimal_digit 0 (omega arith))
 decimal_is_plain (suc n) small h =
     let high : 48 < get_or (decimal (suc n)) 0 0 = first_decimal (suc n) (omega arith) small in absurd (omega arith)
-
-and_no : (t : Bool) → (t && false) ≡ false
-and_no true = refl
-and_no false = refl
 
 -- such digits are not padded, where no digit follows them; and digits that are not padded are such
 is_not_padded : (digits rest : List ℕ) (stop : ℕ) → 0 < length digits → IsPlain digits → is_digit stop ≡ false

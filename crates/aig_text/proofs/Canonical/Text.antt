@@ -1,78 +1,130 @@
 -- The canonical text of a well-formed circuit is its file.
 use Rattle.std.proofs.Common.{◌≡◌, ◌+◌, ◌*◌, ◌<◌, ◌≤◌, ◌^◌, ℕ, List, [], ◌∷◌, ◌++◌, length, map, append_assoc, sym}
 use Rattle.std.proofs.Common.{inl, inr, Option, Some, true, refl, ap, ◌∙◌, arith, None}
-use Rattle.std.specs.List.{AllByRecursion, AllZip, flat_map}
-use Rattle.std.proofs.lemmas.Slice.Zip.{AllZip-long}
+use Rattle.std.specs.List.{AllByRecursion, AllZip, flat_map, sum}
+use Rattle.std.specs.Prelude.{decimal}
+use Rattle.std.proofs.lemmas.Bool.{ne_eqb}
 use Rattle.aig_core.specs.declared.circuit.Circuit.{Circuit}
+use Rattle.aig_core.specs.declared.circuit.Gate.{Gate}
+use Rattle.aig_core.specs.declared.circuit.Kind.{Kind}
+use Rattle.aig_core.specs.declared.circuit.Kind.TheVariants as named
+use Rattle.aig_core.specs.declared.circuit.Latch.{Latch}
+use Rattle.aig_core.specs.declared.circuit.Reset.{Reset}
+use Rattle.aig_core.specs.declared.circuit.Reset.TheVariants as resets
+use Rattle.aig_core.specs.declared.circuit.Symbol.{Symbol}
 use Rattle.aig_core.specs.declared.circuit.TheConstants.{LARGEST}
-use Rattle.aig_core.specs.Wellformed.{IsWellFormed, IsWithinLimits, IsAmong, count_of}
+use Rattle.aig_core.specs.Wellformed.{IsWellFormed, IsWithinLimits, IsVariableUpTo, IsAmong, count_of}
 use Rattle.aig_core.specs.Form.{IsInForm}
-use Rattle.aig_text.specs.declared.row.Role.TheVariants as roles
-use Rattle.aig_text.specs.declared.header_line.TheConstants.{HEADER_NUMBERS}
-use Rattle.aig_text.specs.declared.section.Section.TheVariants.{Inputs, Latches, Outputs, Gates}
+use Rattle.aig_core.proofs.Checking.Properties.{sum_cons}
+use Rattle.aig_text.specs.declared.section.Section.TheVariants.{Inputs, Latches, Outputs, Bad, Constraints}
+use Rattle.aig_text.specs.declared.section.Section.TheVariants.{JusticeSizes, JusticeLiterals, Fairness, Gates}
 use Rattle.aig_text.specs.Lines.{Line, line, lines_of}
 use Rattle.aig_text.specs.AsciiGrammar.{IsAsciiText}
 use Rattle.aig_text.specs.AsciiText.{ascii_text, line_text, tail_text, symbol_text, comment_text}
 use Rattle.aig_text.specs.Tail.{kind_letter, IsSymbolLine, IsComment, AreTailLines}
 use Rattle.aig_text.specs.Parts.Plain.{HasNoLineFeed}
-use Rattle.aig_core.specs.declared.circuit.Kind.{Kind}
-use Rattle.aig_core.specs.declared.circuit.Kind.TheVariants.{Input, Latch, Output}
-use Rattle.aig_core.specs.declared.circuit.Symbol.{Symbol}
-use Rattle.std.proofs.lemmas.Bool.{ne_eqb}
-use Rattle.std.specs.Prelude.{decimal}
+use Rattle.aig_text.specs.Rows.{ascii_word, header_row, rows_in, rows_of, literal_rows_of, Section, sections, in_ascii, row}
+use Rattle.aig_text.specs.Rows.{Form, input_form, latch_form, literal_form, size_form, gate_form, reset_number}
+use Rattle.aig_text.specs.Rows.{input_row, latch_row, literal_row, size_row, gate_row}
 use Rattle.aig_text.proofs.Loops.Cutting.{pieces}
-use Rattle.aig_text.specs.Rows.{ascii_word, header_row, rows_of, Role, roles_of, Section, sections, in_ascii, row}
-use Rattle.aig_text.proofs.Grammar.Entries.{MayStand, IsGoodRow, all_mapped}
-use Rattle.aig_text.proofs.Grammar.Sections.{rows_good}
+use Rattle.aig_text.proofs.Grammar.Entries.{IsLiteralUpTo, IsLatchUpTo, IsGateUpTo}
+use Rattle.aig_text.proofs.Grammar.Sections.{inputs_up_to, latches_up_to, gates_up_to, outputs_up_to, bad_up_to}
+use Rattle.aig_text.proofs.Grammar.Sections.{constraints_up_to, justice_up_to, fairness_up_to}
+use Rattle.aig_text.proofs.Grammar.Headers.{header_limited}
 use Rattle.aig_text.proofs.Kept.Plain.{all_joined, digits_have_no_line_feed, first_line}
 use Rattle.aig_text.proofs.Canonical.Lines.{decimal_is_number, AreSmall, IsFullRow, header_line, row_lines}
 use Rattle.aig_text.proofs.Canonical.Lines.{header_is_first, header_line_is_good, rows_are_first, rows_are_good}
 
-small_number : (m : ℕ) → m ≤ LARGEST → (r : Role) (n : ℕ) → MayStand m r n → n < 2 ^ 64
-small_number m h roles.Definition n g = let top : n ≤ 2 * m + 1 = g.within in omega arith
-small_number m h roles.Literal n g = omega arith
+-- a row of entries, each of which a file can tell
+pub entries_full : {X : Type 0} (P : X → Type 0) (form : Form) (of : X → List ℕ) → ((x : X) → P x → IsFullRow (row form (of x)))
+    → (xs : List X) → AllByRecursion P xs → AllByRecursion IsFullRow (map (row form) (map of xs))
+entries_full P form of full [] h = tt
+entries_full P form of full (x ∷ xs) h = (full x h.0, entries_full P form of full xs h.1)
 
-small_numbers : (m : ℕ) → m ≤ LARGEST → (rs : List Role) (ns : List ℕ) → AllZip (MayStand m) rs ns → AreSmall ns
-small_numbers m h [] [] g = tt
-small_numbers m h [] (n ∷ ns) g = absurd g
-small_numbers m h (r ∷ rs) [] g = absurd g
-small_numbers m h (r ∷ rs) (n ∷ ns) g = (small_number m h r n g.0, small_numbers m h rs ns g.1)
+full_input : (m : ℕ) → m ≤ LARGEST → (v : ℕ) → IsVariableUpTo m v → IsFullRow (row input_form (input_row v))
+full_input m top v h =
+    let high : v ≤ m = h.1 in record { some = omega arith; small = (omega arith, tt) }
 
--- a row that has a number for each role has enough of them
-long : (s : Section) (ns : List ℕ) → length ns ≡ length (roles_of (in_ascii s).form)
-    → (in_ascii s).form.least < length ns
-long Inputs ns h = omega arith
-long Latches ns h = omega arith
-long Outputs ns h = omega arith
-long Gates ns h = omega arith
+pub small_reset : (own : ℕ) (reset : Reset) → own < 2 ^ 64 → reset_number own reset < 2 ^ 64
+small_reset own resets.Zero small = omega arith
+small_reset own resets.One small = omega arith
+small_reset own resets.Uninit small = small
 
-full_row : (m : ℕ) → m ≤ LARGEST → (s : Section) (ns : List ℕ) → IsGoodRow (in_ascii s).form m ns
-    → IsFullRow (row (in_ascii s).form ns)
-full_row m h s ns g =
-    record {
-      some = long s ns (AllZip-long (MayStand m) (roles_of (in_ascii s).form) ns g);
-      small =
-          small_numbers m h (roles_of (in_ascii s).form) ns g;
-    }
+full_latch : (m : ℕ) → m ≤ LARGEST → (l : Latch) → IsLatchUpTo m l → IsFullRow (row latch_form (latch_row l))
+full_latch m top l h =
+    let high : l.var ≤ m = h.0.1 in
+    let next : l.next ≤ 2 * m + 1 = h.1 in
+    let own : 2 * l.var < 2 ^ 64 = omega arith in
+    record { some = omega arith; small = (own, (omega arith, (small_reset (2 * l.var) l.reset own, tt))) }
 
-sections_full : (c : Circuit) → IsInForm c → (ss : List Section)
-    → AllByRecursion IsFullRow (flat_map (λ s. map (row (in_ascii s).form) ((in_ascii s).rows c)) ss)
-sections_full c form [] = tt
-sections_full c form (s ∷ ss) =
-    all_joined IsFullRow (map (row (in_ascii s).form) ((in_ascii s).rows c))
-    (flat_map (λ s. map (row (in_ascii s).form) ((in_ascii s).rows c)) ss)
-    (all_mapped (IsGoodRow (in_ascii s).form c.max_var) IsFullRow (row (in_ascii s).form)
-    (full_row c.max_var form.limits.max_var s) ((in_ascii s).rows c) (rows_good c form s))
-    (sections_full c form ss)
+full_literal : (m : ℕ) → m ≤ LARGEST → (n : ℕ) → IsLiteralUpTo m n → IsFullRow (row literal_form (literal_row n))
+full_literal m top n h = record { some = omega arith; small = (omega arith, tt) }
+
+full_size : (n : ℕ) → n ≤ LARGEST → IsFullRow (row size_form (size_row n))
+full_size n h = record { some = omega arith; small = (omega arith, tt) }
+
+full_gate : (m : ℕ) → m ≤ LARGEST → (g : Gate) → IsGateUpTo m g → IsFullRow (row gate_form (gate_row g))
+full_gate m top g h =
+    let high : g.var ≤ m = h.0.1 in
+    let left : g.left ≤ 2 * m + 1 = h.1 in
+    let right : g.right ≤ 2 * m + 1 = h.2 in
+    record { some = omega arith; small = (omega arith, (omega arith, (omega arith, tt))) }
+
+-- no size is above the sum
+each_in_sum : (top : ℕ) (sizes : List ℕ) → sum sizes ≤ top → AllByRecursion (λ n. n ≤ top) sizes
+each_in_sum top [] h = tt
+each_in_sum top (n ∷ ns) h =
+    let whole : sum (n ∷ ns) ≡ n + sum ns = sum_cons n ns in (omega arith, each_in_sum top ns (omega arith))
+
+pub sizes_are_small : (c : Circuit) → IsWithinLimits c → sum c.justice.sizes ≤ LARGEST
+sizes_are_small c limits =
+    let long : length c.justice.literals ≤ LARGEST = limits.literals.1.1.1.0 in
+    let same : sum c.justice.sizes ≡ length c.justice.literals = limits.sizes in
+    omega arith
+
+module _ (c : Circuit) (form : IsInForm c) where
+  literals_full : (ns : List ℕ) → AllByRecursion (IsLiteralUpTo c.max_var) ns
+      → AllByRecursion IsFullRow (map (row literal_form) (map literal_row ns))
+  literals_full ns h =
+      entries_full (IsLiteralUpTo c.max_var) literal_form literal_row (full_literal c.max_var form.limits.max_var) ns h
+
+  section_full : (s : Section) → AllByRecursion IsFullRow (map (row (in_ascii s).form) ((in_ascii s).rows c))
+  section_full Inputs =
+      entries_full (IsVariableUpTo c.max_var) input_form input_row (full_input c.max_var form.limits.max_var) c.inputs
+      (inputs_up_to c form)
+  section_full Latches =
+      entries_full (IsLatchUpTo c.max_var) latch_form latch_row (full_latch c.max_var form.limits.max_var) c.latches
+      (latches_up_to c form)
+  section_full Outputs = literals_full c.outputs (outputs_up_to c form)
+  section_full Bad = literals_full c.bad (bad_up_to c form)
+  section_full Constraints = literals_full c.constraints (constraints_up_to c form)
+  section_full JusticeSizes =
+      entries_full (λ n. n ≤ LARGEST) size_form size_row full_size c.justice.sizes
+      (each_in_sum LARGEST c.justice.sizes (sizes_are_small c form.limits))
+  section_full JusticeLiterals = literals_full c.justice.literals (justice_up_to c form)
+  section_full Fairness = literals_full c.fairness (fairness_up_to c form)
+  section_full Gates =
+      entries_full (IsGateUpTo c.max_var) gate_form gate_row (full_gate c.max_var form.limits.max_var) c.gates
+      (gates_up_to c form)
+
+  -- the rows of these sections, as an ASCII file lists them
+  pub sections_full : (ss : List Section) → AllByRecursion IsFullRow (rows_in in_ascii ss c)
+  sections_full [] = tt
+  sections_full (s ∷ ss) =
+      all_joined IsFullRow (map (row (in_ascii s).form) ((in_ascii s).rows c)) (rows_in in_ascii ss c) (section_full s)
+      (sections_full ss)
+
+  -- the rows of the sections between latches and gates, which ASCII and binary files list alike
+  pub literal_rows_full : AllByRecursion IsFullRow (literal_rows_of c)
+  literal_rows_full =
+      sections_full (Outputs ∷ Bad ∷ Constraints ∷ JusticeSizes ∷ JusticeLiterals ∷ Fairness ∷ [])
+
+all_smaller : (ns : List ℕ) → AllByRecursion (λ n. n ≤ LARGEST) ns → AreSmall ns
+all_smaller [] h = tt
+all_smaller (n ∷ ns) h = (omega (arith, h.0), all_smaller ns h.1)
 
 pub header_is_small : (c : Circuit) → IsWithinLimits c → AreSmall (header_row c)
-header_is_small c limits =
-    let max_var : c.max_var ≤ LARGEST = limits.max_var in
-    let inputs : length c.inputs ≤ LARGEST = limits.inputs in
-    let latches : length c.latches ≤ LARGEST = limits.latches in
-    let outputs : length c.outputs ≤ LARGEST = limits.outputs in
-    let gates : length c.gates ≤ LARGEST = limits.gates in
-    (omega arith, (omega arith, (omega arith, (omega arith, (omega arith, tt)))))
+header_is_small c limits = all_smaller (header_row c) (header_limited c limits)
 
 -- the line of a symbol
 abbrev symbol_line : Symbol → Line
@@ -83,9 +135,13 @@ symbol_is : (s : Symbol) (rest : List ℕ)
 symbol_is s rest = simp append_assoc
 
 letter_is_plain : (k : Kind) → HasNoLineFeed (kind_letter k)
-letter_is_plain Input = (refl, tt)
-letter_is_plain Latch = (refl, tt)
-letter_is_plain Output = (refl, tt)
+letter_is_plain named.Input = (refl, tt)
+letter_is_plain named.Latch = (refl, tt)
+letter_is_plain named.Output = (refl, tt)
+letter_is_plain named.Bad = (refl, tt)
+letter_is_plain named.Constraint = (refl, tt)
+letter_is_plain named.Justice = (refl, tt)
+letter_is_plain named.Fairness = (refl, tt)
 
 name_is_plain : (name : List ℕ) → ¬ IsAmong 10 name → HasNoLineFeed name
 name_is_plain [] h = tt
@@ -136,9 +192,13 @@ comment_is_good (Some bytes) =
     (record { ending = []; text = refl; ends = ([], tt, inl refl) }, sym (pieces bytes).joined)
 
 count_within : (c : Circuit) → IsWithinLimits c → (k : Kind) → count_of c k ≤ LARGEST
-count_within c limits Input = limits.inputs
-count_within c limits Latch = limits.latches
-count_within c limits Output = limits.outputs
+count_within c limits named.Input = limits.inputs
+count_within c limits named.Latch = limits.latches
+count_within c limits named.Output = limits.literals.0
+count_within c limits named.Bad = limits.literals.1.0
+count_within c limits named.Constraint = limits.literals.1.1.0
+count_within c limits named.Justice = limits.justice
+count_within c limits named.Fairness = limits.literals.1.1.1.1.0
 
 -- what may be said of a symbol can be found in a line
 all_found : (c : Circuit) → IsWithinLimits c → (ss : List Symbol)
@@ -185,13 +245,11 @@ canonical_text c good form fits = record {
   tail = lines_of (tail_text c);
   lines = canonical_lines c form;
   is_header =
-      header_line_is_good ascii_word HEADER_NUMBERS (header_row c) (omega arith) (header_is_small c form.limits);
+      header_line_is_good ascii_word (header_row c) (omega arith) (header_is_small c form.limits);
   are_rows = rows_are_good (rows_of c) (sections_full c form sections);
   is_tail = tail_is_good c form;
-  limited = (
-    form.limits.max_var,
-    (form.limits.inputs, (form.limits.latches, (form.limits.outputs, (form.limits.gates, tt)))),
-  );
+  limited = header_limited c form.limits;
+  sizes_limited = sizes_are_small c form.limits;
   counted = fits;
   well_formed = good;
 }

@@ -1,7 +1,7 @@
 -- A header that is read tells its numbers, and the other way round, whatever the word of its format.
-use Rattle.std.proofs.Common.{◌≡◌, ℕ, zero, suc, ◌+◌, ◌≤◌, min, true, false, cond, List, [], ◌∷◌, drop, length}
+use Rattle.std.proofs.Common.{◌≡◌, ℕ, ◌+◌, ◌≤◌, min, true, false, cond, List, [], ◌∷◌, drop, length}
 use Rattle.std.proofs.Common.{get_or, Option, None, Some, Result, Ok, Err, refl, ap, subst, ◌∙◌, sym, arith}
-use Rattle.std.specs.List.{AllByRecursion, list_any, before_first}
+use Rattle.std.specs.List.{AllByRecursion, list_any, before_first, sum}
 use Rattle.std.specs.Str.{bytes_eq}
 use Rattle.std.proofs.lemmas.Bool.{ltb-false, le-ltb, or_parts, or_from}
 use Rattle.std.proofs.Math.Dec.{ltb}
@@ -11,7 +11,7 @@ use Rattle.aig_core.proofs.Checking.Fitting.{all_weaker}
 use Rattle.aig_core.specs.Wellformed.{IsWithinLimits}
 use Rattle.aig_text.specs.declared.fault.ReadKind.{ReadKind}
 use Rattle.aig_text.specs.declared.fault.ReadKind.TheVariants as kinds
-use Rattle.aig_text.specs.declared.header_line.TheConstants.{HEADER_NUMBERS}
+use Rattle.aig_text.specs.declared.header_line.TheConstants.{HEADER_LEAST, HEADER_NUMBERS}
 use Rattle.aig_text.specs.Lines.{Line}
 use Rattle.aig_text.specs.Spelling.{IsHeaderLine}
 use Rattle.aig_text.specs.Scanning.{more_numbers_at}
@@ -30,43 +30,38 @@ all_within : (m : ℕ) (ns : List ℕ) → AllByRecursion (λ n. n ≤ m) ns →
 all_within m [] h = refl
 all_within m (n ∷ ns) h = or_from (ltb m n) (list_any (λ n. ltb m n) ns) (le-ltb m n h.0) (all_within m ns h.1)
 
--- no number of a row is above the bound on all, also where there is none
-within_at : (b : ℕ) (ns : List ℕ) (k : ℕ) → AllByRecursion (λ n. n ≤ b) ns → get_or ns k 0 ≤ b
-within_at b [] k h = omega arith
-within_at b (n ∷ ns) zero h = h.0
-within_at b (n ∷ ns) (suc k) h = within_at b ns k h.1
-
 -- a line that is a header with this word
 pub record TellsHeader (word : List ℕ) (limit : ℕ) (l : Line) (h : Header) : Type 0 where
   pub numbers : List ℕ
   pub begins : bytes_eq (before_first ends_word l.text) word ≡ true
-  pub read : more_numbers_at l.ended HEADER_NUMBERS HEADER_NUMBERS (drop (length word) l.text) ≡ Some numbers
-  pub is : header_of_row numbers ≡ h
+  pub read : more_numbers_at l.ended HEADER_LEAST HEADER_NUMBERS (drop (length word) l.text) ≡ Some numbers
+  pub is : header_of_row (min limit LARGEST) numbers ≡ h
   pub within : AllByRecursion (λ n. n ≤ min limit LARGEST) numbers
   pub counted : get_or numbers 1 0 + get_or numbers 2 0 + get_or numbers 4 0 ≤ get_or numbers 0 0
 
-abbrev counts_fit : List ℕ → Result Header ReadKind
-counts_fit ns =
+abbrev counts_fit : ℕ → List ℕ → Result Header ReadKind
+counts_fit limit ns =
     cond (ltb (get_or ns 0 0) (get_or ns 1 0 + get_or ns 2 0 + get_or ns 4 0)) (Err kinds.BadHeader)
-    (Ok (header_of_row ns))
+    (Ok (header_of_row limit ns))
 
 within_tells : (word : List ℕ) (limit : ℕ) (l : Line) (h : Header) (o : Option (List ℕ))
     → bytes_eq (before_first ends_word l.text) word ≡ true
-    → more_numbers_at l.ended HEADER_NUMBERS HEADER_NUMBERS (drop (length word) l.text) ≡ o
+    → more_numbers_at l.ended HEADER_LEAST HEADER_NUMBERS (drop (length word) l.text) ≡ o
     → header_within (min limit LARGEST) o ≡ Ok h → TellsHeader word limit l h
 unfolding header_within
 within_tells word limit l h None begins read is = cc
 within_tells word limit l h (Some ns) begins read is =
-    let p = passed (list_any (λ n. ltb (min limit LARGEST) n) ns) kinds.TooLarge (counts_fit ns) h is in
+    let top : ℕ = min limit LARGEST in
+    let p = passed (list_any (λ n. ltb top n) ns) kinds.TooLarge (counts_fit top ns) h is in
     let q =
     passed (ltb (get_or ns 0 0) (get_or ns 1 0 + get_or ns 2 0 + get_or ns 4 0)) kinds.BadHeader
-    (Ok (header_of_row ns)) h p.1 in
+    (Ok (header_of_row top ns)) h p.1 in
     record {
       numbers = ns;
       begins = begins;
       read = read;
-      is = ok_same {E = ReadKind} (header_of_row ns) h q.1;
-      within = none_larger (min limit LARGEST) ns p.0;
+      is = ok_same {E = ReadKind} (header_of_row top ns) h q.1;
+      within = none_larger top ns p.0;
       counted = ltb-false (get_or ns 0 0) (get_or ns 1 0 + get_or ns 2 0 + get_or ns 4 0) q.0;
     }
 
@@ -77,9 +72,9 @@ header_tells word limit l h is =
     let p =
     let_through (bytes_eq (before_first ends_word l.text) word) kinds.NotAiger
     (header_within (min limit LARGEST)
-    (more_numbers_at l.ended HEADER_NUMBERS HEADER_NUMBERS (drop (length word) l.text))) h is in
+    (more_numbers_at l.ended HEADER_LEAST HEADER_NUMBERS (drop (length word) l.text))) h is in
     within_tells word limit l h
-    (more_numbers_at l.ended HEADER_NUMBERS HEADER_NUMBERS (drop (length word) l.text)) p.0 refl p.1
+    (more_numbers_at l.ended HEADER_LEAST HEADER_NUMBERS (drop (length word) l.text)) p.0 refl p.1
 
 pub found_header : (word : List ℕ) (limit : ℕ) (l : Line) (h : Header) → TellsHeader word limit l h
     → header_of word limit l ≡ Ok h
@@ -94,20 +89,19 @@ found_header word limit l h t =
       t.is,
     ) refl
 
--- the header's row, and its limits
-all_numbers : (ns : List ℕ) → length ns ≡ HEADER_NUMBERS → row_of_header (header_of_row ns) ≡ ns
-all_numbers [] h = absurd (omega arith)
-all_numbers (a ∷ []) h = absurd (omega arith)
-all_numbers (a ∷ b ∷ []) h = absurd (omega arith)
-all_numbers (a ∷ b ∷ d ∷ []) h = absurd (omega arith)
-all_numbers (a ∷ b ∷ d ∷ e ∷ []) h = absurd (omega arith)
-all_numbers (a ∷ b ∷ d ∷ e ∷ f ∷ []) h = refl
-all_numbers (a ∷ b ∷ d ∷ e ∷ f ∷ g ∷ ns) h = absurd (omega arith)
-
-abbrev AreLimits : List ℕ → Type 0
-AreLimits ns =
-    (get_or ns 0 0 ≤ LARGEST) × (get_or ns 1 0 ≤ LARGEST) × (get_or ns 2 0 ≤ LARGEST) × (get_or ns
-    3 0 ≤ LARGEST) × (get_or ns 4 0 ≤ LARGEST)
+-- the header's row
+all_numbers : (limit : ℕ) (ns : List ℕ) → length ns ≡ HEADER_NUMBERS → row_of_header (header_of_row limit ns) ≡ ns
+all_numbers limit [] h = absurd (omega arith)
+all_numbers limit (a ∷ []) h = absurd (omega arith)
+all_numbers limit (a ∷ b ∷ []) h = absurd (omega arith)
+all_numbers limit (a ∷ b ∷ d ∷ []) h = absurd (omega arith)
+all_numbers limit (a ∷ b ∷ d ∷ e ∷ []) h = absurd (omega arith)
+all_numbers limit (a ∷ b ∷ d ∷ e ∷ f ∷ []) h = absurd (omega arith)
+all_numbers limit (a ∷ b ∷ d ∷ e ∷ f ∷ g ∷ []) h = absurd (omega arith)
+all_numbers limit (a ∷ b ∷ d ∷ e ∷ f ∷ g ∷ i ∷ []) h = absurd (omega arith)
+all_numbers limit (a ∷ b ∷ d ∷ e ∷ f ∷ g ∷ i ∷ j ∷ []) h = absurd (omega arith)
+all_numbers limit (a ∷ b ∷ d ∷ e ∷ f ∷ g ∷ i ∷ j ∷ k ∷ []) h = refl
+all_numbers limit (a ∷ b ∷ d ∷ e ∷ f ∷ g ∷ i ∷ j ∷ k ∷ o ∷ ns) h = absurd (omega arith)
 
 -- a circuit has the counts that a header tells
 abbrev pub HasCounts : Header → Circuit → Type 0
@@ -118,70 +112,102 @@ module _ (word : List ℕ) (limit : ℕ) (l : Line) (h : Header) (c : Circuit) (
     (counts : HasCounts h c) where
   numbers_are : header_row c ≡ t.numbers
   numbers_are =
-      let s = header_reads word l HEADER_NUMBERS HEADER_NUMBERS t.numbers (omega arith) t.begins t.read in
-      counts ∙ ap row_of_header (sym t.is) ∙ all_numbers t.numbers s.1
+      let s = header_reads word l HEADER_LEAST HEADER_NUMBERS t.numbers (omega arith) t.begins t.read in
+      counts ∙ ap row_of_header (sym t.is) ∙ all_numbers (min limit LARGEST) t.numbers s.1
 
-  pub heads : IsHeaderLine word HEADER_NUMBERS l (header_row c)
+  pub heads : IsHeaderLine word HEADER_LEAST l (header_row c)
   heads =
-      let s = header_reads word l HEADER_NUMBERS HEADER_NUMBERS t.numbers (omega arith) t.begins t.read in
-      subst (λ (ns : List ℕ). IsHeaderLine word HEADER_NUMBERS l ns) (sym numbers_are) s.0
+      let s = header_reads word l HEADER_LEAST HEADER_NUMBERS t.numbers (omega arith) t.begins t.read in
+      subst (λ (ns : List ℕ). IsHeaderLine word HEADER_LEAST l ns) (sym numbers_are) s.0
+
+  -- what is said of all numbers up to the smaller limit is said of the circuit's
+  all_of : (top : ℕ) → min limit LARGEST ≤ top → AllByRecursion (λ n. n ≤ top) (header_row c)
+  all_of top small =
+      subst (λ (ns : List ℕ). AllByRecursion (λ n. n ≤ top) ns) (sym numbers_are)
+      (all_weaker (λ n. n ≤ min limit LARGEST) (λ n. n ≤ top) (λ n h. omega arith) t.numbers t.within)
 
   pub limited : AllByRecursion (λ n. n ≤ limit) (header_row c)
-  limited =
-      subst (λ (ns : List ℕ). AllByRecursion (λ n. n ≤ limit) ns) (sym numbers_are)
-      (all_weaker (λ n. n ≤ min limit LARGEST) (λ n. n ≤ limit) (λ n h. omega arith) t.numbers t.within)
+  limited = all_of limit (omega arith)
+
+  -- the limit of the header is both limits
+  pub limit_is : h.limit ≡ min limit LARGEST
+  limit_is = ap (λ (k : Header). k.limit) (sym t.is)
+
+  pub sizes_within_limit : sum c.justice.sizes ≤ h.limit → sum c.justice.sizes ≤ limit
+  sizes_within_limit small = omega (arith, limit_is)
 
   pub definitions_counted : length c.inputs + length c.latches + length c.gates ≤ c.max_var
   definitions_counted =
       subst (λ (ns : List ℕ). get_or ns 1 0 + get_or ns 2 0 + get_or ns 4 0 ≤ get_or ns 0 0) (sym numbers_are) t.counted
 
-  pub within_limits : IsWithinLimits c
-  within_limits =
-      let at : (k : ℕ) → get_or t.numbers k 0 ≤ min limit LARGEST =
-      λ k. within_at (min limit LARGEST) t.numbers k t.within in
-      let low : min limit LARGEST ≤ LARGEST = omega arith in
-      let are : AreLimits t.numbers = (
-        omega (arith, at 0, low),
-        omega (arith, at 1, low),
-        omega (arith, at 2, low),
-        omega (arith, at 3, low),
-        omega
-            (arith, at 4, low),
-      ) in
-      let own : AreLimits (header_row c) = subst AreLimits (sym numbers_are) are in
-      record { max_var = own.0; inputs = own.1; latches = own.2; outputs = own.3; gates = own.4 }
+  -- where the sizes are those of the literals
+  pub within_limits : sum c.justice.sizes ≡ length c.justice.literals → sum c.justice.sizes ≤ h.limit
+      → IsWithinLimits c
+  within_limits sizes small =
+      let own : AllByRecursion (λ n. n ≤ LARGEST) (header_row c) = all_of LARGEST (omega arith) in
+      let long : length c.justice.literals ≤ LARGEST = omega (arith, sizes, small, limit_is) in
+      record {
+        max_var = own.0;
+        inputs = own.1.0;
+        latches = own.1.1.0;
+        literals = (own.1.1.1.0, (own.1.1.1.1.1.0, (own.1.1.1.1.1.1.0, (long, (own.1.1.1.1.1.1.1.1.0, tt)))));
+        justice = own.1.1.1.1.1.1.1.0;
+        sizes = sizes;
+        gates = own.1.1.1.1.0;
+      }
 
--- the numbers of a header within both limits
-both_limits : (limit : ℕ) (c : Circuit) → AllByRecursion (λ n. n ≤ limit) (header_row c) → IsWithinLimits c
-    → AllByRecursion (λ n. n ≤ min limit LARGEST) (header_row c)
-both_limits limit c h w =
-    let least : (n : ℕ) → n ≤ limit → n ≤ LARGEST → n ≤ min limit LARGEST = λ n a b. omega arith in (
-      least c.max_var h.0 w.max_var,
+-- all numbers of the header row of a circuit within the limits are within them
+pub header_limited : (c : Circuit) → IsWithinLimits c → AllByRecursion (λ n. n ≤ LARGEST) (header_row c)
+header_limited c w = (
+  w.max_var,
+  (
+    w.inputs,
+    (
+      w.latches,
       (
-        least (length c.inputs) h.1.0 w.inputs,
+        w.literals.0,
         (
-          least (length c.latches) h.1.1.0 w.latches,
-          (least (length c.outputs) h.1.1.1.0 w.outputs, (least (length c.gates) h.1.1.1.1.0 w.gates, tt)),
+          w.gates,
+          (w.literals.1.0, (w.literals.1.1.0, (w.justice, (w.literals.1.1.1.1.0, tt)))),
         ),
       ),
-    )
+    ),
+  ),
+)
 
--- the header of a circuit, by its header row
-abbrev pub own_header : Circuit → Header
-own_header c = header_of_row (header_row c)
+pub both_limits : (limit : ℕ) (ns : List ℕ) → AllByRecursion (λ n. n ≤ limit) ns → AllByRecursion (λ n. n ≤ LARGEST) ns
+    → AllByRecursion (λ n. n ≤ min limit LARGEST) ns
+both_limits limit [] g h = tt
+both_limits limit (n ∷ ns) g h =
+    let one : n ≤ limit = g.0 in
+    let other : n ≤ LARGEST = h.0 in
+    (omega arith, both_limits limit ns g.1 h.1)
+
+-- the sizes of a circuit are within both limits
+pub sizes_in_both : (limit : ℕ) (c : Circuit) → IsWithinLimits c → sum c.justice.sizes ≤ limit
+    → sum c.justice.sizes ≤ min limit LARGEST
+sizes_in_both limit c w small =
+    let long : length c.justice.literals ≤ LARGEST = w.literals.1.1.1.0 in
+    let same : sum c.justice.sizes ≡ length c.justice.literals = w.sizes in
+    omega arith
+
+-- the header of a circuit that is read within a limit, by its header row
+abbrev pub own_header : ℕ → Circuit → Header
+own_header limit c = header_of_row limit (header_row c)
 
 -- and a line that spells the circuit's header row tells its header
 pub header_is_found : (word : List ℕ) (limit : ℕ) (l : Line) (c : Circuit)
-    → AllByRecursion (λ b. ends_word b ≡ false) word → IsHeaderLine word HEADER_NUMBERS l (header_row c)
+    → AllByRecursion (λ b. ends_word b ≡ false) word → IsHeaderLine word HEADER_LEAST l (header_row c)
     → AllByRecursion (λ n. n ≤ limit) (header_row c) → IsWithinLimits c
-    → length c.inputs + length c.latches + length c.gates ≤ c.max_var → header_of word limit l ≡ Ok (own_header c)
+    → length c.inputs + length c.latches + length c.gates ≤ c.max_var
+    → header_of word limit l ≡ Ok (own_header (min limit LARGEST) c)
 header_is_found word limit l c plain line small limits fits =
-    let s = header_is_read word l HEADER_NUMBERS HEADER_NUMBERS (header_row c) (omega arith) plain line refl in
-    found_header word limit l (own_header c) (record {
+    let s = header_is_read word l HEADER_LEAST HEADER_NUMBERS (header_row c) (omega arith) plain line refl in
+    found_header word limit l (own_header (min limit LARGEST) c) (record {
       numbers = header_row c;
       begins = s.0;
       read = s.1;
       is = refl;
-      within = both_limits limit c small limits;
+      within = both_limits limit (header_row c) small (header_limited c limits);
       counted = fits;
     })

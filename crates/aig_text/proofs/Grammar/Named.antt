@@ -10,7 +10,7 @@ use Rattle.std.proofs.lemmas.Cmp.{nat_cmp_total}
 use Rattle.std.proofs.lemmas.Bool.{eqb-true, eq-eqb, or_parts, or_from, and_parts}
 use Rattle.aig_core.specs.declared.names.Names.{Names}
 use Rattle.aig_core.specs.declared.circuit.Kind.{Kind}
-use Rattle.aig_core.specs.declared.circuit.Kind.TheVariants.{Input, Latch, Output}
+use Rattle.aig_core.specs.declared.circuit.Kind.TheVariants.{Input, Latch, Output, Bad, Constraint, Justice, Fairness}
 use Rattle.aig_core.specs.declared.circuit.Symbol.{Symbol}
 use Rattle.aig_core.specs.Names.{is_named, with_name, nothing_named}
 use Rattle.aig_core.specs.Wellformed.{NameTheSame, NameApart}
@@ -21,6 +21,10 @@ same_kind : Kind → Kind → Bool
 same_kind Input Input = true
 same_kind Latch Latch = true
 same_kind Output Output = true
+same_kind Bad Bad = true
+same_kind Constraint Constraint = true
+same_kind Justice Justice = true
+same_kind Fairness Fairness = true
 same_kind _ _ = false
 
 kind_is_same : (k : Kind) → same_kind k k ≡ true
@@ -28,18 +32,21 @@ unfolding same_kind
 kind_is_same Input = refl
 kind_is_same Latch = refl
 kind_is_same Output = refl
+kind_is_same Bad = refl
+kind_is_same Constraint = refl
+kind_is_same Justice = refl
+kind_is_same Fairness = refl
 
 same_is_kind : (k j : Kind) → same_kind k j ≡ true → k ≡ j
 unfolding same_kind
 same_is_kind Input Input h = refl
 same_is_kind Latch Latch h = refl
 same_is_kind Output Output h = refl
-same_is_kind Input Latch h = cc
-same_is_kind Input Output h = cc
-same_is_kind Latch Input h = cc
-same_is_kind Latch Output h = cc
-same_is_kind Output Input h = cc
-same_is_kind Output Latch h = cc
+same_is_kind Bad Bad h = refl
+same_is_kind Constraint Constraint h = refl
+same_is_kind Justice Justice h = refl
+same_is_kind Fairness Fairness h = refl
+same_is_kind _ _ h = cc
 
 has_more : (s : set.FinSet nat_cmp) (p q : ℕ) → set.contains (set.insert s p) q ≡ (eqb q p || set.contains s q)
 has_more s p q = contains-insert nat_cmp_total s p q ∙ ap (λ b. b || set.contains s q) (unsigned_tied q p)
@@ -51,17 +58,20 @@ unfolding same_kind
 named_after b Input Input p q = has_more b.inputs p q
 named_after b Latch Latch p q = has_more b.latches p q
 named_after b Output Output p q = has_more b.outputs p q
-named_after b Input Latch p q = refl
-named_after b Input Output p q = refl
-named_after b Latch Input p q = refl
-named_after b Latch Output p q = refl
-named_after b Output Input p q = refl
-named_after b Output Latch p q = refl
+named_after b Bad Bad p q = has_more b.bad p q
+named_after b Constraint Constraint p q = has_more b.constraints p q
+named_after b Justice Justice p q = has_more b.justice p q
+named_after b Fairness Fairness p q = has_more b.fairness p q
+named_after b _ _ p q = refl
 
 none_named : (k : Kind) (q : ℕ) → is_named nothing_named k q ≡ false
 none_named Input q = contains-empty nat_cmp q
 none_named Latch q = contains-empty nat_cmp q
 none_named Output q = contains-empty nat_cmp q
+none_named Bad q = contains-empty nat_cmp q
+none_named Constraint q = contains-empty nat_cmp q
+none_named Justice q = contains-empty nat_cmp q
+none_named Fairness q = contains-empty nat_cmp q
 
 -- each symbol names something that is there and has no name before it
 abbrev pub AreNew : Header → Names → List Symbol → Type 0

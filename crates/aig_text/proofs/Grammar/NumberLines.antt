@@ -117,7 +117,7 @@ more_reads least (suc most) ended bytes ns l h =
           )
     ]
 
-and_no : (t : Bool) → (t && false) ≡ false
+pub and_no : (t : Bool) → (t && false) ≡ false
 and_no true = refl
 and_no false = refl
 

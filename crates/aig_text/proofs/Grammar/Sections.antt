@@ -1,30 +1,35 @@
 -- Sections that are read hold the rows of the circuit, and the other way round.
-use Rattle.std.proofs.Common.{◌≡◌, ℕ, List, [], ◌∷◌, ◌++◌, map, length, Option, None, Ok, refl, ap, subst, ◌∙◌, sym}
-use Rattle.std.proofs.Common.{arith, append_assoc}
-use Rattle.std.specs.List.{AllByRecursion, AllZip, flat_map}
+use Rattle.std.proofs.Common.{◌≡◌, ℕ, ◌≤◌, List, [], ◌∷◌, ◌++◌, map, length, None, Ok, refl, ap, subst}
+use Rattle.std.proofs.Common.{◌∙◌, sym, arith, append_assoc}
+use Rattle.std.specs.List.{AllByRecursion, AllZip, sum}
 use Rattle.std.proofs.lemmas.List.{length-map}
+use Rattle.std.proofs.lemmas.List.Elements.{All-from_recursion, recursion_from_All}
 use Rattle.aig_core.specs.declared.circuit.Circuit.{Circuit}
 use Rattle.aig_core.specs.declared.circuit.Latch.{Latch}
 use Rattle.aig_core.specs.declared.circuit.Gate.{Gate}
-use Rattle.aig_core.specs.declared.circuit.Symbol.{Symbol}
 use Rattle.aig_core.specs.Wellformed.{IsWithinLimits, IsVariableUpTo, operands}
-use Rattle.aig_core.specs.Form.{IsInForm}
+use Rattle.aig_core.specs.Form.{AreInRange, HasEntriesInRange, IsInForm}
+use Rattle.aig_core.proofs.Checking.InForm.{by_parts, in_range}
 use Rattle.aig_text.specs.declared.fault.ReadFault.{ReadFault}
-use Rattle.aig_text.specs.declared.section.Section.TheVariants.{Inputs, Latches, Outputs, Gates}
+use Rattle.aig_text.specs.declared.section.Section.TheVariants.{Inputs, Latches, Outputs, Bad, Constraints}
+use Rattle.aig_text.specs.declared.section.Section.TheVariants.{JusticeSizes, JusticeLiterals, Fairness, Gates}
 use Rattle.aig_text.specs.Lines.{Line, Ahead, ahead}
 use Rattle.aig_text.specs.Rows.{Header, Section, sections, Listed, in_ascii, Form, Row, row, rows_of, header_row}
-use Rattle.aig_text.specs.Rows.{input_row, latch_row, output_row, gate_row, input_of, latch_of, output_of, gate_of}
-use Rattle.aig_text.specs.Rows.{input_form, latch_form, output_form, gate_form}
+use Rattle.aig_text.specs.Rows.{input_row, latch_row, literal_row, size_row, gate_row, input_of, latch_of, literal_in}
+use Rattle.aig_text.specs.Rows.{size_of, gate_of, input_form, latch_form, literal_form, size_form, gate_form}
 use Rattle.aig_text.specs.AsciiGrammar.{IsRowLine}
 use Rattle.aig_text.specs.Reading.{Found, rows_at, section_at, sections_at, header_of_row, empty_circuit}
 use Rattle.aig_text.proofs.Steps.{both_ok, ok_same}
-use Rattle.aig_text.proofs.Grammar.Entries.{IsGoodRow, IsLiteralUpTo, IsLatchUpTo, IsGateUpTo, input_entry}
-use Rattle.aig_text.proofs.Grammar.Entries.{latch_entry, output_entry, gate_entry, all_again, rows_again, all_mapped}
+use Rattle.aig_text.proofs.Grammar.Entries.{AreGoodRows, IsGoodBeside, each_good, IsEntry, HasGoodRow}
+use Rattle.aig_text.proofs.Grammar.Entries.{IsLiteralUpTo, IsLatchUpTo, IsSizeUpTo, IsGateUpTo, input_entry}
+use Rattle.aig_text.proofs.Grammar.Entries.{latch_entry, literal_entry, size_entry, gate_entry, good_input, good_latch}
+use Rattle.aig_text.proofs.Grammar.Entries.{good_literal, good_gate, good_sizes, sizes_within, all_again, rows_again}
+use Rattle.aig_text.proofs.Grammar.Entries.{all_mapped, all_good}
 use Rattle.aig_text.proofs.Grammar.Rows.{IsSound, AreRows, rows_meant, rows_are_found}
 
--- rows that a section may have, and as many as it has
-pub record FitRows (form : Form) (m count : ℕ) (rows : List (List ℕ)) : Type 0 where
-  pub good : AllByRecursion (IsGoodRow form m) rows
+-- rows that a section may have, the first one beside what is carried at the start, and as many as it has
+pub record FitRows (form : Form) (bound start count : ℕ) (rows : List (List ℕ)) : Type 0 where
+  pub good : AreGoodRows form bound start rows
   pub counted : length rows ≡ count
 
 pub zips_joined : {A B : Type 0} (R : A → B → Type 0) (us vs : List A) (ys zs : List B) → AllZip R us ys
@@ -57,41 +62,48 @@ zips_split R (x ∷ xs) (y ∷ ys) zs h =
       second_zips = t.second_zips;
     }
 
+-- the rows of sections, a list of them for each
+abbrev pub FoundIn : List Section → Type 0
+FoundIn ss = AllByRecursion (λ (s : Section). List (List ℕ)) ss
+
 -- sections as a file of some format lists them, under a header
 module _ (listed : Section → Listed) (h : Header) where
   -- the rows of these sections, the circuit with them, and whether they may stand there
-  abbrev pub rows_under : List Section → List (List (List ℕ)) → List Row
+  abbrev pub rows_under : (ss : List Section) → FoundIn ss → List Row
   rows_under [] found = []
-  rows_under (s ∷ ss) [] = []
-  rows_under (s ∷ ss) (rows ∷ found) = map (row (listed s).form) rows ++ rows_under ss found
+  rows_under (s ∷ ss) found = map (row (listed s).form) found.0 ++ rows_under ss found.1
 
-  abbrev pub with_all : List Section → List (List (List ℕ)) → Circuit → Circuit
+  abbrev pub with_all : (ss : List Section) → FoundIn ss → Circuit → Circuit
   with_all [] found c = c
-  with_all (s ∷ ss) [] c = c
-  with_all (s ∷ ss) (rows ∷ found) c = with_all ss found ((listed s).with_rows h rows c)
+  with_all (s ∷ ss) found c = with_all ss found.1 ((listed s).with_rows h found.0 c)
 
-  abbrev pub AllFit : List Section → List (List (List ℕ)) → Circuit → Type 0
-  AllFit [] [] c = Unit {0}
-  AllFit [] (rows ∷ found) c = ⊥
-  AllFit (s ∷ ss) [] c = ⊥
-  AllFit (s ∷ ss) (rows ∷ found) c =
-      FitRows (listed s).form h.max_var ((listed s).count h c) rows × AllFit ss found ((listed s).with_rows h rows c)
+  abbrev pub FitsIn : Section → List (List ℕ) → Circuit → Type 0
+  FitsIn s rows c = FitRows (listed s).form ((listed s).bound h) ((listed s).start h c) ((listed s).count h c) rows
+
+  abbrev pub AllFit : (ss : List Section) → FoundIn ss → Circuit → Type 0
+  AllFit [] found c = Unit {0}
+  AllFit (s ∷ ss) found c = FitsIn s found.0 c × AllFit ss found.1 ((listed s).with_rows h found.0 c)
 
   -- lines that hold the rows of sections
   pub record AreSections (ss : List Section) (c d : Circuit) (ls rest : List Line) : Type 0 where
-    pub found : List (List (List ℕ))
+    pub found : FoundIn ss
     pub front : List Line
     pub lines : ls ≡ front ++ rest
     pub spelled : AllZip IsRowLine front (rows_under ss found)
     pub fit : AllFit ss found c
     pub circuit : with_all ss found c ≡ d
 
+  -- the lines of one section
+  abbrev pub AreRowsOf : Section → Circuit → List (List ℕ) → List Line → List Line → Type 0
+  AreRowsOf s c rows ls rest =
+      AreRows (listed s).form ((listed s).bound h) ((listed s).start h c) ((listed s).count h c) ls rows rest
+
   -- one section at the front
   one_section : (s : Section) (ss : List Section) (c d : Circuit) (rows : List (List ℕ)) (ls between rest : List Line)
-      → AreRows (listed s).form h.max_var ((listed s).count h c) ls rows between
-      → AreSections ss ((listed s).with_rows h rows c) d between rest → AreSections (s ∷ ss) c d ls rest
+      → AreRowsOf s c rows ls between → AreSections ss ((listed s).with_rows h rows c) d between rest
+      → AreSections (s ∷ ss) c d ls rest
   one_section s ss c d rows ls between rest a o = record {
-    found = rows ∷ o.found;
+    found = (rows, o.found);
     front = a.front ++ o.front;
     lines = a.lines ∙ ap (λ (ks : List Line). a.front ++ ks) o.lines ∙ sym (append_assoc a.front o.front rest);
     spelled =
@@ -100,6 +112,10 @@ module _ (listed : Section → Listed) (h : Header) where
     fit = (record { good = a.good; counted = a.counted }, o.fit);
     circuit = o.circuit;
   }
+
+  abbrev rows_of_section : Section → Circuit → Ahead → Found (List (List ℕ))
+  rows_of_section s c at =
+      rows_at (listed s).form ((listed s).bound h) ((listed s).start h c) ((listed s).count h c) at
 
   abbrev after_rows : Section → Circuit → List (List ℕ) × Ahead → Found Circuit
   after_rows s c found = Ok ((listed s).with_rows h found.0 c, found.1)
@@ -114,279 +130,374 @@ module _ (listed : Section → Listed) (h : Header) where
   sections_found sound [] c at p is =
       let e : (c, at) ≡ p = ok_same {E = ReadFault} _ _ is in
       subst (λ (q : Circuit × Ahead). AreSections [] c q.0 at.lines q.1.lines) e
-      (record { found = []; front = []; lines = refl; spelled = tt; fit = tt; circuit = refl })
+      (record { found = tt; front = []; lines = refl; spelled = tt; fit = tt; circuit = refl })
   sections_found sound (s ∷ ss) c at p is =
       let f = both_ok (section_at (listed s) h c at) (then_sections ss) p is in
-      let r = both_ok (rows_at (listed s).form h.max_var ((listed s).count h c) at) (after_rows s c) f.0 f.1 in
+      let r = both_ok (rows_of_section s c at) (after_rows s c) f.0 f.1 in
       let e : ((listed s).with_rows h r.0.0 c, r.0.1) ≡ f.0 = ok_same {E = ReadFault} _ _ r.2 in
-      let rows : AreRows (listed s).form h.max_var ((listed s).count h c) at.lines r.0.0 r.0.1.lines =
-      rows_meant (listed s).form h.max_var ((listed s).count h c) at r.0 (sound s) r.1 in
+      let rows : AreRowsOf s c r.0.0 at.lines r.0.1.lines =
+      rows_meant (listed s).form ((listed s).bound h) ((listed s).start h c) ((listed s).count h c) at r.0 (sound s) r.1
+      in
       let others : AreSections ss f.0.0 p.0 f.0.1.lines p.1.lines = sections_found sound ss f.0.0 f.0.1 p f.2 in
       one_section s ss c p.0 r.0.0 at.lines r.0.1.lines p.1.lines rows
       (subst (λ (q : Circuit × Ahead). AreSections ss q.0 p.0 q.1.lines p.1.lines) (sym e) others)
 
   -- and lines that hold such rows are read as them
-  abbrev ReadsSections : List Section → List (List (List ℕ)) → Circuit → ℕ → List Line → List Line → Type 0
+  abbrev ReadsSections : (ss : List Section) → FoundIn ss → Circuit → ℕ → List Line → List Line → Type 0
   ReadsSections ss found c n ls rest =
       (k : ℕ) × (sections_at listed h ss c (ahead n ls) ≡ Ok (with_all ss found c, ahead k rest))
 
-  one_is_read : (s : Section) (ss : List Section) (c : Circuit) (rows : List (List ℕ)) (found : List (List (List ℕ)))
+  one_is_read : (s : Section) (ss : List Section) (c : Circuit) (found : FoundIn (s ∷ ss))
       (n k j : ℕ) (ls between rest : List Line)
-      → rows_at (listed s).form h.max_var ((listed s).count h c) (ahead n ls) ≡ Ok (rows, ahead k between)
-      → sections_at listed h ss ((listed s).with_rows h rows c) (ahead k between)
-      ≡ Ok (with_all ss found ((listed s).with_rows h rows c), ahead j rest)
-      → sections_at listed h (s ∷ ss) c (ahead n ls) ≡ Ok (with_all (s ∷ ss) (rows ∷ found) c, ahead j rest)
+      → rows_of_section s c (ahead n ls) ≡ Ok (found.0, ahead k between)
+      → sections_at listed h ss ((listed s).with_rows h found.0 c) (ahead k between)
+      ≡ Ok (with_all ss found.1 ((listed s).with_rows h found.0 c), ahead j rest)
+      → sections_at listed h (s ∷ ss) c (ahead n ls) ≡ Ok (with_all (s ∷ ss) found c, ahead j rest)
   unfolding sections_at
-  one_is_read s ss c rows found n k j ls between rest r o = rw (r, o) refl
+  one_is_read s ss c found n k j ls between rest r o = rw (r, o) refl
 
-  pub sections_are_found : (ss : List Section) (found : List (List (List ℕ))) (c : Circuit) (n : ℕ)
-      (front rest : List Line)
+  -- the lines of one section, and what follows them
+  rows_here : (s : Section) (c : Circuit) (rows : List (List ℕ)) (n k : ℕ) (front first between : List Line)
+      → FitsIn s rows c → front ≡ first ++ between
+      → rows_at (listed s).form ((listed s).bound h) ((listed s).start h c) (length rows) (ahead n (first ++ between))
+      ≡ Ok (rows, ahead k between)
+      → rows_of_section s c (ahead n front) ≡ Ok (rows, ahead k between)
+  rows_here s c rows n k front first between fit lines r =
+      rw lines
+      (subst
+      (λ count. rows_at (listed s).form ((listed s).bound h) ((listed s).start h c) count (ahead n (first ++ between))
+      ≡ Ok (rows, ahead k between)) fit.counted r)
+
+  pub sections_are_found : (ss : List Section) (found : FoundIn ss) (c : Circuit) (n : ℕ) (front rest : List Line)
       → AllZip IsRowLine front (rows_under ss found) → AllFit ss found c
       → ReadsSections ss found c n (front ++ rest) rest
   unfolding sections_at
-  sections_are_found [] [] c n [] rest z fit = (n, refl)
-  sections_are_found [] [] c n (l ∷ ls) rest z fit = absurd z
-  sections_are_found [] (rows ∷ found) c n front rest z fit = absurd fit
-  sections_are_found (s ∷ ss) [] c n front rest z fit = absurd fit
-  sections_are_found (s ∷ ss) (rows ∷ found) c n front rest z fit =
-      let two = zips_split IsRowLine front (map (row (listed s).form) rows) (rows_under ss found) z in
-      let r = rows_are_found (listed s).form h.max_var n two.first (two.second ++ rest) rows two.first_zips
-      fit.0.good in
-      let o = sections_are_found ss found ((listed s).with_rows h rows c) r.0 two.second rest two.second_zips fit.1 in
+  sections_are_found [] found c n [] rest z fit = (n, refl)
+  sections_are_found [] found c n (l ∷ ls) rest z fit = absurd z
+  sections_are_found (s ∷ ss) found c n front rest z fit =
+      let two = zips_split IsRowLine front (map (row (listed s).form) found.0) (rows_under ss found.1) z in
+      let r = rows_are_found (listed s).form ((listed s).bound h) ((listed s).start h c) n two.first
+      (two.second ++ rest) found.0 two.first_zips fit.0.good in
+      let o = sections_are_found ss found.1 ((listed s).with_rows h found.0 c) r.0 two.second rest two.second_zips
+      fit.1 in
       let lines : front ++ rest ≡ two.first ++ (two.second ++ rest) = ap (λ (ks : List Line). ks ++ rest) two.are
       ∙ append_assoc two.first two.second rest in
-      let here : rows_at (listed s).form h.max_var ((listed s).count h c) (ahead n (front ++ rest)) ≡ Ok
-      (rows, ahead r.0 (two.second ++ rest)) =
-      rw lines
-      (subst
-      (λ count. rows_at (listed s).form h.max_var count (ahead n (two.first ++ (two.second ++ rest))) ≡ Ok
-      (rows, ahead r.0 (two.second ++ rest))) fit.0.counted r.1) in
-      (o.0, one_is_read s ss c rows found n r.0 o.0 (front ++ rest) (two.second ++ rest) rest here o.1)
+      let here = rows_here s c found.0 n r.0 (front ++ rest) two.first (two.second ++ rest) fit.0 lines r.1 in
+      (o.0, one_is_read s ss c found n r.0 o.0 (front ++ rest) (two.second ++ rest) rest here o.1)
+
+  -- the rows that a circuit has in each section
+  abbrev pub own_found : (ss : List Section) → Circuit → FoundIn ss
+  own_found [] c = tt
+  own_found (s ∷ ss) c = ((listed s).rows c, own_found ss c)
+
+pub all_weaker_of : {X : Type 0} (P Q : X → Type 0) → ((x : X) → P x → Q x) → (xs : List X) → AllByRecursion P xs
+    → AllByRecursion Q xs
+all_weaker_of P Q weaker [] h = tt
+all_weaker_of P Q weaker (x ∷ xs) h = (weaker x h.0, all_weaker_of P Q weaker xs h.1)
 
 sound : (s : Section) → IsSound (in_ascii s).form
 sound Inputs = omega arith
 sound Latches = omega arith
 sound Outputs = omega arith
+sound Bad = omega arith
+sound Constraints = omega arith
+sound JusticeSizes = omega arith
+sound JusticeLiterals = omega arith
+sound Fairness = omega arith
 sound Gates = omega arith
 
--- the circuit of four lists of rows
-abbrev pub circuit_of : ℕ → List (List ℕ) → List (List ℕ) → List (List ℕ) → List (List ℕ) → Circuit
-circuit_of m is ls os gs = record {
+-- what rows of a section are to the entries that they tell
+pub record AreEntries {X : Type 0} (row : X → List ℕ) (IsUpTo : ℕ → X → Type 0) (m count : ℕ)
+    (rows : List (List ℕ)) (xs : List X) : Type 0 where
+  pub again : map row xs ≡ rows
+  pub counted : length xs ≡ count
+  pub up_to : AllByRecursion (IsUpTo m) xs
+
+pub entries_are : {X : Type 0} (form : Form) (row : X → List ℕ) (found : List ℕ → X) (IsUpTo : ℕ → X → Type 0)
+    → IsEntry form row found IsUpTo → (m start count : ℕ) (rows : List (List ℕ)) → FitRows form m start count rows
+    → AreEntries row IsUpTo m count rows (map found rows)
+entries_are form row found IsUpTo entry m start count rows fit =
+    let good = each_good form m start rows fit.good in
+    record {
+      again = rows_again (IsGoodBeside form m) row found (λ ns g. entry.row_again m g.0 ns g.1) rows good;
+      counted = length-map rows found ∙ fit.counted;
+      up_to = all_mapped (IsGoodBeside form m) (IsUpTo m) found (λ ns g. entry.up_to m g.0 ns g.1) rows good;
+    }
+
+-- a section of literals, one on each line, as ASCII and binary files have it
+pub literals_are : (m count : ℕ) (rows : List (List ℕ)) → FitRows literal_form m 0 count rows
+    → AreEntries literal_row IsLiteralUpTo m count rows (map literal_in rows)
+literals_are m count rows fit =
+    entries_are literal_form literal_row literal_in IsLiteralUpTo literal_entry m 0 count rows fit
+
+-- the circuit of the rows of all sections
+abbrev pub circuit_of : ℕ → FoundIn sections → Circuit
+circuit_of m found = record {
   max_var = m;
-  inputs = map input_of is;
-  latches = map latch_of ls;
-  outputs = map output_of os;
-  gates = map gate_of gs;
+  inputs = map input_of found.0;
+  latches = map latch_of found.1.0;
+  outputs = map literal_in found.1.1.0;
+  bad = map literal_in found.1.1.1.0;
+  constraints = map literal_in found.1.1.1.1.0;
+  justice = record { sizes = map size_of found.1.1.1.1.1.0; literals = map literal_in found.1.1.1.1.1.1.0 };
+  fairness = map literal_in found.1.1.1.1.1.1.1.0;
+  gates = map gate_of found.1.1.1.1.1.1.1.1.0;
   symbols = [];
   comment = None;
 }
 
-pub record FourSections (h : Header) (c : Circuit) (ls rest : List Line) : Type 0 where
-  pub inputs : List (List ℕ)
-  pub latches : List (List ℕ)
-  pub outputs : List (List ℕ)
-  pub gates : List (List ℕ)
-  pub front : List Line
-  pub lines : ls ≡ front ++ rest
-  pub spelled : AllZip IsRowLine front (rows_under in_ascii h sections (inputs ∷ latches ∷ outputs ∷ gates ∷ []))
-  pub fit_inputs : FitRows input_form h.max_var h.inputs inputs
-  pub fit_latches : FitRows latch_form h.max_var h.latches latches
-  pub fit_outputs : FitRows output_form h.max_var h.outputs outputs
-  pub fit_gates : FitRows gate_form h.max_var h.gates gates
-  pub circuit : circuit_of h.max_var inputs latches outputs gates ≡ c
+-- lines that hold the rows of all sections of an ASCII file
+abbrev pub AreAllSections : Header → Circuit → List Line → List Line → Type 0
+AreAllSections h c ls rest = AreSections in_ascii h sections (empty_circuit h.max_var) c ls rest
 
-four : (h : Header) (c : Circuit) (ls rest front : List Line) (found : List (List (List ℕ))) → ls ≡ front ++ rest
-    → AllZip IsRowLine front (rows_under in_ascii h sections found)
-    → AllFit in_ascii h sections found (empty_circuit h.max_var)
-    → with_all in_ascii h sections found (empty_circuit h.max_var) ≡ c → FourSections h c ls rest
-four h c ls rest front [] lines spelled fit is = absurd fit
-four h c ls rest front (i ∷ []) lines spelled fit is = absurd fit.1
-four h c ls rest front (i ∷ l ∷ []) lines spelled fit is = absurd fit.1.1
-four h c ls rest front (i ∷ l ∷ o ∷ []) lines spelled fit is = absurd fit.1.1.1
-four h c ls rest front (i ∷ l ∷ o ∷ g ∷ []) lines spelled fit is = record {
-  inputs = i;
-  latches = l;
-  outputs = o;
-  gates = g;
-  front = front;
-  lines = lines;
-  spelled = spelled;
-  fit_inputs = fit.0;
-  fit_latches = fit.1.0;
-  fit_outputs = fit.1.1.0;
-  fit_gates = fit.1.1.1.0;
-  circuit = is;
-}
-four h c ls rest front (i ∷ l ∷ o ∷ g ∷ x ∷ found) lines spelled fit is = absurd fit.1.1.1.1
+pub all_found : (h : Header) (at : Ahead) (p : Circuit × Ahead)
+    → sections_at in_ascii h sections (empty_circuit h.max_var) at ≡ Ok p → AreAllSections h p.0 at.lines p.1.lines
+all_found h at p is = sections_found in_ascii h sound sections (empty_circuit h.max_var) at p is
 
-pub four_found : (h : Header) (at : Ahead) (p : Circuit × Ahead)
-    → sections_at in_ascii h sections (empty_circuit h.max_var) at ≡ Ok p → FourSections h p.0 at.lines p.1.lines
-four_found h at p is =
-    let a = sections_found in_ascii h sound sections (empty_circuit h.max_var) at p is in
-    four h p.0 at.lines p.1.lines a.front a.found a.lines a.spelled a.fit a.circuit
-
--- the rows of the circuit are those that were read
-pub rows_read : (h : Header) (c : Circuit) (ls rest : List Line) (f : FourSections h c ls rest)
-    → rows_under in_ascii h sections (f.inputs ∷ f.latches ∷ f.outputs ∷ f.gates ∷ []) ≡ rows_of c
-rows_read h c ls rest f =
-    let i =
-    rows_again (IsGoodRow input_form h.max_var) input_row input_of
-    (input_entry.row_again h.max_var) f.inputs f.fit_inputs.good in
-    let l =
-    rows_again (IsGoodRow latch_form h.max_var) latch_row latch_of
-    (latch_entry.row_again h.max_var) f.latches f.fit_latches.good in
-    let o =
-    rows_again (IsGoodRow output_form h.max_var) output_row output_of
-    (output_entry.row_again h.max_var) f.outputs f.fit_outputs.good in
-    let g =
-    rows_again (IsGoodRow gate_form h.max_var) gate_row gate_of
-    (gate_entry.row_again h.max_var) f.gates f.fit_gates.good in
-    let here : rows_under in_ascii h sections (f.inputs ∷ f.latches ∷ f.outputs ∷ f.gates ∷ [])
-    ≡ rows_of (circuit_of h.max_var f.inputs f.latches f.outputs f.gates) = sym (rw (i, l, o, g) refl) in
-    here ∙ ap rows_of f.circuit
-
--- and so are their numbers
+-- the numbers of a header
 abbrev pub row_of_header : Header → List ℕ
-row_of_header h = h.max_var ∷ h.inputs ∷ h.latches ∷ h.outputs ∷ h.gates ∷ []
+row_of_header h =
+    h.max_var ∷ h.inputs ∷ h.latches ∷ h.outputs ∷ h.gates ∷ h.bad ∷ h.constraints ∷ h.justice ∷ h.fairness ∷ []
 
-pub counts_read : (h : Header) (c : Circuit) (ls rest : List Line) → FourSections h c ls rest
-    → header_row c ≡ row_of_header h
-counts_read h c ls rest f =
-    let i : length (map input_of f.inputs) ≡ h.inputs = length-map f.inputs input_of ∙ f.fit_inputs.counted in
-    let l : length (map latch_of f.latches) ≡ h.latches = length-map f.latches latch_of ∙ f.fit_latches.counted in
-    let o : length (map output_of f.outputs) ≡ h.outputs = length-map f.outputs output_of ∙ f.fit_outputs.counted in
-    let g : length (map gate_of f.gates) ≡ h.gates = length-map f.gates gate_of ∙ f.fit_gates.counted in
-    subst (λ (d : Circuit). header_row d ≡ row_of_header h) f.circuit (rw (i, l, o, g) refl)
+-- what is made of good rows: section by section
+module _ (h : Header) (found : FoundIn sections)
+    (fit : AllFit in_ascii h sections found (empty_circuit h.max_var)) where
+  inputs : AreEntries input_row IsVariableUpTo h.max_var h.inputs found.0 (map input_of found.0)
+  inputs = entries_are input_form input_row input_of IsVariableUpTo input_entry h.max_var 0 h.inputs found.0 fit.0
 
-pub all_append : {X : Type 0} (P : X → Type 0) (xs ys : List X) → AllByRecursion P xs → AllByRecursion P ys
-    → AllByRecursion P (xs ++ ys)
-all_append P [] ys h g = g
-all_append P (x ∷ xs) ys h g = (h.0, all_append P xs ys h.1 g)
+  latches : AreEntries latch_row IsLatchUpTo h.max_var h.latches found.1.0 (map latch_of found.1.0)
+  latches =
+      entries_are latch_form latch_row latch_of IsLatchUpTo latch_entry h.max_var 0 h.latches found.1.0 fit.1.0
 
-pub all_flat : {X Y : Type 0} (P : X → Type 0) (Q : Y → Type 0) (f : X → List Y)
-    → ((x : X) → P x → AllByRecursion Q (f x)) → (xs : List X) → AllByRecursion P xs → AllByRecursion Q (flat_map f xs)
-all_flat P Q f h [] all = tt
-all_flat P Q f h (x ∷ xs) all = all_append Q (f x) (flat_map f xs) (h x all.0) (all_flat P Q f h xs all.1)
+  abbrev Literals : ℕ → List (List ℕ) → Type 0
+  Literals count rows = AreEntries literal_row IsLiteralUpTo h.max_var count rows (map literal_in rows)
 
--- what is made of good rows is in form
-pub in_form : (h : Header) (c : Circuit) (ls rest : List Line) → IsWithinLimits c → FourSections h c ls rest
-    → IsInForm c
-in_form h c ls rest limits f =
-    let m : ℕ = h.max_var in
-    let is : AllByRecursion (IsVariableUpTo m) (map input_of f.inputs) =
-    all_mapped (IsGoodRow input_form m) (IsVariableUpTo m) input_of (input_entry.up_to m) f.inputs f.fit_inputs.good in
-    let ls : AllByRecursion (IsLatchUpTo m) (map latch_of f.latches) =
-    all_mapped (IsGoodRow latch_form m) (IsLatchUpTo m) latch_of (latch_entry.up_to m) f.latches f.fit_latches.good in
-    let os : AllByRecursion (IsLiteralUpTo m) (map output_of f.outputs) =
-    all_mapped (IsGoodRow output_form m) (IsLiteralUpTo m) output_of
-    (output_entry.up_to m) f.outputs f.fit_outputs.good in
-    let gs : AllByRecursion (IsGateUpTo m) (map gate_of f.gates) =
-    all_mapped (IsGoodRow gate_form m) (IsGateUpTo m) gate_of (gate_entry.up_to m) f.gates f.fit_gates.good in
-    let d : Circuit = circuit_of m f.inputs f.latches f.outputs f.gates in
-    subst IsInForm f.circuit (record {
-      limits = subst IsWithinLimits (sym f.circuit) limits;
-      variables =
-          all_append (IsVariableUpTo m) (d.inputs ++ map (λ (l : Latch). l.var) d.latches)
-          (map (λ (g : Gate). g.var) d.gates)
-          (all_append (IsVariableUpTo m) d.inputs (map (λ (l : Latch). l.var) d.latches) is
-          (all_mapped (IsLatchUpTo m) (IsVariableUpTo m) (λ (l : Latch). l.var) (λ l p. p.0) d.latches ls))
-          (all_mapped (IsGateUpTo m) (IsVariableUpTo m) (λ (g : Gate). g.var) (λ g p. p.0) d.gates gs);
-      literals =
-          all_append (IsLiteralUpTo m) (map (λ (l : Latch). l.next) d.latches ++ d.outputs) (flat_map operands d.gates)
-          (all_append (IsLiteralUpTo m) (map (λ (l : Latch). l.next) d.latches) d.outputs
-          (all_mapped (IsLatchUpTo m) (IsLiteralUpTo m) (λ (l : Latch). l.next) (λ l p. p.1) d.latches ls) os)
-          (all_flat (IsGateUpTo m) (IsLiteralUpTo m) operands (λ g p. (p.1, (p.2, tt))) d.gates gs);
-      symbols = record { positions = tt; apart = tt; lines = tt };
-    })
+  outputs : Literals h.outputs found.1.1.0
+  outputs = literals_are h.max_var h.outputs found.1.1.0 fit.1.1.0
 
--- the rows of a circuit in form are good
-all_left : {X : Type 0} (P : X → Type 0) (xs ys : List X) → AllByRecursion P (xs ++ ys) → AllByRecursion P xs
-all_left P [] ys h = tt
-all_left P (x ∷ xs) ys h = (h.0, all_left P xs ys h.1)
+  bad : Literals h.bad found.1.1.1.0
+  bad = literals_are h.max_var h.bad found.1.1.1.0 fit.1.1.1.0
 
-all_right : {X : Type 0} (P : X → Type 0) (xs ys : List X) → AllByRecursion P (xs ++ ys) → AllByRecursion P ys
-all_right P [] ys h = h
-all_right P (x ∷ xs) ys h = all_right P xs ys h.1
+  constraints : Literals h.constraints found.1.1.1.1.0
+  constraints = literals_are h.max_var h.constraints found.1.1.1.1.0 fit.1.1.1.1.0
 
-latches_up_to : (m : ℕ) (ls : List Latch) → AllByRecursion (IsVariableUpTo m) (map (λ (l : Latch). l.var) ls)
-    → AllByRecursion (IsLiteralUpTo m) (map (λ (l : Latch). l.next) ls) → AllByRecursion (IsLatchUpTo m) ls
-latches_up_to m [] v n = tt
-latches_up_to m (l ∷ ls) v n = ((v.0, n.0), latches_up_to m ls v.1 n.1)
+  sizes : AreEntries size_row IsSizeUpTo h.limit h.justice found.1.1.1.1.1.0 (map size_of found.1.1.1.1.1.0)
+  sizes =
+      entries_are size_form size_row size_of IsSizeUpTo size_entry h.limit 0 h.justice found.1.1.1.1.1.0
+      fit.1.1.1.1.1.0
 
-gates_up_to : (m : ℕ) (gs : List Gate) → AllByRecursion (IsVariableUpTo m) (map (λ (g : Gate). g.var) gs)
-    → AllByRecursion (IsLiteralUpTo m) (flat_map operands gs) → AllByRecursion (IsGateUpTo m) gs
-gates_up_to m [] v n = tt
-gates_up_to m (g ∷ gs) v n = ((v.0, n.0, n.1.0), gates_up_to m gs v.1 n.1.1)
+  justice : Literals (sum (map size_of found.1.1.1.1.1.0)) found.1.1.1.1.1.1.0
+  justice =
+      literals_are h.max_var (sum (map size_of found.1.1.1.1.1.0)) found.1.1.1.1.1.1.0 fit.1.1.1.1.1.1.0
 
-pub rows_good : (c : Circuit) → IsInForm c → (s : Section)
-    → AllByRecursion (IsGoodRow (in_ascii s).form c.max_var) ((in_ascii s).rows c)
-rows_good c form Inputs =
-    all_mapped (IsVariableUpTo c.max_var) (IsGoodRow input_form c.max_var) input_row
-    (input_entry.good c.max_var) c.inputs
-    (all_left (IsVariableUpTo c.max_var) c.inputs (map (λ (l : Latch). l.var) c.latches)
-    (all_left (IsVariableUpTo c.max_var) (c.inputs ++ map (λ (l : Latch). l.var) c.latches)
-    (map (λ (g : Gate). g.var) c.gates) form.variables))
-rows_good c form Latches =
-    all_mapped (IsLatchUpTo c.max_var) (IsGoodRow latch_form c.max_var) latch_row (latch_entry.good c.max_var) c.latches
-    (latches_up_to c.max_var c.latches
-    (all_right (IsVariableUpTo c.max_var) c.inputs (map (λ (l : Latch). l.var) c.latches)
-    (all_left (IsVariableUpTo c.max_var) (c.inputs ++ map (λ (l : Latch). l.var) c.latches)
-    (map (λ (g : Gate). g.var) c.gates) form.variables))
-    (all_left (IsLiteralUpTo c.max_var) (map (λ (l : Latch). l.next) c.latches) c.outputs
-    (all_left (IsLiteralUpTo c.max_var) (map (λ (l : Latch). l.next) c.latches ++ c.outputs)
-    (flat_map operands c.gates) form.literals)))
-rows_good c form Outputs =
-    all_mapped (IsLiteralUpTo c.max_var) (IsGoodRow output_form c.max_var) output_row
-    (output_entry.good c.max_var) c.outputs
-    (all_right (IsLiteralUpTo c.max_var) (map (λ (l : Latch). l.next) c.latches) c.outputs
-    (all_left (IsLiteralUpTo c.max_var) (map (λ (l : Latch). l.next) c.latches ++ c.outputs)
-    (flat_map operands c.gates) form.literals))
-rows_good c form Gates =
-    all_mapped (IsGateUpTo c.max_var) (IsGoodRow gate_form c.max_var) gate_row (gate_entry.good c.max_var) c.gates
-    (gates_up_to c.max_var c.gates
-    (all_right (IsVariableUpTo c.max_var) (c.inputs ++ map (λ (l : Latch). l.var) c.latches)
-    (map (λ (g : Gate). g.var) c.gates) form.variables)
-    (all_right (IsLiteralUpTo c.max_var) (map (λ (l : Latch). l.next) c.latches ++ c.outputs)
-    (flat_map operands c.gates) form.literals))
+  fairness : Literals h.fairness found.1.1.1.1.1.1.1.0
+  fairness = literals_are h.max_var h.fairness found.1.1.1.1.1.1.1.0 fit.1.1.1.1.1.1.1.0
+
+  gates : AreEntries gate_row IsGateUpTo h.max_var h.gates found.1.1.1.1.1.1.1.1.0 (map gate_of found.1.1.1.1.1.1.1.1.0)
+  gates =
+      entries_are gate_form gate_row gate_of IsGateUpTo gate_entry h.max_var 0 h.gates found.1.1.1.1.1.1.1.1.0
+      fit.1.1.1.1.1.1.1.1.0
+
+  -- the rows of the circuit are those that were read
+  pub same_rows : rows_under in_ascii h sections found ≡ rows_of (circuit_of h.max_var found)
+  same_rows =
+      sym (rw (
+        inputs.again,
+        latches.again,
+        outputs.again,
+        bad.again,
+        constraints.again,
+        sizes.again,
+        justice.again,
+        fairness.again,
+        gates.again,
+      ) refl)
+
+  -- and so are their numbers
+  pub same_counts : header_row (circuit_of h.max_var found) ≡ row_of_header h
+  same_counts =
+      rw (
+        inputs.counted,
+        latches.counted,
+        outputs.counted,
+        bad.counted,
+        constraints.counted,
+        sizes.counted,
+        fairness.counted,
+        gates.counted,
+      ) refl
+
+  -- the sizes are those of the literals, and their sum is within the limit
+  pub same_sizes : sum (map size_of found.1.1.1.1.1.0) ≡ length (map literal_in found.1.1.1.1.1.1.0)
+  same_sizes = sym justice.counted
+
+  pub small_sizes : sum (map size_of found.1.1.1.1.1.0) ≤ h.limit
+  small_sizes =
+      let all = sizes_within h.limit 0 found.1.1.1.1.1.0 (omega arith) fit.1.1.1.1.1.0.good in omega arith
+
+  -- what they define and use is in range
+  pub entries_in_range : HasEntriesInRange (circuit_of h.max_var found)
+  entries_in_range =
+      let m : ℕ = h.max_var in
+      record {
+        inputs =
+            All-from_recursion _ _ (all_weaker_of (IsVariableUpTo m) (λ v. AreInRange m (v ∷ []) [])
+            (λ v p. ((p, tt), tt)) (map input_of found.0) inputs.up_to);
+        latches =
+            All-from_recursion _ _ (all_weaker_of (IsLatchUpTo m)
+            (λ (l : Latch). AreInRange m (l.var ∷ []) (l.next ∷ []))
+            (λ l p. ((p.0, tt), (p.1, tt))) (map latch_of found.1.0) latches.up_to);
+        literals =
+            (outputs.up_to, (bad.up_to, (constraints.up_to, (justice.up_to, (fairness.up_to, tt)))));
+        gates =
+            All-from_recursion _ _ (all_weaker_of (IsGateUpTo m)
+            (λ (g : Gate). AreInRange m (g.var ∷ []) (operands g))
+            (λ g p. ((p.0, tt), (p.1, (p.2, tt)))) (map gate_of found.1.1.1.1.1.1.1.1.0) gates.up_to);
+      }
+
+-- the same of the circuit that was read
+module _ (h : Header) (c : Circuit) (ls rest : List Line) (a : AreAllSections h c ls rest) where
+  pub rows_read : rows_under in_ascii h sections a.found ≡ rows_of c
+  rows_read = same_rows h a.found a.fit ∙ ap rows_of a.circuit
+
+  pub counts_read : header_row c ≡ row_of_header h
+  counts_read = subst (λ (d : Circuit). header_row d ≡ row_of_header h) a.circuit (same_counts h a.found a.fit)
+
+  pub sizes_read : sum c.justice.sizes ≡ length c.justice.literals
+  sizes_read =
+      subst (λ (d : Circuit). sum d.justice.sizes ≡ length d.justice.literals) a.circuit (same_sizes h a.found a.fit)
+
+  pub sizes_limited : sum c.justice.sizes ≤ h.limit
+  sizes_limited = subst (λ (d : Circuit). sum d.justice.sizes ≤ h.limit) a.circuit (small_sizes h a.found a.fit)
+
+  -- what is made of good rows is in form
+  pub in_form : IsWithinLimits c → IsInForm c
+  in_form limits =
+      let d : Circuit = circuit_of h.max_var a.found in
+      subst IsInForm a.circuit (by_parts d (subst IsWithinLimits (sym a.circuit) limits)
+      (entries_in_range h a.found a.fit) (record { positions = tt; apart = tt; lines = tt }))
 
 -- a circuit without its tail
 abbrev pub bare : Circuit → Circuit
 bare c = record c { symbols = []; comment = None }
 
--- a circuit of all its parts
-abbrev whole : ℕ → List ℕ → List Latch → List ℕ → List Gate → List Symbol → Option (List ℕ) → Circuit
-whole m is ls os gs ss comment =
-    record { max_var = m; inputs = is; latches = ls; outputs = os; gates = gs; symbols = ss; comment = comment }
+-- the entries of a circuit in form may stand in a file
+module _ (c : Circuit) (form : IsInForm c) where
+  ranged : HasEntriesInRange c
+  ranged = in_range c form
+
+  pub inputs_up_to : AllByRecursion (IsVariableUpTo c.max_var) c.inputs
+  inputs_up_to =
+      all_weaker_of (λ v. AreInRange c.max_var (v ∷ []) []) (IsVariableUpTo c.max_var) (λ v p. p.0.0) c.inputs
+      (recursion_from_All _ c.inputs ranged.inputs)
+
+  pub latches_up_to : AllByRecursion (IsLatchUpTo c.max_var) c.latches
+  latches_up_to =
+      all_weaker_of (λ (l : Latch). AreInRange c.max_var (l.var ∷ []) (l.next ∷ [])) (IsLatchUpTo c.max_var)
+      (λ l p. (p.0.0, p.1.0)) c.latches (recursion_from_All _ c.latches ranged.latches)
+
+  pub gates_up_to : AllByRecursion (IsGateUpTo c.max_var) c.gates
+  gates_up_to =
+      all_weaker_of (λ (g : Gate). AreInRange c.max_var (g.var ∷ []) (operands g)) (IsGateUpTo c.max_var)
+      (λ g p. (p.0.0, p.1.0, p.1.1.0)) c.gates (recursion_from_All _ c.gates ranged.gates)
+
+  -- the lists of literals, in the order of the file
+  pub outputs_up_to : AllByRecursion (IsLiteralUpTo c.max_var) c.outputs
+  outputs_up_to = ranged.literals.0
+
+  pub bad_up_to : AllByRecursion (IsLiteralUpTo c.max_var) c.bad
+  bad_up_to = ranged.literals.1.0
+
+  pub constraints_up_to : AllByRecursion (IsLiteralUpTo c.max_var) c.constraints
+  constraints_up_to = ranged.literals.1.1.0
+
+  pub justice_up_to : AllByRecursion (IsLiteralUpTo c.max_var) c.justice.literals
+  justice_up_to = ranged.literals.1.1.1.0
+
+  pub fairness_up_to : AllByRecursion (IsLiteralUpTo c.max_var) c.fairness
+  fairness_up_to = ranged.literals.1.1.1.1.0
+
+-- the rows of entries fit, where there are as many as the header tells
+pub entries_fit : {X : Type 0} (form : Form) (row : X → List ℕ) (IsUpTo : ℕ → X → Type 0) → HasGoodRow form row IsUpTo
+    → (m start : ℕ) (xs : List X) → AllByRecursion (IsUpTo m) xs → FitRows form m start (length xs) (map row xs)
+entries_fit form row IsUpTo good m start xs h =
+    record { good = all_good form row IsUpTo good m start xs h; counted = length-map xs row }
+
+pub literals_fit : (m : ℕ) (ns : List ℕ) → AllByRecursion (IsLiteralUpTo m) ns
+    → FitRows literal_form m 0 (length ns) (map literal_row ns)
+literals_fit m ns h = entries_fit literal_form literal_row IsLiteralUpTo good_literal m 0 ns h
+
+pub sizes_fit : (m : ℕ) (sizes : List ℕ) → sum sizes ≤ m
+    → FitRows size_form m 0 (length sizes) (map size_row sizes)
+sizes_fit m sizes h = record { good = good_sizes m 0 sizes (omega arith); counted = length-map sizes size_row }
+
+-- literals and sizes are told by their rows
+pub literals_again : (ns : List ℕ) → map literal_in (map literal_row ns) ≡ ns
+literals_again [] = refl
+literals_again (n ∷ ns) = ap (λ (ms : List ℕ). n ∷ ms) (literals_again ns)
+
+-- as many literals of justice properties as the sizes tell
+pub justice_fit : (m : ℕ) (sizes ns : List ℕ) → sum sizes ≡ length ns → AllByRecursion (IsLiteralUpTo m) ns
+    → FitRows literal_form m 0 (sum (map size_of (map size_row sizes))) (map literal_row ns)
+justice_fit m sizes ns same h =
+    subst (λ count. FitRows literal_form m 0 count (map literal_row ns))
+    (sym same ∙ ap sum (sym (literals_again sizes))) (literals_fit m ns h)
 
 -- lines that hold the rows of a circuit are read as them
-module _ (c : Circuit) (form : IsInForm c) where
+module _ (limit : ℕ) (c : Circuit) (form : IsInForm c) (small : sum c.justice.sizes ≤ limit) where
   abbrev own_header : Header
-  own_header = header_of_row (header_row c)
+  own_header = header_of_row limit (header_row c)
 
-  own_rows : AllFit in_ascii own_header sections (map (λ s. (in_ascii s).rows c) sections) (empty_circuit c.max_var)
-  own_rows = (
-    record { good = rows_good c form Inputs; counted = length-map c.inputs input_row },
-    (
-      record { good = rows_good c form Latches; counted = length-map c.latches latch_row },
-      (
-        record { good = rows_good c form Outputs; counted = length-map c.outputs output_row },
-        (record { good = rows_good c form Gates; counted = length-map c.gates gate_row }, tt),
-      ),
-    ),
-  )
+  pub own_rows : AllFit in_ascii own_header sections (own_found in_ascii own_header sections c)
+      (empty_circuit c.max_var)
+  own_rows =
+      let m : ℕ = c.max_var in (
+        entries_fit input_form input_row IsVariableUpTo good_input m 0 c.inputs (inputs_up_to c form),
+        (
+          entries_fit latch_form latch_row IsLatchUpTo good_latch m 0 c.latches (latches_up_to c form),
+          (
+            literals_fit m c.outputs (outputs_up_to c form),
+            (
+              literals_fit m c.bad (bad_up_to c form),
+              (
+                literals_fit m c.constraints (constraints_up_to c form),
+                (
+                  sizes_fit limit c.justice.sizes small,
+                  (
+                    justice_fit m c.justice.sizes c.justice.literals form.limits.sizes (justice_up_to c form),
+                    (
+                      literals_fit m c.fairness (fairness_up_to c form),
+                      (entries_fit gate_form gate_row IsGateUpTo good_gate m 0 c.gates (gates_up_to c form), tt),
+                    ),
+                  ),
+                ),
+              ),
+            ),
+          ),
+        ),
+      )
 
   -- the rows of the circuit tell the circuit, but for its tail
-  rows_tell : with_all in_ascii own_header sections (map (λ s. (in_ascii s).rows c) sections)
-      (empty_circuit c.max_var) ≡ bare c
+  rows_tell : with_all in_ascii own_header sections (own_found in_ascii own_header sections c) (empty_circuit c.max_var)
+      ≡ bare c
   rows_tell =
-      let i = all_again input_row input_of input_entry.again c.inputs in
-      let l = all_again latch_row latch_of latch_entry.again c.latches in
-      let o = all_again output_row output_of output_entry.again c.outputs in
-      let g = all_again gate_row gate_of gate_entry.again c.gates in
-      let t : whole c.max_var (map input_of (map input_row c.inputs)) (map latch_of (map latch_row c.latches))
-      (map output_of (map output_row c.outputs)) (map gate_of (map gate_row c.gates)) [] None
-      ≡ whole c.max_var c.inputs c.latches c.outputs c.gates [] None = cc in
-      t
+      let i = all_again (IsVariableUpTo c.max_var) input_row input_of (input_entry.again c.max_var) c.inputs
+      (inputs_up_to c form) in
+      let l = all_again (IsLatchUpTo c.max_var) latch_row latch_of (latch_entry.again c.max_var) c.latches
+      (latches_up_to c form) in
+      let g = all_again (IsGateUpTo c.max_var) gate_row gate_of (gate_entry.again c.max_var) c.gates
+      (gates_up_to c form) in
+      rw (
+        i,
+        l,
+        g,
+        literals_again c.outputs,
+        literals_again c.bad,
+        literals_again c.constraints,
+        literals_again c.justice.sizes,
+        literals_again c.justice.literals,
+        literals_again c.fairness,
+      ) refl
 
   pub sections_are_read : (n : ℕ) (front rest : List Line) → AllZip IsRowLine front (rows_of c)
       → (k : ℕ)
@@ -394,6 +505,6 @@ module _ (c : Circuit) (form : IsInForm c) where
       (bare c, ahead k rest))
   sections_are_read n front rest z =
       let t =
-      sections_are_found in_ascii own_header sections (map (λ s. (in_ascii s).rows c) sections)
+      sections_are_found in_ascii own_header sections (own_found in_ascii own_header sections c)
       (empty_circuit c.max_var) n front rest z own_rows in
       (t.0, t.1 ∙ ap (λ (d : Circuit). Ok (d, ahead t.0 rest)) rows_tell)

@@ -231,3 +231,11 @@ gap_is_no_end ended gap digits rest n g d =
           (number_begins digits rest n d),
       drop-append_seam gap (digits ++ rest),
     ) (digit_is_no_rest ended digits rest n d)
+
+pub digits_are_no_end : (ended : Bool) (digits rest : List ℕ) (n : ℕ) → IsNumber digits n
+    → is_line_end ended (digits ++ rest) ≡ false
+unfolding is_line_end
+digits_are_no_end ended digits rest n d =
+    let none : prefix_len is_space (digits ++ rest) ≡ 0 =
+    front_len is_space [] (digits ++ rest) tt (number_begins digits rest n d) in
+    rw none (digit_is_no_rest ended digits rest n d)

@@ -1,9 +1,9 @@
 -- How symbol lines and the line `c` are spelled and how they are read: each follows from the other.
-use Rattle.std.proofs.Common.{◌≡◌, ℕ, Bool, true, false, cond, List, [], ◌∷◌, ◌++◌, None, Some, refl, ap, subst, ◌∙◌}
-use Rattle.std.proofs.Common.{eqb}
+use Rattle.std.proofs.Common.{◌≡◌, ℕ, Bool, true, false, cond, List, [], ◌∷◌, ◌++◌, Option, None, Some, refl}
+use Rattle.std.proofs.Common.{eqb, ap, subst, ◌∙◌}
 use Rattle.std.proofs.lemmas.Bool.{eqb-true, and_parts}
 use Rattle.aig_core.specs.declared.circuit.Kind.{Kind}
-use Rattle.aig_core.specs.declared.circuit.Kind.TheVariants.{Input, Latch, Output}
+use Rattle.aig_core.specs.declared.circuit.Kind.TheVariants.{Input, Latch, Output, Bad, Constraint, Justice, Fairness}
 use Rattle.aig_core.specs.declared.circuit.Symbol.{Symbol}
 use Rattle.aig_text.specs.Lines.{Line}
 use Rattle.aig_text.specs.Spelling.{IsNumber}
@@ -11,24 +11,28 @@ use Rattle.aig_text.specs.Tail.{kind_letter, IsSymbolLine, IsCommentLine}
 use Rattle.aig_text.specs.Scanning.{kind_at, after_space, symbol, symbol_at, begins_comment, is_comment_line}
 use Rattle.aig_text.specs.Scanning.{is_line_end}
 use Rattle.aig_text.proofs.Grammar.Spellings.{number_reads, number_is_read, end_reads, end_is_read}
+use Rattle.aig_text.proofs.Grammar.Spellings.{digits_are_no_end}
 use Rattle.aig_text.proofs.Grammar.NumberLines.{some_then}
 
 -- the letter
 abbrev IsLetter : ℕ → Kind → Type 0
 IsLetter b k = b ∷ [] ≡ kind_letter k
 
-by_letter : (b : ℕ) (i l o : Bool) (k : Kind) → eqb b 105 ≡ i → eqb b 108 ≡ l → eqb b 111 ≡ o
-    → cond i (Some Input) (cond l (Some Latch) (cond o (Some Output) None)) ≡ Some k → IsLetter b k
-by_letter b true l o k hi hl ho h =
-    let e : Input ≡ k = cc in subst (IsLetter b) e (ap (λ (n : ℕ). n ∷ []) (eqb-true b 105 hi))
-by_letter b false true o k hi hl ho h =
-    let e : Latch ≡ k = cc in subst (IsLetter b) e (ap (λ (n : ℕ). n ∷ []) (eqb-true b 108 hl))
-by_letter b false false true k hi hl ho h =
-    let e : Output ≡ k = cc in subst (IsLetter b) e (ap (λ (n : ℕ). n ∷ []) (eqb-true b 111 ho))
-by_letter b false false false k hi hl ho h = cc
+-- the letter of a kind, or one of those that are looked for after it
+letter_or : (b letter : ℕ) (kind k : Kind) (others : Option Kind) → letter ∷ [] ≡ kind_letter kind
+    → (others ≡ Some k → IsLetter b k) → cond (eqb b letter) (Some kind) others ≡ Some k → IsLetter b k
+letter_or b letter kind k others is rest h =
+    elim (eqb b letter) as (λ t. eqb b letter ≡ t → cond t (Some kind) others ≡ Some k → IsLetter b k) [
+      | true ↦ λ e g. let same : kind ≡ k = cc in
+          subst (IsLetter b) same (ap (λ (n : ℕ). n ∷ []) (eqb-true b letter e) ∙ is)
+      | false ↦ λ e g. rest g
+    ] refl h
 
 letter_reads : (b : ℕ) (k : Kind) → kind_at b ≡ Some k → IsLetter b k
-letter_reads b k h = by_letter b (eqb b 105) (eqb b 108) (eqb b 111) k refl refl refl h
+letter_reads b k h =
+    letter_or b 105 Input k _ refl (letter_or b 108 Latch k _ refl (letter_or b 111 Output k _ refl
+    (letter_or b 98 Bad k _ refl (letter_or b 99 Constraint k _ refl (letter_or b 106 Justice k _ refl
+    (letter_or b 102 Fairness k None refl (λ none. cc))))))) h
 
 -- one space
 space_reads : (bytes rest : List ℕ) → after_space bytes ≡ Some rest → bytes ≡ 32 ∷ rest
@@ -66,19 +70,31 @@ unfolding symbol_at
 read_of Input digits name n h = rw (number_is_read digits (32 ∷ name) n h refl) refl
 read_of Latch digits name n h = rw (number_is_read digits (32 ∷ name) n h refl) refl
 read_of Output digits name n h = rw (number_is_read digits (32 ∷ name) n h refl) refl
+read_of Bad digits name n h = rw (number_is_read digits (32 ∷ name) n h refl) refl
+read_of Constraint digits name n h = rw (number_is_read digits (32 ∷ name) n h refl) refl
+read_of Justice digits name n h = rw (number_is_read digits (32 ∷ name) n h refl) refl
+read_of Fairness digits name n h = rw (number_is_read digits (32 ∷ name) n h refl) refl
 
 pub symbol_is_read : (l : Line) (s : Symbol) → IsSymbolLine l s → symbol_at l.text ≡ Some s
 symbol_is_read l s h = ap symbol_at h.text ∙ read_of s.kind h.digits s.name s.position h.position
 
-no_comment : (k : Kind) (ended : Bool) (rest : List ℕ) → begins_comment ended (kind_letter k ++ rest) ≡ false
-no_comment Input ended rest = refl
-no_comment Latch ended rest = refl
-no_comment Output ended rest = refl
+-- a symbol line does not begin the comment: its letter is another, or a number follows the letter
+no_comment : (k : Kind) (ended : Bool) (rest : List ℕ) → is_line_end ended rest ≡ false
+    → begins_comment ended (kind_letter k ++ rest) ≡ false
+no_comment Input ended rest more = refl
+no_comment Latch ended rest more = refl
+no_comment Output ended rest more = refl
+no_comment Bad ended rest more = refl
+no_comment Constraint ended rest more = more
+no_comment Justice ended rest more = refl
+no_comment Fairness ended rest more = refl
 
--- a symbol line does not begin the comment
 pub symbol_is_no_comment : (l : Line) (s : Symbol) → IsSymbolLine l s → is_comment_line l ≡ false
 unfolding is_comment_line
-symbol_is_no_comment l s h = ap (begins_comment l.ended) h.text ∙ no_comment s.kind l.ended (h.digits ++ (32 ∷ s.name))
+symbol_is_no_comment l s h =
+    ap (begins_comment l.ended) h.text
+    ∙ no_comment s.kind l.ended (h.digits ++ (32 ∷ s.name))
+    (digits_are_no_end l.ended h.digits (32 ∷ s.name) s.position h.position)
 
 -- the line `c`
 comment_begins : (l : Line) (text : List ℕ) → l.text ≡ text → begins_comment l.ended text ≡ true → IsCommentLine l

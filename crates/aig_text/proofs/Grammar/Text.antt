@@ -1,8 +1,9 @@
 -- A text that is read is the text of its circuit, and the other way round.
 use Rattle.std.proofs.Common.{◌≡◌, ℕ, ◌+◌, ◌*◌, ◌≤◌, List, [], ◌∷◌, ◌++◌, Option, None, Some, Result, Ok, refl, ap}
-use Rattle.std.proofs.Common.{subst, ◌∙◌, sym}
-use Rattle.std.specs.List.{AllByRecursion, AllZip}
+use Rattle.std.proofs.Common.{subst, ◌∙◌, sym, length, min}
+use Rattle.std.specs.List.{AllByRecursion, AllZip, sum}
 use Rattle.aig_core.specs.declared.circuit.Circuit.{Circuit}
+use Rattle.aig_core.specs.declared.circuit.TheConstants.{LARGEST}
 use Rattle.aig_core.specs.declared.fault.CheckFault.{CheckFault}
 use Rattle.aig_core.specs.Fault.{first_structural_fault}
 use Rattle.aig_core.proofs.Checking.Faultless.{well_formed, faultless}
@@ -22,10 +23,11 @@ use Rattle.aig_text.specs.Reading.{◌>>=◌, header_of, tail_at, header_at, sec
 use Rattle.aig_text.specs.Reading.{unless_faulty, reading}
 use Rattle.aig_text.proofs.Steps.{both_ok, ok_same}
 use Rattle.aig_text.proofs.Grammar.Rows.{first_found}
-use Rattle.aig_text.proofs.Grammar.Sections.{FourSections, four_found, rows_read, counts_read, in_form}
-use Rattle.aig_text.proofs.Grammar.Sections.{sections_are_read, bare}
+use Rattle.aig_text.proofs.Grammar.Sections.{AreAllSections, all_found, rows_read, counts_read, in_form}
+use Rattle.aig_text.proofs.Grammar.Sections.{sizes_read, sizes_limited, sections_are_read, bare}
 use Rattle.aig_text.proofs.Grammar.Headers.{TellsHeader, HasCounts, own_header, header_tells, header_is_found, heads}
-use Rattle.aig_text.proofs.Grammar.Headers.{limited, definitions_counted, within_limits}
+use Rattle.aig_text.proofs.Grammar.Headers.{limited, sizes_within_limit, definitions_counted, within_limits}
+use Rattle.aig_text.proofs.Grammar.Headers.{sizes_in_both}
 use Rattle.aig_text.proofs.Grammar.WholeTail.{right_of, tail_holds, good_symbols, own_tail}
 use Rattle.aig_text.proofs.Grammar.Tail.{TellsTail, with_tail, tail_tells}
 use Rattle.aig_text.proofs.Loops.Cutting.{pieces}
@@ -39,7 +41,7 @@ record TellCircuit (limit : ℕ) (ls : List Line) (c : Circuit) : Type 0 where
   pub heads : TellsHeader ascii_word limit first header
   pub numbered : Circuit
   pub rest : List Line
-  pub sections : FourSections header numbered others rest
+  pub sections : AreAllSections header numbered others rest
   pub tail : TellsTail header nothing_named numbered c rest
 
 abbrev then_tail : Header → Circuit × Ahead → Result Circuit ReadFault
@@ -49,7 +51,7 @@ abbrev then_sections : Header × Ahead → Result Circuit ReadFault
 then_sections header =
     sections_at in_ascii header.0 sections (empty_circuit header.0.max_var) header.1 >>= then_tail header.0
 
-no_comment : (h : Header) (c : Circuit) (ls rest : List Line) → FourSections h c ls rest → c.comment ≡ None
+no_comment : (h : Header) (c : Circuit) (ls rest : List Line) → AreAllSections h c ls rest → c.comment ≡ None
 no_comment h c ls rest f = subst (λ (d : Circuit). d.comment ≡ None) f.circuit refl
 
 circuit_found : (limit : ℕ) (ls : List Line) (c : Circuit) → circuit_at limit ls ≡ Ok c → TellCircuit limit ls c
@@ -59,7 +61,7 @@ circuit_found limit (l ∷ ls) c is =
     let a = both_ok (header_at ascii_word limit (ahead 1 (l ∷ ls))) then_sections c is in
     let f = first_found kinds.NotAiger (header_of ascii_word limit) 1 l ls a.0 a.1 in
     let b = both_ok (sections_at in_ascii a.0.0 sections (empty_circuit a.0.0.max_var) a.0.1) (then_tail a.0.0) c a.2 in
-    let s : FourSections a.0.0 b.0.0 a.0.1.lines b.0.1.lines = four_found a.0.0 a.0.1 b.0 b.1 in
+    let s : AreAllSections a.0.0 b.0.0 a.0.1.lines b.0.1.lines = all_found a.0.0 a.0.1 b.0 b.1 in
     let t : TellsTail a.0.0 nothing_named b.0.0 c b.0.1.lines =
     tail_tells a.0.0 nothing_named b.0.0 b.0.1.number b.0.1.lines c
     (no_comment a.0.0 b.0.0 a.0.1.lines b.0.1.lines s) b.2 in
@@ -71,7 +73,7 @@ circuit_found limit (l ∷ ls) c is =
       heads = header_tells ascii_word limit l f.0 f.1;
       numbered = b.0.0;
       rest = b.0.1.lines;
-      sections = subst (λ (q : Header × Ahead). FourSections q.0 b.0.0 q.1.lines b.0.1.lines) (sym f.2) s;
+      sections = subst (λ (q : Header × Ahead). AreAllSections q.0 b.0.0 q.1.lines b.0.1.lines) (sym f.2) s;
       tail = subst (λ (q : Header × Ahead). TellsTail q.0 nothing_named b.0.0 c b.0.1.lines) (sym f.2) t;
     }
 
@@ -83,7 +85,18 @@ counts_kept : (limit : ℕ) (ls : List Line) (c : Circuit) (t : TellCircuit limi
 counts_kept limit ls c t =
     sym (ap header_row t.tail.circuit) ∙ counts_read t.header t.numbered t.others t.rest t.sections
 
-no_symbols : (h : Header) (c : Circuit) (ls rest : List Line) → FourSections h c ls rest → c.symbols ≡ []
+-- the sizes are those of the literals, and their sum is within the limit
+sizes_kept : (limit : ℕ) (ls : List Line) (c : Circuit) (t : TellCircuit limit ls c)
+    → (sum c.justice.sizes ≡ length c.justice.literals) × (sum c.justice.sizes ≤ t.header.limit)
+sizes_kept limit ls c t =
+    subst
+    (λ (d : Circuit). (sum d.justice.sizes ≡ length d.justice.literals) × (sum d.justice.sizes ≤ t.header.limit))
+    t.tail.circuit (
+      sizes_read t.header t.numbered t.others t.rest t.sections,
+      sizes_limited t.header t.numbered t.others t.rest t.sections,
+    )
+
+no_symbols : (h : Header) (c : Circuit) (ls rest : List Line) → AreAllSections h c ls rest → c.symbols ≡ []
 no_symbols h c ls rest f = subst (λ (d : Circuit). d.symbols ≡ []) f.circuit refl
 
 -- a circuit in form stays so with good symbols
@@ -103,7 +116,15 @@ limits_back : (c d : Circuit) (ss : List Symbol) (comment : Option (List ℕ)) �
     → IsWithinLimits d → IsWithinLimits c
 limits_back c d ss comment is limits =
     let w : IsWithinLimits (with_tail c ss comment) = subst IsWithinLimits (sym is) limits in
-    record { max_var = w.max_var; inputs = w.inputs; latches = w.latches; outputs = w.outputs; gates = w.gates }
+    record {
+      max_var = w.max_var;
+      inputs = w.inputs;
+      latches = w.latches;
+      literals = w.literals;
+      justice = w.justice;
+      sizes = w.sizes;
+      gates = w.gates;
+    }
 
 -- what the lines of a text tell is in form
 pub circuit_in_form : (limit : ℕ) (ls : List Line) (c : Circuit) → AllByRecursion IsOneLine ls
@@ -111,10 +132,11 @@ pub circuit_in_form : (limit : ℕ) (ls : List Line) (c : Circuit) → AllByRecu
 circuit_in_form limit ls c one is =
     let t : TellCircuit limit ls c = circuit_found limit ls c is in
     let counts = counts_kept limit ls c t in
-    let limits = within_limits ascii_word limit t.first t.header c t.heads counts in
+    let sizes = sizes_kept limit ls c t in
+    let limits = within_limits ascii_word limit t.first t.header c t.heads counts sizes.0 sizes.1 in
     let numbered : IsInForm t.numbered =
-    in_form t.header t.numbered t.others t.rest
-    (limits_back t.numbered c t.tail.symbols t.tail.comment t.tail.circuit limits) t.sections in
+    in_form t.header t.numbered t.others t.rest t.sections
+    (limits_back t.numbered c t.tail.symbols t.tail.comment t.tail.circuit limits) in
     let lines : ls ≡ (t.first ∷ t.sections.front) ++ t.rest = t.are
     ∙ ap (λ (ks : List Line). t.first ∷ ks) t.sections.lines in
     let behind : AllByRecursion IsOneLine t.rest =
@@ -143,6 +165,9 @@ found_is_accepted limit text c t w =
           tail_holds t.header nothing_named t.numbered c t.rest t.tail
           (no_symbols t.header t.numbered t.others t.rest t.sections);
       limited = limited ascii_word limit t.first t.header c t.heads counts;
+      sizes_limited =
+          sizes_within_limit ascii_word limit t.first t.header c t.heads counts
+          (sizes_kept limit (lines_of text) c t).1;
       counted = definitions_counted ascii_word limit t.first t.header c t.heads counts;
       well_formed = w;
     }
@@ -164,24 +189,26 @@ reading_is_accepted limit text c h =
     (found_is_accepted limit text r.0 (circuit_found limit (lines_of text) r.0 r.1) (well_formed r.0 form n.0))
 
 -- the lines of a circuit's file are read as the circuit
-steps : (limit k : ℕ) (l : Line) (others rest : List Line) (c : Circuit)
-    → header_of ascii_word limit l ≡ Ok (own_header c)
-    → sections_at in_ascii (own_header c) sections (empty_circuit c.max_var) (ahead 2 others)
-    ≡ Ok (bare c, ahead k rest) → tail_at (own_header c) nothing_named (bare c) k rest ≡ Ok c → circuit_at limit
-    (l ∷ others) ≡ Ok c
+steps : (limit k : ℕ) (h : Header) (l : Line) (others rest : List Line) (c : Circuit)
+    → header_of ascii_word limit l ≡ Ok h
+    → sections_at in_ascii h sections (empty_circuit h.max_var) (ahead 2 others) ≡ Ok (bare c, ahead k rest)
+    → tail_at h nothing_named (bare c) k rest ≡ Ok c → circuit_at limit (l ∷ others) ≡ Ok c
 unfolding circuit_at
-steps limit k l others rest c h s t = rw (h, s) t
+steps limit k h l others rest c is s t = rw (is, s) t
 
 accepted_lines : (limit : ℕ) (text : List ℕ) (c : Circuit) → IsAsciiText text limit c
     → circuit_at limit (lines_of text) ≡ Ok c
 accepted_lines limit text c a =
+    let top : ℕ = min limit LARGEST in
     let h =
     header_is_found ascii_word limit a.header c
     (refl, (refl, (refl, tt))) a.is_header a.limited a.well_formed.limits a.counted in
-    let s = sections_are_read c (well_formed_in_form c a.well_formed) 2 a.numbered a.tail a.are_rows in
+    let s =
+    sections_are_read top c (well_formed_in_form c a.well_formed)
+    (sizes_in_both limit c a.well_formed.limits a.sizes_limited) 2 a.numbered a.tail a.are_rows in
     rw a.lines
-    (steps limit s.0 a.header (a.numbered ++ a.tail) a.tail c h s.1
-    (own_tail c s.0 a.tail a.well_formed.symbols a.is_tail))
+    (steps limit s.0 (own_header top c) a.header (a.numbered ++ a.tail) a.tail c h s.1
+    (own_tail top c s.0 a.tail a.well_formed.symbols a.is_tail))
 
 -- a circuit's file is read as the circuit
 pub accepted_is_read : (limit : ℕ) (text : List ℕ) (c : Circuit) → IsAsciiText text limit c → reading limit text ≡ Ok c

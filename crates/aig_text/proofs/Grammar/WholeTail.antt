@@ -3,7 +3,7 @@ use Rattle.std.proofs.Common.{◌≡◌, ℕ, ◌<◌, List, [], ◌∷◌, ◌+
 use Rattle.std.specs.List.{AllByRecursion, AllZip}
 use Rattle.aig_core.specs.declared.circuit.Circuit.{Circuit}
 use Rattle.aig_core.specs.declared.circuit.Kind.{Kind}
-use Rattle.aig_core.specs.declared.circuit.Kind.TheVariants.{Input, Latch, Output}
+use Rattle.aig_core.specs.declared.circuit.Kind.TheVariants.{Input, Latch, Output, Bad, Constraint, Justice, Fairness}
 use Rattle.aig_core.specs.declared.circuit.Symbol.{Symbol}
 use Rattle.aig_core.specs.declared.names.Names.{Names}
 use Rattle.aig_core.specs.Names.{nothing_named}
@@ -23,6 +23,10 @@ count_is : (h : Header) (c : Circuit) → HasCounts h c → (k : Kind) → count
 count_is h c e Input = sym (ap (λ (ns : List ℕ). get_or ns 1 0) e)
 count_is h c e Latch = sym (ap (λ (ns : List ℕ). get_or ns 2 0) e)
 count_is h c e Output = sym (ap (λ (ns : List ℕ). get_or ns 3 0) e)
+count_is h c e Bad = sym (ap (λ (ns : List ℕ). get_or ns 5 0) e)
+count_is h c e Constraint = sym (ap (λ (ns : List ℕ). get_or ns 6 0) e)
+count_is h c e Justice = sym (ap (λ (ns : List ℕ). get_or ns 7 0) e)
+count_is h c e Fairness = sym (ap (λ (ns : List ℕ). get_or ns 8 0) e)
 
 placed : (h : Header) (c : Circuit) → HasCounts h c → (ss : List Symbol) → AllByRecursion (IsPlaced h) ss
     → AllByRecursion (λ (s : Symbol). s.position < count_of c s.kind) ss
@@ -70,20 +74,26 @@ good_symbols h c d ls t none counts one =
           (names_in_lines t.named t.symbols t.spelled named);
     }
 
-own_count : (c : Circuit) (k : Kind) → count_of c k ≡ count_named (own_header c) k
-own_count c Input = refl
-own_count c Latch = refl
-own_count c Output = refl
+own_count : (limit : ℕ) (c : Circuit) (k : Kind) → count_of c k ≡ count_named (own_header limit c) k
+own_count limit c Input = refl
+own_count limit c Latch = refl
+own_count limit c Output = refl
+own_count limit c Bad = refl
+own_count limit c Constraint = refl
+own_count limit c Justice = refl
+own_count limit c Fairness = refl
 
-own_placed : (c : Circuit) (ss : List Symbol) → AllByRecursion (λ (s : Symbol). s.position < count_of c s.kind) ss
-    → AllByRecursion (IsPlaced (own_header c)) ss
-own_placed c [] p = tt
-own_placed c (s ∷ ss) p = (subst (λ n. s.position < n) (own_count c s.kind) p.0, own_placed c ss p.1)
+own_placed : (limit : ℕ) (c : Circuit) (ss : List Symbol)
+    → AllByRecursion (λ (s : Symbol). s.position < count_of c s.kind) ss
+    → AllByRecursion (IsPlaced (own_header limit c)) ss
+own_placed limit c [] p = tt
+own_placed limit c (s ∷ ss) p =
+    (subst (λ n. s.position < n) (own_count limit c s.kind) p.0, own_placed limit c ss p.1)
 
 -- the tail of a circuit with good symbols is read as it
-pub own_tail : (c : Circuit) (n : ℕ) (ls : List Line) → HasGoodSymbols c → AreTailLines ls c
-    → tail_at (own_header c) nothing_named (bare c) n ls ≡ Ok c
-own_tail c n ls good a =
-    ap (tail_at (own_header c) nothing_named (bare c) n) a.are
-    ∙ tail_is_found (own_header c) nothing_named (bare c) n a.named a.rest c.symbols c.comment refl a.symbols
-    (apart_new (own_header c) c.symbols (own_placed c c.symbols good.positions) good.apart) a.comment
+pub own_tail : (limit : ℕ) (c : Circuit) (n : ℕ) (ls : List Line) → HasGoodSymbols c → AreTailLines ls c
+    → tail_at (own_header limit c) nothing_named (bare c) n ls ≡ Ok c
+own_tail limit c n ls good a =
+    ap (tail_at (own_header limit c) nothing_named (bare c) n) a.are
+    ∙ tail_is_found (own_header limit c) nothing_named (bare c) n a.named a.rest c.symbols c.comment refl a.symbols
+    (apart_new (own_header limit c) c.symbols (own_placed limit c c.symbols good.positions) good.apart) a.comment

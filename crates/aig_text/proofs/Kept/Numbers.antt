@@ -12,28 +12,28 @@ use Rattle.aig_text.specs.Spelling.{is_digit, value_of, zeros}
 use Rattle.aig_text.specs.Scanning.{after_gap, number_at, more_numbers_at, is_line_end, ◌>>=◌}
 use Rattle.aig_text.specs.Parts.Kept.{kept, kept_numbers, kept_first}
 
-pub kept_small : (n : ℕ) → n < 2 ^ 33 → kept n ≡ n
-kept_small n h = rw (lt-ltb n (2 ^ 33) h) refl
+pub kept_small : (n : ℕ) → n < 2 ^ 36 → kept n ≡ n
+kept_small n h = rw (lt-ltb n (2 ^ 36) h) refl
 
-pub kept_large : (n : ℕ) → 2 ^ 33 ≤ n → kept n ≡ 2 ^ 33 + n % 2
-kept_large n h = rw (le-ltb n (2 ^ 33) h) refl
+pub kept_large : (n : ℕ) → 2 ^ 36 ≤ n → kept n ≡ 2 ^ 36 + n % 2
+kept_large n h = rw (le-ltb n (2 ^ 36) h) refl
 
-pub kept_bound : (n : ℕ) → kept n ≤ 2 ^ 33 + 1
-kept_bound n = elim (cases_lt n (2 ^ 33)) [
+pub kept_bound : (n : ℕ) → kept n ≤ 2 ^ 36 + 1
+kept_bound n = elim (cases_lt n (2 ^ 36)) [
   | inl h ↦ rw (kept_small n h) (omega arith)
   | inr h ↦ rw (kept_large n h) (omega arith)
 ]
 
 -- one more digit
 pub kept_digit : (n d : ℕ) → kept (10 * kept n + d) ≡ kept (10 * n + d)
-kept_digit n d = elim (cases_lt n (2 ^ 33)) [
+kept_digit n d = elim (cases_lt n (2 ^ 36)) [
   | inl h ↦ rw (kept_small n h) refl
   | inr h ↦
-      let large : 2 ^ 33 ≤ 10 * n + d = omega arith in
-      let larger : 2 ^ 33 ≤ 10 * (2 ^ 33 + n % 2) + d = omega arith in
-      let same : (10 * (2 ^ 33 + n % 2) + d) % 2 ≡ (10 * n + d) % 2 = omega arith in
-      rw (kept_large n h, kept_large (10 * n + d) large, kept_large (10 * (2 ^ 33 + n % 2) + d) larger)
-      (ap (λ r. 2 ^ 33 + r) same)
+      let large : 2 ^ 36 ≤ 10 * n + d = omega arith in
+      let larger : 2 ^ 36 ≤ 10 * (2 ^ 36 + n % 2) + d = omega arith in
+      let same : (10 * (2 ^ 36 + n % 2) + d) % 2 ≡ (10 * n + d) % 2 = omega arith in
+      rw (kept_large n h, kept_large (10 * n + d) large, kept_large (10 * (2 ^ 36 + n % 2) + d) larger)
+      (ap (λ r. 2 ^ 36 + r) same)
 ]
 
 -- the number that the digits at the front spell, with one more
@@ -169,6 +169,15 @@ stored_at_first ended least n text = record {
   are = put_front ended least n (zeros n) text;
 }
 
+pub still_empty : (n i : ℕ) (items : List ℕ) (value : ℕ) → drop i items ≡ zeros (n - i)
+    → drop (i + 1) (set items i value) ≡ zeros (n - (i + 1))
+still_empty n i items value h =
+    let left : n - (i + 1) ≡ n - i - 1 = omega arith in
+    let behind : drop (i + 1) (set items i value) ≡ drop 1 (drop i items) =
+    drop-set-lt (i + 1) items i value (omega arith) ∙ sym (drop-drop 1 i items) in
+    let others : drop 1 (zeros (n - i)) ≡ zeros (n - i - 1) = drop-replicate 1 (n - i) 0 in
+    rw (behind, h, others, left) refl
+
 -- one more number is stored at its place
 pub stored_more : (ended : Bool) (least n i : ℕ) (items bytes digits after : List ℕ) (value : ℕ)
     (whole : Option (List ℕ)) → i < n → AreStored ended least n i items bytes whole
@@ -178,12 +187,9 @@ pub stored_more : (ended : Bool) (least n i : ℕ) (items bytes digits after : L
 stored_more ended least n i items bytes digits after value whole l s goes gap h =
     let inside : i < length items = let e : length items ≡ n = s.long in omega arith in
     let less : least - (i + 1) ≡ least - i - 1 = omega arith in
-    let left : n - (i + 1) ≡ n - i - 1 = omega arith in
     record {
       long = length-set _ _ _ ∙ s.long;
-      empty =
-          drop-set-lt (i + 1) items i value (omega arith) ∙ sym (drop-drop 1 i items) ∙ ap (drop 1) s.empty
-          ∙ drop-replicate 1 (n - i) 0 ∙ ap zeros (sym left);
+      empty = still_empty n i items value s.empty;
       are =
           ap (λ front. put_before front (kept_numbers (more_numbers_at ended (least - (i + 1)) (n - (i + 1)) after)))
           (take_more_set items i value inside)

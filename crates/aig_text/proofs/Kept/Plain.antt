@@ -1,6 +1,6 @@
 -- Rows in plain spelling are rows.
 use Rattle.std.proofs.Common.{◌≡◌, ◌≢◌, ◌+◌, ◌*◌, ◌-◌, ◌%◌, ◌^◌, ◌<◌, ◌≤◌, ◌==◌, ℕ, zero, suc, List, [], ◌∷◌, ◌++◌}
-use Rattle.std.proofs.Common.{take, drop, length, Bool, get_or, true, false, cond, refl, sym, ap, ap₂, subst, ◌∙◌}
+use Rattle.std.proofs.Common.{take, drop, length, get_or, true, false, cond, refl, sym, ap, ap₂, subst, ◌∙◌}
 use Rattle.std.proofs.Common.{arith, rules, append_assoc, append-nil, Ok}
 use Rattle.std.specs.Prelude.{slice_range, fold}
 use Rattle.std.specs.List.{AllByRecursion}
@@ -8,19 +8,17 @@ use Rattle.std.specs.Float.Numeral.{digits_len}
 use Rattle.std.specs.Str.Parse.{digits_value}
 use Rattle.std.proofs.lemmas.Str.Parse.{IsNumeralModel, numerals_by_fold, digits_value_short}
 use Rattle.std.proofs.lemmas.List.{take-append-drop, drop_more}
-use Rattle.std.proofs.lemmas.Bool.{ne_eqb}
-use Rattle.std.proofs.lemmas.List.{length-append, length-take-le, take_all, take_more_set, take-take}
-use Rattle.std.proofs.Math.ListN.{set}
+use Rattle.std.proofs.lemmas.List.{length-append, length-take-le, length-replicate, take_all, take_more_set, take-take}
+use Rattle.std.proofs.Math.ListN.{set, length-set}
 use Rattle.std.proofs.Common.{inl, None}
 use Rattle.aig_text.specs.Lines.{ahead, line, lines_of}
-use Rattle.aig_text.specs.Rows.{Form, roles_of, row}
+use Rattle.aig_text.specs.Rows.{Form, row}
 use Rattle.aig_text.specs.AsciiGrammar.{IsRowLine}
-use Rattle.aig_text.specs.Reading.{fault_in_row, row_at}
-use Rattle.aig_text.proofs.Kept.Checks.{right_parts}
-use Rattle.aig_text.proofs.Grammar.Entries.{IsGoodRow}
-use Rattle.aig_text.proofs.Grammar.Rows.{all_may_stand, row_is_found}
-use Rattle.aig_text.specs.Spelling.{is_digit, value_of, IsNumber, AreMoreNumbers}
-use Rattle.aig_text.specs.Parts.Plain.{HasNoLineFeed, BeginsWithNumber, BeginsWithMore, EndsPlainly, stop}
+use Rattle.aig_text.specs.Reading.{fault_in_row, unless_wrong, checked_row, row_of, row_at}
+use Rattle.aig_text.proofs.Kept.Numbers.{still_empty}
+use Rattle.aig_text.proofs.Grammar.NumberLines.{row_is_read}
+use Rattle.aig_text.specs.Spelling.{is_digit, value_of, IsNumber, AreMoreNumbers, zeros}
+use Rattle.aig_text.specs.Parts.Plain.{HasNoLineFeed, BeginsWithNumber, BeginsWithMore, EndsPlainly}
 use Rattle.aig_text.proofs.Grammar.Spellings.{front_passes}
 
 -- bytes that are all decimal digits
@@ -47,19 +45,25 @@ digits_are_number bytes rest end value some within are found after = record {
 same_value : (digits : List ℕ) → AreDigits digits → value_of digits ≡ digits_value 10 digits
 same_value digits are = decimal_model.same digits (decimal_model.to digits are)
 
--- the digits at the front, where there are at most 18 of them
-pub plain_number_is : (bytes rest : List ℕ) (end value : ℕ) → end ≢ 0 → end ≤ 18 → end ≤ length bytes
-    → end ≡ digits_len bytes → value ≡ digits_value 10 (take end bytes) % 2 ^ 64 → rest ≡ drop end bytes
-    → BeginsWithNumber bytes value rest
-plain_number_is bytes rest end value some few within is found after =
+-- what follows so many bytes
+behind_is : (bytes rest : List ℕ) (end behind : ℕ) → end < length bytes → behind ≡ get_or bytes end 0
+    → rest ≡ drop (end + 1) bytes → behind ∷ rest ≡ drop end bytes
+behind_is bytes rest end behind within is after =
+    ap₂ (λ (b : ℕ) (bs : List ℕ). b ∷ bs) is after ∙ sym (drop_more bytes end 0 within)
+
+-- the digits at the front, where there are at most 18 of them, and the byte behind them
+pub plain_number_is : (bytes rest : List ℕ) (end value behind : ℕ) → end ≢ 0 → end ≤ 18 → end < length bytes
+    → end ≡ digits_len bytes → value ≡ digits_value 10 (take end bytes) % 2 ^ 64 → behind ≡ get_or bytes end 0
+    → rest ≡ drop (end + 1) bytes → BeginsWithNumber bytes value (behind ∷ rest)
+plain_number_is bytes rest end value behind some few within is found next after =
     let are : AreDigits (take end bytes) =
     subst (λ k. AreDigits (take k bytes)) (sym is) (front_passes is_digit bytes) in
     let short : value_of (take end bytes) < 10 ^ 18 =
-    digits_value_short decimal_model (take end bytes) 18 are (omega (arith, length-take-le end bytes within)) in
-    digits_are_number bytes rest end value some within are
+    digits_value_short decimal_model (take end bytes) 18 are (omega (arith, length-take-le end bytes (omega arith))) in
+    digits_are_number bytes (behind ∷ rest) end value some (omega arith) are
     (sym
     (found ∙ ap (λ n. n % 2 ^ 64) (sym (same_value (take end bytes) are))
-    ∙ small_mod (value_of (take end bytes)) short)) after
+    ∙ small_mod (value_of (take end bytes)) short)) (behind_is bytes rest end behind within next after)
 
 first_digits : (n : ℕ) (bytes : List ℕ) → n ≤ digits_len bytes → AreDigits (take n bytes)
 first_digits zero bytes h = tt
@@ -72,16 +76,16 @@ first_digits (suc n) (b ∷ bytes) h =
     ] refl h
 
 -- digits of the first eight bytes, and the byte behind them
-pub short_number_is : (bytes rest : List ℕ) (end value stop : ℕ) → end ≢ 0 → end ≤ 8 → 8 < length bytes
+pub short_number_is : (bytes rest : List ℕ) (end value behind : ℕ) → end ≢ 0 → end ≤ 8 → 8 < length bytes
     → (end ≤ digits_len (take 8 bytes)) × (value ≡ digits_value 10 (take end (take 8 bytes)))
-    → stop ≡ get_or bytes end 0 → rest ≡ drop (end + 1) bytes
-    → BeginsWithNumber bytes value (stop ∷ rest)
-short_number_is bytes rest end value stop some few long read behind after =
+    → behind ≡ get_or bytes end 0 → rest ≡ drop (end + 1) bytes
+    → BeginsWithNumber bytes value (behind ∷ rest)
+short_number_is bytes rest end value behind some few long read next after =
     let same : take end (take 8 bytes) ≡ take end bytes = take-take end 8 bytes (omega arith) in
     let are : AreDigits (take end bytes) = subst AreDigits same (first_digits end (take 8 bytes) read.0) in
-    digits_are_number bytes (stop ∷ rest) end value some (omega arith) are
+    digits_are_number bytes (behind ∷ rest) end value some (omega arith) are
     (same_value (take end bytes) are ∙ ap (digits_value 10) (sym same) ∙ sym read.1)
-    (ap₂ (λ (b : ℕ) (bs : List ℕ). b ∷ bs) behind after ∙ sym (drop_more bytes end 0 (omega arith)))
+    (behind_is bytes rest end behind (omega arith) next after)
 
 -- the digits that are read from the beginning of the bytes, with no number before them
 pub read_value : (bytes : List ℕ) (end : ℕ)
@@ -123,9 +127,6 @@ pub all_joined : {X : Type 0} (P : X → Type 0) (xs ys : List X) → AllByRecur
 all_joined P [] ys h k = k
 all_joined P (x ∷ xs) ys h k = (h.0, all_joined P xs ys h.1 k)
 
-pub begins_at_first : (bytes : List ℕ) → BeginsWithMore bytes [] bytes
-begins_at_first bytes = record { text = []; are = refl; spelled = refl; one_line = tt }
-
 pub begins_with_more : (bytes rest digits after ns : List ℕ) (n : ℕ) → BeginsWithMore bytes ns rest
     → rest ≡ 32 ∷ digits → BeginsWithNumber digits n after → BeginsWithMore bytes (ns ++ n ∷ []) after
 begins_with_more bytes rest digits after ns n b space m = record {
@@ -139,42 +140,88 @@ begins_with_more bytes rest digits after ns n b space m = record {
       (refl, digits_have_no_line_feed m.digits m.spelled.digits);
 }
 
+-- the numbers that are stored, zeros at the places of the others, and what the bytes begin with behind the numbers
+pub record ArePlain (n i : ℕ) (items bytes rest : List ℕ) : Type 0 where
+  pub long : length items ≡ n
+  pub empty : drop i items ≡ zeros (n - i)
+  pub begins : BeginsWithMore bytes (take i items) rest
+
+pub plain_at_first : (n : ℕ) (bytes : List ℕ) → ArePlain n 0 (zeros n) bytes bytes
+plain_at_first n bytes = record {
+  long = length-replicate n 0;
+  empty = let all : n - 0 ≡ n = omega arith in ap zeros (sym all);
+  begins = record { text = []; are = refl; spelled = refl; one_line = tt };
+}
+
 -- one more number is stored at its place
-pub stored_plainly : (n i : ℕ) (bytes rest digits after items : List ℕ) (value : ℕ) → i < n → length items ≡ n
-    → BeginsWithMore bytes (take i items) rest → rest ≡ 32 ∷ digits → BeginsWithNumber digits value after
-    → BeginsWithMore bytes (take (i + 1) (set items i value)) after
-stored_plainly n i bytes rest digits after items value l long b space m =
-    let inside : i < length items = omega arith in
-    subst (λ (ns : List ℕ). BeginsWithMore bytes ns after) (sym (take_more_set items i value inside))
-    (begins_with_more bytes rest digits after (take i items) value b space m)
+pub plain_more : (n i : ℕ) (items bytes rest after : List ℕ) (behind value : ℕ) → i < n → behind ≡ 32
+    → ArePlain n i items bytes (behind ∷ rest) → BeginsWithNumber rest value after
+    → ArePlain n (i + 1) (set items i value) bytes after
+plain_more n i items bytes rest after behind value l space p m =
+    let inside : i < length items = let e : length items ≡ n = p.long in omega arith in
+    record {
+      long = length-set items i value ∙ p.long;
+      empty = still_empty n i items value p.empty;
+      begins =
+          subst (λ (ns : List ℕ). BeginsWithMore bytes ns after) (sym (take_more_set items i value inside))
+          (begins_with_more bytes (behind ∷ rest) rest after (take i items) value p.begins
+          (ap (λ (b : ℕ). b ∷ rest) space) m);
+    }
 
-pub all_stored : (n i : ℕ) (bytes rest after items : List ℕ) → n ≤ i → length items ≡ n
-    → BeginsWithMore bytes (take i items) rest → rest ≡ 10 ∷ after → EndsPlainly bytes items after
-all_stored n i bytes rest after items l long b feed =
+-- the line ends, and the others are left out
+pub plain_end : (least n i : ℕ) (items bytes rest : List ℕ) (behind : ℕ) → i < n → least ≤ i → behind ≡ 10
+    → ArePlain n i items bytes (behind ∷ rest) → EndsPlainly least bytes items rest
+plain_end least n i items bytes rest behind l enough feed p = record {
+  written = take i items;
+  left_out = n - i;
+  are = sym (take-append-drop i items) ∙ ap (λ (others : List ℕ). take i items ++ others) p.empty;
+  enough = let e : length items ≡ n = p.long in omega (arith, length-take-le i items (omega arith));
+  begins = subst (λ (b : ℕ). BeginsWithMore bytes (take i items) (b ∷ rest)) feed p.begins;
+}
+
+-- the line ends behind all numbers
+pub plain_full : (least n i : ℕ) (items bytes rest : List ℕ) (behind : ℕ) → n ≤ i → least ≤ n → behind ≡ 10
+    → ArePlain n i items bytes (behind ∷ rest) → EndsPlainly least bytes items rest
+plain_full least n i items bytes rest behind l enough feed p =
+    let e : length items ≡ n = p.long in
     let all : take i items ≡ items = take_all i items (omega arith) in
-    subst (λ (ns : List ℕ). BeginsWithMore bytes ns (10 ∷ after)) all
-    (subst (λ (r : List ℕ). BeginsWithMore bytes (take i items) r) feed b)
+    record {
+      written = items;
+      left_out = 0;
+      are = sym (append-nil items);
+      enough = omega arith;
+      begins =
+          subst (λ (b : ℕ). BeginsWithMore bytes items (b ∷ rest)) feed
+          (subst (λ (ns : List ℕ). BeginsWithMore bytes ns (behind ∷ rest)) all p.begins);
+    }
 
--- no number is read yet
-pub none_stored : (bytes : List ℕ) → BeginsWithMore bytes [] bytes
-none_stored bytes = record { text = []; are = refl; spelled = refl; one_line = tt }
+-- a number and one that is left out, two numbers, where the first may not be left out
+with_one : (bytes rest : List ℕ) (n : ℕ) → BeginsWithNumber bytes n rest → BeginsWithMore (32 ∷ bytes) (n ∷ []) rest
+with_one bytes rest n m =
+    begins_with_more (32 ∷ bytes) (32 ∷ bytes) bytes rest [] n
+    (record { text = []; are = refl; spelled = refl; one_line = tt }) refl m
 
-pub stored_shortly : (n i : ℕ) (bytes rest after items : List ℕ) (value : ℕ) → i < n → length items ≡ n
-    → BeginsWithMore bytes (take i items) (stop (n - i) ∷ rest)
-    → BeginsWithNumber rest value (stop (n - 1 - i) ∷ after)
-    → BeginsWithMore bytes (take (i + 1) (set items i value)) (stop (n - (i + 1)) ∷ after)
-stored_shortly n i bytes rest after items value l long b m =
-    let space : stop (n - i) ≡ 32 = ap (λ (d : Bool). cond d 10 32) (ne_eqb (n - i) 0 (λ e. absurd (omega arith))) in
-    let due : n - 1 - i ≡ n - (i + 1) = omega arith in
-    stored_plainly n i bytes (stop (n - i) ∷ rest) rest (stop (n - (i + 1)) ∷ after) items value l long b
-    (ap (λ (c : ℕ). c ∷ rest) space)
-    (subst (λ k. BeginsWithNumber rest value (stop k ∷ after)) due m)
+pub one_ends : (bytes rest : List ℕ) (n : ℕ) → BeginsWithNumber bytes n (10 ∷ rest)
+    → EndsPlainly 1 (32 ∷ bytes) (n ∷ 0 ∷ []) rest
+one_ends bytes rest n m = record {
+  written = n ∷ [];
+  left_out = 1;
+  are = refl;
+  enough = omega arith;
+  begins = with_one bytes (10 ∷ rest) n m;
+}
 
-pub all_stored_shortly : (n i : ℕ) (bytes rest items : List ℕ) → n ≤ i → length items ≡ n
-    → BeginsWithMore bytes (take i items) (stop (n - i) ∷ rest) → EndsPlainly bytes items rest
-all_stored_shortly n i bytes rest items l long b =
-    let none : n - i ≡ 0 = omega arith in
-    all_stored n i bytes (stop (n - i) ∷ rest) rest items l long b (ap (λ k. stop k ∷ rest) none)
+pub two_end : (bytes behind rest : List ℕ) (n k : ℕ) → BeginsWithNumber bytes n (32 ∷ behind)
+    → BeginsWithNumber behind k (10 ∷ rest) → EndsPlainly 1 (32 ∷ bytes) (n ∷ k ∷ []) rest
+two_end bytes behind rest n k m o = record {
+  written = n ∷ k ∷ [];
+  left_out = 0;
+  are = refl;
+  enough = omega arith;
+  begins =
+      begins_with_more (32 ∷ bytes) (32 ∷ behind) behind (10 ∷ rest) (n ∷ []) k (with_one bytes (32 ∷ behind) n m) refl
+      o;
+}
 
 -- up to its first line feed a text is one line
 pub first_line : (text rest : List ℕ) → HasNoLineFeed text
@@ -184,53 +231,61 @@ first_line [] rest h = refl
 first_line (b ∷ bs) rest h = rw (h.0, first_line bs rest h.1) refl
 
 -- what follows a row is shorter
-pub shorter : (bytes rest after more : List ℕ) (first : ℕ) → BeginsWithNumber bytes first rest
-    → EndsPlainly rest more after → length after < length bytes
-shorter bytes rest after more first b m =
+pub shorter : (least : ℕ) (bytes rest after more : List ℕ) (first : ℕ) → BeginsWithNumber bytes first rest
+    → EndsPlainly least rest more after → length after < length bytes
+shorter least bytes rest after more first b m =
     let whole : length bytes ≡ length b.digits + length rest = ap length b.are ∙ length-append b.digits rest in
-    let end : length rest ≡ length m.text + length (10 ∷ after) = ap length m.are ∙ length-append m.text (10 ∷ after) in
+    let end : length rest ≡ length m.begins.text + length (10 ∷ after) =
+    ap length m.begins.are ∙ length-append m.begins.text (10 ∷ after) in
     omega arith
 
 -- the row that the bytes begin with
-module _ (bytes rest after more : List ℕ) (first : ℕ) (b : BeginsWithNumber bytes first rest)
-    (m : EndsPlainly rest more after) where
+module _ (form : Form) (bytes rest after more : List ℕ) (first : ℕ) (b : BeginsWithNumber bytes first rest)
+    (m : EndsPlainly form.least rest more after) where
   abbrev text : List ℕ
-  text = b.digits ++ m.text
+  text = b.digits ++ m.begins.text
 
   cut : lines_of bytes ≡ line text true ∷ lines_of after
   cut =
-      ap lines_of (b.are ∙ ap (λ (r : List ℕ). b.digits ++ r) m.are ∙ sym (append_assoc b.digits m.text (10 ∷ after)))
+      ap lines_of
+      (b.are ∙ ap (λ (r : List ℕ). b.digits ++ r) m.begins.are
+      ∙ sym (append_assoc b.digits m.begins.text (10 ∷ after)))
       ∙ first_line text after
-      (all_joined (λ b. (b == 10) ≡ false) b.digits m.text
-      (digits_have_no_line_feed b.digits b.spelled.digits) m.one_line)
+      (all_joined (λ b. (b == 10) ≡ false) b.digits m.begins.text
+      (digits_have_no_line_feed b.digits b.spelled.digits) m.begins.one_line)
 
-  holds : (form : Form) → form.least ≤ length more → IsRowLine (line text true) (row form (first ∷ more))
-  holds form enough = record {
+  holds : IsRowLine (line text true) (row form (first ∷ more))
+  holds = record {
     first = first;
     more = more;
     digits = b.digits;
-    rest = m.text;
+    rest = m.begins.text;
     are = refl;
     begins = refl;
     spelled = b.spelled;
     others = record {
-      written = more;
-      left_out = 0;
-      numbers = m.text;
+      written = m.written;
+      left_out = m.left_out;
+      numbers = m.begins.text;
       ending = [];
-      are = sym (append-nil more);
-      enough = enough;
-      text_is = sym (append-nil m.text);
-      spelled = m.spelled;
+      are = m.are;
+      enough = m.enough;
+      text_is = sym (append-nil m.begins.text);
+      spelled = m.begins.spelled;
       ends = ([], tt, inl refl);
     };
   }
 
-  pub plain_row_is : (form : Form) (max_var number : ℕ) → form.least ≤ length form.others
-      → length more ≡ length form.others → fault_in_row max_var (roles_of form) (first ∷ more) ≡ None
-      → row_at form max_var (ahead number (lines_of bytes)) ≡ Ok (first ∷ more, ahead (number + 1) (lines_of after))
-  plain_row_is form max_var number small long right =
-      let p = right_parts max_var (roles_of form) (first ∷ more) right in
-      let good : IsGoodRow form max_var (first ∷ more) =
-      all_may_stand max_var (roles_of form) (first ∷ more) (ap suc long) p.0 p.1 in
-      rw (cut, row_is_found form max_var (line text true) (first ∷ more) (holds form (omega arith)) good) refl
+  tells : (bound carried : ℕ) → length more ≡ length form.others
+      → fault_in_row form bound carried (first ∷ more) ≡ None
+      → row_of form bound carried (line text true) ≡ Ok (first ∷ more)
+  unfolding row_of checked_row
+  tells bound carried long right =
+      rw (row_is_read (line text true) form.least (length form.others) (first ∷ more) holds (ap suc long))
+      (ap (unless_wrong (first ∷ more)) right)
+
+  pub plain_row_is : (bound carried number : ℕ) → length more ≡ length form.others
+      → fault_in_row form bound carried (first ∷ more) ≡ None
+      → row_at form bound carried (ahead number (lines_of bytes))
+      ≡ Ok (first ∷ more, ahead (number + 1) (lines_of after))
+  plain_row_is bound carried number long right = rw (cut, tells bound carried long right) refl

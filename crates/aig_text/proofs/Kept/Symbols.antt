@@ -28,14 +28,14 @@ behind (Some s) k h =
 
 -- what is kept of a number below the bound is the number
 small_behind : (n k : ℕ) → kept n ≡ k → k < 2 ^ 33 → n ≡ k
-small_behind n k h small = elim (cases_lt n (2 ^ 33)) [
+small_behind n k h small = elim (cases_lt n (2 ^ 36)) [
   | inl l ↦ sym (kept_small n l) ∙ h
-  | inr l ↦ let large : 2 ^ 33 ≤ k = subst (λ m. 2 ^ 33 ≤ m) (sym (kept_large n l) ∙ h) (omega arith) in
+  | inr l ↦ let large : 2 ^ 36 ≤ k = subst (λ m. 2 ^ 36 ≤ m) (sym (kept_large n l) ∙ h) (omega arith) in
       absurd (omega arith)
 ]
 
 far_behind : (count n k : ℕ) → kept n ≡ k → count < 2 ^ 33 → count ≤ k → count ≤ n
-far_behind count n k h small far = elim (cases_lt n (2 ^ 33)) [
+far_behind count n k h small far = elim (cases_lt n (2 ^ 36)) [
   | inl l ↦ let same : n ≡ k = sym (kept_small n l) ∙ h in omega arith
   | inr l ↦ omega arith
 ]

@@ -2,9 +2,9 @@
 use Rattle.std.specs.Prelude.{◌+◌, ◌%◌, ◌^◌, ℕ, List, map, nat_lt, Option, None, Some, if◌then◌else◌}
 use Rattle.aig_core.specs.declared.circuit.Symbol.{Symbol}
 
--- what is kept of a number: the number itself below 2^33, and of any other that it is that large and whether it is odd
+-- what is kept of a number: the number itself below 2^36, and of any other that it is that large and whether it is odd
 abbrev pub kept : ℕ → ℕ
-kept n = if nat_lt n (2 ^ 33) then n else 2 ^ 33 + n % 2
+kept n = if nat_lt n (2 ^ 36) then n else 2 ^ 36 + n % 2
 
 -- what is kept of numbers
 abbrev pub kept_numbers : Option (List ℕ) → Option (List ℕ)

@@ -1,7 +1,7 @@
 -- Rows in plain spelling: digits, one space between numbers, and a line feed behind the last.
-use Rattle.std.specs.Prelude.{◌≡◌, ◌==◌, ◌++◌, ℕ, List, ◌∷◌, false, if◌then◌else◌}
+use Rattle.std.specs.Prelude.{◌≡◌, ◌≤◌, ◌==◌, ◌++◌, ℕ, List, ◌∷◌, false, length}
 use Rattle.std.specs.List.{AllByRecursion}
-use Rattle.aig_text.specs.Spelling.{IsNumber, AreMoreNumbers}
+use Rattle.aig_text.specs.Spelling.{IsNumber, AreMoreNumbers, zeros}
 
 -- no byte is a line feed
 abbrev pub HasNoLineFeed : List ℕ → Type 0
@@ -20,10 +20,11 @@ pub record BeginsWithMore (bytes : List ℕ) (ns : List ℕ) (rest : List ℕ) :
   pub spelled : AreMoreNumbers text ns
   pub one_line : HasNoLineFeed text
 
--- the bytes begin with numbers, each after a space, and a line feed
-abbrev pub EndsPlainly : List ℕ → List ℕ → List ℕ → Type 0
-EndsPlainly bytes ns rest = BeginsWithMore bytes ns (10 ∷ rest)
-
--- the byte behind a number where so many more are due in its line
-abbrev pub stop : ℕ → ℕ
-stop due = if due == 0 then 10 else 32
+-- the bytes begin with numbers, each after a space, and a line feed; there are so many of them at least, and those that
+-- are left out are 0
+pub record EndsPlainly (least : ℕ) (bytes : List ℕ) (ns : List ℕ) (rest : List ℕ) : Type 0 where
+  pub written : List ℕ
+  pub left_out : ℕ
+  pub are : ns ≡ written ++ zeros left_out
+  pub enough : least ≤ length written
+  pub begins : BeginsWithMore bytes written (10 ∷ rest)

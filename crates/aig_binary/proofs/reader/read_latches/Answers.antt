@@ -1,5 +1,6 @@
-use Rattle.std.proofs.Common.{arith}
-use Rattle.aig_text.specs.Rows.{output_form}
+use Rattle.std.proofs.Common.{◌+◌, arith}
+use Rattle.aig_core.specs.Literal.{literal_of}
+use Rattle.aig_text.specs.Rows.{next_form}
 use Rattle.aig_text.specs.Reading.{rows_at}
 use Rattle.aig_binary.proofs.Stages.{nexts_make_latches, found_count}
 use Rattle.aig_binary.proofs.reader.read_latches.Goals as goal
@@ -8,8 +9,8 @@ pub latches-requires : goal.latches-requires
 latches-requires c =
     let h = c.args.header.now in
     let count =
-    found_count output_form h.max_var h.latches c.args.at.now c.literals.new.at c.in_ok-nexts.nexts
-    c.in_ok-nexts.ensures.literals in
+    found_count h.max_var (literal_of (1 + h.inputs)) h.latches c.args.at.now c.next_states.new.at c.in_ok-nexts.nexts
+    (rw c.from.ensures at c.in_ok-nexts.ensures.states) in
     omega (arith, count, c.requires.max_var, c.requires.definitions)
 
 pub returns : goal.returns
@@ -17,5 +18,5 @@ returns c =
     let h = c.args.header.now in
     rw c.in_ok-circuit.ensures.ok (
     nexts_make_latches h c.args.circuit.now
-    (rows_at output_form h.max_var h.latches c.args.at.now) c.in_ok-nexts.nexts c.literals.new.at
-    c.in_ok-nexts.ensures.literals)
+    (rows_at next_form h.max_var (literal_of (1 + h.inputs)) h.latches c.args.at.now) c.in_ok-nexts.nexts
+    c.next_states.new.at (rw c.from.ensures at c.in_ok-nexts.ensures.states))

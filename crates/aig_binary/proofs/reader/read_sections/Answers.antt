@@ -7,16 +7,18 @@ pub returns-in-Err : goal.returns-in-Err
 returns-in-Err c =
     sections_wrong in_binary c.args.header.now c.loop-section.section-index _ c.loop-section.circuit c.loop-section.at
     c.in-Err.fault _
-    c.loop-section-test.true c.in-Err.ensures c.loop-section.invariant
+    c.loop-section-test.true c.in-Err.ensures.read c.loop-section.invariant.0
 
 pub loop-section-preserved : goal.loop-section-preserved
-loop-section-preserved c =
-    sections_more in_binary c.args.header.now c.loop-section.section-index _ c.loop-section.circuit
-    c.read_lines.new.circuit c.loop-section.at
-    c.read_lines.new.at c.loop-section-test.true c.in_default.ensures
-    ∙ c.loop-section.invariant
+loop-section-preserved c = (
+  sections_more in_binary c.args.header.now c.loop-section.section-index _ c.loop-section.circuit
+      c.read_lines.new.circuit c.loop-section.at
+      c.read_lines.new.at c.loop-section-test.true c.in_default.ensures.read
+      ∙ c.loop-section.invariant.0,
+  c.in_default.ensures.sizes,
+)
 
 pub returns : goal.returns
 returns c =
     sections_done in_binary c.args.header.now c.loop-section.section-index c.loop-section.circuit c.loop-section.at _
-    c.loop-section-test.false c.loop-section.invariant
+    c.loop-section-test.false c.loop-section.invariant.0

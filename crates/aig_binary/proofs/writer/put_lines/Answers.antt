@@ -6,4 +6,4 @@ pub returns : goal.returns
 returns g c =
     rw (← lines_text c.args.circuit.now)
     (put_twice _ _ _ _ _ (rw c.as_slice.ensures at c.put_nexts.ensures)
-    (rw c.as_slice-2.ensures at c.put_outputs.ensures))
+    c.put_literal_sections.ensures)

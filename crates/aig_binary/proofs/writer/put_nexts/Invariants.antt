@@ -1,11 +1,12 @@
-use Rattle.std.proofs.Common.{[], ◌∷◌, take}
+use Rattle.std.proofs.Common.{take}
 use Rattle.std.specs.List.{flat_map}
 use Rattle.aig_io.specs.Output.{Put}
 use Rattle.aig_core.specs.declared.circuit.Latch.{Latch}
-use Rattle.aig_text.specs.AsciiText.{numbers_text}
+use Rattle.aig_text.specs.AsciiText.{row_text}
+use Rattle.aig_text.specs.Rows.{next_row}
 use Rattle.aig_binary.proofs.writer.put_nexts.Given as goal
 
 abbrev pub invariant-loop-latch : goal.invariant-loop-latch
 invariant-loop-latch g l =
     Put l.fn.output l.output
-    (flat_map (λ (l : Latch). numbers_text (l.next ∷ [])) (take l.latch-index l.latches))
+    (flat_map (λ (l : Latch). row_text 0 (next_row l)) (take l.latch-index l.latches))

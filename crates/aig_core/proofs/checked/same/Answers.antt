@@ -2,12 +2,12 @@ use Rattle.std.proofs.Common.{rules}
 use Rattle.aig_core.proofs.Alike.{told}
 use Rattle.aig_core.proofs.checked.same.Goals as goal
 
-pub returns-then-eq-5 : goal.returns-then-eq-5
-returns-then-eq-5 c =
-    told c.eq-then-eq-5.result c.circuit-first.result.now c.circuit-second.result.now _ _ c.circuit-first.ensures.value
+pub returns-then-eq-4 : goal.returns-then-eq-4
+returns-then-eq-4 c =
+    told c.eq-then-eq-4.result c.circuit-first.result.now c.circuit-second.result.now _ _ c.circuit-first.ensures.value
     c.circuit-second.ensures.value (search rules)
 
-pub returns-else-eq-5 : goal.returns-else-eq-5
-returns-else-eq-5 c =
-    told c.if-eq-4.value c.circuit-first.result.now c.circuit-second.result.now _ _ c.circuit-first.ensures.value
+pub returns-else-eq-4 : goal.returns-else-eq-4
+returns-else-eq-4 c =
+    told c.if-eq-3.value c.circuit-first.result.now c.circuit-second.result.now _ _ c.circuit-first.ensures.value
     c.circuit-second.ensures.value (search rules)

@@ -1,7 +1,6 @@
 use Rattle.std.proofs.Common.{length, refl}
 use Rattle.aig_text.specs.declared.fault.ReadKind.TheVariants as kinds
 use Rattle.aig_text.specs.Scanning.{numbers_at}
-use Rattle.aig_text.specs.Rows.{roles_of}
 use Rattle.aig_text.specs.Reading.{checked_row, row_of, unless_wrong, fault_in_row}
 use Rattle.aig_text.specs.Laws.{HoldsRow}
 use Rattle.aig_text.proofs.Grammar.NumberLines.{row_reads, row_is_read}
@@ -11,7 +10,8 @@ use Rattle.aig_text.proofs.laws.rows_are_judged.Goals as goal
 pub returns : goal.returns
 unfolding row_of checked_row
 returns c =
-    λ form max_var l met. by_scanner (HoldsRow form l) (λ ns. unless_wrong ns (fault_in_row max_var (roles_of form) ns))
-    kinds.BadLine (checked_row form max_var) (numbers_at l.ended form.least (length form.others) l.text)
+    λ form bound carried l met. by_scanner (HoldsRow form l)
+    (λ ns. unless_wrong ns (fault_in_row form bound carried ns)) kinds.BadLine (checked_row form bound carried)
+    (numbers_at l.ended form.least (length form.others) l.text)
     (λ ns held. row_is_read l form.least (length form.others) ns held.0 held.1)
     (λ ns read. row_reads l form.least (length form.others) ns met read) (λ ns. refl) refl

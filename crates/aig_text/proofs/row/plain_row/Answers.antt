@@ -1,24 +1,34 @@
-use Rattle.std.proofs.Common.{◌≤◌, sym, subst, ◌∙◌}
-use Rattle.aig_text.proofs.Kept.Checks.{literals_are}
+use Rattle.std.proofs.Common.{◌≡◌, ◌∷◌, None, refl, sym, subst, ◌∙◌}
+use Rattle.aig_text.specs.Rows.{Form}
+use Rattle.aig_text.specs.Reading.{fault_in_row}
+use Rattle.aig_text.proofs.Kept.Checks.{are_bounded}
 use Rattle.aig_text.proofs.Kept.Plain.{plain_row_is, shorter}
 use Rattle.aig_text.proofs.row.plain_row.Goals as goal
 
-pub returns-in-None-clause-row : goal.returns-in-None-clause-row
-returns-in-None-clause-row g c =
-    let form = c.form.inside in
-    let long = c.in-Some.ensures.long ∙ sym c.form.invariant.1 in
-    let met = subst (λ k. form.least ≤ k) (sym c.form.invariant.1) c.form.invariant.0 in
+pub returns-clause-row : goal.returns-clause-row
+returns-clause-row g c =
+    let form : Form =
+    record { first = c.form.inside.first; others = c.form.inside.others; least = c.form.inside.least } in
+    let right : fault_in_row form c.args.bound c.args.carried (c.in_ok-first.first ∷ c.in-Some.found.0) ≡ None =
+    subst (λ (f : Form). fault_in_row f c.args.bound c.args.carried (c.in_ok-first.first ∷ c.in-Some.found.0) ≡ None)
+    (sym c.form.view_is) (c.if-not-is_right_row.ensures refl) in
     rw (← c.form.view_is) (λ number.
-    plain_row_is c.args.bytes.now c.in_ok-first.rest.now c.in-Some.found.1.now c.in-Some.found.0 c.in_ok-first.first
-    c.in_ok-first.ensures c.in-Some.ensures.are _ c.args.max_var number met long (sym c.in-None.ensures))
+    plain_row_is form c.args.bytes.now (c.in_ok-first.behind ∷ c.in_ok-first.rest.now) c.in-Some.found.1.now
+    c.in-Some.found.0 c.in_ok-first.first c.in_ok-first.ensures c.in-Some.ensures.are c.args.bound c.args.carried number
+    (c.in-Some.ensures.long ∙ sym c.form.invariant.1) right)
 
-pub returns-in-None-clause-shorter : goal.returns-in-None-clause-shorter
-returns-in-None-clause-shorter g c =
-    shorter c.args.bytes.now c.in_ok-first.rest.now c.in-Some.found.1.now c.in-Some.found.0 c.in_ok-first.first
-    c.in_ok-first.ensures
-    c.in-Some.ensures.are
+pub returns-clause-shorter : goal.returns-clause-shorter
+returns-clause-shorter g c =
+    shorter c.form.inside.least c.args.bytes.now (c.in_ok-first.behind ∷ c.in_ok-first.rest.now) c.in-Some.found.1.now
+    c.in-Some.found.0 c.in_ok-first.first c.in_ok-first.ensures c.in-Some.ensures.are
 
-pub returns-in-None-clause-literals : goal.returns-in-None-clause-literals
-returns-in-None-clause-literals g c =
-    literals_are c.args.max_var c.form.inside.first c.form.inside.others c.in_ok-first.first c.in-Some.found.0
-    (c.in-Some.ensures.long ∙ sym c.form.invariant.1) (sym c.in-None.ensures)
+pub returns-clause-bounded : goal.returns-clause-bounded
+returns-clause-bounded g c =
+    let form : Form =
+    record { first = c.form.inside.first; others = c.form.inside.others; least = c.form.inside.least } in
+    let right : fault_in_row form c.args.bound c.args.carried (c.in_ok-first.first ∷ c.in-Some.found.0) ≡ None =
+    subst (λ (f : Form). fault_in_row f c.args.bound c.args.carried (c.in_ok-first.first ∷ c.in-Some.found.0) ≡ None)
+    (sym c.form.view_is) (c.if-not-is_right_row.ensures refl) in
+    rw (← c.form.view_is)
+    (are_bounded form c.args.bound c.args.carried c.in_ok-first.first c.in-Some.found.0
+    (c.in-Some.ensures.long ∙ sym c.form.invariant.1) right)

@@ -7,16 +7,19 @@ pub returns-in-Err : goal.returns-in-Err
 returns-in-Err c =
     sections_wrong in_ascii c.args.header.now c.loop-section.section-index _ c.loop-section.circuit c.loop-section.at
     c.in-Err.fault _
-    c.loop-section-test.true c.in-Err.ensures c.loop-section.invariant
+    c.loop-section-test.true c.in-Err.ensures.read c.loop-section.invariant.read
 
 pub loop-section-preserved : goal.loop-section-preserved
-loop-section-preserved c =
-    sections_more in_ascii c.args.header.now c.loop-section.section-index _ c.loop-section.circuit
-    c.read_section.new.circuit c.loop-section.at
-    c.read_section.new.at c.loop-section-test.true c.in_default.ensures
-    ∙ c.loop-section.invariant
+loop-section-preserved c = record {
+  read =
+      sections_more in_ascii c.args.header.now c.loop-section.section-index _ c.loop-section.circuit
+      c.read_section.new.circuit c.loop-section.at
+      c.read_section.new.at c.loop-section-test.true c.in_default.ensures.read
+      ∙ c.loop-section.invariant.read;
+  sizes = c.in_default.ensures.sizes;
+}
 
 pub returns : goal.returns
 returns c =
     sections_done in_ascii c.args.header.now c.loop-section.section-index c.loop-section.circuit c.loop-section.at _
-    c.loop-section-test.false c.loop-section.invariant
+    c.loop-section-test.false c.loop-section.invariant.read

@@ -1,10 +1,9 @@
 use Rattle.std.proofs.Common.{take}
 use Rattle.std.specs.List.{flat_map}
 use Rattle.aig_io.specs.Output.{Put}
-use Rattle.aig_text.specs.AsciiText.{numbers_text}
 use Rattle.aig_text.proofs.writer.put_lines.Given as goal
 
 abbrev pub invariant-loop-item : goal.invariant-loop-item
 invariant-loop-item g l =
     Put l.fn.output l.output
-    (flat_map (λ x. numbers_text (g.T.NumberedLine.line_numbers x)) (take l.item-index l.items))
+    (flat_map g.T.NumberedLine.line (take l.item-index l.items))

@@ -7,5 +7,4 @@ returns g c =
     rw (← sections_text c.args.circuit.now)
     (put_twice _ _ _ _ _ (rw c.as_slice.ensures at c.put_lines.ensures)
     (put_twice _ _ _ _ _ (rw c.as_slice-2.ensures at c.put_lines-2.ensures)
-    (put_twice _ _ _ _ _ (rw c.as_slice-3.ensures at c.put_lines-3.ensures)
-    (rw c.as_slice-4.ensures at c.put_lines-4.ensures))))
+    (put_twice _ _ _ _ _ c.put_literal_sections.ensures (rw c.as_slice-3.ensures at c.put_lines-3.ensures))))
