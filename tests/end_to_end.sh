@@ -92,6 +92,28 @@ round_trip 'inputs' 100000 0 0
 round_trip 'latches' 0 100000 0
 round_trip 'outputs' 1 0 99999
 
+# properties RESET BAD CONSTRAINTS JUSTICE FAIRNESS: a latch with this reset, and so many lines of each; the justice properties
+# have 0, 1, 2, 0, .. literals
+properties() {
+    awk -v reset="$1" -v bad="$2" -v constraints="$3" -v justice="$4" -v fairness="$5" 'BEGIN {
+        printf "aag 1 0 1 0 0 %d %d %d %d\n2 3%s\n", bad, constraints, justice, fairness, reset
+        for (i = 0; i < bad + constraints; i++) print i * 104729 % 4
+        for (i = 0; i < justice; i++) { print i % 3; literals += i % 3 }
+        for (i = 0; i < literals + fairness; i++) print i * 7919 % 4
+    }'
+}
+through_binary() { "$program" aigtoaig < "$1" | convert; }
+properties_come_back() {
+    wants '' '' 0
+    properties "${@:2}" > "$work/in"
+    cp "$work/in" "$work/want_out"
+    check "100,000 lines come back: $1" convert < "$work/in"
+    check "100,000 lines come back through binary: $1" through_binary "$work/in"
+}
+properties_come_back 'bad states, constraints, justice and fairness' ' 2' 20000 20000 20000 20000
+properties_come_back 'bad states' ' 1' 99998 0 0 1
+properties_come_back 'justice properties' '' 0 0 50000 1
+
 { printf 'aag 100001 100001 0 0 0\n'; seq 2 2 200000; printf '2\n'; } > "$work/in"
 wants '' 'aiger: -: variable 1 defined twice\n' 1
 check 'the first variable again, after 100,000 lines' convert < "$work/in"
@@ -115,7 +137,6 @@ chain_comes_back() {
     check "200,000 gates come back: $1" convert < "$work/in"
 }
 chain_comes_back 'in the order of the chain' 1 200000
-through_binary() { "$program" aigtoaig < "$1" | convert; }
 through_ascii() { convert < "$1" | "$program" aigtoaig; }
 check '200,000 gates in order come back through binary' through_binary "$work/in"
 with_map() { "$program" aigtoaig --keep-map < "$1" | "$program" aigtoaig --undo-map --ascii; }
@@ -158,11 +179,15 @@ all_named 'in reverse order' 99999 -1 0
 # --- little memory: what a header asks for is not taken before its lines are there ---
 # within KILOBYTES WORD..: the words with so much memory, for ten seconds at most
 within() { ( ulimit -v "$1" && shift && exec timeout 10 "$@" ); }
-for header in '2147483647 2147483647 0 0 0' '2147483647 0 2147483647 0 0' '2147483647 0 0 2147483647 0'; do
+for header in '2147483647 2147483647 0 0 0' '2147483647 0 2147483647 0 0' '2147483647 0 0 2147483647 0' \
+    '0 0 0 0 0 2147483647' '0 0 0 0 0 0 2147483647' '0 0 0 0 0 0 0 2147483647' '0 0 0 0 0 0 0 0 2147483647'; do
     printf 'aag %s\n' "$header" > "$work/in"
     wants '' 'aiger: -: line 2: file ends too early\n' 1
     check "200 MB are enough for the header $header" within 204800 "$program" aigtoaig --ascii < "$work/in"
 done
+printf 'aag 0 0 0 0 0 0 0 1\n2147483647\n' > "$work/in"
+wants '' 'aiger: -: line 3: file ends too early\n' 1
+check '200 MB are enough for the size of a justice property' within 204800 "$program" aigtoaig --ascii < "$work/in"
 widest='aag 2147483647 2 0 1 0\n4294967294\n2\n4294967295\n'
 printf '%b' "$widest" > "$work/in"
 wants "$widest" '' 0
@@ -176,6 +201,8 @@ wants '' '' 0
 check 'binary images of circuits made by chance, and their maps' "$top/tests/images.py" "$program"
 
 # --- the examples ---
+wants '' '' 0
+check 'the commands of examples/README.md print what stands there' "$top/tests/readme.py" "$program"
 for file in "$top"/examples/*.aag "$top"/examples/*.aig; do
     canonical=${file##*/}
     canonical=$top/examples/canonical/${canonical%.*}.aag
