@@ -3,32 +3,64 @@
 
     tests/images.py PROGRAM
 
-Each circuit has shuffled gates, variables far apart, unused indices, symbols and perhaps a comment. Its gates are placed by
-looking at all of them again for each: the next one is the first in the file whose operands over gates are all placed. What
-the program writes must be that image's file, and its ASCII text must give the file again. With the map, the file must have
-the block that is made here, and undone it must give the circuit's text. Of circuits that may have cycles, the first gate that
-the plain search leaves out must be told.
+Each circuit has shuffled gates, variables far apart, unused indices, symbols and perhaps a comment; half of them have resets,
+bad states, constraints, justice properties and fairness constraints. Its gates are placed by looking at all of them again for
+each: the next one is the first in the file whose operands over gates are all placed. What the program writes must be that
+image's file, and its ASCII text must give the file again. With the map, the file must have the block that is made here, and
+undone it must give the circuit's text. Circuit and image must have the same values, step by step, for the same inputs. Of
+circuits that may have cycles, the first gate that the plain search leaves out must be told.
 """
+import dataclasses
 import random
 import subprocess
 import sys
 
-CIRCUITS = 300
+CIRCUITS = 400
 CYCLIC = 300
-
+STEPS = 4
 
 COMMENTS = [None, "", "made by chance\n", "no line feed", "aigmap 1 0 0 0 0 0\naigmap end\n", "\naigmap end\n"]
 
 
+@dataclasses.dataclass
+class Circuit:
+    """The variables of inputs and latches; of each latch also the next literal and what it starts at, "0", "1" or "x"; lists of
+    literals, of which each justice property is one; and gates of three literals in any order."""
+
+    largest: int
+    inputs: list
+    latches: list
+    nexts: list
+    resets: list
+    outputs: list
+    bad: list
+    constraints: list
+    justice: list
+    fairness: list
+    gates: list
+    symbols: str
+    comment: str | None
+
+    def lists(self):
+        """The lists of literals, the justice properties' one by one."""
+        return [self.outputs, self.bad, self.constraints, *self.justice, self.fairness]
+
+
+def literals(chance, literal, most):
+    """Fewer literals than so many."""
+    return [literal() for _ in range(chance.randrange(most))]
+
+
 def circuit(chance, may_be_cyclic=False):
-    """The variables of inputs and latches, next literals, outputs, gates of three literals in any order, and the tail."""
+    """A circuit made by chance."""
     inputs, latches, count = (chance.randrange(most) for most in (5, 4, 12))
     total = inputs + latches + count
     largest = chance.choice([total + 3, 1000, 2147483647])
     variables = chance.sample(range(1, largest + 1), total)
     first = inputs + latches
+    has_more = chance.randrange(2)
 
-    def literal(places):
+    def literal(places=total):
         place = chance.randrange(places + 1)
         return chance.randrange(2) + (2 * variables[place - 1] if place else 0)
 
@@ -37,23 +69,66 @@ def circuit(chance, may_be_cyclic=False):
         below = total if may_be_cyclic else place
         gates.append((2 * variables[place], literal(below), literal(below)))
     chance.shuffle(gates)
-    nexts = [literal(total) for _ in range(latches)]
-    outputs = [literal(total) for _ in range(chance.randrange(4))]
-    symbols = "".join(f"i{at} name {at}\n" for at in range(inputs) if chance.randrange(2))
-    return largest, variables[:inputs], variables[inputs:first], nexts, outputs, gates, symbols, chance.choice(COMMENTS)
+    made = Circuit(
+        largest=largest,
+        inputs=variables[:inputs],
+        latches=variables[inputs:first],
+        nexts=[literal() for _ in range(latches)],
+        resets=[chance.choice("01x" if has_more else "0") for _ in range(latches)],
+        outputs=literals(chance, literal, 4),
+        bad=literals(chance, literal, 3 * has_more + 1),
+        constraints=literals(chance, literal, 2 * has_more + 1),
+        justice=[literals(chance, literal, 4) for _ in range(chance.randrange(3 * has_more + 1))],
+        fairness=literals(chance, literal, 2 * has_more + 1),
+        gates=gates,
+        symbols="",
+        comment=chance.choice(COMMENTS),
+    )
+    return dataclasses.replace(made, symbols=symbols(chance, made))
 
 
-def tail(symbols, comment):
-    return symbols + ("" if comment is None else f"c\n{comment}")
+def symbols(chance, made):
+    """Symbols of some of what there is, in any order."""
+    named = [made.inputs, made.latches, made.outputs, made.bad, made.constraints, made.justice, made.fairness]
+    lines = [f"{letter}{at} name {at}\n" for letter, of in zip("ilobcjf", named) for at in range(len(of)) if chance.randrange(2)]
+    chance.shuffle(lines)
+    return "".join(lines)
 
 
-def ascii_text(largest, inputs, latches, nexts, outputs, gates, symbols, comment):
-    lines = [f"aag {largest} {len(inputs)} {len(latches)} {len(outputs)} {len(gates)}"]
-    lines += [str(2 * variable) for variable in inputs]
-    lines += [f"{2 * variable} {literal}" for variable, literal in zip(latches, nexts)]
-    lines += [str(literal) for literal in outputs]
-    lines += [f"{own} {left} {right}" for own, left, right in gates]
-    return ("\n".join(lines) + "\n" + tail(symbols, comment)).encode()
+def tail(made):
+    return made.symbols + ("" if made.comment is None else f"c\n{made.comment}")
+
+
+def header(word, made):
+    """The header: its last numbers are left out where they are 0, down to five of them."""
+    of = [made.inputs, made.latches, made.outputs, made.gates, made.bad, made.constraints, made.justice, made.fairness]
+    numbers = [made.largest, *map(len, of)]
+    while len(numbers) > 5 and not numbers[-1]:
+        numbers.pop()
+    return " ".join([word, *map(str, numbers)])
+
+
+def next_lines(made, own):
+    """The line of each latch from its next literal on, where its own literal is as told."""
+    numbers = {"0": "", "1": " 1"}
+    return [f"{following}{numbers.get(reset, f' {it}')}" for it, following, reset in zip(own, made.nexts, made.resets)]
+
+
+def literal_lines(made):
+    """The lines between latches and gates: each justice property's size stands before the literals of all of them."""
+    sizes = [len(property) for property in made.justice]
+    numbers = [*made.outputs, *made.bad, *made.constraints, *sizes, *sum(made.justice, []), *made.fairness]
+    return [str(number) for number in numbers]
+
+
+def ascii_text(made):
+    lines = [header("aag", made)]
+    lines += [str(2 * variable) for variable in made.inputs]
+    own = [2 * variable for variable in made.latches]
+    lines += [f"{it} {line}" for it, line in zip(own, next_lines(made, own))]
+    lines += literal_lines(made)
+    lines += [f"{own} {left} {right}" for own, left, right in made.gates]
+    return ("\n".join(lines) + "\n" + tail(made)).encode()
 
 
 def placed(gates):
@@ -75,35 +150,128 @@ def spelled(delta):
     return bytes(groups + bytes([delta]))
 
 
-def renumbering(inputs, latches, order):
+def renumbering(made, order):
     """The new literal of each old one."""
-    new = {old: at for at, old in enumerate([0, *inputs, *latches, *(gate[0] // 2 for gate in order)])}
+    new = {old: at for at, old in enumerate([0, *made.inputs, *made.latches, *(gate[0] // 2 for gate in order)])}
     return lambda old: 2 * new[old // 2] + old % 2
 
 
-def image(_largest, inputs, latches, nexts, outputs, gates, symbols, comment):
-    order = placed(gates)
-    literal = renumbering(inputs, latches, order)
-    total = len(inputs) + len(latches) + len(gates)
-    text = f"aig {total} {len(inputs)} {len(latches)} {len(outputs)} {len(gates)}\n"
-    text += "".join(f"{literal(it)}\n" for it in nexts + outputs)
-    deltas = b""
+def renumbered(made):
+    """The circuit with its gates in their order, all literals by their new numbers, and larger operands first."""
+    order = placed(made.gates)
+    literal = renumbering(made, order)
+    gates = []
     for own, *operands in order:
         right, left = sorted(map(literal, operands))
-        deltas += spelled(literal(own) - left) + spelled(left - right)
-    return text.encode() + deltas + tail(symbols, comment).encode()
+        gates.append((literal(own), left, right))
+    first = len(made.inputs)
+    return dataclasses.replace(
+        made,
+        largest=first + len(made.latches) + len(made.gates),
+        inputs=list(range(1, first + 1)),
+        latches=list(range(first + 1, first + len(made.latches) + 1)),
+        nexts=[literal(it) for it in made.nexts],
+        outputs=[literal(it) for it in made.outputs],
+        bad=[literal(it) for it in made.bad],
+        constraints=[literal(it) for it in made.constraints],
+        justice=[[literal(it) for it in property] for property in made.justice],
+        fairness=[literal(it) for it in made.fairness],
+        gates=gates,
+    )
 
 
-def mapped_image(largest, inputs, latches, nexts, outputs, gates, symbols, comment):
+def image(made):
+    it = renumbered(made)
+    lines = [header("aig", it), *next_lines(it, [2 * variable for variable in it.latches]), *literal_lines(it)]
+    deltas = b"".join(spelled(own - left) + spelled(left - right) for own, left, right in it.gates)
+    return ("\n".join(lines) + "\n").encode() + deltas + tail(it).encode()
+
+
+def mapped_image(made):
     """The image, its comment being the block, which tells numbering, places and exchanged operands, and the source's."""
-    order = placed(gates)
-    literal = renumbering(inputs, latches, order)
-    block = f"aigmap 1 {largest} {len(inputs)} {len(latches)} {len(gates)} {int(comment is not None)}\n"
-    block += "".join(f"{variable}\n" for variable in inputs + latches)
-    for gate in gates:
+    order = placed(made.gates)
+    literal = renumbering(made, order)
+    counts = f"{len(made.inputs)} {len(made.latches)} {len(made.gates)}"
+    block = f"aigmap 1 {made.largest} {counts} {int(made.comment is not None)}\n"
+    block += "".join(f"{variable}\n" for variable in made.inputs + made.latches)
+    for gate in made.gates:
         block += f"{gate[0] // 2} {order.index(gate)} {int(literal(gate[1]) < literal(gate[2]))}\n"
     block += "aigmap end\n"
-    return image(largest, inputs, latches, nexts, outputs, gates, symbols, block + (comment or ""))
+    return image(dataclasses.replace(made, comment=block + (made.comment or "")))
+
+
+def trace(made, starts, steps):
+    """What each literal of each list is, step by step: the uninitialised latches start at these values, and each step has the
+    values of the inputs."""
+    order, told = placed(made.gates), []
+    state = [start if reset == "x" else int(reset) for reset, start in zip(made.resets, starts)]
+    for values in steps:
+        at = {0: 0, **dict(zip(made.inputs, values)), **dict(zip(made.latches, state))}
+
+        def value(literal, at=at):
+            return at[literal // 2] ^ literal % 2
+
+        for own, left, right in order:
+            at[own // 2] = value(left) & value(right)
+        told.append([[value(it) for it in listed] for listed in made.lists()])
+        state = [value(it) for it in made.nexts]
+    return told
+
+
+def read_image(text):
+    """The circuit of a binary text without symbols and comment that the program wrote."""
+    at = text.index(b"\n")
+    total, inputs, latches, outputs, count, *more = (int(it) for it in text[:at].split()[1:])
+    bad, constraints, justice, fairness = more + [0] * (4 - len(more))
+    rest = text[at + 1 :]
+
+    def rows(many):
+        nonlocal rest
+        lines = rest.split(b"\n", many)
+        rest = lines.pop()
+        return [[int(it) for it in line.split()] for line in lines]
+
+    def listed(many):
+        return [row[0] for row in rows(many)]
+
+    def delta():
+        nonlocal rest
+        value = shift = 0
+        while rest[0] > 127:
+            value, shift, rest = value | rest[0] % 128 << shift, shift + 7, rest[1:]
+        value, rest = value | rest[0] << shift, rest[1:]
+        return value
+
+    nexts = [(row + [0])[:2] for row in rows(latches)]
+    outs, bads, invariants, sizes = listed(outputs), listed(bad), listed(constraints), listed(justice)
+    properties = [listed(size) for size in sizes]
+    fair, gates = listed(fairness), []
+    for variable in range(total - count + 1, total + 1):
+        left = 2 * variable - delta()
+        gates.append((2 * variable, left, left - delta()))
+    return Circuit(
+        largest=total,
+        inputs=list(range(1, inputs + 1)),
+        latches=list(range(inputs + 1, inputs + latches + 1)),
+        nexts=[following for following, _ in nexts],
+        resets=["01x"[min(reset, 2)] for _, reset in nexts],
+        outputs=outs,
+        bad=bads,
+        constraints=invariants,
+        justice=properties,
+        fairness=fair,
+        gates=gates,
+        symbols="",
+        comment=None,
+    )
+
+
+def behaves_alike(chance, made, text):
+    """Whether the circuit and what the program wrote of it in binary have the same values."""
+    other = read_image(text)
+    starts = [chance.randrange(2) for _ in made.latches]
+    steps = [[chance.randrange(2) for _ in made.inputs] for _ in range(STEPS)]
+    return made.resets == other.resets and trace(made, starts, steps) == trace(other, starts, steps)
 
 
 def converted(program, text, *words):
@@ -125,20 +293,24 @@ def main(program):
     chance = random.Random(7)
     for number in range(CIRCUITS):
         made = circuit(chance)
-        text, wanted = ascii_text(*made), image(*made)
+        text, wanted = ascii_text(made), image(made)
+        if converted(program, text, "--ascii") != text:
+            sys.exit(f"circuit {number} does not come back: {text!r}")
         if converted(program, text) != wanted:
             sys.exit(f"circuit {number} has another image: {text!r}")
         if converted(program, converted(program, wanted, "--ascii")) != wanted:
             sys.exit(f"the image of circuit {number} does not come back: {wanted!r}")
-        mapped = mapped_image(*made)
+        mapped = mapped_image(made)
         if converted(program, text, "--keep-map") != mapped:
             sys.exit(f"circuit {number} has another mapped image: {text!r}")
         if converted(program, mapped, "--undo-map", "--ascii") != text:
             sys.exit(f"circuit {number} is not undone: {mapped!r}")
+        if not behaves_alike(chance, made, converted(program, text, "--strip")):
+            sys.exit(f"the image of circuit {number} has other values: {text!r}")
     for number in range(CYCLIC):
         made = circuit(chance, may_be_cyclic=True)
-        text = ascii_text(*made)
-        if not refused_for_cycle(program, made[5], text):
+        text = ascii_text(made)
+        if not refused_for_cycle(program, made.gates, text):
             sys.exit(f"another cycle is told of circuit {number}: {text!r}")
 
 

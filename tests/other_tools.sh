@@ -1,9 +1,10 @@
 # Other programs that read AIGER files, for end_to_end.sh: each that is installed reads the binary image of each example
-# and writes it again, and what it writes must have as many inputs, latches, outputs and gates. The examples of a program
-# that is not installed count as skipped.
+# and writes it again, and what it writes must be read here and have as many inputs, latches, outputs, gates and constraints,
+# and the same resets. The examples of a program that is not installed count as skipped.
 #
 # Tried with berkeley-abc 1.01 and yosys 0.23 of Debian 12. They may merge equal gates and leave out gates that nothing
-# uses; no example has such gates. For yosys a latch has to be made a flip-flop of its gate library (simplemap).
+# uses; no example has such gates. For yosys a latch has to be made a flip-flop of its gate library (simplemap). Both read a
+# bad state as an output: abc writes outputs as bad states where there is a constraint, and yosys drops constraints.
 
 # write_again TOOL: has the tool read in.aig and write out.aig, in the folder $work, where it may leave other files too
 write_again() {
@@ -17,12 +18,16 @@ write_again() {
 }
 
 # bare_image FILE: the file in binary, without its names and comment, since tools differ in which names they take
-bare_image() {
-    convert < "$1" | awk 'NR == 1 { last = 1 + $3 + $4 + $5 + $6 } NR <= last' | "$program" aigtoaig
-}
+bare_image() { "$program" aigtoaig --strip < "$1"; }
 
-# counts FILE: of inputs, latches, outputs and gates, as the header has them
-counts() { head -n 1 "$1" 2> /dev/null | cut -d ' ' -f 3-6; }
+# counts FILE: of inputs, latches, gates, outputs and bad states together, and constraints, as the header has them; then what
+# each latch starts at
+counts() {
+    convert < "$1" 2> /dev/null | awk '
+        NR == 1 { print "counts", $3, $4, $6, $5 + $7, $8 + 0; first = $3 + 2; last = $3 + $4 + 1 }
+        NR >= first && NR <= last { print NF == 2 ? 0 : $3 == 1 ? 1 : "x" }
+    ' | tr '\n' ' '
+}
 
 # tool_agrees TOOL FILE
 tool_agrees() {
@@ -30,12 +35,39 @@ tool_agrees() {
     rm -f "$work/out.aig"
     bare_image "$2" > "$work/in.aig"
     wanted=$(counts "$work/in.aig")
+    [ "$1" = yosys ] && wanted=$(sed -E 's/^(counts [0-9]+ [0-9]+ [0-9]+ [0-9]+) [0-9]+/\1 0/' <<< "$wanted")
     write_again "$1"
-    came=$(counts "$work/out.aig")
-    if [ "$came" = "$wanted" ]; then
+    came=
+    [ -e "$work/out.aig" ] && came=$(counts "$work/out.aig")
+    if [ -n "$came" ] && [ "$came" = "$wanted" ]; then
         pass
     else
-        fail "$name" "wanted counts '$wanted'" "came   counts '$came'; it said '$(shown "$work/out")'"
+        fail "$name" "wanted '$wanted'" "came   '$came'; it said '$(shown "$work/out")'"
+    fi
+}
+
+# A design with an assertion, an assumption, one of each that speaks of what comes eventually, and registers that start at 0, at
+# 1 and at neither: yosys writes a bad state, a constraint, a justice property and a fairness constraint.
+yosys_writes_properties() {
+    local design='module top(input clk, input a, input b, output reg q);
+        reg r = 1; reg s;
+        initial q = 0;
+        always @(posedge clk) begin q <= a & r; r <= ~b; s <= s ^ a; end
+        always @* begin assert (!(q & s)); assume (a | b); assert (eventually q); assume (eventually b); end
+    endmodule' steps='prep -top top; techmap; opt -fast; abc -g AND -fast; opt_clean' came
+    printf '%s\n' "$design" > "$work/design.v"
+    rm -f "$work/out.aig"
+    (cd "$work" && timeout 60 yosys -q -p "read_verilog -formal design.v; $steps; write_aiger out.aig") \
+        > "$work/out" 2>&1 < /dev/null
+    came=$(convert < "$work/out.aig" 2>&1 | awk '
+        NR == 1 { print $7, $8, $9, $10; first = $3 + 2; last = first + 2 }
+        NR >= first && NR <= last { print NF == 2 ? 0 : $3 == 1 ? 1 : "x" }
+    ' | tr '\n' ' ')
+    if [ "$came" = '1 1 1 1 0 1 x ' ]; then
+        pass
+    else
+        fail 'a design with assertions that yosys writes' "wanted '1 1 1 1 0 1 x '" \
+            "came   '$came'; it said '$(shown "$work/out")'"
     fi
 }
 
@@ -48,3 +80,8 @@ for tool in berkeley-abc yosys-abc yosys; do
         skip "${#examples[@]}" "$tool is not installed, to read the binary images of the examples"
     fi
 done
+if command -v yosys > /dev/null; then
+    yosys_writes_properties
+else
+    skip 1 'yosys is not installed, to write a design with assertions'
+fi

@@ -87,6 +87,23 @@ many() {
 for lines in 10 100 1000; do
     same "$lines inputs, latches and outputs" "$(many "$lines")\n"
 done
+# a file with so many lines of every section, and a symbol for each
+every() {
+    awk -v lines="$1" 'BEGIN {
+        printf "aag %d %d %d %d %d %d %d %d %d\n", 3 * lines, lines, lines, lines, lines, lines, lines, lines, lines
+        for (i = 1; i <= lines; i++) print 2 * i
+        for (i = 1; i <= lines; i++) print 2 * (lines + i), 3, i % 3 == 2 ? 2 * (lines + i) : i % 3 == 0 ? "" : 1
+        for (i = 0; i < 3 * lines; i++) print i
+        for (i = 1; i <= lines; i++) { print i % 4; literals += i % 4 }
+        for (i = 0; i < literals + lines; i++) print i % 4
+        for (i = 1; i <= lines; i++) print 2 * (2 * lines + i), 2, 3
+        for (i = 0; i < lines; i++) for (k = 1; k <= 7; k++) printf "%s%d name\n", substr("ilobcjf", k, 1), i
+    }' | sed 's/ $//'
+}
+for lines in 1 30; do
+    same "every section, $lines lines of each" "$(every "$lines")\nc\n"
+done
+refuses 'a name of the first justice property again at the end' "$(every 30)\nj0 name\n" 'line 497: symbol given twice'
 twice="aag 1001 1001 0 0 0\n$(seq 2 2 2000)\n2\n"
 refuses 'the first of 1,000 inputs again at the end' "$twice" 'variable 1 defined twice'
 
