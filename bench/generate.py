@@ -5,6 +5,8 @@ kinds:
   latches         N latches, variables 1 to N in order: the index of definitions at its easiest
   spread          N latches, variables spread up to 2147483647 and shuffled: the index at its hardest
   outputs         8 inputs and N outputs: reading and writing, and next to no definitions
+  resets          the latches of latches-N, each of which starts at 1 or has no initial value: what a reset costs
+  bad             8 inputs and N bad states, the literals of outputs-N: what a section of version 1.9 costs
   gates-ordered   N gates, each after those that it stands on, with 1,000 inputs, latches and outputs
   gates-shuffled  the same circuit with its gates in any order
   gates-sparse    the same circuit, variables spread up to 2147483647 and shuffled
@@ -59,6 +61,20 @@ def outputs(count):
         yield f"{2 * variable}\n"
     for _ in range(count):
         yield f"{chance.randrange(18)}\n"
+
+
+def resets(count):
+    chance = random.Random(7)
+    header, *lines = latches(count)
+    yield header
+    for line in lines:
+        yield f"{line.rstrip()} {chance.choice(['1', line.partition(' ')[0]])}\n"
+
+
+def bad(count):
+    _, *lines = outputs(count)
+    yield f"aag 8 8 0 0 0 {count}\n"
+    yield from lines
 
 
 def gates(count, times=1, is_shuffled=False, is_chain=False):
@@ -182,6 +198,8 @@ KINDS = {
     "latches": latches,
     "spread": spread,
     "outputs": outputs,
+    "resets": resets,
+    "bad": bad,
     "gates-ordered": gates,
     "gates-shuffled": lambda count: gates(count, is_shuffled=True),
     "gates-sparse": lambda count: gates(count, times=LARGEST),

@@ -39,6 +39,8 @@ class Measurement(NamedTuple):
     made_by: str = ""
     # The quotient aimed at, by the kind of file, where it has AIMED_AT lines of its kind.
     aims: dict = {}
+    # Whether a peer runs beside the program, if one is given.
+    has_peer: bool = True
     # How many bytes of memory a line there should be at most.
     aimed_bytes: int = 80
 
@@ -53,11 +55,19 @@ TO_BINARY_AIMS = {
     **dict.fromkeys(generate.BINARY_KINDS, 0.5),
 }
 GATES = tuple(kind for kind in generate.KINDS if kind.startswith("gates-"))
+LATER = ("resets", "bad")
 MEASUREMENTS = {
     "ascii": Measurement(
         words="aigtoaig --ascii",
-        kinds=(*generate.KINDS, *generate.BINARY_KINDS),
+        kinds=(*(kind for kind in generate.KINDS if kind not in LATER), *generate.BINARY_KINDS),
         wanted=generate.ascii_of,
+    ),
+    # what version 1.9 added, beside files of the first version with as many lines; the program alone
+    "later": Measurement(
+        words="aigtoaig --ascii",
+        kinds=("latches", "outputs", *LATER),
+        wanted=generate.ascii_of,
+        has_peer=False,
     ),
     "binary": Measurement(
         words="aigtoaig",
@@ -148,7 +158,7 @@ def contestants(measurement, program, peer):
     commands = {"aiger": [program, *measurement.words.split()]}
     if measurement.beside:
         commands[measurement.beside] = [program, *measurement.beside.split()]
-    elif peer:
+    elif peer and measurement.has_peer:
         commands["peer"] = [peer, *measurement.words.split()]
     return commands
 
@@ -254,7 +264,7 @@ def asked():
     for file in given.files:
         if not os.path.isfile(file):
             sys.exit(f"bench/run.py: no such file: {file}")
-        if kind_and_count(file)[0] not in MEASUREMENTS["ascii"].kinds:
+        if kind_and_count(file)[0] not in (*generate.KINDS, *generate.BINARY_KINDS):
             sys.exit(f"bench/run.py: no file of bench/generate.py: {file}")
     if given.runs < 1:
         sys.exit("bench/run.py: --runs takes a number from 1")
