@@ -1,4 +1,5 @@
 pub mod Literal
+pub mod Values
 pub mod Wellformed
 pub mod Justice
 pub mod Form

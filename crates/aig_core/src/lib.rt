@@ -14,6 +14,7 @@ mod names;
 mod operands;
 mod order;
 mod ordered;
+mod value;
 mod var_map;
 mod var_set;
 
@@ -28,6 +29,7 @@ pub use crate::literal::{Lit, Var};
 pub use crate::names::{NamedCounts, Names};
 pub use crate::order::Order;
 pub use crate::ordered::{Ordered, is_in_binary_order};
+pub use crate::value::Val;
 pub use crate::var_map::VarMap;
 pub use aig_io::{
     Block, DeviceFault, MOST_DIGITS, MemorySink, MemorySource, Output, ROOM, ReadError, ReadSource,
