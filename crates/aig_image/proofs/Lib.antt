@@ -1,3 +1,4 @@
 pub mod Numbering
 pub mod Imaging
 pub mod Relabelling
+pub mod Meaning

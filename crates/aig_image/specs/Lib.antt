@@ -5,3 +5,4 @@ pub mod Parts
 pub mod Relabelled
 pub mod Reordered
 pub mod Algebra
+pub mod Renamed

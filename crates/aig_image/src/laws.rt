@@ -1,6 +1,8 @@
 //! Laws: facts about the definitions alone, each the contract of a function with an empty body.
 ghost use Rattle.aig_image.specs.Laws.{RenumberingIsOneToOne, OrderedGatesAreTakenAsTheyStand};
 ghost use Rattle.aig_image.specs.Laws.{ImageIsOrdered, ImageIsOne, OrderedIsItsOwnImage};
+ghost use Rattle.aig_image.specs.Laws.{RenamedMeansTheSame, ImageAssignsTheSame};
+ghost use Rattle.aig_image.specs.Laws.{ImageMeansTheSame, ImageKeepsTraces};
 
 /// Renumbering is one to one from the variables that a well-formed circuit defines onto the numbers from 1 up to the
 /// count of its inputs, latches and gates.
@@ -26,4 +28,25 @@ pub fn image_is_one()
 /// A well-formed circuit in binary order is its own binary image.
 pub fn ordered_is_its_own_image()
     ensures { OrderedIsItsOwnImage }
+{}
+
+/// A circuit by other variables, with its gates in another order and the operands of each in either, means the same.
+pub fn renamed_means_the_same()
+    ensures { RenamedMeansTheSame }
+{}
+
+/// Values of the variables of the binary image that meet its equations are, by the numbers that the variables of the
+/// circuit got, values that meet the circuit's.
+pub fn image_assigns_the_same()
+    ensures { ImageAssignsTheSame }
+{}
+
+/// The binary image of a well-formed circuit means the same as the circuit.
+pub fn image_means_the_same()
+    ensures { ImageMeansTheSame }
+{}
+
+/// The binary image of a well-formed circuit has exactly the circuit's traces.
+pub fn image_keeps_traces()
+    ensures { ImageKeepsTraces }
 {}

@@ -1,8 +1,11 @@
 -- What the definitions of this crate say of one another.
 use Rattle.std.specs.Prelude.{◌≡◌, ◌↔◌, ◌++◌, ℕ, List, Some, Ok}
 use Rattle.aig_core.specs.declared.circuit.Circuit.{Circuit}
+use Rattle.aig_core.specs.declared.value.Val.{Val}
 use Rattle.aig_core.specs.Wellformed.{IsWellFormed}
 use Rattle.aig_core.specs.BinaryOrder.{IsInBinaryOrder}
+use Rattle.aig_meaning.specs.Meaning.{MeansTheSame, Row}
+use Rattle.aig_meaning.specs.Trace.{IsTrace}
 use Rattle.aig_order.specs.declared.map_block.MapBlock.{MapBlock}
 use Rattle.aig_order.specs.MapBlock.{block_text, IsMappedImage}
 use Rattle.aig_order.specs.MapReading.{block_reading, HasCountsOf, IsWithinBounds}
@@ -30,3 +33,23 @@ abbrev pub BlocksAreReadExactly : Type 0
 BlocksAreReadExactly = (x : Circuit) (b : MapBlock) (rest : List ℕ)
     → (block_reading x ≡ Ok (b, rest))
     ↔ ((x.comment ≡ Some (block_text b ++ rest)) × HasCountsOf b x × IsWithinBounds b)
+
+-- the mapped image of a well-formed circuit means the same as the circuit
+abbrev pub MappedImageMeansTheSame : Type 0
+MappedImageMeansTheSame = (c image : Circuit) → IsWellFormed c → IsMappedImage c image → MeansTheSame c image
+
+-- so it has exactly the circuit's traces
+abbrev pub MappedImageKeepsTraces : Type 0
+MappedImageKeepsTraces = (c image : Circuit) → IsWellFormed c → IsMappedImage c image
+    → (first : List Val) (vectors : List (List Val)) (rows : List Row)
+    → IsTrace c first vectors rows ↔ IsTrace image first vectors rows
+
+-- the circuit that is undone means the same as the one from which it is
+abbrev pub UndoneMeansTheSame : Type 0
+UndoneMeansTheSame = (x c : Circuit) → IsUndoneFrom x c → MeansTheSame c x
+
+-- so it has exactly its traces
+abbrev pub UndoneKeepsTraces : Type 0
+UndoneKeepsTraces = (x c : Circuit) → IsUndoneFrom x c
+    → (first : List Val) (vectors : List (List Val)) (rows : List Row)
+    → IsTrace c first vectors rows ↔ IsTrace x first vectors rows

@@ -1,10 +1,13 @@
 //! Laws: facts about the definitions alone, each the contract of a function with an empty body.
 ghost use Rattle.aig_order.specs.Laws.{BlocksAreReadExactly, MappedImageIsOne, UndoingRecovers};
 ghost use Rattle.aig_order.specs.Laws.{OnlyMappedImagesAreUndone};
+ghost use Rattle.aig_order.specs.Laws.{MappedImageMeansTheSame, MappedImageKeepsTraces};
+ghost use Rattle.aig_order.specs.Laws.{UndoneMeansTheSame, UndoneKeepsTraces};
 
 pub use aig_image::laws::{
-    image_is_one, image_is_ordered, ordered_gates_are_taken_as_they_stand,
-    ordered_is_its_own_image, renumbering_is_one_to_one,
+    image_assigns_the_same, image_is_one, image_is_ordered, image_keeps_traces,
+    image_means_the_same, ordered_gates_are_taken_as_they_stand, ordered_is_its_own_image,
+    renamed_means_the_same, renumbering_is_one_to_one,
 };
 
 /// A well-formed circuit has exactly one mapped image, which is well formed and in binary order.
@@ -26,4 +29,24 @@ pub fn only_mapped_images_are_undone()
 /// within bounds, and its counts are those of the circuit.
 pub fn blocks_are_read_exactly()
     ensures { BlocksAreReadExactly }
+{}
+
+/// The mapped image of a well-formed circuit means the same as the circuit.
+pub fn mapped_image_means_the_same()
+    ensures { MappedImageMeansTheSame }
+{}
+
+/// The mapped image of a well-formed circuit has exactly the circuit's traces.
+pub fn mapped_image_keeps_traces()
+    ensures { MappedImageKeepsTraces }
+{}
+
+/// The circuit that is undone means the same as the one from which it is undone.
+pub fn undone_means_the_same()
+    ensures { UndoneMeansTheSame }
+{}
+
+/// The circuit that is undone has exactly the traces of the one from which it is undone.
+pub fn undone_keeps_traces()
+    ensures { UndoneKeepsTraces }
 {}

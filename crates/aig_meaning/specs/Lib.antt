@@ -1,0 +1,4 @@
+pub mod Meaning
+pub mod Trace
+pub mod Completion
+pub mod Laws
