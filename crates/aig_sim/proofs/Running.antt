@@ -1,0 +1,4 @@
+-- How a circuit is run.
+pub mod Cells
+pub mod Tables
+pub mod Machines

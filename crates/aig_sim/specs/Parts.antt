@@ -1,0 +1,9 @@
+pub mod Progress
+pub mod Seen
+pub mod Cells
+pub mod Tables
+pub mod Machines
+pub mod Simulators
+pub mod Lines
+pub mod Tracing
+pub mod Streaming

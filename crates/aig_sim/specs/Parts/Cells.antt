@@ -1,0 +1,28 @@
+-- Values as bytes, and tables of values as bytes: the byte of each value, and behind it that of its negation, so that a
+-- literal is the place of its own byte.
+use Rattle.std.specs.Prelude.{◌≡◌, ◌==◌, ℕ, List, [], ◌∷◌, if◌then◌else◌}
+use Rattle.aig_core.specs.declared.value.Val.{Val}
+use Rattle.aig_core.specs.declared.value.Val.TheVariants.{Zero, One, X}
+use Rattle.aig_core.specs.Values.{value_not}
+
+-- the bytes are such that the bitwise and of two is that of their `and`
+abbrev pub code_of : Val → ℕ
+code_of Zero = 0
+code_of One = 3
+code_of X = 1
+
+abbrev pub value_of : ℕ → Val
+value_of byte = if byte == 0 then Zero else if byte == 1 then X else One
+
+abbrev pub bytes_of : List Val → List ℕ
+bytes_of [] = []
+bytes_of (v ∷ vs) = code_of v ∷ code_of (value_not v) ∷ bytes_of vs
+
+abbrev pub values_of : List ℕ → List Val
+values_of [] = []
+values_of (byte ∷ []) = []
+values_of (byte ∷ negation ∷ bytes) = value_of byte ∷ values_of bytes
+
+-- the bytes are those of a table
+abbrev pub AreCodes : List ℕ → Type 0
+AreCodes bytes = bytes_of (values_of bytes) ≡ bytes

@@ -1,0 +1,20 @@
+//! The simulator: steps of a circuit, and the trace text of a stimulus.
+#![tactic(auto)]
+
+mod cells;
+mod evaluate;
+mod fault;
+mod kept;
+pub mod laws;
+mod machine;
+mod reader;
+mod simulator;
+mod stimulus;
+mod stream;
+mod trace;
+mod tracer;
+
+pub use crate::fault::SimFault;
+pub use crate::simulator::{Row, Simulator};
+pub use crate::stream::simulate;
+pub use crate::trace::Columns;

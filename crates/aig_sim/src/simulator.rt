@@ -1,0 +1,159 @@
+//! The simulator.
+ghost use Rattle.std.specs.Prelude.{◌≡◌, ◌+◌, length, IfOk, IfErr};
+ghost use Rattle.aig_meaning.specs.Meaning.{MeansTheSame};
+ghost use Rattle.aig_sim.specs.declared.fault.SimFault.TheVariants as faults;
+ghost use Rattle.aig_sim.specs.Simulating.{IsReset, Stepped};
+ghost use Rattle.aig_sim.specs.Showing.{Shows};
+
+use crate::cells::Table;
+use crate::fault::SimFault;
+use crate::machine::Machine;
+use aig_core::{Checked, OutOfMemory, Val};
+use std::alloc::Global;
+use std::marker::Model;
+use std::mem;
+
+/// What can be seen of a step beside its inputs, list by list in the circuit's order.
+#[derive(Clone, Copy)]
+pub struct Row<'a> {
+    /// The state before the step.
+    pub state: &'a [Val],
+    /// The values of the outputs.
+    pub outputs: &'a [Val],
+    /// The state behind the step.
+    pub next: &'a [Val],
+    /// The values of bad states.
+    pub bad: &'a [Val],
+    /// The values of constraints.
+    pub constraints: &'a [Val],
+}
+
+/// A circuit that is run step by step.
+#[derive(Drop)]
+pub struct Simulator {
+    machine: Machine,
+    /// A place for the value of each variable.
+    values: Table,
+    /// The state before the next step.
+    state: Vec<Val>,
+    /// Whether a step was taken since the reset. What the last one showed is below; its next state is above.
+    is_stepped: bool,
+    before: Vec<Val>,
+    given: Vec<Val>,
+    outputs: Vec<Val>,
+    bad: Vec<Val>,
+    constraints: Vec<Val>,
+}
+
+impl Model for Simulator {
+    ghost use Rattle.aig_sim.specs.Simulating.{Simulation};
+
+    ghost Value = { Simulation };
+
+    ghost use Rattle.aig_sim.specs.Parts.Simulators.{HasRoom, simulation_of};
+
+    ghost view = { simulation_of };
+
+    ghost invariant = { HasRoom };
+}
+
+impl Simulator {
+    /// A simulator of what the machine runs, with all room that it needs.
+    fn with_room(alloc: Global, machine: Machine) -> Result<Self, OutOfMemory>
+        ensures { IfOk result (λ s. s.circuit ≡ machine) }
+    {
+        let parts = machine.parts();
+        let values = Table::new(alloc, 1 + parts.max_var as usize)?;
+        let state = vec![in alloc; Val::Zero; parts.latches.len()]?;
+        let before = vec![in alloc; Val::Zero; parts.latches.len()]?;
+        let given = vec![in alloc; Val::Zero; parts.inputs.len()]?;
+        let outputs = vec![in alloc; Val::Zero; parts.outputs.len()]?;
+        let bad = vec![in alloc; Val::Zero; parts.bad.len()]?;
+        let constraints = vec![in alloc; Val::Zero; parts.constraints.len()]?;
+        Ok(Simulator {
+            machine,
+            values,
+            state,
+            is_stepped: false,
+            before,
+            given,
+            outputs,
+            bad,
+            constraints,
+        })
+    }
+
+    fn build(alloc: Global, checked: &Checked) -> Result<Self, OutOfMemory>
+        ensures same { IfOk result (λ s. MeansTheSame checked.now s.circuit) }
+        ensures reset { IfOk result IsReset }
+    {
+        let machine = Machine::new(alloc, checked)?;
+        let mut simulator = Simulator::with_room(alloc, machine)?;
+        simulator.reset();
+        Ok(simulator)
+    }
+
+    /// A simulator of the circuit, in the reset state. All room that it needs is made here.
+    pub fn new(alloc: Global, checked: &Checked) -> Result<Self, SimFault>
+        ensures same { IfOk result (λ s. MeansTheSame checked.now s.circuit) }
+        ensures reset { IfOk result IsReset }
+        ensures err { IfErr result (λ e. e ≡ faults.OutOfMemory) }
+    {
+        match Simulator::build(alloc, checked) {
+            Ok(simulator) => Ok(simulator),
+            Err(_refused) => Err(SimFault::OutOfMemory),
+        }
+    }
+
+    /// How many inputs the circuit has.
+    pub fn inputs(&self) -> usize
+        ensures { result ≡ length self.now.circuit.inputs }
+    {
+        self.given.len()
+    }
+
+    /// Back to the reset state.
+    pub fn reset(&mut self)
+        ensures reset { IsReset self.new }
+        ensures circuit { self.new.circuit ≡ self.old.circuit }
+    {
+        self.machine.put_reset_state(&mut self.state);
+        self.is_stepped = false;
+    }
+
+    /// Takes a step with these inputs, one value for each in the circuit's order.
+    pub fn step(&mut self, given: &[Val])
+        requires { length given.now ≡ length self.old.circuit.inputs }
+        ensures { Stepped self.old self.new given.now }
+    {
+        self.given.copy_from_slice(given);
+        self.machine.step(
+            given,
+            &self.state,
+            &mut self.values,
+            &mut self.before,
+            &mut self.outputs,
+            &mut self.bad,
+            &mut self.constraints,
+        );
+        mem::swap(&mut self.state, &mut self.before);
+        self.is_stepped = true;
+    }
+
+    /// What the last step showed; `None` where none was taken since the reset.
+    pub fn row(&self) -> Option<Row<'_>>
+        ensures { Shows result self.now.row }
+    {
+        if self.is_stepped {
+            Some(Row {
+                state: &self.before,
+                outputs: &self.outputs,
+                next: &self.state,
+                bad: &self.bad,
+                constraints: &self.constraints,
+            })
+        } else {
+            None
+        }
+    }
+}

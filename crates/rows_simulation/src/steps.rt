@@ -1,0 +1,117 @@
+//! Steps of a simulator.
+use crate::values::value_of;
+use aig_core::Val;
+use aig_sim::Simulator;
+use aig_text::{Limits, read_ascii};
+use std::alloc::{AllocError, Global};
+use std::test::Fail;
+
+/// Circuits, and what their steps show, a line each: state, inputs, outputs, next state, bad states and constraints. A
+/// line `.` is a reset.
+const STEPS: &str = "\
+aag 1 0 1 2 0
+2 3
+2
+3
+=0  01 1  
+1  10 0  
+.
+0  01 1  
+#aag 2 1 1 1 0 1 1
+2
+4 2 1
+4
+5
+2
+=1 0 1 0 0 0
+0 x 0 x 1 x
+x 1 x 1 x 1
+.
+1 1 1 1 0 1
+#aag 3 1 1 1 1 1
+2
+4 6 4
+6
+4
+6 4 3
+=x 0 x x x 
+x 1 0 0 x 
+0 0 0 0 0 
+.
+x x x x x ";
+
+/// The values of characters.
+fn values_of(alloc: Global, text: &str) -> Result<Vec<Val>, AllocError> {
+    let mut values = Vec::new(alloc);
+    for byte in text.as_bytes() {
+        values.push(value_of(*byte))?;
+    }
+    Ok(values)
+}
+
+/// Whether the values are those of the characters.
+fn are(values: &[Val], text: &str) -> bool {
+    let mut bytes = text.as_bytes();
+    for value in values {
+        let [byte, rest @ ..] = bytes else {
+            return false;
+        };
+        if *value != value_of(*byte) {
+            return false;
+        }
+        bytes = rest;
+    }
+    bytes.is_empty()
+}
+
+/// The column at this place of a row.
+fn column(row: &str, at: usize) -> &str {
+    row.split(' ').nth(at).unwrap_or("")
+}
+
+/// Whether the simulator shows the row.
+fn shows(simulator: &Simulator, row: &str) -> bool {
+    match simulator.row() {
+        Some(shown) => {
+            are(shown.state, column(row, 0))
+                && are(shown.outputs, column(row, 2))
+                && are(shown.next, column(row, 3))
+                && are(shown.bad, column(row, 4))
+                && are(shown.constraints, column(row, 5))
+        }
+        None => false,
+    }
+}
+
+/// A simulator of the circuit of a text, before its first step.
+fn simulator_of(alloc: Global, text: &str) -> Result<Simulator, Fail> {
+    let circuit = read_ascii(alloc, text.as_bytes(), Limits::default())?;
+    Ok(Simulator::new(alloc, &circuit)?)
+}
+
+/// Takes a step, or goes back to the reset state, and answers whether the row is shown then.
+fn takes(alloc: Global, simulator: &mut Simulator, row: &str) -> Result<bool, Fail> {
+    if row == "." {
+        simulator.reset();
+        return Ok(simulator.row().is_none());
+    }
+    let given = values_of(alloc, column(row, 1))?;
+    if given.len() != simulator.inputs() {
+        return Ok(false);
+    }
+    simulator.step(given.as_slice());
+    Ok(shows(simulator, row))
+}
+
+#[test]
+fn steps(rt: HostRuntime) -> Result<(), Fail> {
+    for table in STEPS.split('#') {
+        let (text, rows) = table.split_once('=').ok_or("a table has rows")?;
+        let mut simulator = simulator_of(rt.alloc(), text)?;
+        assert!(rt; simulator.row().is_none(), "{text}");
+        for row in rows.lines() {
+            assert!(rt; takes(rt.alloc(), &mut simulator, row)?, "{row}");
+        }
+    }
+    Ok(())
+}
