@@ -35,6 +35,7 @@ is_command : (words : List Text) (o : Option Asked) (r : Result Command Usage) �
     → is_some o ≡ true → Answers o r → IfOk r (IsCommand words)
 is_command words None r is some h = absurd (true≢false (sym some))
 is_command words (Some asked) (Ok (commands.ToAig request)) is some h = is ∙ ap Some h
+is_command words (Some asked) (Ok (commands.Sim request)) is some h = is ∙ ap Some h
 is_command words (Some asked) (Ok (commands.Help text)) is some h = absurd h
 is_command words (Some asked) (Err reason) is some h = tt
 
@@ -47,6 +48,7 @@ is_usage words (Some asked) (Err (usage.Words text)) is some h = absurd h
 is_usage words (Some asked) (Err usage.KeepMapNeedsBinary) is some h = is ∙ ap Some h
 is_usage words (Some asked) (Err usage.KeepMapExcludesStrip) is some h = is ∙ ap Some h
 is_usage words (Some asked) (Err usage.KeepMapExcludesUndoMap) is some h = is ∙ ap Some h
+is_usage words (Some asked) (Err usage.BothStandardInput) is some h = is ∙ ap Some h
 is_usage words (Some asked) (Err usage.CompressedOutput) is some h = is ∙ ap Some h
 
 module _ (words : List Text) (m : ArgMatches) (h : HasMatchesOf aiger words m) (e : faults words ≡ []) where
@@ -95,6 +97,7 @@ module _ (words : List Text) (kind : ErrorKind) (passes : takes aiger words ≡ 
   refused_command (Ok (commands.Help text)) h =
       (subst (IsWrong words) h.0 (is_wrong (help_is_no_memory kind h.0)), h.1)
   refused_command (Ok (commands.ToAig request)) h = absurd h
+  refused_command (Ok (commands.Sim request)) h = absurd h
   refused_command (Err reason) h = tt
 
   pub refused_usage : (r : Result Command Usage) → IsErrorAnswer kind words r → IfErr r (IsUsage words)
@@ -104,6 +107,7 @@ module _ (words : List Text) (kind : ErrorKind) (passes : takes aiger words ≡ 
   refused_usage (Err usage.KeepMapNeedsBinary) h = absurd h
   refused_usage (Err usage.KeepMapExcludesStrip) h = absurd h
   refused_usage (Err usage.KeepMapExcludesUndoMap) h = absurd h
+  refused_usage (Err usage.BothStandardInput) h = absurd h
   refused_usage (Err usage.CompressedOutput) h = absurd h
 
 -- ---- an argument that asks for help

@@ -27,10 +27,19 @@ to_aig = with_rules (new_app (codes "aigtoaig"))
     (flag (codes "ascii") ∷ flag (codes "strip") ∷ flag (codes "keep-map") ∷ flag (codes "undo-map")
     ∷ max_var ∷ new_rule (codes "source") ∷ new_rule (codes "destination") ∷ [])
 
+-- the name of a file that has to be given
+abbrev pub required_file : Text → Rule
+required_file name = record (new_rule name) { required = true }
+
+-- `aigsim`: its options in any order, then the names of the model and of the stimulus, by place
+abbrev pub aigsim : App
+aigsim = with_rules (new_app (codes "aigsim"))
+    (flag (codes "properties") ∷ max_var ∷ required_file (codes "model") ∷ new_rule (codes "stimulus") ∷ [])
+
 -- a command that has to be given a subcommand, and has none for help
 abbrev pub above : App → App
 above a = record a { top = record a.top { subcommand_required = true; disable_help_subcommand = true } }
 
 -- the program, with its subcommands
 abbrev pub aiger : App
-aiger = with_subcommand (above (new_app (codes "aiger"))) to_aig.top
+aiger = with_subcommand (with_subcommand (above (new_app (codes "aiger"))) to_aig.top) aigsim.top

@@ -1,6 +1,6 @@
 -- What is answered to a command line (this project's profile).
-use Rattle.std.specs.Prelude.{◌≡◌, ◌≢◌, ◌||◌, List, Bool, true, false, drop, map, nat_eq, Option, Some, option_map}
-use Rattle.std.specs.Prelude.{Result, Ok, Err, codes, String, string_bytes, ⊤}
+use Rattle.std.specs.Prelude.{◌≡◌, ◌≢◌, ◌||◌, List, Bool, true, false, drop, map, nat_eq, Option, Some, None}
+use Rattle.std.specs.Prelude.{Result, Ok, Err, codes, option_map, String, string_bytes, ⊤}
 use Rattle.std.specs.Global.{Global}
 use Rattle.std.specs.List.{list_any, starts_with}
 use Rattle.std.specs.Str.{bytes_eq}
@@ -8,7 +8,8 @@ use Rattle.clap.specs.Words.{IsAmong, Text, takes}
 use Rattle.clap.specs.declared.error.kind.ErrorKind.{ErrorKind}
 use Rattle.clap.specs.declared.error.kind.ErrorKind.TheVariants.{DisplayHelp, OutOfMemory}
 use Rattle.aig_command.specs.Aiger.{aiger}
-use Rattle.aig_command.specs.Asked.{Asked, Conversion, command_of, converts, faults, refused}
+use Rattle.aig_command.specs.Asked.{Asked, Conversion, Simulation, command_of, converts, faults, refused, simulates}
+use Rattle.aig_command.specs.declared.request.Sim.{Sim}
 use Rattle.aig_command.specs.declared.request.ToAig.{ToAig}
 use Rattle.aig_command.specs.declared.request.Command.{Command}
 use Rattle.aig_command.specs.declared.request.Command.TheVariants as commands
@@ -35,6 +36,15 @@ conversion_of request = record {
   destination = name_of request.destination;
 }
 
+-- the simulation that a request is for
+abbrev pub simulation_of : Sim → Simulation
+simulation_of request = record {
+  properties = request.properties;
+  max_var = request.max_var;
+  model = name_of request.model;
+  stimulus = name_of request.stimulus;
+}
+
 -- the argument asks for help
 abbrev pub is_help : Text → Bool
 is_help word = bytes_eq word (codes "--help") || starts_with nat_eq word (codes "-h")
@@ -50,6 +60,7 @@ IsWrong words kind = IsAmong kind (faults words) × (takes aiger words ≡ false
 -- the command is what the arguments ask for
 abbrev pub IsCommand : List Text → Command → Type 0
 IsCommand words (commands.ToAig request) = command_of words ≡ Some (converts (conversion_of request))
+IsCommand words (commands.Sim request) = command_of words ≡ Some (simulates (simulation_of request))
 IsCommand words (commands.Help text) = IsWrong words DisplayHelp × (asks_for_help words ≡ true)
 
 -- the arguments are refused for this reason
@@ -64,9 +75,14 @@ abbrev pub IsKeptAlone : ToAig → Type 0
 IsKeptAlone request =
     request.keep_map ≡ true → (request.ascii ≡ false) × (request.strip ≡ false) × (request.undo_map ≡ false)
 
+-- The standard input gives the model, or the stimulus, or neither, but never both.
+abbrev pub HasOneStandardInput : Sim → Type 0
+HasOneStandardInput request = name_of request.model ≡ None → name_of request.stimulus ≡ None → ⊥
+
 -- what the command asks for can be done
 abbrev pub CanDo : Command → Type 0
 CanDo (commands.ToAig request) = IsKeptAlone request
+CanDo (commands.Sim request) = HasOneStandardInput request
 CanDo (commands.Help text) = ⊤
 
 -- What is answered where `clap` answers with an error of this kind. Only private functions cite it.
@@ -80,6 +96,7 @@ IsErrorAnswer kind words answer = ⊥
 -- What is answered to arguments that ask for this. Only private functions cite it.
 abbrev pub IsAnswer : Asked → Result Command Usage → Type 0
 IsAnswer asked (Ok (commands.ToAig request)) = asked ≡ converts (conversion_of request)
+IsAnswer asked (Ok (commands.Sim request)) = asked ≡ simulates (simulation_of request)
 IsAnswer asked (Err usage.OutOfMemory) = ⊤
 IsAnswer asked (Err (usage.Words text)) = ⊥
 IsAnswer asked (Err reason) = asked ≡ refused reason

@@ -1,6 +1,7 @@
 -- What a command line asks for that `clap` takes (this project's profile).
 use Rattle.std.specs.Prelude.{ℕ, List, [], ◌∷◌, ◌==◌, ◌&&◌, ◌||◌, ◌^◌, Bool, false, length, nat_lt, nat_eq}
-use Rattle.std.specs.Prelude.{Option, Some, None, unwrap_or, option_and_then, option_map, find, codes, if◌then◌else◌}
+use Rattle.std.specs.Prelude.{Option, Some, None, is_some, unwrap_or, option_and_then, option_map, find}
+use Rattle.std.specs.Prelude.{codes, if◌then◌else◌}
 use Rattle.std.specs.List.{ends_with, list_all}
 use Rattle.std.specs.Option.{option_map_or}
 use Rattle.std.specs.Char.{digit_value}
@@ -67,18 +68,44 @@ refusal c =
     else if ends_in (codes ".gz") c.destination then Some usage.CompressedOutput
     else None
 
+-- a simulation: of which model, on which stimulus, and how
+pub record Simulation : Type 0 where
+  pub properties : Bool
+  pub max_var : ℕ
+  pub model : Option Text
+  pub stimulus : Option Text
+
+-- the simulation that the arguments of `aigsim` name
+abbrev pub simulation : List Row → Simulation
+simulation rows = record {
+  properties = is_set (codes "properties") rows;
+  max_var = limit rows;
+  model = file (codes "model") rows;
+  stimulus = file (codes "stimulus") rows;
+}
+
+-- the reason to refuse a simulation: the standard input is one stream, and cannot give two files
+abbrev pub simulation_refusal : Simulation → Option Usage
+simulation_refusal s =
+    if is_some s.model || is_some s.stimulus then None else Some usage.BothStandardInput
+
 -- what is asked for, or why that is refused
 pub data Asked : Type 0 where
   converts : Conversion → Asked
+  simulates : Simulation → Asked
   refused : Usage → Asked
 
 -- what the arguments of `aigtoaig` ask for
 abbrev pub to_aig : List Row → Asked
 to_aig rows = option_map_or refused (refusal (conversion rows)) (converts (conversion rows))
 
+-- what the arguments of `aigsim` ask for
+abbrev pub aigsim : List Row → Asked
+aigsim rows = option_map_or refused (simulation_refusal (simulation rows)) (simulates (simulation rows))
+
 -- each subcommand: its name, and what its arguments ask for
 abbrev pub subcommands : List (Text × (List Row → Asked))
-subcommands = (codes "aigtoaig", to_aig) ∷ []
+subcommands = (codes "aigtoaig", to_aig) ∷ (codes "aigsim", aigsim) ∷ []
 
 -- what the subcommand of this name with these arguments asks for
 abbrev pub asked_by : Text × List Row → Option Asked

@@ -8,5 +8,6 @@ usage_words (usages.Words text) = string_bytes text
 usage_words usages.KeepMapNeedsBinary = codes "--keep-map needs binary output"
 usage_words usages.KeepMapExcludesStrip = codes "--keep-map excludes --strip"
 usage_words usages.KeepMapExcludesUndoMap = codes "--keep-map excludes --undo-map"
+usage_words usages.BothStandardInput = codes "model and stimulus are both standard input"
 usage_words usages.CompressedOutput = codes "compressed output is not supported"
 usage_words usages.OutOfMemory = codes "out of memory"

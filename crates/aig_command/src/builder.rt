@@ -2,7 +2,7 @@
 ghost use Rattle.std.specs.Prelude.{◌≡◌, IfOk, false};
 ghost use Rattle.clap.specs.Words.{app_of, new_app, new_rule, rule_of};
 ghost use Rattle.clap.specs.declared.builder.command.Command.TheViews.{out-Command as fields_of};
-ghost use Rattle.aig_command.specs.Aiger.{aiger, flag, max_var, to_aig};
+ghost use Rattle.aig_command.specs.Aiger.{aiger, aigsim, flag, max_var, required_file, to_aig};
 
 use clap::{Arg, ArgAction, Command, value_parser};
 use std::alloc::{AllocError, Global};
@@ -30,12 +30,44 @@ Examples:
   aiger aigtoaig --keep-map model.aag image.aig   to binary, with a map
   aiger aigtoaig --undo-map image.aig again.aag   undone by that map";
 
+const SIM_ABOUT: &str = "Simulate a circuit, step by step";
+
+const SIM_AFTER: &str = "\
+Each line of the stimulus is a step, with one character for each input: 0, 1,
+or x for a value that is not known. A line of one dot ends a run. The line
+after it begins the next run, with each latch at its reset again.
+
+The trace goes to the standard output, one line for each step: the values of
+the latches, of the inputs, of the outputs, and of the latches in the next
+step, with a space between. With --properties those of the bad states and of
+the constraints follow. A latch without initial value starts at x. A line of
+one dot stands at the end of each run.
+
+A line of the trace is written as soon as its step is known. If a later line of
+the stimulus is refused, what was written stands.
+
+Exit status:
+  0  done, also for --help
+  1  the model or the stimulus was refused, a file or stream failed, or memory
+     ran out
+  2  the command line was refused
+
+Examples, of a model with two inputs:
+  printf '10\\n1x\\n' | aiger aigsim model.aag       one run of two steps
+  printf '10\\n.\\n1x\\n' > steps.txt                 two runs of one step
+  aiger aigsim --properties model.aag steps.txt    with properties
+  aiger aigsim - steps.txt < model.aag             the model from a stream";
+
+const PROPERTIES_HELP: &str = "\
+Show bad states and constraints too, behind the rest of
+each line";
+
 const KEEP_MAP_HELP: &str = "\
 Keep a map of the renumbering in the comment, so that
 --undo-map can give the source back; binary output only";
 
 const MAX_VAR_HELP: &str = "\
-Refuse a source with an index or a count above N:
+Refuse a circuit with an index or a count above N:
 0 to 2147483647, which is also the default";
 
 /// A command with its texts, before its arguments.
@@ -78,6 +110,14 @@ fn file<'a>(alloc: Global, name: &'a str, help: &'a str) -> Arg<'a>
     Arg::new(alloc, name).help(help)
 }
 
+/// The name of a file that has to be given.
+fn required_file<'a>(alloc: Global, name: &'a str, help: &'a str) -> Arg<'a>
+    ensures rule { rule_of result ≡ required_file name.now }
+    ensures local { result.global ≡ false }
+{
+    Arg::new(alloc, name).required(true).help(help)
+}
+
 /// `aigtoaig`.
 fn to_aig<'a>(alloc: Global) -> Result<Command<'a>, AllocError>
     ensures app { IfOk result (λ c. app_of c ≡ to_aig) }
@@ -110,6 +150,27 @@ fn to_aig<'a>(alloc: Global) -> Result<Command<'a>, AllocError>
     Ok(command)
 }
 
+/// `aigsim`.
+fn aigsim<'a>(alloc: Global) -> Result<Command<'a>, AllocError>
+    ensures app { IfOk result (λ c. app_of c ≡ aigsim) }
+    ensures local { IfOk result (λ c. (fields_of c).has_globals ≡ false) }
+{
+    let command = command(alloc, "aigsim", SIM_ABOUT, SIM_AFTER)
+        .arg(flag(alloc, "properties", PROPERTIES_HELP))?
+        .arg(max_var(alloc))?
+        .arg(required_file(
+            alloc,
+            "model",
+            "The circuit's file; - is the standard input",
+        ))?
+        .arg(file(
+            alloc,
+            "stimulus",
+            "The file of the steps; - or none is the standard input",
+        ))?;
+    Ok(command)
+}
+
 /// The program, with its subcommands.
 pub(crate) fn aiger<'a>(alloc: Global) -> Result<Command<'a>, AllocError>
     ensures { IfOk result (λ c. app_of c ≡ aiger) }
@@ -118,6 +179,7 @@ pub(crate) fn aiger<'a>(alloc: Global) -> Result<Command<'a>, AllocError>
         .bin_name("aiger")?
         .subcommand_required(true)
         .disable_help_subcommand(true)
-        .subcommand(to_aig(alloc)?)?;
+        .subcommand(to_aig(alloc)?)?
+        .subcommand(aigsim(alloc)?)?;
     Ok(command)
 }

@@ -2,11 +2,13 @@
 #![tactic(auto)]
 
 mod builder;
+mod options;
 mod reader;
 mod request;
+mod sim;
 mod to_aig;
 mod usage;
 
 pub use crate::reader::command;
-pub use crate::request::{Command, ToAig};
+pub use crate::request::{Command, Sim, ToAig};
 pub use crate::usage::Usage;

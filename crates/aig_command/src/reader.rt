@@ -10,6 +10,7 @@ ghost use Rattle.aig_command.specs.Asked.{asked_by, faults};
 
 use crate::builder::aiger;
 use crate::request::Command;
+use crate::sim::aigsim;
 use crate::to_aig::to_aig;
 use crate::usage::Usage;
 use clap::error::ErrorKind;
@@ -37,6 +38,7 @@ fn asked(alloc: Global, matches: &ArgMatches<'_>) -> Result<Command, Usage>
     };
     match name {
         "aigtoaig" => to_aig(alloc, words),
+        "aigsim" => aigsim(alloc, words),
         _ => unreachable!(),
     }
 }

@@ -20,11 +20,26 @@ pub struct ToAig {
     pub destination: Option<String>,
 }
 
+/// A simulation of a circuit.
+#[derive(Drop)]
+pub struct Sim {
+    /// Whether a line of the trace shows bad states and constraints too.
+    pub properties: bool,
+    /// The limit on the largest variable index and the counts of the model.
+    pub max_var: u32,
+    /// The model's name; `None` is the standard input.
+    pub model: Option<String>,
+    /// The stimulus's name; `None` is the standard input. This or the model is a file with a name.
+    pub stimulus: Option<String>,
+}
+
 /// What a command line asks for.
 #[derive(Drop)]
 pub enum Command {
     /// `aigtoaig`.
     ToAig(ToAig),
+    /// `aigsim`.
+    Sim(Sim),
     /// Help; this is its text.
     Help(String),
 }

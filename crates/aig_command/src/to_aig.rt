@@ -3,41 +3,13 @@ ghost use Rattle.std.specs.Prelude.{◌≡◌, IfErr, IfOk, None, nat_eq, OnOk, 
 ghost use Rattle.std.specs.List.{ends_with};
 ghost use Rattle.clap.specs.Words.{found_of, rows_of};
 ghost use Rattle.aig_command.specs.Answer.{CanDo, conversion_of, IsAnswer, IsKeptAlone, IsReason, name_of};
-ghost use Rattle.aig_command.specs.Asked.{conversion, ends_in, file, is_set, limit, refusal, to_aig};
+ghost use Rattle.aig_command.specs.Asked.{conversion, ends_in, refusal, to_aig};
 
+use crate::options::{file, is_set, limit};
 use crate::request::{Command, ToAig};
 use crate::usage::Usage;
-use aig_core::LARGEST;
 use clap::ArgMatches;
 use std::alloc::{AllocError, Global};
-
-/// Whether the option is given.
-fn is_set(matches: &ArgMatches<'_>, name: &str) -> bool
-    ensures { result ≡ is_set name.now (rows_of (found_of matches.now)) }
-{
-    // The contract of `get_flag` is silent on a text that is neither `true` nor `false`.
-    matches.get_one::<bool>(name).unwrap_or(false)
-}
-
-/// The limit that `--max-var` sets.
-fn limit(matches: &ArgMatches<'_>) -> u32
-    ensures { result ≡ limit (rows_of (found_of matches.now)) }
-{
-    matches.get_one::<u32>("max-var").unwrap_or(LARGEST)
-}
-
-/// The file that is named at this place; no name, or `-`, is the standard stream.
-fn file(alloc: Global, matches: &ArgMatches<'_>, place: &str) -> Result<Option<String>, AllocError>
-    ensures { IfOk result (λ named. name_of named ≡ file place.now (rows_of (found_of matches.now))) }
-{
-    let Some(name) = matches.get_str(place) else {
-        return Ok(None);
-    };
-    if name == "-" {
-        return Ok(None);
-    }
-    Ok(Some(String::from_str(alloc, name)?))
-}
 
 /// Whether the name has this ending.
 fn has_ending(name: &str, ending: &str) -> bool

@@ -18,6 +18,8 @@ pub enum Usage {
     KeepMapExcludesStrip,
     /// A map is undone, and none is kept by that.
     KeepMapExcludesUndoMap,
+    /// A simulation reads both its model and its stimulus from the standard input.
+    BothStandardInput,
     /// The destination's name is that of a compressed file.
     CompressedOutput,
     /// An allocation failed; nothing is known of the command line.
@@ -34,6 +36,7 @@ impl Usage {
             Usage::KeepMapNeedsBinary => "--keep-map needs binary output",
             Usage::KeepMapExcludesStrip => "--keep-map excludes --strip",
             Usage::KeepMapExcludesUndoMap => "--keep-map excludes --undo-map",
+            Usage::BothStandardInput => "model and stimulus are both standard input",
             Usage::CompressedOutput => "compressed output is not supported",
             Usage::OutOfMemory => "out of memory",
         }

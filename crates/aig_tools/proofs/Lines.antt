@@ -5,12 +5,11 @@ use Rattle.std.specs.Io.KnownBytes.{Appends}
 use Rattle.aig_io.specs.Output.{Out, Put}
 use Rattle.aig_io.specs.Transfer.{TookBeginning}
 use Rattle.aig_io.proofs.Puts.{beginning_sent, put_twice}
-use Rattle.aig_command.specs.declared.request.ToAig.{ToAig}
-use Rattle.aig_tools.specs.Blame.{Party, TheSource, TheSink, Memory, TheInput}
+use Rattle.aig_tools.specs.Blame.{Party, TheSource, TheSink, Memory, TheInput, TheStimulus, TheSteps}
 use Rattle.aig_command.specs.Words.{usage_words}
 use Rattle.aig_command.specs.declared.usage.Usage.{Usage}
 use Rattle.aig_command.specs.declared.usage.Usage.TheVariants as usages
-use Rattle.aig_tools.specs.Messages.{line_about, line_of, name_at, usage_text}
+use Rattle.aig_tools.specs.Messages.{line_about, line_of, usage_text}
 
 module _ {W : Type 0} where
   -- an output of a text was finished, and the sink did not fail
@@ -47,12 +46,14 @@ module _ {W : Type 0} where
       inl (taken_by o a b c line same start put sent empty end)
 
 -- where memory was not refused, the line names the file
-pub line_of_a_file : (request : ToAig) (party : Party) (text : List ℕ) → ¬ (party ≡ Memory)
-    → line_about request party text ≡ line_of (name_at request party) (codes ": " ++ text)
-line_of_a_file request TheSource text other = refl
-line_of_a_file request TheSink text other = refl
-line_of_a_file request TheInput text other = refl
-line_of_a_file request Memory text other = absurd (other refl)
+pub line_of_a_file : (name : List ℕ) (party : Party) (text : List ℕ) → ¬ (party ≡ Memory)
+    → line_about name party text ≡ line_of name (codes ": " ++ text)
+line_of_a_file name TheSource text other = refl
+line_of_a_file name TheSink text other = refl
+line_of_a_file name TheInput text other = refl
+line_of_a_file name TheStimulus text other = refl
+line_of_a_file name TheSteps text other = refl
+line_of_a_file name Memory text other = absurd (other refl)
 
 -- a refusal that is no text of `clap` is reported in a line of its words
 pub line_of_usage : (usage : Usage) → ((text : _) → usage ≢ usages.Words text)
@@ -61,6 +62,7 @@ line_of_usage (usages.Words text) other = absurd (other text refl)
 line_of_usage usages.KeepMapNeedsBinary other = refl
 line_of_usage usages.KeepMapExcludesStrip other = refl
 line_of_usage usages.KeepMapExcludesUndoMap other = refl
+line_of_usage usages.BothStandardInput other = refl
 line_of_usage usages.CompressedOutput other = refl
 line_of_usage usages.OutOfMemory other = refl
 

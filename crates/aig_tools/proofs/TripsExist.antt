@@ -5,7 +5,6 @@ use Rattle.aig_core.specs.declared.circuit.TheConstants.{LARGEST}
 use Rattle.aig_core.specs.Wellformed.{IsWellFormed}
 use Rattle.aig_text.specs.AsciiText.{ascii_text}
 use Rattle.aig_text.specs.Reading.{fault_of}
-use Rattle.aig_text.specs.AsciiGrammar.{IsAsciiText}
 use Rattle.aig_binary.specs.BinaryText.{binary_text}
 use Rattle.aig_order.specs.declared.fault.MapFault.{MapFault}
 use Rattle.aig_order.specs.declared.fault.MapFault.TheVariants.{OutOfMemory}
@@ -57,18 +56,22 @@ text_without_map request bytes c image undoes good is file =
     is_written request bytes (ascii_text c) image c undoes.limit undoes.strip file
     (rw undoes.undo_map (undoing_recovers c image good is).0) (rw undoes.ascii refl)
 
-pub ascii_there_and_back : (there back : ToAig) → KeepsMap there → UndoesMap back
-    → (c : Circuit) (file : List ℕ) → IsAsciiText file LARGEST c
+pub well_formed_file : (text : List ℕ) (limit : ℕ) (c : Circuit) → IsFileOf text limit c → IsWellFormed c
+well_formed_file text limit c (inl accepted) = accepted.well_formed
+well_formed_file text limit c (inr accepted) = accepted.well_formed
+
+pub there_and_back : (there back : ToAig) → KeepsMap there → UndoesMap back
+    → (c : Circuit) (file : List ℕ) → IsFileOf file LARGEST c
     → (binary : List ℕ) × (ascii : List ℕ) × IsConversionText there file binary × IsConversionText back binary ascii
-ascii_there_and_back there back keeps undoes c file accepted =
-    let good : IsWellFormed c = accepted.well_formed in
+there_and_back there back keeps undoes c file accepted =
+    let good : IsWellFormed c = well_formed_file file LARGEST c accepted in
     let mapped = mapped_image_is_one c good in
     let image : Circuit = mapped.0 in
     let binary : List ℕ = binary_text image in
     let again : IsFileOf binary LARGEST image = binary_file image binary mapped.2 mapped.3 refl in (
       binary,
       ascii_text c,
-      text_with_map there file c image keeps (inl accepted) mapped.1,
+      text_with_map there file c image keeps accepted mapped.1,
       text_without_map back binary c image undoes good mapped.1 again,
     )
 
@@ -83,10 +86,6 @@ binary_there_and_back there back plain_there to_ascii plain_back to_binary file 
       plain_text there file ascii c plain_there (binary_file c file good ordered is) (rw to_ascii refl),
       plain_text back ascii (binary_text c) c plain_back again (rw to_binary (c, own_image c good ordered, refl)),
     )
-
-well_formed_file : (text : List ℕ) (limit : ℕ) (c : Circuit) → IsFileOf text limit c → IsWellFormed c
-well_formed_file text limit c (inl accepted) = accepted.well_formed
-well_formed_file text limit c (inr accepted) = accepted.well_formed
 
 pub mapped_text_has_no_fault : (there : ToAig) → KeepsMap there
     → (file binary : List ℕ) → IsConversionText there file binary

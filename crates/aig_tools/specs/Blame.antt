@@ -6,14 +6,19 @@ use Rattle.aig_text.specs.declared.fault.ReadKind.TheVariants as kinds
 use Rattle.aig_order.specs.declared.fault.MapFault.{MapFault}
 use Rattle.aig_order.specs.declared.fault.MapFault.TheVariants as map_faults
 use Rattle.aig_tools.specs.declared.fault.ToolFault.{ToolFault}
-use Rattle.aig_tools.specs.declared.fault.ToolFault.TheVariants.{Read, Map, Source, Sink, OutOfMemory}
+use Rattle.aig_sim.specs.declared.fault.SimFault.{SimFault}
+use Rattle.aig_sim.specs.declared.fault.SimFault.TheVariants as sim_faults
+use Rattle.aig_tools.specs.declared.fault.ToolFault.TheVariants.{Read, Map, Sim, Source, Sink, OutOfMemory}
 
--- the device that failed, memory that was refused, or else what the source gave
+-- The device that failed, memory that was refused, or else what the source gave, or the stimulus. Of a simulation the
+-- model is the source.
 pub data Party : Type 0 where
   TheSource : Party
   TheSink : Party
   Memory : Party
   TheInput : Party
+  TheStimulus : Party
+  TheSteps : Party
 
 -- where this is wrong with a text
 abbrev pub blamed : ReadKind → Party
@@ -25,10 +30,18 @@ abbrev pub map_blamed : MapFault → Party
 map_blamed map_faults.OutOfMemory = Memory
 map_blamed _ = TheInput
 
--- want of memory while a text or a map is judged is reported as a fault of it
+-- where a simulation ended early
+abbrev pub sim_blamed : SimFault → Party
+sim_blamed sim_faults.OutOfMemory = Memory
+sim_blamed (sim_faults.BadStimulus line) = TheSteps
+sim_blamed sim_faults.ReadFailed = TheStimulus
+sim_blamed sim_faults.WriteFailed = TheSink
+
+-- want of memory while a text or a map is judged, or for a simulation, is reported as a fault of it
 abbrev pub at_fault : ToolFault → Party
 at_fault (Read fault) = blamed fault.kind
 at_fault (Map fault) = map_blamed fault
+at_fault (Sim fault) = sim_blamed fault
 at_fault Source = TheSource
 at_fault Sink = TheSink
 at_fault OutOfMemory = Memory

@@ -5,13 +5,15 @@ use Rattle.aig_io.specs.Transfer.{TookBeginning}
 use Rattle.aig_command.specs.Answer.{IsCommand, IsUsage, name_of}
 use Rattle.aig_command.specs.declared.request.Command.{Command}
 use Rattle.aig_command.specs.declared.request.Command.TheVariants as commands
+use Rattle.aig_command.specs.declared.request.Sim.{Sim}
 use Rattle.aig_command.specs.declared.request.ToAig.{ToAig}
 use Rattle.aig_command.specs.declared.usage.Usage.{Usage}
 use Rattle.aig_command.specs.declared.usage.Usage.TheVariants as usages
 use Rattle.aig_tools.specs.declared.fault.ToolFault.{ToolFault}
 use Rattle.aig_tools.specs.Devices.{FilesByName, SinkUse, SourceUse}
-use Rattle.aig_tools.specs.Messages.{error_line, line_of, IsReported, usage_text}
+use Rattle.aig_tools.specs.Messages.{error_line, line_of, IsReported, simulation_error_line, usage_text}
 use Rattle.aig_tools.specs.Outcome.{Done, IsUnusedWhere, NotDone}
+use Rattle.aig_tools.specs.SimulationOutcome.{IsUnusedWhereBoth, SimulationDone, SimulationNotDone}
 
 -- what is answered to the words
 abbrev pub IsAnswered : List (List ℕ) → Result Command Usage → Type 0
@@ -32,6 +34,14 @@ ConversionEnds request files input output errors status =
     × (((status ≡ 0) × (errors.after ≡ errors.before) × Done request files input output)
     ⊎ ((status ≡ 1) × ((error : ToolFault)
     × NotDone request error files input output × IsReported errors (error_line request error))))
+
+-- A simulation was asked for: the same. The standard input is left alone where it is neither model nor stimulus.
+abbrev pub SimulationEnds : {R W E : Type 0} → Sim → FilesByName → SourceUse R → SinkUse W → SinkUse E → ℕ → Type 0
+SimulationEnds request files input output errors status =
+    IsUnusedWhereBoth (name_of request.model) (name_of request.stimulus) input.before input.after
+    × (((status ≡ 0) × (errors.after ≡ errors.before) × SimulationDone request files input output)
+    ⊎ ((status ≡ 1) × ((error : ToolFault)
+    × SimulationNotDone request error files input output × IsReported errors (simulation_error_line request error))))
 
 -- Help was asked for: the output took the text, or it failed and that is reported.
 abbrev pub HelpEnds : {W E : Type 0} → List ℕ → SinkUse W → SinkUse E → ℕ → Type 0
@@ -54,6 +64,8 @@ abbrev pub EndsAs : {R W E : Type 0} → Result Command Usage → FilesByName
     → SourceUse R → SinkUse W → SinkUse E → ℕ → Type 0
 EndsAs (Ok (commands.ToAig request)) files input output errors status =
     ConversionEnds request files input output errors status
+EndsAs (Ok (commands.Sim request)) files input output errors status =
+    SimulationEnds request files input output errors status
 EndsAs (Ok (commands.Help text)) files input output errors status =
     (input.after ≡ input.before) × HelpEnds (string_bytes text) output errors status
 EndsAs (Err usage) files input output errors status = RefusalEnds usage input output errors status

@@ -10,9 +10,12 @@ use Rattle.aig_core.specs.declared.circuit.Circuit.{Circuit}
 use Rattle.aig_order.specs.declared.fault.MapFault.{MapFault}
 use Rattle.aig_order.specs.declared.fault.MapFault.TheVariants.{OutOfMemory}
 use Rattle.aig_order.specs.Undone.{IsMapFault}
+use Rattle.aig_command.specs.declared.request.Sim.{Sim}
 use Rattle.aig_command.specs.declared.request.ToAig.{ToAig}
+use Rattle.aig_sim.specs.Outcome.{first_bad_line}
 use Rattle.aig_tools.specs.File.{IsFileOf, file_reading, first_fault}
 use Rattle.aig_tools.specs.Conversion.{IsConversionText}
+use Rattle.aig_tools.specs.Simulation.{IsSimulationText}
 
 -- what is read of a text is exactly the circuit whose file it is, of either kind
 abbrev pub FilesAreReadExactly : Type 0
@@ -28,6 +31,11 @@ FilesAreUnambiguous = (text : List ℕ) (limit : ℕ) (c d : Circuit) → IsFile
 abbrev pub ConversionsAreUnambiguous : Type 0
 ConversionsAreUnambiguous = (request : ToAig) (bytes text other : List ℕ)
     → IsConversionText request bytes text → IsConversionText request bytes other → text ≡ other
+
+-- a model and a stimulus have one simulation text at most
+abbrev pub SimulationsAreUnambiguous : Type 0
+SimulationsAreUnambiguous = (request : Sim) (model stimulus text other : List ℕ)
+    → IsSimulationText request model stimulus text → IsSimulationText request model stimulus other → text ≡ other
 
 -- a canonical binary file: the canonical text of a well-formed circuit in binary order
 abbrev pub IsCanonicalBinary : List ℕ → Type 0
@@ -70,16 +78,34 @@ UndoingGivesAsciiBack = (there back : ToAig) → KeepsMap there → UndoesMap ba
     → IsConversionText back binary ascii
     → (ascii ≡ ascii_text c) × IsAsciiText ascii LARGEST c × (file ≡ ascii_text c → ascii ≡ file)
 
--- the headline: its clauses so far
+-- A file and its conversion have the same simulation text of every stimulus, where either has one: whatever the
+-- conversion is, at the default limit, to ASCII or to binary, with the map or without, also one that undoes a map or
+-- leaves symbols and comment out. So the same text is written for a file, for what it is converted to, and for what is
+-- undone from that.
+abbrev pub TracesAreKept : Type 0
+TracesAreKept = (request : ToAig) (before after : Sim) → request.max_var ≡ LARGEST → before.max_var ≡ LARGEST
+    → after.max_var ≡ LARGEST → after.properties ≡ before.properties
+    → (file converted stimulus text : List ℕ) → IsConversionText request file converted
+    → (IsSimulationText before file stimulus text ↔ IsSimulationText after converted stimulus text)
+    × ((other : List ℕ)
+    → IsSimulationText before file stimulus text → IsSimulationText after converted stimulus other → text ≡ other)
+
+-- the headline
 pub record Headline : Type 0 where
   pub undoing_gives_ascii_back : UndoingGivesAsciiBack
   pub binary_survives_ascii : BinarySurvivesAscii
+  pub traces_are_kept : TracesAreKept
 
--- every ASCII file of a circuit has a conversion text with the map, and that has one with the map undone
-abbrev pub AsciiFilesConvertThereAndBack : Type 0
-AsciiFilesConvertThereAndBack = (there back : ToAig) → KeepsMap there → UndoesMap back
-    → (c : Circuit) (file : List ℕ) → IsAsciiText file LARGEST c
+-- every file of a circuit, ASCII or binary, has a conversion text with the map, and that has one with the map undone
+abbrev pub FilesConvertThereAndBack : Type 0
+FilesConvertThereAndBack = (there back : ToAig) → KeepsMap there → UndoesMap back
+    → (c : Circuit) (file : List ℕ) → IsFileOf file LARGEST c
     → (binary : List ℕ) × (ascii : List ℕ) × IsConversionText there file binary × IsConversionText back binary ascii
+
+-- every file of a circuit has a simulation text of each stimulus that has no bad line
+abbrev pub SimulationTextsExist : Type 0
+SimulationTextsExist = (request : Sim) (c : Circuit) (file stimulus : List ℕ) → IsFileOf file request.max_var c
+    → first_bad_line c stimulus true ≡ None → (text : List ℕ) × IsSimulationText request file stimulus text
 
 -- every canonical binary file has a conversion text to ASCII, and that has one to binary
 abbrev pub BinaryFilesConvertThereAndBack : Type 0

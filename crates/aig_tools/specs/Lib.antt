@@ -1,8 +1,11 @@
 pub mod File
 pub mod Conversion
+pub mod Simulation
 pub mod Blame
 pub mod Devices
+pub mod Reading
 pub mod Outcome
+pub mod SimulationOutcome
 pub mod Messages
 pub mod Ending
 pub mod Reported

@@ -1,17 +1,19 @@
 -- What is reported on standard error, in one line (this project's profile).
-use Rattle.std.specs.Prelude.{◌≡◌, ◌+◌, ◌++◌, ◌⊎◌, ℕ, List, [], Option, codes, string_bytes}
+use Rattle.std.specs.Prelude.{◌≡◌, ◌+◌, ◌++◌, ◌⊎◌, ℕ, List, [], codes, string_bytes}
 use Rattle.std.specs.Io.KnownBytes.{Appends}
 use Rattle.aig_io.specs.Transfer.{TookBeginning}
 use Rattle.aig_text.specs.Messages.{fault_text}
 use Rattle.aig_order.specs.Messages.{map_fault_text}
+use Rattle.aig_sim.specs.Messages.{sim_fault_text}
 use Rattle.aig_tools.specs.declared.fault.ToolFault.{ToolFault}
-use Rattle.aig_tools.specs.declared.fault.ToolFault.TheVariants.{Read, Map, Source, Sink, OutOfMemory}
+use Rattle.aig_tools.specs.declared.fault.ToolFault.TheVariants as faults
 use Rattle.aig_command.specs.Answer.{name_of}
+use Rattle.aig_command.specs.declared.request.Sim.{Sim}
 use Rattle.aig_command.specs.declared.request.ToAig.{ToAig}
 use Rattle.aig_command.specs.Words.{usage_words}
 use Rattle.aig_command.specs.declared.usage.Usage.{Usage}
 use Rattle.aig_command.specs.declared.usage.Usage.TheVariants as usages
-use Rattle.aig_tools.specs.Blame.{at_fault, Memory, Party, TheSink}
+use Rattle.aig_tools.specs.Blame.{at_fault, Memory, Party, TheSink, TheSteps, TheStimulus}
 use Rattle.aig_tools.specs.Devices.{shown, SinkUse}
 
 -- a line of the program: what it is about, and what is wrong
@@ -27,25 +29,41 @@ memory_line = line_of [] (codes "out of memory")
 
 -- what is wrong, in words
 abbrev pub error_text : ToolFault → List ℕ
-error_text (Read fault) = fault_text fault
-error_text (Map fault) = map_fault_text fault
-error_text Source = codes "cannot read"
-error_text Sink = codes "cannot write"
-error_text OutOfMemory = codes "out of memory"
+error_text (faults.Read fault) = fault_text fault
+error_text (faults.Map fault) = map_fault_text fault
+error_text (faults.Sim fault) = sim_fault_text fault
+error_text faults.Source = codes "cannot read"
+error_text faults.Sink = codes "cannot write"
+error_text faults.OutOfMemory = codes "out of memory"
 
--- the name of the file at fault, or `-` for a stream
+-- of a conversion, the name of the file at fault, or `-` for a stream
 abbrev pub name_at : ToAig → Party → List ℕ
 name_at request TheSink = shown (name_of request.destination)
 name_at request _ = shown (name_of request.source)
 
--- a line about what is at fault; where memory was refused, that is no file and none is named
-abbrev pub line_about : ToAig → Party → List ℕ → List ℕ
-line_about request Memory text = memory_line
-line_about request party text = line_of (name_at request party) (codes ": " ++ text)
+-- the same of a simulation, whose trace goes to a stream
+abbrev pub simulation_name_at : Sim → Party → List ℕ
+simulation_name_at request TheSink = codes "-"
+simulation_name_at request TheStimulus = shown (name_of request.stimulus)
+simulation_name_at request TheSteps = shown (name_of request.stimulus)
+simulation_name_at request _ = shown (name_of request.model)
+
+-- a line about what is at fault, which has this name; where memory was refused, that is no file and none is named
+abbrev pub line_about : List ℕ → Party → List ℕ → List ℕ
+line_about name Memory text = memory_line
+line_about name party text = line_of name (codes ": " ++ text)
+
+-- the line that reports an error, where what is at fault has this name
+abbrev pub line_naming : List ℕ → ToolFault → List ℕ
+line_naming name error = line_about name (at_fault error) (error_text error)
 
 -- the line that reports an error of a conversion
 abbrev pub error_line : ToAig → ToolFault → List ℕ
-error_line request error = line_about request (at_fault error) (error_text error)
+error_line request error = line_naming (name_at request (at_fault error)) error
+
+-- the line that reports an error of a simulation
+abbrev pub simulation_error_line : Sim → ToolFault → List ℕ
+simulation_error_line request error = line_naming (simulation_name_at request (at_fault error)) error
 
 -- what is printed where the words are refused: the text of `clap`, or a line
 abbrev pub usage_text : Usage → List ℕ

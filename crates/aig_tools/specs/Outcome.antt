@@ -3,14 +3,13 @@
 use Rattle.std.specs.Prelude.{◌≡◌, ◌+◌, ◌⊎◌, ℕ, List, Option, None, Some, IfSome, true, ⊤}
 use Rattle.std.specs.Io.KnownBytes.{Appends}
 use Rattle.aig_io.specs.Transfer.{GaveAll, GaveSome, TookBeginning}
-use Rattle.aig_text.specs.declared.fault.ReadFault.{ReadFault}
-use Rattle.aig_text.specs.Reading.{IsFirstFault}
 use Rattle.aig_tools.specs.declared.fault.ToolFault.{ToolFault}
 use Rattle.aig_command.specs.declared.request.ToAig.{ToAig}
 use Rattle.aig_tools.specs.Blame.{at_fault, map_fault, sink_failures, source_failures, text_fault, TheSink}
 use Rattle.aig_order.specs.declared.fault.MapFault.{MapFault}
 use Rattle.aig_order.specs.Undone.{IsMapFault}
-use Rattle.aig_tools.specs.File.{first_fault, IsFileOf}
+use Rattle.aig_tools.specs.File.{IsFileOf}
+use Rattle.aig_tools.specs.Reading.{Refused}
 use Rattle.aig_tools.specs.declared.fault.ToolFault.TheVariants as faults
 use Rattle.aig_core.specs.declared.circuit.Circuit.{Circuit}
 use Rattle.aig_command.specs.Answer.{name_of}
@@ -35,12 +34,6 @@ pub record ConvertedInPart (request : ToAig) (coming left taken filled : Option 
   pub is_text : IsConversionText request bytes text
   pub took : TookBeginning taken filled text
 
--- the source gave all its bytes, and this is their first fault, unless memory was refused
-pub record Refused (request : ToAig) (coming left : Option (List ℕ)) (fault : ReadFault) : Type 0 where
-  pub bytes : List ℕ
-  pub gave : GaveAll coming left bytes
-  pub is_first : IsFirstFault fault (first_fault request.max_var bytes)
-
 -- The source gave all its bytes, which are the file of a circuit that was to be undone, and this is why it has no
 -- undone one, unless memory was refused.
 pub record MapRefused (request : ToAig) (coming left : Option (List ℕ)) (fault : MapFault) : Type 0 where
@@ -64,6 +57,7 @@ NotWritten request written error sink =
 abbrev pub IsOfConversion : ToolFault → Type 0
 IsOfConversion (faults.Read fault) = ⊤
 IsOfConversion (faults.Map fault) = ⊤
+IsOfConversion (faults.Sim fault) = ⊥
 IsOfConversion faults.Source = ⊤
 IsOfConversion faults.Sink = ⊤
 IsOfConversion faults.OutOfMemory = ⊤
@@ -74,7 +68,7 @@ pub record NotConverted {R W : Type 0} (request : ToAig) (error : ToolFault)
   pub possible : IsOfConversion error
   pub gave : GaveSome (source.coming source.before) (source.coming source.after)
   pub refused : IfSome (text_fault error)
-      (Refused request (source.coming source.before) (source.coming source.after))
+      (Refused request.max_var (source.coming source.before) (source.coming source.after))
   pub map_refused : IfSome (map_fault error)
       (MapRefused request (source.coming source.before) (source.coming source.after))
   -- Nothing is sent before all is read and found right.

@@ -8,12 +8,12 @@ ghost use Rattle.aig_tools.specs.Devices.{sink_use, source_use};
 ghost use Rattle.aig_tools.specs.Outcome.{Converted, NotConverted, NotWritten};
 
 use crate::fault::ToolFault;
-use crate::file::read_file;
+use crate::file::read_circuit;
 use aig_binary::{Ordered, write_binary};
 use aig_command::ToAig;
-use aig_core::{Checked, Circuit, Listing, OutOfMemory, Sink, Source, read_all};
+use aig_core::{Checked, Circuit, Listing, OutOfMemory, Sink, Source};
 use aig_order::{MapFault, into_binary, to_binary_with_map, undo};
-use aig_text::{Limits, write_ascii};
+use aig_text::write_ascii;
 use std::alloc::Global;
 
 /// The circuit without its symbols and its comment, where the request asks for that.
@@ -97,14 +97,8 @@ pub fn run_toaig<R: Source, W: Sink>(
         (sink_use W.taken W.longest W.failed sink.old sink.new)) }
     ensures short { W.longest sink.new ≤ max (W.longest sink.old) ROOM }
 {
-    let bytes = read_all(alloc, source)?;
-    let limits = Limits {
-        max_var: request.max_var,
-    };
-    let circuit = read_file(alloc, bytes.as_slice(), limits)?;
-    // The text is not needed from here on, and may be larger than the circuit.
-    drop(bytes);
-    let source_circuit = undone(alloc, request, circuit)?;
+    let found = read_circuit(alloc, source, request.max_var)?;
+    let source_circuit = undone(alloc, request, found)?;
     let circuit = changed(alloc, request, source_circuit);
     write(alloc, request, circuit, sink)
 }

@@ -1,12 +1,13 @@
 //! Why a tool did not do what was asked.
 ghost use Rattle.std.specs.Prelude.{◌≡◌, ◌↔◌, IsTrue, Some};
 ghost use Rattle.aig_tools.specs.Messages.{error_text};
-ghost use Rattle.aig_tools.specs.declared.fault.ToolFault.TheVariants.{Map, OutOfMemory, Read, Sink};
+ghost use Rattle.aig_tools.specs.declared.fault.ToolFault.TheVariants.{Map, OutOfMemory, Read, Sim, Sink};
 ghost use Rattle.aig_tools.specs.Blame.{at_fault, Memory};
 ghost use Rattle.aig_tools.specs.Reported.{tool_fault_of};
 
 use aig_core::ReadError;
 use aig_order::MapFault;
+use aig_sim::SimFault;
 use aig_text::{ReadFault, ReadKind, WriteFault};
 use std::error::Error;
 use std::fmt;
@@ -24,11 +25,14 @@ pub enum ToolFault {
     Read(ReadFault),
     /// The source is the file of a circuit that has no undone one.
     Map(MapFault),
-    /// The source failed.
+    /// The simulation ended early.
+    Sim(SimFault),
+    /// The source failed; of a simulation, the model's.
     Source,
     /// The sink failed.
     Sink,
-    /// An allocation failed. One that fails while a file or a map is checked is in `Read` or `Map`.
+    /// An allocation failed. One that fails while a file or a map is checked, or for a simulation, is in `Read`, `Map`
+    /// or `Sim`.
     OutOfMemory,
 }
 
@@ -41,6 +45,7 @@ impl ToolFault {
             ToolFault::OutOfMemory => true,
             ToolFault::Read(fault) => matches!(fault.kind, ReadKind::OutOfMemory),
             ToolFault::Map(fault) => matches!(fault, MapFault::OutOfMemory),
+            ToolFault::Sim(fault) => matches!(fault, SimFault::OutOfMemory),
             ToolFault::Source | ToolFault::Sink => false,
         }
     }
@@ -53,6 +58,7 @@ impl fmt::Display for ToolFault {
         match self {
             ToolFault::Read(fault) => write!(f, "{fault}"),
             ToolFault::Map(fault) => write!(f, "{fault}"),
+            ToolFault::Sim(fault) => write!(f, "{fault}"),
             ToolFault::Source => write!(f, "{CANNOT_READ}"),
             ToolFault::Sink => write!(f, "{CANNOT_WRITE}"),
             ToolFault::OutOfMemory => write!(f, "{OUT_OF_MEMORY}"),
@@ -94,6 +100,14 @@ impl From<MapFault> for ToolFault {
 
     fn from(fault: MapFault) -> ToolFault {
         ToolFault::Map(fault)
+    }
+}
+
+impl From<SimFault> for ToolFault {
+    ghost from_gives = { λ fault error. error ≡ Sim fault };
+
+    fn from(fault: SimFault) -> ToolFault {
+        ToolFault::Sim(fault)
     }
 }
 

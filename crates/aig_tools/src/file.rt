@@ -1,17 +1,20 @@
 //! Files of either kind.
-ghost use Rattle.std.specs.Prelude.{◌≡◌, IfOk, IfErr, MatchResult};
+ghost use Rattle.std.specs.Prelude.{◌≡◌, ◌-◌, ◌^◌, ◌<◌, IfOk, IfErr, MatchResult};
 ghost use Rattle.aig_core.specs.declared.circuit.Circuit.{Circuit as CircuitRecord};
 ghost use Rattle.aig_text.specs.Reading.{IsFirstFault, want_of_memory};
+ghost use Rattle.aig_tools.specs.Devices.{source_use};
 ghost use Rattle.aig_tools.specs.File.{IsFileOf, first_fault};
+ghost use Rattle.aig_tools.specs.Reading.{HasRead, NotRead};
 
+use crate::fault::ToolFault;
 use aig_binary::{BINARY_WORD, read_binary};
-use aig_core::Checked;
+use aig_core::{Checked, Source, read_all};
 use aig_text::{Limits, ReadFault, first_word_is, read_ascii};
 use std::alloc::Global;
 
 /// Reads a file of either kind, within these limits: as a binary file if that is what its first word says, otherwise as
 /// an ASCII file. The error is the first fault of the text, or that memory ran out.
-pub(crate) fn read_file(alloc: Global, bytes: &[u8], limits: Limits) -> Result<Checked, ReadFault>
+fn read_file(alloc: Global, bytes: &[u8], limits: Limits) -> Result<Checked, ReadFault>
     ensures ok { IfOk result (λ c. IsFileOf bytes.now limits.max_var c) }
     ensures only { (c : CircuitRecord) → IsFileOf bytes.now limits.max_var c
         → MatchResult result (λ d. d ≡ c) (λ e. e ≡ want_of_memory) }
@@ -22,4 +25,21 @@ pub(crate) fn read_file(alloc: Global, bytes: &[u8], limits: Limits) -> Result<C
     } else {
         read_ascii(alloc, bytes, limits)
     }
+}
+
+/// Reads the source to its end, as a file of either kind within this limit.
+pub(crate) fn read_circuit<R: Source>(
+    alloc: Global,
+    source: &mut R,
+    max_var: u32,
+) -> Result<Checked, ToolFault>
+    requires { R.failed source.old < 2 ^ 64 - 1 }
+    ensures ok { IfOk result (λ found. HasRead max_var found (source_use R.coming R.failed source.old source.new)) }
+    ensures err { IfErr result (λ error. NotRead max_var error
+        (source_use R.coming R.failed source.old source.new)) }
+{
+    let bytes = read_all(alloc, source)?;
+    // The text ends here: it is not needed from here on, and may be larger than the circuit.
+    let found = read_file(alloc, bytes.as_slice(), Limits { max_var })?;
+    Ok(found)
 }

@@ -1,7 +1,7 @@
 //! Laws: facts about the definitions alone, each the contract of a function with an empty body.
 ghost use Rattle.aig_tools.specs.Laws.{FilesAreReadExactly, FilesAreUnambiguous, ConversionsAreUnambiguous, Headline};
-ghost use Rattle.aig_tools.specs.Laws.{AsciiFilesConvertThereAndBack, BinaryFilesConvertThereAndBack};
-ghost use Rattle.aig_tools.specs.Laws.{MappedTextsHaveNoFault};
+ghost use Rattle.aig_tools.specs.Laws.{FilesConvertThereAndBack, BinaryFilesConvertThereAndBack};
+ghost use Rattle.aig_tools.specs.Laws.{MappedTextsHaveNoFault, SimulationsAreUnambiguous, SimulationTextsExist};
 
 /// What is read of a text is a circuit exactly where the text is a file of that circuit, ASCII or binary.
 pub fn files_are_read_exactly()
@@ -18,22 +18,34 @@ pub fn conversions_are_unambiguous()
     ensures { ConversionsAreUnambiguous }
 {}
 
-/// The headline, over the conversion texts that `run_toaig` writes. So far: an ASCII file comes back through binary
-/// with the map, as the canonical text of its circuit; and a canonical binary file comes back through ASCII byte for
-/// byte.
+/// A model and a stimulus have one simulation text at most.
+pub fn simulations_are_unambiguous()
+    ensures { SimulationsAreUnambiguous }
+{}
+
+/// The headline, over the conversion texts that `run_toaig` writes and the simulation texts that `run_sim` writes: an
+/// ASCII file comes back through binary with the map, as the canonical text of its circuit; a canonical binary file
+/// comes back through ASCII byte for byte; and a file and its conversion, or what is undone from it, have the same
+/// simulation text of every stimulus.
 pub fn headline()
     ensures { Headline }
 {}
 
-/// The conversion texts that the headline speaks of exist: every ASCII file of a circuit has one to binary with the
-/// map, and that has one to ASCII with the map undone.
-pub fn ascii_files_convert_there_and_back()
-    ensures { AsciiFilesConvertThereAndBack }
+/// The conversion texts that the headline speaks of exist: every file of a circuit has one to binary with the map, and
+/// that has one to ASCII with the map undone.
+pub fn files_convert_there_and_back()
+    ensures { FilesConvertThereAndBack }
 {}
 
 /// Every canonical binary file has a conversion text to ASCII, and that has one to binary.
 pub fn binary_files_convert_there_and_back()
     ensures { BinaryFilesConvertThereAndBack }
+{}
+
+/// The simulation texts that the headline speaks of exist: every file of a circuit has one of each stimulus that has no
+/// bad line.
+pub fn simulation_texts_exist()
+    ensures { SimulationTextsExist }
 {}
 
 /// A text that was converted with the map has no first fault, and what is read of it has no map fault. So reading and

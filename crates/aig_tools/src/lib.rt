@@ -8,8 +8,10 @@ pub mod laws;
 mod message;
 mod named;
 mod program;
+mod simulation;
 
 pub use crate::conversion::run_toaig;
 pub use crate::fault::ToolFault;
 pub use crate::program::{refuse_for_memory, refuse_words, serve, start};
-pub use aig_command::{Command, ToAig, Usage, command};
+pub use crate::simulation::run_sim;
+pub use aig_command::{Command, Sim, ToAig, Usage, command};

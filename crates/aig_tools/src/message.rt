@@ -6,12 +6,13 @@ ghost use Rattle.aig_io.specs.declared.block.TheConstants.{ROOM};
 ghost use Rattle.aig_command.specs.Answer.{name_of};
 ghost use Rattle.aig_tools.specs.Blame.{at_fault};
 ghost use Rattle.aig_tools.specs.Devices.{shown, sink_use};
-ghost use Rattle.aig_tools.specs.Messages.{error_line, error_text, line_of, memory_line, name_at};
-ghost use Rattle.aig_tools.specs.Messages.{IsReported, usage_text, words_line};
+ghost use Rattle.aig_tools.specs.Messages.{error_line, error_text, IsReported, line_naming, line_of, memory_line};
+ghost use Rattle.aig_tools.specs.Messages.{name_at, simulation_error_line, simulation_name_at, usage_text, words_line};
 
 use crate::fault::{CANNOT_READ, CANNOT_WRITE, OUT_OF_MEMORY, ToolFault};
-use aig_command::{ToAig, Usage};
+use aig_command::{Sim, ToAig, Usage};
 use aig_core::{Output, Sink};
+use aig_sim::SimFault;
 
 /// A file by its name, and a stream by `-`.
 fn shown(name: &Option<String>) -> &str
@@ -102,20 +103,52 @@ fn put_error<E: Sink>(output: &mut Output<E>, fault: &ToolFault)
             fault.kind.message().put(output);
         }
         ToolFault::Map(fault) => fault.message().put(output),
+        ToolFault::Sim(fault) => fault.message().put(output),
         ToolFault::Source => output.put(CANNOT_READ.as_bytes()),
         ToolFault::Sink => output.put(CANNOT_WRITE.as_bytes()),
         ToolFault::OutOfMemory => output.put(OUT_OF_MEMORY.as_bytes()),
     }
 }
 
-/// The name of the file or stream that is at fault, unless memory ran out.
+/// The name of the file or stream that is at fault in a conversion, unless memory ran out.
 fn name_at_fault<'a>(request: &'a ToAig, fault: &ToolFault) -> &'a str
     ensures { result.now ≡ name_at request.now (at_fault fault.now) }
 {
     match fault {
-        ToolFault::Sink => shown(&request.destination),
+        ToolFault::Sink | ToolFault::Sim(SimFault::WriteFailed) => shown(&request.destination),
         _ => shown(&request.source),
     }
+}
+
+/// The same of a simulation.
+fn simulation_name_at_fault<'a>(request: &'a Sim, fault: &ToolFault) -> &'a str
+    ensures { result.now ≡ simulation_name_at request.now (at_fault fault.now) }
+{
+    match fault {
+        ToolFault::Sink | ToolFault::Sim(SimFault::WriteFailed) => "-",
+        ToolFault::Sim(SimFault::BadStimulus(_) | SimFault::ReadFailed) => shown(&request.stimulus),
+        _ => shown(&request.model),
+    }
+}
+
+/// Reports an error, where the file or stream at fault has this name.
+fn report_naming<E: Sink>(errors: &mut E, name: &str, fault: &ToolFault)
+    requires { E.failed errors.old < 2 ^ 64 - 1 }
+    ensures reported { IsReported (sink_use E.taken E.longest E.failed errors.old errors.new)
+        (line_naming name.now fault.now) }
+    ensures short { E.longest errors.new ≤ max (E.longest errors.old) ROOM }
+{
+    if fault.is_want_of_memory() {
+        report_memory(errors);
+        return;
+    }
+    let mut output = Output::new(errors);
+    output.put(b"aiger: ");
+    output.put(name.as_bytes());
+    output.put(b": ");
+    put_error(&mut output, fault);
+    output.put(b"\n");
+    let (_sent, _errors) = output.finish();
 }
 
 /// Reports the error of a conversion.
@@ -125,15 +158,15 @@ pub(crate) fn report_error<E: Sink>(errors: &mut E, request: &ToAig, fault: &Too
         (error_line request.now fault.now) }
     ensures short { E.longest errors.new ≤ max (E.longest errors.old) ROOM }
 {
-    if fault.is_want_of_memory() {
-        report_memory(errors);
-        return;
-    }
-    let mut output = Output::new(errors);
-    output.put(b"aiger: ");
-    output.put(name_at_fault(request, fault).as_bytes());
-    output.put(b": ");
-    put_error(&mut output, fault);
-    output.put(b"\n");
-    let (_sent, _errors) = output.finish();
+    report_naming(errors, name_at_fault(request, fault), fault);
+}
+
+/// Reports the error of a simulation.
+pub(crate) fn report_simulation_error<E: Sink>(errors: &mut E, request: &Sim, fault: &ToolFault)
+    requires { E.failed errors.old < 2 ^ 64 - 1 }
+    ensures reported { IsReported (sink_use E.taken E.longest E.failed errors.old errors.new)
+        (simulation_error_line request.now fault.now) }
+    ensures short { E.longest errors.new ≤ max (E.longest errors.old) ROOM }
+{
+    report_naming(errors, simulation_name_at_fault(request, fault), fault);
 }

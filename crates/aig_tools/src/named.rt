@@ -1,4 +1,4 @@
-//! Conversions between the devices that a request names: streams and files.
+//! Conversions and simulations between the devices that a request names: streams and files.
 ghost use Rattle.std.specs.Prelude.{◌≡◌, ◌-◌, ◌≤◌, ◌^◌, ◌<◌, IfErr, OnOk, max, true};
 ghost use Rattle.aig_io.specs.declared.block.TheConstants.{ROOM};
 ghost use Rattle.aig_command.specs.Answer.{name_of};
@@ -6,11 +6,13 @@ ghost use Rattle.aig_files.specs.Named.{FileSink, unwritten};
 ghost use Rattle.aig_tools.specs.Devices.{files_by_name, IsSentInBlocks, OfSink, sink_use, source_use};
 ghost use Rattle.aig_tools.specs.Devices.{use_of_file_sink};
 ghost use Rattle.aig_tools.specs.Outcome.{Converted, Done, IsUnusedWhere, NotConverted, NotDone};
-ghost use Rattle.aig_command.specs.Answer.{IsKeptAlone};
+ghost use Rattle.aig_tools.specs.SimulationOutcome.{IsUnusedWhereBoth, SimulationDone, SimulationNotDone};
+ghost use Rattle.aig_command.specs.Answer.{HasOneStandardInput, IsKeptAlone};
 
 use crate::conversion::run_toaig;
 use crate::fault::ToolFault;
-use aig_command::ToAig;
+use crate::simulation::run_sim;
+use aig_command::{Sim, ToAig};
 use aig_core::{Sink, Source};
 use aig_files::{FileAccess, NamedSink, NamedSource};
 use std::alloc::Global;
@@ -97,5 +99,45 @@ pub(crate) fn convert<A: FileAccess, R: Source, W: Sink>(
             convert_from(alloc, access, request, &mut file, output)
         }
         None => convert_from(alloc, access, request, input, output),
+    }
+}
+
+/// Simulates the model that the request names, on the stimulus that it names: `input` in the place of the one for which
+/// it names no file.
+pub(crate) fn trace<A: FileAccess, R: Source, W: Sink>(
+    alloc: Global,
+    access: &A,
+    request: &Sim,
+    input: &mut R,
+    output: &mut W,
+) -> Result<(), ToolFault>
+    requires input { R.failed input.old < 2 ^ 64 - 1 }
+    requires output { W.failed output.old < 2 ^ 64 - 1 }
+    requires one_input { HasOneStandardInput request.now }
+    ensures ok { OnOk result (SimulationDone request.now (files_by_name (A.holds access.now) (A.made access.now))
+        (source_use R.coming R.failed input.old input.new)
+        (sink_use W.taken W.longest W.failed output.old output.new)) }
+    ensures err { IfErr result (λ error. SimulationNotDone request.now error
+        (files_by_name (A.holds access.now) (A.made access.now))
+        (source_use R.coming R.failed input.old input.new)
+        (sink_use W.taken W.longest W.failed output.old output.new)) }
+    ensures input { IsUnusedWhereBoth (name_of request.now.model) (name_of request.now.stimulus) input.old input.new }
+    ensures short { W.longest output.new ≤ max (W.longest output.old) ROOM }
+{
+    match (&request.model, &request.stimulus) {
+        (Some(model), Some(stimulus)) => {
+            let mut model = NamedSource::new(access, model.as_str());
+            let mut stimulus = NamedSource::new(access, stimulus.as_str());
+            run_sim(alloc, request, &mut model, &mut stimulus, output)
+        }
+        (Some(model), None) => {
+            let mut model = NamedSource::new(access, model.as_str());
+            run_sim(alloc, request, &mut model, input, output)
+        }
+        (None, Some(stimulus)) => {
+            let mut stimulus = NamedSource::new(access, stimulus.as_str());
+            run_sim(alloc, request, input, &mut stimulus, output)
+        }
+        (None, None) => unreachable!(),
     }
 }

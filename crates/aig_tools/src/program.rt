@@ -2,14 +2,17 @@
 ghost use Rattle.std.specs.Prelude.{◌≡◌, ◌-◌, ◌^◌, ◌<◌, ◌≤◌, None, max};
 ghost use Rattle.aig_io.specs.declared.block.TheConstants.{ROOM};
 ghost use Rattle.aig_command.specs.Answer.{texts};
-ghost use Rattle.aig_tools.specs.Ending.{ConversionEnds, Ends, HelpEnds, RefusalEnds, status_of};
+ghost use Rattle.aig_tools.specs.Ending.{ConversionEnds, Ends, HelpEnds, RefusalEnds, SimulationEnds, status_of};
 ghost use Rattle.aig_tools.specs.Devices.{files_by_name, sink_use, source_use};
 ghost use Rattle.aig_tools.specs.Messages.{memory_line, IsReported, usage_text, words_line};
-ghost use Rattle.aig_command.specs.Answer.{IsKeptAlone};
+ghost use Rattle.aig_command.specs.Answer.{HasOneStandardInput, IsKeptAlone};
 
-use crate::message::{report_error, report_memory, report_unwritten, report_usage, report_words};
-use crate::named::convert;
-use aig_command::{Command, ToAig, Usage, command};
+use crate::message::{
+    report_error, report_memory, report_simulation_error, report_unwritten, report_usage,
+    report_words,
+};
+use crate::named::{convert, trace};
+use aig_command::{Command, Sim, ToAig, Usage, command};
 use aig_core::{Output, Sink, Source};
 use aig_files::{FileAccess, HostFiles};
 use std::alloc::Global;
@@ -48,6 +51,35 @@ fn run_conversion<A: FileAccess, R: Source, W: Sink, E: Sink>(
         Ok(()) => DONE,
         Err(fault) => {
             report_error(errors, request, &fault);
+            FAILED
+        }
+    }
+}
+
+/// Simulates as a request asks, reports an error, and answers the status.
+fn run_simulation<A: FileAccess, R: Source, W: Sink, E: Sink>(
+    alloc: Global,
+    access: &A,
+    request: &Sim,
+    input: &mut R,
+    output: &mut W,
+    errors: &mut E,
+) -> u8
+    requires input { R.failed input.old < 2 ^ 64 - 1 }
+    requires output { W.failed output.old < 2 ^ 64 - 1 }
+    requires errors { E.failed errors.old < 2 ^ 64 - 1 }
+    requires one_input { HasOneStandardInput request.now }
+    ensures ends { SimulationEnds request.now (files_by_name (A.holds access.now) (A.made access.now))
+        (source_use R.coming R.failed input.old input.new)
+        (sink_use W.taken W.longest W.failed output.old output.new)
+        (sink_use E.taken E.longest E.failed errors.old errors.new) result }
+    ensures short { W.longest output.new ≤ max (W.longest output.old) ROOM }
+    ensures reported_short { E.longest errors.new ≤ max (E.longest errors.old) ROOM }
+{
+    match trace(alloc, access, request, input, output) {
+        Ok(()) => DONE,
+        Err(fault) => {
+            report_simulation_error(errors, request, &fault);
             FAILED
         }
     }
@@ -113,6 +145,9 @@ pub fn serve<A: FileAccess, R: Source, W: Sink, E: Sink>(
     match command(alloc, words) {
         Ok(Command::ToAig(request)) => {
             run_conversion(alloc, access, &request, input, output, errors)
+        }
+        Ok(Command::Sim(request)) => {
+            run_simulation(alloc, access, &request, input, output, errors)
         }
         Ok(Command::Help(text)) => help(text.as_str(), output, errors),
         Err(usage) => refuse(errors, &usage),

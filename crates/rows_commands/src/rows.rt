@@ -1,5 +1,5 @@
 //! Command lines and what is answered to them.
-use aig_command::{Command, ToAig, Usage, command};
+use aig_command::{Command, Sim, ToAig, Usage, command};
 use std::alloc::{AllocError, Global};
 use std::test::Fail;
 
@@ -28,6 +28,26 @@ aigtoaig a <> => 2147483647 a <>;\
 aigtoaig -- --ascii --help => 2147483647 --ascii --help;\
 aigtoaig --strip -- - -x.aag => ascii strip 2147483647 - -x.aag";
 
+/// Arguments after the program's name, and what they ask for: the option of the simulation, its limit, its model and
+/// its stimulus.
+const SIMULATIONS: &str = "\
+aigsim m => 2147483647 m -;\
+aigsim m - => 2147483647 m -;\
+aigsim - s => 2147483647 - s;\
+aigsim m s => 2147483647 m s;\
+aigsim m m => 2147483647 m m;\
+aigsim --properties --max-var 7 m s => properties 7 m s;\
+aigsim m --properties s => properties 2147483647 m s;\
+aigsim m s --max-var=0 => 0 m s;\
+aigsim --max-var 2147483647 m => 2147483647 m -;\
+aigsim m --max-var +007 => 7 m -;\
+aigsim - <> => 2147483647 - <>;\
+aigsim <> => 2147483647 <> -;\
+aigsim m.aag s.gz => 2147483647 m.aag s.gz;\
+aigsim aigtoaig help => 2147483647 aigtoaig help;\
+aigsim -- --properties --help => 2147483647 --properties --help;\
+aigsim --properties -- -m => properties 2147483647 -m -";
+
 /// Arguments after the program's name, and why they are refused (`words` where `clap` refuses them); or that they ask
 /// for help.
 const REFUSALS: &str = "\
@@ -40,12 +60,19 @@ aigtoaig --undo-map --keep-map => --keep-map excludes --undo-map;\
 aigtoaig --keep-map --undo-map - x.gz => --keep-map excludes --undo-map;\
 aigtoaig - x.aig.gz => compressed output is not supported;\
 aigtoaig --ascii - .gz => compressed output is not supported;\
+aigsim - => model and stimulus are both standard input;\
+aigsim - - => model and stimulus are both standard input;\
+aigsim --properties --max-var 7 -- - => model and stimulus are both standard input;\
 aigtoaig --help => help;\
 aigtoaig -h => help;\
 --help => help;\
 -h => help;\
 aigtoaig --keep-map --ascii --help => help;\
 aigtoaig --strip --help a b c => help;\
+aigsim --help => help;\
+aigsim -h => help;\
+aigsim - --help => help;\
+aigsim --properties m s --help t => help;\
 aigtoaig a b c => words;\
 aigtoaig --ascii --ascii => words;\
 aigtoaig --max-var => words;\
@@ -60,12 +87,38 @@ aigtoaig --batch => words;\
 aigtoaig --Help => words;\
 aigtoaig -x => words;\
 aigtoaig --version => words;\
+aigtoaig --properties => words;\
+aigsim => words;\
+aigsim --properties => words;\
+aigsim m s t => words;\
+aigsim - - - => words;\
+aigsim --properties --properties m => words;\
+aigsim --properties=yes m => words;\
+aigsim --propertie m => words;\
+aigsim m --max-var => words;\
+aigsim m --max-var 2147483648 => words;\
+aigsim m --max-var=-1 => words;\
+aigsim m --max-var= => words;\
+aigsim m --max-var x => words;\
+aigsim m --max-var 1 --max-var 2 => words;\
+aigsim --ascii m => words;\
+aigsim --strip m => words;\
+aigsim --keep-map m => words;\
+aigsim --undo-map m => words;\
+aigsim --batch m => words;\
+aigsim --witness m s => words;\
+aigsim -x => words;\
 help => words;\
 help aigtoaig => words;\
+help aigsim => words;\
 aigtoai => words;\
+aigsi => words;\
+aigsimm m => words;\
 AIGTOAIG => words;\
+AIGSIM m => words;\
 aigunroll => words;\
 --ascii aigtoaig => words;\
+--properties aigsim m => words;\
 <> => words";
 
 /// The program's name and the arguments of a line, with one space between them.
@@ -100,10 +153,24 @@ fn shown_conversion(alloc: Global, request: &ToAig) -> Result<String, AllocError
     format!(in alloc; "{ascii}{strip}{keep_map}{undo_map}{limit} {source} {destination}")
 }
 
+/// A simulation, as a row shows it.
+fn shown_simulation(alloc: Global, request: &Sim) -> Result<String, AllocError> {
+    let properties = if request.properties {
+        "properties "
+    } else {
+        ""
+    };
+    let model = shown(&request.model);
+    let stimulus = shown(&request.stimulus);
+    let limit = request.max_var;
+    format!(in alloc; "{properties}{limit} {model} {stimulus}")
+}
+
 /// What is answered to arguments, as a row shows it.
 fn answer(alloc: Global, words: &[String]) -> Result<String, AllocError> {
     match command(alloc, words) {
         Ok(Command::ToAig(request)) => shown_conversion(alloc, &request),
+        Ok(Command::Sim(request)) => shown_simulation(alloc, &request),
         Ok(Command::Help(_)) => String::from_str(alloc, "help"),
         Err(Usage::Words(_)) => String::from_str(alloc, "words"),
         Err(usage) => format!(in alloc; "{usage}"),
@@ -126,6 +193,13 @@ fn first_wrong(alloc: Global, rows: &str) -> Result<Option<String>, Fail> {
 #[test]
 fn conversions(rt: HostRuntime) -> Result<(), Fail> {
     let wrong = first_wrong(rt.alloc(), CONVERSIONS)?;
+    assert!(rt; wrong.is_none(), "{wrong:?}");
+    Ok(())
+}
+
+#[test]
+fn simulations(rt: HostRuntime) -> Result<(), Fail> {
+    let wrong = first_wrong(rt.alloc(), SIMULATIONS)?;
     assert!(rt; wrong.is_none(), "{wrong:?}");
     Ok(())
 }
@@ -157,7 +231,7 @@ fn help(alloc: Global, line: &str) -> Result<String, Fail> {
 
 #[test]
 fn help_fits_a_terminal(rt: HostRuntime) -> Result<(), Fail> {
-    for line in ["--help", "aigtoaig --help"].iter() {
+    for line in ["--help", "aigtoaig --help", "aigsim --help"].iter() {
         let text = help(rt.alloc(), line)?;
         assert!(rt; longest(text.as_str()) <= 80, "{text}");
     }

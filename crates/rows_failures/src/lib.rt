@@ -11,4 +11,6 @@ mod files;
 #[cfg(test)]
 mod run;
 #[cfg(test)]
+mod simulations;
+#[cfg(test)]
 mod streams;

@@ -1,7 +1,8 @@
 //! A run of the program's engine over devices in memory.
 use crate::streams::{NEVER, OnceReader, OnceWriter};
 use aig_core::{MemorySink, ReadSource, WriteSink};
-use aig_tools::start;
+use aig_files::FileAccess;
+use aig_tools::{serve, start};
 use std::alloc::{AllocError, Global};
 use std::rt::Files;
 use std::test::Fail;
@@ -77,6 +78,28 @@ pub(crate) fn run<R: Files + AllocGlobal>(
         &mut sink,
         &mut errors,
     );
+    Ok(Outcome {
+        status,
+        reads: reader.calls,
+        output,
+        errors,
+    })
+}
+
+/// Runs the program with these words over these files and streams.
+pub(crate) fn run_over<A: FileAccess>(
+    alloc: Global,
+    files: &A,
+    line: &str,
+    mut reader: OnceReader<'_>,
+    mut output: OnceWriter,
+) -> Result<Outcome, Fail> {
+    let words = words_of(alloc, line)?;
+    let mut errors = MemorySink::new(alloc, 100, 100, 0)?;
+    let mut source = ReadSource::new(&mut reader);
+    let mut sink = WriteSink::new(&mut output);
+    let words = words.as_slice();
+    let status = serve(files, alloc, words, &mut source, &mut sink, &mut errors);
     Ok(Outcome {
         status,
         reads: reader.calls,

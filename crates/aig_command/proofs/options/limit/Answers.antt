@@ -2,7 +2,7 @@ use Rattle.std.proofs.Common.{◌∙◌, codes}
 use Rattle.clap.specs.Words.{found_of, one_of, rows_of}
 use Rattle.clap.proofs.WalkLemmas.{one_text-rows}
 use Rattle.aig_command.proofs.Read.{limit_is}
-use Rattle.aig_command.proofs.to_aig.limit.Goals as goal
+use Rattle.aig_command.proofs.options.limit.Goals as goal
 
 pub returns : goal.returns
 returns c =

@@ -2,7 +2,7 @@ use Rattle.std.proofs.Common.{◌∙◌, ◌≡◌, ap, codes, false, true, None
 use Rattle.std.specs.Prelude.{string_bytes}
 use Rattle.std.specs.Str.{bytes_eq}
 use Rattle.aig_command.proofs.Read.{named_file, no_file, stream}
-use Rattle.aig_command.proofs.to_aig.file.Goals as goal
+use Rattle.aig_command.proofs.options.file.Goals as goal
 
 pub returns-in_default : goal.returns-in_default
 returns-in_default c =

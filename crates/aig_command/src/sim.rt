@@ -1,0 +1,48 @@
+//! What the arguments of `aigsim` ask for.
+ghost use Rattle.std.specs.Prelude.{◌≡◌, IfErr, IfOk, None, OnOk, Some};
+ghost use Rattle.clap.specs.Words.{found_of, rows_of};
+ghost use Rattle.aig_command.specs.Answer.{CanDo, HasOneStandardInput, IsAnswer, IsReason, simulation_of};
+ghost use Rattle.aig_command.specs.Asked.{aigsim, simulation, simulation_refusal};
+
+use crate::options::{file, is_set, limit};
+use crate::request::{Command, Sim};
+use crate::usage::Usage;
+use clap::ArgMatches;
+use std::alloc::{AllocError, Global};
+
+/// The simulation that the arguments name.
+fn simulation(alloc: Global, matches: &ArgMatches<'_>) -> Result<Sim, AllocError>
+    ensures { IfOk result (λ request. simulation_of request ≡ simulation (rows_of (found_of matches.now))) }
+{
+    let model = file(alloc, matches, "model")?;
+    let stimulus = file(alloc, matches, "stimulus")?;
+    Ok(Sim {
+        properties: is_set(matches, "properties"),
+        max_var: limit(matches),
+        model,
+        stimulus,
+    })
+}
+
+/// Refuses a simulation that cannot be done.
+fn check(request: &Sim) -> Result<(), Usage>
+    ensures ok { OnOk result (simulation_refusal (simulation_of request.now) ≡ None) }
+    ensures err { IfErr result (λ reason. IsReason reason
+        × (simulation_refusal (simulation_of request.now) ≡ Some reason)) }
+    ensures one { OnOk result (HasOneStandardInput request.now) }
+{
+    if request.model.is_none() && request.stimulus.is_none() {
+        return Err(Usage::BothStandardInput);
+    }
+    Ok(())
+}
+
+/// What the arguments of `aigsim` ask for.
+pub(crate) fn aigsim(alloc: Global, matches: &ArgMatches<'_>) -> Result<Command, Usage>
+    ensures answer { IsAnswer (aigsim (rows_of (found_of matches.now))) result }
+    ensures can_do { IfOk result CanDo }
+{
+    let request = simulation(alloc, matches)?;
+    check(&request)?;
+    Ok(Command::Sim(request))
+}

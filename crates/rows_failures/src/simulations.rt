@@ -1,0 +1,199 @@
+//! Simulations over devices that fail, and devices that move few bytes in a call.
+use crate::run::{Outcome, run_over};
+use crate::streams::{NEVER, OnceReader, OnceWriter};
+use aig_core::DeviceFault;
+use aig_files::FileAccess;
+use std::alloc::Global;
+use std::test::Fail;
+
+const MODEL: &[u8] = b"aag 3 2 0 1 1\n2\n4\n6\n6 2 4\n";
+
+/// Each line has three bytes, and the line of its step seven.
+const STIMULUS: &[u8] = b"0x\n1x\n11\n";
+
+const TRACE: &[u8] = b" 0x 0 \n 1x x \n 11 1 \n.\n";
+
+/// The words of each row, with a `#` between them: which of model and stimulus is a file, and which the standard input.
+const WORDS: &str = "aiger aigsim model stimulus#aiger aigsim model#aiger aigsim - stimulus";
+
+/// What is read, how many bytes the devices move in a call, and which call of each fails, counted from 0.
+#[derive(Clone, Copy)]
+struct Devices<'a> {
+    model: &'a [u8],
+    stimulus: &'a [u8],
+    piece: usize,
+    failing_model: u64,
+    failing_stimulus: u64,
+    failing_trace: u64,
+}
+
+/// No call fails.
+const SOUND: Devices<'static> = Devices {
+    model: MODEL,
+    stimulus: STIMULUS,
+    piece: 2,
+    failing_model: NEVER,
+    failing_stimulus: NEVER,
+    failing_trace: NEVER,
+};
+
+impl<'a> Devices<'a> {
+    fn reader(&self, text: &'a [u8], failing: u64) -> OnceReader<'a> {
+        OnceReader {
+            left: text,
+            piece: self.piece,
+            failing,
+            calls: 0,
+        }
+    }
+
+    fn model(&self) -> OnceReader<'a> {
+        self.reader(self.model, self.failing_model)
+    }
+
+    fn stimulus(&self) -> OnceReader<'a> {
+        self.reader(self.stimulus, self.failing_stimulus)
+    }
+
+    /// A run of the program with these words.
+    fn run(&self, alloc: Global, words: &str) -> Result<Outcome, Fail> {
+        let input = if words.ends_with(" - stimulus") {
+            self.model()
+        } else {
+            self.stimulus()
+        };
+        let output = OnceWriter::new(alloc, self.piece, self.failing_trace);
+        run_over(alloc, self, words, input, output)
+    }
+}
+
+impl<'a> FileAccess for Devices<'a> {
+    type Reader = OnceReader<'a>;
+
+    type Writer = OnceWriter;
+
+    fn open(&self, name: &str) -> Result<Self::Reader, DeviceFault> {
+        match name {
+            "model" => Ok(self.model()),
+            "stimulus" => Ok(self.stimulus()),
+            _ => Err(DeviceFault),
+        }
+    }
+
+    fn create(&self, _name: &str) -> Result<Self::Writer, DeviceFault> {
+        Err(DeviceFault)
+    }
+
+    fn close(&self, _writer: &mut Self::Writer) -> Result<(), DeviceFault> {
+        Ok(())
+    }
+}
+
+/// The line about a model that cannot be read.
+fn unread_model(words: &str) -> &'static str {
+    if words.ends_with(" - stimulus") {
+        "aiger: -: cannot read\n"
+    } else {
+        "aiger: model: cannot read\n"
+    }
+}
+
+/// The line about a stimulus that cannot be read.
+fn unread_stimulus(words: &str) -> &'static str {
+    if words.ends_with(" stimulus") {
+        "aiger: stimulus: cannot read\n"
+    } else {
+        "aiger: -: cannot read\n"
+    }
+}
+
+/// Each read of the model fails in turn: nothing was written, and nothing was read of a stimulus, which would fail too.
+#[test]
+fn failed_models(rt: HostRuntime) -> Result<(), Fail> {
+    for words in WORDS.split('#') {
+        let mut devices = SOUND;
+        devices.failing_stimulus = 0;
+        for call in 0..=MODEL.len() as u64 / 2 {
+            devices.failing_model = call;
+            let outcome = devices.run(rt.alloc(), words)?;
+            assert!(rt; outcome.told(1, unread_model(words)), "read {call}");
+            assert_eq!(rt; outcome.output.calls, 0);
+        }
+    }
+    Ok(())
+}
+
+/// Each read of the stimulus fails in turn: the lines of all steps that came are written, and no more.
+#[test]
+fn failed_stimuli(rt: HostRuntime) -> Result<(), Fail> {
+    for words in WORDS.split('#') {
+        let mut devices = SOUND;
+        for call in 0..=STIMULUS.len() / 2 {
+            devices.failing_stimulus = call as u64;
+            let outcome = devices.run(rt.alloc(), words)?;
+            assert!(rt; outcome.told(1, unread_stimulus(words)), "read {call}");
+            let written = &TRACE[..2 * call / 3 * 7];
+            assert!(rt; outcome.output.taken.as_slice() == written, "read {call}");
+        }
+    }
+    Ok(())
+}
+
+/// Each write of the trace fails in turn: a beginning was written, and no write came after it.
+#[test]
+fn failed_traces(rt: HostRuntime) -> Result<(), Fail> {
+    for words in WORDS.split('#') {
+        let mut devices = SOUND;
+        for call in 0..SOUND.run(rt.alloc(), words)?.output.calls {
+            devices.failing_trace = call;
+            let outcome = devices.run(rt.alloc(), words)?;
+            assert!(rt; outcome.told(1, "aiger: -: cannot write\n"), "write {call}");
+            let taken = outcome.output.taken.as_slice();
+            assert!(rt; TRACE.starts_with(taken), "write {call}");
+            assert_eq!(rt; outcome.output.calls, call + 1);
+        }
+    }
+    Ok(())
+}
+
+/// Few bytes in a call change nothing.
+#[test]
+fn traces_in_pieces(rt: HostRuntime) -> Result<(), Fail> {
+    for words in WORDS.split('#') {
+        let mut devices = SOUND;
+        for piece in [1, 7, 30_000] {
+            devices.piece = piece;
+            let outcome = devices.run(rt.alloc(), words)?;
+            assert!(rt; outcome.told(0, ""), "in pieces of {piece}");
+            assert!(rt;
+                outcome.output.taken.as_slice() == TRACE,
+                "in pieces of {piece}"
+            );
+        }
+    }
+    Ok(())
+}
+
+/// At a bad line, what was written before it stands, and nothing is read behind the bytes that it came with.
+#[test]
+fn bad_lines(rt: HostRuntime) -> Result<(), Fail> {
+    for words in WORDS.split('#') {
+        let mut devices = SOUND;
+        devices.stimulus = b"0x\n1\n11\n";
+        devices.failing_stimulus = 3;
+        let outcome = devices.run(rt.alloc(), words)?;
+        assert!(rt; outcome.output.taken.as_slice() == &TRACE[..7]);
+        let named = words.ends_with(" stimulus");
+        assert!(rt; outcome.told(1, bad_line(named)));
+    }
+    Ok(())
+}
+
+/// The line about a bad line of a stimulus, by its name or from a stream.
+fn bad_line(named: bool) -> &'static str {
+    if named {
+        "aiger: stimulus: line 2: bad stimulus line\n"
+    } else {
+        "aiger: -: line 2: bad stimulus line\n"
+    }
+}
