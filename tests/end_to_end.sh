@@ -196,11 +196,153 @@ large 0 2000000 0 > "$work/in"
 wants '' 'aiger: out of memory\n' 1
 check 'a file larger than the 20 MB of memory' within 20480 "$program" aigtoaig --ascii < "$work/in"
 
-# --- binary images ---
+# --- simulation ---
+printf 'aag 3 2 0 1 1\n2\n4\n6\n6 2 4\n' > "$work/gate"
+printf 'aag 1 0 1 2 0\n2 3\n2\n3\n' > "$work/toggle"
+simulate() { "$program" aigsim "$work/gate"; }
+printf '11\n.\n0x\n' > "$work/steps"
+printf '11\n1\n' > "$work/late_bad"
+printf '1\n11\n' > "$work/early_bad"
+
+wants '' 'aiger: -: cannot write\n' 1
+check 'a trace into a closed standard output' output_closed simulate < "$work/steps"
+check 'a trace into a full standard output' output_full simulate < "$work/steps"
+# whose step came first, and could not be written
+check 'a trace and a bad line, a closed standard output' output_closed simulate < "$work/late_bad"
+check 'a trace and a bad line, a full standard output' output_full simulate < "$work/late_bad"
+: > "$work/out"
+yes 11 | "$program" aigsim "$work/gate" 2> "$work/err" | head -c 1 > "$work/first"
+judge 'a trace into a pipe that nobody reads any more' "${PIPESTATUS[1]}"
+# a trace of nothing is not written, so nothing can go wrong there
+wants '' '' 0
+check 'an empty trace and a closed standard output' output_closed simulate < /dev/null
+check 'an empty trace and a full standard output' output_full simulate < /dev/null
+wants '' 'aiger: -: line 1: bad stimulus line\n' 1
+check 'a bad line first, a closed standard output' output_closed simulate < "$work/early_bad"
+check 'a bad line first, a full standard output' output_full simulate < "$work/early_bad"
+wants '' '' 1
+check 'a bad line first, a closed standard error' errors_closed simulate < "$work/early_bad"
+check 'a bad line first, a full standard error' errors_full simulate < "$work/early_bad"
+wants ' 11 1 \n' '' 1
+check 'a bad line behind a step, a closed standard error' errors_closed simulate < "$work/late_bad"
+wants '' 'aiger: -: cannot read\n' 1
+check 'a directory as stimulus' simulate < "$work"
+check 'a closed standard input as model' "$program" aigsim - "$work/steps" <&-
+
+# a model that is refused, or of which the words are, leaves the stimulus alone for whoever reads it next
+unread() { "$program" "$@" 2> /dev/null; cat; }
+wants '11\n.\n0x\n' '' 0
+check 'the stimulus of a model that is refused' unread aigsim "$work/steps" < "$work/steps"
+check 'the stimulus of a model that is not there' unread aigsim "$work/none" < "$work/steps"
+check 'the stimulus of words that are refused' unread aigsim --max-var x "$work/gate" < "$work/steps"
+check 'standard input, where model and stimulus are named' unread aigsim "$work/gate" /dev/null < "$work/steps"
+
+# in_turn NAME MODEL SENT TRACE .. REST: sends each text to a simulation, and waits, ten seconds at most, for the trace behind it:
+# all of that comes before more is sent. Then the stimulus ends, and what comes is REST.
+in_turn() {
+    local name=$1 model=$2 came= wanted= said count
+    shift 2
+    : > "$work/err"
+    coproc simulation { exec "$program" aigsim "$model" 2> "$work/err"; }
+    local from=${simulation[0]} to=${simulation[1]} child=$simulation_PID answers questions
+    exec {answers}<&"$from" {questions}>&"$to"
+    eval "exec $from<&- $to>&-"
+    while [ $# -gt 1 ]; do
+        wanted+=$2
+        printf '%b' "$1" >&"$questions"
+        for ((count = $(printf '%b' "$2" | wc -l); count > 0; count--)); do
+            if IFS= read -r -t 10 -u "$answers" said; then came+=$said'\n'; else came+='(not in time)'; break; fi
+        done
+        shift 2
+    done
+    exec {questions}>&-
+    while IFS= read -r -t 10 -u "$answers" said; do came+=$said'\n'; done
+    exec {answers}<&-
+    wait "$child" 2> /dev/null
+    ended=$?
+    wants "$wanted$1" '' 0
+    printf '%b' "$came" > "$work/out"
+    judge "$name" "$ended"
+}
+in_turn 'each line of a trace comes before more is sent' "$work/gate" '11\n' ' 11 1 \n' '0x\n' ' 0x 0 \n' '.\n' '.\n' \
+    '1x\n' ' 1x x \n' '.\n'
+in_turn 'lines sent in pieces, and several at once' "$work/gate" '1' '' '1\n0' ' 11 1 \n' '0\n.\n11\n' ' 00 0 \n.\n 11 1 \n' \
+    '1' '' '1\r' '' '\n' ' 11 1 \n' '.\n'
+in_turn 'empty lines' "$work/toggle" '\n' '0  01 1\n' '\r\n' '1  10 0\n' '\n.\n' '0  01 1\n.\n' ''
+
+wants ' 11 1 \n 0x 0 \n.\n' '' 0
+steps_in_pieces() { printf '1'; sleep 0.1; printf '1\n0'; sleep 0.1; printf 'x\r'; sleep 0.1; printf '\n'; }
+steps_in_pieces | simulate > "$work/out" 2> "$work/err"
+judge 'a stimulus that comes in pieces' "${PIPESTATUS[1]}"
+wants ' 11 1 \n' 'aiger: -: line 2: bad stimulus line\n' 1
+bad_in_pieces() { printf '11\n1'; sleep 0.1; printf '11'; sleep 0.1; printf '1\n11\n'; }
+bad_in_pieces | simulate > "$work/out" 2> "$work/err"
+judge 'a line that is too long and comes in pieces' "${PIPESTATUS[1]}"
+
+# 100 MB of stimulus in 20 MB of memory, through pipes: a line of the trace is written once, with how often it came
+printf 'aag 12 10 1 1 1\n%s22 22 1\n24\n24 22 20\n' "$(printf '%s\n' $(seq 2 2 20))
+" > "$work/wide"
+many_steps() { yes 01x01x01x1 2> /dev/null | head -n 9090910; }
+in_little() { ( ulimit -v 20480 && exec timeout 300 "$program" aigsim "$work/wide" ); }
+wants '9090910 1 01x01x01x1 1 1\n1 .\n' '' 0
+many_steps | in_little 2> "$work/err" | uniq -c | sed 's/^ *//' > "$work/out"
+judge '100 MB of stimulus in 20 MB of memory' "${PIPESTATUS[1]}"
+wants '' 'aiger: -: line 1: bad stimulus line\n' 1
+head -c 100000000 /dev/zero | tr '\0' 1 | in_little > "$work/out" 2> "$work/err"
+judge 'a line of 100 MB in 20 MB of memory' "${PIPESTATUS[2]}"
+
+yes 11 | head -n 100000 > "$work/in"
+printf 'x\n' >> "$work/in"
+wants '' 'aiger: -: line 100001: bad stimulus line\n' 1
+yes ' 11 1 ' | head -n 100000 > "$work/want_out"
+check 'a bad line after 100,000 steps' simulate < "$work/in"
+
+# each gate of a chain is the input
+chain_is_simulated() {
+    chain 0 "${@:2}" > "$work/chain"
+    "$program" aigtoaig --keep-map < "$work/chain" > "$work/mapped"
+    printf '1\n0\nx\n' > "$work/in"
+    wants ' 1 1 \n 0 0 \n x x \n.\n' '' 0
+    check "200,000 gates, $1" "$program" aigsim "$work/chain" < "$work/in"
+    check "the mapped image of 200,000 gates, $1" "$program" aigsim "$work/mapped" < "$work/in"
+}
+chain_is_simulated 'in the order of the chain' 1 200000
+chain_is_simulated 'each before the gate that it is over' 200000 -1 1
+
+# memory for a simulation is taken before the stimulus is read, for the gates that are there and not for the largest variable
+printf '%b' "$widest" > "$work/in"
+printf '10\n' > "$work/steps"
+wants ' 10 0 \n.\n' '' 0
+check '20 MB are enough to simulate the largest variable' within 20480 "$program" aigsim - "$work/steps" < "$work/in"
+printf 'aig 100000000 100000000 0 0 0\n' > "$work/inputs"
+wants '11\n' '' 0
+printf '11\n' > "$work/in"
+in_too_little() { within 204800 "$program" aigsim "$work/inputs" 2> "$work/told"; cat; }
+check 'a model too large for the memory, and its stimulus' in_too_little < "$work/in"
+if [ "$(cat "$work/told")" = 'aiger: out of memory' ]; then pass; else
+    fail 'a model too large for the memory' "came   $(cat "$work/told")"
+fi
+
+# --- circuits made by chance ---
 wants '' '' 0
 check 'binary images of circuits made by chance, and their maps' "$top/tests/images.py" "$program"
+check 'traces of circuits made by chance, of their images and of what is undone' "$top/tests/traces.py" "$program"
 
 # --- the examples ---
+# some_steps INPUTS: two runs of 20 steps, which look made by chance
+some_steps() {
+    awk -v inputs="$1" 'BEGIN {
+        for (step = 0; step < 40; step++) {
+            line = ""
+            for (i = 0; i < inputs; i++) {
+                at = (at * 16807 + 1) % 2147483647
+                line = line substr("0011x", int(at / 65536) % 5 + 1, 1)
+            }
+            print line
+            if (step == 19) print "."
+        }
+    }'
+}
 wants '' '' 0
 check 'the commands of examples/README.md print what stands there' "$top/tests/readme.py" "$program"
 for file in "$top"/examples/*.aag "$top"/examples/*.aig; do
@@ -215,6 +357,13 @@ for file in "$top"/examples/*.aag "$top"/examples/*.aig; do
     check "the binary image of ${file##*/} comes back" through_ascii "$work/in"
     cp "$canonical" "$work/want_out"
     check "the example ${file##*/} comes back by its map" with_map "$canonical"
+
+    "$program" aigtoaig --keep-map < "$file" > "$work/mapped"
+    some_steps "$(head -n 1 "$canonical" | cut -d ' ' -f 3)" > "$work/steps"
+    "$program" aigsim --properties "$file" "$work/steps" > "$work/want_out"
+    check "the trace of the binary image of ${file##*/}" "$program" aigsim --properties "$work/in" "$work/steps"
+    check "the trace of the mapped image of ${file##*/}" "$program" aigsim --properties "$work/mapped" "$work/steps"
+    if [ "$(grep -c ' ' "$work/want_out")" = 40 ]; then pass; else fail "the trace of the example ${file##*/} has 40 steps"; fi
 done
 
 . "$top/tests/files.sh"

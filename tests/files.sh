@@ -223,6 +223,63 @@ made 'an existing file, once more' "$files/longer" aig "$source" "$files/longer"
 wants '640\n' '' 0
 check 'and keeps its permissions' stat -c %a "$files/longer"
 
+# --- a model and a stimulus with names ---
+sim() { "$program" aigsim "$@"; }
+printf '00\n1x\n' > "$files/steps"
+printf '00\n1\n' > "$files/bad_steps"
+trace=' 00 00 \n 1x xx \n.\n'
+wants "$trace" '' 0
+check 'model and stimulus by their names' sim "$source" "$files/steps"
+check 'the image and the stimulus by their names' sim "$files/a.aig" "$files/steps"
+check 'model and stimulus by links' eval 'ln -sf steps "$files/steps.link" && ln -sf source.aag "$files/model.link" &&
+    sim "$files/model.link" "$files/steps.link"'
+cp "$files/steps" "$files/steps.gz"
+cp "$source" "$files/model.gz"
+check 'any ending of names' sim "$files/model.gz" "$files/steps.gz"
+check 'a stimulus and a model with names, all other streams closed' eval 'sim "$source" "$files/steps" <&- 2>&-'
+check 'the stimulus by standard input' sim "$source" < "$files/steps"
+check 'the model by standard input' sim - "$files/steps" < "$source"
+cp "$files/steps" "$files/-s"
+cp "$source" "$files/-m"
+check 'names that begin with - behind --, to simulate' eval 'cd "$files" && sim -- -m -s'
+check 'a limit on the model that is reached' sim --max-var=7 "$source" "$files/steps"
+wants "${trace}00 00 rest\n" '' 0
+check 'standard input is left alone where both are named' eval 'sim "$source" "$files/steps" && cat' <<< '00 00 rest'
+wants '' "aiger: $source: line 1: number above the limit\n" 1
+check 'a limit on the model that is passed' sim --max-var 6 "$source" "$files/steps"
+wants ' 00 00 \n' "aiger: $files/bad_steps: line 2: bad stimulus line\n" 1
+check 'a bad stimulus is named' sim "$source" "$files/bad_steps"
+check 'and so it is where the model is standard input' sim - "$files/bad_steps" < "$source"
+wants '' "aiger: $files/short.aag: line 2: file ends too early\n" 1
+check 'a refused model is named' sim "$files/short.aag" "$files/bad_steps"
+check 'a refused model is reported, and not a stimulus that is not there' sim "$files/short.aag" "$files/none"
+wants '' 'aiger: -: line 2: file ends too early\n' 1
+check 'a refused model by standard input' sim - "$files/none" < "$files/short.aag"
+# neither: NAME FILE MESSAGE: as model, and as stimulus
+neither() {
+    wants '' "aiger: $2: cannot read\n" 1
+    check "$1 as model" sim "$2" "$files/steps"
+    check "$1 as stimulus" sim "$source" "$2"
+    check "$1 as stimulus, the model by standard input" sim - "$2" < "$source"
+}
+neither 'a file that is not there' "$files/none.aag"
+neither 'a file in a folder that is not there' "$files/none/a.aag"
+neither 'a folder' "$files"
+neither 'an empty name' ''
+neither 'a dangling link' "$files/dangling"
+wants '' 'aiger: -: cannot write\n' 1
+check 'a trace of named files into a full standard output' output_full sim "$source" "$files/steps"
+check 'a trace of named files into a closed standard output' output_closed sim "$source" "$files/steps"
+wants '' "aiger: $files/none: cannot read\n" 1
+check 'a stimulus that is not there, and a full standard output' output_full sim "$source" "$files/none"
+cp -p "$source" "$work/before"
+cp -p "$files/steps" "$work/before_steps"
+wants "$trace" '' 0
+chmod 400 "$source" "$files/steps"
+check 'a model and a stimulus that may only be read' sim "$source" "$files/steps"
+chmod 644 "$source" "$files/steps"
+if cmp -s "$source" "$work/before" && cmp -s "$files/steps" "$work/before_steps"; then pass; else fail 'neither is changed'; fi
+
 # --- pipes with names ---
 mkfifo "$files/pipe"
 cat "$source" > "$files/pipe" &
@@ -241,6 +298,15 @@ wants '' "aiger: $files/pipe: cannot write\n" 1
 head -c 1 < "$files/pipe" > "$work/first" &
 check 'a pipe that nobody reads any more' aig --ascii "$work/long" "$files/pipe"
 wait
+
+mkfifo "$files/model_pipe"
+cat "$source" > "$files/model_pipe" &
+cat "$files/steps" > "$files/pipe" &
+wants "$trace" '' 0
+check 'pipes as model and as stimulus' sim "$files/model_pipe" "$files/pipe"
+wait
+wants '' "aiger: $files/short.aag: line 2: file ends too early\n" 1
+check 'no stimulus is waited for where a model is refused' timeout 10 "$program" aigsim "$files/short.aag" "$files/pipe"
 
 # --- names that look like options, and many or long arguments ---
 cd "$files" || exit
@@ -276,6 +342,9 @@ refused 'an option that no tool has yet' '--batch' aigtoaig --batch
 refused 'a limit that is no number' '--max-var' aigtoaig --max-var x
 refused 'a limit above the largest' '2147483648' aigtoaig --max-var 2147483648
 refused 'three names' 'c' aigtoaig a b c
+refused 'a model that is not named' 'model' aigsim
+refused 'three names to simulate' 'c' aigsim a b c
+refused 'an option that a simulation does not have' '--ascii' aigsim --ascii a
 refused 'no subcommand' 'aigtoaig'
 refused 'an unknown subcommand' 'aigsom' aigsom
 refused 'no help as a subcommand' 'help' help
@@ -284,6 +353,7 @@ refused 'a map in ASCII' 'aiger: --keep-map needs binary output' aigtoaig --keep
 refused 'a map to a name that ends in .aag' 'aiger: --keep-map needs binary output' aigtoaig --keep-map - "$files/b.aag"
 refused 'a map of a stripped circuit' 'aiger: --keep-map excludes --strip' aigtoaig --keep-map --strip --undo-map
 refused 'a map kept and undone' 'aiger: --keep-map excludes --undo-map' aigtoaig --keep-map --undo-map
+refused 'one stream for model and stimulus' 'aiger: model and stimulus are both standard input' aigsim -
 refused 'a compressed destination' 'aiger: compressed output is not supported' aigtoaig - x.aig.gz
 
 # --- help ---
@@ -311,9 +381,15 @@ if [ "$ran" = all ] && [ "$(wc -l < "$work/examples")" = 4 ] && grep -aq '^aigma
     cmp -s "$files/model.aig" "$work/binary" && cmp -s "$files/again.aag" "$files/model.aag"; then pass; else
     fail 'the examples of help run' "came   $ran, of" "$(cat "$work/examples")"
 fi
+helps 'help of aigsim' aigsim --help
+# its examples run as they stand too, and the traces of the half adder come
+grep '^  printf \|^  aiger aigsim ' "$work/out" | sed 's/aiger aigsim /"$program" aigsim /; s/   .*//' > "$work/examples"
+simulation_examples() { ( cd "$files" && set -e && . "$work/examples" ); }
+wants ' 10 10 \n 1x xx \n.\n 10 10   \n.\n 1x xx   \n.\n 10 10 \n.\n 1x xx \n.\n' '' 0
+check 'the examples of help of aigsim run' simulation_examples
 # the manual page has the same options
 options() { grep -o -- '--[a-z][a-z-]*' | sort -u; }
-"$program" aigtoaig --help | options > "$work/help_options"
+{ "$program" aigtoaig --help; "$program" aigsim --help; } | options > "$work/help_options"
 sed 's/Fl \\-/--/g; s/\\-/-/g' "$top/man/aiger.1" | options > "$work/man_options"
 wants '' '' 0
 cp "$work/help_options" "$work/want_out"

@@ -7,8 +7,8 @@ Each circuit has shuffled gates, variables far apart, unused indices, symbols an
 bad states, constraints, justice properties and fairness constraints. Its gates are placed by looking at all of them again for
 each: the next one is the first in the file whose operands over gates are all placed. What the program writes must be that
 image's file, and its ASCII text must give the file again. With the map, the file must have the block that is made here, and
-undone it must give the circuit's text. Circuit and image must have the same values, step by step, for the same inputs. Of
-circuits that may have cycles, the first gate that the plain search leaves out must be told.
+undone it must give the circuit's text. Of circuits that may have cycles, the first gate that the plain search leaves out must
+be told. What circuit and image mean, step by step, is compared in traces.py.
 """
 import dataclasses
 import random
@@ -17,7 +17,6 @@ import sys
 
 CIRCUITS = 400
 CYCLIC = 300
-STEPS = 4
 
 COMMENTS = [None, "", "made by chance\n", "no line feed", "aigmap 1 0 0 0 0 0\naigmap end\n", "\naigmap end\n"]
 
@@ -200,80 +199,6 @@ def mapped_image(made):
     return image(dataclasses.replace(made, comment=block + (made.comment or "")))
 
 
-def trace(made, starts, steps):
-    """What each literal of each list is, step by step: the uninitialised latches start at these values, and each step has the
-    values of the inputs."""
-    order, told = placed(made.gates), []
-    state = [start if reset == "x" else int(reset) for reset, start in zip(made.resets, starts)]
-    for values in steps:
-        at = {0: 0, **dict(zip(made.inputs, values)), **dict(zip(made.latches, state))}
-
-        def value(literal, at=at):
-            return at[literal // 2] ^ literal % 2
-
-        for own, left, right in order:
-            at[own // 2] = value(left) & value(right)
-        told.append([[value(it) for it in listed] for listed in made.lists()])
-        state = [value(it) for it in made.nexts]
-    return told
-
-
-def read_image(text):
-    """The circuit of a binary text without symbols and comment that the program wrote."""
-    at = text.index(b"\n")
-    total, inputs, latches, outputs, count, *more = (int(it) for it in text[:at].split()[1:])
-    bad, constraints, justice, fairness = more + [0] * (4 - len(more))
-    rest = text[at + 1 :]
-
-    def rows(many):
-        nonlocal rest
-        lines = rest.split(b"\n", many)
-        rest = lines.pop()
-        return [[int(it) for it in line.split()] for line in lines]
-
-    def listed(many):
-        return [row[0] for row in rows(many)]
-
-    def delta():
-        nonlocal rest
-        value = shift = 0
-        while rest[0] > 127:
-            value, shift, rest = value | rest[0] % 128 << shift, shift + 7, rest[1:]
-        value, rest = value | rest[0] << shift, rest[1:]
-        return value
-
-    nexts = [(row + [0])[:2] for row in rows(latches)]
-    outs, bads, invariants, sizes = listed(outputs), listed(bad), listed(constraints), listed(justice)
-    properties = [listed(size) for size in sizes]
-    fair, gates = listed(fairness), []
-    for variable in range(total - count + 1, total + 1):
-        left = 2 * variable - delta()
-        gates.append((2 * variable, left, left - delta()))
-    return Circuit(
-        largest=total,
-        inputs=list(range(1, inputs + 1)),
-        latches=list(range(inputs + 1, inputs + latches + 1)),
-        nexts=[following for following, _ in nexts],
-        resets=["01x"[min(reset, 2)] for _, reset in nexts],
-        outputs=outs,
-        bad=bads,
-        constraints=invariants,
-        justice=properties,
-        fairness=fair,
-        gates=gates,
-        symbols="",
-        comment=None,
-    )
-
-
-def behaves_alike(chance, made, text):
-    """Whether the circuit and what the program wrote of it in binary have the same values."""
-    other = read_image(text)
-    starts = [chance.randrange(2) for _ in made.latches]
-    steps = [[chance.randrange(2) for _ in made.inputs] for _ in range(STEPS)]
-    return made.resets == other.resets and trace(made, starts, steps) == trace(other, starts, steps)
-
-
 def converted(program, text, *words):
     ran = subprocess.run([program, "aigtoaig", *words], input=text, capture_output=True, check=False)
     return ran.stdout if (ran.returncode, ran.stderr) == (0, b"") else ran
@@ -305,8 +230,6 @@ def main(program):
             sys.exit(f"circuit {number} has another mapped image: {text!r}")
         if converted(program, mapped, "--undo-map", "--ascii") != text:
             sys.exit(f"circuit {number} is not undone: {mapped!r}")
-        if not behaves_alike(chance, made, converted(program, text, "--strip")):
-            sys.exit(f"the image of circuit {number} has other values: {text!r}")
     for number in range(CYCLIC):
         made = circuit(chance, may_be_cyclic=True)
         text = ascii_text(made)

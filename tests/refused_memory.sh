@@ -1,8 +1,8 @@
 #!/usr/bin/env bash
 # Runs each row of the table in rows.sh with its Nth growth of memory refused, N from 1 until there is no Nth growth.
-# A run with a refusal answers 'aiger: out of memory', status 1, and writes nothing; the run without one gives the
-# row's own answer. A row counts once. What happens before anything is read is the same for all rows with the same words, so it
-# is refused once, with a folder as standard input.
+# A run with a refusal answers 'aiger: out of memory', status 1, and writes nothing; a simulation has then read nothing of its
+# stimulus either. The run without a refusal gives the row's own answer. A row counts once. What happens before anything is
+# read is the same for all rows with the same words, so it is refused once, with a folder as standard input and as the model.
 . "$(dirname "${BASH_SOURCE[0]}")/rows.sh"
 . "$top/tests/judge.sh"
 need_program
@@ -14,21 +14,29 @@ if ! compile_preload refuse_growth; then
     finish
 fi
 
-# run_refusing N WORD..: one run over the file $input with the Nth growth refused, if there is one
+# run_refusing N WORD..: one run over the file $input with the Nth growth refused, if there is one. Leaves in $position how many
+# bytes of it were read.
 run_refusing() {
-    local number=$1
+    local number=$1 ended
     shift
+    exec 5< "$input"
     REFUSE=$number REFUSED=$work/refused.$number LD_PRELOAD=$work/refuse_growth.so \
-        "$program" "$@" < "$input" > "$work/out" 2> "$work/err"
+        "$program" "$@" <&5 5<&- > "$work/out" 2> "$work/err"
+    ended=$?
+    read -r _ position < /proc/self/fdinfo/5
+    exec 5<&-
+    return "$ended"
 }
 
 growths=0
 
-# Whether a run with a refusal that ended with STATUS ran out of memory, and wrote nothing.
+# Whether a run with a refusal that ended with STATUS ran out of memory, and wrote nothing; and, of a simulation whose stimulus is
+# the standard input, whether it read nothing of that.
 ran_out() {
     local line= rest=
     { IFS= read -r line; IFS= read -r rest; } < "$work/err"
-    [ "$1" = 1 ] && [ "$line" = 'aiger: out of memory' ] && [ -z "$rest" ] && [ ! -s "$work/out" ]
+    [ "$1" = 1 ] && [ "$line" = 'aiger: out of memory' ] && [ -z "$rest" ] && [ ! -s "$work/out" ] || return
+    [ "$reads" != stimulus ] || [ "$position" = 0 ]
 }
 
 # refuse_each FROM WORD..: refuses each growth from number FROM on. Leaves in $number the first that there is not, and in $ended
@@ -49,15 +57,30 @@ refuse_each() {
 # how many growths come before anything is read, which are the same in each row with these words
 declare -A before
 
+# Leaves in $unread the words with a folder in the place of the model, since rows of many models have the same growths before
+# their model is read. Its name is as long, and so are the names of all models that take its place.
+without_model() {
+    local place
+    unread=("$@")
+    for place in "${!unread[@]}"; do
+        [ "${unread[place]}" = "${model-}" ] || continue
+        unread[place]=$work/folds.${models//[0-9]/1}
+        mkdir -p "${unread[place]}"
+    done
+}
+
 row() {
-    local name=$1 input=$work status=$5 number ended words
+    local name=$1 input=$work status=$5 number ended words reads=source position unread
     printf '%b' "$2" > "$work/in"
     wants "$3" "$4" "$5"
     shift 5
-    words="words ${*@Q}"   # which is no empty subscript
-    if [ ! -v "before[$words]" ]; then
+    without_model "$@"
+    # the model comes by standard input where it is named by -, which in these rows is the first name
+    [ "${1-}" != aigsim ] || [ "${2-}" = - ] || reads=stimulus
+    words="words ${unread[*]@Q}"   # which is no empty subscript
+    if [ -z "${before[$words]-}" ]; then   # -v would take the quotes out of the subscript
         before[$words]=0
-        if refuse_each 1 "$@" && [ "$(< "$work/err")" = 'aiger: -: cannot read' ]; then
+        if refuse_each 1 "${unread[@]}" && [[ $(< "$work/err") =~ ^aiger:\ (-|"$work/folds."1+):\ cannot\ read$ ]]; then
             before[$words]=$((number - 1))
         fi
         rm -f "$work"/refused.*

@@ -47,6 +47,9 @@ finish() {
     exit
 }
 
+# the rows of aigsim
+. "$top/tests/trace_rows.sh"
+
 # digits COUNT DIGIT
 digits() { printf "%$1s" '' | tr ' ' "$2"; }
 
@@ -102,6 +105,7 @@ rows() {
     rows_undone
     rows_blocks
     rows_forged
+    rows_traces
     rows_words
 }
 
@@ -956,7 +960,7 @@ rows_words() {
     local usage='\n\nUsage: aiger <COMMAND>' one='\n\nUsage: aiger aigtoaig'
     local every="$one [OPTIONS] [source] [destination]" small='aag 3 1 1 2 0\n6\n2 7\n2\n0\n'
     local image='aig 1 1 0 1 0\n3\nc\naigmap 1 9 1 0 0 0\n9\naigmap end\n' undone='aag 9 1 0 1 0\n18\n19\n'
-    misused 'no words' "'aiger' requires a subcommand but one was not provided\n  [subcommands: aigtoaig]$usage"
+    misused 'no words' "'aiger' requires a subcommand but one was not provided\n  [subcommands: aigtoaig, aigsim]$usage"
     missing 'a word after the subcommand' none/x aigtoaig none/x
     missing 'a word behind ASCII' none/x aigtoaig --ascii none/x
     missing 'an empty word behind ASCII' '' aigtoaig --ascii ''
@@ -974,8 +978,24 @@ rows_words() {
     misused 'one word of two' \
         "unrecognized subcommand 'aigtoaig --ascii'\n\n  tip: a similar subcommand exists: 'aigtoaig'$usage" 'aigtoaig --ascii'
     row 'help' 'aag 0 0 0 0 0\n' "$(cat "$top/docs/help.txt")\n" '' 0 --help
-    misused 'another subcommand' "unrecognized subcommand 'aigsim'\n\n  tip: a similar subcommand exists: 'aigtoaig'$usage" \
-        aigsim --ascii
+    misused 'another subcommand' "unrecognized subcommand 'aigunroll'$usage" aigunroll --ascii
+    misused 'a subcommand that is close to two' \
+        "unrecognized subcommand 'aigsom'\n\n  tip: some similar subcommands exist: 'aigtoaig', 'aigsim'$usage" aigsom x
+    local sim='\n\nUsage: aiger aigsim'
+    local all="$sim [OPTIONS] <model> [stimulus]"
+    misused 'no model' "the following required arguments were not provided:\n  <model>$sim <model> [stimulus]" aigsim
+    misused 'an option of conversions' "unexpected argument '--ascii' found\n\n  tip: to pass '--ascii' as a value, use '-- --ascii'$all" \
+        aigsim --ascii x
+    misused 'a part of the option of simulations' \
+        "unexpected argument '--propertie' found\n\n  tip: a similar argument exists: '--properties'$sim --properties <model> [stimulus]" \
+        aigsim --propertie x
+    misused 'the option of simulations twice' "the argument '--properties' cannot be used multiple times$all" \
+        aigsim --properties x --properties
+    misused 'a name too many for a simulation' "unexpected argument 'z' found$all" aigsim x y z
+    misused 'the option of simulations for a conversion' \
+        "unexpected argument '--properties' found\n\n  tip: to pass '--properties' as a value, use '-- --properties'$every" aigtoaig --properties
+    misused 'a limit of simulations that is no number' "invalid value 'x' for '--max-var <N>': invalid digit found in string" \
+        aigsim x --max-var x
     misused 'another option' "unexpected argument '--binary' found\n\n  tip: to pass '--binary' as a value, use '-- --binary'$every" aigtoaig --binary
     unwanted 'a map kept in ASCII' '--keep-map needs binary output' aigtoaig --keep-map --ascii
     unwanted 'a map kept in a stripped file' '--keep-map excludes --strip' aigtoaig --strip --keep-map

@@ -1,0 +1,126 @@
+#!/usr/bin/env python3
+"""Compares the traces that the program writes with those of a plain evaluation, on circuits and stimuli made by chance.
+
+    tests/traces.py PROGRAM
+
+The circuits are those of images.py: with shuffled gates, and half of them with resets, bad states, constraints, justice
+properties and fairness constraints. A stimulus has some runs of some steps over 0, 1 and x; some of them have a bad line. The
+trace of each circuit, of its binary image, of its mapped image and of what is undone from that must be the text that is worked
+out here, value by value, from the circuit's own equations.
+"""
+import concurrent.futures
+import random
+import subprocess
+import sys
+import tempfile
+from pathlib import Path
+
+sys.dont_write_bytecode = True
+import images
+
+CIRCUITS = 2000
+AT_ONCE = 4
+NOT = {"0": "1", "1": "0", "x": "x"}
+
+
+def conjunction(left, right):
+    if "0" in (left, right):
+        return "0"
+    return "1" if (left, right) == ("1", "1") else "x"
+
+
+def values(at, literals):
+    """The values of literals, where variables have these."""
+    return "".join(NOT[at[it // 2]] if it % 2 else at[it // 2] for it in literals)
+
+
+def step(made, order, state, given):
+    """The lines of a step, without and with properties, and its next state. The gates are evaluated in this order."""
+    at = {0: "0", **dict(zip(made.inputs, given)), **dict(zip(made.latches, state))}
+    for own, *operands in order:
+        at[own // 2] = conjunction(*values(at, operands))
+    following = values(at, made.nexts)
+    plain = f"{state} {given} {values(at, made.outputs)} {following}"
+    return plain, f"{plain} {values(at, made.bad)} {values(at, made.constraints)}", following
+
+
+def lines_of_trace(made, lines):
+    """What is traced of the lines of a stimulus, up to the first bad one, as pairs without and with properties; and the number
+    of that line."""
+    order, reset = images.placed(made.gates), "".join(made.resets)
+    state, traced, has_step = reset, [], False
+    for number, line in enumerate(lines, 1):
+        if line == ".":
+            traced.append((".", "."))
+            state, has_step = reset, False
+        elif len(line) == len(made.inputs) and set(line) <= set("01x"):
+            plain, full, state = step(made, order, state, line)
+            traced.append((plain, full))
+            has_step = True
+        else:
+            return traced, number
+    return traced + [(".", ".")] * has_step, None
+
+
+def stimulus(chance, inputs):
+    """The lines of a stimulus, and its text."""
+    characters, lines = chance.choice(["01", "01x", "0001xx", "x"]), []
+    for _ in range(chance.randrange(4)):
+        lines += ["".join(chance.choices(characters, k=inputs)) for _ in range(chance.randrange(7))] + ["."]
+    if chance.randrange(2) and lines:
+        lines.pop()
+    if not chance.randrange(8):
+        lines.insert(chance.randrange(len(lines) + 1), chance.choice(["0" * (inputs + 1), "y", " ", "..", ". ", "1" * (inputs + 9)]))
+    ends = ["\r\n" if chance.randrange(4) == 0 else "\n" for _ in lines]
+    # a last step without inputs is nothing without its line feed
+    if lines and lines[-1] and chance.randrange(2):
+        ends[-1] = ""
+    return lines, "".join(map("".join, zip(lines, ends)))
+
+
+def ran(program, text, *words):
+    """Standard output, standard error and the status."""
+    done = subprocess.run([program, *words], input=text, capture_output=True, check=False)
+    return done.stdout, done.stderr, done.returncode
+
+
+def converted(program, text, *words):
+    output, errors, status = ran(program, text, "aigtoaig", *words)
+    if (errors, status) != (b"", 0):
+        sys.exit(f"{words} does not take {text!r}: {errors!r}")
+    return output
+
+
+def judge(program, folder, number, made, lines, given):
+    """What is wrong with the traces of this circuit, if anything is."""
+    source, steps = images.ascii_text(made), Path(folder) / f"steps.{number}"
+    mapped = converted(program, source, "--keep-map")
+    models = [source, converted(program, source), mapped, converted(program, mapped, "--undo-map", "--ascii")]
+    steps.write_bytes(given.encode())
+    traced, bad_line = lines_of_trace(made, lines)
+    errors = f"aiger: {steps}: line {bad_line}: bad stimulus line\n".encode() if bad_line else b""
+    plain, full = ("".join(f"{line[which]}\n" for line in traced).encode() for which in (0, 1))
+    # with properties, which shows all the columns, of all four; and without of one of them in turn
+    asked = [(model, ["--properties"], full) for model in models] + [(models[number % len(models)], [], plain)]
+    for model, words, wanted in asked:
+        came = ran(program, model, "aigsim", *words, "-", str(steps))
+        if came != (wanted, errors, 1 if bad_line else 0):
+            return f"circuit {number}, {model!r} over {given!r}: wanted {wanted!r} and {errors!r}, came {came!r}"
+    steps.unlink()
+    return None
+
+
+def main(program):
+    chance = random.Random(18)
+    with tempfile.TemporaryDirectory() as folder, concurrent.futures.ThreadPoolExecutor(AT_ONCE) as pool:
+        asked = []
+        for number in range(CIRCUITS):
+            made = images.circuit(chance)
+            asked.append(pool.submit(judge, program, folder, number, made, *stimulus(chance, len(made.inputs))))
+        wrong = [said for said in (it.result() for it in asked) if said]
+    if wrong:
+        sys.exit(f"{len(wrong)} circuits have other traces; the first is {wrong[0]}")
+
+
+if __name__ == "__main__":
+    main(*sys.argv[1:])
