@@ -1,5 +1,5 @@
 #!/usr/bin/env python3
-"""Writes the files that bench/run.py measures: those that are named KIND-N, where N is a number of lines.
+"""Writes the files that bench/run.py measures: those that are named KIND-N, where N is a number of lines, gates or steps.
 
 kinds:
   latches         N latches, variables 1 to N in order: the index of definitions at its easiest
@@ -15,6 +15,12 @@ kinds:
   gates-chain     N gates, each over the one before it and an input: as deep as a circuit can be
   binary-far      N gates in a binary file, over any places before them: most deltas have three bytes
   binary-near     the same, over the 60 places before them: each delta has one byte
+  run-far         a binary file of N gates to simulate, over any places before them, with 64 inputs, latches and outputs
+  run-near        the same, over the 60 places before them
+  text            10 inputs, and 10 outputs that are these or their negations, to simulate for N steps
+
+Beside a file to simulate stands its stimulus, in NAME.steps, and the beginning of its trace, in NAME.trace; of text that is
+all of it. The steps of run-far and run-near are so many that all gates of all steps are 300,000,000.
 
 Each file is canonical and the same on every machine. A conversion to ASCII gives an ASCII file back byte for byte;
 what it gives of a binary file stands beside that, in NAME.aig.ascii. A conversion to binary gives a binary file back
@@ -28,6 +34,11 @@ import re
 
 LARGEST = 2147483647
 ENDS = 1000
+# of files to simulate: inputs, latches and outputs; all gates of all steps; how many of these a plain evaluation takes
+RUN_ENDS = 64
+RUN_GATES = 300_000_000
+PLAIN_GATES = 2_000_000
+WIDTH = 10
 OUT = os.path.join(os.path.dirname(os.path.abspath(__file__)), "out")
 
 
@@ -116,16 +127,16 @@ def spelled(delta):
     return bytes(groups)
 
 
-def binary(count, most):
+def binary(count, most, ends=ENDS):
     """A circuit whose gates are over at most so many places before them: its binary text and its ASCII text."""
     chance = random.Random(6)
-    first = 2 * ENDS
+    first = 2 * ends
     total = first + count
-    nexts = "".join(f"{chance.randrange(2 * total + 2)}\n" for _ in range(2 * ENDS))
-    text = bytearray(f"aig {total} {ENDS} {ENDS} {ENDS} {count}\n{nexts}", "ascii")
-    lines = [f"aag {total} {ENDS} {ENDS} {ENDS} {count}\n"]
-    lines += [f"{2 * place}\n" for place in range(1, ENDS + 1)]
-    for place, literal in enumerate(nexts.splitlines(True), ENDS + 1):
+    nexts = "".join(f"{chance.randrange(2 * total + 2)}\n" for _ in range(2 * ends))
+    text = bytearray(f"aig {total} {ends} {ends} {ends} {count}\n{nexts}", "ascii")
+    lines = [f"aag {total} {ends} {ends} {ends} {count}\n"]
+    lines += [f"{2 * place}\n" for place in range(1, ends + 1)]
+    for place, literal in enumerate(nexts.splitlines(True), ends + 1):
         lines.append(f"{2 * place} {literal}" if place <= first else literal)
     for place in range(first + 1, total + 1):
         lowest = max(2, 2 * (place - most))
@@ -190,6 +201,54 @@ def block(header, first, gates, order, literal):
     return "\n".join([*lines, "aigmap end", ""]).encode()
 
 
+def copied(count):
+    """A circuit whose outputs are its inputs, every other one negated; the count is one of steps."""
+    header = f"aag {WIDTH} {WIDTH} 0 {WIDTH} 0\n"
+    return [header, *(f"{2 * it}\n" for it in range(1, WIDTH + 1)), *(f"{2 * it + it % 2}\n" for it in range(1, WIDTH + 1))]
+
+
+def steps(inputs, count):
+    """The lines of a stimulus of one run."""
+    chance = random.Random(8)
+    return ["".join(chance.choices("00000001111111xx", k=inputs)) + "\n" for _ in range(count)]
+
+
+def copied_trace(lines):
+    """The trace of the circuit whose outputs are its inputs, every other one negated."""
+    negated = str.maketrans("01", "10")
+    for line in lines:
+        given = line.rstrip()
+        shown = "".join(it.translate(negated) if place % 2 == 0 else it for place, it in enumerate(given))
+        yield f" {given} {shown} \n"
+    yield ".\n"
+
+
+def first_of_trace(lines, given):
+    """The beginning of a trace, by a plain evaluation of the circuit of these lines, whose gates stand in order."""
+    header, *rows = ([int(it) for it in line.split() if it != "aag"] for line in lines)
+    inputs, latches, outputs = header[1:4]
+    following, ends = [row[1] for row in rows[inputs:][:latches]], [row[0] for row in rows[inputs + latches :][:outputs]]
+    gates = rows[inputs + latches + outputs :]
+    conjunction = {(left, right): min(left, right) for left in (0, 1, 2) for right in (0, 1, 2)}
+    state = [0] * latches
+    for line in given:
+        # 0, x and 1 as 0, 1 and 2, so that a negation is the difference from 2 and a conjunction is the less of two
+        at = [0, *("0x1".index(it) for it in line.rstrip()), *state]
+        values = [it for value in at for it in (value, 2 - value)]
+        for _, left, right in gates:
+            value = conjunction[values[left], values[right]]
+            values += (value, 2 - value)
+        after = [values[it] for it in following]
+        columns = [state, [values[2 * it] for it in range(1, inputs + 1)], [values[it] for it in ends], after]
+        yield " ".join("".join("0x1"[it] for it in column) for column in columns) + "\n"
+        state = after
+
+
+RUN_KINDS = {
+    "run-far": lambda count: binary(count, count, ends=RUN_ENDS),
+    "run-near": lambda count: binary(count, 60, ends=RUN_ENDS),
+}
+SIMULATED = (*RUN_KINDS, "text")
 BINARY_KINDS = {
     "binary-far": lambda count: binary(count, count),
     "binary-near": lambda count: binary(count, 60),
@@ -207,20 +266,22 @@ KINDS = {
     "gates-eighth-shuffled": lambda count: gates(count, times=8, is_shuffled=True),
     "gates-chain": lambda count: gates(count, is_chain=True),
 }
-DEFAULT = [f"{kind}-{count}" for kind in (*KINDS, *BINARY_KINDS) for count in (100_000, 1_000_000)]
+CONVERTED = [f"{kind}-{count}" for kind in (*KINDS, *BINARY_KINDS) for count in (100_000, 1_000_000)]
+RUNS = [f"{kind}-{count}" for kind in RUN_KINDS for count in (1_000, 10_000, 100_000, 1_000_000)]
+DEFAULT = [*CONVERTED, *RUNS, "text-1000000"]
 
 
 def file_name(text):
     """A name of the form KIND-N, for argparse."""
     form = re.fullmatch(r"(.+)-(\d+)", text)
-    if not form or form[1] not in (*KINDS, *BINARY_KINDS) or not 0 < int(form[2]) <= 10_000_000:
+    if not form or form[1] not in (*KINDS, *BINARY_KINDS, *SIMULATED) or not 0 < int(form[2]) <= 10_000_000:
         raise argparse.ArgumentTypeError(f"{text} is no KIND-N, with a kind that --help lists and N from 1 to 10000000")
     return text
 
 
 def path_of(name, folder=OUT):
     """Where the file of that name goes."""
-    return os.path.join(folder, f"{name}.aig" if name.startswith("binary-") else f"{name}.aag")
+    return os.path.join(folder, f"{name}.aig" if name.startswith(("binary-", "run-")) else f"{name}.aag")
 
 
 def ascii_of(path):
@@ -243,11 +304,38 @@ def source_of(path):
     return path
 
 
+def steps_of(path):
+    """Where the stimulus of a file to simulate stands."""
+    return f"{path}.steps"
+
+
+def trace_of(path):
+    """Where the beginning of the trace of a file to simulate stands."""
+    return f"{path}.trace"
+
+
+def write_simulated(kind, count, path):
+    """Writes a file to simulate, with its stimulus and the beginning of its trace."""
+    if kind == "text":
+        lines, given = copied(count), steps(WIDTH, count)
+        model, trace = "".join(lines).encode(), copied_trace(given)
+    else:
+        model, lines = RUN_KINDS[kind](count)
+        given = steps(RUN_ENDS, RUN_GATES // count)
+        trace = first_of_trace(lines, given[: PLAIN_GATES // count])
+    for name, text in ((path, model), (steps_of(path), "".join(given).encode()), (trace_of(path), "".join(trace).encode())):
+        with open(name, "wb") as file:
+            file.write(text)
+    return path
+
+
 def write(name, folder=OUT):
     """Writes the file of that name and what stands beside it, and returns its path."""
     kind, count = name.rsplit("-", 1)
     os.makedirs(folder, exist_ok=True)
     path = path_of(name, folder)
+    if kind in SIMULATED:
+        return write_simulated(kind, int(count), path)
     if kind in BINARY_KINDS:
         text, lines = BINARY_KINDS[kind](int(count))
         beside = {image_of(path): text}
@@ -265,13 +353,15 @@ def write(name, folder=OUT):
 def is_written(name, folder=OUT):
     """Whether the file of that name is there, with what stands beside it."""
     path = path_of(name, folder)
+    if name.startswith(SIMULATED):
+        return all(map(os.path.isfile, (path, steps_of(path), trace_of(path))))
     beside = [image_of(path), mapped_of(path)] if name.startswith("gates-") else []
     return all(os.path.isfile(it) for it in (path, ascii_of(path), *beside))
 
 
 def main():
     asked = argparse.ArgumentParser(description=__doc__, formatter_class=argparse.RawDescriptionHelpFormatter)
-    sizes = "by default each kind with 100000 and 1000000"
+    sizes = "by default each kind with 100000 and 1000000, run-far and run-near also with 1000 and 10000, text with 1000000"
     asked.add_argument("names", metavar="KIND-N", nargs="*", type=file_name, help=sizes)
     asked.add_argument("--folder", default=OUT, help="where the files go, NAME.aag or NAME.aig each (bench/out)")
     given = asked.parse_args()

@@ -2,7 +2,8 @@
 """Measures the program, and another beside it, on the files of bench/generate.py, and prints a Markdown table for each
 of the measurements below.
 
-Each program reads the file as its standard input and writes to /dev/null. A time is the best of some runs, in which the
+Each program reads the file as its standard input, of a simulation the model and the stimulus by their names, and writes to
+/dev/null. A time is the best of some runs, in which the
 programs take turns, from the start of the process to its end. Peak memory is the kernel's count of resident memory.
 """
 import argparse
@@ -93,6 +94,32 @@ MEASUREMENTS = {
         aims=dict.fromkeys(GATES, 2.0),
         aimed_bytes=120,
     ),
+}
+
+
+class Simulation(NamedTuple):
+    """What is simulated, and what a step or a gate of it may cost."""
+
+    # The kinds of files, as bench/generate.py names them.
+    kinds: tuple
+    # What a time is divided by: of a file of so many gates or steps.
+    unit: str
+    units: Callable
+    # The quotient aimed at.
+    aim: float
+    # How many bytes a gate there should be at most beyond what reading takes; of other units there is no aim.
+    aimed_bytes: float = math.inf
+
+
+SIMULATIONS = {
+    "run": Simulation(
+        kinds=tuple(generate.RUN_KINDS),
+        unit="gate and step",
+        units=lambda gates: generate.RUN_GATES,
+        aim=0.6,
+        aimed_bytes=40,
+    ),
+    "text": Simulation(kinds=("text",), unit="step", units=lambda steps: steps, aim=0.3),
 }
 
 
@@ -247,6 +274,64 @@ def measure(measurement, commands, files, runs):
     tell_ends(measurement, commands, floors, quotients, missed, runs)
 
 
+def judge_traces(commands, file):
+    """Ends the run where a trace does not begin as a plain evaluation does, or where two of them differ."""
+    traces = []
+    for name, command in commands.items():
+        scratch = f"{generate.OUT}/scratch-{name}"
+        if spawned(command, os.devnull, scratch)[2] != 0 or not content(scratch).startswith(content(generate.trace_of(file))):
+            sys.exit(f"bench/run.py: {name} does not give {generate.trace_of(file)}")
+        traces.append(content(scratch))
+    if any(trace != traces[0] for trace in traces):
+        sys.exit(f"bench/run.py: {' and '.join(commands)} give two traces of {file}")
+
+
+def bytes_beyond_reading(program, file, peak, gates):
+    """How many bytes a gate a simulation takes beyond what the conversion of the model to ASCII takes, which reads it and no
+    more."""
+    return max(peak - peak_bytes([program, "aigtoaig", "--ascii", file], os.devnull), 0) / gates
+
+
+def simulated(simulation, programs, file, runs):
+    """The cells of a file, and the aims that it does not meet."""
+    commands = {name: [it, "aigsim", file, generate.steps_of(file)] for name, it in programs.items()}
+    judge_traces(commands, file)
+    name, (_, count) = os.path.basename(file), kind_and_count(file)
+    times = best_seconds(list(commands.values()), os.devnull, runs)
+    peaks = [peak_bytes(it, os.devnull) for it in commands.values()]
+    cells, missed = [f"{it * 1e9 / simulation.units(count):.2f}" for it in times], []
+    if times[1:]:
+        quotient = times[0] / times[1]
+        cells += [f"{quotient:.2f}", f"{simulation.aim}"]
+        missed += [f"{name} {quotient:.2f} of {simulation.aim}"] * (quotient > simulation.aim)
+    cells += [f"{it / 1e6:.1f}" for it in peaks]
+    if simulation.aimed_bytes < math.inf:
+        beyond = bytes_beyond_reading(programs["aiger"], file, peaks[0], count)
+        cells.append(f"{beyond:.0f}")
+        is_missed = count == AIMED_AT and beyond > simulation.aimed_bytes
+        missed += [f"{name} {beyond:.0f} of {simulation.aimed_bytes} bytes"] * is_missed
+    return [name, *cells], missed
+
+
+def simulate(simulation, program, peer, files, runs):
+    """Prints the table of a simulation. Model and stimulus are files with names."""
+    programs = {"aiger": program, **({"peer": peer} if peer else {})}
+    heads = [f"{it}, ns a {simulation.unit}" for it in programs] + ["quotient", "aim"] * (len(programs) > 1)
+    heads += [f"{it}, MB" for it in programs] + ["beyond reading, bytes a gate"] * (simulation.aimed_bytes < math.inf)
+    print("`aigsim`\n")
+    row("file", *heads)
+    print("|---|" + "---:|" * len(heads))
+    missed = []
+    for file in files:
+        cells, more = simulated(simulation, programs, file, runs)
+        row(*cells)
+        missed += more
+    print(f"\nBest of {runs} runs.")
+    if missed:
+        print(f"Aims not met: {'; '.join(missed)}.")
+    print(flush=True)
+
+
 def asked():
     """The words of the command line."""
     words = argparse.ArgumentParser(description=__doc__, formatter_class=argparse.RawDescriptionHelpFormatter)
@@ -254,7 +339,7 @@ def asked():
     words.add_argument("--peer", help="an executable to measure beside it, which takes the same words and streams")
     words.add_argument("--runs", type=int, default=15, help="runs of each program, of which the best counts (15)")
     only = "one of the measurements alone, which may be given again for more (all)"
-    words.add_argument("--only", action="append", choices=[*MEASUREMENTS], help=only)
+    words.add_argument("--only", action="append", choices=[*MEASUREMENTS, *SIMULATIONS], help=only)
     default = "what to measure on, of those that bench/generate.py writes, each for the measurements of its kind"
     words.add_argument("files", nargs="*", help=f"{default} (those it writes by default, made where they are missing)")
     given = words.parse_args()
@@ -264,7 +349,7 @@ def asked():
     for file in given.files:
         if not os.path.isfile(file):
             sys.exit(f"bench/run.py: no such file: {file}")
-        if kind_and_count(file)[0] not in (*generate.KINDS, *generate.BINARY_KINDS):
+        if kind_and_count(file)[0] not in (*generate.KINDS, *generate.BINARY_KINDS, *generate.SIMULATED):
             sys.exit(f"bench/run.py: no file of bench/generate.py: {file}")
     if given.runs < 1:
         sys.exit("bench/run.py: --runs takes a number from 1")
@@ -279,7 +364,12 @@ def main():
             generate.write(name)
     files = given.files or [generate.path_of(it) for it in generate.DEFAULT]
     program, peer = os.path.abspath(given.program), given.peer and os.path.abspath(given.peer)
-    for name in given.only or MEASUREMENTS:
+    for name in given.only or [*MEASUREMENTS, *SIMULATIONS]:
+        if name in SIMULATIONS:
+            fitting = [it for it in files if kind_and_count(it)[0] in SIMULATIONS[name].kinds]
+            if fitting:
+                simulate(SIMULATIONS[name], program, peer, fitting, given.runs)
+            continue
         measurement = MEASUREMENTS[name]
         fitting = [it for it in files if kind_and_count(it)[0] in measurement.kinds]
         for wanted in map(measurement.wanted, fitting):
