@@ -5,6 +5,4 @@
 #[cfg(test)]
 mod steps;
 #[cfg(test)]
-mod traces;
-#[cfg(test)]
 mod values;
