@@ -1,5 +1,5 @@
-//! Tests of calls of `aig_sim`, and of the three values, that neither a contract decides nor a run of the program shows.
-//! The texts that the program is run on stand in `tests/rows.sh`.
+//! Tests of the simulator's calls and of the three values, where neither a contract decides nor a run of the program
+//! shows what comes. The texts that the program is run on stand in `tests/rows.sh` and `tests/trace_rows.sh`.
 #![tactic(auto)]
 
 #[cfg(test)]
