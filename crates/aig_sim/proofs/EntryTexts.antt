@@ -3,12 +3,12 @@ use Rattle.std.proofs.Common.{◌≡◌, ◌≢◌, ◌+◌, ◌≤◌, ◌<◌,
 use Rattle.std.proofs.Common.{false, length}
 use Rattle.std.proofs.Common.{Option, Some, None, codes, option_map, option_and_then, if◌then◌else◌, bytes_eq}
 use Rattle.std.proofs.Common.{refl, sym, ap}
-use Rattle.std.proofs.Common.{◌∙◌, arith, eq-eqb}
+use Rattle.std.proofs.Common.{◌∙◌, arith}
 use Rattle.std.proofs.lemmas.Bool.{ne_eqb, false_from_ne_true}
 use Rattle.std.proofs.lemmas.Slice.Eq.{bytes_eq-Decides}
 use Rattle.aig_core.specs.declared.value.Val.{Val}
 use Rattle.aig_text.specs.Lines.{line}
-use Rattle.aig_sim.specs.Stimulus.{Step, Stop, entry_in, entry_of, value_of, values_of, without_return}
+use Rattle.aig_sim.specs.Stimulus.{entry_in, entry_of, value_of, values_of, without_return}
 
 -- characters, one by one
 nothing_first : (o : Option Val) → option_and_then (λ v. option_map (λ vs. v ∷ vs) None) o ≡ None
@@ -96,16 +96,8 @@ no_stop : (text : List ℕ) → text ≢ codes "." → bytes_eq text (codes ".")
 no_stop text other =
     false_from_ne_true (bytes_eq text (codes ".")) (λ e. other ((bytes_eq-Decides text (codes ".")).0 e))
 
-pub stop_says : (inputs : ℕ) → entry_in inputs (codes ".") ≡ Some Stop
-stop_says inputs = refl
-
--- a text of as many characters as there are inputs says what they stand for
-pub values_say : (inputs : ℕ) (text : List ℕ) → text ≢ codes "." → length text ≡ inputs
-    → entry_in inputs text ≡ option_map Step (values_of text)
-values_say inputs text other long = rw (no_stop text other, eq-eqb (length text) inputs long) refl
-
--- one of any other length says nothing
-pub wrong_length : (inputs : ℕ) (text : List ℕ) → text ≢ codes "." → length text ≢ inputs → entry_in inputs text ≡ None
+-- a text with another number of characters than there are inputs says nothing
+wrong_length : (inputs : ℕ) (text : List ℕ) → text ≢ codes "." → length text ≢ inputs → entry_in inputs text ≡ None
 wrong_length inputs text other wrong = rw (no_stop text other, ne_eqb (length text) inputs wrong) refl
 
 too_long_text : (inputs : ℕ) (text : List ℕ) → inputs + 1 < length text → entry_in inputs text ≡ None

@@ -1,7 +1,7 @@
 -- The bytes of a line as they are read, kept and written.
 use Rattle.std.proofs.Common.{◌≡◌, ◌≢◌, ◌+◌, ◌-◌, ◌<◌, ◌≤◌, ℕ, zero, suc, List, [], ◌∷◌, ◌++◌, length, take, drop}
 use Rattle.std.proofs.Common.{get_or, min}
-use Rattle.std.proofs.Common.{refl, sym, ap, ◌∙◌, arith, add-one, drop-cons}
+use Rattle.std.proofs.Common.{refl, sym, ap, ◌∙◌, append_assoc, arith, add-one, drop-cons}
 use Rattle.std.proofs.lemmas.List.{take_all, take_min, take_more, take-append-le, length-take-le, take-append-drop}
 use Rattle.std.proofs.Math.Seq.{take-append-add}
 use Rattle.aig_sim.specs.Stimulus.{without_return}
@@ -73,3 +73,14 @@ pub kept_twice : (room : ℕ) (rest text : List ℕ) → take room (take room re
 kept_twice zero rest text = refl
 kept_twice (suc room) [] text = refl
 kept_twice (suc room) (b ∷ bs) text = ap (λ (bytes : List ℕ). b ∷ bytes) (kept_twice room bs text)
+
+-- the columns of a line, each behind those before it
+pub columns_joined : (state inputs outputs next properties : List ℕ)
+    → (((((state ++ 32 ∷ inputs) ++ 32 ∷ outputs) ++ 32 ∷ []) ++ next) ++ properties) ++ 10 ∷ []
+    ≡ state ++ 32 ∷ (inputs ++ 32 ∷ (outputs ++ 32 ∷ (next ++ (properties ++ 10 ∷ []))))
+columns_joined state inputs outputs next properties =
+    append_assoc ((((state ++ 32 ∷ inputs) ++ 32 ∷ outputs) ++ 32 ∷ []) ++ next) properties (10 ∷ [])
+    ∙ append_assoc (((state ++ 32 ∷ inputs) ++ 32 ∷ outputs) ++ 32 ∷ []) next (properties ++ 10 ∷ [])
+    ∙ append_assoc ((state ++ 32 ∷ inputs) ++ 32 ∷ outputs) (32 ∷ []) (next ++ (properties ++ 10 ∷ []))
+    ∙ append_assoc (state ++ 32 ∷ inputs) (32 ∷ outputs) (32 ∷ (next ++ (properties ++ 10 ∷ [])))
+    ∙ append_assoc state (32 ∷ inputs) (32 ∷ (outputs ++ 32 ∷ (next ++ (properties ++ 10 ∷ []))))

@@ -1,18 +1,22 @@
 -- The characters of a step's inputs, and how long its line is.
-use Rattle.std.proofs.Common.{◌≡◌, ◌==◌, ℕ, List, [], ◌∷◌, Bool, true, false, Option, Some, None, codes, length, refl}
-use Rattle.std.proofs.Common.{sym, ap, ap₂, ◌∙◌, arith, bytes_eq, option_map, option_and_then, if◌then◌else◌}
+use Rattle.std.proofs.Common.{◌≡◌, ◌==◌, ◌≤◌, ℕ, List, [], ◌∷◌, Bool, true, false, Option, Some, None, codes}
+use Rattle.std.proofs.Common.{length, map}
+use Rattle.std.proofs.Common.{refl, sym, ap, ap₂, ◌∙◌, arith, bytes_eq, option_map, option_and_then, if◌then◌else◌}
 use Rattle.std.proofs.lemmas.Bool.{eqb-true}
 use Rattle.std.proofs.lemmas.List.{length-map}
+use Rattle.std.proofs.lemmas.Slice.Eq.{bytes_eq-Decides}
 use Rattle.aig_core.specs.declared.circuit.Circuit.{Circuit}
 use Rattle.aig_core.specs.declared.circuit.Latch.{Latch}
 use Rattle.aig_core.specs.declared.value.Val.{Val}
 use Rattle.aig_core.specs.declared.value.Val.TheVariants.{Zero, One, X}
-use Rattle.aig_meaning.specs.Meaning.{IsRow, MeansTheSame, Row, latch_variables, literal_value, next_literals}
-use Rattle.aig_io.specs.Output.{Out}
+use Rattle.aig_meaning.specs.Meaning.{IsRow, IsStepAssignment, MeansTheSame, Row, latch_variables, literal_value}
+use Rattle.aig_meaning.specs.Meaning.{next_literals}
+use Rattle.aig_io.specs.Output.{Out, Put}
 use Rattle.aig_sim.specs.Stimulus.{Step, Stop, entry_in, value_of, values_of}
-use Rattle.aig_sim.specs.TraceText.{character_of, values_text}
-use Rattle.aig_sim.specs.Parts.Lines.{line_size, row_size}
-use Rattle.aig_sim.specs.Parts.Tracing.{TookLine, TookStep, Tracing}
+use Rattle.aig_sim.specs.TraceText.{character_of, row_text, values_text}
+use Rattle.aig_sim.specs.Parts.Lines.{HasLineRoom, line_size, row_read, row_size, vector_in}
+use Rattle.aig_sim.specs.Parts.Progress.{Point}
+use Rattle.aig_sim.specs.Parts.Tracing.{TookStep, Tracing}
 
 -- a value that a character stands for has that character
 by_tests : (p q r : Bool) (b : ℕ) (v : Val) → (p ≡ true → b ≡ 48) → (q ≡ true → b ≡ 49) → (r ≡ true → b ≡ 120)
@@ -46,18 +50,53 @@ values_back (b ∷ bs) vs is =
     first_back (value_of b) (values_of bs) b bs vs (character_back b)
     (λ (us : List Val) (e : values_of bs ≡ Some us). values_back bs us e) is
 
-by_entry : (p q : Bool) (o : Option (List Val)) (given : List Val)
-    → (if p then Some Stop else if q then option_map Step o else None) ≡ Some (Step given) → o ≡ Some given
-by_entry true q o given is = cc
-by_entry false false o given is = cc
-by_entry false true None given is = cc
-by_entry false true (Some vs) given is = let same : vs ≡ given = cc in ap (λ (us : List Val). Some us) same
+-- the values that a text says, by what was tested
+by_length : (long : Bool) (o : Option (List Val)) (given : List Val) → (if long then o else None) ≡ Some given
+    → o ≡ Some given
+by_length true o given is = is
+by_length false o given is = cc
 
--- the text of a step is made of the characters of its inputs
-pub step_text : (inputs : ℕ) (text : List ℕ) (given : List Val) → entry_in inputs text ≡ Some (Step given)
+has_length : (long : Bool) (o : Option (List Val)) (given : List Val) → (if long then o else None) ≡ Some given
+    → long ≡ true
+has_length true o given is = refl
+has_length false o given is = cc
+
+says_step : (stop long : Bool) (o : Option (List Val)) (given : List Val) → (stop ≡ true → o ≡ None)
+    → (if long then o else None) ≡ Some given
+    → (if stop then Some Stop else if long then option_map Step o else None) ≡ Some (Step given)
+says_step true true o given none is = let no = none refl in cc
+says_step true false o given none is = cc
+says_step false true o given none is = ap (option_map Step) is
+says_step false false o given none is = cc
+
+says_none : (stop long : Bool) (o : Option (List Val)) → (if long then o else None) ≡ None
+    → (if stop then Some Stop else if long then option_map Step o else None) ≡ (if stop then Some Stop else None)
+says_none true long o is = refl
+says_none false true o is = ap (option_map Step) is
+says_none false false o is = refl
+
+-- a text that says values is made of their characters, and has as many as there are inputs
+pub vector_back : (inputs : ℕ) (text : List ℕ) (given : List Val) → vector_in inputs text ≡ Some given
     → values_text given ≡ text
-step_text inputs text given is =
-    values_back text given (by_entry (bytes_eq text (codes ".")) (length text == inputs) (values_of text) given is)
+vector_back inputs text given is =
+    values_back text given (by_length (length text == inputs) (values_of text) given is)
+
+pub vector_long : (inputs : ℕ) (text : List ℕ) (given : List Val) → vector_in inputs text ≡ Some given
+    → length text ≡ inputs
+vector_long inputs text given is =
+    eqb-true (length text) inputs (has_length (length text == inputs) (values_of text) given is)
+
+-- it says a step, since the character of a line that ends a run is no value
+pub vector_says : (inputs : ℕ) (text : List ℕ) (given : List Val) → vector_in inputs text ≡ Some given
+    → entry_in inputs text ≡ Some (Step given)
+vector_says inputs text given is =
+    says_step (bytes_eq text (codes ".")) (length text == inputs) (values_of text) given
+    (λ stop. ap values_of ((bytes_eq-Decides text (codes ".")).0 stop)) is
+
+-- and a text that says no values says no step
+pub vector_none : (inputs : ℕ) (text : List ℕ) → vector_in inputs text ≡ None
+    → entry_in inputs text ≡ (if bytes_eq text (codes ".") then Some Stop else None)
+vector_none inputs text is = says_none (bytes_eq text (codes ".")) (length text == inputs) (values_of text) is
 
 -- how long the line of a row is
 pub row_long : (c : Circuit) (row : Row) → IsRow c row → row_size row ≡ line_size c
@@ -84,16 +123,72 @@ row_long c row (a, read) =
 pub row_fits : (c d : Circuit) (row : Row) → MeansTheSame c d → IsRow d row → row_size row ≡ line_size c
 row_fits c d row means is = row_long c row ((means.rows row).1 is)
 
--- a step that was taken with the inputs that were read is what the line says
-pub line_of_step : {W : Type 0} (before between after : Tracing) (a b : Out W) (text : List ℕ)
-    → before.simulation ≡ between.simulation → before.columns ≡ between.columns → before.has_step ≡ between.has_step
-    → entry_in (length before.simulation.circuit.inputs) text ≡ Some (Step between.given)
-    → TookStep between after a b → TookLine before after a b text
-line_of_step before between after a b text simulation columns has said took =
-    rw (simulation, columns, has) record {
-      entry = Step between.given;
-      line = took.line;
-      said = rw simulation at said;
-      does = took.steps;
-      put = took.put;
+-- the values of a step show a row
+pub row_is_read : (c : Circuit) (state given : List Val) (a : ℕ → Val) → IsStepAssignment c state given a
+    → IsRow c (row_read c state given a)
+row_is_read c state given a is = (
+  a,
+  record {
+    assigned = is;
+    outputs_shown = refl;
+    next_shown = refl;
+    bad_shown = refl;
+    constraints_shown = refl;
+  },
+)
+
+-- Two circuits show the same, so their rows and lines are alike.
+pub record ShowsTheSame (c d : Circuit) : Type 0 where
+  pub inputs : d.inputs ≡ c.inputs
+  pub latches : d.latches ≡ c.latches
+  pub outputs : d.outputs ≡ c.outputs
+  pub bad : d.bad ≡ c.bad
+  pub constraints : d.constraints ≡ c.constraints
+
+pub same_read : (c d : Circuit) (state given : List Val) (a : ℕ → Val) → ShowsTheSame c d
+    → row_read d state given a ≡ row_read c state given a
+same_read c d state given a same = rw (same.latches, same.outputs, same.bad, same.constraints) refl
+
+-- room for each row is room for the line of this one
+pub line_fits : (c d : Circuit) (room : ℕ) (state given : List Val) (a : ℕ → Val) → IsStepAssignment c state given a
+    → HasLineRoom c room → ShowsTheSame c d → line_size d ≤ room
+line_fits c d room state given a assigned fits same =
+    let row = row_read c state given a in
+    let is = row_is_read c state given a assigned in
+    omega (
+      arith,
+      fits row is,
+      row_long c row is,
+      ap length same.inputs,
+      ap length same.latches,
+      ap length same.outputs,
+      ap length same.bad,
+      ap length same.constraints,
+    )
+
+-- a step that was taken with the values that its text says, and whose line was put
+pub step_taken : {W : Type 0} (before after : Tracing) (x y : Out W) (text line : List ℕ) (parts : Circuit)
+    (state given : List Val) (a : ℕ → Val) → vector_in (length before.circuit.inputs) text ≡ Some given
+    → IsStepAssignment before.circuit before.state given a → ShowsTheSame before.circuit parts
+    → state ≡ before.state → line ≡ row_text before.columns (row_read parts state given a)
+    → after.state ≡ map (literal_value a) (next_literals parts) → after.has_step ≡ true → Put x y line
+    → TookStep before after x y text
+step_taken before after x y text line parts state given a said assigned same here is next begun put =
+    let c = before.circuit in
+    let row = row_read c before.state given a in
+    record {
+      given = given;
+      line = line;
+      said = said;
+      steps = record {
+        row = row;
+        is_row = row_is_read c before.state given a assigned;
+        from = refl;
+        inputs = refl;
+        leads = ap₂ (λ (state : List Val) (has_step : Bool). record { state = state; has_step = has_step })
+            (next ∙ ap (λ (r : Row). r.next) (same_read c parts before.state given a same)) begun;
+        is = is ∙ ap (λ (s : List Val). row_text before.columns (row_read parts s given a)) here
+            ∙ ap (row_text before.columns) (same_read c parts before.state given a same);
+      };
+      put = put;
     }

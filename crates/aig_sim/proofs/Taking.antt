@@ -120,8 +120,8 @@ pub some_then : {W : Type 0} (a b c : Out W) (text : List ℕ) → PutSome a b �
 some_then a b c text p put = some_twice a b c p (record { text = text; put = put })
 
 -- before the first byte
-pub at_begin : (c : Circuit) (columns : Columns) (at : Reading) → MeansTheSame c at.tracing.simulation.circuit
-    → at.tracing.columns ≡ columns → point_of at.tracing ≡ begin_of at.tracing.simulation.circuit
+pub at_begin : (c : Circuit) (columns : Columns) (at : Reading) → MeansTheSame c at.tracing.circuit
+    → at.tracing.columns ≡ columns → point_of at.tracing ≡ begin_of at.tracing.circuit
     → at.kept.bytes ≡ [] → at.number ≡ 1 → IsAt c columns [] [] at
 at_begin c columns at means same begun none number = record {
   means = means;
@@ -132,23 +132,23 @@ at_begin c columns at means same begun none number = record {
   heard = heard_nothing (length c.inputs);
   number = number;
   kept = none ∙ sym (take_none (length c.inputs + 3));
-  goes = (begun ∙ begin_same c at.tracing.simulation.circuit means, refl);
+  goes = (begun ∙ begin_same c at.tracing.circuit means, refl);
 }
 
 module _ (c : Circuit) (columns : Columns) (bytes text : List ℕ) (at : Reading)
     (stands : IsAt c columns bytes text at) where
   -- where a line leads
   goes_behind : (after : Tracing) (e : Entry) (t : List ℕ)
-      → Does at.tracing.simulation.circuit at.tracing.columns (point_of at.tracing) e (point_of after) t
+      → Does at.tracing.circuit at.tracing.columns (point_of at.tracing) e (point_of after) t
       → Goes c columns (begin_of c) (stands.entries ++ e ∷ []) (point_of after) (text ++ t)
   goes_behind after e t does =
-      let d = at.tracing.simulation.circuit in
+      let d = at.tracing.circuit in
       goes_on c columns (begin_of c) (point_of at.tracing) (point_of after) stands.entries e text t stands.goes
       (does_same c d columns (point_of at.tracing) (point_of after) e t stands.means
       (subst (λ (k : Columns). Does d k (point_of at.tracing) e (point_of after) t) stands.same_columns does))
 
   -- a text says the same to both circuits
-  said_here : (judged : List ℕ) (o : Option Entry) → entry_in (length at.tracing.simulation.circuit.inputs) judged ≡ o
+  said_here : (judged : List ℕ) (o : Option Entry) → entry_in (length at.tracing.circuit.inputs) judged ≡ o
       → entry_in (length c.inputs) judged ≡ o
   said_here judged o is = ap (λ (n : ℕ). entry_in n judged) (sym stands.means.inputs) ∙ is
 
@@ -204,7 +204,7 @@ module _ (c : Circuit) (columns : Columns) (bytes text : List ℕ) (at : Reading
 
   pub took_bad : {W : Type 0} (piece judged more : List ℕ) (ended : Bool) (a b : Out W) → HasNoLineFeed piece
       → entry_in (length c.inputs) judged ≡ entry_of (length c.inputs) (line (stands.rest ++ piece) true)
-      → entry_in (length at.tracing.simulation.circuit.inputs) judged ≡ None → b ≡ a
+      → entry_in (length at.tracing.circuit.inputs) judged ≡ None → b ≡ a
       → FoundBad c columns (bytes ++ (piece ++ 10 ∷ more)) ended text at.number a b
   took_bad piece judged more ended a b none is refused same =
       let said = said_bad (length c.inputs) bytes stands.lines stands.rest stands.entries stands.heard piece more
@@ -263,7 +263,7 @@ module _ (c : Circuit) (columns : Columns) (bytes text : List ℕ) (at : Reading
   }
 
   pub last_bad : {W : Type 0} (a b : Out W) → at.kept.bytes ≢ []
-      → entry_in (length at.tracing.simulation.circuit.inputs) at.kept.bytes ≡ None → b ≡ a
+      → entry_in (length at.tracing.circuit.inputs) at.kept.bytes ≡ None → b ≡ a
       → FoundBad c columns bytes true text at.number a b
   last_bad a b some refused same =
       let said = said_last_bad (length c.inputs) bytes stands.lines stands.rest stands.entries stands.heard (begun some)
@@ -347,7 +347,7 @@ module _ {W : Type 0} (c : Circuit) (columns : Columns) (bytes text chunk rest :
 
   -- the rest of it has no line feed
   pub passed_rest : (new : Reading) → HasNoLineFeed rest
-      → at.kept.room ≡ length at.tracing.simulation.circuit.inputs + 3
+      → at.kept.room ≡ length at.tracing.circuit.inputs + 3
       → new ≡ record at { kept = keeping_more at.kept rest } → Advanced c columns (bytes ++ chunk) text new a b
   passed_rest new none room is =
       let stands = p.advanced.stands in

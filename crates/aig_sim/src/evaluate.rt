@@ -6,7 +6,7 @@ ghost use Rattle.aig_meaning.specs.Meaning.{literal_value};
 ghost use Rattle.aig_meaning.specs.Trace.{reset_value as value_after_reset};
 ghost use Rattle.aig_sim.specs.Parts.Tables.{IsLiteralBelow, pair_of, placed, read_from};
 
-use crate::cells::Table;
+use crate::cells::{Code, Table};
 use aig_core::{Gate, Latch, Lit, Reset, Val};
 use std::alloc::{AllocError, Global};
 
@@ -55,13 +55,23 @@ pub(crate) fn show(literals: &[Lit], values: &Table, shown: &mut [Val])
 }
 
 /// Writes the values of the latches' next literals.
-pub(crate) fn show_next(latches: &[Latch], values: &Table, next: &mut [Val])
+pub(crate) fn show_next(latches: &[Latch], values: &Table, next: &mut [Code])
     requires room { length next.old ≡ length latches.now }
     requires below { All (λ (l : LatchRecord). IsLiteralBelow (length values.now) l.next) latches.now }
     ensures { next.new ≡ map (literal_value (read_from values.now)) (map (λ (l : LatchRecord). l.next) latches.now) }
 {
     for i in 0..latches.len() {
-        next[i] = values.value(latches[i].next);
+        next[i] = values.code(latches[i].next);
+    }
+}
+
+/// Writes values.
+pub(crate) fn show_codes(codes: &[Code], shown: &mut [Val])
+    requires { length shown.old ≡ length codes.now }
+    ensures { shown.new ≡ codes.now }
+{
+    for i in 0..codes.len() {
+        shown[i] = codes[i].value();
     }
 }
 
@@ -77,11 +87,11 @@ fn reset_value(reset: Reset) -> Val
 }
 
 /// Writes the state by the resets.
-pub(crate) fn put_reset_state(latches: &[Latch], state: &mut [Val])
+pub(crate) fn put_reset_state(latches: &[Latch], state: &mut [Code])
     requires { length state.old ≡ length latches.now }
     ensures { state.new ≡ map (λ (l : LatchRecord). value_after_reset l.reset) latches.now }
 {
     for i in 0..latches.len() {
-        state[i] = reset_value(latches[i].reset);
+        state[i] = Code::of(reset_value(latches[i].reset));
     }
 }

@@ -1,12 +1,14 @@
 //! A circuit in binary order that is kept to be run.
-ghost use Rattle.std.specs.Prelude.{◌≡◌, ◌+◌, length, map, IfOk};
-ghost use Rattle.aig_meaning.specs.Meaning.{IsRow, IsStepAssignment, MeansTheSame, literal_value, next_literals};
-ghost use Rattle.aig_meaning.specs.Trace.{reset_state};
-ghost use Rattle.aig_sim.specs.Parts.Tables.{read_from};
-ghost use Rattle.aig_sim.specs.Parts.Machines.{parts_of};
+ghost use Rattle.std.specs.Prelude.{◌≡◌, ◌+◌, List, None, Some, false, length, slice_set, true, IfOk};
+ghost use Rattle.aig_core.specs.declared.value.Val.{Val as Value};
+ghost use Rattle.aig_core.specs.declared.value.Val.TheVariants.{Zero};
+ghost use Rattle.aig_meaning.specs.Meaning.{IsStepAssignment, MeansTheSame};
+ghost use Rattle.aig_sim.specs.Parts.Lines.{vector_in};
+ghost use Rattle.aig_sim.specs.Parts.Machines.{ShowsBelow, parts_of};
+ghost use Rattle.aig_sim.specs.Parts.Tables.{placed, read_from};
 
-use crate::cells::Table;
-use crate::evaluate::{Pair, pairs_of, place, put_reset_state, show, show_next};
+use crate::cells::{Code, Table};
+use crate::evaluate::{Pair, pairs_of, place};
 use aig_core::{Checked, Circuit, Justice, Listing, Ordered, OutOfMemory, Val};
 use aig_image::to_binary;
 use std::alloc::Global;
@@ -80,105 +82,61 @@ impl Machine {
         ensures outputs { result.now.outputs ≡ self.now.outputs }
         ensures bad { result.now.bad ≡ self.now.bad }
         ensures constraints { result.now.constraints ≡ self.now.constraints }
+        ensures below { ShowsBelow (1 + result.now.max_var) result.now }
     {
         &self.parts
     }
 
+    /// Fills the table with the values of a step, where it has those of the constant and of the inputs.
+    #[inline(always)]
+    fn evaluate(&self, state: &[Code], values: &mut Table)
+        requires each_latch { length state.now ≡ length self.now.latches }
+        requires room { length values.old ≡ 1 + self.now.max_var }
+        ensures assigned { (given table : List Value) → length given ≡ length self.now.inputs
+            → values.old ≡ placed 1 given (slice_set table 0 Zero)
+            → IsStepAssignment self.now state.now given (read_from values.new) }
+        ensures room { length values.new ≡ length values.old }
+    {
+        // That there are not too many inputs to count one more is known by this read.
+        let _largest = self.parts.max_var;
+        let pairs = self.pairs.as_slice();
+        values.place(1 + self.parts.inputs.len(), state);
+        values.evaluate(pairs);
+    }
+
     /// Fills the table with the values of a step.
-    fn assign(&self, given: &[Val], state: &[Val], values: &mut Table)
+    pub(crate) fn assign(&self, given: &[Val], state: &[Code], values: &mut Table)
         requires each_input { length given.now ≡ length self.now.inputs }
         requires each_latch { length state.now ≡ length self.now.latches }
         requires room { length values.old ≡ 1 + self.now.max_var }
         ensures assigned { IsStepAssignment self.now state.now given.now (read_from values.new) }
         ensures room { length values.new ≡ length values.old }
     {
-        let pairs = self.pairs.as_slice();
+        // That the table has room for the inputs is known by this read.
+        let _parts = &self.parts;
         values.put(0, Val::Zero);
         place(1, given, values);
-        place(1 + given.len(), state, values);
-        values.evaluate(pairs);
+        self.evaluate(state, values);
     }
 
-    /// Writes the state by the resets.
-    pub(crate) fn put_reset_state(&self, state: &mut [Val])
-        requires { length state.old ≡ length self.now.latches }
-        ensures { state.new ≡ reset_state self.now }
-    {
-        put_reset_state(self.parts.latches.as_slice(), state);
-    }
-
-    /// Writes the next state.
-    fn show_next(&self, values: &Table, next: &mut [Val])
-        requires values { length values.now ≡ 1 + self.now.max_var }
-        requires room { length next.old ≡ length self.now.latches }
-        ensures { next.new ≡ map (literal_value (read_from values.now)) (next_literals self.now) }
-    {
-        show_next(self.parts.latches.as_slice(), values, next);
-    }
-
-    /// Writes the values of the outputs.
-    fn show_outputs(&self, values: &Table, outputs: &mut [Val])
-        requires values { length values.now ≡ 1 + self.now.max_var }
-        requires room { length outputs.old ≡ length self.now.outputs }
-        ensures { outputs.new ≡ map (literal_value (read_from values.now)) self.now.outputs }
-    {
-        show(self.parts.outputs.as_slice(), values, outputs);
-    }
-
-    /// Writes the values of bad states.
-    fn show_bad(&self, values: &Table, bad: &mut [Val])
-        requires values { length values.now ≡ 1 + self.now.max_var }
-        requires room { length bad.old ≡ length self.now.bad }
-        ensures { bad.new ≡ map (literal_value (read_from values.now)) self.now.bad }
-    {
-        show(self.parts.bad.as_slice(), values, bad);
-    }
-
-    /// Writes the values of constraints.
-    fn show_constraints(&self, values: &Table, constraints: &mut [Val])
-        requires values { length values.now ≡ 1 + self.now.max_var }
-        requires room { length constraints.old ≡ length self.now.constraints }
-        ensures { constraints.new ≡ map (literal_value (read_from values.now)) self.now.constraints }
-    {
-        show(self.parts.constraints.as_slice(), values, constraints);
-    }
-
-    /// Takes a step from this state with these inputs: writes what it shows.
-    pub(crate) fn step(
-        &self,
-        given: &[Val],
-        state: &[Val],
-        values: &mut Table,
-        next: &mut [Val],
-        outputs: &mut [Val],
-        bad: &mut [Val],
-        constraints: &mut [Val],
-    )
-        requires each_input { length given.now ≡ length self.now.inputs }
+    /// Fills the table with the values of a step whose inputs this text says, and answers whether it says inputs.
+    #[inline(always)]
+    pub(crate) fn assign_text(&self, text: &[u8], state: &[Code], values: &mut Table) -> bool
         requires each_latch { length state.now ≡ length self.now.latches }
-        requires values { length values.old ≡ 1 + self.now.max_var }
-        requires next { length next.old ≡ length self.now.latches }
-        requires outputs { length outputs.old ≡ length self.now.outputs }
-        requires bad { length bad.old ≡ length self.now.bad }
-        requires constraints { length constraints.old ≡ length self.now.constraints }
-        ensures row { IsRow self.now (record {
-          state = state.now;
-          inputs = given.now;
-          outputs = outputs.new;
-          next = next.new;
-          bad = bad.new;
-          constraints = constraints.new;
-        }) }
-        ensures values { length values.new ≡ length values.old }
-        ensures next { length next.new ≡ length next.old }
-        ensures outputs { length outputs.new ≡ length outputs.old }
-        ensures bad { length bad.new ≡ length bad.old }
-        ensures constraints { length constraints.new ≡ length constraints.old }
+        requires room { length values.old ≡ 1 + self.now.max_var }
+        ensures good { result ≡ true → (given : List Value) × (vector_in (length self.now.inputs) text.now ≡ Some given)
+            × IsStepAssignment self.now state.now given (read_from values.new) }
+        ensures bad { result ≡ false → vector_in (length self.now.inputs) text.now ≡ None }
+        ensures room { length values.new ≡ length values.old }
     {
-        self.assign(given, state, values);
-        self.show_next(values, next);
-        self.show_outputs(values, outputs);
-        self.show_bad(values, bad);
-        self.show_constraints(values, constraints);
+        if text.len() != self.parts.inputs.len() {
+            return false;
+        }
+        values.put(0, Val::Zero);
+        if !values.place_text(1, text) {
+            return false;
+        }
+        self.evaluate(state, values);
+        true
     }
 }

@@ -36,7 +36,7 @@ impl Model for Reader {
     ghost view = { λ r. record { tracing = r.tracer; kept = r.kept; number = r.number } };
 
     // Two bytes more than the inputs and a carriage return show that a line is too long.
-    ghost invariant = { λ r. r.kept.room ≡ length r.tracer.simulation.circuit.inputs + 3 };
+    ghost invariant = { λ r. r.kept.room ≡ length r.tracer.circuit.inputs + 3 };
 }
 
 impl Reader {
@@ -46,8 +46,8 @@ impl Reader {
         ensures number { IfOk result (λ r. r.number ≡ 1) }
         ensures err { IfErr result (λ e. e ≡ IsOutOfMemory) }
     {
-        let tracer = Tracer::new(alloc, checked, columns)?;
         let kept = Kept::new(alloc, checked.circuit().inputs.len() + 3)?;
+        let tracer = Tracer::new(alloc, checked, columns)?;
         Ok(Reader {
             tracer,
             kept,

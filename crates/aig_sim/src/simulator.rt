@@ -5,13 +5,13 @@ ghost use Rattle.aig_sim.specs.declared.fault.SimFault.TheVariants as faults;
 ghost use Rattle.aig_sim.specs.Simulating.{IsReset, Stepped};
 ghost use Rattle.aig_sim.specs.Showing.{Shows};
 
-use crate::cells::Table;
+use crate::cells::{Code, Table};
+use crate::evaluate::{put_reset_state, show, show_codes, show_next};
 use crate::fault::SimFault;
 use crate::machine::Machine;
 use aig_core::{Checked, OutOfMemory, Val};
 use std::alloc::Global;
 use std::marker::Model;
-use std::mem;
 
 /// What can be seen of a step beside its inputs, list by list in the circuit's order.
 #[derive(Clone, Copy)]
@@ -35,12 +35,12 @@ pub struct Simulator {
     /// A place for the value of each variable.
     values: Table,
     /// The state before the next step.
-    state: Vec<Val>,
-    /// Whether a step was taken since the reset. What the last one showed is below; its next state is above.
+    state: Vec<Code>,
+    /// Whether a step was taken since the reset. What the last one showed is below.
     is_stepped: bool,
     before: Vec<Val>,
-    given: Vec<Val>,
     outputs: Vec<Val>,
+    next: Vec<Val>,
     bad: Vec<Val>,
     constraints: Vec<Val>,
 }
@@ -64,10 +64,10 @@ impl Simulator {
     {
         let parts = machine.parts();
         let values = Table::new(alloc, 1 + parts.max_var as usize)?;
-        let state = vec![in alloc; Val::Zero; parts.latches.len()]?;
+        let state = vec![in alloc; Code::of(Val::Zero); parts.latches.len()]?;
         let before = vec![in alloc; Val::Zero; parts.latches.len()]?;
-        let given = vec![in alloc; Val::Zero; parts.inputs.len()]?;
         let outputs = vec![in alloc; Val::Zero; parts.outputs.len()]?;
+        let next = vec![in alloc; Val::Zero; parts.latches.len()]?;
         let bad = vec![in alloc; Val::Zero; parts.bad.len()]?;
         let constraints = vec![in alloc; Val::Zero; parts.constraints.len()]?;
         Ok(Simulator {
@@ -76,13 +76,14 @@ impl Simulator {
             state,
             is_stepped: false,
             before,
-            given,
             outputs,
+            next,
             bad,
             constraints,
         })
     }
 
+    /// A simulator of the circuit, in the reset state, or want of memory.
     fn build(alloc: Global, checked: &Checked) -> Result<Self, OutOfMemory>
         ensures same { IfOk result (λ s. MeansTheSame checked.now s.circuit) }
         ensures reset { IfOk result IsReset }
@@ -109,7 +110,7 @@ impl Simulator {
     pub fn inputs(&self) -> usize
         ensures { result ≡ length self.now.circuit.inputs }
     {
-        self.given.len()
+        self.machine.parts().inputs.len()
     }
 
     /// Back to the reset state.
@@ -117,7 +118,7 @@ impl Simulator {
         ensures reset { IsReset self.new }
         ensures circuit { self.new.circuit ≡ self.old.circuit }
     {
-        self.machine.put_reset_state(&mut self.state);
+        put_reset_state(self.machine.parts().latches.as_slice(), &mut self.state);
         self.is_stepped = false;
     }
 
@@ -126,17 +127,18 @@ impl Simulator {
         requires { length given.now ≡ length self.old.circuit.inputs }
         ensures { Stepped self.old self.new given.now }
     {
-        self.given.copy_from_slice(given);
-        self.machine.step(
-            given,
-            &self.state,
-            &mut self.values,
-            &mut self.before,
-            &mut self.outputs,
-            &mut self.bad,
+        let parts = self.machine.parts();
+        show_codes(&self.state, &mut self.before);
+        self.machine.assign(given, &self.state, &mut self.values);
+        show(parts.outputs.as_slice(), &self.values, &mut self.outputs);
+        show(parts.bad.as_slice(), &self.values, &mut self.bad);
+        show(
+            parts.constraints.as_slice(),
+            &self.values,
             &mut self.constraints,
         );
-        mem::swap(&mut self.state, &mut self.before);
+        show_next(parts.latches.as_slice(), &self.values, &mut self.state);
+        show_codes(&self.state, &mut self.next);
         self.is_stepped = true;
     }
 
@@ -148,7 +150,7 @@ impl Simulator {
             Some(Row {
                 state: &self.before,
                 outputs: &self.outputs,
-                next: &self.state,
+                next: &self.next,
                 bad: &self.bad,
                 constraints: &self.constraints,
             })

@@ -1,53 +1,54 @@
 //! Lines of a stimulus, and the lines of the trace for them.
-ghost use Rattle.std.specs.Prelude.{◌≡◌, ◌≤◌, ◌+◌, IfErr, IfOk, IfSome, None, Some, codes, false, length, true};
-ghost use Rattle.aig_core.specs.Wellformed.{IsWellFormed};
+ghost use Rattle.std.specs.Prelude.{◌≡◌, ◌+◌, IfErr, IfOk, None, codes, false, length, true};
 ghost use Rattle.aig_io.specs.Output.{Put};
-ghost use Rattle.aig_meaning.specs.Meaning.{MeansTheSame, Row as RowOfCircuit};
+ghost use Rattle.aig_meaning.specs.Meaning.{MeansTheSame};
 ghost use Rattle.aig_sim.specs.declared.fault.SimFault.TheVariants.{OutOfMemory as IsOutOfMemory};
 ghost use Rattle.aig_sim.specs.Stimulus.{entry_in};
-ghost use Rattle.aig_sim.specs.TraceText.{row_text, values_text};
-ghost use Rattle.aig_sim.specs.Parts.Lines.{line_size, row_size};
+ghost use Rattle.aig_sim.specs.Parts.Lines.{HasLineRoom, line_size, vector_in};
 ghost use Rattle.aig_sim.specs.Parts.Progress.{begin_of};
 ghost use Rattle.aig_sim.specs.Parts.Tracing.{IsSameTracer, PutSome, TookLine, TookStep, point_of};
 
+use crate::cells::{Code, Table};
+use crate::evaluate::put_reset_state;
 use crate::fault::SimFault;
-use crate::simulator::Simulator;
-use crate::stimulus::{Said, judge};
+use crate::machine::Machine;
+use crate::stimulus::is_stop;
 use crate::trace::{Columns, write_row};
-use aig_core::{Checked, Output, Sink, Val};
+use aig_core::{Checked, Circuit, OutOfMemory, Output, Sink, Val};
 use std::alloc::Global;
 use std::marker::Model;
 
-/// A simulator, and what it takes to read a line for it and to write the line of a step.
+/// What runs a circuit over lines of a stimulus, and what it takes to write the line of a step.
 #[derive(Drop)]
 pub(crate) struct Tracer {
-    simulator: Simulator,
+    machine: Machine,
+    /// A place for the value of each variable.
+    values: Table,
+    /// The state before the next step.
+    state: Vec<Code>,
     columns: Columns,
     /// Whether the run that is going on has a step.
     has_step: bool,
-    /// The inputs of the last step.
-    given: Vec<Val>,
     /// The line of the last step.
     line: Vec<u8>,
 }
 
 impl Model for Tracer {
-    ghost use Rattle.std.specs.Prelude.{◌≡◌, ◌≤◌, length};
-    ghost use Rattle.aig_meaning.specs.Meaning.{IsRow, Row as RowOfCircuit};
-    ghost use Rattle.aig_sim.specs.Parts.Lines.{row_size};
+    ghost use Rattle.std.specs.Prelude.{◌≡◌, ◌+◌, length};
+    ghost use Rattle.aig_sim.specs.Parts.Lines.{HasLineRoom};
     ghost use Rattle.aig_sim.specs.Parts.Tracing.{Tracing};
 
     ghost Value = { Tracing };
 
     ghost view = { λ t. record {
-      simulation = t.simulator;
+      circuit = t.machine;
       columns = t.columns;
+      state = t.state.items;
       has_step = t.has_step;
-      given = t.given.items;
     } };
 
-    ghost invariant = { λ t. (length t.given.items ≡ length t.simulator.circuit.inputs)
-        × ((row : RowOfCircuit) → IsRow t.simulator.circuit row → row_size row ≤ length t.line.items) };
+    ghost invariant = { λ t. (length t.values ≡ 1 + t.machine.max_var)
+        × (length t.state.items ≡ length t.machine.latches) × HasLineRoom t.machine (length t.line.items) };
 }
 
 /// How long the line of a step may be.
@@ -63,45 +64,55 @@ fn line_room(checked: &Checked) -> usize
         + 6
 }
 
-/// Puts the line of the last step of a simulator, whose inputs were this text. It is made in a buffer of its own.
-#[inline(always)]
-fn put_row<W: Sink>(
-    output: &mut Output<W>,
-    line: &mut [u8],
-    columns: Columns,
-    simulator: &Simulator,
-    inputs: &[u8],
-)
-    requires { (row : RowOfCircuit) × (simulator.now.row ≡ Some row) × (values_text row.inputs ≡ inputs.now)
-        × (row_size row ≤ length line.old) }
-    ensures { IfSome simulator.now.row (λ row. Put output.old output.new (row_text columns row)) }
+/// Places for the value of each variable, for the state, and for lines of that length.
+fn make_room(
+    alloc: Global,
+    parts: &Circuit,
+    room: usize,
+) -> Result<(Table, Vec<Code>, Vec<u8>), OutOfMemory>
+    ensures values { IfOk result (λ made. length made.0 ≡ 1 + parts.now.max_var) }
+    ensures state { IfOk result (λ made. length made.1.items ≡ length parts.now.latches) }
+    ensures line { IfOk result (λ made. length made.2.items ≡ room) }
 {
-    if let Some(row) = simulator.row() {
-        let end = write_row(line, columns, inputs, &row);
-        let (text, _) = line.split_at(end);
-        output.put(text);
-    }
+    let values = Table::new(alloc, 1 + parts.max_var as usize)?;
+    let state = vec![in alloc; Code::of(Val::Zero); parts.latches.len()]?;
+    let line = vec![in alloc; 0; room]?;
+    Ok((values, state, line))
 }
 
 impl Tracer {
-    /// It stands before the first line. All room that it needs is made here.
-    pub(crate) fn new(alloc: Global, checked: &Checked, columns: Columns) -> Result<Self, SimFault>
-        ensures same { IfOk result (λ t. MeansTheSame checked.now t.simulation.circuit) }
-        ensures columns { IfOk result (λ t. t.columns ≡ columns) }
-        ensures begun { IfOk result (λ t. point_of t ≡ begin_of t.simulation.circuit) }
-        ensures err { IfErr result (λ e. e ≡ IsOutOfMemory) }
+    /// It runs what the machine runs, and has room for lines of that length.
+    fn with_room(
+        alloc: Global,
+        machine: Machine,
+        columns: Columns,
+        room: usize,
+    ) -> Result<Self, OutOfMemory>
+        requires { HasLineRoom machine room }
+        ensures { IfOk result (λ t. (t.circuit ≡ machine) × (t.columns ≡ columns)) }
     {
-        let circuit = checked.circuit();
-        let given = vec![in alloc; Val::X; circuit.inputs.len()]?;
-        let line = vec![in alloc; 0; line_room(checked)]?;
-        let simulator = Simulator::new(alloc, checked)?;
+        let (values, state, line) = make_room(alloc, machine.parts(), room)?;
         Ok(Tracer {
-            simulator,
+            machine,
+            values,
+            state,
             columns,
             has_step: false,
-            given,
             line,
         })
+    }
+
+    /// It stands before the first line. All room that it needs is made here.
+    pub(crate) fn new(alloc: Global, checked: &Checked, columns: Columns) -> Result<Self, SimFault>
+        ensures same { IfOk result (λ t. MeansTheSame checked.now t.circuit) }
+        ensures columns { IfOk result (λ t. t.columns ≡ columns) }
+        ensures begun { IfOk result (λ t. point_of t ≡ begin_of t.circuit) }
+        ensures err { IfErr result (λ e. e ≡ IsOutOfMemory) }
+    {
+        let machine = Machine::new(alloc, checked)?;
+        let mut tracer = Tracer::with_room(alloc, machine, columns, line_room(checked))?;
+        tracer.reset();
+        Ok(tracer)
     }
 
     /// Whether the run that is going on has a step.
@@ -111,32 +122,51 @@ impl Tracer {
         self.has_step
     }
 
-    /// Takes a step with the inputs that were read of this text, and puts its line.
-    #[inline(always)]
-    fn take_step<W: Sink>(&mut self, output: &mut Output<W>, inputs: &[u8])
-        requires { values_text self.old.given ≡ inputs.now }
-        ensures took { TookStep self.old self.new output.old output.new }
+    /// Back to where a run begins.
+    fn reset(&mut self)
+        ensures point { point_of self.new ≡ begin_of self.old.circuit }
         ensures same { IsSameTracer self.old self.new }
     {
-        self.simulator.step(&self.given);
-        self.has_step = true;
-        put_row(
-            output,
+        put_reset_state(self.machine.parts().latches.as_slice(), &mut self.state);
+        self.has_step = false;
+    }
+
+    /// Takes a step if the text says its inputs, puts its line, and answers whether it does.
+    #[inline(always)]
+    fn take_step<W: Sink>(&mut self, output: &mut Output<W>, text: &[u8]) -> bool
+        ensures good { result ≡ true → TookStep self.old self.new output.old output.new text.now }
+        ensures bad { result ≡ false → vector_in (length self.old.circuit.inputs) text.now ≡ None }
+        ensures none { result ≡ false → output.new ≡ output.old }
+        ensures put { PutSome output.old output.new }
+        ensures same { IsSameTracer self.old self.new }
+    {
+        if !self
+            .machine
+            .assign_text(text, &self.state, &mut self.values)
+        {
+            return false;
+        }
+        let end = write_row(
             &mut self.line,
             self.columns,
-            &self.simulator,
-            inputs,
+            text,
+            &self.values,
+            self.machine.parts(),
+            &mut self.state,
         );
+        let (line, _) = self.line.split_at(end);
+        output.put(line);
+        self.has_step = true;
+        true
     }
 
     /// Ends the run.
     fn stop<W: Sink>(&mut self, output: &mut Output<W>)
-        ensures point { point_of self.new ≡ begin_of self.old.simulation.circuit }
+        ensures point { point_of self.new ≡ begin_of self.old.circuit }
         ensures put { Put output.old output.new (codes ".\n") }
         ensures same { IsSameTracer self.old self.new }
     {
-        self.simulator.reset();
-        self.has_step = false;
+        self.reset();
         output.put(b".\n");
     }
 
@@ -144,16 +174,18 @@ impl Tracer {
     #[inline(always)]
     pub(crate) fn take_line<W: Sink>(&mut self, output: &mut Output<W>, text: &[u8]) -> bool
         ensures good { result ≡ true → TookLine self.old self.new output.old output.new text.now }
-        ensures bad { result ≡ false → entry_in (length self.old.simulation.circuit.inputs) text.now ≡ None }
+        ensures bad { result ≡ false → entry_in (length self.old.circuit.inputs) text.now ≡ None }
         ensures none { result ≡ false → output.new ≡ output.old }
         ensures put { PutSome output.old output.new }
         ensures same { IsSameTracer self.old self.new }
     {
-        match judge(text, &mut self.given) {
-            Said::Step => self.take_step(output, text),
-            Said::Stop => self.stop(output),
-            Said::Nothing => return false,
+        if self.take_step(output, text) {
+            return true;
         }
+        if !is_stop(text) {
+            return false;
+        }
+        self.stop(output);
         true
     }
 }

@@ -72,10 +72,12 @@ module _ (c : Circuit) (formed : IsWellFormed c) where
     latches = ordered.latches;
     gates = over_lower (first_gate c) c.gates ordered.gates;
     size = omega (arith, ordered.all, length-map c.gates pair_of);
-    outputs = all_below c.outputs (known_outputs c formed);
-    next = next_below c.latches (known_next c formed);
-    bad = all_below c.bad (known_bad c formed);
-    constraints = all_below c.constraints (known_constraints c formed);
+    below = record {
+      outputs = all_below c.outputs (known_outputs c formed);
+      next = next_below c.latches (known_next c formed);
+      bad = all_below c.bad (known_bad c formed);
+      constraints = all_below c.constraints (known_constraints c formed);
+    };
   }
 
 -- the circuit with these gates, without what no row shows

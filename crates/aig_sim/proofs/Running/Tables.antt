@@ -1,6 +1,6 @@
 -- What stands in a table after values were placed and gates evaluated.
-use Rattle.std.proofs.Common.{◌≡◌, ◌+◌, ◌<◌, ◌≤◌, ℕ, zero, suc, List, [], ◌∷◌, length, map, get_or, refl, sym, ap₂}
-use Rattle.std.proofs.Common.{subst, ◌∙◌, arith, set}
+use Rattle.std.proofs.Common.{◌≡◌, ◌+◌, ◌<◌, ◌≤◌, ◌++◌, ℕ, zero, suc, List, [], ◌∷◌, length, map, get_or, refl, sym}
+use Rattle.std.proofs.Common.{subst, ◌∙◌, ap, ap₂, arith, drop, drop-cons, set}
 use Rattle.std.specs.List.{Contains, range_with_len}
 use Rattle.std.proofs.lemmas.List.{get_or-set_same, get_or-set_other, length-set}
 use Rattle.aig_core.specs.declared.circuit.Gate.{Gate}
@@ -16,6 +16,25 @@ use Rattle.aig_sim.specs.Parts.Tables.{AreOverLower, evaluated, gates_from, plac
 pub placed_length : (at : ℕ) (xs values : List Val) → length (placed at xs values) ≡ length values
 placed_length at [] values = refl
 placed_length at (x ∷ xs) values = placed_length (at + 1) xs (set values at x) ∙ length-set values at x
+
+-- one more value is put behind the others
+pub placed_behind : (at : ℕ) (xs : List Val) (x : Val) (values : List Val)
+    → placed at (xs ++ x ∷ []) values ≡ set (placed at xs values) (at + length xs) x
+placed_behind at [] x values =
+    let same : at ≡ at + 0 = omega arith in ap (λ n. set values n x) same
+placed_behind at (y ∷ ys) x values =
+    let same : at + 1 + length ys ≡ at + length (y ∷ ys) = omega arith in
+    placed_behind (at + 1) ys x (set values at y) ∙ ap (λ n. set (placed (at + 1) ys (set values at y)) n x) same
+
+-- the next value is put where those before it were
+pub placed_on : (at k : ℕ) (given : List Val) (x : Val) (values all : List Val) → k < length given
+    → x ≡ get_or given k x → placed at (drop k given) values ≡ all
+    → placed (at + 1) (drop (k + 1) given) (set values at x) ≡ all
+placed_on at k given x values all below is before =
+    let next : suc k ≡ k + 1 = omega arith in
+    let front : drop k given ≡ x ∷ drop (k + 1) given =
+    drop-cons given k x below ∙ ap₂ (λ (y : Val) n. y ∷ drop n given) (sym is) next in
+    ap (λ xs. placed at xs values) (sym front) ∙ before
 
 -- lower places stay
 pub placed_below : (at : ℕ) (xs values : List Val) (w : ℕ) → w < at

@@ -11,18 +11,18 @@ code_of Zero = 0
 code_of One = 3
 code_of X = 1
 
-abbrev pub value_of : ℕ → Val
-value_of byte = if byte == 0 then Zero else if byte == 1 then X else One
+abbrev pub value_of_code : ℕ → Val
+value_of_code byte = if byte == 0 then Zero else if byte == 1 then X else One
 
-abbrev pub bytes_of : List Val → List ℕ
-bytes_of [] = []
-bytes_of (v ∷ vs) = code_of v ∷ code_of (value_not v) ∷ bytes_of vs
+abbrev pub bytes_of_values : List Val → List ℕ
+bytes_of_values [] = []
+bytes_of_values (v ∷ vs) = code_of v ∷ code_of (value_not v) ∷ bytes_of_values vs
 
-abbrev pub values_of : List ℕ → List Val
-values_of [] = []
-values_of (byte ∷ []) = []
-values_of (byte ∷ negation ∷ bytes) = value_of byte ∷ values_of bytes
+abbrev pub values_of_bytes : List ℕ → List Val
+values_of_bytes [] = []
+values_of_bytes (byte ∷ []) = []
+values_of_bytes (byte ∷ negation ∷ bytes) = value_of_code byte ∷ values_of_bytes bytes
 
 -- the bytes are those of a table
 abbrev pub AreCodes : List ℕ → Type 0
-AreCodes bytes = bytes_of (values_of bytes) ≡ bytes
+AreCodes bytes = bytes_of_values (values_of_bytes bytes) ≡ bytes

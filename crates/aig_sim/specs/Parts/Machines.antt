@@ -25,13 +25,17 @@ first_gate c = 1 + length c.inputs + length c.latches
 abbrev pub circuit_of : Circuit → List Pair → Circuit
 circuit_of parts pairs = record parts { gates = gates_from (first_gate parts) pairs }
 
+-- the literals whose values a row shows are over variables below a number
+pub record ShowsBelow (size : ℕ) (c : Circuit) : Type 0 where
+  pub outputs : All (IsLiteralBelow size) c.outputs
+  pub next : All (λ (l : Latch). IsLiteralBelow size l.next) c.latches
+  pub bad : All (IsLiteralBelow size) c.bad
+  pub constraints : All (IsLiteralBelow size) c.constraints
+
 -- The circuit is in binary order, and each literal is over a variable up to the largest.
 pub record CanRun (parts : Circuit) (pairs : List Pair) : Type 0 where
   pub inputs : parts.inputs ≡ range_with_len 1 (length parts.inputs)
   pub latches : latch_variables parts ≡ range_with_len (1 + length parts.inputs) (length parts.latches)
   pub gates : AreOverLower (first_gate parts) pairs
   pub size : 1 + parts.max_var ≡ first_gate parts + length pairs
-  pub outputs : All (IsLiteralBelow (1 + parts.max_var)) parts.outputs
-  pub next : All (λ (l : Latch). IsLiteralBelow (1 + parts.max_var) l.next) parts.latches
-  pub bad : All (IsLiteralBelow (1 + parts.max_var)) parts.bad
-  pub constraints : All (IsLiteralBelow (1 + parts.max_var)) parts.constraints
+  pub below : ShowsBelow (1 + parts.max_var) parts

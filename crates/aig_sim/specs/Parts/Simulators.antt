@@ -1,16 +1,17 @@
 -- What a simulator holds.
-use Rattle.std.specs.Prelude.{◌≡◌, ◌+◌, Some, None, length, if◌then◌else◌}
+use Rattle.std.specs.Prelude.{◌≡◌, ◌+◌, Some, None, length, map, if◌then◌else◌}
 use Rattle.aig_meaning.specs.Meaning.{Row}
 use Rattle.aig_sim.specs.Simulating.{Simulation}
 use Rattle.aig_sim.specs.declared.simulator.Simulator.TheInside.{Inside}
+use Rattle.aig_sim.specs.Parts.Tables.{read_from}
 
--- what the last step showed, if one was taken
+-- what the last step showed, if one was taken; its inputs stand in the table
 abbrev pub last_row : Inside → Row
 last_row s = record {
   state = s.before.items;
-  inputs = s.given.items;
+  inputs = map (read_from s.values) s.machine.inputs;
   outputs = s.outputs.items;
-  next = s.state.items;
+  next = s.next.items;
   bad = s.bad.items;
   constraints = s.constraints.items;
 }
@@ -27,7 +28,7 @@ pub record HasRoom (s : Inside) : Type 0 where
   pub values : length s.values ≡ 1 + s.machine.max_var
   pub state : length s.state.items ≡ length s.machine.latches
   pub before : length s.before.items ≡ length s.machine.latches
-  pub given : length s.given.items ≡ length s.machine.inputs
   pub outputs : length s.outputs.items ≡ length s.machine.outputs
+  pub next : length s.next.items ≡ length s.machine.latches
   pub bad : length s.bad.items ≡ length s.machine.bad
   pub constraints : length s.constraints.items ≡ length s.machine.constraints

@@ -5,24 +5,23 @@ use Rattle.aig_core.specs.declared.value.Val.{Val}
 use Rattle.aig_io.specs.Output.{Out, Put}
 use Rattle.aig_meaning.specs.Meaning.{MeansTheSame}
 use Rattle.aig_sim.specs.declared.trace.Columns.{Columns}
-use Rattle.aig_sim.specs.Simulating.{Simulation}
 use Rattle.aig_sim.specs.Stimulus.{Entry, entry_in, stimulus}
 use Rattle.aig_sim.specs.TraceText.{IsTraceText}
 use Rattle.aig_sim.specs.Outcome.{first_bad_line}
-use Rattle.aig_sim.specs.Parts.Lines.{Keeping}
+use Rattle.aig_sim.specs.Parts.Lines.{Keeping, vector_in}
 use Rattle.aig_sim.specs.Parts.Progress.{Does, Goes, Point, Steps, begin_of}
 use Rattle.aig_sim.specs.Parts.Seen.{IsHeard, all_good}
 
--- a simulator with the columns that are asked for, whether the run that is going on has a step, and the inputs of the
--- last step
+-- a circuit that is run, with the columns that are asked for, the state before its next step, and whether the run that
+-- is going on has a step
 pub record Tracing : Type 0 where
-  pub simulation : Simulation
+  pub circuit : Circuit
   pub columns : Columns
+  pub state : List Val
   pub has_step : Bool
-  pub given : List Val
 
 abbrev pub point_of : Tracing → Point
-point_of t = record { state = t.simulation.state; has_step = t.has_step }
+point_of t = record { state = t.state; has_step = t.has_step }
 
 -- some text was put
 pub record PutSome {W : Type 0} (a b : Out W) : Type 0 where
@@ -31,21 +30,23 @@ pub record PutSome {W : Type 0} (a b : Out W) : Type 0 where
 
 -- it runs the same circuit, with the same columns
 pub record IsSameTracer (before after : Tracing) : Type 0 where
-  pub circuit : after.simulation.circuit ≡ before.simulation.circuit
+  pub circuit : after.circuit ≡ before.circuit
   pub columns : after.columns ≡ before.columns
 
 -- a line was taken: it says an entry, which was done, and the text for it was put
 pub record TookLine {W : Type 0} (before after : Tracing) (a b : Out W) (text : List ℕ) : Type 0 where
   pub entry : Entry
   pub line : List ℕ
-  pub said : entry_in (length before.simulation.circuit.inputs) text ≡ Some entry
-  pub does : Does before.simulation.circuit before.columns (point_of before) entry (point_of after) line
+  pub said : entry_in (length before.circuit.inputs) text ≡ Some entry
+  pub does : Does before.circuit before.columns (point_of before) entry (point_of after) line
   pub put : Put a b line
 
--- a step was taken with the inputs that were read, and its line was put
-pub record TookStep {W : Type 0} (before after : Tracing) (a b : Out W) : Type 0 where
+-- a step was taken with the inputs that a text says, and its line was put
+pub record TookStep {W : Type 0} (before after : Tracing) (a b : Out W) (text : List ℕ) : Type 0 where
+  pub given : List Val
   pub line : List ℕ
-  pub steps : Steps before.simulation.circuit before.columns (point_of before) before.given (point_of after) line
+  pub said : vector_in (length before.circuit.inputs) text ≡ Some given
+  pub steps : Steps before.circuit before.columns (point_of before) given (point_of after) line
   pub put : Put a b line
 
 -- what takes the bytes of a stimulus: the tracer, the bytes that are kept of the line that has not ended, and the
@@ -58,7 +59,7 @@ pub record Reading : Type 0 where
 -- The bytes that came lie before a reader so: whole lines, none of them bad, led to where it stands and to this
 -- text, and it keeps the beginning of the line behind them.
 pub record IsAt (c : Circuit) (columns : Columns) (bytes text : List ℕ) (at : Reading) : Type 0 where
-  pub means : MeansTheSame c at.tracing.simulation.circuit
+  pub means : MeansTheSame c at.tracing.circuit
   pub same_columns : at.tracing.columns ≡ columns
   pub lines : ℕ
   pub rest : List ℕ

@@ -1,12 +1,12 @@
 use Rattle.std.proofs.Common.{◌≡◌, ◌<◌, ◌/◌, length, arith}
-use Rattle.aig_sim.specs.Parts.Cells.{values_of}
+use Rattle.aig_sim.specs.Parts.Cells.{values_of_bytes}
 use Rattle.aig_sim.proofs.Running.Cells.{codes_length, is_code_at, value_at}
 use Rattle.aig_sim.proofs.cells.look_up.Goals as goal
 
 pub bounds-codes-literal-inside : goal.bounds-codes-literal-inside
 bounds-codes-literal-inside c =
     let is : c.literal.inside.0 ≡ c.args.literal = c.literal.view_is in
-    let below : c.args.literal / 2 < length (values_of c.args.codes.now) = c.requires.below in
+    let below : c.args.literal / 2 < length (values_of_bytes c.args.codes.now) = c.requires.below in
     omega (arith, is, below, codes_length c.args.codes.now c.requires.coded)
 
 pub invariant_of-result : goal.invariant_of-result
