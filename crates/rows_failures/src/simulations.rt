@@ -189,6 +189,20 @@ fn bad_lines(rt: HostRuntime) -> Result<(), Fail> {
     Ok(())
 }
 
+/// A line is not judged before its end came, though it is too long already: the failed read is reported.
+#[test]
+fn unread_ends(rt: HostRuntime) -> Result<(), Fail> {
+    let mut devices = SOUND;
+    devices.stimulus = b"0x\n111111";
+    for call in 2..5 {
+        devices.failing_stimulus = call;
+        let outcome = devices.run(rt.alloc(), "aiger aigsim model stimulus")?;
+        assert!(rt; outcome.told(1, "aiger: stimulus: cannot read\n"), "read {call}");
+        assert!(rt; outcome.output.taken.as_slice() == &TRACE[..7], "read {call}");
+    }
+    Ok(())
+}
+
 /// The line about a bad line of a stimulus, by its name or from a stream.
 fn bad_line(named: bool) -> &'static str {
     if named {
