@@ -15,7 +15,6 @@ use Rattle.aig_io.specs.Output.{Out, Put}
 use Rattle.aig_sim.specs.Stimulus.{Step, Stop, entry_in, value_of, values_of}
 use Rattle.aig_sim.specs.TraceText.{character_of, row_text, values_text}
 use Rattle.aig_sim.specs.Parts.Lines.{HasLineRoom, line_size, row_read, row_size, vector_in}
-use Rattle.aig_sim.specs.Parts.Progress.{Point}
 use Rattle.aig_sim.specs.Parts.Tracing.{TookStep, Tracing}
 
 -- a value that a character stands for has that character

@@ -1,11 +1,8 @@
-use Rattle.std.proofs.Common.{◌≡◌, ◌∙◌, length, take, refl, ap, sym, subst, arith}
+use Rattle.std.proofs.Common.{◌≡◌, ◌∙◌, length, take, refl, ap, subst, arith}
 use Rattle.std.proofs.lemmas.List.{with_items_is}
 use Rattle.aig_meaning.specs.Meaning.{IsStepAssignment}
-use Rattle.aig_sim.specs.TraceText.{row_text}
-use Rattle.aig_sim.specs.Parts.Lines.{row_read}
 use Rattle.aig_sim.specs.Parts.Tables.{read_from}
-use Rattle.aig_sim.specs.Parts.Tracing.{TookStep}
-use Rattle.aig_sim.proofs.LineValues.{ShowsTheSame, line_fits, step_taken, vector_back}
+use Rattle.aig_sim.proofs.LineValues.{line_fits, step_taken, vector_back}
 use Rattle.aig_sim.proofs.tracer.Tracer.take_step.Goals as goal
 
 pub write_row-end-requires-clause-room : goal.write_row-end-requires-clause-room
