@@ -21,7 +21,7 @@ use Rattle.aig_image.proofs.Imaging.Members.{listed}
 use Rattle.aig_image.proofs.Imaging.Ordered.{image_is_ordered}
 use Rattle.aig_image.proofs.Meaning.Renamed.{renamed_assignment, renamed_means_the_same}
 
-larger_first : (x y : ℕ) → ((max x y ≡ x) × (min x y ≡ y)) ⊎ ((max x y ≡ y) × (min x y ≡ x))
+pub larger_first : (x y : ℕ) → ((max x y ≡ x) × (min x y ≡ y)) ⊎ ((max x y ≡ y) × (min x y ≡ x))
 larger_first x y =
     ⊎_elim (λ (l : x < y). inr (omega arith, omega arith)) (λ (l : y ≤ x). inl (omega arith, omega arith))
     (cases_lt x y)

@@ -17,7 +17,7 @@ use Rattle.aig_image.specs.Relabelled.{relabelled_latch, relabelled_literal}
 use Rattle.aig_image.specs.Renamed.{HasOperands, IsRenamed, IsRenamedGate}
 use Rattle.aig_image.proofs.Relabelling.Lists.{map_twice}
 
-and_exchanged : (x y : Val) → value_and x y ≡ value_and y x
+pub and_exchanged : (x y : Val) → value_and x y ≡ value_and y x
 and_exchanged Zero Zero = refl
 and_exchanged Zero One = refl
 and_exchanged Zero X = refl

@@ -1,0 +1,10 @@
+-- The unrolled circuit: one of each circuit, and in binary order.
+pub mod One
+pub mod Rows
+pub mod Frames
+pub mod OneByOne
+pub mod Lower
+pub mod Gates
+pub mod Ordered
+pub mod Counts
+pub mod Plain

@@ -1,0 +1,82 @@
+-- The binary image of a circuit has as many of each as the circuit, so both unroll to circuits of one size.
+use Rattle.std.proofs.Common.{◌≡◌, ◌+◌, ◌*◌, ◌<◌, ℕ, List, length, map, sym, ap, ap₂, subst, ◌∙◌, inl, inr}
+use Rattle.std.proofs.Common.{⊎_elim, arith}
+use Rattle.std.specs.Prelude.{◌⊎◌}
+use Rattle.std.proofs.lemmas.List.{length-map}
+use Rattle.std.proofs.lemmas.Simd.{map-map}
+use Rattle.aig_core.specs.declared.circuit.Latch.{Latch}
+use Rattle.aig_core.specs.declared.circuit.Gate.{Gate}
+use Rattle.aig_core.specs.declared.circuit.Circuit.{Circuit}
+use Rattle.aig_core.specs.declared.circuit.TheConstants.{LARGEST}
+use Rattle.aig_core.specs.Wellformed.{IsWellFormed}
+use Rattle.aig_core.specs.BinaryOrder.{IsInBinaryOrder}
+use Rattle.aig_core.specs.Order.{IsLeastReadyOrder}
+use Rattle.aig_image.specs.Image.{IsBinaryImage, image_by}
+use Rattle.aig_image.specs.Relabelled.{relabelled_gate, relabelled_latch, relabelled_literal}
+use Rattle.aig_image.specs.Renumbering.{in_new_order, renumbered}
+use Rattle.aig_image.specs.Reordered.{operands_sorted, taken}
+use Rattle.aig_image.proofs.Imaging.Members.{all_taken}
+use Rattle.aig_image.proofs.Imaging.Ordered.{image_is_ordered}
+use Rattle.aig_unroll.specs.Unrolled.{IsTooLarge, IsUnrolled, all_inputs, frame_size, resets_of, uninitialised}
+use Rattle.aig_unroll.proofs.Ordering.Ordered.{unrolled_ordered, unrolled_well_formed}
+
+-- as many of each that bounds the size of what is unrolled
+pub record HasCountsOf (c image : Circuit) : Type 0 where
+  pub resets : resets_of image ≡ resets_of c
+  pub inputs : length image.inputs ≡ length c.inputs
+  pub latches : length image.latches ≡ length c.latches
+  pub outputs : length image.outputs ≡ length c.outputs
+  pub bad : length image.bad ≡ length c.bad
+  pub constraints : length image.constraints ≡ length c.constraints
+  pub gates : length image.gates ≡ length c.gates
+
+module _ (c : Circuit) (order : List ℕ) (good : IsWellFormed c) (least : IsLeastReadyOrder c order) where
+  abbrev number : ℕ → ℕ
+  number = renumbered (in_new_order c order)
+
+  abbrev renamed_gates : List Gate
+  renamed_gates = map (relabelled_gate number) c.gates
+
+  counts_kept : HasCountsOf c (image_by order c)
+  counts_kept = record {
+    resets = map-map (λ (l : Latch). l.reset) (relabelled_latch number) c.latches;
+    inputs = length-map c.inputs number;
+    latches = length-map c.latches (relabelled_latch number);
+    outputs = length-map c.outputs (relabelled_literal number);
+    bad = length-map c.bad (relabelled_literal number);
+    constraints = length-map c.constraints (relabelled_literal number);
+    gates =
+        length-map (taken renamed_gates order) operands_sorted ∙ length-map order _ ∙ all_taken c order good least;
+  }
+
+pub image_counts : (c image : Circuit) → IsWellFormed c → IsBinaryImage c image → HasCountsOf c image
+image_counts c image good is = subst (HasCountsOf c) (sym is.2) (counts_kept c is.0 good is.1)
+
+module _ (c image : Circuit) (frames : ℕ) (same : HasCountsOf c image) where
+  pub same_inputs : all_inputs image frames ≡ all_inputs c frames
+  same_inputs = ap₂ (λ m n. uninitialised m + frames * n) same.resets same.inputs
+
+  pub same_frame_size : frame_size image ≡ frame_size c
+  same_frame_size = omega (arith, same.gates, same.constraints, same.bad)
+
+  -- so neither is too large where the other is not
+  pub as_large : IsTooLarge image frames → IsTooLarge c frames
+  as_large =
+      let gates : frames * frame_size image ≡ frames * frame_size c = ap (λ n. frames * n) same_frame_size in
+      let outputs : frames * length image.outputs ≡ frames * length c.outputs = ap (λ n. frames * n) same.outputs in
+      let bads : frames * length image.bad ≡ frames * length c.bad = ap (λ n. frames * n) same.bad in
+      ⊎_elim (λ (h : LARGEST < all_inputs image frames + frames * frame_size image).
+      inl (omega (arith, h, same_inputs, gates)))
+      (λ (later : (LARGEST < frames * length image.outputs) ⊎ (LARGEST < frames * length image.bad)).
+      ⊎_elim (λ (h : LARGEST < frames * length image.outputs). inr (inl (omega (arith, h, outputs))))
+      (λ (h : LARGEST < frames * length image.bad). inr (inr (omega (arith, h, bads)))) later)
+
+pub unrolled_is_ordered : (c d : Circuit) (frames : ℕ) → IsWellFormed c → IsUnrolled c frames d → ¬ IsTooLarge c frames
+    → IsWellFormed d × IsInBinaryOrder d
+unrolled_is_ordered c d frames good is small =
+    let image : Circuit = is.0 in
+    let formed = image_is_ordered c image good is.1 in
+    let fits : ¬ IsTooLarge image frames =
+    λ large. small (as_large c image frames (image_counts c image good is.1) large) in
+    subst (λ (x : Circuit). IsWellFormed x × IsInBinaryOrder x) (sym is.2)
+    (unrolled_well_formed image frames formed.0 formed.1 fits, unrolled_ordered image frames formed.0 formed.1)

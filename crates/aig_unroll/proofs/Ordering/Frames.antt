@@ -1,0 +1,158 @@
+-- The frames of an unrolled circuit, one by one: how many gates each has, and which variables these define.
+use Rattle.std.proofs.Common.{◌≡◌, ◌+◌, ◌*◌, ◌<◌, ℕ, zero, suc, List, [], ◌∷◌, ◌++◌, length, map, get_or}
+use Rattle.std.proofs.Common.{refl, ap, ap₂, ◌∙◌, length-append, arith}
+use Rattle.std.specs.List.{flat_map, range_with_len}
+use Rattle.std.proofs.Math.Nat.{suc-mul}
+use Rattle.std.proofs.lemmas.List.{length-map, map-append}
+use Rattle.std.proofs.lemmas.List.FromFn.{length-range_with_len}
+use Rattle.aig_core.specs.declared.circuit.Gate.{Gate}
+use Rattle.aig_core.specs.declared.circuit.Latch.{Latch}
+use Rattle.aig_core.specs.declared.circuit.Reset.{Reset}
+use Rattle.aig_core.specs.declared.circuit.Reset.TheVariants as resets
+use Rattle.aig_core.specs.declared.circuit.Circuit.{Circuit}
+use Rattle.aig_core.specs.Literal.{literal_of}
+use Rattle.aig_core.proofs.Numbered.Ranges.{ranges_joined}
+use Rattle.aig_unroll.specs.Unrolled.{at, bad_at, chain_at, chained, copied, first_bad, first_constraint}
+use Rattle.aig_unroll.specs.Unrolled.{first_gate, first_latches, frame_size, gates_at, guarded, latches_at, literal_in}
+use Rattle.aig_unroll.specs.Unrolled.{next_of, outputs_at, resets_of}
+use Rattle.aig_unroll.proofs.Ordering.Rows.{one_row_more, row_read, rows_length}
+
+abbrev pub variables_of : List Gate → List ℕ
+variables_of gates = map (λ (g : Gate). g.var) gates
+
+pub copied_length : (f : ℕ → ℕ) (v : ℕ) (gs : List Gate) → length (copied f v gs) ≡ length gs
+copied_length f v [] = refl
+copied_length f v (g ∷ gs) = ap suc (copied_length f (v + 1) gs)
+
+pub chained_length : (v chain : ℕ) (xs : List ℕ) → length (chained v chain xs) ≡ length xs
+chained_length v chain [] = refl
+chained_length v chain (x ∷ xs) = ap suc (chained_length (v + 1) (literal_of v) xs)
+
+pub guarded_length : (v chain : ℕ) (xs : List ℕ) → length (guarded v chain xs) ≡ length xs
+guarded_length v chain [] = refl
+guarded_length v chain (x ∷ xs) = ap suc (guarded_length (v + 1) chain xs)
+
+pub first_length : (v : ℕ) (rs : List Reset) → length (first_latches v rs) ≡ length rs
+first_length v [] = refl
+first_length v (resets.Zero ∷ rs) = ap suc (first_length v rs)
+first_length v (resets.One ∷ rs) = ap suc (first_length v rs)
+first_length v (resets.Uninit ∷ rs) = ap suc (first_length (v + 1) rs)
+
+-- each kind of gates defines variables one after another
+pub copied_variables : (f : ℕ → ℕ) (v : ℕ) (gs : List Gate)
+    → variables_of (copied f v gs) ≡ range_with_len v (length gs)
+copied_variables f v [] = refl
+copied_variables f v (g ∷ gs) = ap (λ (vs : List ℕ). v ∷ vs) (copied_variables f (v + 1) gs)
+
+pub chained_variables : (v chain : ℕ) (xs : List ℕ)
+    → variables_of (chained v chain xs) ≡ range_with_len v (length xs)
+chained_variables v chain [] = refl
+chained_variables v chain (x ∷ xs) = ap (λ (vs : List ℕ). v ∷ vs) (chained_variables (v + 1) (literal_of v) xs)
+
+pub guarded_variables : (v chain : ℕ) (xs : List ℕ)
+    → variables_of (guarded v chain xs) ≡ range_with_len v (length xs)
+guarded_variables v chain [] = refl
+guarded_variables v chain (x ∷ xs) = ap (λ (vs : List ℕ). v ∷ vs) (guarded_variables (v + 1) chain xs)
+
+module _ (c : Circuit) (frames : ℕ) where
+  -- where the next frame's gates begin
+  pub next_gate : (t : ℕ) → first_gate c frames (suc t) ≡ first_gate c frames t + frame_size c
+  next_gate t = let more : suc t * frame_size c ≡ t * frame_size c + frame_size c = suc-mul t (frame_size c) in
+      omega (arith, more)
+
+  abbrev copies : ℕ → List Gate
+  copies t = copied (at c frames t) (first_gate c frames t) c.gates
+
+  abbrev chain : ℕ → List Gate
+  chain t = chained (first_constraint c frames t) (chain_at c frames t) (map (at c frames t) c.constraints)
+
+  abbrev guards : ℕ → List Gate
+  guards t = guarded (first_bad c frames t) (chain_at c frames (suc t)) (map (at c frames t) c.bad)
+
+  pub copies_length : (t : ℕ) → length (copies t) ≡ length c.gates
+  copies_length t = copied_length (at c frames t) (first_gate c frames t) c.gates
+
+  pub chain_length : (t : ℕ) → length (chain t) ≡ length c.constraints
+  chain_length t =
+      chained_length (first_constraint c frames t) (chain_at c frames t) (map (at c frames t) c.constraints)
+      ∙ length-map c.constraints (at c frames t)
+
+  pub guards_length : (t : ℕ) → length (guards t) ≡ length c.bad
+  guards_length t =
+      guarded_length (first_bad c frames t) (chain_at c frames (suc t)) (map (at c frames t) c.bad)
+      ∙ length-map c.bad (at c frames t)
+
+  -- how many gates a frame has
+  pub frame_length : (t : ℕ) → length (gates_at c frames t) ≡ frame_size c
+  frame_length t =
+      omega (
+        arith,
+        length-append (copies t) (chain t ++ guards t),
+        length-append (chain t) (guards t),
+        copies_length t,
+        chain_length t,
+        guards_length t,
+      )
+
+  -- the gates of a frame define the variables from its first one on
+  pub frame_variables : (t : ℕ)
+      → variables_of (gates_at c frames t) ≡ range_with_len (first_gate c frames t) (frame_size c)
+  frame_variables t =
+      let var : Gate → ℕ = λ g. g.var in
+      let size : length (map (at c frames t) c.constraints) ≡ length c.constraints =
+      length-map c.constraints (at c frames t) in
+      let bads : length (map (at c frames t) c.bad) ≡ length c.bad = length-map c.bad (at c frames t) in
+      let all : length c.gates + (length c.constraints + length c.bad) ≡ frame_size c = omega arith in
+      map-append var (copies t) (chain t ++ guards t)
+      ∙ ap₂ (λ (xs ys : List ℕ). xs ++ ys) (copied_variables (at c frames t) (first_gate c frames t) c.gates)
+      (map-append var (chain t) (guards t)
+      ∙ ap₂ (λ (xs ys : List ℕ). xs ++ ys)
+      (chained_variables (first_constraint c frames t) (chain_at c frames t) (map (at c frames t) c.constraints)
+      ∙ ap (range_with_len (first_constraint c frames t)) size)
+      (guarded_variables (first_bad c frames t) (chain_at c frames (suc t)) (map (at c frames t) c.bad)
+      ∙ ap (range_with_len (first_bad c frames t)) bads)
+      ∙ ranges_joined (first_constraint c frames t) (length c.constraints) (length c.bad))
+      ∙ ranges_joined (first_gate c frames t) (length c.gates) (length c.constraints + length c.bad)
+      ∙ ap (range_with_len (first_gate c frames t)) all
+
+  -- frame by frame
+  pub gates_more : (n : ℕ) → flat_map (gates_at c frames) (range_with_len 0 (n + 1))
+      ≡ flat_map (gates_at c frames) (range_with_len 0 n) ++ gates_at c frames n
+  gates_more n = one_row_more (gates_at c frames) n
+
+  pub outputs_more : (n : ℕ) → flat_map (outputs_at c frames) (range_with_len 0 (n + 1))
+      ≡ flat_map (outputs_at c frames) (range_with_len 0 n) ++ outputs_at c frames n
+  outputs_more n = one_row_more (outputs_at c frames) n
+
+  pub bad_more : (n : ℕ) → flat_map (bad_at c frames) (range_with_len 0 (n + 1))
+      ≡ flat_map (bad_at c frames) (range_with_len 0 n) ++ bad_at c frames n
+  bad_more n = one_row_more (bad_at c frames) n
+
+  -- where a frame's gates stand among those of all frames
+  pub gate_stands : (n t i : ℕ) (d : Gate) → t < n → i < frame_size c
+      → get_or (flat_map (gates_at c frames) (range_with_len 0 n)) (t * frame_size c + i) d
+      ≡ get_or (gates_at c frames t) i d
+  gate_stands n t i d there below =
+      let here : 0 + t ≡ t = omega arith in
+      row_read (gates_at c frames) (frame_size c) frame_length 0 n t i d there below
+      ∙ ap (λ t. get_or (gates_at c frames t) i d) here
+
+  -- each frame has a literal for each latch
+  pub latches_length : (t : ℕ) → length (latches_at c frames t) ≡ length c.latches
+  latches_length zero = first_length 1 (resets_of c) ∙ length-map c.latches (λ (l : Latch). l.reset)
+  latches_length (suc t) =
+      length-map (next_of c) (literal_in c frames t (latches_at c frames t))
+      ∙ length-map c.latches (λ (l : Latch). l.next)
+
+  -- how many of each there are in so many frames
+  pub gates_length : (s n : ℕ) → length (flat_map (gates_at c frames) (range_with_len s n)) ≡ n * frame_size c
+  gates_length = rows_length (gates_at c frames) (frame_size c) frame_length
+
+  pub outputs_length : (s n : ℕ) → length (flat_map (outputs_at c frames) (range_with_len s n)) ≡ n * length c.outputs
+  outputs_length = rows_length (outputs_at c frames) (length c.outputs) (λ t. length-map c.outputs (at c frames t))
+
+  pub bad_length : (s n : ℕ) → length (flat_map (bad_at c frames) (range_with_len s n)) ≡ n * length c.bad
+  bad_length =
+      rows_length (bad_at c frames) (length c.bad)
+      (λ t. length-map (range_with_len (first_bad c frames t) (length c.bad)) literal_of
+      ∙ length-range_with_len (first_bad c frames t) (length c.bad))
