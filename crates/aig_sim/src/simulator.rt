@@ -9,7 +9,7 @@ use crate::cells::{Code, Table};
 use crate::evaluate::{put_reset_state, show, show_codes, show_next};
 use crate::fault::SimFault;
 use crate::machine::Machine;
-use aig_core::{Checked, OutOfMemory, Val};
+use aig_core::{Checked, Circuit, OutOfMemory, Val};
 use std::alloc::Global;
 use std::marker::Model;
 
@@ -57,12 +57,30 @@ impl Model for Simulator {
     ghost invariant = { HasRoom };
 }
 
-impl Simulator {
-    /// A simulator of what the machine runs, with all room that it needs.
-    fn with_room(alloc: Global, machine: Machine) -> Result<Self, OutOfMemory>
-        ensures { IfOk result (λ s. s.circuit ≡ machine) }
+/// A place for the value of each variable, and places for each list of a row.
+#[derive(Drop)]
+struct Room {
+    values: Table,
+    state: Vec<Code>,
+    before: Vec<Val>,
+    outputs: Vec<Val>,
+    next: Vec<Val>,
+    bad: Vec<Val>,
+    constraints: Vec<Val>,
+}
+
+impl Room {
+    /// Room for the values of a circuit and its rows. It is made by itself, since a proof goes through what is dropped
+    /// where an allocation fails, and a machine is much.
+    fn new(alloc: Global, parts: &Circuit) -> Result<Self, OutOfMemory>
+        ensures values { IfOk result (λ r. length r.values ≡ 1 + parts.now.max_var) }
+        ensures state { IfOk result (λ r. length r.state.items ≡ length parts.now.latches) }
+        ensures before { IfOk result (λ r. length r.before.items ≡ length parts.now.latches) }
+        ensures outputs { IfOk result (λ r. length r.outputs.items ≡ length parts.now.outputs) }
+        ensures next { IfOk result (λ r. length r.next.items ≡ length parts.now.latches) }
+        ensures bad { IfOk result (λ r. length r.bad.items ≡ length parts.now.bad) }
+        ensures constraints { IfOk result (λ r. length r.constraints.items ≡ length parts.now.constraints) }
     {
-        let parts = machine.parts();
         let values = Table::new(alloc, 1 + parts.max_var as usize)?;
         let state = vec![in alloc; Code::of(Val::Zero); parts.latches.len()]?;
         let before = vec![in alloc; Val::Zero; parts.latches.len()]?;
@@ -70,6 +88,32 @@ impl Simulator {
         let next = vec![in alloc; Val::Zero; parts.latches.len()]?;
         let bad = vec![in alloc; Val::Zero; parts.bad.len()]?;
         let constraints = vec![in alloc; Val::Zero; parts.constraints.len()]?;
+        Ok(Room {
+            values,
+            state,
+            before,
+            outputs,
+            next,
+            bad,
+            constraints,
+        })
+    }
+}
+
+impl Simulator {
+    /// A simulator of what the machine runs, with all room that it needs.
+    fn with_room(alloc: Global, machine: Machine) -> Result<Self, OutOfMemory>
+        ensures { IfOk result (λ s. s.circuit ≡ machine) }
+    {
+        let Room {
+            values,
+            state,
+            before,
+            outputs,
+            next,
+            bad,
+            constraints,
+        } = Room::new(alloc, machine.parts())?;
         Ok(Simulator {
             machine,
             values,
