@@ -1,2 +1,6 @@
 pub mod Ordering
 pub mod Traces
+pub mod Placed
+pub mod Standings
+pub mod InFrame
+pub mod Whole

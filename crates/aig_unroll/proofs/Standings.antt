@@ -1,0 +1,43 @@
+-- What stands for a literal by a table.
+use Rattle.std.proofs.Common.{◌≡◌, ◌+◌, ◌-◌, ◌*◌, ◌/◌, ◌%◌, ◌<◌, ◌≤◌, ℕ, List, [], ◌∷◌, ◌++◌, length, map, get_or, refl}
+use Rattle.std.proofs.Common.{ap, sym, ◌∙◌, arith, cond, eqb, ltb, inl, inr}
+use Rattle.std.specs.Int.Bits.{bit_and, bit_xor, xor_add_and, xor_zero_r}
+use Rattle.std.proofs.lemmas.Bool.{cases_lt, lt-ltb}
+use Rattle.std.proofs.lemmas.List.{get_or_default}
+use Rattle.std.proofs.lemmas.Nat.{and_mask}
+use Rattle.aig_core.specs.Literal.{negation_of, variable_of}
+use Rattle.aig_unroll.specs.Parts.Standing.{stood, with_sign}
+
+-- exclusive or with the last bit carries the sign over
+sign_carried : (literal stands : ℕ) → bit_xor stands (bit_and literal 1) ≡ with_sign literal stands
+sign_carried literal stands =
+    let bit : bit_and literal 1 ≡ literal % 2 = and_mask literal 1 in
+    let one : bit_and stands 1 ≡ stands % 2 = and_mask stands 1 in
+    let sum : bit_xor stands 1 + bit_and stands 1 * 2 ≡ stands + 1 = xor_add_and stands 1 in
+    elim (cases_lt 0 (literal % 2)) [
+      | inl odd ↦
+          let sign : literal % 2 ≡ 1 = omega arith in
+          elim (cases_lt 0 (stands % 2)) [
+            | inl odd_too ↦
+                let sign_too : stands % 2 ≡ 1 = omega arith in
+                rw (bit, sign, sign_too) (omega (arith, sum, one, sign_too))
+            | inr even_too ↦
+                let sign_too : stands % 2 ≡ 0 = omega arith in
+                rw (bit, sign, sign_too) (omega (arith, sum, one, sign_too))
+          ]
+      | inr even ↦
+          let sign : literal % 2 ≡ 0 = omega arith in
+          rw (bit, sign) (xor_zero_r stands)
+    ]
+
+-- what is looked up in the table stands for the literal
+pub looked_up : (standing : List ℕ) (first literal variable stands : ℕ) → variable ≡ variable_of literal
+    → variable < length standing → stands ≡ get_or standing variable stands
+    → bit_xor stands (bit_and literal 1) ≡ stood standing first literal
+looked_up standing first literal variable stands same below is =
+    let there : variable_of literal < length standing = omega arith in
+    let here : stands ≡ get_or standing (variable_of literal) 0 =
+    is ∙ get_or_default standing variable stands 0 below ∙ ap (λ n. get_or standing n 0) same in
+    sign_carried literal stands ∙ ap (with_sign literal) here
+    ∙ ap (λ b. cond b (with_sign literal (get_or standing (variable_of literal) 0))
+    (2 * first + (literal - 2 * length standing))) (sym (lt-ltb (variable_of literal) (length standing) there))

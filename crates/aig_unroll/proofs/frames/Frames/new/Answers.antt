@@ -1,0 +1,34 @@
+use Rattle.std.proofs.Common.{◌≡◌, ◌+◌, ◌*◌, ◌∙◌, List, ap, ap₂, arith, map, subst, sym}
+use Rattle.aig_core.specs.declared.circuit.Circuit.{Circuit}
+use Rattle.aig_core.specs.declared.circuit.Latch.{Latch}
+use Rattle.aig_core.specs.BinaryOrder.{IsInBinaryOrder}
+use Rattle.aig_core.specs.Wellformed.{IsWellFormed}
+use Rattle.aig_unroll.specs.Unrolled.{IsTooLarge, first_latches, uninitialised}
+use Rattle.aig_unroll.specs.Parts.Frames.{table}
+use Rattle.aig_unroll.proofs.InFrame.{first_frame}
+use Rattle.aig_unroll.proofs.frames.Frames.new.Goals as goal
+
+pub invariant_of-result : goal.invariant_of-result
+invariant_of-result c =
+    let circuit : Circuit = c.into_circuit-circuit.result in
+    let frames = c.args.frames in
+    let same : circuit ≡ c.args.image = c.into_circuit-circuit.ensures.value ∙ c.into_checked.ensures.value in
+    let ordered : IsInBinaryOrder circuit =
+    subst (λ (k : Circuit). IsInBinaryOrder k) (sym same) c.into_checked.ensures.ordered in
+    let formed : IsWellFormed circuit =
+    subst (λ (k : Circuit). IsWellFormed k) (sym c.into_circuit-circuit.ensures.value)
+    c.into_circuit-circuit.ensures.well_formed in
+    let fits : ¬ IsTooLarge circuit frames =
+    subst (λ (k : Circuit). ¬ IsTooLarge k frames) (sym same) c.requires.fits in
+    let reset = λ (l : Latch). l.reset in
+    let first = 1 + c.count_uninitialised-uninitialised.result in
+    first_frame circuit frames first (first + frames * c.len-inputs.result) c.in_ok-standing.standing.items
+    c.in_ok-next.next.items formed ordered fits c.requires.some
+    (ap (λ n. 1 + n)
+    (c.count_uninitialised-uninitialised.ensures.count
+    ∙ ap (λ (ls : List Latch). uninitialised (map reset ls)) c.as_slice.ensures))
+    (ap (λ n. first + frames * n) c.len-inputs.ensures)
+    (c.in_ok-standing.ensures
+    ∙ ap₂ (λ n (ls : List Latch). table first n (first_latches 1 (map reset ls)))
+    c.len-inputs.ensures c.as_slice-2.ensures)
+    (omega (arith, c.in_ok-next.next.ok, c.in_ok-next.ensures.len, c.len.ensures))

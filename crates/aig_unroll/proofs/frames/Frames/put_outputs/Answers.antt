@@ -1,0 +1,24 @@
+use Rattle.std.proofs.Common.{◌≡◌, ap, ap₂, map, length, subst, sym, ◌∙◌}
+use Rattle.std.specs.List.{All}
+use Rattle.aig_unroll.specs.Unrolled.{outputs_at}
+use Rattle.aig_unroll.specs.Parts.Frames.{Frame}
+use Rattle.aig_unroll.specs.Parts.Standing.{HasRoom, stood}
+use Rattle.aig_unroll.proofs.InFrame.{outputs_have_room, stands_at}
+use Rattle.aig_unroll.proofs.frames.Frames.put_outputs.Goals as goal
+
+pub put_literals-requires-clause-below : goal.put_literals-requires-clause-below
+put_literals-requires-clause-below c =
+    let f = c.self.inside in
+    let is = c.self.invariant in
+    rw (c.as_slice.ensures, c.as_slice-standing.ensures.value, is.standing_is, is.gate_is)
+    (outputs_have_room f.circuit f.frames f.frame is.formed is.ordered is.fits is.within)
+
+pub returns : goal.returns
+returns c =
+    let f = c.self.inside in
+    let is = c.self.invariant in
+    c.put_literals.ensures
+    ∙ ap₂ map
+    (ap (λ xs. stood xs f.first_gate) c.as_slice-standing.ensures.value
+    ∙ stands_at f.circuit f.frames f.frame f.first_gate f.standing.items is.gate_is is.standing_is) c.as_slice.ensures
+    ∙ ap (λ (k : Frame). outputs_at k.circuit k.frames k.frame) c.self.view_is

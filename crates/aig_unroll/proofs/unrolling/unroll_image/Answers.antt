@@ -1,0 +1,62 @@
+use Rattle.std.proofs.Common.{◌≡◌, ◌+◌, ◌*◌, ◌≤◌, ◌∙◌, ℕ, List, [], ap, arith, length}
+use Rattle.std.specs.List.{flat_map, range_with_len}
+use Rattle.std.proofs.lemmas.List.{with_items_is}
+use Rattle.aig_core.specs.declared.circuit.Circuit.{Circuit}
+use Rattle.aig_core.specs.declared.circuit.Gate.{Gate}
+use Rattle.aig_unroll.specs.Unrolled.{all_inputs, bad_at, frame_size, gates_at, outputs_at}
+use Rattle.aig_unroll.specs.Parts.Frames.{Frame, circuit_with}
+use Rattle.aig_unroll.proofs.InFrame.{all_fit}
+use Rattle.aig_unroll.proofs.Whole.{is_unrolled, variables_are}
+use Rattle.aig_unroll.proofs.unrolling.unroll_image.Goals as goal
+
+pub circuit_of-requires : goal.circuit_of-requires
+circuit_of-requires c =
+    let circuit : Circuit = c.args.image in
+    let frames : ℕ = c.args.frames in
+    let inputs : List ℕ = c.in_ok-inputs.inputs.items in
+    let kept : length c.put_frames.new.gates ≡ c.in_ok-gates.gates.len =
+    c.put_frames.auto.gates ∙ c.deref_mut-3.ensures.len in
+    let gates = with_items_is c.in_ok-gates.gates c.put_frames.new.gates kept in
+    let inputs_are : inputs ≡ range_with_len 1 (all_inputs circuit frames) =
+    c.in_ok-inputs.ensures
+    ∙ ap (range_with_len 1)
+    (c.count_inputs.ensures ∙ ap (λ (k : Frame). all_inputs k.circuit k.frames) c.in_ok-copies.ensures) in
+    let size : length c.put_frames.new.gates ≡ frames * frame_size circuit =
+    kept ∙ c.in_ok-gates.ensures.len
+    ∙ ap (λ n. frames * n) (c.count_gates.ensures ∙ ap (λ (k : Frame). frame_size k.circuit) c.in_ok-copies.ensures) in
+    omega (
+      arith,
+      ap length gates,
+      variables_are circuit frames inputs [] [] c.put_frames.new.gates inputs_are size,
+      all_fit circuit frames c.requires.fits,
+    )
+
+pub returns : goal.returns
+returns c =
+    let circuit : Circuit = c.args.image in
+    let frames : ℕ = c.args.frames in
+    let inputs : List ℕ = c.in_ok-inputs.inputs.items in
+    let kept : length c.put_frames.new.gates ≡ c.in_ok-gates.gates.len =
+    c.put_frames.auto.gates ∙ c.deref_mut-3.ensures.len in
+    let gates = with_items_is c.in_ok-gates.gates c.put_frames.new.gates kept in
+    let inputs_are : inputs ≡ range_with_len 1 (all_inputs circuit frames) =
+    c.in_ok-inputs.ensures
+    ∙ ap (range_with_len 1)
+    (c.count_inputs.ensures ∙ ap (λ (k : Frame). all_inputs k.circuit k.frames) c.in_ok-copies.ensures) in
+    let size : length c.put_frames.new.gates ≡ frames * frame_size circuit =
+    kept ∙ c.in_ok-gates.ensures.len
+    ∙ ap (λ n. frames * n) (c.count_gates.ensures ∙ ap (λ (k : Frame). frame_size k.circuit) c.in_ok-copies.ensures) in
+    let outputs =
+    with_items_is c.in_ok-outputs.outputs c.put_frames.new.outputs
+    (c.put_frames.auto.outputs ∙ c.deref_mut.ensures.len) in
+    let bad = with_items_is c.in_ok-bad.bad c.put_frames.new.bad (c.put_frames.auto.bad ∙ c.deref_mut-2.ensures.len) in
+    c.circuit_of.ensures
+    ∙ (λ i. circuit_with inputs (outputs i) (bad i) (gates i))
+    ∙ is_unrolled circuit frames inputs c.put_frames.new.outputs c.put_frames.new.bad c.put_frames.new.gates inputs_are
+    size
+    (c.put_frames.ensures.outputs
+    ∙ ap (λ (k : Frame). flat_map (outputs_at k.circuit k.frames) (range_with_len 0 k.frames)) c.in_ok-copies.ensures)
+    (c.put_frames.ensures.bad
+    ∙ ap (λ (k : Frame). flat_map (bad_at k.circuit k.frames) (range_with_len 0 k.frames)) c.in_ok-copies.ensures)
+    (c.put_frames.ensures.gates
+    ∙ ap (λ (k : Frame). flat_map (gates_at k.circuit k.frames) (range_with_len 0 k.frames)) c.in_ok-copies.ensures)

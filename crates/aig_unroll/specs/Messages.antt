@@ -1,0 +1,9 @@
+-- The words in which it is reported that a circuit was not unrolled (this project's profile).
+use Rattle.std.specs.Prelude.{ℕ, List, codes}
+use Rattle.aig_unroll.specs.declared.fault.UnrollFault.{UnrollFault}
+use Rattle.aig_unroll.specs.declared.fault.UnrollFault.TheVariants as faults
+
+abbrev pub unroll_fault_text : UnrollFault → List ℕ
+unroll_fault_text faults.Unsupported = codes "justice or fairness cannot be unrolled"
+unroll_fault_text faults.TooLarge = codes "too large to unroll"
+unroll_fault_text faults.OutOfMemory = codes "out of memory"

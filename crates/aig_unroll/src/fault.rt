@@ -1,0 +1,61 @@
+//! Why a circuit was not unrolled.
+ghost use Rattle.std.specs.Prelude.{◌≡◌, Some};
+ghost use Rattle.aig_text.specs.Messages.{message_text};
+ghost use Rattle.aig_unroll.specs.Messages.{unroll_fault_text};
+ghost use Rattle.aig_unroll.specs.declared.fault.UnrollFault.TheVariants.{OutOfMemory as IsOutOfMemory};
+
+use aig_core::OutOfMemory;
+use aig_text::Message;
+use std::alloc::AllocError;
+use std::error::Error;
+use std::fmt;
+
+/// Why a circuit was not unrolled.
+#[derive(Debug, Drop, PartialEq)]
+pub enum UnrollFault {
+    /// The circuit has justice properties or fairness constraints. They speak of runs without end.
+    Unsupported,
+    /// The unrolled circuit would have too many variables, outputs or bad states.
+    TooLarge,
+    /// An allocation failed. The circuit can be unrolled where there is more memory.
+    OutOfMemory,
+}
+
+impl UnrollFault {
+    /// Why it was not unrolled, in words.
+    pub fn message(&self) -> Message
+        ensures { message_text result ≡ unroll_fault_text self.now }
+    {
+        match self {
+            UnrollFault::Unsupported => Message::new("justice or fairness cannot be unrolled"),
+            UnrollFault::TooLarge => Message::new("too large to unroll"),
+            UnrollFault::OutOfMemory => Message::new("out of memory"),
+        }
+    }
+}
+
+impl fmt::Display for UnrollFault {
+    ghost output = { λ fault. Some (unroll_fault_text fault) };
+
+    fn fmt<W: fmt::Write>(&self, f: &mut fmt::Formatter<W>) -> fmt::Result {
+        write!(f, "{}", self.message())
+    }
+}
+
+impl Error for UnrollFault {}
+
+impl From<AllocError> for UnrollFault {
+    ghost from_gives = { λ _ e. e ≡ IsOutOfMemory };
+
+    fn from(_refused: AllocError) -> UnrollFault {
+        UnrollFault::OutOfMemory
+    }
+}
+
+impl From<OutOfMemory> for UnrollFault {
+    ghost from_gives = { λ _ e. e ≡ IsOutOfMemory };
+
+    fn from(_refused: OutOfMemory) -> UnrollFault {
+        UnrollFault::OutOfMemory
+    }
+}

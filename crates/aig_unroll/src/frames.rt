@@ -1,0 +1,259 @@
+//! A circuit frame by frame, as it is unrolled.
+ghost use Rattle.std.specs.Prelude.{◌≡◌, ◌+◌, ◌-◌, ◌<◌, ◌≤◌, ◌∷◌, drop, length, map, IfOk};
+ghost use Rattle.std.specs.List.{All};
+ghost use Rattle.aig_core.specs.declared.circuit.Latch.{Latch as LatchRecord};
+ghost use Rattle.aig_core.specs.declared.circuit.TheConstants.{LARGEST};
+ghost use Rattle.aig_core.specs.BinaryOrder.{IsInBinaryOrder};
+ghost use Rattle.aig_core.specs.Literal.{literal_of};
+ghost use Rattle.aig_core.specs.Wellformed.{IsWellFormed};
+ghost use Rattle.aig_unroll.specs.Unrolled.{IsTooLarge, all_inputs, bad_at, chain_at, first_latches, frame_size};
+ghost use Rattle.aig_unroll.specs.Unrolled.{gates_at, outputs_at, resets_of, uninitialised};
+ghost use Rattle.aig_unroll.specs.Parts.Frames.{gates_by, table};
+ghost use Rattle.aig_unroll.specs.Parts.Standing.{GateHasRoom, HasRoom, stood};
+
+use crate::standing::{
+    put_chain, put_copies, put_first, put_guards, put_literals, put_nexts, put_numbered,
+};
+use aig_core::{Circuit, Gate, Latch, Lit, Ordered, OutOfMemory, Reset};
+use std::alloc::{AllocError, Global};
+use std::marker::Model;
+
+/// A circuit in one of the frames over which it is unrolled.
+#[derive(Drop)]
+pub(crate) struct Frames {
+    /// The circuit, in binary order.
+    circuit: Circuit,
+    frames: u32,
+    frame: u32,
+    /// The first variable of the frame's inputs.
+    first_input: u32,
+    /// The first variable of the frame's gates.
+    first_gate: u32,
+    /// What stands for the constant, the inputs and the latches.
+    standing: Vec<Lit>,
+    /// Room for what stands for the latches in the next frame.
+    next: Vec<Lit>,
+}
+
+impl Model for Frames {
+    ghost use Rattle.aig_unroll.specs.Parts.Frames.{Frame, IsFrame};
+
+    ghost Value = { Frame };
+
+    ghost view = { λ f. record { circuit = f.circuit; frames = f.frames; frame = f.frame } };
+
+    ghost invariant = { λ f. IsFrame f.circuit f.frames f.frame f.first_input f.first_gate f.standing.items
+        f.next.items };
+}
+
+/// How many latches are uninitialised.
+pub(crate) fn count_uninitialised(latches: &[Latch]) -> usize
+    ensures count { result ≡ uninitialised (map (λ (l : LatchRecord). l.reset) latches.now) }
+    ensures bound { result ≤ length latches.now }
+{
+    let mut count = 0;
+    for latch in latches {
+        match latch.reset {
+            Reset::Uninit => count += 1,
+            _ => {}
+        }
+    }
+    count
+}
+
+/// How many gates a frame has.
+fn gates_of_frame(circuit: &Circuit) -> usize
+    requires { IsWellFormed circuit.now }
+    ensures { result ≡ frame_size circuit.now }
+{
+    circuit.gates.len() + circuit.constraints.len() + circuit.bad.len()
+}
+
+/// Makes the table of frame 0 of one with as many places.
+fn put_standing(first_input: u32, inputs: usize, latches: &[Latch], standing: &mut [Lit])
+    requires room { length standing.old ≡ 1 + inputs + length latches.now }
+    requires inputs { first_input + inputs ≤ LARGEST + 1 }
+    requires latches { length latches.now ≤ LARGEST }
+    requires constant { standing.old ≡ 0 ∷ drop 1 standing.old }
+    ensures { standing.new
+        ≡ table first_input inputs (first_latches 1 (map (λ (l : LatchRecord). l.reset) latches.now)) }
+{
+    put_numbered(first_input, &mut standing[1..1 + inputs]);
+    put_first(latches, &mut standing[1 + inputs..]);
+}
+
+/// The table of frame 0.
+fn first_standing(
+    alloc: Global,
+    first_input: u32,
+    inputs: usize,
+    latches: &[Latch],
+) -> Result<Vec<Lit>, AllocError>
+    requires inputs { first_input + inputs ≤ LARGEST + 1 }
+    requires latches { length latches.now ≤ LARGEST }
+    ensures { IfOk result (λ standing. standing.items
+        ≡ table first_input inputs (first_latches 1 (map (λ (l : LatchRecord). l.reset) latches.now))) }
+{
+    let mut standing = vec![in alloc; Lit(0); 1 + inputs + latches.len()]?;
+    put_standing(first_input, inputs, latches, &mut standing);
+    Ok(standing)
+}
+
+/// Changes a table to one whose inputs are the variables from this one on, with this for the latches.
+fn change_standing(first_input: u32, next: &[Lit], standing: &mut [Lit])
+    requires room { 1 + length next.now ≤ length standing.old }
+    requires inputs { first_input + length standing.old ≤ LARGEST + 2 + length next.now }
+    requires constant { standing.old ≡ 0 ∷ drop 1 standing.old }
+    ensures { standing.new ≡ table first_input (length standing.old - 1 - length next.now) next.now }
+{
+    let inputs = standing.len() - 1 - next.len();
+    put_numbered(first_input, &mut standing[1..1 + inputs]);
+    standing[1 + inputs..].copy_from_slice(next);
+}
+
+/// Puts the gates of a circuit by what stands for their operands, the chain of its constraints behind this one, and the
+/// gates of its bad states. They have the variables from this one on.
+fn put_parts(standing: &[Lit], first: u32, chain: Lit, circuit: &Circuit, out: &mut [Gate])
+    requires room { length out.old ≡ frame_size circuit.now }
+    requires gates { All (GateHasRoom (length standing.now) first) circuit.now.gates }
+    requires constraints { All (HasRoom (length standing.now) first) circuit.now.constraints }
+    requires bad { All (HasRoom (length standing.now) first) circuit.now.bad }
+    requires small { first + frame_size circuit.now ≤ LARGEST + 1 }
+    ensures { out.new ≡ gates_by (stood standing.now first) first chain circuit.now }
+{
+    let constraints = circuit.constraints.as_slice();
+    let bad = circuit.bad.as_slice();
+    let copies = circuit.gates.len();
+    let guards = copies + constraints.len();
+    let second = first + copies as u32;
+    let third = first + guards as u32;
+    put_copies(
+        standing,
+        first,
+        circuit.gates.as_slice(),
+        &mut out[..copies],
+    );
+    let behind = put_chain(
+        standing,
+        first,
+        second,
+        chain,
+        constraints,
+        &mut out[copies..guards],
+    );
+    put_guards(standing, first, third, behind, bad, &mut out[guards..]);
+}
+
+impl Frames {
+    /// The circuit in frame 0.
+    pub(crate) fn new(alloc: Global, image: Ordered, frames: u32) -> Result<Self, OutOfMemory>
+        requires some { 1 ≤ frames }
+        requires fits { ¬ IsTooLarge image frames }
+        ensures { IfOk result (λ f. f ≡ record { circuit = image; frames = frames; frame = 0 }) }
+    {
+        let circuit = image.into_checked().into_circuit();
+        let uninitialised = count_uninitialised(circuit.latches.as_slice()) as u32;
+        let inputs = circuit.inputs.len();
+        let first_input = 1 + uninitialised;
+        let standing = first_standing(alloc, first_input, inputs, circuit.latches.as_slice())?;
+        let next = vec![in alloc; Lit(0); circuit.latches.len()]?;
+        Ok(Frames {
+            circuit,
+            frames,
+            frame: 0,
+            first_input,
+            first_gate: first_input + frames * inputs as u32,
+            standing,
+            next,
+        })
+    }
+
+    /// The circuit that is unrolled.
+    pub(crate) fn circuit(&self) -> &Circuit
+        ensures value { result.now ≡ self.now.circuit }
+        ensures formed { IsWellFormed self.now.circuit }
+        ensures fits { ¬ IsTooLarge self.now.circuit self.now.frames }
+        ensures within { self.now.frame < self.now.frames }
+    {
+        &self.circuit
+    }
+
+    /// Over how many frames it is unrolled.
+    pub(crate) fn frames(&self) -> u32
+        ensures value { result ≡ self.now.frames }
+        ensures within { self.now.frame < self.now.frames }
+    {
+        self.frames
+    }
+
+    /// How many inputs the unrolled circuit has.
+    pub(crate) fn count_inputs(&self) -> u32
+        requires { self.now.frame ≡ 0 }
+        ensures { result ≡ all_inputs self.now.circuit self.now.frames }
+    {
+        self.first_gate - 1
+    }
+
+    /// How many gates a frame has.
+    pub(crate) fn count_gates(&self) -> usize
+        ensures { result ≡ frame_size self.now.circuit }
+    {
+        gates_of_frame(&self.circuit)
+    }
+
+    /// The chain of constraints before the frame: the last gate of the chain of the frame before.
+    fn chain(&self) -> Lit
+        ensures { result ≡ chain_at self.now.circuit self.now.frames self.now.frame }
+    {
+        if self.frame == 0 || self.circuit.constraints.is_empty() {
+            Lit(1)
+        } else {
+            Lit(2 * (self.first_gate - self.circuit.bad.len() as u32 - 1))
+        }
+    }
+
+    /// Puts the outputs of the frame.
+    pub(crate) fn put_outputs(&self, out: &mut [Lit])
+        requires { length out.old ≡ length self.now.circuit.outputs }
+        ensures { out.new ≡ outputs_at self.now.circuit self.now.frames self.now.frame }
+    {
+        let standing = self.standing.as_slice();
+        put_literals(
+            standing,
+            self.first_gate,
+            self.circuit.outputs.as_slice(),
+            out,
+        );
+    }
+
+    /// Puts the bad states of the frame.
+    pub(crate) fn put_bad(&self, out: &mut [Lit])
+        requires { length out.old ≡ length self.now.circuit.bad }
+        ensures { out.new ≡ bad_at self.now.circuit self.now.frames self.now.frame }
+    {
+        let before = self.circuit.gates.len() + self.circuit.constraints.len();
+        put_numbered(self.first_gate + before as u32, out);
+    }
+
+    /// Puts the gates of the frame.
+    pub(crate) fn put_gates(&self, out: &mut [Gate])
+        requires { length out.old ≡ frame_size self.now.circuit }
+        ensures { out.new ≡ gates_at self.now.circuit self.now.frames self.now.frame }
+    {
+        let standing = self.standing.as_slice();
+        put_parts(standing, self.first_gate, self.chain(), &self.circuit, out);
+    }
+
+    /// Goes to the next frame.
+    pub(crate) fn advance(&mut self)
+        requires { self.old.frame + 1 < self.old.frames }
+        ensures { self.new ≡ record self.old { frame = self.old.frame + 1 } }
+    {
+        let latches = self.circuit.latches.as_slice();
+        put_nexts(&self.standing, self.first_gate, latches, &mut self.next);
+        self.frame += 1;
+        self.first_input += self.circuit.inputs.len() as u32;
+        self.first_gate += gates_of_frame(&self.circuit) as u32;
+        change_standing(self.first_input, &self.next, &mut self.standing);
+    }
+}

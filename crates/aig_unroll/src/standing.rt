@@ -1,0 +1,163 @@
+//! What stands for literals in a frame, and the loops that put it. A table says what stands for each variable up to the
+//! last latch; the variables behind them are those of gates, which follow on one another in each frame.
+ghost use Rattle.std.specs.Prelude.{◌≡◌, ◌+◌, ◌≤◌, length, map};
+ghost use Rattle.std.specs.List.{All, range_with_len};
+ghost use Rattle.aig_core.specs.declared.circuit.Latch.{Latch as LatchRecord};
+ghost use Rattle.aig_core.specs.declared.circuit.TheConstants.{LARGEST};
+ghost use Rattle.aig_core.specs.Literal.{literal_of};
+ghost use Rattle.aig_unroll.specs.Unrolled.{chain_behind, chained, copied, first_latches, gate_of, guarded};
+ghost use Rattle.aig_unroll.specs.Parts.Standing.{GateHasRoom, HasRoom, stood};
+
+use aig_core::{Gate, Latch, Lit, Reset, Var};
+
+/// What stands for a literal. The sign carries over without a branch.
+#[inline(always)]
+fn stands_for(standing: &[Lit], first_gate: u32, literal: Lit) -> Lit
+    requires { HasRoom (length standing.now) first_gate literal }
+    ensures { result ≡ stood standing.now first_gate literal }
+{
+    let variable = literal.var().0 as usize;
+    if variable < standing.len() {
+        let stands = standing[variable];
+        Lit(stands.0 ^ (literal.0 & 1))
+    } else {
+        Lit(2 * first_gate + (literal.0 - 2 * standing.len() as u32))
+    }
+}
+
+/// A gate with these operands, the larger one first.
+#[inline(always)]
+fn make_gate(variable: u32, one: Lit, other: Lit) -> Gate
+    ensures { result ≡ gate_of variable one other }
+{
+    Gate {
+        var: Var(variable),
+        left: Lit(one.0.max(other.0)),
+        right: Lit(one.0.min(other.0)),
+    }
+}
+
+/// Puts the literals of variables, from this one on.
+pub(crate) fn put_numbered(first: u32, out: &mut [Lit])
+    requires { first + length out.old ≤ LARGEST + 1 }
+    ensures { out.new ≡ map literal_of (range_with_len first (length out.old)) }
+{
+    let mut variable = first;
+    for i in 0..out.len() {
+        out[i] = Lit(2 * variable);
+        variable += 1;
+    }
+}
+
+/// Puts what latches start at: their resets, and of uninitialised ones the variables from 1 on.
+pub(crate) fn put_first(latches: &[Latch], out: &mut [Lit])
+    requires room { length out.old ≡ length latches.now }
+    requires small { length latches.now ≤ LARGEST }
+    ensures { out.new ≡ first_latches 1 (map (λ (l : LatchRecord). l.reset) latches.now) }
+{
+    let mut variable = 1;
+    for i in 0..latches.len() {
+        out[i] = match latches[i].reset {
+            Reset::Zero => Lit(0),
+            Reset::One => Lit(1),
+            Reset::Uninit => {
+                variable += 1;
+                Lit(2 * (variable - 1))
+            }
+        };
+    }
+}
+
+/// Puts what stands for literals.
+pub(crate) fn put_literals(standing: &[Lit], first_gate: u32, literals: &[Lit], out: &mut [Lit])
+    requires room { length out.old ≡ length literals.now }
+    requires below { All (HasRoom (length standing.now) first_gate) literals.now }
+    ensures { out.new ≡ map (stood standing.now first_gate) literals.now }
+{
+    for i in 0..literals.len() {
+        out[i] = stands_for(standing, first_gate, literals[i]);
+    }
+}
+
+/// Puts what stands for the next literals of latches.
+pub(crate) fn put_nexts(standing: &[Lit], first_gate: u32, latches: &[Latch], out: &mut [Lit])
+    requires room { length out.old ≡ length latches.now }
+    requires below { All (λ (l : LatchRecord). HasRoom (length standing.now) first_gate l.next) latches.now }
+    ensures { out.new ≡ map (stood standing.now first_gate) (map (λ (l : LatchRecord). l.next) latches.now) }
+{
+    for i in 0..latches.len() {
+        out[i] = stands_for(standing, first_gate, latches[i].next);
+    }
+}
+
+/// Puts the gates by what stands for their operands. They have the variables from the first gate's on.
+pub(crate) fn put_copies(standing: &[Lit], first_gate: u32, gates: &[Gate], out: &mut [Gate])
+    requires room { length out.old ≡ length gates.now }
+    requires below { All (GateHasRoom (length standing.now) first_gate) gates.now }
+    requires small { first_gate + length gates.now ≤ LARGEST + 1 }
+    ensures { out.new ≡ copied (stood standing.now first_gate) first_gate gates.now }
+{
+    let mut variable = first_gate;
+    for i in 0..gates.len() {
+        let left = stands_for(standing, first_gate, gates[i].left);
+        let right = stands_for(standing, first_gate, gates[i].right);
+        out[i] = make_gate(variable, left, right);
+        variable += 1;
+    }
+}
+
+/// Puts the gates of constraints, each of the chain so far and of what stands for its literal. They have the variables
+/// from this one on. The chain behind them.
+pub(crate) fn put_chain(
+    standing: &[Lit],
+    first_gate: u32,
+    first: u32,
+    chain: Lit,
+    literals: &[Lit],
+    out: &mut [Gate],
+) -> Lit
+    requires room { length out.old ≡ length literals.now }
+    requires below { All (HasRoom (length standing.now) first_gate) literals.now }
+    requires small { first + length literals.now ≤ LARGEST + 1 }
+    ensures gates { out.new ≡ chained first chain (map (stood standing.now first_gate) literals.now) }
+    ensures chain { result ≡ chain_behind first chain literals.now }
+{
+    let mut variable = first;
+    let mut behind = chain;
+    for i in 0..literals.len() {
+        out[i] = make_gate(
+            variable,
+            behind,
+            stands_for(standing, first_gate, literals[i]),
+        );
+        behind = Lit(2 * variable);
+        variable += 1;
+    }
+    behind
+}
+
+/// Puts the gates of bad states, each of the chain and of what stands for its literal. They have the variables from
+/// this one on.
+pub(crate) fn put_guards(
+    standing: &[Lit],
+    first_gate: u32,
+    first: u32,
+    chain: Lit,
+    literals: &[Lit],
+    out: &mut [Gate],
+)
+    requires room { length out.old ≡ length literals.now }
+    requires below { All (HasRoom (length standing.now) first_gate) literals.now }
+    requires small { first + length literals.now ≤ LARGEST + 1 }
+    ensures { out.new ≡ guarded first chain (map (stood standing.now first_gate) literals.now) }
+{
+    let mut variable = first;
+    for i in 0..literals.len() {
+        out[i] = make_gate(
+            variable,
+            chain,
+            stands_for(standing, first_gate, literals[i]),
+        );
+        variable += 1;
+    }
+}
