@@ -197,8 +197,14 @@ fn unread_ends(rt: HostRuntime) -> Result<(), Fail> {
     for call in 2..5 {
         devices.failing_stimulus = call;
         let outcome = devices.run(rt.alloc(), "aiger aigsim model stimulus")?;
-        assert!(rt; outcome.told(1, "aiger: stimulus: cannot read\n"), "read {call}");
-        assert!(rt; outcome.output.taken.as_slice() == &TRACE[..7], "read {call}");
+        assert!(rt;
+            outcome.told(1, "aiger: stimulus: cannot read\n"),
+            "read {call}"
+        );
+        assert!(rt;
+            outcome.output.taken.as_slice() == &TRACE[..7],
+            "read {call}"
+        );
     }
     Ok(())
 }
