@@ -22,9 +22,8 @@ use Rattle.aig_text.proofs.Canonical.Text.{entries_full, small_reset, literal_ro
 use Rattle.aig_text.proofs.Canonical.Text.{header_is_small, tail_is_good}
 use Rattle.aig_core.specs.BinaryOrder.{IsInBinaryOrder}
 use Rattle.aig_binary.specs.BinaryGrammar.{IsBinaryText, SpellsGates, binary_word, binary_rows_of}
-use Rattle.aig_binary.specs.BinaryText.{binary_text, gate_text}
+use Rattle.aig_binary.specs.BinaryText.{HasDeltas, binary_text, gate_text}
 use Rattle.aig_binary.specs.Delta.{shortest_delta}
-use Rattle.aig_binary.specs.Parts.Deltas.{HasDeltas}
 use Rattle.aig_binary.proofs.Deltas.Shortest.{shortest_is_delta}
 use Rattle.aig_binary.proofs.Written.{gates_have_deltas}
 

@@ -16,9 +16,8 @@ use Rattle.aig_text.specs.AsciiText.{line_text, row_text}
 use Rattle.aig_text.specs.Rows.{row, next_form, next_row, literal_rows_of}
 use Rattle.aig_binary.specs.BinaryGrammar.{binary_rows_of}
 use Rattle.aig_core.specs.BinaryOrder.{AreOrderedGates, IsInBinaryOrder}
-use Rattle.aig_binary.specs.BinaryText.{gate_text}
+use Rattle.aig_binary.specs.BinaryText.{HasDeltas, gate_text}
 use Rattle.aig_binary.specs.Delta.{shortest_delta}
-use Rattle.aig_binary.specs.Parts.Deltas.{HasDeltas}
 
 module _ {W : Type 0} where
   -- two texts, one behind the other, put into the block alone

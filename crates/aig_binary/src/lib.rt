@@ -9,5 +9,5 @@ mod writer;
 
 pub use crate::delta::{Delta, get_delta, put_delta};
 pub use crate::reader::{BINARY_WORD, read_binary};
-pub use crate::writer::write_binary;
+pub use crate::writer::{put_gates, write_binary};
 pub use aig_core::{Ordered, is_in_binary_order};

@@ -12,8 +12,7 @@ ghost use Rattle.aig_text.specs.AsciiText.{line_text, row_text};
 ghost use Rattle.aig_text.specs.Rows.{next_row};
 ghost use Rattle.aig_binary.specs.BinaryGrammar.{binary_rows_of};
 ghost use Rattle.aig_core.specs.BinaryOrder.{IsInBinaryOrder};
-ghost use Rattle.aig_binary.specs.BinaryText.{binary_text, gate_text};
-ghost use Rattle.aig_binary.specs.Parts.Deltas.{HasDeltas};
+ghost use Rattle.aig_binary.specs.BinaryText.{HasDeltas, binary_text, gate_text};
 
 use crate::delta::{LONGEST, put_delta};
 use crate::reader::BINARY_WORD;
@@ -63,9 +62,9 @@ fn put_gate<W: Sink>(output: &mut Output<W>, gate: Gate)
     put_delta(gate.left.0 - gate.right.0).fill(output);
 }
 
-/// The gates.
+/// Puts gates by their deltas: those of a binary file, or a piece of them.
 #[inline(never)]
-fn put_gates<W: Sink>(output: &mut Output<W>, gates: &[Gate])
+pub fn put_gates<W: Sink>(output: &mut Output<W>, gates: &[Gate])
     requires { All HasDeltas gates.now }
     ensures { Put output.old output.new (flat_map gate_text gates.now) }
 {

@@ -12,7 +12,7 @@ use crate::number::{any_above, more_numbers};
 use aig_core::LARGEST;
 
 /// The first word of an ASCII file.
-pub(crate) const ASCII_WORD: &[u8] = b"aag";
+pub const ASCII_WORD: &[u8] = b"aag";
 
 /// How many numbers a header has at most.
 pub const HEADER_NUMBERS: usize = 9;

@@ -17,7 +17,7 @@ mod word;
 mod writer;
 
 pub use crate::fault::{Place, ReadFault, ReadKind};
-pub use crate::header_line::{HEADER_LEAST, HEADER_NUMBERS, Header};
+pub use crate::header_line::{ASCII_WORD, HEADER_LEAST, HEADER_NUMBERS, Header};
 pub use crate::limits::Limits;
 pub use crate::line::Cursor;
 pub use crate::message::Message;
@@ -27,6 +27,6 @@ pub use crate::reader::{empty_circuit, read_ascii};
 pub use crate::row::{NextState, Role, RowForm};
 pub use crate::section::{SECTIONS, Section, read_section};
 pub use crate::writer::{
-    WriteFault, header_numbers, put_header, put_literal_sections, put_numbers, put_tail,
-    reset_number, write_ascii,
+    NumberedLine, WriteFault, header_numbers, put_header, put_lines, put_literal_sections,
+    put_numbers, put_tail, reset_number, write_ascii,
 };

@@ -111,8 +111,8 @@ pub fn reset_number(own: u64, reset: Reset) -> u64
     }
 }
 
-/// What has a numbered line of its own.
-trait NumberedLine {
+/// What has a numbered line of its own in an ASCII file: an input, a latch, a literal, a gate, a size.
+pub trait NumberedLine {
     /// The line.
     ghost line: { Self → List ℕ };
 
@@ -173,9 +173,9 @@ impl NumberedLine for u32 {
     }
 }
 
-/// The numbered lines of a section.
+/// Puts the numbered lines of a section, or of a piece of one.
 #[inline(never)]
-fn put_lines<T: NumberedLine, W: Sink>(output: &mut Output<W>, items: &[T])
+pub fn put_lines<T: NumberedLine, W: Sink>(output: &mut Output<W>, items: &[T])
     ensures { Put output.old output.new (flat_map T.line items.now) }
 {
     for item in items {
