@@ -228,6 +228,8 @@ check 'a bad line behind a step, a closed standard error' errors_closed simulate
 wants '' 'aiger: -: cannot read\n' 1
 check 'a directory as stimulus' simulate < "$work"
 check 'a closed standard input as model' "$program" aigsim - "$work/steps" <&-
+# the model's file then has the number of the standard input, until it is closed
+check 'a closed standard input as stimulus' "$program" aigsim "$work/gate" <&-
 
 # a model that is refused, or of which the words are, leaves the stimulus alone for whoever reads it next
 unread() { "$program" "$@" 2> /dev/null; cat; }

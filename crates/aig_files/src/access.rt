@@ -40,15 +40,25 @@ pub trait FileAccess {
         ensures closed { closed self.now writer.new ≡ true };
 }
 
-/// A file of the system that is read. It does not tell its bytes.
+/// A file of the system that is read, and closed at its end. It does not tell its bytes.
+///
+/// Where the program is started with its standard input closed, the first file that it opens gets that one's number.
+/// Were it kept open, what reads the standard input then would read from that file.
 #[derive(Drop)]
 pub struct HostReader<F> {
-    file: F,
+    file: Option<F>,
 }
 
-impl<F: Read> Read for HostReader<F> {
+impl<F: Read + Drop> Read for HostReader<F> {
     fn read(&mut self, into: &mut [u8]) -> io::Result<usize> {
-        self.file.read(into)
+        let Some(file) = &mut self.file else {
+            return Ok(0);
+        };
+        let count = file.read(into)?;
+        if count == 0 && !into.is_empty() {
+            self.file = None;
+        }
+        Ok(count)
     }
 }
 
@@ -105,7 +115,7 @@ impl<T: Files> FileAccess for HostFiles<'_, T> {
 
     fn open(&self, name: &str) -> Result<Self::Reader, DeviceFault> {
         match fs::open(self.files, name) {
-            Ok(file) => Ok(HostReader { file }),
+            Ok(file) => Ok(HostReader { file: Some(file) }),
             Err(_) => Err(DeviceFault),
         }
     }
