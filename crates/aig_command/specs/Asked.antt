@@ -37,6 +37,15 @@ file place rows = option_and_then (λ name. if bytes_eq name (codes "-") then No
 abbrev pub ends_in : Text → Option Text → Bool
 ends_in ending named = option_map_or (λ name. ends_with nat_eq name ending) named false
 
+-- ASCII is written to this destination, by an option or by its name
+abbrev pub wants_ascii : List Row → Option Text → Bool
+wants_ascii rows destination = is_set (codes "ascii") rows || ends_in (codes ".aag") destination
+
+-- the reason to refuse a destination
+abbrev pub destination_refusal : Option Text → Option Usage
+destination_refusal destination =
+    if ends_in (codes ".gz") destination then Some usage.CompressedOutput else None
+
 -- a conversion: from which file to which, and how
 pub record Conversion : Type 0 where
   pub ascii : Bool
@@ -50,7 +59,7 @@ pub record Conversion : Type 0 where
 -- the conversion that the arguments of `aigtoaig` name
 abbrev pub conversion : List Row → Conversion
 conversion rows = record {
-  ascii = is_set (codes "ascii") rows || ends_in (codes ".aag") (file (codes "destination") rows);
+  ascii = wants_ascii rows (file (codes "destination") rows);
   strip = is_set (codes "strip") rows;
   keep_map = is_set (codes "keep-map") rows;
   undo_map = is_set (codes "undo-map") rows;
@@ -65,8 +74,7 @@ refusal c =
     if c.keep_map && c.ascii then Some usage.KeepMapNeedsBinary
     else if c.keep_map && c.strip then Some usage.KeepMapExcludesStrip
     else if c.keep_map && c.undo_map then Some usage.KeepMapExcludesUndoMap
-    else if ends_in (codes ".gz") c.destination then Some usage.CompressedOutput
-    else None
+    else destination_refusal c.destination
 
 -- a simulation: of which model, on which stimulus, and how
 pub record Simulation : Type 0 where

@@ -2,6 +2,7 @@
 #![tactic(auto)]
 
 mod builder;
+mod destination;
 mod options;
 mod reader;
 mod request;

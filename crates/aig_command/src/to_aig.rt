@@ -1,32 +1,15 @@
 //! What the arguments of `aigtoaig` ask for.
-ghost use Rattle.std.specs.Prelude.{◌≡◌, IfErr, IfOk, None, nat_eq, OnOk, Some};
-ghost use Rattle.std.specs.List.{ends_with};
+ghost use Rattle.std.specs.Prelude.{◌≡◌, IfErr, IfOk, None, OnOk, Some};
 ghost use Rattle.clap.specs.Words.{found_of, rows_of};
-ghost use Rattle.aig_command.specs.Answer.{CanDo, conversion_of, IsAnswer, IsKeptAlone, IsReason, name_of};
-ghost use Rattle.aig_command.specs.Asked.{conversion, ends_in, refusal, to_aig};
+ghost use Rattle.aig_command.specs.Answer.{CanDo, conversion_of, IsAnswer, IsKeptAlone, IsReason};
+ghost use Rattle.aig_command.specs.Asked.{conversion, refusal, to_aig};
 
+use crate::destination::{check_destination, wants_ascii};
 use crate::options::{file, is_set, limit};
 use crate::request::{Command, ToAig};
 use crate::usage::Usage;
 use clap::ArgMatches;
 use std::alloc::{AllocError, Global};
-
-/// Whether the name has this ending.
-fn has_ending(name: &str, ending: &str) -> bool
-    ensures { result ≡ ends_with nat_eq name.now ending.now }
-{
-    name.ends_with(ending)
-}
-
-/// Whether there is a file whose name has this ending.
-fn ends_in(named: &Option<String>, ending: &str) -> bool
-    ensures { result ≡ ends_in ending.now (name_of named.now) }
-{
-    match named {
-        Some(name) => has_ending(name.as_str(), ending),
-        None => false,
-    }
-}
 
 /// The conversion that the arguments name.
 fn conversion(alloc: Global, matches: &ArgMatches<'_>) -> Result<ToAig, AllocError>
@@ -35,7 +18,7 @@ fn conversion(alloc: Global, matches: &ArgMatches<'_>) -> Result<ToAig, AllocErr
     let source = file(alloc, matches, "source")?;
     let destination = file(alloc, matches, "destination")?;
     Ok(ToAig {
-        ascii: is_set(matches, "ascii") || ends_in(&destination, ".aag"),
+        ascii: wants_ascii(matches, &destination),
         strip: is_set(matches, "strip"),
         keep_map: is_set(matches, "keep-map"),
         undo_map: is_set(matches, "undo-map"),
@@ -61,10 +44,7 @@ fn check(request: &ToAig) -> Result<(), Usage>
     if request.keep_map && request.undo_map {
         return Err(Usage::KeepMapExcludesUndoMap);
     }
-    if ends_in(&request.destination, ".gz") {
-        return Err(Usage::CompressedOutput);
-    }
-    Ok(())
+    check_destination(&request.destination)
 }
 
 /// What the arguments of `aigtoaig` ask for.

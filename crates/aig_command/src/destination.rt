@@ -1,0 +1,46 @@
+//! What the name of a destination says of what is written there.
+ghost use Rattle.std.specs.Prelude.{◌≡◌, IfErr, None, nat_eq, OnOk, Some};
+ghost use Rattle.std.specs.List.{ends_with};
+ghost use Rattle.clap.specs.Words.{found_of, rows_of};
+ghost use Rattle.aig_command.specs.Answer.{IsReason, name_of};
+ghost use Rattle.aig_command.specs.Asked.{destination_refusal, ends_in, wants_ascii};
+
+use crate::options::is_set;
+use crate::usage::Usage;
+use clap::ArgMatches;
+
+/// Whether the name has this ending.
+fn has_ending(name: &str, ending: &str) -> bool
+    ensures { result ≡ ends_with nat_eq name.now ending.now }
+{
+    name.ends_with(ending)
+}
+
+/// Whether there is a file whose name has this ending.
+fn ends_in(named: &Option<String>, ending: &str) -> bool
+    ensures { result ≡ ends_in ending.now (name_of named.now) }
+{
+    match named {
+        Some(name) => has_ending(name.as_str(), ending),
+        None => false,
+    }
+}
+
+/// Whether ASCII is written to this destination, by an option or by its name.
+pub(crate) fn wants_ascii(matches: &ArgMatches<'_>, destination: &Option<String>) -> bool
+    ensures { result ≡ wants_ascii (rows_of (found_of matches.now)) (name_of destination.now) }
+{
+    is_set(matches, "ascii") || ends_in(destination, ".aag")
+}
+
+/// Refuses a destination that cannot be written.
+pub(crate) fn check_destination(destination: &Option<String>) -> Result<(), Usage>
+    ensures ok { OnOk result (destination_refusal (name_of destination.now) ≡ None) }
+    ensures err { IfErr result (λ reason. IsReason reason
+        × (destination_refusal (name_of destination.now) ≡ Some reason)) }
+{
+    if ends_in(destination, ".gz") {
+        return Err(Usage::CompressedOutput);
+    }
+    Ok(())
+}
