@@ -244,6 +244,18 @@ impl Frames {
         put_parts(standing, self.first_gate, self.chain(), &self.circuit, out);
     }
 
+    /// Goes back to frame 0.
+    fn restart(&mut self)
+        ensures { self.new ≡ record self.old { frame = 0 } }
+    {
+        let latches = self.circuit.latches.as_slice();
+        let inputs = self.circuit.inputs.len();
+        self.frame = 0;
+        self.first_input = 1 + count_uninitialised(latches) as u32;
+        self.first_gate = self.first_input + self.frames * inputs as u32;
+        put_standing(self.first_input, inputs, latches, &mut self.standing);
+    }
+
     /// Goes to the next frame.
     pub(crate) fn advance(&mut self)
         requires { self.old.frame + 1 < self.old.frames }
@@ -255,5 +267,18 @@ impl Frames {
         self.first_input += self.circuit.inputs.len() as u32;
         self.first_gate += gates_of_frame(&self.circuit) as u32;
         change_standing(self.first_input, &self.next, &mut self.standing);
+    }
+
+    /// Goes to a frame: to frame 0 from anywhere, and to a later one from the one before it.
+    pub(crate) fn enter(&mut self, frame: u32)
+        requires within { frame < self.old.frames }
+        requires behind { 0 < frame → frame ≡ self.old.frame + 1 }
+        ensures { self.new ≡ record self.old { frame = frame } }
+    {
+        if frame == 0 {
+            self.restart();
+        } else {
+            self.advance();
+        }
     }
 }
