@@ -4,3 +4,4 @@ pub mod Placed
 pub mod Standings
 pub mod InFrame
 pub mod Whole
+pub mod Written

@@ -6,6 +6,7 @@ ghost use Rattle.aig_core.specs.declared.circuit.TheConstants.{LARGEST};
 ghost use Rattle.aig_core.specs.BinaryOrder.{IsInBinaryOrder};
 ghost use Rattle.aig_core.specs.Literal.{literal_of};
 ghost use Rattle.aig_core.specs.Wellformed.{IsWellFormed};
+ghost use Rattle.aig_binary.specs.BinaryText.{HasDeltas};
 ghost use Rattle.aig_unroll.specs.Unrolled.{IsTooLarge, all_inputs, bad_at, chain_at, first_latches, frame_size};
 ghost use Rattle.aig_unroll.specs.Unrolled.{gates_at, outputs_at, resets_of, uninitialised};
 ghost use Rattle.aig_unroll.specs.Parts.Frames.{gates_by, table};
@@ -238,7 +239,8 @@ impl Frames {
     /// Puts the gates of the frame.
     pub(crate) fn put_gates(&self, out: &mut [Gate])
         requires { length out.old ≡ frame_size self.now.circuit }
-        ensures { out.new ≡ gates_at self.now.circuit self.now.frames self.now.frame }
+        ensures gates { out.new ≡ gates_at self.now.circuit self.now.frames self.now.frame }
+        ensures deltas { All HasDeltas out.new }
     {
         let standing = self.standing.as_slice();
         put_parts(standing, self.first_gate, self.chain(), &self.circuit, out);

@@ -5,7 +5,10 @@ mod fault;
 mod frames;
 pub mod laws;
 mod standing;
+mod unroller;
 mod unrolling;
+mod writing;
 
 pub use crate::fault::UnrollFault;
+pub use crate::unroller::Unrolling;
 pub use crate::unrolling::unroll;

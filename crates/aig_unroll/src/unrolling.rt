@@ -29,7 +29,7 @@ fn is_too_large(circuit: &Circuit, frames: u32) -> bool
 }
 
 /// Whether a circuit can be unrolled, where there is memory for it.
-fn check_supported(circuit: &Circuit, frames: u32) -> Result<(), UnrollFault>
+pub(crate) fn check_supported(circuit: &Circuit, frames: u32) -> Result<(), UnrollFault>
     requires formed { IsWellFormed circuit.now }
     requires frames { frames ≤ 1000000 }
     ensures supported { OnOk result ((¬ IsUnsupported circuit.now) × (¬ IsTooLarge circuit.now frames)) }

@@ -1,8 +1,12 @@
-use Rattle.std.proofs.Common.{◌≡◌, ◌∙◌, ℕ, ap, ap₂, sym}
+use Rattle.std.proofs.Common.{◌≡◌, ◌∙◌, ℕ, List, ap, ap₂, subst, sym}
+use Rattle.std.specs.List.{All}
+use Rattle.aig_core.specs.declared.circuit.Gate.{Gate}
+use Rattle.aig_binary.specs.BinaryText.{HasDeltas}
 use Rattle.aig_unroll.specs.Unrolled.{at, chain_at, first_gate, gates_at}
 use Rattle.aig_unroll.specs.Parts.Frames.{Frame, gates_by}
 use Rattle.aig_unroll.specs.Parts.Standing.{stood}
 use Rattle.aig_unroll.proofs.InFrame.{bad_has_room, constraints_have_room, gates_have_room, stands_at}
+use Rattle.aig_unroll.proofs.Written.{frame_has_deltas}
 use Rattle.aig_unroll.proofs.frames.Frames.put_gates.Goals as goal
 
 pub put_parts-requires-clause-gates : goal.put_parts-requires-clause-gates
@@ -26,8 +30,8 @@ put_parts-requires-clause-bad c =
     rw (c.as_slice-standing.ensures.value, is.standing_is, is.gate_is)
     (bad_has_room f.circuit f.frames f.frame is.formed is.ordered is.fits is.within)
 
-pub returns : goal.returns
-returns c =
+pub returns-clause-gates : goal.returns-clause-gates
+returns-clause-gates c =
     let f = c.self.inside in
     let is = c.self.invariant in
     let standing = c.as_slice-standing.result.now in
@@ -40,3 +44,11 @@ returns c =
     ∙ ap₂ (λ (g : ℕ → ℕ) n. gates_by g n c.chain.result f.circuit) stands is.gate_is
     ∙ ap (λ n. gates_by (at f.circuit f.frames f.frame) (first_gate f.circuit f.frames f.frame) n f.circuit) chain
     ∙ ap (λ (k : Frame). gates_at k.circuit k.frames k.frame) c.self.view_is
+
+pub returns-clause-deltas : goal.returns-clause-deltas
+returns-clause-deltas c =
+    let f = c.self.inside in
+    let is = c.self.invariant in
+    subst (λ (gates : List Gate). All HasDeltas gates)
+    (ap (λ (k : Frame). gates_at k.circuit k.frames k.frame) c.self.view_is ∙ sym (returns-clause-gates c))
+    (frame_has_deltas f.circuit f.frames is.formed is.ordered is.fits f.frame is.within)

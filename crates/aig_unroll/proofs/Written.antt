@@ -1,0 +1,106 @@
+-- The text of an unrolled circuit, frame by frame.
+use Rattle.std.proofs.Common.{◌≡◌, ◌+◌, ◌*◌, ◌<◌, ℕ, List, [], ◌∷◌, ◌++◌, false, ap, arith, length, subst, sym, ◌∙◌}
+use Rattle.std.proofs.Common.{append-nil, append_assoc}
+use Rattle.std.specs.List.{All, flat_map, range_with_len}
+use Rattle.std.specs.Io.KnownBytes.{Appends}
+use Rattle.std.proofs.lemmas.List.Concat.{flat_map-append}
+use Rattle.aig_core.specs.declared.circuit.Circuit.{Circuit}
+use Rattle.aig_core.specs.declared.circuit.Gate.{Gate}
+use Rattle.aig_core.specs.BinaryOrder.{IsInBinaryOrder}
+use Rattle.aig_core.specs.Wellformed.{IsWellFormed}
+use Rattle.aig_core.proofs.Numbered.Ranges.{range_more}
+use Rattle.aig_io.specs.Output.{Out, Put}
+use Rattle.aig_io.specs.Transfer.{WentOut}
+use Rattle.aig_io.proofs.Puts.{put_twice}
+use Rattle.aig_text.specs.AsciiText.{ascii_text, header_text, line_text}
+use Rattle.aig_text.specs.Rows.{ascii_word, header_row, literal_rows_of, rows_of}
+use Rattle.aig_text.proofs.Written.{literal_sections_text, sections_text}
+use Rattle.aig_binary.specs.BinaryGrammar.{binary_rows_of, binary_word}
+use Rattle.aig_binary.specs.BinaryText.{HasDeltas, binary_text, gate_text}
+use Rattle.aig_binary.proofs.Written.{has_deltas, lines_text}
+use Rattle.aig_unroll.specs.Unrolled.{IsTooLarge, frame_size, gates_at, unrolled}
+use Rattle.aig_unroll.specs.Parts.Writing.{gate_lines, input_lines, literal_lines}
+use Rattle.aig_unroll.proofs.Ordering.Frames.{frame_length, gate_stands, gates_length}
+use Rattle.aig_unroll.proofs.Ordering.Ordered.{unrolled_ordered, unrolled_well_formed}
+use Rattle.aig_unroll.proofs.Ordering.Rows.{in_row, one_row_more}
+
+module _ {W : Type 0} where
+  -- the texts of so many frames, and that of the next one
+  pub frame_more : {X : Type 0} (f : ℕ → List X) (text : X → List ℕ) (t : ℕ) (items : List X) (a b c : Out W)
+      → items ≡ f t → Put a b (flat_map text (flat_map f (range_with_len 0 t))) → Put b c (flat_map text items)
+      → Put a c (flat_map text (flat_map f (range_with_len 0 (t + 1))))
+  frame_more {X} f text t items a b c is p q =
+      let before = flat_map f (range_with_len 0 t) in
+      subst (λ (whole : List ℕ). Put a c whole)
+      (sym (ap (flat_map text) (one_row_more f t) ∙ flat_map-append text before (f t)))
+      (put_twice a b c (flat_map text before) (flat_map text (f t)) p
+      (subst (λ (xs : List X). Put b c (flat_map text xs)) is q))
+
+  -- the texts of so many variables, and that of the next one
+  pub variable_more : (text : ℕ → List ℕ) (first n : ℕ) (a b c : Out W)
+      → Put a b (flat_map text (range_with_len first n)) → Put b c (text (first + n))
+      → Put a c (flat_map text (range_with_len first (n + 1)))
+  variable_more text first n a b c p q =
+      let before = range_with_len first n in
+      subst (λ (whole : List ℕ). Put a c whole)
+      (sym (ap (flat_map text) (range_more first n) ∙ flat_map-append text before ((first + n) ∷ [])
+      ∙ ap (λ (later : List ℕ). flat_map text before ++ later) (append-nil (text (first + n)))))
+      (put_twice a b c (flat_map text before) (text (first + n)) p q)
+
+  -- An output of a text was finished, and the sink did not fail: it took the text.
+  pub all_sent : (o a b c : Out W) (text : List ℕ) → a ≡ o → o.held ≡ [] → Put a b text → Put b c [] → c.held ≡ []
+      → c.failed ≡ false → Appends o.taken c.taken text
+  all_sent o a b c text same empty put sent none good =
+      let out : WentOut a.taken c.taken a.held c.held (text ++ []) = ((put_twice a b c text [] put sent).went good).2 in
+      let nothing : a.held ≡ [] = ap (λ (x : Out W). x.held) same ∙ empty in
+      let whole : out.sent ≡ text =
+      sym (append-nil out.sent) ∙ ap (λ (left : List ℕ). out.sent ++ left) (sym none) ∙ sym out.order
+      ∙ ap (λ (held : List ℕ). held ++ (text ++ [])) nothing ∙ append-nil text in
+      subst (λ (x : Out W). Appends x.taken c.taken text) same
+      (subst (λ (bytes : List ℕ). Appends a.taken c.taken bytes) whole out.took)
+
+module _ (c : Circuit) (frames : ℕ) where
+  abbrev d : Circuit
+  d = unrolled c frames
+
+  -- the lines of literals are those of outputs and of bad states
+  literals_text : literal_lines d.outputs ++ literal_lines d.bad ≡ flat_map line_text (literal_rows_of d)
+  literals_text =
+      ap (λ (text : List ℕ). literal_lines d.outputs ++ text) (sym (append-nil (literal_lines d.bad)))
+      ∙ literal_sections_text d
+
+  pub ascii_parts : header_text ascii_word (header_row d)
+      ++ (input_lines d.inputs ++ (literal_lines d.outputs ++ (literal_lines d.bad ++ gate_lines d.gates)))
+      ≡ ascii_text d
+  unfolding ascii_text
+  ascii_parts =
+      let rest : input_lines d.inputs ++ (literal_lines d.outputs ++ (literal_lines d.bad ++ gate_lines d.gates))
+      ≡ flat_map line_text (rows_of d) ++ [] =
+      ap (λ (text : List ℕ). input_lines d.inputs ++ text)
+      (sym (append_assoc (literal_lines d.outputs) (literal_lines d.bad) (gate_lines d.gates))
+      ∙ ap (λ (text : List ℕ). text ++ gate_lines d.gates) literals_text)
+      ∙ sections_text d ∙ sym (append-nil (flat_map line_text (rows_of d))) in
+      ap (λ (text : List ℕ). header_text ascii_word (header_row d) ++ text) rest
+
+  pub binary_parts : header_text binary_word (header_row d)
+      ++ (literal_lines d.outputs ++ (literal_lines d.bad ++ flat_map gate_text d.gates))
+      ≡ binary_text d
+  unfolding binary_text
+  binary_parts =
+      let deltas : List ℕ = flat_map gate_text d.gates in
+      let rest : literal_lines d.outputs ++ (literal_lines d.bad ++ deltas)
+      ≡ flat_map line_text (binary_rows_of d) ++ (deltas ++ []) =
+      sym (append_assoc (literal_lines d.outputs) (literal_lines d.bad) deltas)
+      ∙ ap (λ (text : List ℕ). text ++ deltas) (literals_text ∙ lines_text d)
+      ∙ ap (λ (text : List ℕ). flat_map line_text (binary_rows_of d) ++ text) (sym (append-nil deltas)) in
+      ap (λ (text : List ℕ). header_text binary_word (header_row d) ++ text) rest
+
+  -- each gate of a frame has its deltas, as each gate of the unrolled circuit
+  pub frame_has_deltas : IsWellFormed c → IsInBinaryOrder c → ¬ IsTooLarge c frames → (t : ℕ) → t < frames
+      → All HasDeltas (gates_at c frames t)
+  frame_has_deltas formed ordered fits t there i default below =
+      let within : i < frame_size c = omega (arith, below, frame_length c frames t) in
+      let place : t * frame_size c + i < frames * frame_size c = in_row (frame_size c) i t frames within there in
+      subst HasDeltas (gate_stands c frames frames t i default there within)
+      (has_deltas d (unrolled_well_formed c frames formed ordered fits).limits (unrolled_ordered c frames formed ordered)
+      (t * frame_size c + i) default (omega (arith, place, gates_length c frames 0 frames)))

@@ -1,0 +1,28 @@
+use Rattle.std.proofs.Common.{List, ap, subst, ◌∙◌, ◌≡◌, ℕ}
+use Rattle.std.specs.List.{flat_map}
+use Rattle.aig_core.specs.declared.circuit.Circuit.{Circuit}
+use Rattle.aig_io.specs.Output.{Put}
+use Rattle.aig_io.proofs.Puts.{put_twice}
+use Rattle.aig_binary.specs.BinaryText.{binary_text, gate_text}
+use Rattle.aig_unroll.specs.Unrolled.{unrolled}
+use Rattle.aig_unroll.specs.Parts.Frames.{Frame}
+use Rattle.aig_unroll.specs.Parts.Writing.{literal_lines}
+use Rattle.aig_unroll.proofs.Written.{binary_parts}
+use Rattle.aig_unroll.proofs.unroller.Unrolling.put_binary.Goals as goal
+
+pub returns : goal.returns
+returns g c =
+    let f : Frame = c.self.inside.copies in
+    let of : Frame → Circuit = λ k. unrolled k.circuit k.frames in
+    let once : of c.put_output_lines.new.copies ≡ of f = ap of c.put_output_lines.ensures.kept in
+    let twice : of c.put_bad_lines.new.copies ≡ of f = ap of c.put_bad_lines.ensures.kept ∙ once in
+    let bad =
+    subst (λ (d : Circuit). Put c.put_output_lines.new.output c.put_bad_lines.new.output (literal_lines d.bad)) once
+    c.put_bad_lines.ensures.put in
+    let gates =
+    subst (λ (d : Circuit). Put c.put_bad_lines.new.output c.put_gate_deltas.new.output (flat_map gate_text d.gates)) twice
+    c.put_gate_deltas.ensures in
+    subst (λ (text : List ℕ). Put c.args.output.now c.put_gate_deltas.new.output text)
+    (binary_parts f.circuit f.frames ∙ ap binary_text c.self.view_is)
+    (put_twice _ _ _ _ _ (rw c.header_numbers.ensures at c.put_header.ensures)
+    (put_twice _ _ _ _ _ c.put_output_lines.ensures.put (put_twice _ _ _ _ _ bad gates)))

@@ -1,0 +1,14 @@
+use Rattle.std.specs.Prelude.{◌≡◌, ◌+◌, ◌<◌, length}
+use Rattle.std.specs.List.{flat_map, range_with_len}
+use Rattle.aig_io.specs.Output.{Put}
+use Rattle.aig_unroll.specs.Unrolled.{gates_at}
+use Rattle.aig_binary.specs.BinaryText.{gate_text}
+use Rattle.aig_unroll.proofs.writing.put_gate_deltas.Given as goal
+
+abbrev pub invariant-loop-frame : goal.invariant-loop-frame
+invariant-loop-frame g l = record {
+  kept : l.copies ≡ record l.fn.copies { frame = l.copies.frame };
+  behind : 0 < l.frame → l.frame ≡ l.copies.frame + 1;
+  put : Put l.fn.output l.output
+      (flat_map gate_text (flat_map (gates_at l.fn.copies.circuit l.fn.copies.frames) (range_with_len 0 l.frame)));
+}

@@ -1,0 +1,25 @@
+-- An unrolled circuit that is written frame by frame.
+use Rattle.std.specs.Prelude.{◌≡◌, ℕ, List, length}
+use Rattle.std.specs.List.{flat_map}
+use Rattle.aig_core.specs.declared.circuit.Gate.{Gate}
+use Rattle.aig_text.specs.AsciiText.{numbers_text}
+use Rattle.aig_text.specs.Rows.{gate_row, input_row, literal_row}
+use Rattle.aig_unroll.specs.Unrolled.{frame_size}
+use Rattle.aig_unroll.specs.Parts.Frames.{Frame}
+
+-- It is in frame 0, and there is room for what a frame has of each.
+pub record IsReady (f : Frame) (outputs bad : List ℕ) (gates : List Gate) : Type 0 where
+  pub first : f.frame ≡ 0
+  pub outputs_fit : length outputs ≡ length f.circuit.outputs
+  pub bad_fit : length bad ≡ length f.circuit.bad
+  pub gates_fit : length gates ≡ frame_size f.circuit
+
+-- the lines of inputs, of literals that are listed by themselves, and of gates
+abbrev pub input_lines : List ℕ → List ℕ
+input_lines = flat_map (λ variable. numbers_text (input_row variable))
+
+abbrev pub literal_lines : List ℕ → List ℕ
+literal_lines = flat_map (λ literal. numbers_text (literal_row literal))
+
+abbrev pub gate_lines : List Gate → List ℕ
+gate_lines = flat_map (λ gate. numbers_text (gate_row gate))

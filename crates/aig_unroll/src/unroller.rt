@@ -1,0 +1,159 @@
+//! The unrolled circuit, written frame by frame: it is never held.
+ghost use Rattle.std.specs.Io.KnownBytes.{Appends};
+ghost use Rattle.std.specs.Prelude.{◌≡◌, ◌+◌, ◌-◌, ◌^◌, ◌<◌, ◌≤◌, max, is_ok, IfErr, IfOk, OnErr, OnOk};
+ghost use Rattle.std.specs.Prelude.{if◌then◌else◌};
+ghost use Rattle.aig_io.specs.Output.{Put};
+ghost use Rattle.aig_io.specs.Transfer.{TookBeginning};
+ghost use Rattle.aig_io.specs.declared.block.TheConstants.{ROOM};
+ghost use Rattle.aig_text.specs.AsciiText.{ascii_text};
+ghost use Rattle.aig_binary.specs.BinaryText.{binary_text};
+ghost use Rattle.aig_unroll.specs.Unrolled.{IsTooLarge, IsUnrolled, IsUnsupported, unrolled};
+ghost use Rattle.aig_unroll.specs.Outcome.{NotUnrolled};
+
+use crate::fault::UnrollFault;
+use crate::frames::Frames;
+use crate::unrolling::check_supported;
+use crate::writing::{
+    header_numbers, put_bad_lines, put_gate_deltas, put_gate_lines, put_inputs, put_output_lines,
+};
+use aig_binary::BINARY_WORD;
+use aig_core::{Checked, Gate, Lit, Ordered, OutOfMemory, Output, Sink, Var};
+use aig_image::into_binary;
+use aig_text::{ASCII_WORD, WriteFault, put_header};
+use std::alloc::Global;
+use std::marker::Model;
+
+/// A circuit unrolled over so many frames, ready to be written. It holds the circuit and room for one frame, and no more
+/// for more frames.
+#[derive(Drop)]
+pub struct Unrolling {
+    copies: Frames,
+    /// Room for the outputs of a frame.
+    outputs: Vec<Lit>,
+    /// Room for its bad states.
+    bad: Vec<Lit>,
+    /// Room for its gates.
+    gates: Vec<Gate>,
+}
+
+impl Model for Unrolling {
+    ghost use Rattle.aig_core.specs.declared.circuit.Circuit.{Circuit};
+    ghost use Rattle.aig_unroll.specs.Unrolled.{unrolled};
+    ghost use Rattle.aig_unroll.specs.Parts.Writing.{IsReady};
+
+    ghost Value = { Circuit };
+
+    ghost view = { λ u. unrolled u.copies.circuit u.copies.frames };
+
+    ghost invariant = { λ u. IsReady u.copies u.outputs.items u.bad.items u.gates.items };
+}
+
+impl Unrolling {
+    /// Of a circuit in binary order.
+    fn of_image(alloc: Global, image: Ordered, frames: u32) -> Result<Self, OutOfMemory>
+        requires some { 1 ≤ frames }
+        requires fits { ¬ IsTooLarge image frames }
+        ensures { IfOk result (λ d. d ≡ unrolled image frames) }
+    {
+        let copies = Frames::new(alloc, image, frames)?;
+        let circuit = copies.circuit();
+        let no_gate = Gate {
+            var: Var(0),
+            left: Lit(0),
+            right: Lit(0),
+        };
+        let outputs = vec![in alloc; Lit(0); circuit.outputs.len()]?;
+        let bad = vec![in alloc; Lit(0); circuit.bad.len()]?;
+        let gates = vec![in alloc; no_gate; copies.count_gates()]?;
+        Ok(Unrolling {
+            copies,
+            outputs,
+            bad,
+            gates,
+        })
+    }
+
+    /// The circuit unrolled over so many frames, as `unroll` makes it. All memory that is ever taken is taken here: what
+    /// the binary image takes, and room for one frame.
+    ///
+    /// A circuit with justice properties or fairness constraints is refused, and so is one whose unrolled circuit would
+    /// be too large: both before any memory is taken.
+    pub fn new(alloc: Global, checked: Checked, frames: u32) -> Result<Self, UnrollFault>
+        requires { (1 ≤ frames) × (frames ≤ 1000000) }
+        ensures ok { IfOk result (λ d. IsUnrolled checked frames d) }
+        ensures supported { OnOk result ((¬ IsUnsupported checked) × (¬ IsTooLarge checked frames)) }
+        ensures err { IfErr result (NotUnrolled checked frames) }
+    {
+        check_supported(checked.circuit(), frames)?;
+        let image = into_binary(alloc, checked)?;
+        let unrolling = Unrolling::of_image(alloc, image, frames)?;
+        Ok(unrolling)
+    }
+
+    /// Puts the canonical ASCII text.
+    fn put_ascii<W: Sink>(self, output: &mut Output<W>)
+        ensures { Put output.old output.new (ascii_text self) }
+    {
+        let Unrolling {
+            mut copies,
+            mut outputs,
+            mut bad,
+            mut gates,
+        } = self;
+        put_header(output, ASCII_WORD, &header_numbers(&copies));
+        put_inputs(output, copies.count_inputs());
+        put_output_lines(output, &mut copies, &mut outputs);
+        put_bad_lines(output, &mut copies, &mut bad);
+        put_gate_lines(output, &mut copies, &mut gates);
+        drop(copies);
+    }
+
+    /// Puts the canonical binary text.
+    fn put_binary<W: Sink>(self, output: &mut Output<W>)
+        ensures { Put output.old output.new (binary_text self) }
+    {
+        let Unrolling {
+            mut copies,
+            mut outputs,
+            mut bad,
+            mut gates,
+        } = self;
+        put_header(output, BINARY_WORD, &header_numbers(&copies));
+        put_output_lines(output, &mut copies, &mut outputs);
+        put_bad_lines(output, &mut copies, &mut bad);
+        put_gate_deltas(output, &mut copies, &mut gates);
+        drop(copies);
+    }
+
+    /// Writes the canonical ASCII text of the unrolled circuit, in slices of at most 8,192 bytes. It takes no memory and
+    /// fails only where the sink fails; the sink then took a beginning of the text, and is not called again.
+    pub fn write_ascii<W: Sink>(self, sink: &mut W) -> Result<(), WriteFault>
+        requires { W.failed sink.old < 2 ^ 64 - 1 }
+        ensures ok { OnOk result (Appends (W.taken sink.old) (W.taken sink.new) (ascii_text self)) }
+        ensures err { OnErr result (TookBeginning (W.taken sink.old) (W.taken sink.new) (ascii_text self)) }
+        ensures failed { W.failed sink.new ≡ W.failed sink.old + (if is_ok result then 0 else 1) }
+        ensures short { W.longest sink.new ≤ max (W.longest sink.old) ROOM }
+    {
+        let mut output = Output::new(sink);
+        self.put_ascii(&mut output);
+        let (sent, _sink) = output.finish();
+        sent?;
+        Ok(())
+    }
+
+    /// Writes the canonical binary text of the unrolled circuit, in slices of at most 8,192 bytes. It takes no memory and
+    /// fails only where the sink fails; the sink then took a beginning of the text, and is not called again.
+    pub fn write_binary<W: Sink>(self, sink: &mut W) -> Result<(), WriteFault>
+        requires { W.failed sink.old < 2 ^ 64 - 1 }
+        ensures ok { OnOk result (Appends (W.taken sink.old) (W.taken sink.new) (binary_text self)) }
+        ensures err { OnErr result (TookBeginning (W.taken sink.old) (W.taken sink.new) (binary_text self)) }
+        ensures failed { W.failed sink.new ≡ W.failed sink.old + (if is_ok result then 0 else 1) }
+        ensures short { W.longest sink.new ≤ max (W.longest sink.old) ROOM }
+    {
+        let mut output = Output::new(sink);
+        self.put_binary(&mut output);
+        let (sent, _sink) = output.finish();
+        sent?;
+        Ok(())
+    }
+}
