@@ -1,20 +1,20 @@
 -- A frame: by its table stands what stands in the frame, and there is room for it.
-use Rattle.std.proofs.Common.{◌≡◌, ◌+◌, ◌-◌, ◌*◌, ◌/◌, ◌%◌, ◌<◌, ◌≤◌, ℕ, zero, suc, List, [], ◌∷◌, ◌++◌, length, map}
-use Rattle.std.proofs.Common.{add-one, get_or, refl, ap, ap₂, sym, ◌∙◌, arith, cond, eqb, ltb, leb, true, false}
+use Rattle.std.proofs.Common.{◌≡◌, ◌+◌, ◌-◌, ◌*◌, ◌%◌, ◌<◌, ◌≤◌, ℕ, zero, suc, List, [], ◌∷◌, length, map}
+use Rattle.std.proofs.Common.{add-one, get_or, refl, ap, ap₂, ◌∙◌, arith, leb, true, false}
 use Rattle.std.proofs.Common.{inl, inr, length-append}
 use Rattle.std.proofs.Math.Nat.{suc-mul}
 use mathlib.Core.Path.{fun_ext}
 use Rattle.std.proofs.Math.Dec.{eqb-suc-zero}
 use Rattle.std.specs.List.{All, AllByRecursion, range_with_len}
 use Rattle.std.proofs.lemmas.Bool.{cases_lt, le-leb, le-ltb, lt-leb, lt-ltb}
-use Rattle.std.proofs.lemmas.List.{get_or_append_left, get_or-append_right, length-map}
+use Rattle.std.proofs.lemmas.List.{get_or_append_left, get_or-append_right}
 use Rattle.std.proofs.lemmas.List.FromFn.{get_or-map-range_with_len, length-map-range_with_len}
 use Rattle.aig_core.specs.declared.circuit.Circuit.{Circuit}
 use Rattle.aig_core.specs.declared.circuit.Gate.{Gate}
 use Rattle.aig_core.specs.declared.circuit.Latch.{Latch}
 use Rattle.aig_core.specs.declared.circuit.TheConstants.{LARGEST}
 use Rattle.aig_core.specs.BinaryOrder.{AreOrderedGates, IsInBinaryOrder}
-use Rattle.aig_core.specs.Literal.{literal_of, negation_of, variable_of}
+use Rattle.aig_core.specs.Literal.{literal_of, variable_of}
 use Rattle.aig_core.specs.Wellformed.{IsKnown, IsWellFormed, defined_variables}
 use Rattle.aig_core.proofs.Checking.Fitting.{known_in_range}
 use Rattle.aig_meaning.proofs.Known.{AreDefined, known_next, known_outputs, known_bad, known_constraints}

@@ -1,11 +1,11 @@
 -- What stands for a literal by a table.
-use Rattle.std.proofs.Common.{◌≡◌, ◌+◌, ◌-◌, ◌*◌, ◌/◌, ◌%◌, ◌<◌, ◌≤◌, ℕ, List, [], ◌∷◌, ◌++◌, length, map, get_or, refl}
-use Rattle.std.proofs.Common.{ap, sym, ◌∙◌, arith, cond, eqb, ltb, inl, inr}
+use Rattle.std.proofs.Common.{◌≡◌, ◌+◌, ◌-◌, ◌*◌, ◌%◌, ◌<◌, ℕ, List, length, get_or}
+use Rattle.std.proofs.Common.{ap, sym, ◌∙◌, arith, cond, inl, inr}
 use Rattle.std.specs.Int.Bits.{bit_and, bit_xor, xor_add_and, xor_zero_r}
 use Rattle.std.proofs.lemmas.Bool.{cases_lt, lt-ltb}
 use Rattle.std.proofs.lemmas.List.{get_or_default}
 use Rattle.std.proofs.lemmas.Nat.{and_mask}
-use Rattle.aig_core.specs.Literal.{negation_of, variable_of}
+use Rattle.aig_core.specs.Literal.{variable_of}
 use Rattle.aig_unroll.specs.Parts.Standing.{stood, with_sign}
 
 -- exclusive or with the last bit carries the sign over

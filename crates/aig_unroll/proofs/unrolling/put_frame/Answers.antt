@@ -1,4 +1,4 @@
-use Rattle.std.proofs.Common.{◌≡◌, ◌+◌, ◌*◌, ◌<◌, ◌≤◌, ap, arith, length}
+use Rattle.std.proofs.Common.{◌≡◌, ◌+◌, ◌*◌, ◌<◌, ◌≤◌, ap, arith}
 use Rattle.aig_unroll.specs.Unrolled.{frame_size}
 use Rattle.aig_unroll.proofs.Ordering.Rows.{row_end}
 use Rattle.aig_unroll.proofs.unrolling.put_frame.Goals as goal

@@ -1,4 +1,4 @@
-use Rattle.std.proofs.Common.{◌≡◌, subst}
+use Rattle.std.proofs.Common.{subst}
 use Rattle.aig_core.specs.declared.circuit.Circuit.{Circuit}
 use Rattle.aig_unroll.specs.Unrolled.{IsTooLarge}
 use Rattle.aig_unroll.proofs.Ordering.Counts.{as_large, image_counts, unrolled_is_ordered}

@@ -1,4 +1,4 @@
-use Rattle.std.specs.Prelude.{◌≡◌, ◌+◌, ◌<◌, length}
+use Rattle.std.specs.Prelude.{◌≡◌, ◌+◌, ◌<◌}
 use Rattle.std.specs.List.{flat_map, range_with_len}
 use Rattle.aig_io.specs.Output.{Put}
 use Rattle.aig_unroll.specs.Unrolled.{bad_at}

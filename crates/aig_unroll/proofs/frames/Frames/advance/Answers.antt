@@ -1,9 +1,9 @@
-use Rattle.std.proofs.Common.{◌≡◌, ◌+◌, ◌-◌, ◌<◌, ◌∙◌, ◌++◌, List, ℕ, ap, ap₂, arith, drop, length, map, subst}
-use Rattle.std.proofs.Common.{sym, take}
+use Rattle.std.proofs.Common.{◌≡◌, ◌+◌, ◌-◌, ◌<◌, ◌∙◌, List, ℕ, ap, ap₂, arith, length, map, subst}
+use Rattle.std.proofs.Common.{sym}
 use Rattle.std.proofs.lemmas.List.{with_items_is}
 use Rattle.aig_core.specs.declared.circuit.Latch.{Latch}
 use Rattle.aig_unroll.specs.Unrolled.{next_of}
-use Rattle.aig_unroll.specs.Parts.Frames.{Frame, IsFrame, table}
+use Rattle.aig_unroll.specs.Parts.Frames.{Frame, table}
 use Rattle.aig_unroll.specs.Parts.Standing.{stood}
 use Rattle.aig_unroll.proofs.InFrame.{all_fit, inputs_fit, next_frame, nexts_have_room, places_are}
 use Rattle.aig_unroll.proofs.frames.Frames.advance.Goals as goal

@@ -1,4 +1,4 @@
-use Rattle.std.proofs.Common.{◌≡◌, ◌*◌, ◌-◌, ◌<◌, ◌≤◌, ◌==◌, ◌∙◌, ap, ap₂, arith, length, sym}
+use Rattle.std.proofs.Common.{◌≡◌, ◌*◌, ◌-◌, ◌<◌, ◌∙◌, ap, ap₂, arith, length, sym}
 use Rattle.std.proofs.lemmas.Bool.{eqb-true, eqb-false}
 use Rattle.aig_unroll.specs.Unrolled.{chain_at}
 use Rattle.aig_unroll.specs.Parts.Frames.{Frame}

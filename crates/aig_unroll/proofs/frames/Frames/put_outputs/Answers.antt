@@ -1,8 +1,7 @@
-use Rattle.std.proofs.Common.{◌≡◌, ap, ap₂, map, length, subst, sym, ◌∙◌}
-use Rattle.std.specs.List.{All}
+use Rattle.std.proofs.Common.{ap, ap₂, map, ◌∙◌}
 use Rattle.aig_unroll.specs.Unrolled.{outputs_at}
 use Rattle.aig_unroll.specs.Parts.Frames.{Frame}
-use Rattle.aig_unroll.specs.Parts.Standing.{HasRoom, stood}
+use Rattle.aig_unroll.specs.Parts.Standing.{stood}
 use Rattle.aig_unroll.proofs.InFrame.{outputs_have_room, stands_at}
 use Rattle.aig_unroll.proofs.frames.Frames.put_outputs.Goals as goal
 
