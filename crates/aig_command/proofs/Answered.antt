@@ -36,6 +36,7 @@ is_command : (words : List Text) (o : Option Asked) (r : Result Command Usage) �
 is_command words None r is some h = absurd (true≢false (sym some))
 is_command words (Some asked) (Ok (commands.ToAig request)) is some h = is ∙ ap Some h
 is_command words (Some asked) (Ok (commands.Sim request)) is some h = is ∙ ap Some h
+is_command words (Some asked) (Ok (commands.Unroll request)) is some h = is ∙ ap Some h
 is_command words (Some asked) (Ok (commands.Help text)) is some h = absurd h
 is_command words (Some asked) (Err reason) is some h = tt
 
@@ -98,6 +99,7 @@ module _ (words : List Text) (kind : ErrorKind) (passes : takes aiger words ≡ 
       (subst (IsWrong words) h.0 (is_wrong (help_is_no_memory kind h.0)), h.1)
   refused_command (Ok (commands.ToAig request)) h = absurd h
   refused_command (Ok (commands.Sim request)) h = absurd h
+  refused_command (Ok (commands.Unroll request)) h = absurd h
   refused_command (Err reason) h = tt
 
   pub refused_usage : (r : Result Command Usage) → IsErrorAnswer kind words r → IfErr r (IsUsage words)

@@ -15,7 +15,6 @@ use Rattle.std.proofs.lemmas.Bool.{lt-ltb, ltb-true}
 use Rattle.clap.specs.Words.{ReadsOne, Text, first_value, found_of, rows_of}
 use Rattle.clap.specs.declared.parser.matches.ArgMatches.{ArgMatches}
 use Rattle.clap.proofs.WalkLemmas.{first_value-rows}
-use Rattle.aig_core.specs.declared.circuit.TheConstants.{LARGEST}
 use Rattle.aig_command.specs.Asked.{file, number_in}
 
 -- ---- options
@@ -78,11 +77,12 @@ read_number text None h = go (is_number (without_leading_plus text)) refl
         let inner = both _ _ outer.0 in
         absurd (h.1.0 ((ltb-true _ _ inner.0, digits_from (without_leading_plus text) inner.1), ltb-true _ _ outer.1))
 
--- the limit that is read as a number, and is the largest where there is none
-pub limit_is : (o : Option Text) (r : Option ℕ) → (o ≡ None → r ≡ None) → ((t : Text) → o ≡ Some t → ReadsOne gives t r)
-    → unwrap_or r LARGEST ≡ unwrap_or (option_and_then number_in o) LARGEST
-limit_is None r none value = ap (λ x. unwrap_or x LARGEST) (none refl)
-limit_is (Some t) r none value = ap (λ x. unwrap_or x LARGEST) (read_number t r (value t refl))
+-- the option that is read as a number, and is this one where there is none
+pub number_is : (otherwise : ℕ) (o : Option Text) (r : Option ℕ) → (o ≡ None → r ≡ None)
+    → ((t : Text) → o ≡ Some t → ReadsOne gives t r)
+    → unwrap_or r otherwise ≡ unwrap_or (option_and_then number_in o) otherwise
+number_is otherwise None r none value = ap (λ x. unwrap_or x otherwise) (none refl)
+number_is otherwise (Some t) r none value = ap (λ x. unwrap_or x otherwise) (read_number t r (value t refl))
 
 -- ---- files
 

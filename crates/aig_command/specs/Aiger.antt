@@ -36,10 +36,27 @@ abbrev pub aigsim : App
 aigsim = with_rules (new_app (codes "aigsim"))
     (flag (codes "properties") ∷ max_var ∷ required_file (codes "model") ∷ new_rule (codes "stimulus") ∷ [])
 
+-- `--frames K`, which has to be given
+abbrev pub frames : Rule
+frames = record (new_rule (codes "frames")) {
+  long = Some (codes "frames");
+  action = Some Set;
+  value_names = 1;
+  parser = Some (parser.Signed (pos 1) (pos 1000000));
+  required = true;
+}
+
+-- `aigunroll`: its options in any order, then the names of the two files, by place
+abbrev pub aigunroll : App
+aigunroll = with_rules (new_app (codes "aigunroll"))
+    (frames ∷ flag (codes "ascii") ∷ max_var ∷ new_rule (codes "source") ∷ new_rule (codes "destination") ∷ [])
+
 -- a command that has to be given a subcommand, and has none for help
 abbrev pub above : App → App
 above a = record a { top = record a.top { subcommand_required = true; disable_help_subcommand = true } }
 
 -- the program, with its subcommands
 abbrev pub aiger : App
-aiger = with_subcommand (with_subcommand (above (new_app (codes "aiger"))) to_aig.top) aigsim.top
+aiger =
+    with_subcommand (with_subcommand (with_subcommand (above (new_app (codes "aiger"))) to_aig.top) aigsim.top)
+    aigunroll.top

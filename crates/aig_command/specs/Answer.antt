@@ -1,5 +1,5 @@
 -- What is answered to a command line (this project's profile).
-use Rattle.std.specs.Prelude.{◌≡◌, ◌≢◌, ◌||◌, List, Bool, true, false, drop, map, nat_eq, Option, Some, None}
+use Rattle.std.specs.Prelude.{◌≡◌, ◌≢◌, ◌≤◌, ◌||◌, List, Bool, true, false, drop, map, nat_eq, Option, Some, None}
 use Rattle.std.specs.Prelude.{Result, Ok, Err, codes, option_map, String, string_bytes, ⊤}
 use Rattle.std.specs.Global.{Global}
 use Rattle.std.specs.List.{list_any, starts_with}
@@ -8,9 +8,11 @@ use Rattle.clap.specs.Words.{IsAmong, Text, takes}
 use Rattle.clap.specs.declared.error.kind.ErrorKind.{ErrorKind}
 use Rattle.clap.specs.declared.error.kind.ErrorKind.TheVariants.{DisplayHelp, OutOfMemory}
 use Rattle.aig_command.specs.Aiger.{aiger}
-use Rattle.aig_command.specs.Asked.{Asked, Conversion, Simulation, command_of, converts, faults, refused, simulates}
+use Rattle.aig_command.specs.Asked.{Asked, Conversion, Simulation, Unrolling, command_of, faults}
+use Rattle.aig_command.specs.Asked.{converts, refused, simulates, unrolls}
 use Rattle.aig_command.specs.declared.request.Sim.{Sim}
 use Rattle.aig_command.specs.declared.request.ToAig.{ToAig}
+use Rattle.aig_command.specs.declared.request.Unroll.{Unroll}
 use Rattle.aig_command.specs.declared.request.Command.{Command}
 use Rattle.aig_command.specs.declared.request.Command.TheVariants as commands
 use Rattle.aig_command.specs.declared.usage.Usage.{Usage}
@@ -45,6 +47,16 @@ simulation_of request = record {
   stimulus = name_of request.stimulus;
 }
 
+-- the unrolling that a request is for
+abbrev pub unrolling_of : Unroll → Unrolling
+unrolling_of request = record {
+  frames = request.frames;
+  ascii = request.ascii;
+  max_var = request.max_var;
+  source = name_of request.source;
+  destination = name_of request.destination;
+}
+
 -- the argument asks for help
 abbrev pub is_help : Text → Bool
 is_help word = bytes_eq word (codes "--help") || starts_with nat_eq word (codes "-h")
@@ -61,6 +73,7 @@ IsWrong words kind = IsAmong kind (faults words) × (takes aiger words ≡ false
 abbrev pub IsCommand : List Text → Command → Type 0
 IsCommand words (commands.ToAig request) = command_of words ≡ Some (converts (conversion_of request))
 IsCommand words (commands.Sim request) = command_of words ≡ Some (simulates (simulation_of request))
+IsCommand words (commands.Unroll request) = command_of words ≡ Some (unrolls (unrolling_of request))
 IsCommand words (commands.Help text) = IsWrong words DisplayHelp × (asks_for_help words ≡ true)
 
 -- the arguments are refused for this reason
@@ -79,10 +92,15 @@ IsKeptAlone request =
 abbrev pub HasOneStandardInput : Sim → Type 0
 HasOneStandardInput request = name_of request.model ≡ None → name_of request.stimulus ≡ None → ⊥
 
+-- A circuit is unrolled over 1 to 1000000 frames.
+abbrev pub HasFrames : Unroll → Type 0
+HasFrames request = (1 ≤ request.frames) × (request.frames ≤ 1000000)
+
 -- what the command asks for can be done
 abbrev pub CanDo : Command → Type 0
 CanDo (commands.ToAig request) = IsKeptAlone request
 CanDo (commands.Sim request) = HasOneStandardInput request
+CanDo (commands.Unroll request) = HasFrames request
 CanDo (commands.Help text) = ⊤
 
 -- What is answered where `clap` answers with an error of this kind. Only private functions cite it.
@@ -97,6 +115,7 @@ IsErrorAnswer kind words answer = ⊥
 abbrev pub IsAnswer : Asked → Result Command Usage → Type 0
 IsAnswer asked (Ok (commands.ToAig request)) = asked ≡ converts (conversion_of request)
 IsAnswer asked (Ok (commands.Sim request)) = asked ≡ simulates (simulation_of request)
+IsAnswer asked (Ok (commands.Unroll request)) = asked ≡ unrolls (unrolling_of request)
 IsAnswer asked (Err usage.OutOfMemory) = ⊤
 IsAnswer asked (Err (usage.Words text)) = ⊥
 IsAnswer asked (Err reason) = asked ≡ refused reason

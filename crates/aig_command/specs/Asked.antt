@@ -1,5 +1,5 @@
 -- What a command line asks for that `clap` takes (this project's profile).
-use Rattle.std.specs.Prelude.{ℕ, List, [], ◌∷◌, ◌==◌, ◌&&◌, ◌||◌, ◌^◌, Bool, false, length, nat_lt, nat_eq}
+use Rattle.std.specs.Prelude.{ℕ, List, [], ◌∷◌, ◌==◌, ◌&&◌, ◌||◌, ◌^◌, Bool, false, length, max, min, nat_lt, nat_eq}
 use Rattle.std.specs.Prelude.{Option, Some, None, is_some, unwrap_or, option_and_then, option_map, find}
 use Rattle.std.specs.Prelude.{codes, if◌then◌else◌}
 use Rattle.std.specs.List.{ends_with, list_all}
@@ -25,9 +25,17 @@ number_in text =
     && nat_lt (digits_value 10 digits) (2 ^ 32)
     then Some (digits_value 10 digits) else None
 
--- the limit that `--max-var` sets; `clap` takes no other text than a number
+-- the number that the option sets, or else this one; `clap` takes no other text than a number
+abbrev pub number : Text → ℕ → List Row → ℕ
+number name otherwise rows = unwrap_or (option_and_then number_in (one_of name rows)) otherwise
+
+-- the limit that `--max-var` sets
 abbrev pub limit : List Row → ℕ
-limit rows = unwrap_or (option_and_then number_in (one_of (codes "max-var") rows)) LARGEST
+limit = number (codes "max-var") LARGEST
+
+-- the number of frames that `--frames` sets; `clap` takes no number that is not among these
+abbrev pub frames : List Row → ℕ
+frames rows = max 1 (min 1000000 (number (codes "frames") 1 rows))
 
 -- the file that is named at this place; no name, or `-`, is the standard stream
 abbrev pub file : Text → List Row → Option Text
@@ -97,10 +105,29 @@ abbrev pub simulation_refusal : Simulation → Option Usage
 simulation_refusal s =
     if is_some s.model || is_some s.stimulus then None else Some usage.BothStandardInput
 
+-- an unrolling: from which file to which, over how many frames, and how
+pub record Unrolling : Type 0 where
+  pub frames : ℕ
+  pub ascii : Bool
+  pub max_var : ℕ
+  pub source : Option Text
+  pub destination : Option Text
+
+-- the unrolling that the arguments of `aigunroll` name
+abbrev pub unrolling : List Row → Unrolling
+unrolling rows = record {
+  frames = frames rows;
+  ascii = wants_ascii rows (file (codes "destination") rows);
+  max_var = limit rows;
+  source = file (codes "source") rows;
+  destination = file (codes "destination") rows;
+}
+
 -- what is asked for, or why that is refused
 pub data Asked : Type 0 where
   converts : Conversion → Asked
   simulates : Simulation → Asked
+  unrolls : Unrolling → Asked
   refused : Usage → Asked
 
 -- what the arguments of `aigtoaig` ask for
@@ -111,9 +138,13 @@ to_aig rows = option_map_or refused (refusal (conversion rows)) (converts (conve
 abbrev pub aigsim : List Row → Asked
 aigsim rows = option_map_or refused (simulation_refusal (simulation rows)) (simulates (simulation rows))
 
+-- what the arguments of `aigunroll` ask for
+abbrev pub aigunroll : List Row → Asked
+aigunroll rows = option_map_or refused (destination_refusal (unrolling rows).destination) (unrolls (unrolling rows))
+
 -- each subcommand: its name, and what its arguments ask for
 abbrev pub subcommands : List (Text × (List Row → Asked))
-subcommands = (codes "aigtoaig", to_aig) ∷ (codes "aigsim", aigsim) ∷ []
+subcommands = (codes "aigtoaig", to_aig) ∷ (codes "aigsim", aigsim) ∷ (codes "aigunroll", aigunroll) ∷ []
 
 -- what the subcommand of this name with these arguments asks for
 abbrev pub asked_by : Text × List Row → Option Asked

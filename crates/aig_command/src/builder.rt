@@ -2,7 +2,7 @@
 ghost use Rattle.std.specs.Prelude.{◌≡◌, IfOk, false};
 ghost use Rattle.clap.specs.Words.{app_of, new_app, new_rule, rule_of};
 ghost use Rattle.clap.specs.declared.builder.command.Command.TheViews.{out-Command as fields_of};
-ghost use Rattle.aig_command.specs.Aiger.{aiger, aigsim, flag, max_var, required_file, to_aig};
+ghost use Rattle.aig_command.specs.Aiger.{aiger, aigsim, aigunroll, flag, frames, max_var, required_file, to_aig};
 
 use clap::{Arg, ArgAction, Command, value_parser};
 use std::alloc::{AllocError, Global};
@@ -58,6 +58,31 @@ Examples, of a model with two inputs:
   aiger aigsim --properties model.aag steps.txt    with properties
   aiger aigsim - steps.txt < model.aag             the model from a stream";
 
+const UNROLL_ABOUT: &str = "Unroll a circuit over time frames, as one circuit without latches";
+
+const UNROLL_AFTER: &str = "\
+The inputs that are written are one for the first value of each latch without
+an initial value, and then those of each frame. The outputs follow frame by
+frame. A bad state of a frame holds only where all constraints held in that
+frame and in those before it. There are no symbols and no comment.
+
+The output is ASCII where --ascii is given or the name of the destination ends
+in .aag, and else binary. A circuit with justice properties or fairness
+constraints is refused. Nothing is written before the whole circuit was read
+and only the destination can fail, so the destination may be the source.
+
+Exit status:
+  0  done, also for --help
+  1  the input was refused, a file or stream failed, or memory ran out
+  2  the command line was refused
+
+Examples:
+  aiger aigunroll --frames 20 model.aig long.aig     to binary
+  aiger aigunroll --frames 2 model.aag two.aag       to ASCII
+  aiger aigunroll --frames 20 - < model.aig > out    from stream to stream";
+
+const FRAMES_HELP: &str = "The number of time frames: 1 to 1000000";
+
 const PROPERTIES_HELP: &str = "\
 Show bad states and constraints too, behind the rest of
 each line";
@@ -65,6 +90,12 @@ each line";
 const KEEP_MAP_HELP: &str = "\
 Keep a map of the renumbering in the comment, so that
 --undo-map can give the source back; binary output only";
+
+const ASCII_HELP: &str = "Write ASCII, whatever the destination is named";
+
+const SOURCE_HELP: &str = "The file to read; - or none is the standard input";
+
+const DESTINATION_HELP: &str = "The file to write; - or none is the standard output";
 
 const MAX_VAR_HELP: &str = "\
 Refuse a circuit with an index or a count above N:
@@ -102,6 +133,20 @@ fn max_var<'a>(alloc: Global) -> Arg<'a>
         .help(MAX_VAR_HELP)
 }
 
+/// The number of frames, which has to be given.
+fn frames<'a>(alloc: Global) -> Arg<'a>
+    ensures rule { rule_of result ≡ frames }
+    ensures local { result.global ≡ false }
+{
+    Arg::new(alloc, "frames")
+        .long("frames")
+        .value_name("K")
+        .action(ArgAction::Set)
+        .required(true)
+        .value_parser(value_parser!(u32).range(1..=1_000_000))
+        .help(FRAMES_HELP)
+}
+
 /// The name of a file.
 fn file<'a>(alloc: Global, name: &'a str, help: &'a str) -> Arg<'a>
     ensures rule { rule_of result ≡ new_rule name.now }
@@ -124,11 +169,7 @@ fn to_aig<'a>(alloc: Global) -> Result<Command<'a>, AllocError>
     ensures local { IfOk result (λ c. (fields_of c).has_globals ≡ false) }
 {
     let command = command(alloc, "aigtoaig", TO_AIG_ABOUT, TO_AIG_AFTER)
-        .arg(flag(
-            alloc,
-            "ascii",
-            "Write ASCII, whatever the destination is named",
-        ))?
+        .arg(flag(alloc, "ascii", ASCII_HELP))?
         .arg(flag(alloc, "strip", "Leave out the symbols and the comment"))?
         .arg(flag(alloc, "keep-map", KEEP_MAP_HELP))?
         .arg(flag(
@@ -137,16 +178,8 @@ fn to_aig<'a>(alloc: Global) -> Result<Command<'a>, AllocError>
             "Give back the source of a conversion with --keep-map",
         ))?
         .arg(max_var(alloc))?
-        .arg(file(
-            alloc,
-            "source",
-            "The file to read; - or none is the standard input",
-        ))?
-        .arg(file(
-            alloc,
-            "destination",
-            "The file to write; - or none is the standard output",
-        ))?;
+        .arg(file(alloc, "source", SOURCE_HELP))?
+        .arg(file(alloc, "destination", DESTINATION_HELP))?;
     Ok(command)
 }
 
@@ -171,6 +204,20 @@ fn aigsim<'a>(alloc: Global) -> Result<Command<'a>, AllocError>
     Ok(command)
 }
 
+/// `aigunroll`.
+fn aigunroll<'a>(alloc: Global) -> Result<Command<'a>, AllocError>
+    ensures app { IfOk result (λ c. app_of c ≡ aigunroll) }
+    ensures local { IfOk result (λ c. (fields_of c).has_globals ≡ false) }
+{
+    let command = command(alloc, "aigunroll", UNROLL_ABOUT, UNROLL_AFTER)
+        .arg(frames(alloc))?
+        .arg(flag(alloc, "ascii", ASCII_HELP))?
+        .arg(max_var(alloc))?
+        .arg(file(alloc, "source", SOURCE_HELP))?
+        .arg(file(alloc, "destination", DESTINATION_HELP))?;
+    Ok(command)
+}
+
 /// The program, with its subcommands.
 pub(crate) fn aiger<'a>(alloc: Global) -> Result<Command<'a>, AllocError>
     ensures { IfOk result (λ c. app_of c ≡ aiger) }
@@ -180,6 +227,7 @@ pub(crate) fn aiger<'a>(alloc: Global) -> Result<Command<'a>, AllocError>
         .subcommand_required(true)
         .disable_help_subcommand(true)
         .subcommand(to_aig(alloc)?)?
-        .subcommand(aigsim(alloc)?)?;
+        .subcommand(aigsim(alloc)?)?
+        .subcommand(aigunroll(alloc)?)?;
     Ok(command)
 }

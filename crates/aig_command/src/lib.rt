@@ -8,8 +8,9 @@ mod reader;
 mod request;
 mod sim;
 mod to_aig;
+mod unroll;
 mod usage;
 
 pub use crate::reader::command;
-pub use crate::request::{Command, Sim, ToAig};
+pub use crate::request::{Command, Sim, ToAig, Unroll};
 pub use crate::usage::Usage;

@@ -2,7 +2,7 @@
 ghost use Rattle.std.specs.Prelude.{◌≡◌, IfOk};
 ghost use Rattle.clap.specs.Words.{found_of, rows_of};
 ghost use Rattle.aig_command.specs.Answer.{name_of};
-ghost use Rattle.aig_command.specs.Asked.{file, is_set, limit};
+ghost use Rattle.aig_command.specs.Asked.{file, is_set, limit, number};
 
 use aig_core::LARGEST;
 use clap::ArgMatches;
@@ -16,11 +16,18 @@ pub(crate) fn is_set(matches: &ArgMatches<'_>, name: &str) -> bool
     matches.get_one::<bool>(name).unwrap_or(false)
 }
 
+/// The number that the option sets, or else this one.
+pub(crate) fn number(matches: &ArgMatches<'_>, name: &str, otherwise: u32) -> u32
+    ensures { result ≡ number name.now otherwise (rows_of (found_of matches.now)) }
+{
+    matches.get_one::<u32>(name).unwrap_or(otherwise)
+}
+
 /// The limit that `--max-var` sets.
 pub(crate) fn limit(matches: &ArgMatches<'_>) -> u32
     ensures { result ≡ limit (rows_of (found_of matches.now)) }
 {
-    matches.get_one::<u32>("max-var").unwrap_or(LARGEST)
+    number(matches, "max-var", LARGEST)
 }
 
 /// The file that is named at this place; no name, or `-`, is the standard stream.

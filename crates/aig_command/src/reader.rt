@@ -12,6 +12,7 @@ use crate::builder::aiger;
 use crate::request::Command;
 use crate::sim::aigsim;
 use crate::to_aig::to_aig;
+use crate::unroll::aigunroll;
 use crate::usage::Usage;
 use clap::error::ErrorKind;
 use clap::{ArgMatches, Error};
@@ -39,6 +40,7 @@ fn asked(alloc: Global, matches: &ArgMatches<'_>) -> Result<Command, Usage>
     match name {
         "aigtoaig" => to_aig(alloc, words),
         "aigsim" => aigsim(alloc, words),
+        "aigunroll" => aigunroll(alloc, words),
         _ => unreachable!(),
     }
 }

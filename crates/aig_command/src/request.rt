@@ -33,6 +33,21 @@ pub struct Sim {
     pub stimulus: Option<String>,
 }
 
+/// An unrolling of a circuit over time frames.
+#[derive(Drop)]
+pub struct Unroll {
+    /// The number of frames, from 1 to 1000000.
+    pub frames: u32,
+    /// Whether ASCII is written, whether an option or the destination's name decided it.
+    pub ascii: bool,
+    /// The limit on the largest variable index and the counts of the source.
+    pub max_var: u32,
+    /// The source's name; `None` is the standard input.
+    pub source: Option<String>,
+    /// The destination's name; `None` is the standard output.
+    pub destination: Option<String>,
+}
+
 /// What a command line asks for.
 #[derive(Drop)]
 pub enum Command {
@@ -40,6 +55,8 @@ pub enum Command {
     ToAig(ToAig),
     /// `aigsim`.
     Sim(Sim),
+    /// `aigunroll`.
+    Unroll(Unroll),
     /// Help; this is its text.
     Help(String),
 }

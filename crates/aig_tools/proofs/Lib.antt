@@ -4,5 +4,5 @@ pub mod TripsExist
 pub mod Meant
 pub mod Traces
 pub mod Lines
-pub mod Closing
 pub mod Sources
+pub mod Unrollings

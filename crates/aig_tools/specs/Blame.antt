@@ -8,7 +8,9 @@ use Rattle.aig_order.specs.declared.fault.MapFault.TheVariants as map_faults
 use Rattle.aig_tools.specs.declared.fault.ToolFault.{ToolFault}
 use Rattle.aig_sim.specs.declared.fault.SimFault.{SimFault}
 use Rattle.aig_sim.specs.declared.fault.SimFault.TheVariants as sim_faults
-use Rattle.aig_tools.specs.declared.fault.ToolFault.TheVariants.{Read, Map, Sim, Source, Sink, OutOfMemory}
+use Rattle.aig_unroll.specs.declared.fault.UnrollFault.{UnrollFault}
+use Rattle.aig_unroll.specs.declared.fault.UnrollFault.TheVariants as unroll_faults
+use Rattle.aig_tools.specs.declared.fault.ToolFault.TheVariants.{Read, Map, Sim, Unroll, Source, Sink, OutOfMemory}
 
 -- The device that failed, memory that was refused, or else what the source gave, or the stimulus. Of a simulation the
 -- model is the source.
@@ -37,11 +39,18 @@ sim_blamed (sim_faults.BadStimulus line) = TheSteps
 sim_blamed sim_faults.ReadFailed = TheStimulus
 sim_blamed sim_faults.WriteFailed = TheSink
 
--- want of memory while a text or a map is judged, or for a simulation, is reported as a fault of it
+-- where a circuit is not unrolled
+abbrev pub unroll_blamed : UnrollFault → Party
+unroll_blamed unroll_faults.OutOfMemory = Memory
+unroll_blamed _ = TheInput
+
+-- want of memory while a text or a map is judged, for a simulation, or while a circuit is unrolled, is reported as a
+-- fault of it
 abbrev pub at_fault : ToolFault → Party
 at_fault (Read fault) = blamed fault.kind
 at_fault (Map fault) = map_blamed fault
 at_fault (Sim fault) = sim_blamed fault
+at_fault (Unroll fault) = unroll_blamed fault
 at_fault Source = TheSource
 at_fault Sink = TheSink
 at_fault OutOfMemory = Memory
@@ -55,6 +64,11 @@ text_fault _ = None
 abbrev pub map_fault : ToolFault → Option MapFault
 map_fault (Map fault) = Some fault
 map_fault _ = None
+
+-- why a circuit is not unrolled, where that is what is reported
+abbrev pub unroll_fault : ToolFault → Option UnrollFault
+unroll_fault (Unroll fault) = Some fault
+unroll_fault _ = None
 
 -- how many failures of its source a run with this at fault has seen, and how many of its sink
 abbrev pub source_failures : Party → ℕ

@@ -1,5 +1,5 @@
 -- The devices that a command names: each is a stream, or a file with its name (this project's profile).
-use Rattle.std.specs.Prelude.{◌≤◌, ℕ, List, Bool, true, max, Option, None, Some, codes}
+use Rattle.std.specs.Prelude.{◌≡◌, ◌≤◌, ℕ, List, Bool, true, max, Option, None, Some, codes}
 use Rattle.aig_io.specs.declared.block.TheConstants.{ROOM}
 use Rattle.aig_files.specs.Named.{FileSink, FileSource, unread, unwritten}
 
@@ -76,3 +76,20 @@ OfSink {W} files None sink P = P W sink (λ _. true)
 OfSink files (Some name) sink P =
     (written : FileSink)
     × P FileSink (use_of_file_sink (unwritten name (files.made name)) written) (λ s. s.closed)
+
+-- What a command does that names one source and one sink: this is done from the one to the other, and a file is closed.
+-- No slice that the sink was handed is longer than a block.
+abbrev pub DoneBetween : {R W : Type 0} → FilesByName → Option (List ℕ) → Option (List ℕ) → SourceUse R → SinkUse W
+    → ((S T : Type 0) → SourceUse S → SinkUse T → Type 0) → Type 0
+DoneBetween files source_name sink_name source sink P =
+    OfSource files source_name source (λ S source.
+    OfSink files sink_name sink (λ T sink closed.
+    P S T source sink × IsSentInBlocks sink × (closed sink.after ≡ true)))
+
+-- the same where it is not done, of which this is said
+abbrev pub NotDoneBetween : {R W : Type 0} → FilesByName → Option (List ℕ) → Option (List ℕ) → SourceUse R → SinkUse W
+    → ((S T : Type 0) → SourceUse S → SinkUse T → Type 0) → Type 0
+NotDoneBetween files source_name sink_name source sink P =
+    OfSource files source_name source (λ S source.
+    OfSink files sink_name sink (λ T sink closed.
+    P S T source sink × IsSentInBlocks sink))

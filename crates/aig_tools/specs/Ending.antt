@@ -1,5 +1,5 @@
 -- How a call of the program ends: its status, and what it did to its streams (this project's profile).
-use Rattle.std.specs.Prelude.{◌≡◌, ◌+◌, ◌⊎◌, ℕ, List, Result, Ok, Err, codes, string_bytes}
+use Rattle.std.specs.Prelude.{◌≡◌, ◌+◌, ◌⊎◌, ℕ, List, Option, Result, Ok, Err, codes, string_bytes}
 use Rattle.std.specs.Io.KnownBytes.{Appends}
 use Rattle.aig_io.specs.Transfer.{TookBeginning}
 use Rattle.aig_command.specs.Answer.{IsCommand, IsUsage, name_of}
@@ -7,6 +7,7 @@ use Rattle.aig_command.specs.declared.request.Command.{Command}
 use Rattle.aig_command.specs.declared.request.Command.TheVariants as commands
 use Rattle.aig_command.specs.declared.request.Sim.{Sim}
 use Rattle.aig_command.specs.declared.request.ToAig.{ToAig}
+use Rattle.aig_command.specs.declared.request.Unroll.{Unroll}
 use Rattle.aig_command.specs.declared.usage.Usage.{Usage}
 use Rattle.aig_command.specs.declared.usage.Usage.TheVariants as usages
 use Rattle.aig_tools.specs.declared.fault.ToolFault.{ToolFault}
@@ -14,6 +15,7 @@ use Rattle.aig_tools.specs.Devices.{FilesByName, SinkUse, SourceUse}
 use Rattle.aig_tools.specs.Messages.{error_line, line_of, IsReported, simulation_error_line, usage_text}
 use Rattle.aig_tools.specs.Outcome.{Done, IsUnusedWhere, NotDone}
 use Rattle.aig_tools.specs.SimulationOutcome.{IsUnusedWhereBoth, SimulationDone, SimulationNotDone}
+use Rattle.aig_tools.specs.UnrollingOutcome.{UnrollingDone, UnrollingNotDone}
 
 -- what is answered to the words
 abbrev pub IsAnswered : List (List ℕ) → Result Command Usage → Type 0
@@ -25,17 +27,30 @@ abbrev pub status_of : Usage → ℕ
 status_of usages.OutOfMemory = 1
 status_of usage = 2
 
--- A conversion was asked for: it is done and nothing is reported, or its error is reported in one line. A stream in the
--- place of which a file is named is left alone.
+-- What was asked for has one source and one destination: it is done and nothing is reported, or its error is reported in
+-- one line. A stream in the place of which a file is named is left alone.
+abbrev pub EndsBetween : {R W E : Type 0} → Option (List ℕ) → Option (List ℕ) → Type 0 → (ToolFault → Type 0)
+    → SourceUse R → SinkUse W → SinkUse E → ℕ → Type 0
+EndsBetween source destination IsDone IsNotDone input output errors status =
+    IsUnusedWhere source input.before input.after
+    × IsUnusedWhere destination output.before output.after
+    × (((status ≡ 0) × (errors.after ≡ errors.before) × IsDone)
+    ⊎ ((status ≡ 1) × ((error : ToolFault)
+    × IsNotDone error × IsReported errors (error_line source destination error))))
+
+-- a conversion was asked for
 abbrev pub ConversionEnds : {R W E : Type 0} → ToAig → FilesByName → SourceUse R → SinkUse W → SinkUse E → ℕ → Type 0
 ConversionEnds request files input output errors status =
-    IsUnusedWhere (name_of request.source) input.before input.after
-    × IsUnusedWhere (name_of request.destination) output.before output.after
-    × (((status ≡ 0) × (errors.after ≡ errors.before) × Done request files input output)
-    ⊎ ((status ≡ 1) × ((error : ToolFault)
-    × NotDone request error files input output × IsReported errors (error_line request error))))
+    EndsBetween (name_of request.source) (name_of request.destination) (Done request files input output)
+    (λ error. NotDone request error files input output) input output errors status
 
--- A simulation was asked for: the same. The standard input is left alone where it is neither model nor stimulus.
+-- an unrolling was asked for
+abbrev pub UnrollingEnds : {R W E : Type 0} → Unroll → FilesByName → SourceUse R → SinkUse W → SinkUse E → ℕ → Type 0
+UnrollingEnds request files input output errors status =
+    EndsBetween (name_of request.source) (name_of request.destination) (UnrollingDone request files input output)
+    (λ error. UnrollingNotDone request error files input output) input output errors status
+
+-- A simulation was asked for: the same, but of a model and a stimulus. The standard input is left alone where it is neither model nor stimulus.
 abbrev pub SimulationEnds : {R W E : Type 0} → Sim → FilesByName → SourceUse R → SinkUse W → SinkUse E → ℕ → Type 0
 SimulationEnds request files input output errors status =
     IsUnusedWhereBoth (name_of request.model) (name_of request.stimulus) input.before input.after
@@ -66,6 +81,8 @@ EndsAs (Ok (commands.ToAig request)) files input output errors status =
     ConversionEnds request files input output errors status
 EndsAs (Ok (commands.Sim request)) files input output errors status =
     SimulationEnds request files input output errors status
+EndsAs (Ok (commands.Unroll request)) files input output errors status =
+    UnrollingEnds request files input output errors status
 EndsAs (Ok (commands.Help text)) files input output errors status =
     (input.after ≡ input.before) × HelpEnds (string_bytes text) output errors status
 EndsAs (Err usage) files input output errors status = RefusalEnds usage input output errors status

@@ -12,10 +12,13 @@ use Rattle.aig_order.specs.declared.fault.MapFault.TheVariants.{OutOfMemory}
 use Rattle.aig_order.specs.Undone.{IsMapFault}
 use Rattle.aig_command.specs.declared.request.Sim.{Sim}
 use Rattle.aig_command.specs.declared.request.ToAig.{ToAig}
+use Rattle.aig_command.specs.declared.request.Unroll.{Unroll}
 use Rattle.aig_sim.specs.Outcome.{first_bad_line}
+use Rattle.aig_unroll.specs.Unrolled.{IsTooLarge, IsUnrolled, IsUnsupported}
 use Rattle.aig_tools.specs.File.{IsFileOf, file_reading, first_fault}
 use Rattle.aig_tools.specs.Conversion.{IsConversionText}
 use Rattle.aig_tools.specs.Simulation.{IsSimulationText}
+use Rattle.aig_tools.specs.Unrolling.{IsUnrollingText}
 
 -- what is read of a text is exactly the circuit whose file it is, of either kind
 abbrev pub FilesAreReadExactly : Type 0
@@ -36,6 +39,22 @@ ConversionsAreUnambiguous = (request : ToAig) (bytes text other : List ℕ)
 abbrev pub SimulationsAreUnambiguous : Type 0
 SimulationsAreUnambiguous = (request : Sim) (model stimulus text other : List ℕ)
     → IsSimulationText request model stimulus text → IsSimulationText request model stimulus other → text ≡ other
+
+-- bytes have one unrolling text at most
+abbrev pub UnrollingsAreUnambiguous : Type 0
+UnrollingsAreUnambiguous = (request : Unroll) (bytes text other : List ℕ)
+    → IsUnrollingText request bytes text → IsUnrollingText request bytes other → text ≡ other
+
+-- an unrolling text of the file of a circuit is, at the default limit, the file of exactly the unrolled circuit
+abbrev pub UnrolledTextsAreFiles : Type 0
+UnrolledTextsAreFiles = (request : Unroll) (c d : Circuit) (file text : List ℕ) → IsFileOf file request.max_var c
+    → IsUnrolled c request.frames d → IsUnrollingText request file text
+    → (other : Circuit) → IsFileOf text LARGEST other ↔ (other ≡ d)
+
+-- every file of a circuit that is supported and not too large to unroll has an unrolling text
+abbrev pub UnrolledTextsExist : Type 0
+UnrolledTextsExist = (request : Unroll) (c : Circuit) (file : List ℕ) → IsFileOf file request.max_var c
+    → ¬ IsUnsupported c → ¬ IsTooLarge c request.frames → (text : List ℕ) × IsUnrollingText request file text
 
 -- a canonical binary file: the canonical text of a well-formed circuit in binary order
 abbrev pub IsCanonicalBinary : List ℕ → Type 0

@@ -1,12 +1,15 @@
 pub mod File
 pub mod Conversion
 pub mod Simulation
+pub mod Unrolling
 pub mod Blame
 pub mod Devices
 pub mod Reading
 pub mod Outcome
 pub mod SimulationOutcome
+pub mod UnrollingOutcome
 pub mod Messages
 pub mod Ending
 pub mod Reported
 pub mod Laws
+pub mod Parts

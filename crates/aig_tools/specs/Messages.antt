@@ -1,15 +1,15 @@
 -- What is reported on standard error, in one line (this project's profile).
-use Rattle.std.specs.Prelude.{◌≡◌, ◌+◌, ◌++◌, ◌⊎◌, ℕ, List, [], codes, string_bytes}
+use Rattle.std.specs.Prelude.{◌≡◌, ◌+◌, ◌++◌, ◌⊎◌, ℕ, List, [], Option, codes, string_bytes}
 use Rattle.std.specs.Io.KnownBytes.{Appends}
 use Rattle.aig_io.specs.Transfer.{TookBeginning}
 use Rattle.aig_text.specs.Messages.{fault_text}
 use Rattle.aig_order.specs.Messages.{map_fault_text}
 use Rattle.aig_sim.specs.Messages.{sim_fault_text}
+use Rattle.aig_unroll.specs.Messages.{unroll_fault_text}
 use Rattle.aig_tools.specs.declared.fault.ToolFault.{ToolFault}
 use Rattle.aig_tools.specs.declared.fault.ToolFault.TheVariants as faults
 use Rattle.aig_command.specs.Answer.{name_of}
 use Rattle.aig_command.specs.declared.request.Sim.{Sim}
-use Rattle.aig_command.specs.declared.request.ToAig.{ToAig}
 use Rattle.aig_command.specs.Words.{usage_words}
 use Rattle.aig_command.specs.declared.usage.Usage.{Usage}
 use Rattle.aig_command.specs.declared.usage.Usage.TheVariants as usages
@@ -32,16 +32,17 @@ abbrev pub error_text : ToolFault → List ℕ
 error_text (faults.Read fault) = fault_text fault
 error_text (faults.Map fault) = map_fault_text fault
 error_text (faults.Sim fault) = sim_fault_text fault
+error_text (faults.Unroll fault) = unroll_fault_text fault
 error_text faults.Source = codes "cannot read"
 error_text faults.Sink = codes "cannot write"
 error_text faults.OutOfMemory = codes "out of memory"
 
--- of a conversion, the name of the file at fault, or `-` for a stream
-abbrev pub name_at : ToAig → Party → List ℕ
-name_at request TheSink = shown (name_of request.destination)
-name_at request _ = shown (name_of request.source)
+-- of a command with one source and one destination, the name of the file at fault, or `-` for a stream
+abbrev pub name_between : Option (List ℕ) → Option (List ℕ) → Party → List ℕ
+name_between source destination TheSink = shown destination
+name_between source destination _ = shown source
 
--- the same of a simulation, whose trace goes to a stream
+-- of a simulation, whose trace goes to a stream
 abbrev pub simulation_name_at : Sim → Party → List ℕ
 simulation_name_at request TheSink = codes "-"
 simulation_name_at request TheStimulus = shown (name_of request.stimulus)
@@ -57,9 +58,9 @@ line_about name party text = line_of name (codes ": " ++ text)
 abbrev pub line_naming : List ℕ → ToolFault → List ℕ
 line_naming name error = line_about name (at_fault error) (error_text error)
 
--- the line that reports an error of a conversion
-abbrev pub error_line : ToAig → ToolFault → List ℕ
-error_line request error = line_naming (name_at request (at_fault error)) error
+-- the line that reports an error of a command with one source and one destination
+abbrev pub error_line : Option (List ℕ) → Option (List ℕ) → ToolFault → List ℕ
+error_line source destination error = line_naming (name_between source destination (at_fault error)) error
 
 -- the line that reports an error of a simulation
 abbrev pub simulation_error_line : Sim → ToolFault → List ℕ

@@ -13,7 +13,7 @@ use Rattle.aig_tools.specs.Reading.{Refused}
 use Rattle.aig_tools.specs.declared.fault.ToolFault.TheVariants as faults
 use Rattle.aig_core.specs.declared.circuit.Circuit.{Circuit}
 use Rattle.aig_command.specs.Answer.{name_of}
-use Rattle.aig_tools.specs.Devices.{FilesByName, IsSentInBlocks, OfSink, OfSource, SinkUse, SourceUse}
+use Rattle.aig_tools.specs.Devices.{DoneBetween, FilesByName, NotDoneBetween, SinkUse, SourceUse}
 use Rattle.aig_tools.specs.Conversion.{IsConversionText, IsTextAs}
 
 -- the source gave all its bytes, the sink took the conversion text of them, and neither failed
@@ -58,6 +58,7 @@ abbrev pub IsOfConversion : ToolFault → Type 0
 IsOfConversion (faults.Read fault) = ⊤
 IsOfConversion (faults.Map fault) = ⊤
 IsOfConversion (faults.Sim fault) = ⊥
+IsOfConversion (faults.Unroll fault) = ⊥
 IsOfConversion faults.Source = ⊤
 IsOfConversion faults.Sink = ⊤
 IsOfConversion faults.OutOfMemory = ⊤
@@ -89,13 +90,11 @@ IsUnusedWhere (Some name) before after = after ≡ before
 -- sink was handed is longer than a block.
 abbrev pub Done : {R W : Type 0} → ToAig → FilesByName → SourceUse R → SinkUse W → Type 0
 Done request files source sink =
-    OfSource files (name_of request.source) source (λ R source.
-    OfSink files (name_of request.destination) sink (λ W sink closed.
-    Converted request source sink × IsSentInBlocks sink × (closed sink.after ≡ true)))
+    DoneBetween files (name_of request.source) (name_of request.destination) source sink
+    (λ R W source sink. Converted request source sink)
 
 -- what an error says where it is not done
 abbrev pub NotDone : {R W : Type 0} → ToAig → ToolFault → FilesByName → SourceUse R → SinkUse W → Type 0
 NotDone request error files source sink =
-    OfSource files (name_of request.source) source (λ R source.
-    OfSink files (name_of request.destination) sink (λ W sink closed.
-    NotConverted request error source sink × IsSentInBlocks sink))
+    NotDoneBetween files (name_of request.source) (name_of request.destination) source sink
+    (λ R W source sink. NotConverted request error source sink)

@@ -3,10 +3,13 @@ ghost use Rattle.std.specs.Io.KnownBytes.{Appends};
 ghost use Rattle.std.specs.Prelude.{◌≡◌, ◌+◌, ◌-◌, ◌^◌, ◌<◌, ◌≤◌, ◌⊎◌, max, ℕ, List, false, true, IfErr, IfOk, OnOk};
 ghost use Rattle.aig_io.specs.declared.block.TheConstants.{ROOM};
 ghost use Rattle.aig_order.specs.Undone.{IsMapFault};
+ghost use Rattle.aig_command.specs.Answer.{IsKeptAlone, name_of};
 ghost use Rattle.aig_tools.specs.Conversion.{IsImageAs, IsSource, IsTextAs, changed};
+ghost use Rattle.aig_tools.specs.Parts.Closing.{conversion_closed};
 ghost use Rattle.aig_tools.specs.Devices.{sink_use, source_use};
 ghost use Rattle.aig_tools.specs.Outcome.{Converted, NotConverted, NotWritten};
 
+use crate::engine::Engine;
 use crate::fault::ToolFault;
 use crate::file::read_circuit;
 use aig_binary::{Ordered, write_binary};
@@ -101,4 +104,37 @@ pub fn run_toaig<R: Source, W: Sink>(
     let source_circuit = undone(alloc, request, found)?;
     let circuit = changed(alloc, request, source_circuit);
     write(alloc, request, circuit, sink)
+}
+
+impl Engine for ToAig {
+    ghost can_do = { IsKeptAlone };
+
+    ghost source_name = { λ request. name_of request.source };
+
+    ghost destination_name = { λ request. name_of request.destination };
+
+    ghost done = { λ request R W source sink. Converted request source sink };
+
+    ghost not_done = { λ request error R W source sink. NotConverted request error source sink };
+
+    ghost held = { λ request R W source sink done. done.sink_held };
+
+    ghost closed = { conversion_closed };
+
+    fn source(&self) -> &Option<String> {
+        &self.source
+    }
+
+    fn destination(&self) -> &Option<String> {
+        &self.destination
+    }
+
+    fn run<R: Source, W: Sink>(
+        &self,
+        alloc: Global,
+        source: &mut R,
+        sink: &mut W,
+    ) -> Result<(), ToolFault> {
+        run_toaig(alloc, self, source, sink)
+    }
 }

@@ -1,7 +1,7 @@
 //! Why a tool did not do what was asked.
 ghost use Rattle.std.specs.Prelude.{◌≡◌, ◌↔◌, IsTrue, Some};
 ghost use Rattle.aig_tools.specs.Messages.{error_text};
-ghost use Rattle.aig_tools.specs.declared.fault.ToolFault.TheVariants.{Map, OutOfMemory, Read, Sim, Sink};
+ghost use Rattle.aig_tools.specs.declared.fault.ToolFault.TheVariants.{Map, OutOfMemory, Read, Sim, Sink, Unroll};
 ghost use Rattle.aig_tools.specs.Blame.{at_fault, Memory};
 ghost use Rattle.aig_tools.specs.Reported.{tool_fault_of};
 
@@ -9,6 +9,7 @@ use aig_core::ReadError;
 use aig_order::MapFault;
 use aig_sim::SimFault;
 use aig_text::{ReadFault, ReadKind, WriteFault};
+use aig_unroll::UnrollFault;
 use std::error::Error;
 use std::fmt;
 
@@ -27,12 +28,14 @@ pub enum ToolFault {
     Map(MapFault),
     /// The simulation ended early.
     Sim(SimFault),
+    /// The source is the file of a circuit that is not unrolled.
+    Unroll(UnrollFault),
     /// The source failed; of a simulation, the model's.
     Source,
     /// The sink failed.
     Sink,
-    /// An allocation failed. One that fails while a file or a map is checked, or for a simulation, is in `Read`, `Map`
-    /// or `Sim`.
+    /// An allocation failed. One that fails while a file or a map is checked, for a simulation, or while a circuit is
+    /// unrolled, is in `Read`, `Map`, `Sim` or `Unroll`.
     OutOfMemory,
 }
 
@@ -46,6 +49,7 @@ impl ToolFault {
             ToolFault::Read(fault) => matches!(fault.kind, ReadKind::OutOfMemory),
             ToolFault::Map(fault) => matches!(fault, MapFault::OutOfMemory),
             ToolFault::Sim(fault) => matches!(fault, SimFault::OutOfMemory),
+            ToolFault::Unroll(fault) => matches!(fault, UnrollFault::OutOfMemory),
             ToolFault::Source | ToolFault::Sink => false,
         }
     }
@@ -59,6 +63,7 @@ impl fmt::Display for ToolFault {
             ToolFault::Read(fault) => write!(f, "{fault}"),
             ToolFault::Map(fault) => write!(f, "{fault}"),
             ToolFault::Sim(fault) => write!(f, "{fault}"),
+            ToolFault::Unroll(fault) => write!(f, "{fault}"),
             ToolFault::Source => write!(f, "{CANNOT_READ}"),
             ToolFault::Sink => write!(f, "{CANNOT_WRITE}"),
             ToolFault::OutOfMemory => write!(f, "{OUT_OF_MEMORY}"),
@@ -108,6 +113,14 @@ impl From<SimFault> for ToolFault {
 
     fn from(fault: SimFault) -> ToolFault {
         ToolFault::Sim(fault)
+    }
+}
+
+impl From<UnrollFault> for ToolFault {
+    ghost from_gives = { λ fault error. error ≡ Unroll fault };
+
+    fn from(fault: UnrollFault) -> ToolFault {
+        ToolFault::Unroll(fault)
     }
 }
 

@@ -2,6 +2,7 @@
 ghost use Rattle.aig_tools.specs.Laws.{FilesAreReadExactly, FilesAreUnambiguous, ConversionsAreUnambiguous, Headline};
 ghost use Rattle.aig_tools.specs.Laws.{FilesConvertThereAndBack, BinaryFilesConvertThereAndBack};
 ghost use Rattle.aig_tools.specs.Laws.{MappedTextsHaveNoFault, SimulationsAreUnambiguous, SimulationTextsExist};
+ghost use Rattle.aig_tools.specs.Laws.{UnrolledTextsAreFiles, UnrolledTextsExist, UnrollingsAreUnambiguous};
 
 /// What is read of a text is a circuit exactly where the text is a file of that circuit, ASCII or binary.
 pub fn files_are_read_exactly()
@@ -21,6 +22,21 @@ pub fn conversions_are_unambiguous()
 /// A model and a stimulus have one simulation text at most.
 pub fn simulations_are_unambiguous()
     ensures { SimulationsAreUnambiguous }
+{}
+
+/// Bytes have one unrolling text at most.
+pub fn unrollings_are_unambiguous()
+    ensures { UnrollingsAreUnambiguous }
+{}
+
+/// An unrolling text that `run_unroll` writes is the file of exactly the unrolled circuit.
+pub fn unrolled_texts_are_files()
+    ensures { UnrolledTextsAreFiles }
+{}
+
+/// Every file of a circuit that can be unrolled has an unrolling text.
+pub fn unrolled_texts_exist()
+    ensures { UnrolledTextsExist }
 {}
 
 /// The headline, over the conversion texts that `run_toaig` writes and the simulation texts that `run_sim` writes: an

@@ -2,6 +2,7 @@
 #![tactic(auto)]
 
 mod conversion;
+mod engine;
 mod fault;
 mod file;
 pub mod laws;
@@ -9,9 +10,11 @@ mod message;
 mod named;
 mod program;
 mod simulation;
+mod unrolling;
 
 pub use crate::conversion::run_toaig;
 pub use crate::fault::ToolFault;
 pub use crate::program::{refuse_for_memory, refuse_words, serve, start};
 pub use crate::simulation::run_sim;
-pub use aig_command::{Command, Sim, ToAig, Usage, command};
+pub use crate::unrolling::run_unroll;
+pub use aig_command::{Command, Sim, ToAig, Unroll, Usage, command};

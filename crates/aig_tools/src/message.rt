@@ -7,10 +7,12 @@ ghost use Rattle.aig_command.specs.Answer.{name_of};
 ghost use Rattle.aig_tools.specs.Blame.{at_fault};
 ghost use Rattle.aig_tools.specs.Devices.{shown, sink_use};
 ghost use Rattle.aig_tools.specs.Messages.{error_line, error_text, IsReported, line_naming, line_of, memory_line};
-ghost use Rattle.aig_tools.specs.Messages.{name_at, simulation_error_line, simulation_name_at, usage_text, words_line};
+ghost use Rattle.aig_tools.specs.Messages.{name_between, simulation_error_line, simulation_name_at, usage_text};
+ghost use Rattle.aig_tools.specs.Messages.{words_line};
 
+use crate::engine::Engine;
 use crate::fault::{CANNOT_READ, CANNOT_WRITE, OUT_OF_MEMORY, ToolFault};
-use aig_command::{Sim, ToAig, Usage};
+use aig_command::{Sim, Usage};
 use aig_core::{Output, Sink};
 use aig_sim::SimFault;
 
@@ -104,19 +106,21 @@ fn put_error<E: Sink>(output: &mut Output<E>, fault: &ToolFault)
         }
         ToolFault::Map(fault) => fault.message().put(output),
         ToolFault::Sim(fault) => fault.message().put(output),
+        ToolFault::Unroll(fault) => fault.message().put(output),
         ToolFault::Source => output.put(CANNOT_READ.as_bytes()),
         ToolFault::Sink => output.put(CANNOT_WRITE.as_bytes()),
         ToolFault::OutOfMemory => output.put(OUT_OF_MEMORY.as_bytes()),
     }
 }
 
-/// The name of the file or stream that is at fault in a conversion, unless memory ran out.
-fn name_at_fault<'a>(request: &'a ToAig, fault: &ToolFault) -> &'a str
-    ensures { result.now ≡ name_at request.now (at_fault fault.now) }
+/// The name of the file or stream that is at fault where there is one source and one destination, unless memory ran out.
+fn name_at_fault<'a, T: Engine>(request: &'a T, fault: &ToolFault) -> &'a str
+    ensures { result.now ≡ name_between (T.source_name request.now) (T.destination_name request.now)
+        (at_fault fault.now) }
 {
     match fault {
-        ToolFault::Sink | ToolFault::Sim(SimFault::WriteFailed) => shown(&request.destination),
-        _ => shown(&request.source),
+        ToolFault::Sink | ToolFault::Sim(SimFault::WriteFailed) => shown(request.destination()),
+        _ => shown(request.source()),
     }
 }
 
@@ -151,11 +155,11 @@ fn report_naming<E: Sink>(errors: &mut E, name: &str, fault: &ToolFault)
     let (_sent, _errors) = output.finish();
 }
 
-/// Reports the error of a conversion.
-pub(crate) fn report_error<E: Sink>(errors: &mut E, request: &ToAig, fault: &ToolFault)
+/// Reports an error where there is one source and one destination.
+pub(crate) fn report_error<T: Engine, E: Sink>(errors: &mut E, request: &T, fault: &ToolFault)
     requires { E.failed errors.old < 2 ^ 64 - 1 }
     ensures reported { IsReported (sink_use E.taken E.longest E.failed errors.old errors.new)
-        (error_line request.now fault.now) }
+        (error_line (T.source_name request.now) (T.destination_name request.now) fault.now) }
     ensures short { E.longest errors.new ≤ max (E.longest errors.old) ROOM }
 {
     report_naming(errors, name_at_fault(request, fault), fault);

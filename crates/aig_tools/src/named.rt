@@ -1,43 +1,43 @@
-//! Conversions and simulations between the devices that a request names: streams and files.
+//! What is done between the devices that a request names: streams and files.
 ghost use Rattle.std.specs.Prelude.{◌≡◌, ◌-◌, ◌≤◌, ◌^◌, ◌<◌, IfErr, OnOk, max, true};
 ghost use Rattle.aig_io.specs.declared.block.TheConstants.{ROOM};
 ghost use Rattle.aig_command.specs.Answer.{name_of};
 ghost use Rattle.aig_files.specs.Named.{FileSink, unwritten};
-ghost use Rattle.aig_tools.specs.Devices.{files_by_name, IsSentInBlocks, OfSink, sink_use, source_use};
-ghost use Rattle.aig_tools.specs.Devices.{use_of_file_sink};
-ghost use Rattle.aig_tools.specs.Outcome.{Converted, Done, IsUnusedWhere, NotConverted, NotDone};
+ghost use Rattle.aig_tools.specs.Devices.{DoneBetween, files_by_name, IsSentInBlocks, NotDoneBetween, OfSink};
+ghost use Rattle.aig_tools.specs.Devices.{sink_use, source_use, use_of_file_sink};
+ghost use Rattle.aig_tools.specs.Outcome.{IsUnusedWhere};
 ghost use Rattle.aig_tools.specs.SimulationOutcome.{IsUnusedWhereBoth, SimulationDone, SimulationNotDone};
-ghost use Rattle.aig_command.specs.Answer.{HasOneStandardInput, IsKeptAlone};
+ghost use Rattle.aig_command.specs.Answer.{HasOneStandardInput};
 
-use crate::conversion::run_toaig;
+use crate::engine::Engine;
 use crate::fault::ToolFault;
 use crate::simulation::run_sim;
-use aig_command::{Sim, ToAig};
+use aig_command::Sim;
 use aig_core::{Sink, Source};
 use aig_files::{FileAccess, NamedSink, NamedSource};
 use std::alloc::Global;
 
-/// Converts to the file with a name, and closes it.
-fn convert_to_file<A: FileAccess, S: Source>(
+/// Does what a request asks for, from a source to the file with a name, and closes that.
+fn run_to_file<T: Engine, A: FileAccess, S: Source>(
     alloc: Global,
     access: &A,
-    request: &ToAig,
+    request: &T,
     source: &mut S,
     name: &str,
 ) -> Result<(), ToolFault>
     requires source { S.failed source.old < 2 ^ 64 - 1 }
-    requires kept_alone { IsKeptAlone request.now }
+    requires can_do { T.can_do request.now }
     ensures ok { OnOk result ((filled : FileSink)
-        × Converted request.now (source_use S.coming S.failed source.old source.new)
+        × T.done request.now S FileSink (source_use S.coming S.failed source.old source.new)
         (use_of_file_sink (unwritten name.now (A.made access.now name.now)) filled)
         × (filled.longest ≤ max 0 ROOM) × (filled.closed ≡ true)) }
     ensures err { IfErr result (λ error. (filled : FileSink)
-        × NotConverted request.now error (source_use S.coming S.failed source.old source.new)
+        × T.not_done request.now error S FileSink (source_use S.coming S.failed source.old source.new)
         (use_of_file_sink (unwritten name.now (A.made access.now name.now)) filled)
         × (filled.longest ≤ max 0 ROOM)) }
 {
     let mut file = NamedSink::new(access, name);
-    run_toaig(alloc, request, source, &mut file)?;
+    request.run(alloc, source, &mut file)?;
     // What a disk did not keep may show only now.
     match file.close() {
         Ok(()) => Ok(()),
@@ -45,60 +45,62 @@ fn convert_to_file<A: FileAccess, S: Source>(
     }
 }
 
-/// Converts from a source to the destination that the request names.
-fn convert_from<A: FileAccess, S: Source, W: Sink>(
+/// Does what a request asks for, from a source to the destination that it names.
+fn run_from<T: Engine, A: FileAccess, S: Source, W: Sink>(
     alloc: Global,
     access: &A,
-    request: &ToAig,
+    request: &T,
     source: &mut S,
     output: &mut W,
 ) -> Result<(), ToolFault>
     requires source { S.failed source.old < 2 ^ 64 - 1 }
     requires output { W.failed output.old < 2 ^ 64 - 1 }
-    requires kept_alone { IsKeptAlone request.now }
+    requires can_do { T.can_do request.now }
     ensures ok { OnOk result (OfSink (files_by_name (A.holds access.now) (A.made access.now))
-        (name_of request.now.destination) (sink_use W.taken W.longest W.failed output.old output.new) (λ X sink closed.
-        Converted request.now (source_use S.coming S.failed source.old source.new) sink
+        (T.destination_name request.now) (sink_use W.taken W.longest W.failed output.old output.new) (λ X sink closed.
+        T.done request.now S X (source_use S.coming S.failed source.old source.new) sink
         × IsSentInBlocks sink × (closed sink.after ≡ true))) }
     ensures err { IfErr result (λ error. OfSink (files_by_name (A.holds access.now) (A.made access.now))
-        (name_of request.now.destination) (sink_use W.taken W.longest W.failed output.old output.new) (λ X sink closed.
-        NotConverted request.now error (source_use S.coming S.failed source.old source.new) sink
+        (T.destination_name request.now) (sink_use W.taken W.longest W.failed output.old output.new) (λ X sink closed.
+        T.not_done request.now error S X (source_use S.coming S.failed source.old source.new) sink
         × IsSentInBlocks sink)) }
-    ensures output { IsUnusedWhere (name_of request.now.destination) output.old output.new }
+    ensures output { IsUnusedWhere (T.destination_name request.now) output.old output.new }
 {
-    match &request.destination {
-        Some(name) => convert_to_file(alloc, access, request, source, name.as_str()),
-        None => run_toaig(alloc, request, source, output),
+    match request.destination() {
+        Some(name) => run_to_file(alloc, access, request, source, name.as_str()),
+        None => request.run(alloc, source, output),
     }
 }
 
-/// Converts from the source to the destination that the request names: `input` and `output` where it names no file.
-pub(crate) fn convert<A: FileAccess, R: Source, W: Sink>(
+/// Does what a request asks for, from the source to the destination that it names: `input` and `output` where it names
+/// no file.
+pub(crate) fn run_between<T: Engine, A: FileAccess, R: Source, W: Sink>(
     alloc: Global,
     access: &A,
-    request: &ToAig,
+    request: &T,
     input: &mut R,
     output: &mut W,
 ) -> Result<(), ToolFault>
     requires input { R.failed input.old < 2 ^ 64 - 1 }
     requires output { W.failed output.old < 2 ^ 64 - 1 }
-    requires kept_alone { IsKeptAlone request.now }
-    ensures ok { OnOk result (Done request.now (files_by_name (A.holds access.now) (A.made access.now))
+    requires can_do { T.can_do request.now }
+    ensures ok { OnOk result (DoneBetween (files_by_name (A.holds access.now) (A.made access.now))
+        (T.source_name request.now) (T.destination_name request.now)
         (source_use R.coming R.failed input.old input.new)
-        (sink_use W.taken W.longest W.failed output.old output.new)) }
-    ensures err { IfErr result (λ error. NotDone request.now error
-        (files_by_name (A.holds access.now) (A.made access.now))
+        (sink_use W.taken W.longest W.failed output.old output.new) (T.done request.now)) }
+    ensures err { IfErr result (λ error. NotDoneBetween (files_by_name (A.holds access.now) (A.made access.now))
+        (T.source_name request.now) (T.destination_name request.now)
         (source_use R.coming R.failed input.old input.new)
-        (sink_use W.taken W.longest W.failed output.old output.new)) }
-    ensures input { IsUnusedWhere (name_of request.now.source) input.old input.new }
-    ensures output { IsUnusedWhere (name_of request.now.destination) output.old output.new }
+        (sink_use W.taken W.longest W.failed output.old output.new) (T.not_done request.now error)) }
+    ensures input { IsUnusedWhere (T.source_name request.now) input.old input.new }
+    ensures output { IsUnusedWhere (T.destination_name request.now) output.old output.new }
 {
-    match &request.source {
+    match request.source() {
         Some(name) => {
             let mut file = NamedSource::new(access, name.as_str());
-            convert_from(alloc, access, request, &mut file, output)
+            run_from(alloc, access, request, &mut file, output)
         }
-        None => convert_from(alloc, access, request, input, output),
+        None => run_from(alloc, access, request, input, output),
     }
 }
 

@@ -2,17 +2,18 @@
 ghost use Rattle.std.specs.Prelude.{◌≡◌, ◌-◌, ◌^◌, ◌<◌, ◌≤◌, None, max};
 ghost use Rattle.aig_io.specs.declared.block.TheConstants.{ROOM};
 ghost use Rattle.aig_command.specs.Answer.{texts};
-ghost use Rattle.aig_tools.specs.Ending.{ConversionEnds, Ends, HelpEnds, RefusalEnds, SimulationEnds, status_of};
-ghost use Rattle.aig_tools.specs.Devices.{files_by_name, sink_use, source_use};
+ghost use Rattle.aig_tools.specs.Ending.{Ends, EndsBetween, HelpEnds, RefusalEnds, SimulationEnds, status_of};
+ghost use Rattle.aig_tools.specs.Devices.{DoneBetween, files_by_name, NotDoneBetween, sink_use, source_use};
 ghost use Rattle.aig_tools.specs.Messages.{memory_line, IsReported, usage_text, words_line};
-ghost use Rattle.aig_command.specs.Answer.{HasOneStandardInput, IsKeptAlone};
+ghost use Rattle.aig_command.specs.Answer.{HasOneStandardInput};
 
+use crate::engine::Engine;
 use crate::message::{
     report_error, report_memory, report_simulation_error, report_unwritten, report_usage,
     report_words,
 };
-use crate::named::{convert, trace};
-use aig_command::{Command, Sim, ToAig, Usage, command};
+use crate::named::{run_between, trace};
+use aig_command::{Command, Sim, Usage, command};
 use aig_core::{Output, Sink, Source};
 use aig_files::{FileAccess, HostFiles};
 use std::alloc::Global;
@@ -27,11 +28,11 @@ const FAILED: u8 = 1;
 /// Refused arguments.
 const REFUSED: u8 = 2;
 
-/// Converts as a request asks, reports an error, and answers the status.
-fn run_conversion<A: FileAccess, R: Source, W: Sink, E: Sink>(
+/// Does what a request asks for that names one source and one destination, reports an error, and answers the status.
+fn run_reporting<T: Engine, A: FileAccess, R: Source, W: Sink, E: Sink>(
     alloc: Global,
     access: &A,
-    request: &ToAig,
+    request: &T,
     input: &mut R,
     output: &mut W,
     errors: &mut E,
@@ -39,15 +40,23 @@ fn run_conversion<A: FileAccess, R: Source, W: Sink, E: Sink>(
     requires input { R.failed input.old < 2 ^ 64 - 1 }
     requires output { W.failed output.old < 2 ^ 64 - 1 }
     requires errors { E.failed errors.old < 2 ^ 64 - 1 }
-    requires kept_alone { IsKeptAlone request.now }
-    ensures ends { ConversionEnds request.now (files_by_name (A.holds access.now) (A.made access.now))
+    requires can_do { T.can_do request.now }
+    ensures ends { EndsBetween (T.source_name request.now) (T.destination_name request.now)
+        (DoneBetween (files_by_name (A.holds access.now) (A.made access.now))
+        (T.source_name request.now) (T.destination_name request.now)
+        (source_use R.coming R.failed input.old input.new)
+        (sink_use W.taken W.longest W.failed output.old output.new) (T.done request.now))
+        (λ error. NotDoneBetween (files_by_name (A.holds access.now) (A.made access.now))
+        (T.source_name request.now) (T.destination_name request.now)
+        (source_use R.coming R.failed input.old input.new)
+        (sink_use W.taken W.longest W.failed output.old output.new) (T.not_done request.now error))
         (source_use R.coming R.failed input.old input.new)
         (sink_use W.taken W.longest W.failed output.old output.new)
         (sink_use E.taken E.longest E.failed errors.old errors.new) result }
     ensures short { W.longest output.new ≤ max (W.longest output.old) ROOM }
     ensures reported_short { E.longest errors.new ≤ max (E.longest errors.old) ROOM }
 {
-    match convert(alloc, access, request, input, output) {
+    match run_between(alloc, access, request, input, output) {
         Ok(()) => DONE,
         Err(fault) => {
             report_error(errors, request, &fault);
@@ -144,7 +153,10 @@ pub fn serve<A: FileAccess, R: Source, W: Sink, E: Sink>(
 {
     match command(alloc, words) {
         Ok(Command::ToAig(request)) => {
-            run_conversion(alloc, access, &request, input, output, errors)
+            run_reporting(alloc, access, &request, input, output, errors)
+        }
+        Ok(Command::Unroll(request)) => {
+            run_reporting(alloc, access, &request, input, output, errors)
         }
         Ok(Command::Sim(request)) => {
             run_simulation(alloc, access, &request, input, output, errors)

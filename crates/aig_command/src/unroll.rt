@@ -1,0 +1,47 @@
+//! What the arguments of `aigunroll` ask for.
+ghost use Rattle.std.specs.Prelude.{◌≡◌, ◌≤◌, IfOk};
+ghost use Rattle.clap.specs.Words.{found_of, rows_of};
+ghost use Rattle.aig_command.specs.Answer.{CanDo, HasFrames, IsAnswer, unrolling_of};
+ghost use Rattle.aig_command.specs.Asked.{aigunroll, frames, unrolling};
+
+use crate::destination::{check_destination, wants_ascii};
+use crate::options::{file, limit, number};
+use crate::request::{Command, Unroll};
+use crate::usage::Usage;
+use clap::ArgMatches;
+use std::alloc::{AllocError, Global};
+
+/// The number of frames that `--frames` sets.
+fn frames(matches: &ArgMatches<'_>) -> u32
+    ensures number { result ≡ frames (rows_of (found_of matches.now)) }
+    ensures range { (1 ≤ result) × (result ≤ 1000000) }
+{
+    // `clap` takes no other number; that it does is not known from its matches alone.
+    number(matches, "frames", 1).min(1_000_000).max(1)
+}
+
+/// The unrolling that the arguments name.
+fn unrolling(alloc: Global, matches: &ArgMatches<'_>) -> Result<Unroll, AllocError>
+    ensures request { IfOk result (λ request. unrolling_of request ≡ unrolling (rows_of (found_of matches.now))) }
+    ensures frames { IfOk result HasFrames }
+{
+    let source = file(alloc, matches, "source")?;
+    let destination = file(alloc, matches, "destination")?;
+    Ok(Unroll {
+        frames: frames(matches),
+        ascii: wants_ascii(matches, &destination),
+        max_var: limit(matches),
+        source,
+        destination,
+    })
+}
+
+/// What the arguments of `aigunroll` ask for.
+pub(crate) fn aigunroll(alloc: Global, matches: &ArgMatches<'_>) -> Result<Command, Usage>
+    ensures answer { IsAnswer (aigunroll (rows_of (found_of matches.now))) result }
+    ensures can_do { IfOk result CanDo }
+{
+    let request = unrolling(alloc, matches)?;
+    check_destination(&request.destination)?;
+    Ok(Command::Unroll(request))
+}
