@@ -61,15 +61,15 @@ Examples, of a model with two inputs:
 const UNROLL_ABOUT: &str = "Unroll a circuit over time frames, as one circuit without latches";
 
 const UNROLL_AFTER: &str = "\
-The inputs that are written are one for the first value of each latch without
-an initial value, and then those of each frame. The outputs follow frame by
-frame. A bad state of a frame holds only where all constraints held in that
-frame and in those before it. There are no symbols and no comment.
+The inputs written are one for the first value of each latch without an initial
+value, and then those of each frame. The outputs follow frame by frame, and so
+do the bad states, each of which holds only where all constraints held in its
+frame and in those before. There are no symbols and no comment.
 
 The output is ASCII where --ascii is given or the name of the destination ends
 in .aag, and else binary. A circuit with justice properties or fairness
 constraints is refused. Nothing is written before the whole circuit was read
-and only the destination can fail, so the destination may be the source.
+and only the destination can still fail, so the destination may be the source.
 
 Exit status:
   0  done, also for --help

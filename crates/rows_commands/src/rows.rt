@@ -1,5 +1,5 @@
 //! Command lines and what is answered to them.
-use aig_command::{Command, Sim, ToAig, Usage, command};
+use aig_command::{Command, Sim, ToAig, Unroll, Usage, command};
 use std::alloc::{AllocError, Global};
 use std::test::Fail;
 
@@ -48,6 +48,29 @@ aigsim aigtoaig help => 2147483647 aigtoaig help;\
 aigsim -- --properties --help => 2147483647 --properties --help;\
 aigsim --properties -- -m => properties 2147483647 -m -";
 
+/// Arguments after the program's name, and what they ask for: the frames of the unrolling, its option, its limit, its
+/// source and its destination.
+const UNROLLINGS: &str = "\
+aigunroll --frames 1 => 1 2147483647 - -;\
+aigunroll --frames 1000000 => 1000000 2147483647 - -;\
+aigunroll --frames=20 a.aig => 20 2147483647 a.aig -;\
+aigunroll --frames 01 => 1 2147483647 - -;\
+aigunroll --frames +0000020 => 20 2147483647 - -;\
+aigunroll a.aig --frames 2 b.aig => 2 2147483647 a.aig b.aig;\
+aigunroll a.aig b.aag --frames 2 => 2 ascii 2147483647 a.aig b.aag;\
+aigunroll --frames 2 - b.aag => 2 ascii 2147483647 - b.aag;\
+aigunroll --frames 2 a.aag => 2 2147483647 a.aag -;\
+aigunroll --frames 2 a.aag b.AAG => 2 2147483647 a.aag b.AAG;\
+aigunroll --frames 2 a.aig aag => 2 2147483647 a.aig aag;\
+aigunroll --ascii --frames 2 - - => 2 ascii 2147483647 - -;\
+aigunroll --ascii --frames 2 a b.aig => 2 ascii 2147483647 a b.aig;\
+aigunroll --max-var 7 --frames 3 => 3 7 - -;\
+aigunroll --frames 3 --max-var=0 a => 3 0 a -;\
+aigunroll --frames 2 a.gz => 2 2147483647 a.gz -;\
+aigunroll --frames 2 aigsim help => 2 2147483647 aigsim help;\
+aigunroll --frames 2 - <> => 2 2147483647 - <>;\
+aigunroll --frames 2 -- --frames --help => 2 2147483647 --frames --help";
+
 /// Arguments after the program's name, and why they are refused (`words` where `clap` refuses them); or that they ask
 /// for help.
 const REFUSALS: &str = "\
@@ -63,6 +86,8 @@ aigtoaig --ascii - .gz => compressed output is not supported;\
 aigsim - => model and stimulus are both standard input;\
 aigsim - - => model and stimulus are both standard input;\
 aigsim --properties --max-var 7 -- - => model and stimulus are both standard input;\
+aigunroll --frames 2 - x.aig.gz => compressed output is not supported;\
+aigunroll --ascii --frames 2 a.aag .gz => compressed output is not supported;\
 aigtoaig --help => help;\
 aigtoaig -h => help;\
 --help => help;\
@@ -73,6 +98,9 @@ aigsim --help => help;\
 aigsim -h => help;\
 aigsim - --help => help;\
 aigsim --properties m s --help t => help;\
+aigunroll --help => help;\
+aigunroll -h => help;\
+aigunroll --frames 2 - b.gz --help => help;\
 aigtoaig a b c => words;\
 aigtoaig --ascii --ascii => words;\
 aigtoaig --max-var => words;\
@@ -88,6 +116,7 @@ aigtoaig --Help => words;\
 aigtoaig -x => words;\
 aigtoaig --version => words;\
 aigtoaig --properties => words;\
+aigtoaig --frames 2 => words;\
 aigsim => words;\
 aigsim --properties => words;\
 aigsim m s t => words;\
@@ -107,16 +136,49 @@ aigsim --keep-map m => words;\
 aigsim --undo-map m => words;\
 aigsim --batch m => words;\
 aigsim --witness m s => words;\
+aigsim --frames 2 m => words;\
 aigsim -x => words;\
+aigunroll => words;\
+aigunroll a.aig b.aig => words;\
+aigunroll --ascii --max-var 7 => words;\
+aigunroll - x.gz => words;\
+aigunroll --frames => words;\
+aigunroll --frames= => words;\
+aigunroll --frames 0 => words;\
+aigunroll --frames 0 - x.gz => words;\
+aigunroll --frames 1000001 => words;\
+aigunroll --frames 4294967297 => words;\
+aigunroll --frames=-1 => words;\
+aigunroll --frames x => words;\
+aigunroll --frames <> => words;\
+aigunroll --frames 2x => words;\
+aigunroll --frames 1 --frames 1 => words;\
+aigunroll --frame 2 => words;\
+aigunroll -- --frames 2 => words;\
+aigunroll -k 2 => words;\
+aigunroll --frames 2 --max-var 2147483648 => words;\
+aigunroll --frames 2 --max-var => words;\
+aigunroll --frames 2 --ascii --ascii => words;\
+aigunroll --frames 2 --ascii=yes => words;\
+aigunroll --frames 2 --strip => words;\
+aigunroll --frames 2 --keep-map => words;\
+aigunroll --frames 2 --undo-map => words;\
+aigunroll --frames 2 --properties => words;\
+aigunroll --frames 2 --batch => words;\
+aigunroll --frames 2 a b c => words;\
+aigunroll --frames 2 - - - => words;\
 help => words;\
 help aigtoaig => words;\
 help aigsim => words;\
+help aigunroll => words;\
 aigtoai => words;\
 aigsi => words;\
 aigsimm m => words;\
 AIGTOAIG => words;\
 AIGSIM m => words;\
-aigunroll => words;\
+aigunrol --frames 2 => words;\
+AIGUNROLL --frames 2 => words;\
+--frames 2 aigunroll => words;\
 --ascii aigtoaig => words;\
 --properties aigsim m => words;\
 <> => words";
@@ -166,11 +228,22 @@ fn shown_simulation(alloc: Global, request: &Sim) -> Result<String, AllocError> 
     format!(in alloc; "{properties}{limit} {model} {stimulus}")
 }
 
+/// An unrolling, as a row shows it.
+fn shown_unrolling(alloc: Global, request: &Unroll) -> Result<String, AllocError> {
+    let frames = request.frames;
+    let ascii = if request.ascii { "ascii " } else { "" };
+    let source = shown(&request.source);
+    let destination = shown(&request.destination);
+    let limit = request.max_var;
+    format!(in alloc; "{frames} {ascii}{limit} {source} {destination}")
+}
+
 /// What is answered to arguments, as a row shows it.
 fn answer(alloc: Global, words: &[String]) -> Result<String, AllocError> {
     match command(alloc, words) {
         Ok(Command::ToAig(request)) => shown_conversion(alloc, &request),
         Ok(Command::Sim(request)) => shown_simulation(alloc, &request),
+        Ok(Command::Unroll(request)) => shown_unrolling(alloc, &request),
         Ok(Command::Help(_)) => String::from_str(alloc, "help"),
         Err(Usage::Words(_)) => String::from_str(alloc, "words"),
         Err(usage) => format!(in alloc; "{usage}"),
@@ -205,6 +278,13 @@ fn simulations(rt: HostRuntime) -> Result<(), Fail> {
 }
 
 #[test]
+fn unrollings(rt: HostRuntime) -> Result<(), Fail> {
+    let wrong = first_wrong(rt.alloc(), UNROLLINGS)?;
+    assert!(rt; wrong.is_none(), "{wrong:?}");
+    Ok(())
+}
+
+#[test]
 fn refusals(rt: HostRuntime) -> Result<(), Fail> {
     let wrong = first_wrong(rt.alloc(), REFUSALS)?;
     assert!(rt; wrong.is_none(), "{wrong:?}");
@@ -231,7 +311,13 @@ fn help(alloc: Global, line: &str) -> Result<String, Fail> {
 
 #[test]
 fn help_fits_a_terminal(rt: HostRuntime) -> Result<(), Fail> {
-    for line in ["--help", "aigtoaig --help", "aigsim --help"].iter() {
+    let lines = [
+        "--help",
+        "aigtoaig --help",
+        "aigsim --help",
+        "aigunroll --help",
+    ];
+    for line in lines.iter() {
         let text = help(rt.alloc(), line)?;
         assert!(rt; longest(text.as_str()) <= 80, "{text}");
     }
