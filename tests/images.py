@@ -50,9 +50,9 @@ def literals(chance, literal, most):
     return [literal() for _ in range(chance.randrange(most))]
 
 
-def circuit(chance, may_be_cyclic=False):
+def circuit(chance, may_be_cyclic=False, most_latches=3):
     """A circuit made by chance."""
-    inputs, latches, count = (chance.randrange(most) for most in (5, 4, 12))
+    inputs, latches, count = (chance.randrange(most) for most in (5, most_latches + 1, 12))
     total = inputs + latches + count
     largest = chance.choice([total + 3, 1000, 2147483647])
     variables = chance.sample(range(1, largest + 1), total)
@@ -179,11 +179,15 @@ def renumbered(made):
     )
 
 
-def image(made):
-    it = renumbered(made)
+def binary_text(it):
+    """The text of a circuit in binary order."""
     lines = [header("aig", it), *next_lines(it, [2 * variable for variable in it.latches]), *literal_lines(it)]
     deltas = b"".join(spelled(own - left) + spelled(left - right) for own, left, right in it.gates)
     return ("\n".join(lines) + "\n").encode() + deltas + tail(it).encode()
+
+
+def image(made):
+    return binary_text(renumbered(made))
 
 
 def mapped_image(made):

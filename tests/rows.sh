@@ -47,8 +47,9 @@ finish() {
     exit
 }
 
-# the rows of aigsim
+# the rows of aigsim, and of aigunroll
 . "$top/tests/trace_rows.sh"
+. "$top/tests/unroll_rows.sh"
 
 # digits COUNT DIGIT
 digits() { printf "%$1s" '' | tr ' ' "$2"; }
@@ -106,6 +107,7 @@ rows() {
     rows_blocks
     rows_forged
     rows_traces
+    rows_unrolled
     rows_words
 }
 
@@ -960,7 +962,7 @@ rows_words() {
     local usage='\n\nUsage: aiger <COMMAND>' one='\n\nUsage: aiger aigtoaig'
     local every="$one [OPTIONS] [source] [destination]" small='aag 3 1 1 2 0\n6\n2 7\n2\n0\n'
     local image='aig 1 1 0 1 0\n3\nc\naigmap 1 9 1 0 0 0\n9\naigmap end\n' undone='aag 9 1 0 1 0\n18\n19\n'
-    misused 'no words' "'aiger' requires a subcommand but one was not provided\n  [subcommands: aigtoaig, aigsim]$usage"
+    misused 'no words' "'aiger' requires a subcommand but one was not provided\n  [subcommands: aigtoaig, aigsim, aigunroll]$usage"
     missing 'a word after the subcommand' none/x aigtoaig none/x
     missing 'a word behind ASCII' none/x aigtoaig --ascii none/x
     missing 'an empty word behind ASCII' '' aigtoaig --ascii ''
@@ -978,9 +980,9 @@ rows_words() {
     misused 'one word of two' \
         "unrecognized subcommand 'aigtoaig --ascii'\n\n  tip: a similar subcommand exists: 'aigtoaig'$usage" 'aigtoaig --ascii'
     row 'help' 'aag 0 0 0 0 0\n' "$(cat "$top/docs/help.txt")\n" '' 0 --help
-    misused 'another subcommand' "unrecognized subcommand 'aigunroll'$usage" aigunroll --ascii
-    misused 'a subcommand that is close to two' \
-        "unrecognized subcommand 'aigsom'\n\n  tip: some similar subcommands exist: 'aigtoaig', 'aigsim'$usage" aigsom x
+    misused 'another subcommand' "unrecognized subcommand 'convert'$usage" convert --ascii
+    misused 'a subcommand that is close to all of them' \
+        "unrecognized subcommand 'aigsom'\n\n  tip: some similar subcommands exist: 'aigunroll', 'aigtoaig', 'aigsim'$usage" aigsom x
     local sim='\n\nUsage: aiger aigsim'
     local all="$sim [OPTIONS] <model> [stimulus]"
     misused 'no model' "the following required arguments were not provided:\n  <model>$sim <model> [stimulus]" aigsim
