@@ -325,10 +325,101 @@ if [ "$(cat "$work/told")" = 'aiger: out of memory' ]; then pass; else
     fail 'a model too large for the memory' "came   $(cat "$work/told")"
 fi
 
+# --- unrolling ---
+unroll() { "$program" aigunroll --frames "$@"; }
+printf '%b' 'aag 0 0 0 0 0 0 0 1\n0\n' > "$work/live"
+wants '' 'aiger: -: cannot write\n' 1
+check 'an unrolled circuit into a closed standard output' output_closed unroll 2 < "$work/toggle"
+check 'an unrolled circuit into a full standard output' output_full unroll 2 < "$work/toggle"
+: > "$work/out"
+unroll 1000000 < "$work/toggle" 2> "$work/err" | head -c 1 > "$work/first"
+judge 'an unrolled circuit into a pipe that nobody reads any more' "${PIPESTATUS[0]}"
+wants '' 'aiger: -: cannot read\n' 1
+check 'a directory as standard input, to unroll' unroll 2 < "$work"
+check 'a closed standard input, to unroll' unroll 2 <&-
+wants '' 'aiger: -: justice or fairness cannot be unrolled\n' 1
+check 'a refusal to unroll, with a closed standard output' output_closed unroll 2 < "$work/live"
+check 'a refusal to unroll, with a full standard output' output_full unroll 2 < "$work/live"
+wants '' '' 1
+check 'a refusal to unroll, with a closed standard error' errors_closed unroll 2 < "$work/live"
+wants 'aig 0 0 0 4 0\n0\n1\n1\n0\n' '' 0
+unroll 2 < "$work/toggle" 2> "$work/err" | cat > "$work/out"
+judge 'an unrolled circuit into a pipe' "${PIPESTATUS[0]}"
+
+# carried GATES: a chain of gates over the input, which begins at a latch that starts at 1 and ends as its next state
+carried() {
+    printf 'aag %d 1 1 1 %d\n2\n4 %d 1\n%d\n' $(($1 + 2)) "$1" $((2 * $1 + 4)) $((2 * $1 + 4))
+    seq "$1" | awk '{ print 2 * $1 + 4, 2 * $1 + 2, 2 }'
+}
+# carried_on GATES FRAMES: the same unrolled. The chain goes on from frame to frame, over another input in each.
+carried_on() {
+    awk -v gates="$1" -v frames="$2" 'BEGIN {
+        printf "aag %d %d 0 %d %d\n", frames + frames * gates, frames, frames, frames * gates
+        for (frame = 1; frame <= frames; frame++) print 2 * frame
+        for (frame = 1; frame <= frames; frame++) print 2 * (frames + frame * gates)
+        print 2 * (frames + 1), 2, 1
+        for (gate = 2; gate <= frames * gates; gate++)
+            print 2 * (frames + gate), 2 * (frames + gate - 1), 2 * int((gate - 1) / gates) + 2
+    }'
+}
+wants '' '' 0
+carried 20000 > "$work/in"
+carried_on 20000 50 > "$work/want_out"
+check '20,000 gates over 50 frames in 10 MB of memory' within 10240 "$program" aigunroll --frames 50 --ascii < "$work/in"
+within 10240 "$program" aigunroll --frames 50 < "$work/in" 2> "$work/err" | convert 2> /dev/null > "$work/out"
+judge '20,000 gates over 50 frames in 10 MB of memory, to binary' "${PIPESTATUS[0]}"
+
+# least_memory WORD..: how many kilobytes the words need over the file in, up to 128 more than that
+least_memory() {
+    local enough=65536 few=1024 between
+    while [ $((enough - few)) -gt 128 ]; do
+        between=$(((enough + few) / 2))
+        if within "$between" "$@" < "$work/in" > /dev/null 2>&1; then enough=$between; else few=$between; fi
+    done
+    echo "$enough"
+}
+# needs_no_more NAME WORD..: 50 frames need no more memory than one does
+needs_no_more() {
+    local name=$1 one
+    shift
+    one=$(least_memory "$program" aigunroll --frames 1 "$@")
+    if [ "$one" -lt 65536 ] && within $((one + 256)) "$program" aigunroll --frames 50 "$@" < "$work/in" > /dev/null 2>&1; then pass; else
+        fail "$name" "wanted 50 frames in $((one + 256)) KB, since one needs $one KB"
+    fi
+}
+carried 100000 > "$work/in"
+needs_no_more '100,000 gates over 50 frames need as much memory as over one'
+needs_no_more '100,000 gates over 50 frames need as much memory as over one, in ASCII' --ascii
+# a bad state and a constraint for each latch, each of which is uninitialised and gets the value of the next
+awk 'BEGIN {
+    count = 10000
+    printf "aag %d 0 %d %d 0 %d %d\n", count, count, count, count, count
+    for (i = 1; i <= count; i++) print 2 * i, 2 * (i % count + 1), 2 * i
+    for (i = 1; i <= 3 * count; i++) print 2 * (i % count + 1)
+}' > "$work/in"
+needs_no_more '10,000 latches, outputs, bad states and constraints over 50 frames need as much memory as over one'
+
+# the largest circuits that there may be, and their first lines
+{ printf 'aig 8191 4096 4095 0 0\n'; seq -f '0 %.0f' 8194 2 16382; } > "$work/in"
+wants 'aig 2147483647 2147483647 0 0 0\n' '' 0
+check 'as many variables as there may be' within 204800 "$program" aigunroll --frames 524287 < "$work/in"
+# begins NAME LINE: the file in over 524,287 frames
+begins() {
+    wants "$2\n" '' 0
+    : > "$work/err"
+    within 204800 "$program" aigunroll --frames 524287 --ascii < "$work/in" 2> /dev/null | head -n 1 > "$work/out"
+    judge "$1" "${PIPESTATUS[1]}"
+}
+{ printf 'aag 0 0 0 4096 0\n'; yes 0 2> /dev/null | head -n 4096; } > "$work/in"
+begins 'nearly as many outputs as there may be' 'aag 0 0 0 2147479552 0'
+{ printf 'aag 0 0 0 0 0 4096\n'; yes 0 2> /dev/null | head -n 4096; } > "$work/in"
+begins 'nearly as many bad states as there may be' 'aag 2147479552 0 0 0 2147479552 2147479552'
+
 # --- circuits made by chance ---
 wants '' '' 0
 check 'binary images of circuits made by chance, and their maps' "$top/tests/images.py" "$program"
 check 'traces of circuits made by chance, of their images and of what is undone' "$top/tests/traces.py" "$program"
+check 'circuits made by chance, unrolled' "$top/tests/unrolled.py" "$program"
 
 # --- the examples ---
 # some_steps INPUTS: two runs of 20 steps, which look made by chance

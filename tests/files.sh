@@ -280,6 +280,83 @@ check 'a model and a stimulus that may only be read' sim "$source" "$files/steps
 chmod 644 "$source" "$files/steps"
 if cmp -s "$source" "$work/before" && cmp -s "$files/steps" "$work/before_steps"; then pass; else fail 'neither is changed'; fi
 
+# --- an unrolled circuit between files with names ---
+held=$files/held.aag
+printf 'aag 3 1 1 1 1\n2\n4 6\n6\n6 2 5\ni0 hold\nc\nheld' > "$held"
+printf 'aag 4 2 0 2 2\n2\n4\n6\n8\n6 2 1\n8 7 4\n' > "$work/frames"
+printf 'aig 4 2 0 2 2\n6\n8\n\004\001\001\003' > "$work/binary_frames"
+cp "$work/binary_frames" "$work/want_file"
+made 'unrolled to a file' "$files/u.aig" unroll 2 "$held" "$files/u.aig"
+made 'unrolled from standard input to a file' "$files/v.aig" unroll 2 - "$files/v.aig" < "$held"
+made 'unrolled to a name without an ending' "$files/unrolled" unroll 2 "$held" "$files/unrolled"
+made 'unrolled to an ending in capitals, which is no .aag' "$files/u.AAG" unroll 2 "$held" "$files/u.AAG"
+made 'unrolled, names behind --' "$files/w.aig" unroll 2 -- "$held" "$files/w.aig"
+aig "$held" "$files/held.aig"
+made 'unrolled from a binary file' "$files/x.aig" unroll 2 "$files/held.aig" "$files/x.aig"
+made 'a file as source and destination, unrolled' "$files/held.aig" unroll 2 "$files/held.aig" "$files/held.aig"
+cp "$work/frames" "$work/want_file"
+made 'unrolled to a name that ends in .aag' "$files/u.aag" unroll 2 "$held" "$files/u.aag"
+made 'unrolled with --ascii to any name' "$files/unrolled" unroll 2 --ascii "$held" "$files/unrolled"
+made 'unrolled, options behind names' "$files/unrolled" "$program" aigunroll "$held" "$files/unrolled" --ascii --frames=2 --max-var 3
+cp "$held" "$files/same.aag"
+made 'a file as source and destination, unrolled to ASCII' "$files/same.aag" unroll 2 "$files/same.aag" "$files/same.aag"
+wants '' '' 0
+cp "$work/binary_frames" "$work/want_out"
+check 'unrolled from a file to standard output' unroll 2 "$held"
+check 'unrolled from a file to -' unroll 2 "$held" -
+cp "$work/frames" "$work/want_out"
+check 'unrolled from a file to standard output in ASCII' unroll 2 "$held" --ascii
+
+printf 'aag 0 0 0 0 0 0 0 0 1\n1\n' > "$files/live.aag"
+printf 'aig 2148 2148 0 0 0\n' > "$files/large.aig"
+wants '' "aiger: $files/live.aag: justice or fairness cannot be unrolled\n" 1
+untouched 'a circuit that cannot be unrolled' "$files/u.aig" unroll 2 "$files/live.aag" "$files/u.aig"
+untouched 'a circuit that cannot be unrolled, as destination' "$files/live.aag" unroll 2 "$files/live.aag" "$files/live.aag"
+wants '' "aiger: $files/large.aig: too large to unroll\n" 1
+untouched 'a circuit that is too large to unroll' "$files/u.aig" unroll 1000000 "$files/large.aig" "$files/u.aig"
+wants '' "aiger: $files/short.aag: line 2: file ends too early\n" 1
+untouched 'a refused source to unroll' "$files/u.aig" unroll 2 "$files/short.aag" "$files/u.aig"
+wants '' "aiger: $held: line 1: number above the limit\n" 1
+untouched 'a limit that is passed, to unroll' "$files/u.aig" unroll 2 --max-var 2 "$held" "$files/u.aig"
+wants '' 'aiger: -: line 1: not an AIGER file\n' 1
+untouched 'a refused standard input to unroll' "$files/u.aig" unroll 2 - "$files/u.aig" < /dev/null
+wants '' 'aiger: out of memory\n' 1
+untouched 'a device without an end to unroll' "$files/u.aig" within 20480 "$program" aigunroll --frames 2 /dev/full "$files/u.aig"
+wants '' "aiger: $files/none.aag: cannot read\n" 1
+untouched 'a file to unroll that is not there' "$files/u.aig" unroll 2 "$files/none.aag" "$files/u.aig"
+check 'neither can be opened to unroll' unroll 2 "$files/none.aag" "$files/none/u.aig"
+wants '' "aiger: $files: cannot read\n" 1
+untouched 'a folder to unroll' "$files/u.aig" unroll 2 "$files" "$files/u.aig"
+rm -f "$files/none.aig"
+wants '' "aiger: $files/live.aag: justice or fairness cannot be unrolled\n" 1
+check 'a circuit that cannot be unrolled, and a new file' unroll 2 "$files/live.aag" "$files/none.aig"
+check 'and a folder that is not there' unroll 2 "$files/live.aag" "$files/none/u.aig"
+if [ ! -e "$files/none.aig" ]; then pass; else fail 'no file is made for a circuit that cannot be unrolled'; fi
+# cannot_unroll_to NAME FILE
+cannot_unroll_to() {
+    wants '' "aiger: $2: cannot write\n" 1
+    check "$1 to unroll to" unroll 2 "$held" "$2"
+}
+cannot_unroll_to 'a folder' "$files"
+cannot_unroll_to 'an empty name' ''
+cannot_unroll_to 'a folder that is not there' "$files/none/u.aig"
+cannot_unroll_to 'a full device' /dev/full
+limited_frames() { ( trap '' XFSZ; ulimit -f 16 && exec "$program" aigunroll --frames 5000 "$held" "$files/limited.aag" ); }
+wants '' "aiger: $files/limited.aag: cannot write\n" 1
+check 'an unrolled file above the limit on sizes' limited_frames
+unroll 5000 --ascii "$held" > "$work/long_frames"
+if [ -s "$files/limited.aag" ] && cmp -s -n "$(stat -c %s "$files/limited.aag")" "$files/limited.aag" "$work/long_frames"; then pass; else
+    fail 'what was written of an unrolled file is a beginning'
+fi
+if [ -e "$work/fail_sync.so" ]; then
+    wants '' "aiger: $files/u.aig: cannot write\n" 1
+    check 'an unrolled file that is not kept' eval 'LD_PRELOAD=$work/fail_sync.so unroll 2 "$held" "$files/u.aig"'
+fi
+cp "$work/binary_frames" "$work/want_file"
+made 'all streams closed, and two files to unroll' "$files/u.aig" streams_closed unroll 2 "$held" "$files/u.aig"
+wants 'rest\n' '' 0
+check 'standard input is left alone where a file to unroll is named' eval 'unroll 2 "$held" "$files/u.aig" && cat' <<< 'rest'
+
 # --- pipes with names ---
 mkfifo "$files/pipe"
 cat "$source" > "$files/pipe" &
@@ -307,6 +384,14 @@ check 'pipes as model and as stimulus' sim "$files/model_pipe" "$files/pipe"
 wait
 wants '' "aiger: $files/short.aag: line 2: file ends too early\n" 1
 check 'no stimulus is waited for where a model is refused' timeout 10 "$program" aigsim "$files/short.aag" "$files/pipe"
+wants '' "aiger: $files/live.aag: justice or fairness cannot be unrolled\n" 1
+check 'no pipe is waited for where nothing is unrolled' timeout 10 "$program" aigunroll --frames 2 "$files/live.aag" "$files/pipe"
+cat "$held" > "$files/model_pipe" &
+cat "$files/pipe" > "$work/through" &
+wants '' '' 0
+check 'pipes as source and destination, to unroll' unroll 2 "$files/model_pipe" "$files/pipe"
+wait
+if cmp -s "$work/through" "$work/binary_frames"; then pass; else fail 'what came unrolled through the pipe'; fi
 
 # --- names that look like options, and many or long arguments ---
 cd "$files" || exit
@@ -345,6 +430,11 @@ refused 'three names' 'c' aigtoaig a b c
 refused 'a model that is not named' 'model' aigsim
 refused 'three names to simulate' 'c' aigsim a b c
 refused 'an option that a simulation does not have' '--ascii' aigsim --ascii a
+refused 'frames that are not given' '--frames' aigunroll a b
+refused 'no frames at all' '0 is not in 1..=1000000' aigunroll --frames 0
+refused 'too many frames' '1000001 is not in 1..=1000000' aigunroll --frames 1000001
+refused 'three names to unroll' 'c' aigunroll --frames 1 a b c
+refused 'an option that unrolling does not have' '--properties' aigunroll --frames 1 --properties
 refused 'no subcommand' 'aigtoaig'
 refused 'an unknown subcommand' 'aigsom' aigsom
 refused 'no help as a subcommand' 'help' help
@@ -355,6 +445,7 @@ refused 'a map of a stripped circuit' 'aiger: --keep-map excludes --strip' aigto
 refused 'a map kept and undone' 'aiger: --keep-map excludes --undo-map' aigtoaig --keep-map --undo-map
 refused 'one stream for model and stimulus' 'aiger: model and stimulus are both standard input' aigsim -
 refused 'a compressed destination' 'aiger: compressed output is not supported' aigtoaig - x.aig.gz
+refused 'a compressed destination to unroll to' 'aiger: compressed output is not supported' aigunroll --frames 1 - x.aag.gz
 
 # --- help ---
 # each line of help has at most 80 columns, and nothing else comes
@@ -387,9 +478,19 @@ grep '^  printf \|^  aiger aigsim ' "$work/out" | sed 's/aiger aigsim /"$program
 simulation_examples() { ( cd "$files" && set -e && . "$work/examples" ); }
 wants ' 10 10 \n 1x xx \n.\n 10 10   \n.\n 1x xx   \n.\n 10 10 \n.\n 1x xx \n.\n' '' 0
 check 'the examples of help of aigsim run' simulation_examples
+helps 'help of aigunroll' aigunroll --help
+# its examples too; the half adder has no latches, so each frame is a copy of it
+grep '^  aiger aigunroll ' "$work/out" | sed 's/^  aiger/"$program"/; s/   .*//' > "$work/examples"
+unroll 20 "$files/model.aig" > "$work/want_file"
+unroll 2 "$files/model.aag" --ascii > "$work/frames"
+ran=$(cd "$files" && set -e && . "$work/examples" 2>&1 && echo all)
+if [ "$ran" = all ] && [ "$(wc -l < "$work/examples")" = 3 ] && cmp -s "$files/long.aig" "$work/want_file" &&
+    cmp -s "$files/out" "$work/want_file" && cmp -s "$files/two.aag" "$work/frames"; then pass; else
+    fail 'the examples of help of aigunroll run' "came   $ran, of" "$(cat "$work/examples")"
+fi
 # the manual page has the same options
 options() { grep -o -- '--[a-z][a-z-]*' | sort -u; }
-{ "$program" aigtoaig --help; "$program" aigsim --help; } | options > "$work/help_options"
+{ "$program" aigtoaig --help; "$program" aigsim --help; "$program" aigunroll --help; } | options > "$work/help_options"
 sed 's/Fl \\-/--/g; s/\\-/-/g' "$top/man/aiger.1" | options > "$work/man_options"
 wants '' '' 0
 cp "$work/help_options" "$work/want_out"

@@ -87,7 +87,7 @@ check 'a refusal by the launcher' launch aigtoaig --ascii < /dev/null
 wants "$stored" '' 0
 check 'help by the launcher, once the program is linked' launch --help
 again="\n\nUsage: aiger <COMMAND>\n\nFor more information, try '--help'.\n"
-wants '' "error: 'aiger' requires a subcommand but one was not provided\n  [subcommands: aigtoaig, aigsim]$again" 2
+wants '' "error: 'aiger' requires a subcommand but one was not provided\n  [subcommands: aigtoaig, aigsim, aigunroll]$again" 2
 check 'no words to the launcher' launch
 wants '' "error: unrecognized subcommand 'aigtoaig --ascii'\n\n  tip: a similar subcommand exists: 'aigtoaig'$again" 2
 check 'one word of two to the launcher' launch 'aigtoaig --ascii'

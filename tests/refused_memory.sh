@@ -130,6 +130,24 @@ refuses 'a name of the first justice property again at the end' "$(every 30)\nj0
 twice="aag 1001 1001 0 0 0\n$(seq 2 2 2000)\n2\n"
 refuses 'the first of 1,000 inputs again at the end' "$twice" 'variable 1 defined twice'
 
+# shifted LATCHES: latches in a row behind an input, each an output; shifted_on: the same over three frames
+shifted() {
+    awk -v latches="$1" 'BEGIN {
+        printf "aag %d 1 %d %d 0\n2\n", latches + 1, latches, latches
+        for (i = 1; i <= latches; i++) print 2 * i + 2, 2 * i
+        for (i = 1; i <= latches; i++) print 2 * i + 2
+    }'
+}
+shifted_on() {
+    awk -v latches="$1" 'BEGIN {
+        printf "aag 3 3 0 %d 0\n2\n4\n6\n", 3 * latches
+        for (frame = 0; frame < 3; frame++) for (i = 1; i <= latches; i++) print i <= frame ? 2 * (frame - i + 1) : 0
+    }'
+}
+for latches in 10 1000; do
+    unrolls "$latches latches over three frames" 3 "$(shifted "$latches")\n" "$(shifted_on "$latches")\n"
+done
+
 # without a single growth refused the table would show nothing
 if [ "$growths" -gt 0 ]; then
     pass
