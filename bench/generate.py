@@ -18,9 +18,13 @@ kinds:
   run-far         a binary file of N gates to simulate, over any places before them, with 64 inputs, latches and outputs
   run-near        the same, over the 60 places before them
   text            10 inputs, and 10 outputs that are these or their negations, to simulate for N steps
+  unroll-far      a binary file of N gates to unroll, over any places before them, with 1,000 inputs, latches and outputs
+  unroll-near     the same, over the 60 places before them
 
 Beside a file to simulate stands its stimulus, in NAME.steps, and the beginning of its trace, in NAME.trace; of text that is
 all of it. The steps of run-far and run-near are so many that all gates of all steps are 300,000,000.
+
+Beside a file to unroll stands what it is over 10 frames, in NAME.unrolled, and the same in ASCII, in NAME.unrolled.ascii.
 
 Each file is canonical and the same on every machine. A conversion to ASCII gives an ASCII file back byte for byte;
 what it gives of a binary file stands beside that, in NAME.aig.ascii. A conversion to binary gives a binary file back
@@ -39,6 +43,8 @@ RUN_ENDS = 64
 RUN_GATES = 300_000_000
 PLAIN_GATES = 2_000_000
 WIDTH = 10
+# of files to unroll: how many frames
+FRAMES = 10
 OUT = os.path.join(os.path.dirname(os.path.abspath(__file__)), "out")
 
 
@@ -223,12 +229,20 @@ def copied_trace(lines):
     yield ".\n"
 
 
+def numbers_of(lines):
+    """Of the lines of a circuit: the header's numbers, and the rows of its sections."""
+    header, *rows = ([int(it) for it in line.split() if it != "aag"] for line in lines)
+    sections = []
+    for count in header[1:]:
+        sections.append(rows[:count])
+        rows = rows[count:]
+    return header, sections
+
+
 def first_of_trace(lines, given):
     """The beginning of a trace, by a plain evaluation of the circuit of these lines, whose gates stand in order."""
-    header, *rows = ([int(it) for it in line.split() if it != "aag"] for line in lines)
-    inputs, latches, outputs = header[1:4]
-    following, ends = [row[1] for row in rows[inputs:][:latches]], [row[0] for row in rows[inputs + latches :][:outputs]]
-    gates = rows[inputs + latches + outputs :]
+    (_, inputs, latches, *_), (_, nexts, ends, gates) = numbers_of(lines)
+    following, ends = [row[1] for row in nexts], [row[0] for row in ends]
     conjunction = {(left, right): min(left, right) for left in (0, 1, 2) for right in (0, 1, 2)}
     state = [0] * latches
     for line in given:
@@ -244,11 +258,37 @@ def first_of_trace(lines, given):
         state = after
 
 
+def unrolled(lines, frames):
+    """A circuit over so many frames, whose gates stand in order: its binary text and its ASCII text."""
+    (_, inputs, latches, outputs, count), (_, nexts, ends, gates) = numbers_of(lines)
+    total, ends_at, gates_at = frames * (inputs + count), [], []
+    state = [0] * latches
+    for frame in range(frames):
+        at = [0, *(2 * (frame * inputs + it) for it in range(1, inputs + 1)), *state]
+        for own, (_, left, right) in enumerate(gates, frames * inputs + frame * count + 1):
+            right, left = sorted((at[left // 2] ^ left % 2, at[right // 2] ^ right % 2))
+            gates_at.append((2 * own, left, right))
+            at.append(2 * own)
+        ends_at += [at[it // 2] ^ it % 2 for it, in ends]
+        state = [at[it // 2] ^ it % 2 for _, it in nexts]
+    header = f"{total} {frames * inputs} 0 {frames * outputs} {frames * count}\n"
+    shown = [f"{it}\n" for it in ends_at]
+    text = bytearray(f"aig {header}{''.join(shown)}", "ascii")
+    for own, left, right in gates_at:
+        text += spelled(own - left) + spelled(left - right)
+    first = [f"{2 * it}\n" for it in range(1, frames * inputs + 1)]
+    return text, [f"aag {header}", *first, *shown, *(f"{own} {left} {right}\n" for own, left, right in gates_at)]
+
+
 RUN_KINDS = {
     "run-far": lambda count: binary(count, count, ends=RUN_ENDS),
     "run-near": lambda count: binary(count, 60, ends=RUN_ENDS),
 }
 SIMULATED = (*RUN_KINDS, "text")
+UNROLLED = {
+    "unroll-far": lambda count: binary(count, count),
+    "unroll-near": lambda count: binary(count, 60),
+}
 BINARY_KINDS = {
     "binary-far": lambda count: binary(count, count),
     "binary-near": lambda count: binary(count, 60),
@@ -268,20 +308,20 @@ KINDS = {
 }
 CONVERTED = [f"{kind}-{count}" for kind in (*KINDS, *BINARY_KINDS) for count in (100_000, 1_000_000)]
 RUNS = [f"{kind}-{count}" for kind in RUN_KINDS for count in (1_000, 10_000, 100_000, 1_000_000)]
-DEFAULT = [*CONVERTED, *RUNS, "text-1000000"]
+DEFAULT = [*CONVERTED, *RUNS, "text-1000000", *(f"{kind}-100000" for kind in UNROLLED)]
 
 
 def file_name(text):
     """A name of the form KIND-N, for argparse."""
     form = re.fullmatch(r"(.+)-(\d+)", text)
-    if not form or form[1] not in (*KINDS, *BINARY_KINDS, *SIMULATED) or not 0 < int(form[2]) <= 10_000_000:
+    if not form or form[1] not in (*KINDS, *BINARY_KINDS, *SIMULATED, *UNROLLED) or not 0 < int(form[2]) <= 10_000_000:
         raise argparse.ArgumentTypeError(f"{text} is no KIND-N, with a kind that --help lists and N from 1 to 10000000")
     return text
 
 
 def path_of(name, folder=OUT):
     """Where the file of that name goes."""
-    return os.path.join(folder, f"{name}.aig" if name.startswith(("binary-", "run-")) else f"{name}.aag")
+    return os.path.join(folder, f"{name}.aig" if name.startswith(("binary-", "run-", "unroll-")) else f"{name}.aag")
 
 
 def ascii_of(path):
@@ -314,6 +354,27 @@ def trace_of(path):
     return f"{path}.trace"
 
 
+def unrolled_of(path):
+    """Where the binary text of the unrolled circuit of a file to unroll stands."""
+    return f"{path}.unrolled"
+
+
+def unrolled_ascii_of(path):
+    """The same of its ASCII text."""
+    return f"{path}.unrolled.ascii"
+
+
+def write_unrolled(kind, count, path):
+    """Writes a file to unroll, with its ASCII text, and what it is unrolled."""
+    text, lines = UNROLLED[kind](count)
+    frames, frames_lines = unrolled(lines, FRAMES)
+    beside = {path: text, ascii_of(path): "".join(lines).encode(), unrolled_of(path): frames}
+    for name, it in {**beside, unrolled_ascii_of(path): "".join(frames_lines).encode()}.items():
+        with open(name, "wb") as file:
+            file.write(it)
+    return path
+
+
 def write_simulated(kind, count, path):
     """Writes a file to simulate, with its stimulus and the beginning of its trace."""
     if kind == "text":
@@ -336,6 +397,8 @@ def write(name, folder=OUT):
     path = path_of(name, folder)
     if kind in SIMULATED:
         return write_simulated(kind, int(count), path)
+    if kind in UNROLLED:
+        return write_unrolled(kind, int(count), path)
     if kind in BINARY_KINDS:
         text, lines = BINARY_KINDS[kind](int(count))
         beside = {image_of(path): text}
@@ -356,12 +419,13 @@ def is_written(name, folder=OUT):
     if name.startswith(SIMULATED):
         return all(map(os.path.isfile, (path, steps_of(path), trace_of(path))))
     beside = [image_of(path), mapped_of(path)] if name.startswith("gates-") else []
+    beside += [unrolled_of(path), unrolled_ascii_of(path)] if name.startswith(tuple(UNROLLED)) else []
     return all(os.path.isfile(it) for it in (path, ascii_of(path), *beside))
 
 
 def main():
     asked = argparse.ArgumentParser(description=__doc__, formatter_class=argparse.RawDescriptionHelpFormatter)
-    sizes = "by default each kind with 100000 and 1000000, run-far and run-near also with 1000 and 10000, text with 1000000"
+    sizes = "by default each kind with 100000 and 1000000, run-far and run-near also with 1000 and 10000, text with 1000000, files to unroll with 100000"
     asked.add_argument("names", metavar="KIND-N", nargs="*", type=file_name, help=sizes)
     asked.add_argument("--folder", default=OUT, help="where the files go, NAME.aag or NAME.aig each (bench/out)")
     given = asked.parse_args()

@@ -44,6 +44,10 @@ class Measurement(NamedTuple):
     has_peer: bool = True
     # How many bytes of memory a line there should be at most.
     aimed_bytes: int = 80
+    # How many lines of its kind a file has for which there are aims.
+    aimed_at: int = AIMED_AT
+    # Where the text stands by whose lines a time is divided; memory is always divided by those of the file that is read.
+    timed_by: Callable = generate.ascii_of
 
 
 TO_BINARY_AIMS = {
@@ -95,6 +99,19 @@ MEASUREMENTS = {
         aimed_bytes=120,
     ),
 }
+
+# the unrolled circuit of an ordered file, which is the same for a peer that orders gates otherwise
+UNROLLED = Measurement(
+    words=f"aigunroll --frames {generate.FRAMES}",
+    kinds=tuple(generate.UNROLLED),
+    wanted=generate.unrolled_of,
+    aims=dict.fromkeys(generate.UNROLLED, 0.5),
+    aimed_bytes=150,
+    aimed_at=100_000,
+    timed_by=generate.unrolled_ascii_of,
+)
+MEASUREMENTS["unroll"] = UNROLLED
+MEASUREMENTS["unroll-ascii"] = UNROLLED._replace(words=f"{UNROLLED.words} --ascii", wanted=generate.unrolled_ascii_of)
 
 
 class Simulation(NamedTuple):
@@ -154,6 +171,10 @@ def peak_bytes(command, source):
 def content(file):
     with open(file, "rb") as it:
         return it.read()
+
+
+def lines_of(file):
+    return content(file).count(b"\n")
 
 
 def is_right(command, source, wanted, scratch):
@@ -251,7 +272,8 @@ def measure(measurement, commands, files, runs):
     """Prints a table. The first command is compared with the second, if there is one."""
     smallest = smallest_source(measurement, commands["aiger"][0])
     floors = [peak_bytes(it, smallest) for it in commands.values()]
-    heads = [f"{it}, ns a line" for it in commands] + ["quotient"] * (len(commands) > 1)
+    unit = "line" if measurement.timed_by is generate.ascii_of else "line written"
+    heads = [f"{it}, ns a {unit}" for it in commands] + ["quotient"] * (len(commands) > 1)
     heads += ["aim"] * bool(measurement.aims) + [f"{it}, bytes a line" for it in commands]
     print(f"`{measurement.words}`\n")
     row("file", "lines", *heads)
@@ -260,15 +282,16 @@ def measure(measurement, commands, files, runs):
     for file in files:
         source = source_of(measurement, commands["aiger"][0], file)
         judge(measurement, commands, file, source)
-        name, lines = os.path.basename(file), content(generate.ascii_of(file)).count(b"\n")
+        name, lines = os.path.basename(file), lines_of(generate.ascii_of(file))
+        timed = lines_of(measurement.timed_by(file))
         times = best_seconds(list(commands.values()), source, runs)
         memory = [max(peak_bytes(it, source) - floor, 0) / lines for it, floor in zip(commands.values(), floors)]
         quotient = times[0] / times[1] if times[1:] else None
         kind, count = kind_and_count(file)
-        aim = measurement.aims.get(kind) if count == AIMED_AT else None
+        aim = measurement.aims.get(kind) if count == measurement.aimed_at else None
         quotients += [quotient] * (quotient is not None)
         missed += missed_aims(name, aim, quotient, memory[0], measurement.aimed_bytes)
-        cells = [f"{it * 1e9 / lines:.1f}" for it in times] + [f"{it:.2f}" for it in quotients[-1:]]
+        cells = [f"{it * 1e9 / timed:.1f}" for it in times] + [f"{it:.2f}" for it in quotients[-1:]]
         cells += [f"{aim or ''}"] * bool(measurement.aims) + [f"{it:.0f}" for it in memory]
         row(name, f"{lines:,}", *cells)
     tell_ends(measurement, commands, floors, quotients, missed, runs)
@@ -349,7 +372,7 @@ def asked():
     for file in given.files:
         if not os.path.isfile(file):
             sys.exit(f"bench/run.py: no such file: {file}")
-        if kind_and_count(file)[0] not in (*generate.KINDS, *generate.BINARY_KINDS, *generate.SIMULATED):
+        if kind_and_count(file)[0] not in (*generate.KINDS, *generate.BINARY_KINDS, *generate.SIMULATED, *generate.UNROLLED):
             sys.exit(f"bench/run.py: no file of bench/generate.py: {file}")
     if given.runs < 1:
         sys.exit("bench/run.py: --runs takes a number from 1")
