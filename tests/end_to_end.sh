@@ -399,17 +399,28 @@ awk 'BEGIN {
 }' > "$work/in"
 needs_no_more '10,000 latches, outputs, bad states and constraints over 50 frames need as much memory as over one'
 
-# the largest circuits that there may be, and their first lines
-{ printf 'aig 8191 4096 4095 0 0\n'; seq -f '0 %.0f' 8194 2 16382; } > "$work/in"
-wants 'aig 2147483647 2147483647 0 0 0\n' '' 0
-check 'as many variables as there may be' within 204800 "$program" aigunroll --frames 524287 < "$work/in"
-# begins NAME LINE: the file in over 524,287 frames
+yes '0
+1
+1
+0' 2> /dev/null | head -n 2000000 > "$work/want_out"
+sed -i '1i aag 0 0 0 2000000 0' "$work/want_out"
+check 'a toggle over as many frames as there may be, in 10 MB of memory' within 10240 "$program" aigunroll --frames 1000000 --ascii \
+    < "$work/toggle"
+
+# begins NAME LINE: the first line of the file in over 524,287 frames; the rest would take long, and is not waited for
 begins() {
+    local from child line=
+    exec {from}< <(ulimit -v 204800 && exec timeout 10 "$program" aigunroll --frames 524287 --ascii < "$work/in" 2> "$work/err")
+    child=$!
+    IFS= read -r -t 10 line <&"$from"
+    kill "$child"
+    exec {from}<&-
+    printf '%s\n' "$line" > "$work/out"
     wants "$2\n" '' 0
-    : > "$work/err"
-    within 204800 "$program" aigunroll --frames 524287 --ascii < "$work/in" 2> /dev/null | head -n 1 > "$work/out"
-    judge "$1" "${PIPESTATUS[1]}"
+    judge "$1" 0
 }
+{ printf 'aig 8191 4096 4095 0 0\n'; seq -f '0 %.0f' 8194 2 16382; } > "$work/in"
+begins 'as many variables as there may be' 'aag 2147483647 2147483647 0 0 0'
 { printf 'aag 0 0 0 4096 0\n'; yes 0 2> /dev/null | head -n 4096; } > "$work/in"
 begins 'nearly as many outputs as there may be' 'aag 0 0 0 2147479552 0'
 { printf 'aag 0 0 0 0 0 4096\n'; yes 0 2> /dev/null | head -n 4096; } > "$work/in"
