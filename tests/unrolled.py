@@ -87,8 +87,21 @@ def unrolled(made, frames):
         for constraint in it.constraints:
             held = conjunction(held, at(frame, constraint))
         bad += [conjunction(held, at(frame, state)) for state in it.bad]
-    variables, none = range(1, before_gates + 1), {"latches": [], "nexts": [], "resets": [], "constraints": [], "symbols": "", "comment": None}
-    return dataclasses.replace(it, largest=before_gates + len(gates), inputs=list(variables), outputs=outputs, bad=bad, gates=gates, **none)
+    return images.Circuit(
+        largest=before_gates + len(gates),
+        inputs=list(range(1, before_gates + 1)),
+        latches=[],
+        nexts=[],
+        resets=[],
+        outputs=outputs,
+        bad=bad,
+        constraints=[],
+        justice=[],
+        fairness=[],
+        gates=gates,
+        symbols="",
+        comment=None,
+    )
 
 
 def frames_as_step(made, first, rows):
