@@ -425,7 +425,8 @@ def is_written(name, folder=OUT):
 
 def main():
     asked = argparse.ArgumentParser(description=__doc__, formatter_class=argparse.RawDescriptionHelpFormatter)
-    sizes = "by default each kind with 100000 and 1000000, run-far and run-near also with 1000 and 10000, text with 1000000, files to unroll with 100000"
+    sizes = "by default each kind with 100000 and 1000000, run-far and run-near also with 1000 and 10000, text with 1000000"
+    sizes += ", unroll-far and unroll-near with 100000"
     asked.add_argument("names", metavar="KIND-N", nargs="*", type=file_name, help=sizes)
     asked.add_argument("--folder", default=OUT, help="where the files go, NAME.aag or NAME.aig each (bench/out)")
     given = asked.parse_args()

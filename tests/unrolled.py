@@ -1,5 +1,5 @@
 #!/usr/bin/env python3
-"""Compares the unrolled circuits that the program writes with those of a plain model, and what they do with what their source does.
+"""Compares the unrolled circuits that the program writes with those of a plain model, and what they do with what the source does.
 
     tests/unrolled.py PROGRAM
 
