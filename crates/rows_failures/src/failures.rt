@@ -36,6 +36,27 @@ aigmap end
 4
 4 2 2
 #\
+aiger aigunroll --frames 2 --ascii$aag 3 1 1 1 1
+2
+4 6 4
+6
+6 4 2
+=aag 5 3 0 2 2
+2
+4
+6
+8
+10
+8 4 2
+10 8 6
+#\
+aiger aigunroll --frames 2$aag 1 1 0 0 0 1
+2
+3
+=aig 4 2 0 0 2 2
+6
+8
+\u{3}\u{2}\u{3}\u{4}#\
 aiger aigtoaig --keep-map$aag 9 1 2 1 1 2 1 2 1
 18
 4 19 1

@@ -1,4 +1,4 @@
-//! Conversions between files in memory that fail, and files that move few bytes in a call.
+//! Conversions and unrollings between files in memory that fail, and files that move few bytes in a call.
 use crate::failures::parts;
 use crate::run::words_of;
 use crate::streams::{NEVER, OnceReader, OnceWriter};
@@ -173,6 +173,21 @@ aigmap end
 =aag 9 1 0 1 0
 18
 19
+#\
+aiger aigunroll --frames 2 source destination.aag$aag 1 0 1 1 0
+2 3
+2
+=aag 0 0 0 2 0
+0
+1
+#\
+aiger aigunroll --frames 3 source destination$aag 1 1 0 1 0
+2
+3
+=aig 3 3 0 3 0
+3
+5
+7
 ";
 
 /// The words of a row and its files, which move three bytes in a call.
@@ -260,5 +275,17 @@ fn refused_sources(rt: HostRuntime) -> Result<(), Fail> {
     );
     files.failing.create = true;
     assert!(rt; told(rt.alloc(), &files, words, 1, "aiger: source: no map\n")?);
+    Ok(())
+}
+
+/// A circuit that cannot be unrolled makes no destination, which would fail.
+#[test]
+fn refused_circuits(rt: HostRuntime) -> Result<(), Fail> {
+    let (words, mut files) = row_of(
+        "aiger aigunroll --frames 1 source destination$aag 0 0 0 0 0 0 0 0 1\n0\n=",
+    );
+    files.failing.create = true;
+    let line = "aiger: source: justice or fairness cannot be unrolled\n";
+    assert!(rt; told(rt.alloc(), &files, words, 1, line)?);
     Ok(())
 }

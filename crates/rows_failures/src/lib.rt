@@ -14,3 +14,5 @@ mod run;
 mod simulations;
 #[cfg(test)]
 mod streams;
+#[cfg(test)]
+mod unrollings;
