@@ -14,5 +14,6 @@ pub mod Running
 pub mod LineBytes
 pub mod LineValues
 pub mod Taking
+pub mod Gathering
 pub mod Sending
 pub mod Streams

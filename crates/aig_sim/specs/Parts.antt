@@ -5,5 +5,6 @@ pub mod Tables
 pub mod Machines
 pub mod Simulators
 pub mod Lines
+pub mod Gathering
 pub mod Tracing
 pub mod Streaming

@@ -4,6 +4,7 @@
 mod cells;
 mod evaluate;
 mod fault;
+mod gathered;
 mod kept;
 pub mod laws;
 mod machine;

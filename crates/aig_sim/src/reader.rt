@@ -8,11 +8,12 @@ ghost use Rattle.aig_sim.specs.Parts.Seen.{HasNoLineFeed};
 ghost use Rattle.aig_sim.specs.Parts.Tracing.{Advanced, Finished, FoundBad, IsAt, PutSome, TookLast};
 
 use crate::fault::SimFault;
+use crate::gathered::Gathered;
 use crate::kept::Kept;
 use crate::stimulus::without_return;
 use crate::trace::Columns;
 use crate::tracer::Tracer;
-use aig_core::{Checked, Output, Sink};
+use aig_core::{Checked, Sink};
 use memchr::memchr;
 use std::alloc::Global;
 use std::marker::Model;
@@ -64,7 +65,7 @@ impl Reader {
 
     /// Takes the rest of a line up to its line feed, and answers whether the line is good.
     #[inline(always)]
-    fn take_ended<W: Sink>(&mut self, output: &mut Output<W>, piece: &[u8]) -> bool
+    fn take_ended<W: Sink>(&mut self, output: &mut Gathered<W>, piece: &[u8]) -> bool
         ensures good { result ≡ true → (c : CircuitRecord) (columns : ColumnsAsked) (bytes text : List ℕ)
             → HasNoLineFeed piece.now → IsAt c columns bytes text self.old
             → (number : ℕ) → number ≡ self.old.number + 1
@@ -88,7 +89,7 @@ impl Reader {
     }
 
     /// Takes the bytes that came next, and answers whether each line that ended among them is good.
-    pub(crate) fn take_chunk<W: Sink>(&mut self, output: &mut Output<W>, chunk: &[u8]) -> bool
+    pub(crate) fn take_chunk<W: Sink>(&mut self, output: &mut Gathered<W>, chunk: &[u8]) -> bool
         requires { self.old.number + length chunk.now < 2 ^ 64 }
         ensures good { result ≡ true → (c : CircuitRecord) (columns : ColumnsAsked) (bytes text : List ℕ)
             → IsAt c columns bytes text self.old
@@ -114,7 +115,7 @@ impl Reader {
     }
 
     /// Takes a last line without its line feed, where there is one, and answers whether it is good.
-    fn take_last<W: Sink>(&mut self, output: &mut Output<W>) -> bool
+    fn take_last<W: Sink>(&mut self, output: &mut Gathered<W>) -> bool
         ensures good { result ≡ true → (c : CircuitRecord) (columns : ColumnsAsked) (bytes text : List ℕ)
             → IsAt c columns bytes text self.old
             → TookLast c columns bytes text self.new.tracing output.old output.new }
@@ -131,7 +132,7 @@ impl Reader {
 
     /// Takes the end of the bytes: a last line without its line feed, and the end of a run that has a step. Answers
     /// whether the line is good.
-    pub(crate) fn take_end<W: Sink>(&mut self, output: &mut Output<W>) -> bool
+    pub(crate) fn take_end<W: Sink>(&mut self, output: &mut Gathered<W>) -> bool
         ensures good { result ≡ true → (c : CircuitRecord) (columns : ColumnsAsked) (bytes text : List ℕ)
             → IsAt c columns bytes text self.old → Finished c columns bytes text output.old output.new }
         ensures bad { result ≡ false → (c : CircuitRecord) (columns : ColumnsAsked) (bytes text : List ℕ)

@@ -10,9 +10,10 @@ ghost use Rattle.aig_sim.specs.Parts.Streaming.{IsOfLines, NotSent, SentAll, Sen
 ghost use Rattle.aig_sim.specs.Parts.Tracing.{IsAt};
 
 use crate::fault::SimFault;
+use crate::gathered::Gathered;
 use crate::reader::Reader;
 use crate::trace::Columns;
-use aig_core::{Checked, Output, ROOM, Sink, Source};
+use aig_core::{Checked, ROOM, Sink, Source};
 use std::alloc::Global;
 
 /// Takes the bytes that came next, and sends the text for the lines that ended among them.
@@ -31,7 +32,7 @@ fn trace_chunk<W: Sink>(reader: &mut Reader, sink: &mut W, chunk: &[u8]) -> Resu
     ensures count { IfErr result (λ e. W.failed sink.new ≡ W.failed sink.old + sink_failures e) }
     ensures short { W.longest sink.new ≤ max (W.longest sink.old) ROOM }
 {
-    let mut output = Output::new(sink);
+    let mut output = Gathered::new(sink);
     let good = reader.take_chunk(&mut output, chunk);
     let (sent, _sink) = output.finish();
     if sent.is_err() {
@@ -57,7 +58,7 @@ fn trace_end<W: Sink>(reader: &mut Reader, sink: &mut W) -> Result<(), SimFault>
     ensures count { IfErr result (λ e. W.failed sink.new ≡ W.failed sink.old + sink_failures e) }
     ensures short { W.longest sink.new ≤ max (W.longest sink.old) ROOM }
 {
-    let mut output = Output::new(sink);
+    let mut output = Gathered::new(sink);
     let good = reader.take_end(&mut output);
     let (sent, _sink) = output.finish();
     if sent.is_err() {

@@ -100,27 +100,28 @@ fn write_properties(
     }
 }
 
-/// Writes the line of a step from its state and the values that were assigned, and answers where it ends. Its inputs
-/// were this text. The state becomes the next one.
+/// Writes the line of a step from a place on, of its state and the values that were assigned, and answers where it ends.
+/// Its inputs were this text. The state becomes the next one.
 #[inline(always)]
 pub(crate) fn write_row(
     line: &mut [u8],
+    at: usize,
     columns: Columns,
     inputs: &[u8],
     values: &Table,
     parts: &Circuit,
     state: &mut [Code],
 ) -> usize
-    requires room { line_size parts.now ≤ length line.old }
+    requires room { at + line_size parts.now ≤ length line.old }
     requires each_input { length inputs.now ≡ length parts.now.inputs }
     requires each_latch { length state.old ≡ length parts.now.latches }
     requires below { ShowsBelow (length values.now) parts.now }
     ensures within { result ≤ length line.new }
     ensures text { (given : List Value) → values_text given ≡ inputs.now → take result line.new
-        ≡ row_text columns (row_read parts.now state.old given (read_from values.now)) }
+        ≡ take at line.old ++ row_text columns (row_read parts.now state.old given (read_from values.now)) }
     ensures next { state.new ≡ map (literal_value (read_from values.now)) (next_literals parts.now) }
 {
-    let end = write_values(line, 0, state);
+    let end = write_values(line, at, state);
     let end = write_text(line, end, inputs);
     let end = write_column(line, end, values, parts.outputs.as_slice());
     show_next(parts.latches.as_slice(), values, state);

@@ -11,10 +11,11 @@ ghost use Rattle.aig_sim.specs.Parts.Tracing.{IsSameTracer, PutSome, TookLine, T
 use crate::cells::{Code, Table};
 use crate::evaluate::put_reset_state;
 use crate::fault::SimFault;
+use crate::gathered::Gathered;
 use crate::machine::Machine;
 use crate::stimulus::is_stop;
-use crate::trace::{Columns, write_row};
-use aig_core::{Checked, Circuit, OutOfMemory, Output, Sink, Val};
+use crate::trace::Columns;
+use aig_core::{Checked, Circuit, OutOfMemory, Sink, Val};
 use std::alloc::Global;
 use std::marker::Model;
 
@@ -29,7 +30,7 @@ pub(crate) struct Tracer {
     columns: Columns,
     /// Whether the run that is going on has a step.
     has_step: bool,
-    /// The line of the last step.
+    /// A place for a line, which serves where lines may be longer than a block.
     line: Vec<u8>,
 }
 
@@ -133,7 +134,7 @@ impl Tracer {
 
     /// Takes a step if the text says its inputs, puts its line, and answers whether it does.
     #[inline(always)]
-    fn take_step<W: Sink>(&mut self, output: &mut Output<W>, text: &[u8]) -> bool
+    fn take_step<W: Sink>(&mut self, output: &mut Gathered<W>, text: &[u8]) -> bool
         ensures good { result ≡ true → TookStep self.old self.new output.old output.new text.now }
         ensures bad { result ≡ false → vector_in (length self.old.circuit.inputs) text.now ≡ None }
         ensures none { result ≡ false → output.new ≡ output.old }
@@ -146,7 +147,7 @@ impl Tracer {
         {
             return false;
         }
-        let end = write_row(
+        output.put_row(
             &mut self.line,
             self.columns,
             text,
@@ -154,14 +155,12 @@ impl Tracer {
             self.machine.parts(),
             &mut self.state,
         );
-        let (line, _) = self.line.split_at(end);
-        output.put(line);
         self.has_step = true;
         true
     }
 
     /// Ends the run.
-    fn stop<W: Sink>(&mut self, output: &mut Output<W>)
+    fn stop<W: Sink>(&mut self, output: &mut Gathered<W>)
         ensures point { point_of self.new ≡ begin_of self.old.circuit }
         ensures put { Put output.old output.new (codes ".\n") }
         ensures same { IsSameTracer self.old self.new }
@@ -172,7 +171,7 @@ impl Tracer {
 
     /// Does what the text of a line says, puts the text for it, and answers whether it says anything.
     #[inline(always)]
-    pub(crate) fn take_line<W: Sink>(&mut self, output: &mut Output<W>, text: &[u8]) -> bool
+    pub(crate) fn take_line<W: Sink>(&mut self, output: &mut Gathered<W>, text: &[u8]) -> bool
         ensures good { result ≡ true → TookLine self.old self.new output.old output.new text.now }
         ensures bad { result ≡ false → entry_in (length self.old.circuit.inputs) text.now ≡ None }
         ensures none { result ≡ false → output.new ≡ output.old }

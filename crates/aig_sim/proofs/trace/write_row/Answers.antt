@@ -1,4 +1,4 @@
-use Rattle.std.proofs.Common.{◌≡◌, ◌+◌, ◌++◌, ◌∷◌, [], ℕ, List, length, map, take, set, ap, ap₂, sym, ◌∙◌}
+use Rattle.std.proofs.Common.{◌≡◌, ◌+◌, ◌++◌, ◌∷◌, [], ℕ, List, length, map, take, set, ap, ap₂, sym, ◌∙◌, append_assoc}
 use Rattle.std.proofs.Common.{arith}
 use Rattle.std.proofs.lemmas.List.{length-set, take_more_set}
 use Rattle.aig_core.specs.declared.circuit.Latch.{Latch}
@@ -14,7 +14,8 @@ pub returns-clause-text : goal.returns-clause-text
 returns-clause-text c = λ given is.
     let value = literal_value (read_from c.args.values.now) in
     let row = row_read c.args.parts.now c.args.state.now given (read_from c.args.values.now) in
-    let state = values_text row.state in
+    let before = take c.args.at c.args.line.now in
+    let state = before ++ values_text row.state in
     let inputs = values_text row.inputs in
     let outputs = values_text row.outputs in
     let next = values_text row.next in
@@ -45,3 +46,4 @@ returns-clause-text c = λ given is.
       length-set c.write_column-end.new.line c.write_column-end.result 32,
     ))
     ∙ ap (λ (front : List ℕ). front ++ 10 ∷ []) sixth ∙ columns_joined state inputs outputs next properties
+    ∙ append_assoc before (values_text row.state) _
