@@ -8,7 +8,8 @@ module _ {W : Type 0} where
   -- an output before which nothing is gathered
   nothing_more : (o : Out W) (lines : List ℕ) → lines ≡ [] → holding o lines ≡ o
   nothing_more o lines none =
-      ap (λ (bytes : List ℕ). holding o bytes) none ∙ ap (λ (held : List ℕ). record o { held = held }) (append-nil o.held)
+      ap (λ (bytes : List ℕ). holding o bytes) none
+      ∙ ap (λ (held : List ℕ). record o { held = held }) (append-nil o.held)
 
   -- a text is gathered behind others, for which room was made
   pub gathered_more : (a s o : Out W) (lines more text : List ℕ) → s ≡ a → Put s (holding o lines) []

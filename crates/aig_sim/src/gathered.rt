@@ -1,5 +1,6 @@
 //! Lines of a trace, gathered on their way to an output.
-ghost use Rattle.std.specs.Prelude.{◌≡◌, ◌+◌, ◌-◌, ◌^◌, ◌<◌, ◌≤◌, ◌++◌, ◌↔◌, [], List, IsTrue, false, is_err, length, map};
+ghost use Rattle.std.specs.Prelude.{◌≡◌, ◌+◌, ◌-◌, ◌^◌, ◌<◌, ◌≤◌, ◌++◌, ◌↔◌, [], List, IsTrue, false, is_err, length};
+ghost use Rattle.std.specs.Prelude.{map};
 ghost use Rattle.aig_core.specs.declared.value.Val.{Val as Value};
 ghost use Rattle.aig_io.specs.Output.{Put, output_to};
 ghost use Rattle.aig_io.specs.declared.block.TheConstants.{ROOM};

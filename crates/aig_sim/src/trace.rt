@@ -100,8 +100,8 @@ fn write_properties(
     }
 }
 
-/// Writes the line of a step from a place on, of its state and the values that were assigned, and answers where it ends.
-/// Its inputs were this text. The state becomes the next one.
+/// Writes the line of a step from a place on, by its state and the values that were assigned, and answers where it
+/// ends. Its inputs were this text. The state becomes the next one.
 #[inline(always)]
 pub(crate) fn write_row(
     line: &mut [u8],
