@@ -2,13 +2,14 @@
 use Rattle.std.proofs.Common.{◌≡◌, ◌≢◌, ◌==◌, ◌+◌, ℕ, zero, suc, List, [], ◌∷◌, ◌++◌, Bool, true, false, Option, Some}
 use Rattle.std.proofs.Common.{None}
 use Rattle.std.proofs.Common.{length, map, take, codes, refl, sym, ap, ap₂, subst, ◌∙◌, append_assoc, append-nil, arith}
-use Rattle.std.proofs.Common.{inl, inr}
+use Rattle.std.proofs.Common.{◌<◌, drop, get_or, inl, inr}
 use Rattle.std.proofs.lemmas.Bool.{cases_lt, eqb-false, eqb-true}
 use Rattle.std.proofs.lemmas.List.{take_all, length-take-le}
 use Rattle.std.proofs.lemmas.Simd.{map-map}
 use Rattle.aig_core.specs.declared.circuit.Circuit.{Circuit}
 use Rattle.aig_core.specs.declared.circuit.Latch.{Latch}
 use Rattle.aig_core.specs.declared.value.Val.{Val}
+use Rattle.aig_core.specs.declared.value.Val.TheVariants.{Zero, One, X}
 use Rattle.aig_io.specs.Output.{Out, Put}
 use Rattle.aig_io.proofs.Puts.{put_nothing, put_twice}
 use Rattle.aig_meaning.specs.Meaning.{MeansTheSame}
@@ -18,17 +19,18 @@ use Rattle.aig_text.specs.Lines.{line}
 use Rattle.aig_sim.specs.declared.trace.Columns.{Columns}
 use Rattle.aig_sim.specs.Stimulus.{Entry, Step, Stop, Stimulus, entry_in, entry_of, stimulus, without_return}
 use Rattle.aig_sim.specs.Outcome.{first_bad_line}
-use Rattle.aig_sim.specs.TraceText.{IsTraceText}
+use Rattle.aig_sim.specs.TraceText.{IsTraceText, values_text}
 use Rattle.aig_sim.specs.Parts.Lines.{keeping_more}
 use Rattle.aig_sim.specs.Parts.Progress.{Does, Goes, Point, begin_of}
 use Rattle.aig_sim.specs.Parts.Seen.{HasNoLineFeed, all_good, then_bad}
 use Rattle.aig_sim.specs.Parts.Tracing.{Advanced, Finished, FoundBad, IsAt, IsSameTracer, Passed, PutSome, Reading}
-use Rattle.aig_sim.specs.Parts.Tracing.{TookLast, TookLine, Tracing, point_of}
+use Rattle.aig_sim.specs.Parts.Tracing.{TookLast, TookLine, TookStep, Tracing, point_of}
 use Rattle.aig_sim.proofs.EntryTexts.{too_long}
 use Rattle.aig_sim.proofs.Going.{goes_on}
 use Rattle.aig_sim.proofs.Heard.{heard_line, heard_more, heard_nothing, said_at_end, said_bad, said_last, said_last_bad}
 use Rattle.aig_sim.proofs.Heard.{said_so_far}
-use Rattle.aig_sim.proofs.LineBytes.{kept_twice}
+use Rattle.aig_sim.proofs.LineBytes.{kept_twice, parted}
+use Rattle.aig_sim.proofs.LineValues.{vector_back, vector_says}
 use Rattle.aig_sim.proofs.RunTexts.{closing, goes_is_text}
 
 -- circuits that mean the same begin in the same state
@@ -135,6 +137,19 @@ at_begin c columns at means same begun none number = record {
   goes = (begun ∙ begin_same c at.tracing.circuit means, refl);
 }
 
+-- the characters of values are no line feed and no carriage return
+none_feeds : (given : List Val) → HasNoLineFeed (values_text given)
+none_feeds [] = tt
+none_feeds (Zero ∷ vs) = ((λ (e : 48 ≡ 10). absurd (omega arith)), none_feeds vs)
+none_feeds (One ∷ vs) = ((λ (e : 49 ≡ 10). absurd (omega arith)), none_feeds vs)
+none_feeds (X ∷ vs) = ((λ (e : 120 ≡ 10). absurd (omega arith)), none_feeds vs)
+
+none_returns : (given : List Val) → without_return (values_text given) ≡ values_text given
+none_returns [] = refl
+none_returns (Zero ∷ vs) = ap (λ (t : List ℕ). 48 ∷ t) (none_returns vs)
+none_returns (One ∷ vs) = ap (λ (t : List ℕ). 49 ∷ t) (none_returns vs)
+none_returns (X ∷ vs) = ap (λ (t : List ℕ). 120 ∷ t) (none_returns vs)
+
 module _ (c : Circuit) (columns : Columns) (bytes text : List ℕ) (at : Reading)
     (stands : IsAt c columns bytes text at) where
   -- where a line leads
@@ -201,6 +216,26 @@ module _ (c : Circuit) (columns : Columns) (bytes text : List ℕ) (at : Reading
     };
     put = took.put;
   }
+
+  -- a whole line that is a step
+  pub took_step : {W : Type 0} (piece : List ℕ) (new : Reading) (a b : Out W) → at.kept.bytes ≡ []
+      → TookStep at.tracing new.tracing a b piece → IsSameTracer at.tracing new.tracing → new.kept.bytes ≡ []
+      → new.number ≡ at.number + 1 → Advanced c columns (bytes ++ (piece ++ 10 ∷ [])) text new a b
+  took_step piece new a b empty took same none next =
+      let inputs = length at.tracing.circuit.inputs in
+      let characters = vector_back inputs piece took.given took.said in
+      let whole : without_return piece ≡ piece =
+      subst (λ (t : List ℕ). without_return t ≡ t) characters (none_returns took.given) in
+      took_good piece piece new a b (subst HasNoLineFeed characters (none_feeds took.given))
+      (ap (entry_in (length c.inputs)) (sym whole) ∙ whole_line piece empty)
+      (record {
+        entry = Step took.given;
+        line = took.line;
+        said = vector_says inputs piece took.given took.said;
+        does = took.steps;
+        put = took.put;
+      })
+      same none next
 
   pub took_bad : {W : Type 0} (piece judged more : List ℕ) (ended : Bool) (a b : Out W) → HasNoLineFeed piece
       → entry_in (length c.inputs) judged ≡ entry_of (length c.inputs) (line (stands.rest ++ piece) true)
@@ -326,6 +361,26 @@ module _ {W : Type 0} (c : Circuit) (columns : Columns) (bytes text chunk rest :
         };
       }
 
+  -- more of it was taken
+  pub passed_over : (following : List ℕ) (new : Reading) (o : Out W)
+      → ((bs t : List ℕ) → IsAt c columns bs t at → Passed c columns bs t rest following new b o)
+      → Passed c columns bytes text chunk following new a o
+  passed_over following new o more =
+      let q = more (bytes ++ p.passed) (text ++ p.advanced.more) p.advanced.stands in
+      record {
+        passed = p.passed ++ q.passed;
+        parted = p.parted ∙ ap (λ (t : List ℕ). p.passed ++ t) q.parted
+            ∙ sym (append_assoc p.passed q.passed following);
+        advanced = record {
+          more = p.advanced.more ++ q.advanced.more;
+          stands = subst (λ (bs : List ℕ). IsAt c columns bs (text ++ (p.advanced.more ++ q.advanced.more)) new)
+              (append_assoc bytes p.passed q.passed)
+              (subst (λ (t : List ℕ). IsAt c columns ((bytes ++ p.passed) ++ q.passed) t new)
+              (append_assoc text p.advanced.more q.advanced.more) q.advanced.stands);
+          put = put_twice a b o p.advanced.more q.advanced.more p.advanced.put q.advanced.put;
+        };
+      }
+
   -- a bad line was found in it
   pub passed_bad : (piece following : List ℕ) (ended : Bool) (number : ℕ) (o : Out W) → rest ≡ piece ++ 10 ∷ following
       → ((bs t : List ℕ) → IsAt c columns bs t at
@@ -360,6 +415,19 @@ module _ {W : Type 0} (c : Circuit) (columns : Columns) (bytes text chunk rest :
             (room ∙ ap (λ (n : ℕ). n + 3) stands.means.inputs) is);
         put = p.advanced.put;
       }
+
+-- the first line of some bytes was a step
+pub passed_step : {W : Type 0} (c : Circuit) (columns : Columns) (bytes text rest : List ℕ) (at new : Reading)
+    (a b : Out W) (inputs : ℕ) → IsAt c columns bytes text at → at.kept.bytes ≡ []
+    → inputs < length rest → get_or rest inputs 0 ≡ 10
+    → TookStep at.tracing new.tracing a b (take inputs rest) → IsSameTracer at.tracing new.tracing
+    → new.kept.bytes ≡ [] → new.number ≡ at.number + 1
+    → Passed c columns bytes text rest (drop (inputs + 1) rest) new a b
+passed_step c columns bytes text rest at new a b inputs stands empty long feed took same none next =
+    passed_line c columns bytes text rest rest at a a (passed_none c columns bytes text rest at a stands)
+    (take inputs rest) (drop (inputs + 1) rest) new b
+    (parted rest inputs 0 long ∙ ap (λ (byte : ℕ). take inputs rest ++ byte ∷ drop (inputs + 1) rest) feed)
+    (λ bs t here. took_step c columns bs t at here (take inputs rest) new a b empty took same none next)
 
 -- a reader that is seen whole, and by its fields
 pub passed_as : {W : Type 0} (c : Circuit) (columns : Columns) (bytes text chunk rest : List ℕ) (at fields : Reading)

@@ -1,11 +1,11 @@
 //! The bytes of a stimulus as they come, line by line.
 ghost use Rattle.std.specs.Prelude.{◌≡◌, ◌+◌, ◌-◌, ◌^◌, ◌<◌, ◌≤◌, ◌++◌, ◌∷◌, [], ℕ, List, Bool, IfErr, IfOk};
-ghost use Rattle.std.specs.Prelude.{false, length, true};
+ghost use Rattle.std.specs.Prelude.{IfSome, None, false, length, true};
 ghost use Rattle.aig_core.specs.declared.circuit.Circuit.{Circuit as CircuitRecord};
 ghost use Rattle.aig_sim.specs.declared.fault.SimFault.TheVariants.{OutOfMemory as IsOutOfMemory};
 ghost use Rattle.aig_sim.specs.declared.trace.Columns.{Columns as ColumnsAsked};
 ghost use Rattle.aig_sim.specs.Parts.Seen.{HasNoLineFeed};
-ghost use Rattle.aig_sim.specs.Parts.Tracing.{Advanced, Finished, FoundBad, IsAt, PutSome, TookLast};
+ghost use Rattle.aig_sim.specs.Parts.Tracing.{Advanced, Finished, FoundBad, IsAt, Passed, PutSome, TookLast};
 
 use crate::fault::SimFault;
 use crate::gathered::Gathered;
@@ -88,6 +88,54 @@ impl Reader {
         good
     }
 
+    /// Takes the first line if it is a step of which nothing was kept, and answers what is left behind it. The line feed
+    /// of a step has its place, so none is looked for.
+    #[inline(always)]
+    fn take_next_step<'a, W: Sink>(
+        &mut self,
+        output: &mut Gathered<W>,
+        rest: &'a [u8],
+    ) -> Option<&'a [u8]>
+        requires { self.old.number + length rest.now < 2 ^ 64 }
+        ensures passed { IfSome result (λ left. (c : CircuitRecord) (columns : ColumnsAsked) (bytes text : List ℕ)
+            → IsAt c columns bytes text self.old
+            → Passed c columns bytes text rest.now left.now self.new output.old output.new) }
+        ensures number { IfSome result (λ left. self.new.number + length left.now ≤ self.old.number + length rest.now) }
+        ensures shorter { IfSome result (λ left. length left.now < length rest.now) }
+        ensures none { result ≡ None → (self.new ≡ self.old) × (output.new ≡ output.old) }
+        ensures put { PutSome output.old output.new }
+    {
+        let inputs = self.tracer.inputs();
+        if !self.kept.is_empty() || rest.len() <= inputs || rest[inputs] != b'\n' {
+            return None;
+        }
+        let (piece, more) = rest.split_at(inputs);
+        if !self.tracer.take_step(output, piece) {
+            return None;
+        }
+        self.number += 1;
+        let (_, left) = more.split_at(1);
+        Some(left)
+    }
+
+    /// Takes lines as long as each is a step, and answers what is left behind them.
+    #[inline(always)]
+    fn take_steps<'a, W: Sink>(&mut self, output: &mut Gathered<W>, chunk: &'a [u8]) -> &'a [u8]
+        requires { self.old.number + length chunk.now < 2 ^ 64 }
+        ensures passed { (c : CircuitRecord) (columns : ColumnsAsked) (bytes text : List ℕ)
+            → IsAt c columns bytes text self.old
+            → Passed c columns bytes text chunk.now result.now self.new output.old output.new }
+        ensures number { self.new.number + length result.now ≤ self.old.number + length chunk.now }
+        ensures within { length result.now ≤ length chunk.now }
+        ensures put { PutSome output.old output.new }
+    {
+        let mut rest = chunk;
+        while let Some(left) = self.take_next_step(output, rest) {
+            rest = left;
+        }
+        rest
+    }
+
     /// Takes the bytes that came next, and answers whether each line that ended among them is good.
     pub(crate) fn take_chunk<W: Sink>(&mut self, output: &mut Gathered<W>, chunk: &[u8]) -> bool
         requires { self.old.number + length chunk.now < 2 ^ 64 }
@@ -108,7 +156,8 @@ impl Reader {
             }
             self.number += 1;
             let (_, more) = more.split_at(1);
-            rest = more;
+            // Most lines are steps.
+            rest = self.take_steps(output, more);
         }
         self.kept.keep(rest);
         true

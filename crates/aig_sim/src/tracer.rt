@@ -116,6 +116,14 @@ impl Tracer {
         Ok(tracer)
     }
 
+    /// How many inputs a step has.
+    #[inline(always)]
+    pub(crate) fn inputs(&self) -> usize
+        ensures { result ≡ length self.now.circuit.inputs }
+    {
+        self.machine.parts().inputs.len()
+    }
+
     /// Whether the run that is going on has a step.
     pub(crate) fn has_step(&self) -> bool
         ensures { result ≡ self.now.has_step }
@@ -134,10 +142,11 @@ impl Tracer {
 
     /// Takes a step if the text says its inputs, puts its line, and answers whether it does.
     #[inline(always)]
-    fn take_step<W: Sink>(&mut self, output: &mut Gathered<W>, text: &[u8]) -> bool
+    pub(crate) fn take_step<W: Sink>(&mut self, output: &mut Gathered<W>, text: &[u8]) -> bool
         ensures good { result ≡ true → TookStep self.old self.new output.old output.new text.now }
         ensures bad { result ≡ false → vector_in (length self.old.circuit.inputs) text.now ≡ None }
         ensures none { result ≡ false → output.new ≡ output.old }
+        ensures stays { result ≡ false → self.new ≡ self.old }
         ensures put { PutSome output.old output.new }
         ensures same { IsSameTracer self.old self.new }
     {

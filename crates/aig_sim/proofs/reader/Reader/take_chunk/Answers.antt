@@ -2,8 +2,8 @@ use Rattle.std.proofs.Common.{◌≡◌, ◌∙◌, ◌+◌, ◌++◌, ◌∷◌
 use Rattle.aig_sim.specs.Parts.Lines.{Keeping}
 use Rattle.aig_sim.specs.Parts.Seen.{HasNoLineFeed}
 use Rattle.aig_sim.specs.Parts.Tracing.{Reading}
-use Rattle.aig_sim.proofs.Taking.{advanced_as, passed_as, passed_bad, passed_line, passed_none, passed_rest, some_none}
-use Rattle.aig_sim.proofs.Taking.{some_twice}
+use Rattle.aig_sim.proofs.Taking.{advanced_as, passed_as, passed_bad, passed_line, passed_none, passed_over}
+use Rattle.aig_sim.proofs.Taking.{passed_rest, some_none, some_twice}
 use Rattle.aig_sim.proofs.WholeLines.{first_line, no_line}
 use Rattle.aig_sim.proofs.reader.Reader.take_chunk.Goals as goal
 
@@ -46,15 +46,18 @@ loop-at-preserved g c =
     let as_counted : c.self.inside.number ≡ c.loop-at.self.number =
     ap (λ (r : Reading). r.number) c.self.view_is ∙ c.take_ended.ensures.number in
     record {
-      counted = omega arith;
+      counted = omega (arith, c.take_steps-rest.ensures.number);
       passed = λ circuit columns bytes text stands.
-          passed_line circuit columns bytes text c.args.chunk.now rest _ _ _
+          passed_over circuit columns bytes text c.args.chunk.now following _ _ _
+          (passed_line circuit columns bytes text c.args.chunk.now rest _ _ _
           (c.loop-at.invariant.passed circuit columns bytes text stands) piece following _ _ is
           (λ bs t here.
           advanced_as circuit columns _ t number _ _ _ _ c.self.view_is
           (c.take_ended.ensures.good c.if-not-take_ended.false circuit columns bs t none here number
-          (ap (λ (n : ℕ). n + 1) as_counted)));
-      put = some_twice _ _ _ c.loop-at.invariant.put c.take_ended.ensures.put;
+          (ap (λ (n : ℕ). n + 1) as_counted))))
+          _ _ _ (λ bs t here. c.take_steps-rest.ensures.passed circuit columns bs t here);
+      put = some_twice _ _ _ (some_twice _ _ _ c.loop-at.invariant.put c.take_ended.ensures.put)
+          c.take_steps-rest.ensures.put;
     }
 
 pub returns-clause-good : goal.returns-clause-good
