@@ -6,3 +6,4 @@ pub mod Messages
 pub mod Laws
 pub mod Parts
 pub mod Showing
+pub mod Runs

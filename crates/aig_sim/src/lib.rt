@@ -9,6 +9,7 @@ mod kept;
 pub mod laws;
 mod machine;
 mod reader;
+mod run;
 mod simulator;
 mod stimulus;
 mod stream;
@@ -16,6 +17,7 @@ mod trace;
 mod tracer;
 
 pub use crate::fault::SimFault;
+pub use crate::run::{FullRow, Run, Trace};
 pub use crate::simulator::{Row, Simulator};
 pub use crate::stream::simulate;
 pub use crate::trace::Columns;
