@@ -11,6 +11,7 @@ pub mod SameTexts
 pub mod KnownLines
 pub mod KnownTexts
 pub mod Running
+pub mod Side
 pub mod LineBytes
 pub mod LineValues
 pub mod Taking

@@ -4,6 +4,7 @@ pub mod Cells
 pub mod Tables
 pub mod Machines
 pub mod Simulators
+pub mod Lanes
 pub mod Lines
 pub mod Gathering
 pub mod Tracing
