@@ -5,6 +5,7 @@ pub mod Tables
 pub mod Machines
 pub mod Simulators
 pub mod Lanes
+pub mod Groups
 pub mod Lines
 pub mod Gathering
 pub mod Tracing

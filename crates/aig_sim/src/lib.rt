@@ -1,11 +1,15 @@
 //! The simulator: steps of a circuit, and the trace text of a stimulus.
 #![tactic(auto)]
 
+mod batch;
 mod cells;
 mod evaluate;
 mod fault;
 mod gathered;
+mod group;
 mod kept;
+mod lane_row;
+mod lane_step;
 mod lanes;
 pub mod laws;
 mod machine;
@@ -18,6 +22,7 @@ mod stream;
 mod trace;
 mod tracer;
 
+pub use crate::batch::simulate_batch;
 pub use crate::fault::SimFault;
 pub use crate::run::{FullRow, Run, Trace};
 pub use crate::simulator::{Row, Simulator};

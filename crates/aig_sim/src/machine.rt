@@ -1,14 +1,18 @@
 //! A circuit in binary order that is kept to be run.
-ghost use Rattle.std.specs.Prelude.{◌≡◌, ◌+◌, List, None, Some, false, length, slice_set, true, IfOk};
+ghost use Rattle.std.specs.Prelude.{◌≡◌, ◌+◌, ◌*◌, ◌≤◌, ℕ, List, None, Some, false, length, slice_set, true, IfOk};
 ghost use Rattle.aig_core.specs.declared.value.Val.{Val as Value};
 ghost use Rattle.aig_core.specs.declared.value.Val.TheVariants.{Zero};
 ghost use Rattle.aig_meaning.specs.Meaning.{IsStepAssignment, MeansTheSame};
+ghost use Rattle.aig_sim.specs.Parts.Groups.{Assigned};
+ghost use Rattle.aig_sim.specs.Parts.Lanes.{IsLane};
 ghost use Rattle.aig_sim.specs.Parts.Lines.{vector_in};
 ghost use Rattle.aig_sim.specs.Parts.Machines.{ShowsBelow, parts_of};
 ghost use Rattle.aig_sim.specs.Parts.Tables.{placed, read_from};
 
 use crate::cells::{Code, Table};
 use crate::evaluate::{Pair, pairs_of, place};
+use crate::lanes::{evaluate_lanes, place_lanes};
+use crate::planes::Plane;
 use aig_core::{Checked, Circuit, Justice, Listing, Ordered, OutOfMemory, Val};
 use aig_image::to_binary;
 use std::alloc::Global;
@@ -83,6 +87,7 @@ impl Machine {
         ensures bad { result.now.bad ≡ self.now.bad }
         ensures constraints { result.now.constraints ≡ self.now.constraints }
         ensures below { ShowsBelow (1 + result.now.max_var) result.now }
+        ensures room { length result.now.inputs + length result.now.latches ≤ result.now.max_var }
     {
         &self.parts
     }
@@ -117,6 +122,21 @@ impl Machine {
         values.put(0, Val::Zero);
         place(1, given, values);
         self.evaluate(state, values);
+    }
+
+    /// Fills a table with the values of a step in each lane, where it has those of the constant and of the inputs.
+    pub(crate) fn assign_lanes(&self, state: &[Plane], table: &mut [Plane])
+        requires each_latch { length state.now ≡ 2 * length self.now.latches }
+        requires room { length table.old ≡ 2 * (1 + self.now.max_var) }
+        ensures { (l : ℕ) (given values before : List Value) → length given ≡ length self.now.inputs
+            → IsLane l table.old (placed 1 given (slice_set values 0 Zero)) → IsLane l state.now before
+            → Assigned self.now l before given table.new }
+    {
+        // That there are not too many inputs to count one more is known by this read.
+        let _largest = self.parts.max_var;
+        let pairs = self.pairs.as_slice();
+        place_lanes(table, 1 + self.parts.inputs.len(), state);
+        evaluate_lanes(pairs, table);
     }
 
     /// Fills the table with the values of a step whose inputs this text says, and answers whether it says inputs.

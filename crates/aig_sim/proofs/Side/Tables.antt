@@ -1,11 +1,12 @@
 -- Tables of planes: what stands in a lane.
-use Rattle.std.proofs.Common.{◌≡◌, ◌+◌, ◌-◌, ◌*◌, ◌/◌, ◌%◌, ◌<◌, ◌==◌, if◌then◌else◌, ℕ, zero, suc, List, [], ◌∷◌, ◌++◌}
+use Rattle.std.proofs.Common.{◌≡◌, ◌+◌, ◌-◌, ◌*◌, ◌/◌, ◌%◌, ◌<◌, ◌≤◌, ◌==◌, ℕ, zero, suc, List, [], ◌∷◌}
 use Rattle.std.proofs.Common.{length, map, get_or, set, take, drop, refl, sym, ap, ap₂, ◌∙◌, arith, min, max}
-use Rattle.std.proofs.Common.{inl, inr, drop-cons}
+use Rattle.std.proofs.Common.{◌++◌, if◌then◌else◌, inl, inr, drop-cons}
 use Rattle.std.specs.Int.Bits.{bit_and, bit_or}
 use Rattle.std.specs.Simd.Lanes.{zip2}
 use Rattle.std.proofs.lemmas.Bool.{cases_lt}
-use Rattle.std.proofs.lemmas.List.{get_or-map, length-map, length-take, map-set, take_more}
+use Rattle.std.proofs.lemmas.List.{append-nil, drop_all, get_or-map, length-map, length-take, map-set}
+use Rattle.std.proofs.lemmas.List.{take_all, take_more}
 use Rattle.std.proofs.lemmas.List.Elements.{All-set}
 use Rattle.std.proofs.lemmas.Simd.{length-zip2}
 use Rattle.aig_core.specs.declared.value.Val.{Val}
@@ -203,3 +204,23 @@ evaluated_on v k pairs p now all below is before =
     let front : drop k pairs ≡ p ∷ drop (k + 1) pairs =
     drop-cons pairs k p below ∙ ap₂ (λ (q : Pair) n. q ∷ drop n pairs) (sym is) next in
     ap (λ ps. evaluated v ps now) (sym front) ∙ before
+
+-- one more value is put in the front of a list
+filled_next : (i : ℕ) (xs before : List Val) (d : Val) → i < length xs → length before ≡ length xs
+    → take (suc i) xs ++ drop (suc i) before ≡ set (take i xs ++ drop i before) i (get_or xs i d)
+filled_next i [] before d below same = absurd (omega (arith, below))
+filled_next i (x ∷ xs) [] d below same = absurd (omega (arith, same))
+filled_next zero (x ∷ xs) (b ∷ bs) d below same = refl
+filled_next (suc i) (x ∷ xs) (b ∷ bs) d below same =
+    ap (λ ys. x ∷ ys) (filled_next i xs bs d (omega (arith, below)) (omega (arith, same)))
+
+pub filled_more : (i : ℕ) (xs before : List Val) (d x : Val) → i < length xs → length before ≡ length xs
+    → x ≡ get_or xs i d → take (i + 1) xs ++ drop (i + 1) before ≡ set (take i xs ++ drop i before) i x
+filled_more i xs before d x below same is =
+    let next : i + 1 ≡ suc i = omega arith in
+    rw (next, is) (filled_next i xs before d below same)
+
+pub filled_all : (i : ℕ) (xs before : List Val) → length xs ≤ i → length before ≡ length xs
+    → take i xs ++ drop i before ≡ xs
+filled_all i xs before end same =
+    ap₂ (λ ys zs. ys ++ zs) (take_all i xs end) (drop_all i before (omega (arith, end, same))) ∙ append-nil xs
