@@ -13,7 +13,7 @@ use Rattle.aig_sim.specs.Laws.{SameMeaningSameText}
 use Rattle.aig_sim.specs.Stimulus.{Stimulus, runs_of, stimulus}
 use Rattle.aig_sim.specs.TraceText.{IsTraceText, last_stop, rows_text, run_text}
 
-same_reset_state : (c d : Circuit) → MeansTheSame c d → reset_state d ≡ reset_state c
+pub same_reset_state : (c d : Circuit) → MeansTheSame c d → reset_state d ≡ reset_state c
 same_reset_state c d same = by_resets d ∙ ap (map reset_value) same.resets ∙ sym (by_resets c) where
   by_resets : (e : Circuit) → reset_state e ≡ map reset_value (map (λ (l : Latch). l.reset) e.latches)
   by_resets e = sym (map-map reset_value (λ (l : Latch). l.reset) e.latches)

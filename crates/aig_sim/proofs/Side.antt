@@ -1,3 +1,4 @@
 -- Runs side by side.
 pub mod Bits
 pub mod Tables
+pub mod Groups

@@ -1,7 +1,9 @@
 //! A group of runs, stepped side by side until all have ended.
-ghost use Rattle.std.specs.Prelude.{◌≡◌, ◌+◌, ◌*◌, ◌<◌, ◌≤◌, ◌^◌, [], ℕ, length, replicate, slice_index_or, IfOk};
+ghost use Rattle.std.specs.Prelude.{◌≡◌, ◌+◌, ◌*◌, ◌<◌, ◌≤◌, ◌^◌, [], ℕ, length, map, replicate, slice_index_or, IfOk};
 ghost use Rattle.std.specs.List.{All, AllZip};
+ghost use Rattle.aig_core.specs.declared.circuit.Latch.{Latch as LatchRecord};
 ghost use Rattle.aig_core.specs.declared.value.Val.TheVariants.{X};
+ghost use Rattle.aig_meaning.specs.Trace.{reset_value};
 ghost use Rattle.aig_sim.specs.declared.run.Run.{Run as RunRecord};
 ghost use Rattle.aig_sim.specs.declared.run.Trace.{Trace as TraceRecord};
 ghost use Rattle.aig_sim.specs.Parts.Groups.{Stands};
@@ -13,7 +15,7 @@ use crate::lane_step::{put_inputs, put_reset_lanes, show_next_lanes};
 use crate::machine::Machine;
 use crate::planes::{Plane, plane_of};
 use crate::run::{Run, Trace};
-use aig_core::{Listing, OutOfMemory};
+use aig_core::{Latch, Listing, OutOfMemory};
 use std::alloc::Global;
 
 /// How many steps the longest run has.
@@ -41,6 +43,18 @@ fn new_table(alloc: Global, variables: usize) -> Result<Vec<Plane>, OutOfMemory>
         table.push(plane)?;
     }
     Ok(table)
+}
+
+/// A table of the state by the resets, in all lanes.
+fn reset_table(alloc: Global, latches: &[Latch]) -> Result<Vec<Plane>, OutOfMemory>
+    requires { length latches.now < 2 ^ 62 }
+    ensures size { IfOk result (λ state. length state.items ≡ 2 * length latches.now) }
+    ensures lanes { IfOk result (λ state. (l : ℕ) → l < 256
+        → IsLane l state.items (map (λ (k : LatchRecord). reset_value k.reset) latches.now)) }
+{
+    let mut state = new_table(alloc, latches.len())?;
+    put_reset_lanes(latches, &mut state);
+    Ok(state)
 }
 
 /// So many traces without rows.
@@ -121,9 +135,8 @@ pub(crate) fn trace_group(
 {
     let parts = machine.parts();
     let mut table = new_table(alloc, 1 + parts.max_var as usize)?;
-    let mut state = new_table(alloc, parts.latches.len())?;
+    let mut state = reset_table(alloc, parts.latches.as_slice())?;
     let mut traces = empty_traces(alloc, runs.len())?;
-    put_reset_lanes(parts.latches.as_slice(), &mut state);
     step_all(alloc, machine, runs, &mut table, &mut state, &mut traces)?;
     Ok(traces)
 }

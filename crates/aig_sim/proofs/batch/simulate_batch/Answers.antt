@@ -1,0 +1,20 @@
+use Rattle.std.proofs.Common.{List}
+use Rattle.std.specs.List.{AllZip}
+use Rattle.std.proofs.lemmas.Result.{IfOk-weaker}
+use Rattle.aig_meaning.proofs.Lists.{all_zip_weaker}
+use Rattle.aig_sim.specs.declared.run.Trace.{Trace}
+use Rattle.aig_sim.specs.Runs.{IsTraceOf}
+use Rattle.aig_sim.proofs.Side.Groups.{same_trace_of}
+use Rattle.aig_sim.proofs.batch.simulate_batch.Goals as goal
+
+pub returns : goal.returns
+returns c =
+    let checked = c.args.checked.now in
+    let machine = c.in_ok-machine.machine in
+    let runs = c.args.runs.now in
+    IfOk-weaker c.trace_groups.result (λ (traces : List Trace). AllZip (IsTraceOf machine) runs traces)
+    (λ (traces : List Trace). AllZip (IsTraceOf checked) runs traces)
+    (λ traces each.
+    all_zip_weaker (IsTraceOf machine) (IsTraceOf checked)
+    (λ run trace is. same_trace_of checked machine run trace c.in_ok-machine.ensures is) runs traces each)
+    c.trace_groups.ensures
