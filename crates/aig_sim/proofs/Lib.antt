@@ -18,3 +18,5 @@ pub mod Taking
 pub mod Gathering
 pub mod Sending
 pub mod Streams
+pub mod Judging
+pub mod Collecting

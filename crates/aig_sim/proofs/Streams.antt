@@ -16,14 +16,14 @@ use Rattle.aig_sim.specs.Parts.Streaming.{NotSent, Reached, SentAll, SentLines}
 use Rattle.aig_sim.specs.Parts.Tracing.{IsAt, Reading}
 use Rattle.aig_sim.proofs.Taking.{none_bad_so_far, text_so_far}
 
-consumes_twice : (a b c : Option (List ℕ)) (xs ys : List ℕ) → Consumes a b xs → Consumes b c ys
+pub consumes_twice : (a b c : Option (List ℕ)) (xs ys : List ℕ) → Consumes a b xs → Consumes b c ys
     → Consumes a c (xs ++ ys)
 consumes_twice None b c xs ys p q = tt
 consumes_twice (Some x) None c xs ys p q = absurd p
 consumes_twice (Some x) (Some y) None xs ys p q = absurd q
 consumes_twice (Some x) (Some y) (Some z) xs ys p q = p ∙ ap (λ (bs : List ℕ). xs ++ bs) q ∙ sym (append_assoc xs ys z)
 
-consumes_kept : (a b c : Option (List ℕ)) (xs : List ℕ) → Consumes a b xs → Keeps b c → Consumes a c xs
+pub consumes_kept : (a b c : Option (List ℕ)) (xs : List ℕ) → Consumes a b xs → Keeps b c → Consumes a c xs
 consumes_kept None b c xs p q = tt
 consumes_kept (Some x) None c xs p q = absurd p
 consumes_kept (Some x) (Some y) None xs p q = absurd q
@@ -37,7 +37,7 @@ begins a b c xs ys p q = record {
 }
 
 -- before the first byte
-consumes_none : (a : Option (List ℕ)) → Consumes a a []
+pub consumes_none : (a : Option (List ℕ)) → Consumes a a []
 consumes_none None = tt
 consumes_none (Some xs) = refl
 

@@ -2,6 +2,7 @@ pub mod Simulating
 pub mod Stimulus
 pub mod TraceText
 pub mod Outcome
+pub mod Batched
 pub mod Messages
 pub mod Laws
 pub mod Parts

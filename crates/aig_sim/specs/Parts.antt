@@ -10,3 +10,4 @@ pub mod Lines
 pub mod Gathering
 pub mod Tracing
 pub mod Streaming
+pub mod Judging

@@ -3,6 +3,7 @@
 
 mod batch;
 mod cells;
+mod collected;
 mod evaluate;
 mod fault;
 mod gathered;

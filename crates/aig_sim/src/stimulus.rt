@@ -1,7 +1,7 @@
 //! The lines of a stimulus.
-ghost use Rattle.std.specs.Prelude.{◌≡◌, codes};
+ghost use Rattle.std.specs.Prelude.{◌≡◌, codes, is_some};
 ghost use Rattle.std.specs.Str.{bytes_eq};
-ghost use Rattle.aig_sim.specs.Stimulus.{without_return};
+ghost use Rattle.aig_sim.specs.Stimulus.{entry_in, value_of, values_of, without_return};
 
 /// Whether the text is a line that ends a run.
 #[inline(always)]
@@ -22,4 +22,33 @@ pub(crate) fn without_return(text: &[u8]) -> &[u8]
         return front;
     }
     text
+}
+
+/// Whether the character stands for a value.
+#[inline(always)]
+fn is_value(character: u8) -> bool
+    ensures { result ≡ is_some (value_of character) }
+{
+    character == b'0' || character == b'1' || character == b'x'
+}
+
+/// Whether each character stands for a value. All are looked at, with no branch at any of them.
+fn are_values(text: &[u8]) -> bool
+    ensures { result ≡ is_some (values_of text.now) }
+{
+    let mut all = true;
+    for character in text {
+        all = all && is_value(*character);
+    }
+    all
+}
+
+/// Whether the text says a step or the end of a run, where the circuit has so many inputs.
+pub(crate) fn is_entry(inputs: usize, text: &[u8]) -> bool
+    ensures { result ≡ is_some (entry_in inputs text.now) }
+{
+    if is_stop(text) {
+        return true;
+    }
+    text.len() == inputs && are_values(text)
 }
