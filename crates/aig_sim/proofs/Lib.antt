@@ -20,3 +20,4 @@ pub mod Sending
 pub mod Streams
 pub mod Judging
 pub mod Collecting
+pub mod Batching

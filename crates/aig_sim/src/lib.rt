@@ -2,6 +2,7 @@
 #![tactic(auto)]
 
 mod batch;
+mod batched;
 mod cells;
 mod collected;
 mod evaluate;
@@ -24,6 +25,7 @@ mod trace;
 mod tracer;
 
 pub use crate::batch::simulate_batch;
+pub use crate::batched::simulate_batched;
 pub use crate::fault::SimFault;
 pub use crate::run::{FullRow, Run, Trace};
 pub use crate::simulator::{Row, Simulator};

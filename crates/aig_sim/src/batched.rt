@@ -1,0 +1,70 @@
+//! A simulation that reads the whole stimulus before it sends anything.
+ghost use Rattle.std.specs.Prelude.{◌≡◌, ◌≢◌, ◌+◌, ◌-◌, ◌^◌, ◌<◌, ◌≤◌, [], IfErr, None, OnOk, max, true};
+ghost use Rattle.aig_core.specs.declared.circuit.Circuit.{Circuit as CircuitRecord};
+ghost use Rattle.aig_io.specs.declared.block.TheConstants.{ROOM};
+ghost use Rattle.aig_sim.specs.declared.fault.SimFault.TheVariants.{WriteFailed};
+ghost use Rattle.aig_sim.specs.declared.trace.Columns.{Columns as ColumnsAsked};
+ghost use Rattle.aig_sim.specs.Batched.{NotBatched};
+ghost use Rattle.aig_sim.specs.Outcome.{Simulated, first_bad_line, sink_failures, source_failures};
+ghost use Rattle.aig_sim.specs.Parts.Streaming.{SentAll, SentInPart};
+ghost use Rattle.aig_sim.specs.Parts.Tracing.{IsAt};
+
+use crate::collected::collect;
+use crate::fault::SimFault;
+use crate::gathered::Gathered;
+use crate::reader::Reader;
+use crate::trace::Columns;
+use aig_core::{Checked, Sink, Source};
+use std::alloc::Global;
+
+/// Sends the text for all bytes of a stimulus that has no bad line.
+fn trace_good<W: Sink>(reader: &mut Reader, sink: &mut W, bytes: &[u8]) -> Result<(), SimFault>
+    requires number { reader.old.number ≡ 1 }
+    requires sink { W.failed sink.old < 2 ^ 64 - 1 }
+    ensures ok { OnOk result ((c : CircuitRecord) (columns : ColumnsAsked) → IsAt c columns [] [] reader.old
+        → first_bad_line c bytes.now true ≡ None
+        → SentAll c columns bytes.now [] (W.taken sink.old) (W.taken sink.new)) }
+    ensures err { IfErr result (λ e. (c : CircuitRecord) (columns : ColumnsAsked) → IsAt c columns [] [] reader.old
+        → first_bad_line c bytes.now true ≡ None
+        → SentInPart c columns bytes.now true [] (W.taken sink.old) (W.taken sink.new)) }
+    ensures kind { IfErr result (λ e. e ≡ WriteFailed) }
+    ensures ok_count { OnOk result (W.failed sink.new ≡ W.failed sink.old) }
+    ensures count { IfErr result (λ _. W.failed sink.new ≡ W.failed sink.old + 1) }
+    ensures short { W.longest sink.new ≤ max (W.longest sink.old) ROOM }
+{
+    let mut output = Gathered::new(sink);
+    let _all = reader.take_chunk(&mut output, bytes);
+    let _last = reader.take_end(&mut output);
+    let (sent, _sink) = output.finish();
+    if sent.is_err() {
+        return Err(SimFault::WriteFailed);
+    }
+    Ok(())
+}
+
+/// Simulates a circuit over a stimulus text, and writes the trace text, as `simulate` does; but the whole stimulus is
+/// read, and each line of it found good, before anything is sent. All memory is taken before that too.
+pub fn simulate_batched<R: Source, W: Sink>(
+    alloc: Global,
+    checked: &Checked,
+    columns: Columns,
+    source: &mut R,
+    sink: &mut W,
+) -> Result<(), SimFault>
+    requires source { R.failed source.old < 2 ^ 64 - 1 }
+    requires sink { W.failed sink.old < 2 ^ 64 - 1 }
+    ensures ok { OnOk result (Simulated checked.now columns (R.coming source.old) (R.coming source.new)
+        (W.taken sink.old) (W.taken sink.new)) }
+    ensures err { IfErr result (λ error. NotBatched checked.now columns error
+        (R.coming source.old) (R.coming source.new) (W.taken sink.old) (W.taken sink.new)) }
+    ensures unsent { IfErr result (λ error. error ≢ WriteFailed → sink.new ≡ sink.old) }
+    ensures ok_counts { OnOk result ((R.failed source.new ≡ R.failed source.old)
+        × (W.failed sink.new ≡ W.failed sink.old)) }
+    ensures source_count { IfErr result (λ error. R.failed source.new ≡ R.failed source.old + source_failures error) }
+    ensures sink_count { IfErr result (λ error. W.failed sink.new ≡ W.failed sink.old + sink_failures error) }
+    ensures short { W.longest sink.new ≤ max (W.longest sink.old) ROOM }
+{
+    let mut reader = Reader::new(alloc, checked, columns)?;
+    let bytes = collect(alloc, checked, source)?;
+    trace_good(&mut reader, sink, &bytes)
+}
