@@ -111,7 +111,11 @@ UNROLLED = Measurement(
     timed_by=generate.unrolled_ascii_of,
 )
 MEASUREMENTS["unroll"] = UNROLLED
-MEASUREMENTS["unroll-ascii"] = UNROLLED._replace(words=f"{UNROLLED.words} --ascii", wanted=generate.unrolled_ascii_of)
+MEASUREMENTS["unroll-ascii"] = UNROLLED._replace(
+    words=f"{UNROLLED.words} --ascii",
+    wanted=generate.unrolled_ascii_of,
+    aims=dict.fromkeys(generate.UNROLLED, 0.4),
+)
 
 
 class Simulation(NamedTuple):
