@@ -18,6 +18,7 @@ use Rattle.aig_binary.specs.BinaryGrammar.{binary_rows_of, binary_word}
 use Rattle.aig_binary.specs.BinaryText.{HasDeltas, binary_text, gate_text}
 use Rattle.aig_binary.proofs.Written.{has_deltas, lines_text}
 use Rattle.aig_unroll.specs.Unrolled.{IsTooLarge, frame_size, gates_at, unrolled}
+use Rattle.aig_unroll.specs.Parts.Frames.{Frame}
 use Rattle.aig_unroll.specs.Parts.Writing.{gate_lines, input_lines, literal_lines}
 use Rattle.aig_unroll.proofs.Ordering.Frames.{frame_length, gate_stands, gates_length}
 use Rattle.aig_unroll.proofs.Ordering.Ordered.{unrolled_ordered, unrolled_well_formed}
@@ -57,6 +58,11 @@ module _ {W : Type 0} where
       ∙ ap (λ (held : List ℕ). held ++ (text ++ [])) nothing ∙ append-nil text in
       subst (λ (x : Out W). Appends x.taken c.taken text) same
       (subst (λ (bytes : List ℕ). Appends a.taken c.taken bytes) whole out.took)
+
+-- Whatever frame it is in, the unrolled circuit is the same.
+pub same_circuit : (f g : Frame) → g ≡ record f { frame = g.frame }
+    → unrolled g.circuit g.frames ≡ unrolled f.circuit f.frames
+same_circuit f g moved = ap (λ (k : Frame). unrolled k.circuit k.frames) moved
 
 module _ (c : Circuit) (frames : ℕ) where
   abbrev d : Circuit

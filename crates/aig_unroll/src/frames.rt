@@ -63,7 +63,7 @@ pub(crate) fn count_uninitialised(latches: &[Latch]) -> usize
 }
 
 /// How many gates a frame has.
-fn gates_of_frame(circuit: &Circuit) -> usize
+pub(crate) fn gates_of_frame(circuit: &Circuit) -> usize
     requires { IsWellFormed circuit.now }
     ensures { result ≡ frame_size circuit.now }
 {

@@ -1,23 +1,25 @@
-//! The unrolled circuit, written frame by frame: it is never held.
+//! The unrolled circuit, written frame by frame: it is never held. A circuit and its frames are dropped by name, since a
+//! proof goes through all that goes out of scope by itself.
 ghost use Rattle.std.specs.Io.KnownBytes.{Appends};
-ghost use Rattle.std.specs.Prelude.{◌≡◌, ◌+◌, ◌-◌, ◌^◌, ◌<◌, ◌≤◌, max, is_ok, IfErr, IfOk, OnErr, OnOk};
+ghost use Rattle.std.specs.Prelude.{◌≡◌, ◌+◌, ◌-◌, ◌^◌, ◌<◌, ◌≤◌, length, max, is_ok, IfErr, IfOk, OnErr, OnOk};
 ghost use Rattle.std.specs.Prelude.{if◌then◌else◌};
+ghost use Rattle.aig_core.specs.Wellformed.{IsWellFormed};
 ghost use Rattle.aig_io.specs.Output.{Put};
 ghost use Rattle.aig_io.specs.Transfer.{TookBeginning};
 ghost use Rattle.aig_io.specs.declared.block.TheConstants.{ROOM};
 ghost use Rattle.aig_text.specs.AsciiText.{ascii_text};
 ghost use Rattle.aig_binary.specs.BinaryText.{binary_text};
-ghost use Rattle.aig_unroll.specs.Unrolled.{IsTooLarge, IsUnrolled, IsUnsupported, unrolled};
+ghost use Rattle.aig_unroll.specs.Unrolled.{IsTooLarge, IsUnrolled, IsUnsupported, frame_size, unrolled};
 ghost use Rattle.aig_unroll.specs.Outcome.{NotUnrolled};
 
 use crate::fault::UnrollFault;
-use crate::frames::Frames;
+use crate::frames::{Frames, gates_of_frame};
 use crate::unrolling::check_supported;
 use crate::writing::{
     header_numbers, put_bad_lines, put_gate_deltas, put_gate_lines, put_inputs, put_output_lines,
 };
 use aig_binary::BINARY_WORD;
-use aig_core::{Checked, Gate, Lit, Ordered, OutOfMemory, Output, Sink, Var};
+use aig_core::{Checked, Circuit, Gate, Lit, Ordered, OutOfMemory, Output, Sink, Var};
 use aig_image::into_binary;
 use aig_text::{ASCII_WORD, WriteFault, put_header};
 use std::alloc::Global;
@@ -48,6 +50,27 @@ impl Model for Unrolling {
     ghost invariant = { λ u. IsReady u.copies u.outputs.items u.bad.items u.gates.items };
 }
 
+/// Room for the outputs, the bad states and the gates of a frame.
+fn make_room(
+    alloc: Global,
+    circuit: &Circuit,
+) -> Result<(Vec<Lit>, Vec<Lit>, Vec<Gate>), OutOfMemory>
+    requires { IsWellFormed circuit.now }
+    ensures outputs { IfOk result (λ room. length room.0.items ≡ length circuit.now.outputs) }
+    ensures bad { IfOk result (λ room. length room.1.items ≡ length circuit.now.bad) }
+    ensures gates { IfOk result (λ room. length room.2.items ≡ frame_size circuit.now) }
+{
+    let no_gate = Gate {
+        var: Var(0),
+        left: Lit(0),
+        right: Lit(0),
+    };
+    let outputs = vec![in alloc; Lit(0); circuit.outputs.len()]?;
+    let bad = vec![in alloc; Lit(0); circuit.bad.len()]?;
+    let gates = vec![in alloc; no_gate; gates_of_frame(circuit)]?;
+    Ok((outputs, bad, gates))
+}
+
 impl Unrolling {
     /// Of a circuit in binary order.
     fn of_image(alloc: Global, image: Ordered, frames: u32) -> Result<Self, OutOfMemory>
@@ -56,21 +79,18 @@ impl Unrolling {
         ensures { IfOk result (λ d. d ≡ unrolled image frames) }
     {
         let copies = Frames::new(alloc, image, frames)?;
-        let circuit = copies.circuit();
-        let no_gate = Gate {
-            var: Var(0),
-            left: Lit(0),
-            right: Lit(0),
-        };
-        let outputs = vec![in alloc; Lit(0); circuit.outputs.len()]?;
-        let bad = vec![in alloc; Lit(0); circuit.bad.len()]?;
-        let gates = vec![in alloc; no_gate; copies.count_gates()]?;
-        Ok(Unrolling {
-            copies,
-            outputs,
-            bad,
-            gates,
-        })
+        match make_room(alloc, copies.circuit()) {
+            Ok((outputs, bad, gates)) => Ok(Unrolling {
+                copies,
+                outputs,
+                bad,
+                gates,
+            }),
+            Err(refused) => {
+                drop(copies);
+                Err(refused)
+            }
+        }
     }
 
     /// The circuit unrolled over so many frames, as `unroll` makes it. All memory that is ever taken is taken here: what
@@ -84,10 +104,16 @@ impl Unrolling {
         ensures supported { OnOk result ((¬ IsUnsupported checked) × (¬ IsTooLarge checked frames)) }
         ensures err { IfErr result (NotUnrolled checked frames) }
     {
-        check_supported(checked.circuit(), frames)?;
-        let image = into_binary(alloc, checked)?;
-        let unrolling = Unrolling::of_image(alloc, image, frames)?;
-        Ok(unrolling)
+        match check_supported(checked.circuit(), frames) {
+            Ok(()) => {
+                let image = into_binary(alloc, checked)?;
+                Ok(Unrolling::of_image(alloc, image, frames)?)
+            }
+            Err(fault) => {
+                drop(checked);
+                Err(fault)
+            }
+        }
     }
 
     /// Puts the canonical ASCII text.

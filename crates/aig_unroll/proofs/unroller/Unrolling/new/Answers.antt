@@ -7,10 +7,10 @@ use Rattle.aig_unroll.proofs.unroller.Unrolling.new.Goals as goal
 pub of_image-requires-clause-fits : goal.of_image-requires-clause-fits
 of_image-requires-clause-fits c large =
     let source : Circuit = c.args.checked in
-    let image : Circuit = c.in_ok-image.image in
+    let image : Circuit = c.in_ok-image-in-Ok.image in
     let fits : ¬ IsTooLarge source c.args.frames =
     subst (λ (k : Circuit). ¬ IsTooLarge k c.args.frames) c.circuit.ensures.value
-    c.in_ok-check_supported.ensures.supported.1 in
+    c.in-Ok.ensures.supported.1 in
     fits
-    (as_large source image c.args.frames (image_counts source image c.circuit.ensures.well_formed c.in_ok-image.ensures)
+    (as_large source image c.args.frames (image_counts source image c.circuit.ensures.well_formed c.in_ok-image-in-Ok.ensures)
     large)

@@ -6,15 +6,17 @@ use Rattle.aig_text.specs.AsciiText.{ascii_text}
 use Rattle.aig_unroll.specs.Unrolled.{unrolled}
 use Rattle.aig_unroll.specs.Parts.Frames.{Frame}
 use Rattle.aig_unroll.specs.Parts.Writing.{gate_lines, literal_lines}
-use Rattle.aig_unroll.proofs.Written.{ascii_parts}
+use Rattle.aig_unroll.proofs.Written.{ascii_parts, same_circuit}
 use Rattle.aig_unroll.proofs.unroller.Unrolling.put_ascii.Goals as goal
 
 pub returns : goal.returns
 returns g c =
     let f : Frame = c.self.inside.copies in
     let of : Frame → Circuit = λ k. unrolled k.circuit k.frames in
-    let once : of c.put_output_lines.new.copies ≡ of f = ap of c.put_output_lines.ensures.kept in
-    let twice : of c.put_bad_lines.new.copies ≡ of f = ap of c.put_bad_lines.ensures.kept ∙ once in
+    let behind : Frame = c.put_output_lines.new.copies in
+    let once : of behind ≡ of f = same_circuit f behind c.put_output_lines.ensures.kept in
+    let twice : of c.put_bad_lines.new.copies ≡ of f =
+    same_circuit behind c.put_bad_lines.new.copies c.put_bad_lines.ensures.kept ∙ once in
     let bad =
     subst (λ (d : Circuit). Put c.put_output_lines.new.output c.put_bad_lines.new.output (literal_lines d.bad)) once
     c.put_bad_lines.ensures.put in
