@@ -107,5 +107,6 @@ module _ (c : Circuit) (frames : ℕ) where
       let within : i < frame_size c = omega (arith, below, frame_length c frames t) in
       let place : t * frame_size c + i < frames * frame_size c = in_row (frame_size c) i t frames within there in
       subst HasDeltas (gate_stands c frames frames t i default there within)
-      (has_deltas d (unrolled_well_formed c frames formed ordered fits).limits (unrolled_ordered c frames formed ordered)
+      (has_deltas d (unrolled_well_formed c frames formed ordered fits).limits
+      (unrolled_ordered c frames formed ordered)
       (t * frame_size c + i) default (omega (arith, place, gates_length c frames 0 frames)))

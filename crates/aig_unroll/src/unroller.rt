@@ -1,5 +1,5 @@
-//! The unrolled circuit, written frame by frame: it is never held. A circuit and its frames are dropped by name, since a
-//! proof goes through all that goes out of scope by itself.
+//! The unrolled circuit, written frame by frame: it is never held. A circuit and its frames are dropped by name, since
+//! a proof goes through all that goes out of scope by itself.
 ghost use Rattle.std.specs.Io.KnownBytes.{Appends};
 ghost use Rattle.std.specs.Prelude.{◌≡◌, ◌+◌, ◌-◌, ◌^◌, ◌<◌, ◌≤◌, length, max, is_ok, IfErr, IfOk, OnErr, OnOk};
 ghost use Rattle.std.specs.Prelude.{if◌then◌else◌};
@@ -25,8 +25,8 @@ use aig_text::{ASCII_WORD, WriteFault, put_header};
 use std::alloc::Global;
 use std::marker::Model;
 
-/// A circuit unrolled over so many frames, ready to be written. It holds the circuit and room for one frame, and no more
-/// for more frames.
+/// A circuit unrolled over so many frames, ready to be written. It holds the circuit and room for one frame, however
+/// many frames there are.
 #[derive(Drop)]
 pub struct Unrolling {
     copies: Frames,
@@ -93,8 +93,8 @@ impl Unrolling {
         }
     }
 
-    /// The circuit unrolled over so many frames, as `unroll` makes it. All memory that is ever taken is taken here: what
-    /// the binary image takes, and room for one frame.
+    /// The circuit unrolled over so many frames, as `unroll` makes it. All memory that is ever taken is taken here:
+    /// what the binary image takes, and room for one frame.
     ///
     /// A circuit with justice properties or fairness constraints is refused, and so is one whose unrolled circuit would
     /// be too large: both before any memory is taken.
@@ -151,8 +151,8 @@ impl Unrolling {
         drop(copies);
     }
 
-    /// Writes the canonical ASCII text of the unrolled circuit, in slices of at most 8,192 bytes. It takes no memory and
-    /// fails only where the sink fails; the sink then took a beginning of the text, and is not called again.
+    /// Writes the canonical ASCII text of the unrolled circuit, in slices of at most 8,192 bytes. It takes no memory
+    /// and fails only where the sink fails; the sink then took a beginning of the text, and is not called again.
     pub fn write_ascii<W: Sink>(self, sink: &mut W) -> Result<(), WriteFault>
         requires { W.failed sink.old < 2 ^ 64 - 1 }
         ensures ok { OnOk result (Appends (W.taken sink.old) (W.taken sink.new) (ascii_text self)) }
@@ -167,8 +167,8 @@ impl Unrolling {
         Ok(())
     }
 
-    /// Writes the canonical binary text of the unrolled circuit, in slices of at most 8,192 bytes. It takes no memory and
-    /// fails only where the sink fails; the sink then took a beginning of the text, and is not called again.
+    /// Writes the canonical binary text of the unrolled circuit, in slices of at most 8,192 bytes. It takes no memory
+    /// and fails only where the sink fails; the sink then took a beginning of the text, and is not called again.
     pub fn write_binary<W: Sink>(self, sink: &mut W) -> Result<(), WriteFault>
         requires { W.failed sink.old < 2 ^ 64 - 1 }
         ensures ok { OnOk result (Appends (W.taken sink.old) (W.taken sink.new) (binary_text self)) }

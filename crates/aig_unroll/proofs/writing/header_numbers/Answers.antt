@@ -11,7 +11,8 @@ returns c =
     let frames : ℕ = c.args.copies.now.frames in
     let same : c.circuit-circuit.result.now ≡ circuit = c.circuit-circuit.ensures.value in
     let frames_are : c.from-frames.result ≡ frames = c.from-frames.ensures ∙ c.frames.ensures.value in
-    let inputs_are : c.from-inputs.result ≡ all_inputs circuit frames = c.from-inputs.ensures ∙ c.count_inputs.ensures in
+    let inputs_are : c.from-inputs.result ≡ all_inputs circuit frames =
+    c.from-inputs.ensures ∙ c.count_inputs.ensures in
     let gates_are : c.from-frames.result * c.count_gates.result ≡ frames * frame_size circuit =
     ap₂ (λ m n. m * n) frames_are c.count_gates.ensures in
     let variables = ap₂ (λ m n. m + n) inputs_are gates_are in

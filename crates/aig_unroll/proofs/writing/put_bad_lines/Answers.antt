@@ -15,7 +15,8 @@ loop-frame-preserved g c =
     record {
       kept = here ∙ ap (λ (k : Frame). record copies { frame = k.frame }) (sym here);
       behind = λ _. ap (λ (k : Frame). k.frame + 1) (sym here);
-      put = frame_more (bad_at copies.circuit copies.frames) (λ literal. numbers_text (literal_row literal)) loop.frame _ _ _ _
+      put = frame_more (bad_at copies.circuit copies.frames) (λ literal. numbers_text (literal_row literal))
+          loop.frame _ _ _ _
           (c.put_bad.ensures ∙ ap (λ (k : Frame). bad_at k.circuit k.frames k.frame) here)
           loop.invariant.put c.put_lines.ensures;
     }

@@ -16,7 +16,8 @@ loop-frame-preserved g c =
     record {
       kept = here ∙ ap (λ (k : Frame). record copies { frame = k.frame }) (sym here);
       behind = λ _. ap (λ (k : Frame). k.frame + 1) (sym here);
-      put = frame_more (gates_at copies.circuit copies.frames) (λ (gate : Gate). numbers_text (gate_row gate)) loop.frame _ _ _ _
+      put = frame_more (gates_at copies.circuit copies.frames) (λ (gate : Gate). numbers_text (gate_row gate))
+          loop.frame _ _ _ _
           (c.put_gates.ensures.gates ∙ ap (λ (k : Frame). gates_at k.circuit k.frames k.frame) here)
           loop.invariant.put c.put_lines.ensures;
     }

@@ -12,5 +12,6 @@ of_image-requires-clause-fits c large =
     subst (λ (k : Circuit). ¬ IsTooLarge k c.args.frames) c.circuit.ensures.value
     c.in-Ok.ensures.supported.1 in
     fits
-    (as_large source image c.args.frames (image_counts source image c.circuit.ensures.well_formed c.in_ok-image-in-Ok.ensures)
+    (as_large source image c.args.frames
+    (image_counts source image c.circuit.ensures.well_formed c.in_ok-image-in-Ok.ensures)
     large)

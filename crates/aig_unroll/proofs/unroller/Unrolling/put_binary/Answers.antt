@@ -22,7 +22,8 @@ returns g c =
     subst (λ (d : Circuit). Put c.put_output_lines.new.output c.put_bad_lines.new.output (literal_lines d.bad)) once
     c.put_bad_lines.ensures.put in
     let gates =
-    subst (λ (d : Circuit). Put c.put_bad_lines.new.output c.put_gate_deltas.new.output (flat_map gate_text d.gates)) twice
+    subst
+    (λ (d : Circuit). Put c.put_bad_lines.new.output c.put_gate_deltas.new.output (flat_map gate_text d.gates)) twice
     c.put_gate_deltas.ensures in
     subst (λ (text : List ℕ). Put c.args.output.now c.put_gate_deltas.new.output text)
     (binary_parts f.circuit f.frames ∙ ap binary_text c.self.view_is)
