@@ -34,7 +34,8 @@ required_file name = record (new_rule name) { required = true }
 -- `aigsim`: its options in any order, then the names of the model and of the stimulus, by place
 abbrev pub aigsim : App
 aigsim = with_rules (new_app (codes "aigsim"))
-    (flag (codes "properties") ∷ max_var ∷ required_file (codes "model") ∷ new_rule (codes "stimulus") ∷ [])
+    (flag (codes "batch") ∷ flag (codes "properties") ∷ max_var
+    ∷ required_file (codes "model") ∷ new_rule (codes "stimulus") ∷ [])
 
 -- `--frames K`, which has to be given
 abbrev pub frames : Rule

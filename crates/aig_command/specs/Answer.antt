@@ -41,6 +41,7 @@ conversion_of request = record {
 -- the simulation that a request is for
 abbrev pub simulation_of : Sim → Simulation
 simulation_of request = record {
+  batch = request.batch;
   properties = request.properties;
   max_var = request.max_var;
   model = name_of request.model;

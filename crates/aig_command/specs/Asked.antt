@@ -86,6 +86,7 @@ refusal c =
 
 -- a simulation: of which model, on which stimulus, and how
 pub record Simulation : Type 0 where
+  pub batch : Bool
   pub properties : Bool
   pub max_var : ℕ
   pub model : Option Text
@@ -94,6 +95,7 @@ pub record Simulation : Type 0 where
 -- the simulation that the arguments of `aigsim` name
 abbrev pub simulation : List Row → Simulation
 simulation rows = record {
+  batch = is_set (codes "batch") rows;
   properties = is_set (codes "properties") rows;
   max_var = limit rows;
   model = file (codes "model") rows;

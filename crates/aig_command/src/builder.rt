@@ -43,8 +43,12 @@ step, with a space between. With --properties those of the bad states and of
 the constraints follow. A latch without initial value starts at x. A line of
 one dot stands at the end of each run.
 
-A line of the trace is written as soon as its step is known. If a later line of
-the stimulus is refused, what was written stands.
+Without --batch a line of the trace is written as soon as its step is known. If
+a later line of the stimulus is refused, what was written stands.
+
+With --batch the trace is the same, but the whole stimulus is read before
+anything is written. If a line of it is refused, nothing is written. This takes
+memory for the stimulus and for the traces of 256 runs.
 
 Exit status:
   0  done, also for --help
@@ -56,6 +60,7 @@ Examples, of a model with two inputs:
   printf '10\\n1x\\n' | aiger aigsim model.aag       one run of two steps
   printf '10\\n.\\n1x\\n' > steps.txt                 two runs of one step
   aiger aigsim --properties model.aag steps.txt    with properties
+  aiger aigsim --batch model.aag steps.txt         many runs side by side
   aiger aigsim - steps.txt < model.aag             the model from a stream";
 
 const UNROLL_ABOUT: &str = "Unroll a circuit over time frames, as one circuit without latches";
@@ -82,6 +87,10 @@ Examples:
   aiger aigunroll --frames 20 - < model.aig > out    from stream to stream";
 
 const FRAMES_HELP: &str = "The number of time frames: 1 to 1000000";
+
+const BATCH_HELP: &str = "\
+Run many runs side by side: much faster where there are
+hundreds of them";
 
 const PROPERTIES_HELP: &str = "\
 Show bad states and constraints too, behind the rest of
@@ -189,6 +198,7 @@ fn aigsim<'a>(alloc: Global) -> Result<Command<'a>, AllocError>
     ensures local { IfOk result (λ c. (fields_of c).has_globals ≡ false) }
 {
     let command = command(alloc, "aigsim", SIM_ABOUT, SIM_AFTER)
+        .arg(flag(alloc, "batch", BATCH_HELP))?
         .arg(flag(alloc, "properties", PROPERTIES_HELP))?
         .arg(max_var(alloc))?
         .arg(required_file(

@@ -23,6 +23,8 @@ pub struct ToAig {
 /// A simulation of a circuit.
 #[derive(Drop)]
 pub struct Sim {
+    /// Whether the whole stimulus is read before anything is written, and runs go side by side.
+    pub batch: bool,
     /// Whether a line of the trace shows bad states and constraints too.
     pub properties: bool,
     /// The limit on the largest variable index and the counts of the model.

@@ -17,6 +17,7 @@ fn simulation(alloc: Global, matches: &ArgMatches<'_>) -> Result<Sim, AllocError
     let model = file(alloc, matches, "model")?;
     let stimulus = file(alloc, matches, "stimulus")?;
     Ok(Sim {
+        batch: is_set(matches, "batch"),
         properties: is_set(matches, "properties"),
         max_var: limit(matches),
         model,
