@@ -28,7 +28,7 @@ aigtoaig a <> => 2147483647 a <>;\
 aigtoaig -- --ascii --help => 2147483647 --ascii --help;\
 aigtoaig --strip -- - -x.aag => ascii strip 2147483647 - -x.aag";
 
-/// Arguments after the program's name, and what they ask for: the option of the simulation, its limit, its model and
+/// Arguments after the program's name, and what they ask for: the options of the simulation, its limit, its model and
 /// its stimulus.
 const SIMULATIONS: &str = "\
 aigsim m => 2147483647 m -;\
@@ -38,6 +38,10 @@ aigsim m s => 2147483647 m s;\
 aigsim m m => 2147483647 m m;\
 aigsim --properties --max-var 7 m s => properties 7 m s;\
 aigsim m --properties s => properties 2147483647 m s;\
+aigsim --batch m => batch 2147483647 m -;\
+aigsim - s --batch => batch 2147483647 - s;\
+aigsim --batch --properties m s => batch properties 2147483647 m s;\
+aigsim --properties m --batch --max-var 7 s => batch properties 7 m s;\
 aigsim m s --max-var=0 => 0 m s;\
 aigsim --max-var 2147483647 m => 2147483647 m -;\
 aigsim m --max-var +007 => 7 m -;\
@@ -46,6 +50,7 @@ aigsim <> => 2147483647 <> -;\
 aigsim m.aag s.gz => 2147483647 m.aag s.gz;\
 aigsim aigtoaig help => 2147483647 aigtoaig help;\
 aigsim -- --properties --help => 2147483647 --properties --help;\
+aigsim --batch -- - --batch => batch 2147483647 - --batch;\
 aigsim --properties -- -m => properties 2147483647 -m -";
 
 /// Arguments after the program's name, and what they ask for: the frames of the unrolling, its option, its limit, its
@@ -86,6 +91,7 @@ aigtoaig --ascii - .gz => compressed output is not supported;\
 aigsim - => model and stimulus are both standard input;\
 aigsim - - => model and stimulus are both standard input;\
 aigsim --properties --max-var 7 -- - => model and stimulus are both standard input;\
+aigsim --batch - => model and stimulus are both standard input;\
 aigunroll --frames 2 - x.aig.gz => compressed output is not supported;\
 aigunroll --ascii --frames 2 a.aag .gz => compressed output is not supported;\
 aigtoaig --help => help;\
@@ -98,6 +104,7 @@ aigsim --help => help;\
 aigsim -h => help;\
 aigsim - --help => help;\
 aigsim --properties m s --help t => help;\
+aigsim --batch - --help => help;\
 aigunroll --help => help;\
 aigunroll -h => help;\
 aigunroll --frames 2 - b.gz --help => help;\
@@ -119,11 +126,20 @@ aigtoaig --properties => words;\
 aigtoaig --frames 2 => words;\
 aigsim => words;\
 aigsim --properties => words;\
+aigsim --batch => words;\
 aigsim m s t => words;\
 aigsim - - - => words;\
 aigsim --properties --properties m => words;\
 aigsim --properties=yes m => words;\
 aigsim --propertie m => words;\
+aigsim --batch --batch m => words;\
+aigsim --batch --properties --batch m => words;\
+aigsim --batch=yes m => words;\
+aigsim --batch= m => words;\
+aigsim --batc m => words;\
+aigsim --Batch m => words;\
+aigsim -b m => words;\
+aigsim --batch m s t => words;\
 aigsim m --max-var => words;\
 aigsim m --max-var 2147483648 => words;\
 aigsim m --max-var=-1 => words;\
@@ -134,7 +150,6 @@ aigsim --ascii m => words;\
 aigsim --strip m => words;\
 aigsim --keep-map m => words;\
 aigsim --undo-map m => words;\
-aigsim --batch m => words;\
 aigsim --witness m s => words;\
 aigsim --frames 2 m => words;\
 aigsim -x => words;\
@@ -181,6 +196,7 @@ AIGUNROLL --frames 2 => words;\
 --frames 2 aigunroll => words;\
 --ascii aigtoaig => words;\
 --properties aigsim m => words;\
+--batch aigsim m => words;\
 <> => words";
 
 /// The program's name and the arguments of a line, with one space between them.
@@ -217,6 +233,7 @@ fn shown_conversion(alloc: Global, request: &ToAig) -> Result<String, AllocError
 
 /// A simulation, as a row shows it.
 fn shown_simulation(alloc: Global, request: &Sim) -> Result<String, AllocError> {
+    let batch = if request.batch { "batch " } else { "" };
     let properties = if request.properties {
         "properties "
     } else {
@@ -225,7 +242,7 @@ fn shown_simulation(alloc: Global, request: &Sim) -> Result<String, AllocError> 
     let model = shown(&request.model);
     let stimulus = shown(&request.stimulus);
     let limit = request.max_var;
-    format!(in alloc; "{properties}{limit} {model} {stimulus}")
+    format!(in alloc; "{batch}{properties}{limit} {model} {stimulus}")
 }
 
 /// An unrolling, as a row shows it.
