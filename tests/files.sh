@@ -423,7 +423,7 @@ wants '' "aiger: $longest: cannot read\n" 1
 check 'a very long name' aig "$longest"
 refused 'an unknown option' '--asci' aigtoaig --asci
 refused 'an option close to one' '--ascii' aigtoaig --asci
-refused 'an option that no tool has yet' '--batch' aigtoaig --batch
+refused 'an option of simulations alone' '--batch' aigtoaig --batch
 refused 'a limit that is no number' '--max-var' aigtoaig --max-var x
 refused 'a limit above the largest' '2147483648' aigtoaig --max-var 2147483648
 refused 'three names' 'c' aigtoaig a b c
@@ -476,7 +476,8 @@ helps 'help of aigsim' aigsim --help
 # its examples run as they stand too, and the traces of the half adder come
 grep '^  printf \|^  aiger aigsim ' "$work/out" | sed 's/aiger aigsim /"$program" aigsim /; s/   .*//' > "$work/examples"
 simulation_examples() { ( cd "$files" && set -e && . "$work/examples" ); }
-wants ' 10 10 \n 1x xx \n.\n 10 10   \n.\n 1x xx   \n.\n 10 10 \n.\n 1x xx \n.\n' '' 0
+half=' 10 10 \n.\n 1x xx \n.\n'
+wants " 10 10 \n 1x xx \n.\n 10 10   \n.\n 1x xx   \n.\n$half$half" '' 0
 check 'the examples of help of aigsim run' simulation_examples
 helps 'help of aigunroll' aigunroll --help
 # its examples too; the half adder has no latches, so each frame is a copy of it
