@@ -1,6 +1,6 @@
 -- What came of a simulation, for a model and a stimulus and what is left of them, and a sink and how it is filled then.
 -- Nothing is said of the bytes of a device that does not tell them.
-use Rattle.std.specs.Prelude.{◌≡◌, ◌+◌, ℕ, List, Option, Some, ⊤}
+use Rattle.std.specs.Prelude.{◌≡◌, ◌≢◌, ◌+◌, ℕ, List, Option, Some, ⊤, true, false}
 use Rattle.std.specs.Io.KnownBytes.{Appends}
 use Rattle.aig_io.specs.Transfer.{GaveAll}
 use Rattle.aig_core.specs.declared.circuit.Circuit.{Circuit}
@@ -8,6 +8,7 @@ use Rattle.aig_command.specs.Answer.{name_of}
 use Rattle.aig_command.specs.declared.request.Sim.{Sim}
 use Rattle.aig_sim.specs.declared.fault.SimFault.{SimFault}
 use Rattle.aig_sim.specs.declared.fault.SimFault.TheVariants as sim_faults
+use Rattle.aig_sim.specs.Batched.{NotBatched}
 use Rattle.aig_sim.specs.Outcome.{NotSimulated, sink_failures, source_failures}
 use Rattle.aig_tools.specs.declared.fault.ToolFault.{ToolFault}
 use Rattle.aig_tools.specs.declared.fault.ToolFault.TheVariants as faults
@@ -34,11 +35,17 @@ pub record Stopped {M R W : Type 0} (request : Sim) (fault : SimFault)
     (model : SourceUse M) (stimulus : SourceUse R) (sink : SinkUse W) : Type 0 where
   pub found : Circuit
   pub has_read : HasRead request.max_var found model
-  pub came : NotSimulated found (columns_of request) fault
+  pub came : request.batch ≡ false → NotSimulated found (columns_of request) fault
       (stimulus.coming stimulus.before) (stimulus.coming stimulus.after)
       (sink.taken sink.before) (sink.taken sink.after)
   -- All growth comes before the first fetch.
-  pub untouched : fault ≡ sim_faults.OutOfMemory → (stimulus.after ≡ stimulus.before) × (sink.after ≡ sink.before)
+  pub untouched : request.batch ≡ false → fault ≡ sim_faults.OutOfMemory
+      → (stimulus.after ≡ stimulus.before) × (sink.after ≡ sink.before)
+  pub came_whole : request.batch ≡ true → NotBatched found (columns_of request) fault
+      (stimulus.coming stimulus.before) (stimulus.coming stimulus.after)
+      (sink.taken sink.before) (sink.taken sink.after)
+  -- The whole stimulus is read, and found right, before anything is sent.
+  pub unsent : request.batch ≡ true → fault ≢ sim_faults.WriteFailed → sink.after ≡ sink.before
   -- A device is at fault where its count of failures rose, which is by one.
   pub stimulus_count : stimulus.failures stimulus.after ≡ stimulus.failures stimulus.before + source_failures fault
   pub sink_count : sink.failures sink.after ≡ sink.failures sink.before + sink_failures fault
