@@ -1,8 +1,9 @@
 #!/usr/bin/env bash
 # Runs each row of the table in rows.sh with its Nth growth of memory refused, N from 1 until there is no Nth growth.
-# A run with a refusal answers 'aiger: out of memory', status 1, and writes nothing; a simulation has then read nothing of its
-# stimulus either. The run without a refusal gives the row's own answer. A row counts once. What happens before anything is
-# read is the same for all rows with the same words, so it is refused once, with a folder as standard input and as the model.
+# A run with a refusal answers 'aiger: out of memory', status 1, and writes nothing; a simulation without --batch has then read
+# nothing of its stimulus either. The run without a refusal gives the row's own answer. A row counts once. What happens before
+# anything is read is the same for all rows with the same words, so it is refused once, with a folder as standard input and as
+# the model; and what happens before a stimulus is read is so with the same model, with a folder as the stimulus.
 . "$(dirname "${BASH_SOURCE[0]}")/rows.sh"
 . "$top/tests/judge.sh"
 need_program
@@ -30,8 +31,8 @@ run_refusing() {
 
 growths=0
 
-# Whether a run with a refusal that ended with STATUS ran out of memory, and wrote nothing; and, of a simulation whose stimulus is
-# the standard input, whether it read nothing of that.
+# Whether a run with a refusal that ended with STATUS ran out of memory, and wrote nothing; and, of a simulation without --batch
+# whose stimulus is the standard input, whether it read nothing of that.
 ran_out() {
     local line= rest=
     { IFS= read -r line; IFS= read -r rest; } < "$work/err"
@@ -54,8 +55,24 @@ refuse_each() {
     done
 }
 
-# how many growths come before anything is read, which are the same in each row with these words
+# how many growths come before what the rows with these words and these models have in common is done
 declare -A before
+
+# leave_out FROM WORD..: refuses each growth from number FROM on with a folder as standard input, if that was not done for these
+# words. Leaves in $known how many growths there are before the folder is read; FROM - 1, if it is not read.
+leave_out() {
+    local from=$1 input=$work words
+    shift
+    words="words ${*@Q}"   # which is no empty subscript
+    if [ -z "${before[$words]-}" ]; then   # -v would take the quotes out of the subscript
+        before[$words]=$((from - 1))
+        if refuse_each "$from" "$@" && [[ $(< "$work/err") =~ ^aiger:\ (-|"$work/folds."1+):\ cannot\ read$ ]]; then
+            before[$words]=$((number - 1))
+        fi
+        rm -f "$work"/refused.*
+    fi
+    known=${before[$words]}
+}
 
 # Leaves in $unread the words with a folder in the place of the model, since rows of many models have the same growths before
 # their model is read. Its name is as long, and so are the names of all models that take its place.
@@ -70,23 +87,17 @@ without_model() {
 }
 
 row() {
-    local name=$1 input=$work status=$5 number ended words reads=source position unread
+    local name=$1 input=$work/in status=$5 number ended known reads=source position unread
     printf '%b' "$2" > "$work/in"
     wants "$3" "$4" "$5"
     shift 5
     without_model "$@"
-    # the model comes by standard input where it is named by -, which in these rows is the first name
-    [ "${1-}" != aigsim ] || [ "${2-}" = - ] || reads=stimulus
-    words="words ${unread[*]@Q}"   # which is no empty subscript
-    if [ -z "${before[$words]-}" ]; then   # -v would take the quotes out of the subscript
-        before[$words]=0
-        if refuse_each 1 "${unread[@]}" && [[ $(< "$work/err") =~ ^aiger:\ (-|"$work/folds."1+):\ cannot\ read$ ]]; then
-            before[$words]=$((number - 1))
-        fi
-        rm -f "$work"/refused.*
-    fi
-    input=$work/in
-    if ! refuse_each $((before[$words] + 1)) "$@"; then
+    # the model comes by standard input where it is named by -, which in these rows is the first name; and a batch keeps the
+    # stimulus that it reads
+    [ "${1-}" != aigsim ] || [ "${2-}" = - ] || [[ " $* " = *' --batch '* ]] || reads=stimulus
+    leave_out 1 "${unread[@]}"
+    [ "${unread[*]@Q}" = "${*@Q}" ] || leave_out $((known + 1)) "$@"
+    if ! refuse_each $((known + 1)) "$@"; then
         came "$ended"
         tell "$name, growth $number refused"
     elif [ "$number" -gt "$most" ]; then

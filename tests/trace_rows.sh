@@ -8,14 +8,29 @@ model() {
     model=$work/model.$models
     printf '%b' "$1" > "$model"
 }
-traces() { row "$1" "$2" "$3" '' 0 aigsim "$model"; }
-with_properties() { row "$1" "$2" "$3" '' 0 aigsim --properties "$model"; }
+# traced NAME STIMULUS TRACE WORD..: a simulation that ends well. With --batch the same text comes.
+traced() {
+    local name=$1 given=$2 trace=$3
+    shift 3
+    row "$name" "$given" "$trace" '' 0 aigsim "$@"
+    row "$name, in a batch" "$given" "$trace" '' 0 aigsim --batch "$@"
+}
+# untraced NAME STIMULUS TRACE TEXT WORD..: a simulation that fails, with what was traced by then. With --batch the same is
+# said, and nothing is traced.
+untraced() {
+    local name=$1 given=$2 trace=$3 text=$4
+    shift 4
+    row "$name" "$given" "$trace" "aiger: $text\n" 1 aigsim "$@"
+    row "$name, in a batch" "$given" '' "aiger: $text\n" 1 aigsim --batch "$@"
+}
+traces() { traced "$1" "$2" "$3" "$model"; }
+with_properties() { traced "$1" "$2" "$3" --properties "$model"; }
 # stops NAME STIMULUS TRACE LINE: this line is bad, and the trace of those before it stands
-stops() { row "$1" "$2" "$3" "aiger: -: line $4: bad stimulus line\n" 1 aigsim "$model"; }
+stops() { untraced "$1" "$2" "$3" "-: line $4: bad stimulus line" "$model"; }
 # a model that is refused, whatever the stimulus is
 no_model() {
     model "$2"
-    row "$1" '0\nx.\n' '' "aiger: $model: $3\n" 1 aigsim "$model"
+    untraced "$1" '0\nx.\n' '' "$model: $3" "$model"
 }
 
 rows_traces() {
@@ -31,6 +46,7 @@ rows_traces() {
     rows_trace_columns
     rows_models
     rows_stimulus_names
+    rows_many_runs
 }
 
 # a gate, without latches; a latch; and both
@@ -243,7 +259,7 @@ rows_trace_columns() {
     traces 'a bad state that is not asked for' '\n' 'x   x\n.\n'
     model 'aag 3 2 0 1 1\n2\n4\n6\n6 2 4\n'
     with_properties 'properties of a circuit that has none' '11\n.\n0x\n' ' 11 1   \n.\n 0x 0   \n.\n'
-    row 'a bad line beside properties' '11\n1\n' ' 11 1   \n' 'aiger: -: line 2: bad stimulus line\n' 1 aigsim --properties "$model"
+    untraced 'a bad line beside properties' '11\n1\n' ' 11 1   \n' '-: line 2: bad stimulus line' --properties "$model"
     model 'aag 0 0 0 0 0\n'
     with_properties 'properties of a circuit of nothing' '\n' '     \n.\n'
     model 'aag 1 1 0 0 0 0 1\n2\n3\n'
@@ -273,18 +289,18 @@ rows_models() {
     no_model 'a literal of the model not defined' 'aag 2 1 0 1 0\n2\n4\n' 'literal 4 not defined'
     no_model 'a cycle of the model' 'aag 3 1 0 0 2\n2\n4 6 2\n6 4 2\n' 'gate 4 depends on a cycle'
     model 'aag 3 2 0 1 1\n2\n4\n6\n6 2 4\n'
-    row 'a model within the limit' '11\n' ' 11 1 \n.\n' '' 0 aigsim --max-var 3 "$model"
-    row 'a model above the limit' '1\n' '' "aiger: $model: line 1: number above the limit\n" 1 aigsim --max-var 2 "$model"
-    row 'a model that is not there' '11\n' '' "aiger: $work/none: cannot read\n" 1 aigsim "$work/none"
-    row 'neither model nor stimulus is there' '' '' "aiger: $work/none: cannot read\n" 1 aigsim "$work/none" "$work/nothing"
-    row 'an empty name of the model' '11\n' '' 'aiger: : cannot read\n' 1 aigsim ''
-    row 'a folder as model' '11\n' '' "aiger: $work: cannot read\n" 1 aigsim "$work"
+    traced 'a model within the limit' '11\n' ' 11 1 \n.\n' --max-var 3 "$model"
+    untraced 'a model above the limit' '1\n' '' "$model: line 1: number above the limit" --max-var 2 "$model"
+    untraced 'a model that is not there' '11\n' '' "$work/none: cannot read" "$work/none"
+    untraced 'neither model nor stimulus is there' '' '' "$work/none: cannot read" "$work/none" "$work/nothing"
+    untraced 'an empty name of the model' '11\n' '' ': cannot read' ''
+    untraced 'a folder as model' '11\n' '' "$work: cannot read" "$work"
     printf 'aag 1 1 0 0 0\nx\n' > "$work/model.bad"
-    row 'a model that is refused, and no stimulus' '' '' "aiger: $work/model.bad: line 2: bad line\n" 1 \
-        aigsim "$work/model.bad" "$work/none"
-    row 'a refused model by standard input, and no stimulus' 'aag 1 1 0 0 0\nx\n' '' 'aiger: -: line 2: bad line\n' 1 \
-        aigsim - "$work/none"
-    row 'an empty model by standard input' '' '' 'aiger: -: line 1: not an AIGER file\n' 1 aigsim - "$model"
+    untraced 'a model that is refused, and no stimulus' '' '' "$work/model.bad: line 2: bad line" \
+        "$work/model.bad" "$work/none"
+    untraced 'a refused model by standard input, and no stimulus' 'aag 1 1 0 0 0\nx\n' '' '-: line 2: bad line' \
+        - "$work/none"
+    untraced 'an empty model by standard input' '' '' '-: line 1: not an AIGER file' - "$model"
 }
 
 rows_stimulus_names() {
@@ -292,20 +308,41 @@ rows_stimulus_names() {
     printf '11\n.\n0x\n' > "$work/steps"
     printf '11\n.\n0\n' > "$work/bad_steps"
     model "$gate"
-    row 'a stimulus by its name' 'bad\n' ' 11 1 \n.\n 0x 0 \n.\n' '' 0 aigsim "$model" "$work/steps"
-    row 'the stimulus by -' '11\n' ' 11 1 \n.\n' '' 0 aigsim "$model" -
-    row 'the model by standard input' "$gate" ' 11 1 \n.\n 0x 0 \n.\n' '' 0 aigsim - "$work/steps"
-    row 'a binary model by standard input' 'aig 3 2 0 1 1\n6\n\x02\x02' ' 11 1 \n.\n 0x 0 \n.\n' '' 0 aigsim - "$work/steps"
-    row 'a bad line by its name' '' ' 11 1 \n.\n' "aiger: $work/bad_steps: line 3: bad stimulus line\n" 1 \
-        aigsim "$model" "$work/bad_steps"
-    row 'a bad line by its name, the model by -' "$gate" ' 11 1 \n.\n' "aiger: $work/bad_steps: line 3: bad stimulus line\n" 1 \
-        aigsim - "$work/bad_steps"
-    row 'a stimulus that is not there' '11\n' '' "aiger: $work/none: cannot read\n" 1 aigsim "$model" "$work/none"
-    row 'an empty name of the stimulus' '11\n' '' 'aiger: : cannot read\n' 1 aigsim "$model" ''
-    row 'a folder as stimulus' '11\n' '' "aiger: $work: cannot read\n" 1 aigsim "$model" "$work"
-    row 'the model as its own stimulus' '' '' "aiger: $model: line 1: bad stimulus line\n" 1 aigsim "$model" "$model"
-    row 'options behind names' '11\n' ' 11 1   \n.\n' '' 0 aigsim "$model" --max-var=3 --properties
+    traced 'a stimulus by its name' 'bad\n' ' 11 1 \n.\n 0x 0 \n.\n' "$model" "$work/steps"
+    traced 'the stimulus by -' '11\n' ' 11 1 \n.\n' "$model" -
+    traced 'the model by standard input' "$gate" ' 11 1 \n.\n 0x 0 \n.\n' - "$work/steps"
+    traced 'a binary model by standard input' 'aig 3 2 0 1 1\n6\n\x02\x02' ' 11 1 \n.\n 0x 0 \n.\n' - "$work/steps"
+    untraced 'a bad line by its name' '' ' 11 1 \n.\n' "$work/bad_steps: line 3: bad stimulus line" \
+        "$model" "$work/bad_steps"
+    untraced 'a bad line by its name, the model by -' "$gate" ' 11 1 \n.\n' "$work/bad_steps: line 3: bad stimulus line" \
+        - "$work/bad_steps"
+    untraced 'a stimulus that is not there' '11\n' '' "$work/none: cannot read" "$model" "$work/none"
+    untraced 'an empty name of the stimulus' '11\n' '' ': cannot read' "$model" ''
+    untraced 'a folder as stimulus' '11\n' '' "$work: cannot read" "$model" "$work"
+    untraced 'the model as its own stimulus' '' '' "$model: line 1: bad stimulus line" "$model" "$model"
+    traced 'options behind names' '11\n' ' 11 1   \n.\n' "$model" --max-var=3 --properties
     unwanted 'model and stimulus by standard input' 'model and stimulus are both standard input' aigsim -
     unwanted 'model and stimulus by -' 'model and stimulus are both standard input' aigsim - -
     unwanted 'model and stimulus by -, with options' 'model and stimulus are both standard input' aigsim --properties -- - -
+}
+
+# more runs than go side by side, of different lengths
+rows_many_runs() {
+    local runs trace
+    model 'aag 3 1 1 1 1\n2\n4 6\n6\n6 2 5\n'
+    # every_run LINE OTHER: runs of 0 to 299 lines, which take turns
+    every_run() {
+        awk -v line="$1" -v other="$2" 'BEGIN {
+            for (run = 0; run < 300; run++) {
+                for (step = 0; step < run; step++) printf "%s\\n", step % 2 ? other : line
+                printf ".\\n"
+            }
+        }'
+    }
+    runs=$(every_run 1 1)
+    trace=$(every_run '0 1 1 1' '1 1 0 0')
+    traces '300 runs of 0 to 299 steps' "$runs" "$trace"
+    stops '300 runs of 0 to 299 steps, and a bad line' "${runs}0\n2\n" "${trace}0 0 0 0\n" 45152
+    row 'the option --batch behind a name' '1\n.\n1\n' '0 1 1 1\n.\n0 1 1 1\n.\n' '' 0 aigsim "$model" --batch -
+    unwanted 'model and stimulus by -, in a batch' 'model and stimulus are both standard input' aigsim --batch -
 }
