@@ -285,7 +285,7 @@ judge 'a line that is too long and comes in pieces' "${PIPESTATUS[1]}"
 printf 'aag 12 10 1 1 1\n%s22 22 1\n24\n24 22 20\n' "$(printf '%s\n' $(seq 2 2 20))
 " > "$work/wide"
 many_steps() { yes 01x01x01x1 2> /dev/null | head -n 9090910; }
-in_little() { ( ulimit -v 20480 && exec timeout 300 "$program" aigsim "$work/wide" ); }
+in_little() { ( ulimit -v 20480 && exec timeout 300 "$program" aigsim "$@" "$work/wide" ); }
 wants '9090910 1 01x01x01x1 1 1\n1 .\n' '' 0
 many_steps | in_little 2> "$work/err" | uniq -c | sed 's/^ *//' > "$work/out"
 judge '100 MB of stimulus in 20 MB of memory' "${PIPESTATUS[1]}"
@@ -299,6 +299,52 @@ wants '' 'aiger: -: line 100001: bad stimulus line\n' 1
 yes ' 11 1 ' | head -n 100000 > "$work/want_out"
 check 'a bad line after 100,000 steps' simulate < "$work/in"
 
+# --- simulation with --batch: nothing is sent before the stimulus was read to its end and found right ---
+batched() { "$program" aigsim --batch "$work/gate"; }
+printf '11\n.\n0x\n' > "$work/steps"
+wants '' 'aiger: -: cannot write\n' 1
+check 'a batch into a closed standard output' output_closed batched < "$work/steps"
+check 'a batch into a full standard output' output_full batched < "$work/steps"
+: > "$work/out"
+yes 11 2> /dev/null | head -n 100000 | batched 2> "$work/err" | head -c 1 > "$work/first"
+judge 'a batch into a pipe that nobody reads any more' "${PIPESTATUS[2]}"
+wants '' '' 0
+check 'an empty batch and a closed standard output' output_closed batched < /dev/null
+check 'an empty batch and a full standard output' output_full batched < /dev/null
+# which is told, though the step before it could not have been written
+wants '' 'aiger: -: line 2: bad stimulus line\n' 1
+check 'a batch with a bad line, a closed standard output' output_closed batched < "$work/late_bad"
+check 'a batch with a bad line, a full standard output' output_full batched < "$work/late_bad"
+wants '' '' 1
+check 'a batch with a bad line, a closed standard error' errors_closed batched < "$work/late_bad"
+check 'a batch with a bad line, a full standard error' errors_full batched < "$work/late_bad"
+wants '' 'aiger: -: cannot read\n' 1
+check 'a directory as stimulus of a batch' batched < "$work"
+check 'a closed standard input as stimulus of a batch' "$program" aigsim --batch "$work/gate" <&-
+wants '11\n.\n0x\n' '' 0
+check 'the stimulus of a batch whose model is refused' unread aigsim --batch "$work/steps" < "$work/steps"
+wants ' 11 1 \n 0x 0 \n.\n' '' 0
+steps_in_pieces | batched > "$work/out" 2> "$work/err"
+judge 'a stimulus of a batch that comes in pieces' "${PIPESTATUS[1]}"
+wants '' 'aiger: -: line 2: bad stimulus line\n' 1
+bad_in_pieces | batched > "$work/out" 2> "$work/err"
+judge 'a line of a batch that is too long and comes in pieces' "${PIPESTATUS[1]}"
+# what came of the first step is looked at before the second one is sent
+: > "$work/out"
+looks_between() { printf '11\n'; sleep 0.2; wc -c < "$work/out" > "$work/between"; printf '0x\n'; }
+wants ' 11 1 \n 0x 0 \n.\n' '' 0
+looks_between | batched > "$work/out" 2> "$work/err"
+judge 'a stimulus of a batch that waits' "${PIPESTATUS[1]}"
+if [ "$(< "$work/between")" = 0 ]; then pass; else
+    fail 'nothing is sent before the stimulus of a batch ends' "came   $(< "$work/between") bytes"
+fi
+wants '' 'aiger: -: line 100001: bad stimulus line\n' 1
+check 'a bad line of a batch after 100,000 steps' batched < "$work/in"
+# a batch keeps its stimulus
+wants '' 'aiger: out of memory\n' 1
+many_steps | in_little --batch > "$work/out" 2> "$work/err"
+judge 'a batch of 100 MB of stimulus in 20 MB of memory' "${PIPESTATUS[1]}"
+
 # each gate of a chain is the input
 chain_is_simulated() {
     chain 0 "${@:2}" > "$work/chain"
@@ -307,6 +353,7 @@ chain_is_simulated() {
     wants ' 1 1 \n 0 0 \n x x \n.\n' '' 0
     check "200,000 gates, $1" "$program" aigsim "$work/chain" < "$work/in"
     check "the mapped image of 200,000 gates, $1" "$program" aigsim "$work/mapped" < "$work/in"
+    check "200,000 gates in a batch, $1" "$program" aigsim --batch "$work/chain" < "$work/in"
 }
 chain_is_simulated 'in the order of the chain' 1 200000
 chain_is_simulated 'each before the gate that it is over' 200000 -1 1
@@ -316,6 +363,7 @@ printf '%b' "$widest" > "$work/in"
 printf '10\n' > "$work/steps"
 wants ' 10 0 \n.\n' '' 0
 check '20 MB are enough to simulate the largest variable' within 20480 "$program" aigsim - "$work/steps" < "$work/in"
+check '20 MB are enough for a batch with the largest variable' within 20480 "$program" aigsim --batch - "$work/steps" < "$work/in"
 printf 'aig 100000000 100000000 0 0 0\n' > "$work/inputs"
 wants '11\n' '' 0
 printf '11\n' > "$work/in"
@@ -430,6 +478,7 @@ begins 'nearly as many bad states as there may be' 'aag 2147479552 0 0 0 2147479
 wants '' '' 0
 check 'binary images of circuits made by chance, and their maps' "$top/tests/images.py" "$program"
 check 'traces of circuits made by chance, of their images and of what is undone' "$top/tests/traces.py" "$program"
+check 'batches of runs made by chance, of circuits made by chance' "$top/tests/batches.py" "$program"
 check 'circuits made by chance, unrolled' "$top/tests/unrolled.py" "$program"
 
 # --- the examples ---
@@ -467,6 +516,7 @@ for file in "$top"/examples/*.aag "$top"/examples/*.aig; do
     "$program" aigsim --properties "$file" "$work/steps" > "$work/want_out"
     check "the trace of the binary image of ${file##*/}" "$program" aigsim --properties "$work/in" "$work/steps"
     check "the trace of the mapped image of ${file##*/}" "$program" aigsim --properties "$work/mapped" "$work/steps"
+    check "the trace of a batch over ${file##*/}" "$program" aigsim --batch --properties "$file" "$work/steps"
     if [ "$(grep -c ' ' "$work/want_out")" = 40 ]; then pass; else fail "the trace of the example ${file##*/} has 40 steps"; fi
 done
 

@@ -62,6 +62,12 @@ def lines_of_trace(made, lines):
     return traced + [(".", ".")] * has_step, None
 
 
+def texts(made, lines):
+    """The texts of a trace without and with properties, up to the first bad line; and the number of that line."""
+    traced, bad_at = lines_of_trace(made, lines)
+    return tuple("".join(f"{line[which]}\n" for line in traced).encode() for which in (0, 1)), bad_at
+
+
 def stimulus(chance, inputs):
     """The lines of a stimulus, and its text."""
     characters, lines = chance.choice(["01", "01x", "0001xx", "x"]), []
@@ -70,12 +76,21 @@ def stimulus(chance, inputs):
     if chance.randrange(2) and lines:
         lines.pop()
     if not chance.randrange(8):
-        lines.insert(chance.randrange(len(lines) + 1), chance.choice(["0" * (inputs + 1), "y", " ", "..", ". ", "1" * (inputs + 9)]))
+        lines.insert(chance.randrange(len(lines) + 1), bad_line(chance, inputs))
+    return lines, text_of(chance, lines)
+
+
+def bad_line(chance, inputs):
+    return chance.choice(["0" * (inputs + 1), "y", " ", "..", ". ", "1" * (inputs + 9)])
+
+
+def text_of(chance, lines):
+    """The text of a stimulus of these lines, with some line ends or others."""
     ends = ["\r\n" if chance.randrange(4) == 0 else "\n" for _ in lines]
     # a last step without inputs is nothing without its line feed
     if lines and lines[-1] and chance.randrange(2):
         ends[-1] = ""
-    return lines, "".join(map("".join, zip(lines, ends)))
+    return "".join(map("".join, zip(lines, ends)))
 
 
 def ran(program, text, *words):
@@ -97,14 +112,13 @@ def judge(program, folder, number, made, lines, given):
     mapped = converted(program, source, "--keep-map")
     models = [source, converted(program, source), mapped, converted(program, mapped, "--undo-map", "--ascii")]
     steps.write_bytes(given.encode())
-    traced, bad_line = lines_of_trace(made, lines)
-    errors = f"aiger: {steps}: line {bad_line}: bad stimulus line\n".encode() if bad_line else b""
-    plain, full = ("".join(f"{line[which]}\n" for line in traced).encode() for which in (0, 1))
+    (plain, full), bad_at = texts(made, lines)
+    errors = f"aiger: {steps}: line {bad_at}: bad stimulus line\n".encode() if bad_at else b""
     # with properties, which shows all the columns, of all four; and without of one of them in turn
     asked = [(model, ["--properties"], full) for model in models] + [(models[number % len(models)], [], plain)]
     for model, words, wanted in asked:
         came = ran(program, model, "aigsim", *words, "-", str(steps))
-        if came != (wanted, errors, 1 if bad_line else 0):
+        if came != (wanted, errors, 1 if bad_at else 0):
             return f"circuit {number}, {model!r} over {given!r}: wanted {wanted!r} and {errors!r}, came {came!r}"
     steps.unlink()
     return None
