@@ -17,6 +17,8 @@ kinds:
   binary-near     the same, over the 60 places before them: each delta has one byte
   run-far         a binary file of N gates to simulate, over any places before them, with 64 inputs, latches and outputs
   run-near        the same, over the 60 places before them
+  batch-far       the circuit of run-far, to simulate in a batch of 1,024 runs of 100 steps
+  batch-near      the circuit of run-near, so too
   text            10 inputs, and 10 outputs that are these or their negations, to simulate for N steps
   unroll-far      a binary file of N gates to unroll, over any places before them, with 1,000 inputs, latches and outputs
   unroll-near     the same, over the 60 places before them
@@ -41,6 +43,9 @@ ENDS = 1000
 # of files to simulate: inputs, latches and outputs; all gates of all steps; how many of these a plain evaluation takes
 RUN_ENDS = 64
 RUN_GATES = 300_000_000
+# of a batch: how many runs, and how many steps of each
+BATCH_RUNS = 1024
+BATCH_STEPS = 100
 PLAIN_GATES = 2_000_000
 WIDTH = 10
 # of files to unroll: how many frames
@@ -219,6 +224,14 @@ def steps(inputs, count):
     return ["".join(chance.choices("00000001111111xx", k=inputs)) + "\n" for _ in range(count)]
 
 
+def batch_steps(inputs):
+    """The lines of a stimulus of a batch."""
+    lines = steps(inputs, BATCH_RUNS * BATCH_STEPS)
+    for run in range(BATCH_RUNS):
+        yield from lines[run * BATCH_STEPS : (run + 1) * BATCH_STEPS]
+        yield ".\n"
+
+
 def copied_trace(lines):
     """The trace of the circuit whose outputs are its inputs, every other one negated."""
     negated = str.maketrans("01", "10")
@@ -246,6 +259,10 @@ def first_of_trace(lines, given):
     conjunction = {(left, right): min(left, right) for left in (0, 1, 2) for right in (0, 1, 2)}
     state = [0] * latches
     for line in given:
+        if line == ".\n":
+            yield line
+            state = [0] * latches
+            continue
         # 0, x and 1 as 0, 1 and 2, so that a negation is the difference from 2 and a conjunction is the less of two
         at = [0, *("0x1".index(it) for it in line.rstrip()), *state]
         values = [it for value in at for it in (value, 2 - value)]
@@ -284,7 +301,8 @@ RUN_KINDS = {
     "run-far": lambda count: binary(count, count, ends=RUN_ENDS),
     "run-near": lambda count: binary(count, 60, ends=RUN_ENDS),
 }
-SIMULATED = (*RUN_KINDS, "text")
+BATCH_KINDS = {kind.replace("run", "batch"): made for kind, made in RUN_KINDS.items()}
+SIMULATED = (*RUN_KINDS, *BATCH_KINDS, "text")
 UNROLLED = {
     "unroll-far": lambda count: binary(count, count),
     "unroll-near": lambda count: binary(count, 60),
@@ -308,7 +326,8 @@ KINDS = {
 }
 CONVERTED = [f"{kind}-{count}" for kind in (*KINDS, *BINARY_KINDS) for count in (100_000, 1_000_000)]
 RUNS = [f"{kind}-{count}" for kind in RUN_KINDS for count in (1_000, 10_000, 100_000, 1_000_000)]
-DEFAULT = [*CONVERTED, *RUNS, "text-1000000", *(f"{kind}-100000" for kind in UNROLLED)]
+BATCHES = [f"{kind}-{count}" for kind in BATCH_KINDS for count in (1_000, 10_000, 100_000)]
+DEFAULT = [*CONVERTED, *RUNS, *BATCHES, "text-1000000", *(f"{kind}-100000" for kind in UNROLLED)]
 
 
 def file_name(text):
@@ -321,7 +340,7 @@ def file_name(text):
 
 def path_of(name, folder=OUT):
     """Where the file of that name goes."""
-    return os.path.join(folder, f"{name}.aig" if name.startswith(("binary-", "run-", "unroll-")) else f"{name}.aag")
+    return os.path.join(folder, f"{name}.aig" if name.startswith(("binary-", "run-", "batch-", "unroll-")) else f"{name}.aag")
 
 
 def ascii_of(path):
@@ -381,8 +400,8 @@ def write_simulated(kind, count, path):
         lines, given = copied(count), steps(WIDTH, count)
         model, trace = "".join(lines).encode(), copied_trace(given)
     else:
-        model, lines = RUN_KINDS[kind](count)
-        given = steps(RUN_ENDS, RUN_GATES // count)
+        model, lines = {**RUN_KINDS, **BATCH_KINDS}[kind](count)
+        given = list(batch_steps(RUN_ENDS)) if kind in BATCH_KINDS else steps(RUN_ENDS, RUN_GATES // count)
         trace = first_of_trace(lines, given[: PLAIN_GATES // count])
     for name, text in ((path, model), (steps_of(path), "".join(given).encode()), (trace_of(path), "".join(trace).encode())):
         with open(name, "wb") as file:
@@ -426,7 +445,7 @@ def is_written(name, folder=OUT):
 def main():
     asked = argparse.ArgumentParser(description=__doc__, formatter_class=argparse.RawDescriptionHelpFormatter)
     sizes = "by default each kind with 100000 and 1000000, run-far and run-near also with 1000 and 10000, text with 1000000"
-    sizes += ", unroll-far and unroll-near with 100000"
+    sizes += ", batch-far and batch-near with 1000, 10000 and 100000, unroll-far and unroll-near with 100000"
     asked.add_argument("names", metavar="KIND-N", nargs="*", type=file_name, help=sizes)
     asked.add_argument("--folder", default=OUT, help="where the files go, NAME.aag or NAME.aig each (bench/out)")
     given = asked.parse_args()

@@ -130,6 +130,16 @@ class Simulation(NamedTuple):
     aim: float
     # How many bytes a gate there should be at most beyond what reading takes; of other units there is no aim.
     aimed_bytes: float = math.inf
+    # How many gates a file has for which there is that aim.
+    aimed_at: int = AIMED_AT
+    words: str = "aigsim"
+    # Words of the program that run beside it on the same file, and the quotient aimed at; where there are none, nothing does.
+    beside: str = ""
+    beside_aim: float = math.inf
+    # Whether the whole stimulus is kept, whose bytes then do not count.
+    keeps_stimulus: bool = False
+    # How many runs of each program there are at most.
+    most_runs: float = math.inf
 
 
 SIMULATIONS = {
@@ -139,6 +149,19 @@ SIMULATIONS = {
         units=lambda gates: generate.RUN_GATES,
         aim=0.6,
         aimed_bytes=40,
+    ),
+    "batch": Simulation(
+        kinds=tuple(generate.BATCH_KINDS),
+        unit="gate and step",
+        units=lambda gates: gates * generate.BATCH_RUNS * generate.BATCH_STEPS,
+        aim=0.15,
+        aimed_bytes=100,
+        aimed_at=100_000,
+        words="aigsim --batch",
+        beside="aigsim",
+        beside_aim=1 / 6,
+        keeps_stimulus=True,
+        most_runs=3,
     ),
     "text": Simulation(kinds=("text",), unit="step", units=lambda steps: steps, aim=0.3),
 }
@@ -313,44 +336,63 @@ def judge_traces(commands, file):
         sys.exit(f"bench/run.py: {' and '.join(commands)} give two traces of {file}")
 
 
-def bytes_beyond_reading(program, file, peak, gates):
+def bytes_beyond_reading(simulation, program, file, peak, gates):
     """How many bytes a gate a simulation takes beyond what the conversion of the model to ASCII takes, which reads it and no
-    more."""
-    return max(peak - peak_bytes([program, "aigtoaig", "--ascii", file], os.devnull), 0) / gates
+    more; and beyond the stimulus, where that is kept."""
+    read = peak_bytes([program, "aigtoaig", "--ascii", file], os.devnull)
+    kept = os.path.getsize(generate.steps_of(file)) if simulation.keeps_stimulus else 0
+    return max(peak - read - kept, 0) / gates
 
 
-def simulated(simulation, programs, file, runs):
+def simulators(simulation, program, peer, file):
+    """The commands that are measured on a file, by the names of their columns: the program's first; and the quotients aimed at,
+    by the names of the others."""
+    given = [file, generate.steps_of(file)]
+    commands, aims = {"aiger": [program, *simulation.words.split(), *given]}, {}
+    if simulation.beside:
+        commands[simulation.beside] = [program, *simulation.beside.split(), *given]
+        aims[simulation.beside] = simulation.beside_aim
+    if peer:
+        commands["peer"] = [peer, *simulation.words.split(), *given]
+        aims["peer"] = simulation.aim
+    return commands, aims
+
+
+def simulated(simulation, program, peer, file, runs):
     """The cells of a file, and the aims that it does not meet."""
-    commands = {name: [it, "aigsim", file, generate.steps_of(file)] for name, it in programs.items()}
+    commands, aims = simulators(simulation, program, peer, file)
     judge_traces(commands, file)
     name, (_, count) = os.path.basename(file), kind_and_count(file)
-    times = best_seconds(list(commands.values()), os.devnull, runs)
+    times = dict(zip(commands, best_seconds(list(commands.values()), os.devnull, runs)))
     peaks = [peak_bytes(it, os.devnull) for it in commands.values()]
-    cells, missed = [f"{it * 1e9 / simulation.units(count):.2f}" for it in times], []
-    if times[1:]:
-        quotient = times[0] / times[1]
-        cells += [f"{quotient:.2f}", f"{simulation.aim}"]
-        missed += [f"{name} {quotient:.2f} of {simulation.aim}"] * (quotient > simulation.aim)
+    cells, missed = [f"{it * 1e9 / simulation.units(count):.2f}" for it in times.values()], []
+    for beside, aim in aims.items():
+        quotient = times["aiger"] / times[beside]
+        cells += [f"{quotient:.2f}", f"{aim:.2g}"]
+        missed += [f"{name} {quotient:.2f} of {aim:.2g} beside {beside}"] * (quotient > aim)
     cells += [f"{it / 1e6:.1f}" for it in peaks]
     if simulation.aimed_bytes < math.inf:
-        beyond = bytes_beyond_reading(programs["aiger"], file, peaks[0], count)
+        beyond = bytes_beyond_reading(simulation, program, file, peaks[0], count)
         cells.append(f"{beyond:.0f}")
-        is_missed = count == AIMED_AT and beyond > simulation.aimed_bytes
+        is_missed = count == simulation.aimed_at and beyond > simulation.aimed_bytes
         missed += [f"{name} {beyond:.0f} of {simulation.aimed_bytes} bytes"] * is_missed
     return [name, *cells], missed
 
 
 def simulate(simulation, program, peer, files, runs):
     """Prints the table of a simulation. Model and stimulus are files with names."""
-    programs = {"aiger": program, **({"peer": peer} if peer else {})}
-    heads = [f"{it}, ns a {simulation.unit}" for it in programs] + ["quotient", "aim"] * (len(programs) > 1)
-    heads += [f"{it}, MB" for it in programs] + ["beyond reading, bytes a gate"] * (simulation.aimed_bytes < math.inf)
-    print("`aigsim`\n")
+    commands, aims = simulators(simulation, program, peer, files[0])
+    runs = min(runs, simulation.most_runs)
+    heads = [f"{it}, ns a {simulation.unit}" for it in commands]
+    heads += [head for it in aims for head in (f"quotient to {it}", "aim")] + [f"{it}, MB" for it in commands]
+    beyond = "beyond reading and stimulus" if simulation.keeps_stimulus else "beyond reading"
+    heads += [f"{beyond}, bytes a gate"] * (simulation.aimed_bytes < math.inf)
+    print(f"`{simulation.words}`\n")
     row("file", *heads)
     print("|---|" + "---:|" * len(heads))
     missed = []
     for file in files:
-        cells, more = simulated(simulation, programs, file, runs)
+        cells, more = simulated(simulation, program, peer, file, runs)
         row(*cells)
         missed += more
     print(f"\nBest of {runs} runs.")
