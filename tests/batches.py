@@ -1,13 +1,13 @@
 #!/usr/bin/env python3
-"""Compares the traces that the program writes with --batch with those that it writes without, on circuits and stimuli made by
-chance.
+"""Compares the traces that the program writes with --batch with those that it writes without, on circuits and stimuli made
+by chance.
 
     tests/batches.py PROGRAM
 
-The circuits are those of images.py, with more latches. A stimulus has some runs, as many as go side by side or not, of 0 to 40
-steps each in any mixture. The text must be the same byte for byte, without and with properties; of short stimuli it must be the
-one of the plain evaluation of traces.py too. Then one of the lines is made bad, the first, the last or any other: with --batch
-nothing may be written, and the line must be told.
+The circuits are those of images.py, some with more inputs or latches. A stimulus has some runs, as many as go side by side or
+not, of 0 to 40 steps each in any mixture. The text must be the same byte for byte, without and with properties; of short
+stimuli it must be the one of the plain evaluation of traces.py too. Then one of the lines is made bad, the first, the last or
+any other: with --batch nothing may be written, and the line must be told.
 """
 import concurrent.futures
 import random
@@ -47,7 +47,7 @@ def with_bad_line(chance, inputs, lines):
 
 def judge(program, folder, number, chance):
     """What is wrong with the traces of this circuit, if anything is."""
-    made = images.circuit(chance, most_latches=chance.choice([3, 20]))
+    made = images.circuit(chance, most_latches=chance.choice([3, 3, 70]), most_inputs=chance.choice([4, 4, 70]))
     lines = stimulus(chance, len(made.inputs), RUNS[number % len(RUNS)])
     steps = Path(folder) / f"steps.{number}"
     given = traces.text_of(chance, lines)
