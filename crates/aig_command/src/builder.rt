@@ -48,7 +48,7 @@ a later line of the stimulus is refused, what was written stands.
 
 With --batch the trace is the same, but the whole stimulus is read before
 anything is written. If a line of it is refused, nothing is written. This takes
-memory for the stimulus and for the traces of 256 runs.
+memory for the stimulus.
 
 Exit status:
   0  done, also for --help
@@ -60,7 +60,7 @@ Examples, of a model with two inputs:
   printf '10\\n1x\\n' | aiger aigsim model.aag       one run of two steps
   printf '10\\n.\\n1x\\n' > steps.txt                 two runs of one step
   aiger aigsim --properties model.aag steps.txt    with properties
-  aiger aigsim --batch model.aag steps.txt         many runs side by side
+  aiger aigsim --batch model.aag steps.txt         all of the trace, or nothing
   aiger aigsim - steps.txt < model.aag             the model from a stream";
 
 const UNROLL_ABOUT: &str = "Unroll a circuit over time frames, as one circuit without latches";
@@ -89,8 +89,8 @@ Examples:
 const FRAMES_HELP: &str = "The number of time frames: 1 to 1000000";
 
 const BATCH_HELP: &str = "\
-Run many runs side by side: much faster where there are
-hundreds of them";
+Read the whole stimulus first, and write nothing if a line
+of it is refused";
 
 const PROPERTIES_HELP: &str = "\
 Show bad states and constraints too, behind the rest of

@@ -23,7 +23,7 @@ pub struct ToAig {
 /// A simulation of a circuit.
 #[derive(Drop)]
 pub struct Sim {
-    /// Whether the whole stimulus is read before anything is written, and runs go side by side.
+    /// Whether the whole stimulus is read, and each line of it found good, before anything is written.
     pub batch: bool,
     /// Whether a line of the trace shows bad states and constraints too.
     pub properties: bool,
