@@ -2,3 +2,5 @@
 pub mod Bits
 pub mod Tables
 pub mod Groups
+pub mod Texts
+pub mod TextGroups

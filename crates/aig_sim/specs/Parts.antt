@@ -6,6 +6,7 @@ pub mod Machines
 pub mod Simulators
 pub mod Lanes
 pub mod Groups
+pub mod LaneTexts
 pub mod Lines
 pub mod Gathering
 pub mod Tracing

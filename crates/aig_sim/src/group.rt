@@ -19,7 +19,7 @@ use aig_core::{Latch, Listing, OutOfMemory};
 use std::alloc::Global;
 
 /// How many steps the longest run has.
-fn longest(runs: &[Run]) -> usize
+pub(crate) fn longest(runs: &[Run]) -> usize
     ensures { (j : ℕ) (d : RunRecord) → j < length runs.now → length (slice_index_or runs.now j d).steps ≤ result }
 {
     let mut longest = 0;
@@ -32,7 +32,7 @@ fn longest(runs: &[Run]) -> usize
 }
 
 /// A table of x in all lanes, for so many variables.
-fn new_table(alloc: Global, variables: usize) -> Result<Vec<Plane>, OutOfMemory>
+pub(crate) fn new_table(alloc: Global, variables: usize) -> Result<Vec<Plane>, OutOfMemory>
     requires { variables < 2 ^ 62 }
     ensures size { IfOk result (λ table. length table.items ≡ 2 * variables) }
     ensures lanes { IfOk result (λ table. (l : ℕ) → l < 256 → IsLane l table.items (replicate variables X)) }
@@ -46,7 +46,7 @@ fn new_table(alloc: Global, variables: usize) -> Result<Vec<Plane>, OutOfMemory>
 }
 
 /// A table of the state by the resets, in all lanes.
-fn reset_table(alloc: Global, latches: &[Latch]) -> Result<Vec<Plane>, OutOfMemory>
+pub(crate) fn reset_table(alloc: Global, latches: &[Latch]) -> Result<Vec<Plane>, OutOfMemory>
     requires { length latches.now < 2 ^ 62 }
     ensures size { IfOk result (λ state. length state.items ≡ 2 * length latches.now) }
     ensures lanes { IfOk result (λ state. (l : ℕ) → l < 256

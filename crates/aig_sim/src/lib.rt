@@ -12,6 +12,7 @@ mod group;
 mod kept;
 mod lane_row;
 mod lane_step;
+mod lane_text;
 mod lanes;
 pub mod laws;
 mod machine;
@@ -21,6 +22,7 @@ mod run;
 mod simulator;
 mod stimulus;
 mod stream;
+mod text_group;
 mod trace;
 mod tracer;
 

@@ -41,7 +41,7 @@ table_of_x l n plane is_plane is = record {
   bits = map_replicate (bit_in l) (2 * n) plane ∙ ap (replicate (2 * n)) is ∙ sym (all_x n);
 }
 
-state_after_last : (state : List Val) (rows : List Row) (row : Row) → state_after state (rows ++ row ∷ []) ≡ row.next
+pub state_after_last : (state : List Val) (rows : List Row) (row : Row) → state_after state (rows ++ row ∷ []) ≡ row.next
 state_after_last state [] row = refl
 state_after_last state (r ∷ rs) row = state_after_last r.next rs row
 
@@ -52,7 +52,7 @@ pub record ShowsTheSame (parts c : Circuit) : Type 0 where
   pub bad : parts.bad ≡ c.bad
   pub constraints : parts.constraints ≡ c.constraints
 
-same_row_read : (parts c : Circuit) (start given : List Val) (a : ℕ → Val) → ShowsTheSame parts c
+pub same_row_read : (parts c : Circuit) (start given : List Val) (a : ℕ → Val) → ShowsTheSame parts c
     → row_read parts start given a ≡ row_read c start given a
 same_row_read parts c start given a same =
     same_row (row_read parts start given a) (row_read c start given a) refl refl
