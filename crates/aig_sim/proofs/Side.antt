@@ -4,3 +4,5 @@ pub mod Tables
 pub mod Groups
 pub mod Texts
 pub mod TextGroups
+pub mod RunsRead
+pub mod Fronts

@@ -34,14 +34,14 @@ use Rattle.aig_sim.proofs.LineValues.{vector_back, vector_says}
 use Rattle.aig_sim.proofs.RunTexts.{closing, goes_is_text}
 
 -- circuits that mean the same begin in the same state
-begin_same : (c d : Circuit) → MeansTheSame c d → begin_of d ≡ begin_of c
+pub begin_same : (c d : Circuit) → MeansTheSame c d → begin_of d ≡ begin_of c
 begin_same c d means =
     ap (λ (s : List Val). record { state = s; has_step = false })
     (sym (map-map reset_value (λ (l : Latch). l.reset) d.latches)
     ∙ ap (map reset_value) means.resets ∙ map-map reset_value (λ (l : Latch). l.reset) c.latches)
 
 -- and the same lines do the same
-does_same : (c d : Circuit) (columns : Columns) (p q : Point) (e : Entry) (t : List ℕ) → MeansTheSame c d
+pub does_same : (c d : Circuit) (columns : Columns) (p q : Point) (e : Entry) (t : List ℕ) → MeansTheSame c d
     → Does d columns p e q t → Does c columns p e q t
 does_same c d columns p q (Step given) t means does = record {
   row = does.row;
@@ -53,7 +53,7 @@ does_same c d columns p q (Step given) t means does = record {
 }
 does_same c d columns p q Stop t means does = (does.0 ∙ begin_same c d means, does.1)
 
-take_none : (n : ℕ) → take {A = ℕ} n [] ≡ []
+pub take_none : (n : ℕ) → take {A = ℕ} n [] ≡ []
 take_none zero = refl
 take_none (suc n) = refl
 

@@ -12,3 +12,4 @@ pub mod Gathering
 pub mod Tracing
 pub mod Streaming
 pub mod Judging
+pub mod RunsRead

@@ -1,39 +1,51 @@
 //! A simulation that reads the whole stimulus before it sends anything.
-ghost use Rattle.std.specs.Prelude.{◌≡◌, ◌≢◌, ◌+◌, ◌-◌, ◌^◌, ◌<◌, ◌≤◌, [], IfErr, None, OnOk, max, true};
+ghost use Rattle.std.specs.Prelude.{◌≡◌, ◌≢◌, ◌+◌, ◌-◌, ◌^◌, ◌<◌, ◌≤◌, ℕ, List, [], IfErr, None, OnOk, length, max, true};
 ghost use Rattle.aig_core.specs.declared.circuit.Circuit.{Circuit as CircuitRecord};
 ghost use Rattle.aig_io.specs.declared.block.TheConstants.{ROOM};
 ghost use Rattle.aig_sim.specs.declared.fault.SimFault.TheVariants.{WriteFailed};
 ghost use Rattle.aig_sim.specs.declared.trace.Columns.{Columns as ColumnsAsked};
 ghost use Rattle.aig_sim.specs.Batched.{NotBatched};
 ghost use Rattle.aig_sim.specs.Outcome.{Simulated, first_bad_line, sink_failures, source_failures};
-ghost use Rattle.aig_sim.specs.Parts.Streaming.{SentAll, SentInPart};
-ghost use Rattle.aig_sim.specs.Parts.Tracing.{IsAt};
+ghost use Rattle.aig_sim.specs.Parts.RunsRead.{IsFront};
+ghost use Rattle.aig_sim.specs.Parts.Streaming.{NotTraced, SentAll, SentInPart};
+ghost use Rattle.aig_sim.specs.Parts.Tracing.{IsFresh};
 
 use crate::collected::collect;
 use crate::fault::SimFault;
+use crate::front::trace_front;
 use crate::gathered::Gathered;
 use crate::reader::Reader;
 use crate::trace::Columns;
 use aig_core::{Checked, Sink, Source};
 use std::alloc::Global;
 
-/// Sends the text for all bytes of a stimulus that has no bad line.
-fn trace_good<W: Sink>(reader: &mut Reader, sink: &mut W, bytes: &[u8]) -> Result<(), SimFault>
+/// Sends the text for the front of a stimulus that has no bad line, and the text for what comes behind it.
+fn trace_good<W: Sink>(
+    reader: &mut Reader,
+    sink: &mut W,
+    text: &[u8],
+    lines: usize,
+    rest: &[u8],
+) -> Result<(), SimFault>
     requires number { reader.old.number ≡ 1 }
+    requires lines { lines + length rest.now < 2 ^ 64 - 1 }
     requires sink { W.failed sink.old < 2 ^ 64 - 1 }
-    ensures ok { OnOk result ((c : CircuitRecord) (columns : ColumnsAsked) → IsAt c columns [] [] reader.old
-        → first_bad_line c bytes.now true ≡ None
-        → SentAll c columns bytes.now [] (W.taken sink.old) (W.taken sink.new)) }
-    ensures err { IfErr result (λ e. (c : CircuitRecord) (columns : ColumnsAsked) → IsAt c columns [] [] reader.old
-        → first_bad_line c bytes.now true ≡ None
-        → SentInPart c columns bytes.now true [] (W.taken sink.old) (W.taken sink.new)) }
+    ensures ok { OnOk result ((c : CircuitRecord) (columns : ColumnsAsked) (bytes : List ℕ)
+        → IsFresh c columns reader.old → IsFront c columns bytes text.now lines rest.now
+        → first_bad_line c bytes true ≡ None → SentAll c columns bytes [] (W.taken sink.old) (W.taken sink.new)) }
+    ensures err { IfErr result (λ e. (c : CircuitRecord) (columns : ColumnsAsked) (bytes : List ℕ)
+        → IsFresh c columns reader.old → IsFront c columns bytes text.now lines rest.now
+        → first_bad_line c bytes true ≡ None
+        → SentInPart c columns bytes true [] (W.taken sink.old) (W.taken sink.new)) }
     ensures kind { IfErr result (λ e. e ≡ WriteFailed) }
     ensures ok_count { OnOk result (W.failed sink.new ≡ W.failed sink.old) }
     ensures count { IfErr result (λ _. W.failed sink.new ≡ W.failed sink.old + 1) }
     ensures short { W.longest sink.new ≤ max (W.longest sink.old) ROOM }
 {
     let mut output = Gathered::new(sink);
-    let _all = reader.take_chunk(&mut output, bytes);
+    output.put(text);
+    reader.pass(lines as u64);
+    let _all = reader.take_chunk(&mut output, rest);
     let _last = reader.take_end(&mut output);
     let (sent, _sink) = output.finish();
     if sent.is_err() {
@@ -42,8 +54,35 @@ fn trace_good<W: Sink>(reader: &mut Reader, sink: &mut W, bytes: &[u8]) -> Resul
     Ok(())
 }
 
+/// Sends the text for a stimulus that has no bad line. All memory is taken before the first byte is sent.
+fn trace_collected<W: Sink>(
+    alloc: Global,
+    checked: &Checked,
+    columns: Columns,
+    reader: &mut Reader,
+    sink: &mut W,
+    bytes: &[u8],
+) -> Result<(), SimFault>
+    requires number { reader.old.number ≡ 1 }
+    requires fresh { IsFresh checked.now columns reader.old }
+    requires none_bad { first_bad_line checked.now bytes.now true ≡ None }
+    requires sink { W.failed sink.old < 2 ^ 64 - 1 }
+    ensures ok { OnOk result (SentAll checked.now columns bytes.now [] (W.taken sink.old) (W.taken sink.new)) }
+    ensures err { IfErr result (λ e. NotTraced checked.now columns bytes.now e (W.taken sink.old) (W.taken sink.new)) }
+    ensures unsent { IfErr result (λ e. e ≢ WriteFailed → sink.new ≡ sink.old) }
+    ensures ok_count { OnOk result (W.failed sink.new ≡ W.failed sink.old) }
+    ensures count { IfErr result (λ e. W.failed sink.new ≡ W.failed sink.old + sink_failures e) }
+    ensures kind { IfErr result (λ e. source_failures e ≡ 0) }
+    ensures short { W.longest sink.new ≤ max (W.longest sink.old) ROOM }
+{
+    let (text, lines, rest) = trace_front(alloc, checked, columns, bytes)?;
+    trace_good(reader, sink, &text, lines, rest)
+}
+
 /// Simulates a circuit over a stimulus text, and writes the trace text, as `simulate` does; but the whole stimulus is
-/// read, and each line of it found good, before anything is sent. All memory is taken before that too.
+/// read, and each line of it found good, before anything is sent. All memory is taken before that too: beside the
+/// stimulus that of the text for those runs that are stepped side by side, 256 at a time, which is much faster than one
+/// run after another.
 pub fn simulate_batched<R: Source, W: Sink>(
     alloc: Global,
     checked: &Checked,
@@ -66,5 +105,5 @@ pub fn simulate_batched<R: Source, W: Sink>(
 {
     let mut reader = Reader::new(alloc, checked, columns)?;
     let bytes = collect(alloc, checked, source)?;
-    trace_good(&mut reader, sink, &bytes)
+    trace_collected(alloc, checked, columns, &mut reader, sink, &bytes)
 }

@@ -5,7 +5,8 @@ ghost use Rattle.aig_core.specs.declared.circuit.Circuit.{Circuit as CircuitReco
 ghost use Rattle.aig_sim.specs.declared.fault.SimFault.TheVariants.{OutOfMemory as IsOutOfMemory};
 ghost use Rattle.aig_sim.specs.declared.trace.Columns.{Columns as ColumnsAsked};
 ghost use Rattle.aig_sim.specs.Parts.Seen.{HasNoLineFeed};
-ghost use Rattle.aig_sim.specs.Parts.Tracing.{Advanced, Finished, FoundBad, IsAt, Passed, PutSome, TookLast};
+ghost use Rattle.aig_sim.specs.Parts.Tracing.{Advanced, Finished, FoundBad, IsAt, IsFresh, Passed, PutSome};
+ghost use Rattle.aig_sim.specs.Parts.Tracing.{TookLast};
 
 use crate::fault::SimFault;
 use crate::gathered::Gathered;
@@ -45,6 +46,7 @@ impl Reader {
     pub(crate) fn new(alloc: Global, checked: &Checked, columns: Columns) -> Result<Self, SimFault>
         ensures at { IfOk result (λ r. IsAt checked.now columns [] [] r) }
         ensures number { IfOk result (λ r. r.number ≡ 1) }
+        ensures fresh { IfOk result (λ r. IsFresh checked.now columns r) }
         ensures err { IfErr result (λ e. e ≡ IsOutOfMemory) }
     {
         let kept = Kept::new(alloc, checked.circuit().inputs.len() + 3)?;
@@ -61,6 +63,14 @@ impl Reader {
         ensures { result ≡ self.now.number }
     {
         self.number
+    }
+
+    /// Passes over so many lines, which were taken elsewhere and end a run.
+    pub(crate) fn pass(&mut self, lines: u64)
+        requires { self.old.number + lines < 2 ^ 64 }
+        ensures { self.new ≡ record self.old { number = self.old.number + lines } }
+    {
+        self.number += lines;
     }
 
     /// Takes the rest of a line up to its line feed, and answers whether the line is good.

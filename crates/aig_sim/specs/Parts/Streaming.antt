@@ -1,5 +1,5 @@
 -- What came of bytes and of the text for them. Only private functions cite this.
-use Rattle.std.specs.Prelude.{◌≡◌, ◌≢◌, ◌++◌, ℕ, List, Bool, true, Option, None, Some}
+use Rattle.std.specs.Prelude.{◌≡◌, ◌≢◌, ◌++◌, ℕ, List, [], Bool, true, Option, None, Some}
 use Rattle.std.specs.Io.KnownBytes.{Appends, Consumes}
 use Rattle.aig_core.specs.declared.circuit.Circuit.{Circuit}
 use Rattle.aig_io.specs.Transfer.{TookBeginning}
@@ -60,3 +60,11 @@ NotSent c columns bytes ended text (BadStimulus number) taken filled =
     SentBeforeBad c columns bytes ended text number taken filled
 NotSent c columns bytes ended text ReadFailed taken filled = ⊥
 NotSent c columns bytes ended text WriteFailed taken filled = SentInPart c columns bytes ended text taken filled
+
+-- what an error says that comes after the whole stimulus was read and no line of it is bad; where memory was refused,
+-- nothing was sent, which is said beside
+abbrev pub NotTraced : Circuit → Columns → List ℕ → SimFault → (taken filled : Option (List ℕ)) → Type 0
+NotTraced c columns bytes OutOfMemory taken filled = Unit {0}
+NotTraced c columns bytes (BadStimulus number) taken filled = ⊥
+NotTraced c columns bytes ReadFailed taken filled = ⊥
+NotTraced c columns bytes WriteFailed taken filled = SentInPart c columns bytes true [] taken filled

@@ -1,5 +1,5 @@
 -- How far the lines of a stimulus were taken, and what was put for them. Only private functions cite this.
-use Rattle.std.specs.Prelude.{◌≡◌, ◌++◌, ◌+◌, ℕ, List, Bool, true, None, Some, length, take}
+use Rattle.std.specs.Prelude.{◌≡◌, ◌++◌, ◌+◌, ℕ, List, [], Bool, true, None, Some, length, take}
 use Rattle.aig_core.specs.declared.circuit.Circuit.{Circuit}
 use Rattle.aig_core.specs.declared.value.Val.{Val}
 use Rattle.aig_io.specs.Output.{Out, Put}
@@ -68,6 +68,14 @@ pub record IsAt (c : Circuit) (columns : Columns) (bytes text : List ℕ) (at : 
   pub number : at.number ≡ lines + 1
   pub kept : at.kept.bytes ≡ take (length c.inputs + 3) rest
   pub goes : Goes c columns (begin_of c) entries (point_of at.tracing) text
+
+-- A reader stands before the first byte.
+pub record IsFresh (c : Circuit) (columns : Columns) (at : Reading) : Type 0 where
+  pub means : MeansTheSame c at.tracing.circuit
+  pub same_columns : at.tracing.columns ≡ columns
+  pub begun : point_of at.tracing ≡ begin_of c
+  pub kept : at.kept.bytes ≡ []
+  pub number : at.number ≡ 1
 
 -- bytes came behind others, and the text for them was put
 pub record Advanced {W : Type 0} (c : Circuit) (columns : Columns) (bytes text : List ℕ) (at : Reading) (a b : Out W)

@@ -1,0 +1,1 @@
+use Rattle.aig_sim.proofs.batched.trace_collected.Goals as goal

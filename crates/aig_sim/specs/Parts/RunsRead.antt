@@ -1,0 +1,27 @@
+-- Runs that are read at the front of a stimulus. Only private functions cite this.
+use Rattle.std.specs.Prelude.{◌≡◌, ◌+◌, ◌≤◌, ◌++◌, ℕ, List, [], ◌∷◌, length, map}
+use Rattle.std.specs.List.{flat_map}
+use Rattle.aig_core.specs.declared.circuit.Circuit.{Circuit}
+use Rattle.aig_sim.specs.declared.run.Run.{Run}
+use Rattle.aig_sim.specs.declared.trace.Columns.{Columns}
+use Rattle.aig_sim.specs.Stimulus.{Entry, Step, Stop}
+use Rattle.aig_sim.specs.Parts.Progress.{Goes, begin_of}
+use Rattle.aig_sim.specs.Parts.Seen.{IsHeard}
+
+-- what the lines of a run say, with that of its end
+abbrev pub entries_of_run : Run → List Entry
+entries_of_run run = map Step run.steps ++ Stop ∷ []
+
+-- The bytes begin with so many whole lines, which say these entries, and the rest comes behind them.
+pub record Says (inputs : ℕ) (bytes : List ℕ) (lines : ℕ) (entries : List Entry) (rest : List ℕ) : Type 0 where
+  pub passed : List ℕ
+  pub parted : bytes ≡ passed ++ rest
+  pub few : lines + length rest ≤ length bytes
+  pub heard : (front : List ℕ) (count : ℕ) (before : List Entry) → IsHeard inputs front count [] before
+      → IsHeard inputs (front ++ passed) (count + lines) [] (before ++ entries)
+
+-- The bytes begin with so many lines, which are whole runs, and this is the text for them.
+pub record IsFront (c : Circuit) (columns : Columns) (bytes text : List ℕ) (lines : ℕ) (rest : List ℕ) : Type 0 where
+  pub entries : List Entry
+  pub says : Says (length c.inputs) bytes lines entries rest
+  pub goes : Goes c columns (begin_of c) entries (begin_of c) text
