@@ -1,11 +1,11 @@
 -- The front of a stimulus, group by group.
-use Rattle.std.proofs.Common.{◌≡◌, ◌+◌, ◌++◌, ◌∷◌, ℕ, List, [], codes, length, map, refl, sym, ap, subst, ◌∙◌}
-use Rattle.std.proofs.Common.{append_assoc, true}
+use Rattle.std.proofs.Common.{◌≡◌, ◌+◌, ◌++◌, ◌∷◌, ℕ, List, [], codes, length, map, refl, sym, subst}
+use Rattle.std.proofs.Common.{true}
 use Rattle.std.specs.List.{AllZip, flat_map}
 use Rattle.aig_core.specs.declared.circuit.Circuit.{Circuit}
 use Rattle.aig_core.specs.declared.value.Val.{Val}
 use Rattle.aig_meaning.specs.Meaning.{MeansTheSame, Row}
-use Rattle.aig_meaning.specs.Trace.{Follow, reset_state}
+use Rattle.aig_meaning.specs.Trace.{Follow}
 use Rattle.aig_sim.specs.declared.run.Run.{Run}
 use Rattle.aig_sim.specs.declared.trace.Columns.{Columns}
 use Rattle.aig_sim.specs.Stimulus.{Entry, Step, Stop}

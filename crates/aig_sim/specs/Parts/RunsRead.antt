@@ -1,6 +1,5 @@
 -- Runs that are read at the front of a stimulus. Only private functions cite this.
 use Rattle.std.specs.Prelude.{◌≡◌, ◌+◌, ◌≤◌, ◌++◌, ℕ, List, [], ◌∷◌, length, map}
-use Rattle.std.specs.List.{flat_map}
 use Rattle.aig_core.specs.declared.circuit.Circuit.{Circuit}
 use Rattle.aig_sim.specs.declared.run.Run.{Run}
 use Rattle.aig_sim.specs.declared.trace.Columns.{Columns}

@@ -1,4 +1,4 @@
-use Rattle.std.proofs.Common.{◌≡◌, ◌∙◌, ◌++◌, None, ℕ, List, [], rules, refl, sym, subst, true}
+use Rattle.std.proofs.Common.{◌≡◌, ◌∙◌, ◌++◌, None, ℕ, List, rules, refl, sym, subst, true}
 use Rattle.aig_io.proofs.Puts.{beginning_sent}
 use Rattle.aig_sim.specs.Outcome.{first_bad_line}
 use Rattle.aig_sim.specs.TraceText.{IsTraceText}

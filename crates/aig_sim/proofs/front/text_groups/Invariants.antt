@@ -1,4 +1,4 @@
-use Rattle.std.specs.Prelude.{◌≡◌, length}
+use Rattle.std.specs.Prelude.{length}
 use Rattle.aig_sim.specs.Parts.RunsRead.{IsFront}
 use Rattle.aig_sim.proofs.front.text_groups.Given as goal
 

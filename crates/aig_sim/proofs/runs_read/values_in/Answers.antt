@@ -1,4 +1,4 @@
-use Rattle.std.proofs.Common.{◌≡◌, ◌∙◌, ◌+◌, Some, None, List, ap, drop, get_or, sym, take}
+use Rattle.std.proofs.Common.{◌∙◌, ◌+◌, Some, List, ap, drop, get_or, sym, take}
 use Rattle.std.proofs.lemmas.List.{take_more}
 use Rattle.aig_core.specs.declared.value.Val.{Val}
 use Rattle.aig_sim.specs.Stimulus.{values_of}

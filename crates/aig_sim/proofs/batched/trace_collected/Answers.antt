@@ -1,1 +1,0 @@
-use Rattle.aig_sim.proofs.batched.trace_collected.Goals as goal
