@@ -1,16 +1,21 @@
 //! Many runs of one circuit.
-ghost use Rattle.std.specs.Prelude.{◌≡◌, ◌++◌, IfOk};
+ghost use Rattle.std.specs.Prelude.{◌≡◌, ◌++◌, ◌≤◌, IfOk};
 ghost use Rattle.std.specs.List.{All, AllZip};
 ghost use Rattle.aig_sim.specs.Runs.{IsRunOf, IsTraceOf};
 
+use crate::alone::trace_alone;
 use crate::group::trace_group;
 use crate::machine::Machine;
 use crate::run::{Run, Trace};
+use crate::simulator::Simulator;
 use aig_core::{Checked, Listing, OutOfMemory};
 use std::alloc::Global;
 
 /// How many runs are stepped side by side.
 const LANES: usize = 256;
+
+/// So many runs are as fast one after another as side by side.
+const FEW: usize = 8;
 
 /// Adds traces at the end.
 fn append(traces: &mut Vec<Trace>, mut more: Vec<Trace>) -> Result<(), OutOfMemory>
@@ -21,13 +26,9 @@ fn append(traces: &mut Vec<Trace>, mut more: Vec<Trace>) -> Result<(), OutOfMemo
 }
 
 /// The traces of runs, in their order, group by group.
-fn trace_groups(
-    alloc: Global,
-    machine: &Machine,
-    runs: &[Run],
-) -> Result<Listing<Trace>, OutOfMemory>
+fn trace_groups(alloc: Global, machine: &Machine, runs: &[Run]) -> Result<Vec<Trace>, OutOfMemory>
     requires { All (IsRunOf machine.now) runs.now }
-    ensures { IfOk result (λ traces. AllZip (IsTraceOf machine.now) runs.now traces) }
+    ensures { IfOk result (λ traces. AllZip (IsTraceOf machine.now) runs.now traces.items) }
 {
     let mut traces = Vec::new(alloc);
     let mut done = 0;
@@ -36,12 +37,35 @@ fn trace_groups(
         append(&mut traces, trace_group(alloc, machine, &runs[done..end])?)?;
         done = end;
     }
+    Ok(traces)
+}
+
+/// How many of so many runs are run one after another: those behind the last full group, where they are few.
+fn count_alone(count: usize) -> usize
+    ensures { result ≤ count }
+{
+    let left = count % LANES;
+    if left < FEW { left } else { 0 }
+}
+
+/// The traces of runs, in their order: groups of them side by side, and a few that are left alone.
+fn trace_runs(
+    alloc: Global,
+    simulator: &mut Simulator,
+    runs: &[Run],
+) -> Result<Listing<Trace>, OutOfMemory>
+    requires { All (IsRunOf simulator.old.circuit) runs.now }
+    ensures { IfOk result (λ traces. AllZip (IsTraceOf simulator.old.circuit) runs.now traces) }
+{
+    let (grouped, rest) = runs.split_at(runs.len() - count_alone(runs.len()));
+    let mut traces = trace_groups(alloc, simulator.machine(), grouped)?;
+    append(&mut traces, trace_alone(alloc, simulator, rest)?)?;
     Ok(Listing::from_vec(traces))
 }
 
-/// The traces of runs, one for each and in their order: what `Simulator` shows of a run after a reset, step by step.
-/// Each run must fit the circuit (`Run::fits`); they may be of any lengths. It is much faster than one run after
-/// another, since 256 of them are stepped side by side. If memory is wanting, there is no trace.
+/// The traces of runs, one for each and in their order: what a `Simulator` shows of a run from the reset state, step by
+/// step. Each run must fit the circuit, as `Run::fits` tells; they may be of any lengths. 256 of them are stepped side
+/// by side, which takes a small part of the time of one after another. Where an allocation fails there is no trace.
 pub fn simulate_batch(
     alloc: Global,
     checked: &Checked,
@@ -50,6 +74,6 @@ pub fn simulate_batch(
     requires { All (IsRunOf checked.now) runs.now }
     ensures { IfOk result (λ traces. AllZip (IsTraceOf checked.now) runs.now traces) }
 {
-    let machine = Machine::new(alloc, checked)?;
-    trace_groups(alloc, &machine, runs)
+    let mut simulator = Simulator::build(alloc, checked)?;
+    trace_runs(alloc, &mut simulator, runs)
 }

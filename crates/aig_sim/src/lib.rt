@@ -1,6 +1,7 @@
 //! The simulator: steps of a circuit, and the trace text of a stimulus.
 #![tactic(auto)]
 
+mod alone;
 mod batch;
 mod batched;
 mod cells;

@@ -128,7 +128,7 @@ impl Simulator {
     }
 
     /// A simulator of the circuit, in the reset state, or want of memory.
-    fn build(alloc: Global, checked: &Checked) -> Result<Self, OutOfMemory>
+    pub(crate) fn build(alloc: Global, checked: &Checked) -> Result<Self, OutOfMemory>
         ensures same { IfOk result (λ s. MeansTheSame checked.now s.circuit) }
         ensures reset { IfOk result IsReset }
     {
@@ -148,6 +148,13 @@ impl Simulator {
             Ok(simulator) => Ok(simulator),
             Err(_refused) => Err(SimFault::OutOfMemory),
         }
+    }
+
+    /// What it runs.
+    pub(crate) fn machine(&self) -> &Machine
+        ensures { result.now ≡ self.now.circuit }
+    {
+        &self.machine
     }
 
     /// How many inputs the circuit has.

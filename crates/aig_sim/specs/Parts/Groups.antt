@@ -4,12 +4,14 @@ use Rattle.aig_core.specs.declared.circuit.Circuit.{Circuit}
 use Rattle.aig_core.specs.declared.value.Val.{Val}
 use Rattle.aig_meaning.specs.Meaning.{IsStepAssignment}
 use Rattle.aig_meaning.specs.Trace.{IsTrace, reset_state, state_after}
+use Rattle.aig_sim.specs.declared.run.FullRow.{FullRow}
 use Rattle.aig_sim.specs.declared.run.Run.{Run}
 use Rattle.aig_sim.specs.declared.run.Trace.{Trace}
 use Rattle.aig_sim.specs.Parts.Lanes.{IsLane}
 use Rattle.aig_sim.specs.Parts.Lines.{row_read}
 use Rattle.aig_sim.specs.Parts.Tables.{read_from}
 use Rattle.aig_sim.specs.Runs.{row_of}
+use Rattle.aig_sim.specs.Simulating.{Simulation, Stepped}
 
 -- What a step of its lane does to the trace of a run: where the run has the step, a row is added, which shows what
 -- stands in the lane; where the run has ended, the trace stays, whatever its lane holds.
@@ -39,3 +41,8 @@ pub record Stands (c : Circuit) (run : Run) (steps lane : ℕ) (table state : Li
   pub table_stands : steps ≤ length run.steps → IsTable lane (1 + c.max_var) table
   pub state_stands : steps ≤ length run.steps
       → IsLane lane state (state_after (reset_state c) (map row_of trace.rows))
+
+-- a simulator took a step, and its row was added
+pub record Added (before after : Simulation) (given : List Val) (rows rows_now : List FullRow) : Type 0 where
+  pub stepped : Stepped before after given
+  pub added : map row_of rows_now ≡ map row_of rows ++ stepped.row ∷ []

@@ -10,11 +10,11 @@ use Rattle.aig_sim.proofs.batch.simulate_batch.Goals as goal
 pub returns : goal.returns
 returns c =
     let checked = c.args.checked.now in
-    let machine = c.in_ok-machine.machine in
+    let circuit = c.in_ok-simulator.simulator.circuit in
     let runs = c.args.runs.now in
-    IfOk-weaker c.trace_groups.result (λ (traces : List Trace). AllZip (IsTraceOf machine) runs traces)
+    IfOk-weaker c.trace_runs.result (λ (traces : List Trace). AllZip (IsTraceOf circuit) runs traces)
     (λ (traces : List Trace). AllZip (IsTraceOf checked) runs traces)
     (λ traces each.
-    all_zip_weaker (IsTraceOf machine) (IsTraceOf checked)
-    (λ run trace is. same_trace_of checked machine run trace c.in_ok-machine.ensures is) runs traces each)
-    c.trace_groups.ensures
+    all_zip_weaker (IsTraceOf circuit) (IsTraceOf checked)
+    (λ run trace is. same_trace_of checked circuit run trace c.in_ok-simulator.ensures.same is) runs traces each)
+    c.trace_runs.ensures
