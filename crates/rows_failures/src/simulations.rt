@@ -14,7 +14,9 @@ const STIMULUS: &[u8] = b"0x\n1x\n11\n";
 const TRACE: &[u8] = b" 0x 0 \n 1x x \n 11 1 \n.\n";
 
 /// The words of each row, with a `#` between them: which of model and stimulus is a file, and which the standard input.
-const WORDS: &str = "aiger aigsim model stimulus#aiger aigsim model#aiger aigsim - stimulus";
+/// The last two are of batches.
+const WORDS: &str = "aiger aigsim model stimulus#aiger aigsim model#aiger aigsim - stimulus#\
+    aiger aigsim --batch model stimulus#aiger aigsim --batch model";
 
 /// What is read, how many bytes the devices move in a call, and which call of each fails, counted from 0.
 #[derive(Clone, Copy)]
@@ -107,6 +109,15 @@ fn unread_stimulus(words: &str) -> &'static str {
     }
 }
 
+/// What is due of this text where the simulation fails: of a batch nothing.
+fn due<'a>(words: &str, text: &'a [u8]) -> &'a [u8] {
+    if words.starts_with("aiger aigsim --batch") {
+        b""
+    } else {
+        text
+    }
+}
+
 /// Each read of the model fails in turn: nothing was written, and nothing was read of a stimulus, which would fail too.
 #[test]
 fn failed_models(rt: HostRuntime) -> Result<(), Fail> {
@@ -123,7 +134,7 @@ fn failed_models(rt: HostRuntime) -> Result<(), Fail> {
     Ok(())
 }
 
-/// Each read of the stimulus fails in turn: the lines of all steps that came are written, and no more.
+/// Each read of the stimulus fails in turn: the lines of all steps that came are written, and no more; of a batch nothing.
 #[test]
 fn failed_stimuli(rt: HostRuntime) -> Result<(), Fail> {
     for words in WORDS.split('#') {
@@ -132,7 +143,7 @@ fn failed_stimuli(rt: HostRuntime) -> Result<(), Fail> {
             devices.failing_stimulus = call as u64;
             let outcome = devices.run(rt.alloc(), words)?;
             assert!(rt; outcome.told(1, unread_stimulus(words)), "read {call}");
-            let written = &TRACE[..2 * call / 3 * 7];
+            let written = due(words, &TRACE[..2 * call / 3 * 7]);
             assert!(rt; outcome.output.taken.as_slice() == written, "read {call}");
         }
     }
@@ -174,7 +185,8 @@ fn traces_in_pieces(rt: HostRuntime) -> Result<(), Fail> {
     Ok(())
 }
 
-/// At a bad line, what was written before it stands, and nothing is read behind the bytes that it came with.
+/// At a bad line, what was written before it stands, and nothing is read behind the bytes that it came with. Of a batch
+/// nothing was written.
 #[test]
 fn bad_lines(rt: HostRuntime) -> Result<(), Fail> {
     for words in WORDS.split('#') {
@@ -182,7 +194,7 @@ fn bad_lines(rt: HostRuntime) -> Result<(), Fail> {
         devices.stimulus = b"0x\n1\n11\n";
         devices.failing_stimulus = 3;
         let outcome = devices.run(rt.alloc(), words)?;
-        assert!(rt; outcome.output.taken.as_slice() == &TRACE[..7]);
+        assert!(rt; outcome.output.taken.as_slice() == due(words, &TRACE[..7]));
         let named = words.ends_with(" stimulus");
         assert!(rt; outcome.told(1, bad_line(named)));
     }
