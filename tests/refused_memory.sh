@@ -1,5 +1,6 @@
 #!/usr/bin/env bash
-# Runs each row of the table in rows.sh with its Nth growth of memory refused, N from 1 until there is no Nth growth.
+# Runs each row of the table in rows.sh with its Nth growth of memory refused, N from 1 until there is no Nth growth; of a row
+# that grows more than a hundred times, some N.
 # A run with a refusal answers 'aiger: out of memory', status 1, and writes nothing; a simulation without --batch has then read
 # nothing of its stimulus either. The run without a refusal gives the row's own answer. A row counts once. What happens before
 # anything is read is the same for all rows with the same words, so it is refused once, with a folder as standard input and as
@@ -7,7 +8,8 @@
 . "$(dirname "${BASH_SOURCE[0]}")/rows.sh"
 . "$top/tests/judge.sh"
 need_program
-most=20000   # a row that grows more often than this fails
+most=200000   # a row that grows more often than this fails
+each=100      # of a row's own growths so many are refused one by one, and behind them ever fewer of many
 
 if ! compile_preload refuse_growth; then
     fail 'tests/refuse_growth.c compiles' \
@@ -42,11 +44,12 @@ ran_out() {
 
 # refuse_each FROM WORD..: refuses each growth from number FROM on. Leaves in $number the first that there is not, and in $ended
 # the status without a refusal. Fails where a run goes wrong. Where the words are refused, with status 2 in $status, clap can
-# do without some growths, for which it has no hint or a shorter one: then what comes is as without the refusal.
+# do without some growths, for which it has no hint or a shorter one: then what comes is as without the refusal. With a number in
+# $sparse, growths are left out behind so many.
 refuse_each() {
     local from=$1
     shift
-    for ((number = from; number <= most; number++)); do
+    for ((number = from; number <= most; number += 1 + (number - from) / ${sparse:-$most})); do
         run_refusing "$number" "$@"
         ended=$?
         [ -e "$work/refused.$number" ] || return 0
@@ -87,7 +90,7 @@ without_model() {
 }
 
 row() {
-    local name=$1 input=$work/in status=$5 number ended known reads=source position unread
+    local name=$1 input=$work/in status=$5 number ended known reads=source position unread sparse=
     printf '%b' "$2" > "$work/in"
     wants "$3" "$4" "$5"
     shift 5
@@ -97,6 +100,7 @@ row() {
     [ "${1-}" != aigsim ] || [ "${2-}" = - ] || [[ " $* " = *' --batch '* ]] || reads=stimulus
     leave_out 1 "${unread[@]}"
     [ "${unread[*]@Q}" = "${*@Q}" ] || leave_out $((known + 1)) "$@"
+    sparse=$each
     if ! refuse_each $((known + 1)) "$@"; then
         came "$ended"
         tell "$name, growth $number refused"
