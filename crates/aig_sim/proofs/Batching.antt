@@ -1,6 +1,6 @@
 -- A stimulus without a bad line, whose bytes are all taken at once.
-use Rattle.std.proofs.Common.{◌≡◌, ◌+◌, ◌++◌, ℕ, List, [], Bool, true, false, None, Option, length, refl, sym, subst, ◌∙◌}
-use Rattle.std.proofs.Common.{append_assoc, arith}
+use Rattle.std.proofs.Common.{◌≡◌, ◌+◌, ◌++◌, ℕ, List, [], Bool, true, false, None, Option}
+use Rattle.std.proofs.Common.{length, refl, sym, subst, ◌∙◌, append_assoc, arith}
 use Rattle.aig_core.specs.declared.circuit.Circuit.{Circuit}
 use Rattle.aig_io.specs.Output.{Out, Put}
 use Rattle.aig_io.proofs.Puts.{put_twice}
@@ -21,7 +21,8 @@ use Rattle.aig_sim.proofs.Taking.{take_none}
 module _ {W : Type 0} (c : Circuit) (columns : Columns) (bytes : List ℕ) (none : first_bad_line c bytes true ≡ None)
   where
     -- no bad line is found
-    not_bad : {P : Type 0} (text : List ℕ) (number : ℕ) (a b : Out W) → FoundBad c columns bytes true text number a b → P
+    not_bad : {P : Type 0} (text : List ℕ) (number : ℕ) (a b : Out W)
+        → FoundBad c columns bytes true text number a b → P
     not_bad text number a b found = let bad = found.bad in cc
 
     pub advanced : (good : Bool) (text : List ℕ) (at : Reading) (number : ℕ) (a b : Out W)

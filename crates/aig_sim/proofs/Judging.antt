@@ -1,6 +1,7 @@
 -- Lines of a stimulus that are judged where they stand among its bytes.
-use Rattle.std.proofs.Common.{◌≡◌, ◌≢◌, ◌+◌, ◌-◌, ◌<◌, ◌≤◌, ◌&&◌, ℕ, List, [], ◌∷◌, ◌++◌, Bool, true, false, Option, Some, None}
-use Rattle.std.proofs.Common.{length, take, drop, is_some, option_and_then, option_map, refl, sym, ap, subst, ◌∙◌, arith}
+use Rattle.std.proofs.Common.{◌≡◌, ◌≢◌, ◌+◌, ◌-◌, ◌<◌, ◌≤◌, ◌&&◌, ℕ, List, [], ◌∷◌, ◌++◌, Bool, true, false, Option}
+use Rattle.std.proofs.Common.{Some, None, length, take, drop, is_some, option_and_then, option_map, refl, sym, ap}
+use Rattle.std.proofs.Common.{subst, ◌∙◌, arith}
 use Rattle.std.proofs.lemmas.List.{drop-append-le, drop_all, length-drop, length-take-le, take-append-drop}
 use Rattle.std.proofs.Math.Seq.{take-add, take-append-add}
 use Rattle.memchr.specs.Find.{IsFirstByte, is_byte}
@@ -126,7 +127,8 @@ module _ (inputs : ℕ) (bytes : List ℕ) (begun at number : ℕ) (within : at 
     judged_line e said =
         let end = at + next + 1 in
         let now = take end bytes in
-        let whole = heard_line inputs (take at bytes) j.lines (drop begun (take at bytes)) j.entries j.heard piece e cut.0
+        let whole = heard_line inputs (take at bytes) j.lines (drop begun (take at bytes)) j.entries j.heard piece e
+        cut.0
         (ap (λ (t : List ℕ). entry_in inputs (without_return t)) (sym text_is) ∙ said) in
         let as_long : length now ≡ end = length-take-le end bytes (omega (arith, below, length-drop at bytes)) in
         record {

@@ -1,6 +1,6 @@
 //! A whole stimulus, judged line by line while it comes.
-ghost use Rattle.std.specs.Prelude.{◌≡◌, ◌+◌, ◌^◌, ◌-◌, ◌<◌, ◌≤◌, Bool, IfErr, IfOk, OnOk, None, Some, false, length, take};
-ghost use Rattle.std.specs.Prelude.{true};
+ghost use Rattle.std.specs.Prelude.{◌≡◌, ◌+◌, ◌^◌, ◌-◌, ◌<◌, ◌≤◌, Bool, IfErr, IfOk, OnOk, None, Some};
+ghost use Rattle.std.specs.Prelude.{false, length, take, true};
 ghost use Rattle.aig_sim.specs.Batched.{AllGood, NotAllGood};
 ghost use Rattle.aig_sim.specs.Outcome.{source_failures};
 ghost use Rattle.aig_sim.specs.Stimulus.{stimulus};

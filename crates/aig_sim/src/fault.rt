@@ -13,7 +13,7 @@ use std::fmt;
 /// Why a simulation ended before the stimulus did.
 #[derive(Debug, Drop, PartialEq)]
 pub enum SimFault {
-    /// An allocation failed. Nothing was fetched and nothing sent.
+    /// An allocation failed. Nothing was sent, and by `simulate` nothing fetched.
     OutOfMemory,
     /// The line of this number, counted from 1, is no line of a stimulus of this circuit.
     BadStimulus(u64),

@@ -177,7 +177,8 @@ impl RunText {
     ) -> Result<(), OutOfMemory>
         requires lane { lane < 256 }
         requires below { ShowsBelow (length table.now / 2) parts.now }
-        ensures { IfOk result (λ _. TextGrew columns parts.now run.now step lane table.now state.now self.old self.new) }
+        ensures { IfOk result (λ _.
+            TextGrew columns parts.now run.now step lane table.now state.now self.old self.new) }
     {
         let steps = run.steps.as_slice();
         if step < steps.len() {

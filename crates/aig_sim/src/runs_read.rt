@@ -82,7 +82,8 @@ pub(crate) fn read_group<'a>(
     inputs: usize,
     bytes: &'a [u8],
 ) -> Result<(Vec<Run>, usize, &'a [u8]), OutOfMemory>
-    ensures says { IfOk result (λ read. Says inputs bytes.now read.1 (flat_map entries_of_run read.0.items) read.2.now) }
+    ensures says { IfOk result (λ read.
+        Says inputs bytes.now read.1 (flat_map entries_of_run read.0.items) read.2.now) }
     ensures fits { IfOk result (λ read. All (λ (run : RunRecord).
         All (λ (vector : List Value). length vector ≡ inputs) run.steps) read.0.items) }
     ensures few { IfOk result (λ read. length read.0.items ≤ 256) }

@@ -1,4 +1,5 @@
-use Rattle.std.proofs.Common.{◌≡◌, ◌∙◌, ◌++◌, ◌∷◌, List, Some, [], ℕ, ap, bytes_eq, codes, drop, length, subst, sym, take}
+use Rattle.std.proofs.Common.{◌≡◌, ◌∙◌, ◌++◌, ◌∷◌, List, Some, [], ℕ, ap, bytes_eq, codes, drop}
+use Rattle.std.proofs.Common.{length, subst, sym, take}
 use Rattle.std.specs.List.{All}
 use Rattle.std.proofs.lemmas.List.Elements.{All-push}
 use Rattle.aig_core.specs.declared.value.Val.{Val}
@@ -36,6 +37,6 @@ loop-next-preserved c =
           (c.split_at-in-Some.ensures.back ∙ ap (λ (r : List ℕ). drop 1 r) c.split_at.ensures.back)
           c.in-Some-2.vector c.push.new.self more here;
       fits = subst (λ (vs : List (List Val)). All (λ (v : List Val). length v ≡ inputs) vs) (sym more)
-          (All-push (λ (v : List Val). length v ≡ inputs) c.loop-next.steps c.in-Some-2.vector c.loop-next.invariant.fits
-          long);
+          (All-push (λ (v : List Val). length v ≡ inputs) c.loop-next.steps c.in-Some-2.vector
+          c.loop-next.invariant.fits long);
     }

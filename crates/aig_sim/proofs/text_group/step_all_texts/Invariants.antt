@@ -6,8 +6,10 @@ use Rattle.aig_sim.proofs.text_group.step_all_texts.Given as goal
 abbrev pub invariant-loop-step : goal.invariant-loop-step
 invariant-loop-step l = record {
   stand : (j : ℕ) (d : Run) (e : List ℕ) → j < length l.runs
-      → TextStands l.columns l.machine (slice_index_or l.runs j d) 0 j l.fn.table l.fn.state (slice_index_or l.fn.texts j e)
-      → TextStands l.columns l.machine (slice_index_or l.runs j d) l.step j l.table l.state (slice_index_or l.texts j e);
+      → TextStands l.columns l.machine (slice_index_or l.runs j d) 0 j l.fn.table l.fn.state
+      (slice_index_or l.fn.texts j e)
+      → TextStands l.columns l.machine (slice_index_or l.runs j d) l.step j l.table l.state
+      (slice_index_or l.texts j e);
   table : length l.table ≡ length l.fn.table;
   state : length l.state ≡ length l.fn.state;
   texts : length l.texts ≡ length l.fn.texts;
