@@ -2,8 +2,8 @@
 ghost use Rattle.std.specs.Prelude.{◌≡◌, ◌↔◌, ◌+◌, ◌*◌, ◌≤◌, length, IfErr, IfOk, IsTrue, OnOk};
 ghost use Rattle.std.specs.List.{flat_map, range_with_len};
 ghost use Rattle.aig_core.specs.Wellformed.{IsWellFormed};
-ghost use Rattle.aig_unroll.specs.Unrolled.{IsTooLarge, IsUnrolled, IsUnsupported, bad_at, frame_size, gates_at};
-ghost use Rattle.aig_unroll.specs.Unrolled.{outputs_at, unrolled};
+ghost use Rattle.aig_unroll.specs.Unrolled.{IsTooLarge, IsUnrolled, IsUnsupported, all_inputs, bad_at};
+ghost use Rattle.aig_unroll.specs.Unrolled.{frame_size, gates_at, outputs_at, unrolled};
 ghost use Rattle.aig_unroll.specs.Outcome.{NotUnrolled};
 ghost use Rattle.aig_unroll.specs.Parts.Frames.{IsPutAt, circuit_with};
 
@@ -130,26 +130,54 @@ fn circuit_of(
     }
 }
 
-/// The unrolled circuit of a circuit in binary order. Each list takes its memory once.
+/// The inputs of the unrolled circuit, and lists as long as its outputs, its bad states and its gates. Each takes its
+/// memory once.
+fn make_lists(
+    alloc: Global,
+    copies: &Frames,
+) -> Result<(Vec<Var>, Vec<Lit>, Vec<Lit>, Vec<Gate>), OutOfMemory>
+    requires { copies.now.frame ≡ 0 }
+    ensures inputs { IfOk result (λ lists. lists.0.items
+        ≡ range_with_len 1 (all_inputs copies.now.circuit copies.now.frames)) }
+    ensures outputs { IfOk result (λ lists. length lists.1.items
+        ≡ copies.now.frames * length copies.now.circuit.outputs) }
+    ensures bad { IfOk result (λ lists. length lists.2.items
+        ≡ copies.now.frames * length copies.now.circuit.bad) }
+    ensures gates { IfOk result (λ lists. length lists.3.items
+        ≡ copies.now.frames * frame_size copies.now.circuit) }
+{
+    let no_gate = Gate {
+        var: Var(0),
+        left: Lit(0),
+        right: Lit(0),
+    };
+    let circuit = copies.circuit();
+    let frames = copies.frames() as usize;
+    let inputs = first_variables(alloc, copies.count_inputs())?;
+    let outputs = vec![in alloc; Lit(0); frames * circuit.outputs.len()]?;
+    let bad = vec![in alloc; Lit(0); frames * circuit.bad.len()]?;
+    let gates = vec![in alloc; no_gate; frames * copies.count_gates()]?;
+    Ok((inputs, outputs, bad, gates))
+}
+
+/// The unrolled circuit of a circuit in binary order. Where memory is refused its frames are dropped by name, since a
+/// proof goes through all that goes out of scope by itself.
 fn unroll_image(alloc: Global, image: Ordered, frames: u32) -> Result<Circuit, OutOfMemory>
     requires some { 1 ≤ frames }
     requires fits { ¬ IsTooLarge image frames }
     ensures { IfOk result (λ d. d ≡ unrolled image frames) }
 {
     let copies = Frames::new(alloc, image, frames)?;
-    let inputs = first_variables(alloc, copies.count_inputs())?;
-    let circuit = copies.circuit();
-    let no_gate = Gate {
-        var: Var(0),
-        left: Lit(0),
-        right: Lit(0),
-    };
-    let frames = frames as usize;
-    let mut outputs = vec![in alloc; Lit(0); frames * circuit.outputs.len()]?;
-    let mut bad = vec![in alloc; Lit(0); frames * circuit.bad.len()]?;
-    let mut gates = vec![in alloc; no_gate; frames * copies.count_gates()]?;
-    put_frames(copies, &mut outputs, &mut bad, &mut gates);
-    Ok(circuit_of(alloc, inputs, outputs, bad, gates))
+    match make_lists(alloc, &copies) {
+        Ok((inputs, mut outputs, mut bad, mut gates)) => {
+            put_frames(copies, &mut outputs, &mut bad, &mut gates);
+            Ok(circuit_of(alloc, inputs, outputs, bad, gates))
+        }
+        Err(refused) => {
+            drop(copies);
+            Err(refused)
+        }
+    }
 }
 
 /// The circuit unrolled over so many frames: copies of it in time, as one circuit without latches. It takes the inputs

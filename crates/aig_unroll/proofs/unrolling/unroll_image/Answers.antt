@@ -12,17 +12,16 @@ pub circuit_of-requires : goal.circuit_of-requires
 circuit_of-requires c =
     let circuit : Circuit = c.args.image in
     let frames : ℕ = c.args.frames in
-    let inputs : List ℕ = c.in_ok-inputs.inputs.items in
-    let kept : length c.put_frames.new.gates ≡ c.in_ok-gates.gates.len =
-    c.put_frames.auto.gates ∙ c.deref_mut-3.ensures.len in
-    let gates = with_items_is c.in_ok-gates.gates c.put_frames.new.gates kept in
+    let inputs : List ℕ = c.in-Ok.inputs.items in
+    let kept : length c.put_frames.new.gates ≡ c.in-Ok.gates.len =
+    c.put_frames.auto.gates ∙ c.deref_mut-in-Ok-2.ensures.len in
+    let gates = with_items_is c.in-Ok.gates c.put_frames.new.gates kept in
     let inputs_are : inputs ≡ range_with_len 1 (all_inputs circuit frames) =
-    c.in_ok-inputs.ensures
-    ∙ ap (range_with_len 1)
-    (c.count_inputs.ensures ∙ ap (λ (k : Frame). all_inputs k.circuit k.frames) c.in_ok-copies.ensures) in
+    c.in-Ok.ensures.inputs
+    ∙ ap (λ (k : Frame). range_with_len 1 (all_inputs k.circuit k.frames)) c.in_ok-copies.ensures in
     let size : length c.put_frames.new.gates ≡ frames * frame_size circuit =
-    kept ∙ c.in_ok-gates.ensures.len
-    ∙ ap (λ n. frames * n) (c.count_gates.ensures ∙ ap (λ (k : Frame). frame_size k.circuit) c.in_ok-copies.ensures) in
+    c.put_frames.auto.gates ∙ ap length c.deref_mut-in-Ok-2.ensures.value ∙ c.in-Ok.ensures.gates
+    ∙ ap (λ (k : Frame). k.frames * frame_size k.circuit) c.in_ok-copies.ensures in
     omega (
       arith,
       ap length gates,
@@ -30,25 +29,25 @@ circuit_of-requires c =
       all_fit circuit frames c.requires.fits,
     )
 
-pub returns : goal.returns
-returns c =
+pub returns-in-Ok : goal.returns-in-Ok
+returns-in-Ok c =
     let circuit : Circuit = c.args.image in
     let frames : ℕ = c.args.frames in
-    let inputs : List ℕ = c.in_ok-inputs.inputs.items in
-    let kept : length c.put_frames.new.gates ≡ c.in_ok-gates.gates.len =
-    c.put_frames.auto.gates ∙ c.deref_mut-3.ensures.len in
-    let gates = with_items_is c.in_ok-gates.gates c.put_frames.new.gates kept in
+    let inputs : List ℕ = c.in-Ok.inputs.items in
+    let kept : length c.put_frames.new.gates ≡ c.in-Ok.gates.len =
+    c.put_frames.auto.gates ∙ c.deref_mut-in-Ok-2.ensures.len in
+    let gates = with_items_is c.in-Ok.gates c.put_frames.new.gates kept in
     let inputs_are : inputs ≡ range_with_len 1 (all_inputs circuit frames) =
-    c.in_ok-inputs.ensures
-    ∙ ap (range_with_len 1)
-    (c.count_inputs.ensures ∙ ap (λ (k : Frame). all_inputs k.circuit k.frames) c.in_ok-copies.ensures) in
+    c.in-Ok.ensures.inputs
+    ∙ ap (λ (k : Frame). range_with_len 1 (all_inputs k.circuit k.frames)) c.in_ok-copies.ensures in
     let size : length c.put_frames.new.gates ≡ frames * frame_size circuit =
-    kept ∙ c.in_ok-gates.ensures.len
-    ∙ ap (λ n. frames * n) (c.count_gates.ensures ∙ ap (λ (k : Frame). frame_size k.circuit) c.in_ok-copies.ensures) in
+    c.put_frames.auto.gates ∙ ap length c.deref_mut-in-Ok-2.ensures.value ∙ c.in-Ok.ensures.gates
+    ∙ ap (λ (k : Frame). k.frames * frame_size k.circuit) c.in_ok-copies.ensures in
     let outputs =
-    with_items_is c.in_ok-outputs.outputs c.put_frames.new.outputs
+    with_items_is c.in-Ok.outputs c.put_frames.new.outputs
     (c.put_frames.auto.outputs ∙ c.deref_mut.ensures.len) in
-    let bad = with_items_is c.in_ok-bad.bad c.put_frames.new.bad (c.put_frames.auto.bad ∙ c.deref_mut-2.ensures.len) in
+    let bad =
+    with_items_is c.in-Ok.bad c.put_frames.new.bad (c.put_frames.auto.bad ∙ c.deref_mut-in-Ok.ensures.len) in
     c.circuit_of.ensures
     ∙ (λ i. circuit_with inputs (outputs i) (bad i) (gates i))
     ∙ is_unrolled circuit frames inputs c.put_frames.new.outputs c.put_frames.new.bad c.put_frames.new.gates inputs_are
