@@ -47,8 +47,9 @@ Without --batch a line of the trace is written as soon as its step is known. If
 a later line of the stimulus is refused, what was written stands.
 
 With --batch the trace is the same, but the whole stimulus is read before
-anything is written. If a line of it is refused, nothing is written. This takes
-memory for the stimulus.
+anything is written. If a line of it is refused, nothing is written. Many runs
+go side by side, which is faster for a large circuit. This takes memory for the
+stimulus and the trace.
 
 Exit status:
   0  done, also for --help
