@@ -65,7 +65,7 @@ fn trace_runs(
 
 /// The traces of runs, one for each and in their order: what a `Simulator` shows of a run from the reset state, step by
 /// step. Each run must fit the circuit, as `Run::fits` tells; they may be of any lengths. 256 of them are stepped side
-/// by side, which takes a small part of the time of one after another. Where an allocation fails there is no trace.
+/// by side. Where an allocation fails there is no trace.
 pub fn simulate_batch(
     alloc: Global,
     checked: &Checked,

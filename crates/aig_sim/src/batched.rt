@@ -82,8 +82,8 @@ fn trace_collected<W: Sink>(
 
 /// Simulates a circuit over a stimulus text, and writes the trace text, as `simulate` does; but the whole stimulus is
 /// read, and each line of it found good, before anything is sent. All memory is taken before that too: beside the
-/// stimulus that of the text for those runs that are stepped side by side, 256 at a time, which is much faster than one
-/// run after another.
+/// stimulus that of the text for those runs that are stepped side by side, 256 at a time. That is faster than `simulate`
+/// from some thousand gates on, and slower below.
 pub fn simulate_batched<R: Source, W: Sink>(
     alloc: Global,
     checked: &Checked,

@@ -98,8 +98,8 @@ impl Reader {
         good
     }
 
-    /// Takes the first line if it is a step of which nothing was kept, and answers what is left behind it. The line feed
-    /// of a step has its place, so none is looked for.
+    /// Takes the first line if it is a step of which nothing was kept, and answers what is left behind it. The line
+    /// feed of a step has its place, so none is looked for.
     #[inline(always)]
     fn take_next_step<'a, W: Sink>(
         &mut self,

@@ -27,8 +27,8 @@ abbrev pub status_of : Usage → ℕ
 status_of usages.OutOfMemory = 1
 status_of usage = 2
 
--- What was asked for has one source and one destination: it is done and nothing is reported, or its error is reported in
--- one line. A stream in the place of which a file is named is left alone.
+-- What was asked for has one source and one destination: it is done and nothing is reported, or its error is reported
+-- in one line. A stream in the place of which a file is named is left alone.
 abbrev pub EndsBetween : {R W E : Type 0} → Option (List ℕ) → Option (List ℕ) → Type 0 → (ToolFault → Type 0)
     → SourceUse R → SinkUse W → SinkUse E → ℕ → Type 0
 EndsBetween source destination IsDone IsNotDone input output errors status =
@@ -50,7 +50,8 @@ UnrollingEnds request files input output errors status =
     EndsBetween (name_of request.source) (name_of request.destination) (UnrollingDone request files input output)
     (λ error. UnrollingNotDone request error files input output) input output errors status
 
--- A simulation was asked for: the same, but of a model and a stimulus. The standard input is left alone where it is neither model nor stimulus.
+-- A simulation was asked for: the same, but of a model and a stimulus. The standard input is left alone where it is
+-- neither of them.
 abbrev pub SimulationEnds : {R W E : Type 0} → Sim → FilesByName → SourceUse R → SinkUse W → SinkUse E → ℕ → Type 0
 SimulationEnds request files input output errors status =
     IsUnusedWhereBoth (name_of request.model) (name_of request.stimulus) input.before input.after

@@ -113,7 +113,8 @@ fn put_error<E: Sink>(output: &mut Output<E>, fault: &ToolFault)
     }
 }
 
-/// The name of the file or stream that is at fault where there is one source and one destination, unless memory ran out.
+/// The name of the file or stream that is at fault where there is one source and one destination, unless memory ran
+/// out.
 fn name_at_fault<'a, T: Engine>(request: &'a T, fault: &ToolFault) -> &'a str
     ensures { result.now ≡ name_between (T.source_name request.now) (T.destination_name request.now)
         (at_fault fault.now) }

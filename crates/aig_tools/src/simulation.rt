@@ -62,10 +62,10 @@ fn simulate_as_asked<R: Source, W: Sink>(
     }
 }
 
-/// Reads the model to its end, then writes the trace of the stimulus, step by step or as a batch. Nothing is fetched of
-/// the stimulus before the whole model was read and found right. It fails if a device or an allocation fails, if the model
-/// is no file of a circuit, or at a bad line of the stimulus; what was written by then stands, of a batch nothing unless
-/// the output fails.
+/// Reads the model to its end, then writes the trace of the stimulus, step by step or as a batch. Nothing is fetched
+/// of the stimulus before the whole model was read and found right. It fails if a device or an allocation fails, if the
+/// model is no file of a circuit, or at a bad line of the stimulus; what was written by then stands, of a batch nothing
+/// unless the output fails.
 pub fn run_sim<M: Source, R: Source, W: Sink>(
     alloc: Global,
     request: &Sim,

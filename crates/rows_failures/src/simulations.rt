@@ -134,7 +134,8 @@ fn failed_models(rt: HostRuntime) -> Result<(), Fail> {
     Ok(())
 }
 
-/// Each read of the stimulus fails in turn: the lines of all steps that came are written, and no more; of a batch nothing.
+/// Each read of the stimulus fails in turn: the lines of all steps that came are written, and no more; of a batch
+/// nothing.
 #[test]
 fn failed_stimuli(rt: HostRuntime) -> Result<(), Fail> {
     for words in WORDS.split('#') {
