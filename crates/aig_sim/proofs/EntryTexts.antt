@@ -86,7 +86,8 @@ no_return (a ∷ []) b other = kept_first a b [] ∙ ap (λ (t : List ℕ). a �
 no_return (a ∷ c ∷ bs) b other =
     kept_first a c (bs ++ b ∷ []) ∙ ap (λ (t : List ℕ). a ∷ t) (no_return (c ∷ bs) b other)
 
-one_shorter : (text : List ℕ) → length text ≤ length (without_return text) + 1
+-- at most one byte is dropped
+pub one_shorter : (text : List ℕ) → length text ≤ length (without_return text) + 1
 one_shorter [] = omega arith
 one_shorter (b ∷ []) = omega arith
 one_shorter (b ∷ c ∷ bs) = omega (arith, ap length (kept_first b c bs), one_shorter (c ∷ bs))
@@ -100,7 +101,7 @@ no_stop text other =
 wrong_length : (inputs : ℕ) (text : List ℕ) → text ≢ codes "." → length text ≢ inputs → entry_in inputs text ≡ None
 wrong_length inputs text other wrong = rw (no_stop text other, ne_eqb (length text) inputs wrong) refl
 
-too_long_text : (inputs : ℕ) (text : List ℕ) → inputs + 1 < length text → entry_in inputs text ≡ None
+pub too_long_text : (inputs : ℕ) (text : List ℕ) → inputs + 1 < length text → entry_in inputs text ≡ None
 too_long_text inputs text long =
     wrong_length inputs text
     (λ (e : text ≡ codes "."). let one : length text ≡ 1 = ap length e in absurd (omega arith))

@@ -2,7 +2,11 @@
 pub mod Bits
 pub mod Tables
 pub mod Groups
-pub mod Texts
 pub mod TextGroups
 pub mod RunsRead
 pub mod Fronts
+pub mod Vectors
+pub mod ShownTexts
+pub mod Given
+pub mod Strips
+pub mod Shown

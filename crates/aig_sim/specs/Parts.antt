@@ -13,3 +13,5 @@ pub mod Tracing
 pub mod Streaming
 pub mod Judging
 pub mod RunsRead
+pub mod Strips
+pub mod Vectors

@@ -2,12 +2,13 @@
 ghost use Rattle.std.specs.Prelude.{◌≡◌, ◌≢◌, ◌+◌, ◌-◌, ◌^◌, ◌<◌, ◌≤◌, ℕ, List, [], IfErr, None};
 ghost use Rattle.std.specs.Prelude.{OnOk, length, max, true};
 ghost use Rattle.aig_core.specs.declared.circuit.Circuit.{Circuit as CircuitRecord};
+ghost use Rattle.aig_io.specs.Output.{Put};
 ghost use Rattle.aig_io.specs.declared.block.TheConstants.{ROOM};
 ghost use Rattle.aig_sim.specs.declared.fault.SimFault.TheVariants.{WriteFailed};
 ghost use Rattle.aig_sim.specs.declared.trace.Columns.{Columns as ColumnsAsked};
 ghost use Rattle.aig_sim.specs.Batched.{NotBatched};
 ghost use Rattle.aig_sim.specs.Outcome.{Simulated, first_bad_line, sink_failures, source_failures};
-ghost use Rattle.aig_sim.specs.Parts.RunsRead.{IsFront};
+ghost use Rattle.aig_sim.specs.Parts.RunsRead.{IsFront, text_of_group, text_of_groups};
 ghost use Rattle.aig_sim.specs.Parts.Streaming.{NotTraced, SentAll, SentInPart};
 ghost use Rattle.aig_sim.specs.Parts.Tracing.{IsFresh};
 
@@ -15,16 +16,37 @@ use crate::collected::collect;
 use crate::fault::SimFault;
 use crate::front::trace_front;
 use crate::gathered::Gathered;
+use crate::lane_text::RunText;
 use crate::reader::Reader;
+use crate::text_group::GroupText;
 use crate::trace::Columns;
 use aig_core::{Checked, Sink, Source};
 use std::alloc::Global;
+
+/// Puts the texts of a group, with the line that ends each.
+fn put_group<W: Sink>(output: &mut Gathered<W>, texts: &[RunText])
+    ensures { Put output.old output.new (text_of_group texts.now) }
+{
+    for text in texts {
+        output.put(text.as_slice());
+        output.put(b".\n");
+    }
+}
+
+/// Puts the texts of groups, one after the other.
+fn put_groups<W: Sink>(output: &mut Gathered<W>, groups: &[GroupText])
+    ensures { Put output.old output.new (text_of_groups groups.now) }
+{
+    for group in groups {
+        put_group(output, group.as_slice());
+    }
+}
 
 /// Sends the text for the front of a stimulus that has no bad line, and the text for what comes behind it.
 fn trace_good<W: Sink>(
     reader: &mut Reader,
     sink: &mut W,
-    text: &[u8],
+    groups: &[GroupText],
     lines: usize,
     rest: &[u8],
 ) -> Result<(), SimFault>
@@ -32,10 +54,10 @@ fn trace_good<W: Sink>(
     requires lines { lines + length rest.now < 2 ^ 64 - 1 }
     requires sink { W.failed sink.old < 2 ^ 64 - 1 }
     ensures ok { OnOk result ((c : CircuitRecord) (columns : ColumnsAsked) (bytes : List ℕ)
-        → IsFresh c columns reader.old → IsFront c columns bytes text.now lines rest.now
+        → IsFresh c columns reader.old → IsFront c columns bytes (text_of_groups groups.now) lines rest.now
         → first_bad_line c bytes true ≡ None → SentAll c columns bytes [] (W.taken sink.old) (W.taken sink.new)) }
     ensures err { IfErr result (λ e. (c : CircuitRecord) (columns : ColumnsAsked) (bytes : List ℕ)
-        → IsFresh c columns reader.old → IsFront c columns bytes text.now lines rest.now
+        → IsFresh c columns reader.old → IsFront c columns bytes (text_of_groups groups.now) lines rest.now
         → first_bad_line c bytes true ≡ None
         → SentInPart c columns bytes true [] (W.taken sink.old) (W.taken sink.new)) }
     ensures kind { IfErr result (λ e. e ≡ WriteFailed) }
@@ -44,7 +66,7 @@ fn trace_good<W: Sink>(
     ensures short { W.longest sink.new ≤ max (W.longest sink.old) ROOM }
 {
     let mut output = Gathered::new(sink);
-    output.put(text);
+    put_groups(&mut output, groups);
     reader.pass(lines as u64);
     let _all = reader.take_chunk(&mut output, rest);
     let _last = reader.take_end(&mut output);
@@ -76,14 +98,14 @@ fn trace_collected<W: Sink>(
     ensures kind { IfErr result (λ e. source_failures e ≡ 0) }
     ensures short { W.longest sink.new ≤ max (W.longest sink.old) ROOM }
 {
-    let (text, lines, rest) = trace_front(alloc, checked, columns, bytes)?;
-    trace_good(reader, sink, &text, lines, rest)
+    let (groups, lines, rest) = trace_front(alloc, checked, columns, bytes)?;
+    trace_good(reader, sink, &groups, lines, rest)
 }
 
 /// Simulates a circuit over a stimulus text, and writes the trace text, as `simulate` does; but the whole stimulus is
 /// read, and each line of it found good, before anything is sent. All memory is taken before that too: beside the
-/// stimulus that of the text for those runs that are stepped side by side, 256 at a time. That is faster than `simulate`
-/// from some thousand gates on, and slower below.
+/// stimulus that of the text for those runs that are stepped side by side, 256 at a time. That is faster than
+/// `simulate` from some hundred gates on, and slower below.
 pub fn simulate_batched<R: Source, W: Sink>(
     alloc: Global,
     checked: &Checked,

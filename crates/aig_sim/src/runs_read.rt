@@ -3,61 +3,29 @@ ghost use Rattle.std.specs.Prelude.{◌≡◌, ◌+◌, ◌≤◌, List, IfOk, I
 ghost use Rattle.std.specs.List.{All, flat_map};
 ghost use Rattle.aig_core.specs.declared.value.Val.{Val as Value};
 ghost use Rattle.aig_sim.specs.declared.run.Run.{Run as RunRecord};
-ghost use Rattle.aig_sim.specs.Stimulus.{value_of};
-ghost use Rattle.aig_sim.specs.Parts.Lines.{vector_in};
 ghost use Rattle.aig_sim.specs.Parts.RunsRead.{Says, entries_of_run};
 
-use crate::run::Run;
-use crate::stimulus::{is_stop, without_return};
-use aig_core::{Listing, OutOfMemory, Val};
+use crate::stimulus::{is_stop, is_vector, without_return};
+use crate::vectors::Vectors;
+use aig_core::OutOfMemory;
 use memchr::memchr;
 use std::alloc::Global;
 
 /// How many runs are stepped side by side.
 pub(crate) const LANES: usize = 256;
 
-/// The value that a character stands for.
-#[inline(always)]
-fn value_of(character: u8) -> Option<Val>
-    ensures { result ≡ value_of character }
-{
-    match character {
-        b'0' => Some(Val::Zero),
-        b'1' => Some(Val::One),
-        b'x' => Some(Val::X),
-        _ => None,
-    }
-}
-
-/// The values that a text says, where it says so many.
-fn values_in(alloc: Global, inputs: usize, text: &[u8]) -> Result<Option<Listing<Val>>, OutOfMemory>
-    ensures { IfOk result (λ values. values ≡ vector_in inputs text.now) }
-{
-    if text.len() != inputs {
-        return Ok(None);
-    }
-    let mut values = Vec::with_capacity(alloc, inputs)?;
-    for character in text {
-        let Some(value) = value_of(*character) else {
-            return Ok(None);
-        };
-        values.push(value)?;
-    }
-    Ok(Some(Listing::from_vec(values)))
-}
-
 /// The run at the front of the bytes and what comes behind it, if there are good lines up to one that ends it.
 fn read_run<'a>(
     alloc: Global,
     inputs: usize,
     bytes: &'a [u8],
-) -> Result<Option<(Run, &'a [u8])>, OutOfMemory>
+) -> Result<Option<(Vectors, &'a [u8])>, OutOfMemory>
     ensures says { IfOk result (λ found. IfSome found (λ read. Says inputs bytes.now (length read.0.steps + 1)
         (entries_of_run read.0) read.1.now)) }
     ensures fits { IfOk result (λ found. IfSome found (λ read.
         All (λ (vector : List Value). length vector ≡ inputs) read.0.steps)) }
 {
-    let mut steps = Listing::new(alloc);
+    let mut run = Vectors::new(alloc);
     let mut rest = bytes;
     while let Some(next) = memchr(b'\n', rest) {
         let (line, more) = rest.split_at(next);
@@ -65,12 +33,12 @@ fn read_run<'a>(
         rest = more;
         let text = without_return(line);
         if is_stop(text) {
-            return Ok(Some((Run { steps }, rest)));
+            return Ok(Some((run, rest)));
         }
-        let Some(vector) = values_in(alloc, inputs, text)? else {
+        if !is_vector(inputs, text) {
             return Ok(None);
-        };
-        steps.push(vector)?;
+        }
+        run.push(text)?;
     }
     Ok(None)
 }
@@ -81,7 +49,7 @@ pub(crate) fn read_group<'a>(
     alloc: Global,
     inputs: usize,
     bytes: &'a [u8],
-) -> Result<(Vec<Run>, usize, &'a [u8]), OutOfMemory>
+) -> Result<(Vec<Vectors>, usize, &'a [u8]), OutOfMemory>
     ensures says { IfOk result (λ read.
         Says inputs bytes.now read.1 (flat_map entries_of_run read.0.items) read.2.now) }
     ensures fits { IfOk result (λ read. All (λ (run : RunRecord).
@@ -96,7 +64,7 @@ pub(crate) fn read_group<'a>(
         let Some((run, more)) = read_run(alloc, inputs, rest)? else {
             break;
         };
-        lines += run.steps.len() + 1;
+        lines += run.len() + 1;
         runs.push(run)?;
         rest = more;
     }

@@ -2,6 +2,7 @@
 ghost use Rattle.std.specs.Prelude.{◌≡◌, codes, is_some};
 ghost use Rattle.std.specs.Str.{bytes_eq};
 ghost use Rattle.aig_sim.specs.Stimulus.{entry_in, value_of, values_of, without_return};
+ghost use Rattle.aig_sim.specs.Parts.Lines.{vector_in};
 
 /// Whether the text is a line that ends a run.
 #[inline(always)]
@@ -29,7 +30,7 @@ pub(crate) fn without_return(text: &[u8]) -> &[u8]
 fn is_value(character: u8) -> bool
     ensures { result ≡ is_some (value_of character) }
 {
-    character == b'0' || character == b'1' || character == b'x'
+    (character == b'0') | (character == b'1') | (character == b'x')
 }
 
 /// Whether each character stands for a value. All are looked at, with no branch at any of them.
@@ -38,9 +39,17 @@ fn are_values(text: &[u8]) -> bool
 {
     let mut all = true;
     for character in text {
-        all = all && is_value(*character);
+        all &= is_value(*character);
     }
     all
+}
+
+/// Whether the text says the inputs of a step, where the circuit has so many.
+#[inline(always)]
+pub(crate) fn is_vector(inputs: usize, text: &[u8]) -> bool
+    ensures { result ≡ is_some (vector_in inputs text.now) }
+{
+    text.len() == inputs && are_values(text)
 }
 
 /// Whether the text says a step or the end of a run, where the circuit has so many inputs.
@@ -50,5 +59,5 @@ pub(crate) fn is_entry(inputs: usize, text: &[u8]) -> bool
     if is_stop(text) {
         return true;
     }
-    text.len() == inputs && are_values(text)
+    is_vector(inputs, text)
 }

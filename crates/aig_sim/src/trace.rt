@@ -65,7 +65,7 @@ fn write_column(line: &mut [u8], at: usize, values: &Table, literals: &[Lit]) ->
 
 /// Writes a space and a text, as `write_values` writes values.
 #[inline(always)]
-fn write_text(line: &mut [u8], at: usize, text: &[u8]) -> usize
+pub(crate) fn write_text(line: &mut [u8], at: usize, text: &[u8]) -> usize
     requires { at + 1 + length text.now ≤ length line.old }
     ensures end { result ≡ at + 1 + length text.now }
     ensures text { take result line.new ≡ take at line.old ++ (codes " " ++ text.now) }

@@ -12,7 +12,7 @@ use Rattle.std.proofs.lemmas.Nat.Bits.{bit_at-pow_same, bit_at-pow_other}
 use Rattle.aig_sim.specs.Parts.Lanes.{bit_in}
 
 -- a word of a plane that was computed word by word
-zip_at : (f : ℕ → ℕ → ℕ) → f 0 0 ≡ 0 → (p q : List ℕ) (i : ℕ) → length p ≡ length q
+pub zip_at : (f : ℕ → ℕ → ℕ) → f 0 0 ≡ 0 → (p q : List ℕ) (i : ℕ) → length p ≡ length q
     → get_or (zip2 f p q) i 0 ≡ f (get_or p i 0) (get_or q i 0)
 zip_at f none [] [] i same = sym none
 zip_at f none [] (y ∷ ys) i same = absurd (omega (arith, same))
@@ -74,7 +74,8 @@ shifted k below = let small : 2 ^ k < 2 ^ 64 = pow_below k 64 below in omega (ar
 module _ (lane : ℕ) (in_plane : lane < 256) where
   pub own_bit : bit_in lane (set (four 0) (lane / 64) (2 ^ (lane % 64))) ≡ 1
   own_bit =
-      ap (λ n. bit_at n (lane % 64)) (get_or-set_same (four 0) (lane / 64) (2 ^ (lane % 64)) 0 (omega (arith, in_plane)))
+      ap (λ n. bit_at n (lane % 64))
+      (get_or-set_same (four 0) (lane / 64) (2 ^ (lane % 64)) 0 (omega (arith, in_plane)))
       ∙ bit_at-pow_same (lane % 64)
 
   same_word : (l : ℕ) → l ≢ lane → l / 64 ≡ lane / 64

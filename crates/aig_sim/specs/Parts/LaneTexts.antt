@@ -1,16 +1,72 @@
 -- The texts of runs of a group, stepped side by side: where each stands. Only private functions cite this.
-use Rattle.std.specs.Prelude.{◌≡◌, ◌+◌, ◌<◌, ◌≤◌, ◌++◌, ℕ, List, [], length, slice_index_or, take}
+use Rattle.std.specs.Prelude.{◌≡◌, ◌+◌, ◌<◌, ◌≤◌, ◌++◌, ℕ, List, [], codes, length, map, slice_index_or, take}
+use Rattle.std.specs.List.{All}
 use Rattle.aig_core.specs.declared.circuit.Circuit.{Circuit}
 use Rattle.aig_core.specs.declared.value.Val.{Val}
-use Rattle.aig_meaning.specs.Meaning.{Row}
+use Rattle.aig_meaning.specs.Meaning.{Row, literal_value, next_literals}
 use Rattle.aig_meaning.specs.Trace.{IsTrace, reset_state, state_after}
 use Rattle.aig_sim.specs.declared.run.Run.{Run}
+use Rattle.aig_sim.specs.declared.shown.Shown.{Shown}
 use Rattle.aig_sim.specs.declared.trace.Columns.{Columns}
+use Rattle.aig_sim.specs.declared.trace.Columns.TheVariants.{Plain, Properties}
 use Rattle.aig_sim.specs.Parts.Groups.{IsTable}
 use Rattle.aig_sim.specs.Parts.Lanes.{IsLane}
 use Rattle.aig_sim.specs.Parts.Lines.{row_read}
+use Rattle.aig_sim.specs.Parts.Strips.{text_in}
 use Rattle.aig_sim.specs.Parts.Tables.{read_from}
-use Rattle.aig_sim.specs.TraceText.{row_text, rows_text}
+use Rattle.aig_sim.specs.TraceText.{row_text, rows_text, values_text}
+
+-- there is a strip for each value that the rows of a circuit have
+pub record HasStrips (c : Circuit) (shown : Shown) : Type 0 where
+  pub state : length shown.state.items ≡ length c.latches
+  pub outputs : length shown.outputs.items ≡ length c.outputs
+  pub next : length shown.next.items ≡ length c.latches
+  pub bad : length shown.bad.items ≡ length c.bad
+  pub constraints : length shown.constraints.items ≡ length c.constraints
+
+-- how long a line may be, without its inputs
+abbrev pub shown_size : Shown → ℕ
+shown_size shown =
+    length shown.state.items + length shown.outputs.items + length shown.next.items + length shown.bad.items
+    + length shown.constraints.items + 6
+
+-- so many bytes are room for the line of each step of a run
+abbrev pub HasRoomFor : Shown → ℕ → Run → Type 0
+HasRoomFor shown room run = All (λ (vector : List Val). shown_size shown + length vector ≤ room) run.steps
+
+-- the columns of bad states and constraints in a lane, where they are asked for
+abbrev pub shown_properties : Columns → ℕ → Shown → List ℕ
+shown_properties Plain lane shown = []
+shown_properties Properties lane shown =
+    codes " " ++ (text_in lane shown.bad.items ++ (codes " " ++ text_in lane shown.constraints.items))
+
+-- the line of a step in a lane, with this text for its inputs
+abbrev pub shown_text : Columns → ℕ → List ℕ → Shown → List ℕ
+shown_text columns lane given shown =
+    text_in lane shown.state.items ++ (codes " " ++ (given ++ (codes " " ++ (text_in lane shown.outputs.items
+    ++ (codes " " ++ (text_in lane shown.next.items ++ (shown_properties columns lane shown ++ codes "\n")))))))
+
+-- what is shown of bad states and constraints, where it is asked for, is that of these values
+abbrev pub AreShownToo : Columns → Circuit → ℕ → List Val → (bad constraints : List (List (List ℕ))) → Type 0
+AreShownToo Plain c lane values bad constraints = Unit {0}
+AreShownToo Properties c lane values bad constraints =
+    (text_in lane bad ≡ values_text (map (literal_value (read_from values)) c.bad))
+    × (text_in lane constraints ≡ values_text (map (literal_value (read_from values)) c.constraints))
+
+-- what is shown in a lane is that of these values and of this state before them
+pub record AreShown (columns : Columns) (c : Circuit) (lane : ℕ) (values before : List Val) (shown : Shown)
+    : Type 0 where
+  pub state : text_in lane shown.state.items ≡ values_text before
+  pub outputs : text_in lane shown.outputs.items ≡ values_text (map (literal_value (read_from values)) c.outputs)
+  pub next : text_in lane shown.next.items ≡ values_text (map (literal_value (read_from values)) (next_literals c))
+  pub properties : AreShownToo columns c lane values shown.bad.items shown.constraints.items
+
+-- What a step of its lane does to the text of a run: where the run has the step, its line is added, and else nothing.
+pub record Extended (columns : Columns) (run : Run) (step lane : ℕ) (shown : Shown) (before after : List ℕ)
+    : Type 0 where
+  pub row : step < length run.steps
+      → after ≡ before ++ shown_text columns lane (values_text (slice_index_or run.steps step [])) shown
+  pub ended : length run.steps ≤ step → after ≡ before
 
 -- What a step of its lane does to the text of a run: where the run has the step, a line is added, which shows what
 -- stands in the lane; where the run has ended, the text stays, whatever its lane holds.

@@ -1,5 +1,6 @@
 -- Runs that are read at the front of a stimulus. Only private functions cite this.
-use Rattle.std.specs.Prelude.{◌≡◌, ◌+◌, ◌≤◌, ◌++◌, ℕ, List, [], ◌∷◌, length, map}
+use Rattle.std.specs.Prelude.{◌≡◌, ◌+◌, ◌≤◌, ◌++◌, ℕ, List, [], ◌∷◌, codes, length, map}
+use Rattle.std.specs.List.{flat_map}
 use Rattle.aig_core.specs.declared.circuit.Circuit.{Circuit}
 use Rattle.aig_sim.specs.declared.run.Run.{Run}
 use Rattle.aig_sim.specs.declared.trace.Columns.{Columns}
@@ -18,6 +19,13 @@ pub record Says (inputs : ℕ) (bytes : List ℕ) (lines : ℕ) (entries : List 
   pub few : lines + length rest ≤ length bytes
   pub heard : (front : List ℕ) (count : ℕ) (before : List Entry) → IsHeard inputs front count [] before
       → IsHeard inputs (front ++ passed) (count + lines) [] (before ++ entries)
+
+-- the texts of runs, each with the line that ends it
+abbrev pub text_of_group : List (List ℕ) → List ℕ
+text_of_group texts = flat_map (λ (text : List ℕ). text ++ codes ".\n") texts
+
+abbrev pub text_of_groups : List (List (List ℕ)) → List ℕ
+text_of_groups groups = flat_map text_of_group groups
 
 -- The bytes begin with so many lines, which are whole runs, and this is the text for them.
 pub record IsFront (c : Circuit) (columns : Columns) (bytes text : List ℕ) (lines : ℕ) (rest : List ℕ) : Type 0 where

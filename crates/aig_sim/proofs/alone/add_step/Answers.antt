@@ -1,9 +1,8 @@
-use Rattle.std.proofs.Common.{◌≡◌, ◌++◌, [], ◌∷◌, Option, Some, map, ap, subst, ◌∙◌}
+use Rattle.std.proofs.Common.{◌++◌, [], ◌∷◌, Option, Some, map, ap, subst, ◌∙◌}
 use Rattle.std.proofs.lemmas.List.{map-append}
 use Rattle.aig_meaning.specs.Meaning.{Row}
 use Rattle.aig_sim.specs.Runs.{row_of}
 use Rattle.aig_sim.specs.Showing.{IsShown, Shows}
-use Rattle.aig_sim.specs.Simulating.{Stepped}
 use Rattle.aig_sim.proofs.alone.add_step.Goals as goal
 
 pub returns : goal.returns

@@ -1,11 +1,10 @@
-use Rattle.std.proofs.Common.{◌≡◌, ◌+◌, ◌++◌, List, [], ◌∷◌, length, map, get_or, take, ap, sym, subst, ◌∙◌}
+use Rattle.std.proofs.Common.{◌≡◌, ◌+◌, ◌++◌, List, [], ◌∷◌, map, take, ap, sym, subst, ◌∙◌}
 use Rattle.std.proofs.lemmas.List.{take_all, take_more}
 use Rattle.aig_core.specs.declared.circuit.Circuit.{Circuit}
 use Rattle.aig_core.specs.declared.value.Val.{Val}
 use Rattle.aig_meaning.specs.Meaning.{IsRow, Row}
 use Rattle.aig_meaning.specs.Trace.{IsTrace, reset_state, state_after}
 use Rattle.aig_meaning.proofs.Traces.{reset_state_is_first, trace_goes_on}
-use Rattle.aig_sim.specs.declared.run.FullRow.{FullRow}
 use Rattle.aig_sim.specs.Runs.{row_of}
 use Rattle.aig_sim.proofs.Side.Groups.{state_after_last}
 use Rattle.aig_sim.proofs.alone.trace_run.Goals as goal

@@ -7,8 +7,8 @@ use Rattle.aig_sim.proofs.runs_read.read_run.Given as goal
 
 abbrev pub invariant-loop-next : goal.invariant-loop-next
 invariant-loop-next l = record {
-  says : Says l.inputs l.bytes (length l.steps) (map Step l.steps) l.rest;
-  fits : All (λ (vector : List Val). length vector ≡ l.inputs) l.steps;
+  says : Says l.inputs l.bytes (length l.run.steps) (map Step l.run.steps) l.rest;
+  fits : All (λ (vector : List Val). length vector ≡ l.inputs) l.run.steps;
 }
 
 abbrev pub decreases-loop-next : goal.decreases-loop-next

@@ -1,8 +1,7 @@
-use Rattle.std.proofs.Common.{◌≡◌, ◌∙◌, ◌+◌, ◌&&◌, Bool, get_or, is_some, sym, take, ap}
+use Rattle.std.proofs.Common.{◌≡◌, ◌∙◌, ◌+◌, ◌&&◌, Bool, get_or, is_some, sym, take, ap, ap₂}
 use Rattle.std.proofs.lemmas.List.{take_more}
 use Rattle.aig_sim.specs.Stimulus.{value_of, values_of}
 use Rattle.aig_sim.proofs.Judging.{values_more}
-use Rattle.aig_sim.proofs.stimulus.are_values.Goals.{else-all, then-all}
 use Rattle.aig_sim.proofs.stimulus.are_values.Goals as goal
 
 pub loop-character-preserved : goal.loop-character-preserved
@@ -14,12 +13,4 @@ loop-character-preserved c =
     ≡ (is_some (values_of (take i text)) && is_some (value_of (get_or text i 0))) =
     ap (λ t. is_some (values_of t)) (take_more text i 0 c.loop-character-test.true)
     ∙ values_more (take i text) (get_or text i 0) in
-    let whole : (c.loop-character.all && is_some (value_of (get_or text i 0)))
-    ≡ is_some (values_of (take (i + 1) text)) =
-    ap (λ (b : Bool). b && is_some (value_of (get_or text i 0))) before ∙ sym now in
-    elim c.if-all.branch [
-      | then-all w ↦ w.all-is ∙ w.is_value-all.ensures
-          ∙ ap (λ (b : Bool). b && is_some (value_of (get_or text i 0))) (sym w.if-all.true) ∙ whole
-      | else-all w ↦ w.all-is ∙ w.if-all.false
-          ∙ ap (λ (b : Bool). b && is_some (value_of (get_or text i 0))) (sym w.if-all.false) ∙ whole
-    ]
+    ap₂ (λ (a b : Bool). a && b) before c.is_value-all.ensures ∙ sym now

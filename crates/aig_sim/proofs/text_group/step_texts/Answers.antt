@@ -1,26 +1,33 @@
-use Rattle.std.proofs.Common.{List, get_or, map, subst}
+use Rattle.std.proofs.Common.{◌<◌, List, arith, get_or, map, subst}
 use Rattle.aig_core.specs.declared.circuit.Latch.{Latch}
 use Rattle.aig_meaning.specs.Meaning.{literal_value}
 use Rattle.aig_sim.specs.Parts.Lanes.{IsLane}
 use Rattle.aig_sim.specs.Parts.Tables.{read_from}
+use Rattle.aig_sim.proofs.Side.ShownTexts.{grew_by}
 use Rattle.aig_sim.proofs.Side.TextGroups.{text_stands_on}
 use Rattle.aig_sim.proofs.text_group.step_texts.Goals as goal
 
-pub returns : goal.returns
-returns c j d e below stood =
+pub returns-clause-stands : goal.returns-clause-stands
+returns-clause-stands c j d e below stood =
     let state_now = c.show_next_lanes.new.state in
-    text_stands_on c.args.columns c.args.machine.now c.parts-parts.result.now (get_or c.args.runs.now j d) c.args.step j
-    c.args.table.now c.put_inputs.new.planes c.assign_lanes.new.table c.args.state.now state_now
+    let run = get_or c.args.runs.now j d in
+    let lane : j < 256 = omega (arith, below, c.requires.lanes) in
+    text_stands_on c.args.columns c.args.machine.now c.parts-parts.result.now run c.args.step j
+    c.args.table.now c.put_vectors.new.planes c.assign_lanes.new.table c.args.state.now state_now
     (get_or c.args.texts.now j e) (get_or c.extend_texts.new.texts j e) (record {
       latches = c.parts-parts.ensures.latches;
       outputs = c.parts-parts.ensures.outputs;
       bad = c.parts-parts.ensures.bad;
       constraints = c.parts-parts.ensures.constraints;
     }) (c.requires.fits j d below) stood (record {
-      put = λ values has is. c.put_inputs.ensures j d values below has is;
+      put = λ values has is. c.put_vectors.ensures.lanes j d values below has is;
       assign = λ given values start long is from. c.assign_lanes.ensures j given values start long is from;
       show = λ values start is from.
           subst (λ (ls : List Latch).
           IsLane j state_now (map (λ (k : Latch). literal_value (read_from values) k.next) ls)) c.as_slice.ensures
           (c.show_next_lanes.ensures j values start is from);
-    }) (c.in_ok-extend_texts.ensures j d e below)
+    })
+    (grew_by c.args.columns c.parts-parts.result.now run c.args.step j c.assign_lanes.new.table c.args.state.now
+    c.show.new.self (get_or c.args.texts.now j e) (get_or c.extend_texts.new.texts j e)
+    (c.in_ok-extend_texts.ensures j d e below)
+    (λ values start is from. c.show.ensures.shown j values start lane is from))

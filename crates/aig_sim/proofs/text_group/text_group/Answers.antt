@@ -14,26 +14,26 @@ returns c =
     let machine = c.args.machine.now in
     let columns = c.args.columns in
     let runs = c.args.runs.now in
-    let table = c.deref_mut.result.now in
-    let state = c.deref_mut-2.result.now in
-    let texts = c.deref_mut-3.result.now in
+    let table = c.deref_mut-2.result.now in
+    let state = c.deref_mut-3.result.now in
+    let texts = c.deref_mut-5.result.now in
     let new = c.step_all_texts.new.texts in
     let items : take c.in_ok-texts.texts.len (new ++ drop (length new) c.in_ok-texts.texts.items) ≡ new =
     grind (arith, common_steps) in
-    let size : length texts ≡ length runs = ap length c.deref_mut-3.ensures.value ∙ c.in_ok-texts.ensures.size in
+    let size : length texts ≡ length runs = ap length c.deref_mut-5.ensures.value ∙ c.in_ok-texts.ensures.size in
     let latches : c.as_slice.result.now ≡ machine.latches = c.as_slice.ensures ∙ c.parts-parts.ensures.latches in
     rw items
     (zipped_texts (IsTextOf columns machine) runs new (c.step_all_texts.auto.texts ∙ size) (λ j d e below.
     let lane : j < 256 = omega (arith, below, c.requires.lanes) in
     let is_table : IsLane j table (replicate (1 + machine.max_var) X) =
-    rw (c.deref_mut.ensures.value, ← c.parts-parts.ensures.max_var) (c.in_ok-table.ensures.lanes j lane) in
+    rw (c.deref_mut-2.ensures.value, ← c.parts-parts.ensures.max_var) (c.in_ok-table.ensures.lanes j lane) in
     let is_state : IsLane j state (reset_state machine) =
-    rw c.deref_mut-2.ensures.value
+    rw c.deref_mut-3.ensures.value
     (subst (λ (ls : List Latch).
     IsLane j c.in_ok-state.state.items (map (λ (k : Latch). reset_value k.reset) ls)) latches
     (c.in_ok-state.ensures.lanes j lane)) in
     let empty : get_or texts j e ≡ [] =
-    ap (λ (ts : List (List ℕ)). get_or ts j e) c.deref_mut-3.ensures.value
+    ap (λ (ts : List (List ℕ)). get_or ts j e) c.deref_mut-5.ensures.value
     ∙ c.in_ok-texts.ensures.empty j e (omega (arith, below, c.in_ok-texts.ensures.size)) in
     c.in_ok-step_all_texts.ensures j d e below
     (text_stands_first columns machine (get_or runs j d) j table state (get_or texts j e) empty is_table is_state)))
