@@ -6,7 +6,8 @@ use Rattle.aig_io.specs.Output.{Out, Put}
 use Rattle.aig_io.proofs.Puts.{put_twice}
 use Rattle.aig_sim.specs.declared.trace.Columns.{Columns}
 use Rattle.aig_sim.specs.declared.fault.SimFault.{SimFault}
-use Rattle.aig_sim.specs.declared.fault.SimFault.TheVariants.{OutOfMemory, BadStimulus, ReadFailed, WriteFailed}
+use Rattle.aig_sim.specs.declared.fault.SimFault.TheVariants.{OutOfMemory, BadStimulus, BadWitness, ReadFailed}
+use Rattle.aig_sim.specs.declared.fault.SimFault.TheVariants.{WriteFailed}
 use Rattle.aig_sim.specs.Batched.{AllGood, NotBatched}
 use Rattle.aig_sim.specs.Outcome.{Simulated, first_bad_line}
 use Rattle.aig_sim.specs.Parts.Seen.{IsHeard}
@@ -90,6 +91,7 @@ module _ (c : Circuit) (columns : Columns) (coming left taken filled : Option (L
       → NotBatched c columns e coming left taken filled
   not_batched OutOfMemory said = record { bytes = bytes; gave = good.gave.gave }
   not_batched (BadStimulus number) said = absurd said
+  not_batched (BadWitness number) said = absurd said
   not_batched ReadFailed said = absurd said
   not_batched WriteFailed said = record {
     bytes = bytes;

@@ -21,3 +21,11 @@ pub mod Streams
 pub mod Judging
 pub mod Collecting
 pub mod Batching
+pub mod WitnessLines
+pub mod WitnessRoom
+pub mod WitnessValues
+pub mod Confirmed
+pub mod Witnessing
+pub mod WitnessReading
+pub mod WitnessEnds
+pub mod WitnessTexts

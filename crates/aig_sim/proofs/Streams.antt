@@ -9,7 +9,8 @@ use Rattle.aig_core.specs.declared.circuit.Circuit.{Circuit}
 use Rattle.aig_io.specs.Transfer.{TookBeginning}
 use Rattle.aig_io.proofs.KnownBytes.{appends_twice}
 use Rattle.aig_sim.specs.declared.fault.SimFault.{SimFault}
-use Rattle.aig_sim.specs.declared.fault.SimFault.TheVariants.{OutOfMemory, BadStimulus, ReadFailed, WriteFailed}
+use Rattle.aig_sim.specs.declared.fault.SimFault.TheVariants.{OutOfMemory, BadStimulus, BadWitness, ReadFailed}
+use Rattle.aig_sim.specs.declared.fault.SimFault.TheVariants.{WriteFailed}
 use Rattle.aig_sim.specs.declared.trace.Columns.{Columns}
 use Rattle.aig_sim.specs.Outcome.{Came, Interrupted, NotSimulated, Simulated}
 use Rattle.aig_sim.specs.Parts.Streaming.{NotSent, Reached, SentAll, SentLines}
@@ -107,6 +108,7 @@ module _ (c : Circuit) (columns : Columns) (at : Reading) (coming now left taken
     is_text = sent.is_text;
     took = appends_twice taken mid filled r.text sent.more r.took sent.took;
   }
+  came_behind bytes ended came (BadWitness number) sent = absurd sent
   came_behind bytes ended came ReadFailed sent = absurd sent
   came_behind bytes ended came WriteFailed sent = record {
     bytes = bytes;

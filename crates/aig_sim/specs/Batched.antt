@@ -4,7 +4,8 @@ use Rattle.std.specs.Io.KnownBytes.{Consumes}
 use Rattle.aig_io.specs.Transfer.{GaveAll, GaveSome, TookBeginning}
 use Rattle.aig_core.specs.declared.circuit.Circuit.{Circuit}
 use Rattle.aig_sim.specs.declared.fault.SimFault.{SimFault}
-use Rattle.aig_sim.specs.declared.fault.SimFault.TheVariants.{OutOfMemory, BadStimulus, ReadFailed, WriteFailed}
+use Rattle.aig_sim.specs.declared.fault.SimFault.TheVariants.{OutOfMemory, BadStimulus, BadWitness, ReadFailed}
+use Rattle.aig_sim.specs.declared.fault.SimFault.TheVariants.{WriteFailed}
 use Rattle.aig_sim.specs.declared.trace.Columns.{Columns}
 use Rattle.aig_sim.specs.Outcome.{Came, first_bad_line}
 use Rattle.aig_sim.specs.TraceText.{IsTraceText}
@@ -39,6 +40,7 @@ pub record SimulatedInPart (c : Circuit) (columns : Columns) (coming left taken 
 abbrev pub NotAllGood : Circuit → SimFault → (coming left : Option (List ℕ)) → Type 0
 NotAllGood c OutOfMemory coming left = GaveSome coming left
 NotAllGood c (BadStimulus number) coming left = CameToBadLine c number coming left
+NotAllGood c (BadWitness number) coming left = ⊥
 NotAllGood c ReadFailed coming left = CameToNoBadLine c coming left
 NotAllGood c WriteFailed coming left = ⊥
 
@@ -46,5 +48,6 @@ NotAllGood c WriteFailed coming left = ⊥
 abbrev pub NotBatched : Circuit → Columns → SimFault → (coming left taken filled : Option (List ℕ)) → Type 0
 NotBatched c columns OutOfMemory coming left taken filled = NotAllGood c OutOfMemory coming left
 NotBatched c columns (BadStimulus number) coming left taken filled = NotAllGood c (BadStimulus number) coming left
+NotBatched c columns (BadWitness number) coming left taken filled = ⊥
 NotBatched c columns ReadFailed coming left taken filled = NotAllGood c ReadFailed coming left
 NotBatched c columns WriteFailed coming left taken filled = SimulatedInPart c columns coming left taken filled

@@ -7,6 +7,8 @@ use Rattle.aig_meaning.specs.Meaning.{MeansTheSame}
 use Rattle.aig_sim.specs.declared.trace.Columns.{Columns}
 use Rattle.aig_sim.specs.Outcome.{first_bad_line}
 use Rattle.aig_sim.specs.TraceText.{IsTraceText}
+use Rattle.aig_sim.specs.Witness.{Claim, SaysClaim}
+use Rattle.aig_sim.specs.WitnessText.{IsWitnessFile}
 
 -- a stimulus has exactly one trace text over a well-formed circuit, whatever its bytes are
 abbrev pub OneTraceText : Type 0
@@ -33,3 +35,8 @@ KnownCharactersStay = (c : Circuit) (columns : Columns) (bytes known : List ℕ)
     → (first_bad_line c known ended ≡ first_bad_line c bytes ended)
     × ((text other : List ℕ) → IsTraceText c columns bytes ended text → IsTraceText c columns known ended other
     → AllZip (λ (before after : ℕ). before ≢ 120 → after ≡ before) text other)
+
+-- what is read of bytes, line by line, is exactly what the witness file says that they are
+abbrev pub WitnessFilesAreRead : Type 0
+WitnessFilesAreRead =
+    (c : Circuit) (bytes : List ℕ) (claim : Claim) → SaysClaim c bytes claim ↔ IsWitnessFile c bytes claim

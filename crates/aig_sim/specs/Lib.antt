@@ -3,6 +3,9 @@ pub mod Stimulus
 pub mod TraceText
 pub mod Outcome
 pub mod Batched
+pub mod Witness
+pub mod WitnessText
+pub mod Confirming
 pub mod Messages
 pub mod Laws
 pub mod Parts

@@ -5,7 +5,8 @@ use Rattle.std.specs.Io.KnownBytes.{Appends, Consumes, IsAtEnd}
 use Rattle.aig_io.specs.Transfer.{GaveAll, TookBeginning}
 use Rattle.aig_core.specs.declared.circuit.Circuit.{Circuit}
 use Rattle.aig_sim.specs.declared.fault.SimFault.{SimFault}
-use Rattle.aig_sim.specs.declared.fault.SimFault.TheVariants.{OutOfMemory, BadStimulus, ReadFailed, WriteFailed}
+use Rattle.aig_sim.specs.declared.fault.SimFault.TheVariants.{OutOfMemory, BadStimulus, BadWitness, ReadFailed}
+use Rattle.aig_sim.specs.declared.fault.SimFault.TheVariants.{WriteFailed}
 use Rattle.aig_sim.specs.declared.trace.Columns.{Columns}
 use Rattle.aig_sim.specs.Stimulus.{stimulus}
 use Rattle.aig_sim.specs.TraceText.{IsTraceText}
@@ -62,6 +63,7 @@ abbrev pub NotSimulated : Circuit → Columns → SimFault → (coming left take
 NotSimulated c columns OutOfMemory coming left taken filled = (left ≡ coming) × (filled ≡ taken)
 NotSimulated c columns (BadStimulus number) coming left taken filled =
     BadLine c columns number coming left taken filled
+NotSimulated c columns (BadWitness number) coming left taken filled = ⊥
 NotSimulated c columns ReadFailed coming left taken filled = Interrupted c columns coming left taken filled
 NotSimulated c columns WriteFailed coming left taken filled = TracedInPart c columns coming left taken filled
 

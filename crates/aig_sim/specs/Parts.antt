@@ -15,3 +15,4 @@ pub mod Judging
 pub mod RunsRead
 pub mod Strips
 pub mod Vectors
+pub mod Witnessing

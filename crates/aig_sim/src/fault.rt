@@ -10,14 +10,17 @@ use std::alloc::{AllocError, AllocFailed};
 use std::error::Error;
 use std::fmt;
 
-/// Why a simulation ended before the stimulus did.
+/// Why a simulation ended before the stimulus did, or a witness file got no verdict.
 #[derive(Debug, Drop, PartialEq)]
 pub enum SimFault {
-    /// An allocation failed. Nothing was sent, and by `simulate` nothing fetched.
+    /// An allocation failed. Nothing was sent, and by `simulate` and `confirm` nothing fetched.
     OutOfMemory,
     /// The line of this number, counted from 1, is no line of a stimulus of this circuit.
     BadStimulus(u64),
-    /// The source of the stimulus failed.
+    /// The line of this number, counted from 1, is not the line that is due in a witness file of this circuit, or it is
+    /// due and missing, or it comes after the last line.
+    BadWitness(u64),
+    /// The source of the stimulus or of the witness file failed.
     ReadFailed,
     /// The sink of the trace failed. It may have taken a beginning of the trace text.
     WriteFailed,
@@ -31,6 +34,7 @@ impl SimFault {
         match self {
             SimFault::OutOfMemory => Message::new("out of memory"),
             SimFault::BadStimulus(line) => Message::around("line ", *line, ": bad stimulus line"),
+            SimFault::BadWitness(line) => Message::around("line ", *line, ": bad witness line"),
             SimFault::ReadFailed => Message::new("cannot read"),
             SimFault::WriteFailed => Message::new("cannot write"),
         }

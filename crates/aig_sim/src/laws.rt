@@ -1,5 +1,5 @@
 //! Laws: facts about the definitions alone, each the contract of a function with an empty body.
-ghost use Rattle.aig_sim.specs.Laws.{OneTraceText, SameMeaningSameText, KnownCharactersStay};
+ghost use Rattle.aig_sim.specs.Laws.{OneTraceText, SameMeaningSameText, KnownCharactersStay, WitnessFilesAreRead};
 
 /// A stimulus has exactly one trace text over a well-formed circuit.
 pub fn one_trace_text()
@@ -14,4 +14,9 @@ pub fn same_meaning_same_text()
 /// Where x in a stimulus becomes 0 or 1, each 0 and each 1 of the trace text stays.
 pub fn known_characters_stay()
     ensures { KnownCharactersStay }
+{}
+
+/// What is read of a witness file, line by line, is what the file as a whole says.
+pub fn witness_files_are_read()
+    ensures { WitnessFilesAreRead }
 {}

@@ -8,3 +8,5 @@ mod batches;
 mod steps;
 #[cfg(test)]
 mod values;
+#[cfg(test)]
+mod witnesses;

@@ -4,7 +4,8 @@ use Rattle.std.specs.Io.KnownBytes.{Appends, Consumes}
 use Rattle.aig_core.specs.declared.circuit.Circuit.{Circuit}
 use Rattle.aig_io.specs.Transfer.{TookBeginning}
 use Rattle.aig_sim.specs.declared.fault.SimFault.{SimFault}
-use Rattle.aig_sim.specs.declared.fault.SimFault.TheVariants.{OutOfMemory, BadStimulus, ReadFailed, WriteFailed}
+use Rattle.aig_sim.specs.declared.fault.SimFault.TheVariants.{OutOfMemory, BadStimulus, BadWitness, ReadFailed}
+use Rattle.aig_sim.specs.declared.fault.SimFault.TheVariants.{WriteFailed}
 use Rattle.aig_sim.specs.declared.trace.Columns.{Columns}
 use Rattle.aig_sim.specs.TraceText.{IsTraceText}
 use Rattle.aig_sim.specs.Outcome.{first_bad_line, source_failures}
@@ -58,6 +59,7 @@ abbrev pub NotSent : Circuit → Columns → List ℕ → Bool → List ℕ → 
 NotSent c columns bytes ended text OutOfMemory taken filled = ⊥
 NotSent c columns bytes ended text (BadStimulus number) taken filled =
     SentBeforeBad c columns bytes ended text number taken filled
+NotSent c columns bytes ended text (BadWitness number) taken filled = ⊥
 NotSent c columns bytes ended text ReadFailed taken filled = ⊥
 NotSent c columns bytes ended text WriteFailed taken filled = SentInPart c columns bytes ended text taken filled
 
@@ -66,5 +68,6 @@ NotSent c columns bytes ended text WriteFailed taken filled = SentInPart c colum
 abbrev pub NotTraced : Circuit → Columns → List ℕ → SimFault → (taken filled : Option (List ℕ)) → Type 0
 NotTraced c columns bytes OutOfMemory taken filled = Unit {0}
 NotTraced c columns bytes (BadStimulus number) taken filled = ⊥
+NotTraced c columns bytes (BadWitness number) taken filled = ⊥
 NotTraced c columns bytes ReadFailed taken filled = ⊥
 NotTraced c columns bytes WriteFailed taken filled = SentInPart c columns bytes true [] taken filled

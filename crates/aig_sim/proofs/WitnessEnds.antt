@@ -1,0 +1,139 @@
+-- What comes of the bytes of a witness file.
+use Rattle.std.proofs.Common.{◌≡◌, ◌∙◌, ◌++◌, ℕ, List, [], Bool, true, false, Option, Some, length}
+use Rattle.std.proofs.Common.{refl, sym, ap, subst, append-nil}
+use Rattle.std.proofs.lemmas.Bool.{false≢true}
+use Rattle.std.specs.Io.KnownBytes.{Consumes, IsAtEnd, Keeps}
+use Rattle.aig_core.specs.declared.circuit.Circuit.{Circuit}
+use Rattle.aig_meaning.specs.Meaning.{MeansTheSame}
+use Rattle.aig_meaning.proofs.Traces.{same_meaning_same_traces}
+use Rattle.aig_sim.specs.declared.fault.SimFault.{SimFault}
+use Rattle.aig_sim.specs.declared.fault.SimFault.TheVariants as faults
+use Rattle.aig_sim.specs.declared.verdict.Verdict.{Verdict}
+use Rattle.aig_sim.specs.Confirming.{Judged, NotJudged}
+use Rattle.aig_sim.specs.Stimulus.{judged_lines}
+use Rattle.aig_sim.specs.Witness.{Shape, first_bad_witness_line, shape_of, witness_of, wrong_line}
+use Rattle.aig_sim.specs.Parts.Witnessing.{Concluded, HasFollowed, IsAtLine, NamesWrongLine, ReachedLine}
+use Rattle.aig_sim.specs.Parts.Witnessing.{WitnessReading, Witnessing, verdict_of}
+use Rattle.aig_sim.proofs.Streams.{consumes_kept, consumes_none, consumes_twice}
+use Rattle.aig_sim.proofs.WitnessReading.{none_wrong_so_far}
+
+-- a claim that was followed to its end has its verdict
+pub concluded : (c : Circuit) (bytes : List ℕ) (w : Witnessing) (v : Verdict) → HasFollowed c bytes w
+    → v ≡ verdict_of w.search.found → Concluded c bytes v
+concluded c bytes w v followed is = record {
+  claim = followed.claim;
+  says = followed.says;
+  none_bad = followed.none_bad;
+  is_verdict = rw is (record {
+    rows = followed.follows.rows;
+    trace = rw (sym followed.same) followed.follows.trace;
+    is_verdict = followed.follows.tells.found;
+  });
+}
+
+-- before the first byte
+pub reached_first : (c : Circuit) (at : WitnessReading) (coming : Option (List ℕ)) → IsAtLine c [] at
+    → ReachedLine c at coming coming
+reached_first c at coming stands = record { bytes = []; gave = consumes_none coming; stands = stands }
+
+module _ (c : Circuit) (at : WitnessReading) (coming now left : Option (List ℕ)) (r : ReachedLine c at coming now) where
+  -- more bytes came, and no line that ended among them is wrong
+  pub reached_line : (chunk : List ℕ) (new : WitnessReading) → Consumes now left chunk
+      → IsAtLine c (r.bytes ++ chunk) new → ReachedLine c new coming left
+  reached_line chunk new gave stands = record {
+    bytes = r.bytes ++ chunk;
+    gave = consumes_twice coming now left r.bytes chunk r.gave gave;
+    stands = stands;
+  }
+
+  -- one is wrong
+  pub wrong_among : (chunk : List ℕ) (n : ℕ) → Consumes now left chunk
+      → first_bad_witness_line c (r.bytes ++ chunk) false ≡ Some n
+      → NotJudged c (faults.BadWitness n) coming left
+  wrong_among chunk n gave wrong = record {
+    bytes = r.bytes ++ chunk;
+    ended = false;
+    came = record {
+      gave = consumes_twice coming now left r.bytes chunk r.gave gave;
+      end = λ never. absurd (false≢true never);
+    };
+    bad = wrong;
+  }
+
+  -- the source failed
+  pub cut_off : Keeps now left → NotJudged c faults.ReadFailed coming left
+  cut_off kept = record {
+    bytes = r.bytes;
+    gave = consumes_kept coming now left r.bytes r.gave kept;
+    none_bad = none_wrong_so_far c r.bytes at r.stands;
+  }
+
+  no_more : Consumes now left [] → Consumes coming left r.bytes
+  no_more gave =
+      subst (Consumes coming left) (append-nil r.bytes) (consumes_twice coming now left r.bytes [] r.gave gave)
+
+  -- the bytes have ended
+  pub judged : (v : Verdict) → Consumes now left [] → IsAtEnd left → Concluded c r.bytes v → Judged c v coming left
+  judged v gave end done = record {
+    bytes = r.bytes;
+    claim = done.claim;
+    gave = record { gave = no_more gave; end = end };
+    none_bad = done.none_bad;
+    says = done.says;
+    is_verdict = done.is_verdict;
+  }
+
+  pub wrong_at_last : (e : SimFault) → Consumes now left [] → IsAtEnd left → NamesWrongLine c r.bytes e
+      → NotJudged c e coming left
+  wrong_at_last faults.OutOfMemory gave end wrong = absurd wrong
+  wrong_at_last (faults.BadStimulus n) gave end wrong = absurd wrong
+  wrong_at_last (faults.BadWitness n) gave end wrong = record {
+    bytes = r.bytes;
+    ended = true;
+    came = record { gave = no_more gave; end = λ _. end };
+    bad = wrong;
+  }
+  wrong_at_last faults.ReadFailed gave end wrong = absurd wrong
+  wrong_at_last faults.WriteFailed gave end wrong = absurd wrong
+
+-- circuits that mean the same, with as many bad states, have the same witness files
+module _ (c d : Circuit) (means : MeansTheSame c d) (bad : length d.bad ≡ length c.bad) where
+  same_shape : shape_of d ≡ shape_of c
+  same_shape = rw (bad, means.resets, means.inputs) refl
+
+  same_wrong : (bytes : List ℕ) (ended : Bool)
+      → first_bad_witness_line c bytes ended ≡ first_bad_witness_line d bytes ended
+  same_wrong bytes ended =
+      ap (λ (s : Shape). wrong_line (length (judged_lines bytes ended)) ended (witness_of s bytes ended))
+      (sym same_shape)
+
+  pub judged_too : (v : Verdict) (coming left : Option (List ℕ)) → Judged d v coming left → Judged c v coming left
+  judged_too v coming left j = record {
+    bytes = j.bytes;
+    claim = j.claim;
+    gave = j.gave;
+    none_bad = same_wrong j.bytes true ∙ j.none_bad;
+    says = ap (λ (s : Shape). witness_of s j.bytes true) (sym same_shape) ∙ j.says;
+    is_verdict = record {
+      rows = j.is_verdict.rows;
+      trace = (same_meaning_same_traces c d means j.claim.first j.claim.steps j.is_verdict.rows).1 j.is_verdict.trace;
+      is_verdict = j.is_verdict.is_verdict;
+    };
+  }
+
+  pub not_judged_too : (e : SimFault) (coming left : Option (List ℕ)) → NotJudged d e coming left
+      → NotJudged c e coming left
+  not_judged_too faults.OutOfMemory coming left same = same
+  not_judged_too (faults.BadStimulus n) coming left never = never
+  not_judged_too (faults.BadWitness n) coming left came = record {
+    bytes = came.bytes;
+    ended = came.ended;
+    came = came.came;
+    bad = same_wrong came.bytes came.ended ∙ came.bad;
+  }
+  not_judged_too faults.ReadFailed coming left came = record {
+    bytes = came.bytes;
+    gave = came.gave;
+    none_bad = same_wrong came.bytes false ∙ came.none_bad;
+  }
+  not_judged_too faults.WriteFailed coming left never = never

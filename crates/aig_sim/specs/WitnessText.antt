@@ -1,0 +1,26 @@
+-- A witness file as a whole (this project's profile): the texts of its lines, one behind the other, and what it says.
+use Rattle.std.specs.Prelude.{◌≡◌, ◌<◌, ◌++◌, ℕ, List, [], ◌∷◌, true, codes, length, map}
+use Rattle.std.specs.List.{AllByRecursion}
+use Rattle.aig_core.specs.declared.circuit.Circuit.{Circuit}
+use Rattle.aig_core.specs.declared.value.Val.{Val}
+use Rattle.aig_meaning.specs.Trace.{IsFirstState}
+use Rattle.aig_text.specs.Lines.{lines_of}
+use Rattle.aig_text.specs.Spelling.{value_of as number_of}
+use Rattle.aig_sim.specs.Stimulus.{text_of}
+use Rattle.aig_sim.specs.TraceText.{values_text}
+use Rattle.aig_sim.specs.Witness.{Claim, is_canonical}
+
+-- the texts of its lines, where these digits are the number of the bad state
+abbrev pub witness_texts : List ℕ → Claim → List (List ℕ)
+witness_texts digits claim =
+    codes "1" ∷ (codes "b" ++ digits) ∷ values_text claim.first ∷ (map values_text claim.steps ++ codes "." ∷ [])
+
+-- The bytes are a witness file of the circuit, and this is what it says.
+pub record IsWitnessFile (c : Circuit) (bytes : List ℕ) (claim : Claim) : Type 0 where
+  pub digits : List ℕ
+  pub canonical : is_canonical digits ≡ true
+  pub number : number_of digits ≡ claim.property
+  pub below : claim.property < length c.bad
+  pub starts : IsFirstState c claim.first
+  pub each : AllByRecursion (λ (given : List Val). length given ≡ length c.inputs) claim.steps
+  pub texts : map text_of (lines_of bytes) ≡ witness_texts digits claim
