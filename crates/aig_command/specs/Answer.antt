@@ -43,6 +43,7 @@ abbrev pub simulation_of : Sim → Simulation
 simulation_of request = record {
   batch = request.batch;
   properties = request.properties;
+  witness = request.witness;
   max_var = request.max_var;
   model = name_of request.model;
   stimulus = name_of request.stimulus;
@@ -93,6 +94,10 @@ IsKeptAlone request =
 abbrev pub HasOneStandardInput : Sim → Type 0
 HasOneStandardInput request = name_of request.model ≡ None → name_of request.stimulus ≡ None → ⊥
 
+-- A witness is judged without a batch, and without properties in a trace.
+abbrev pub IsWitnessAlone : Sim → Type 0
+IsWitnessAlone request = request.witness ≡ true → (request.batch ≡ false) × (request.properties ≡ false)
+
 -- A circuit is unrolled over 1 to 1000000 frames.
 abbrev pub HasFrames : Unroll → Type 0
 HasFrames request = (1 ≤ request.frames) × (request.frames ≤ 1000000)
@@ -100,7 +105,7 @@ HasFrames request = (1 ≤ request.frames) × (request.frames ≤ 1000000)
 -- what the command asks for can be done
 abbrev pub CanDo : Command → Type 0
 CanDo (commands.ToAig request) = IsKeptAlone request
-CanDo (commands.Sim request) = HasOneStandardInput request
+CanDo (commands.Sim request) = HasOneStandardInput request × IsWitnessAlone request
 CanDo (commands.Unroll request) = HasFrames request
 CanDo (commands.Help text) = ⊤
 

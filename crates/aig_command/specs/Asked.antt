@@ -1,9 +1,9 @@
 -- What a command line asks for that `clap` takes (this project's profile).
 use Rattle.std.specs.Prelude.{ℕ, List, [], ◌∷◌, ◌==◌, ◌&&◌, ◌||◌, ◌^◌, Bool, false, length, max, min, nat_lt, nat_eq}
-use Rattle.std.specs.Prelude.{Option, Some, None, is_some, unwrap_or, option_and_then, option_map, find}
+use Rattle.std.specs.Prelude.{Option, Some, None, unwrap_or, option_and_then, option_map, find}
 use Rattle.std.specs.Prelude.{codes, if◌then◌else◌}
 use Rattle.std.specs.List.{ends_with, list_all}
-use Rattle.std.specs.Option.{option_map_or}
+use Rattle.std.specs.Option.{is_none, option_map_or}
 use Rattle.std.specs.Char.{digit_value}
 use Rattle.std.specs.Str.{bytes_eq}
 use Rattle.std.specs.Str.Parse.{digits_value, without_leading_plus}
@@ -84,10 +84,11 @@ refusal c =
     else if c.keep_map && c.undo_map then Some usage.KeepMapExcludesUndoMap
     else destination_refusal c.destination
 
--- a simulation: of which model, on which stimulus, and how
+-- a simulation: of which model, on which stimulus, and how; or which witness file is judged against the model
 pub record Simulation : Type 0 where
   pub batch : Bool
   pub properties : Bool
+  pub witness : Bool
   pub max_var : ℕ
   pub model : Option Text
   pub stimulus : Option Text
@@ -97,15 +98,19 @@ abbrev pub simulation : List Row → Simulation
 simulation rows = record {
   batch = is_set (codes "batch") rows;
   properties = is_set (codes "properties") rows;
+  witness = is_set (codes "witness") rows;
   max_var = limit rows;
   model = file (codes "model") rows;
   stimulus = file (codes "stimulus") rows;
 }
 
--- the reason to refuse a simulation: the standard input is one stream, and cannot give two files
+-- the first reason to refuse a simulation: the standard input is one stream and cannot give two files, and judging a
+-- witness writes no trace that an option could change
 abbrev pub simulation_refusal : Simulation → Option Usage
 simulation_refusal s =
-    if is_some s.model || is_some s.stimulus then None else Some usage.BothStandardInput
+    if is_none s.model && is_none s.stimulus then Some usage.BothStandardInput
+    else if s.witness && (s.batch || s.properties) then Some usage.WitnessAlone
+    else None
 
 -- an unrolling: from which file to which, over how many frames, and how
 pub record Unrolling : Type 0 where

@@ -51,17 +51,27 @@ anything is written. If a line of it is refused, nothing is written. Many runs
 go side by side, which is faster for a large circuit. This takes memory for the
 stimulus and the trace.
 
+With --witness a witness stands in the place of the stimulus: a run that is to
+reach a bad state. Its lines are 1, then b and the number of the bad state,
+counted from 0, then the first values of the latches, one character for each,
+then the steps, and at last a line of one dot. In place of a trace the answer
+is written, once the whole witness was read and found to have this form:
+'confirmed N' if step N, counted from 0, is the first in which the bad state is
+1 and all constraints are and have been 1; 'not confirmed' if there is none.
+
 Exit status:
-  0  done, also for --help
-  1  the model or the stimulus was refused, a file or stream failed, or memory
-     ran out
+  0  done, also for --help; with --witness, confirmed
+  1  the model, the stimulus or the witness was refused, a file or stream
+     failed, or memory ran out; or the witness is not confirmed
   2  the command line was refused
 
-Examples, of a model with two inputs:
+Examples, of a model with two inputs, a bad state and no latches:
   printf '10\\n1x\\n' | aiger aigsim model.aag       one run of two steps
   printf '10\\n.\\n1x\\n' > steps.txt                 two runs of one step
   aiger aigsim --properties model.aag steps.txt    with properties
   aiger aigsim --batch model.aag steps.txt         all of the trace, or nothing
+  printf '1\\nb0\\n\\n11\\n.\\n' > witness.txt          a witness of one step
+  aiger aigsim --witness model.aag witness.txt     whether it is right
   aiger aigsim - steps.txt < model.aag             the model from a stream";
 
 const UNROLL_ABOUT: &str = "Unroll a circuit over time frames, as one circuit without latches";
@@ -97,6 +107,10 @@ const PROPERTIES_HELP: &str = "\
 Show bad states and constraints too, behind the rest of
 each line";
 
+const WITNESS_HELP: &str = "\
+Judge a witness in the place of the stimulus: does its run
+reach a bad state? Not with --batch or --properties";
+
 const KEEP_MAP_HELP: &str = "\
 Keep a map of the renumbering in the comment, so that
 --undo-map can give the source back; binary output only";
@@ -106,6 +120,10 @@ const ASCII_HELP: &str = "Write ASCII, whatever the destination is named";
 const SOURCE_HELP: &str = "The file to read; - or none is the standard input";
 
 const DESTINATION_HELP: &str = "The file to write; - or none is the standard output";
+
+const STIMULUS_HELP: &str = "\
+The file of the steps, or of the witness; - or none is the
+standard input";
 
 const MAX_VAR_HELP: &str = "\
 Refuse a circuit with an index or a count above N:
@@ -201,17 +219,14 @@ fn aigsim<'a>(alloc: Global) -> Result<Command<'a>, AllocError>
     let command = command(alloc, "aigsim", SIM_ABOUT, SIM_AFTER)
         .arg(flag(alloc, "batch", BATCH_HELP))?
         .arg(flag(alloc, "properties", PROPERTIES_HELP))?
+        .arg(flag(alloc, "witness", WITNESS_HELP))?
         .arg(max_var(alloc))?
         .arg(required_file(
             alloc,
             "model",
             "The circuit's file; - is the standard input",
         ))?
-        .arg(file(
-            alloc,
-            "stimulus",
-            "The file of the steps; - or none is the standard input",
-        ))?;
+        .arg(file(alloc, "stimulus", STIMULUS_HELP))?;
     Ok(command)
 }
 

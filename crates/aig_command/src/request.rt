@@ -20,18 +20,22 @@ pub struct ToAig {
     pub destination: Option<String>,
 }
 
-/// A simulation of a circuit.
+/// A simulation of a circuit, or the judging of a witness file against it.
 #[derive(Drop)]
 pub struct Sim {
     /// Whether the whole stimulus is read, and each line of it found good, before anything is written.
     pub batch: bool,
     /// Whether a line of the trace shows bad states and constraints too.
     pub properties: bool,
+    /// Whether a witness file is judged, which stands in the stimulus's place. This stands without `batch` and
+    /// `properties`.
+    pub witness: bool,
     /// The limit on the largest variable index and the counts of the model.
     pub max_var: u32,
     /// The model's name; `None` is the standard input.
     pub model: Option<String>,
-    /// The stimulus's name; `None` is the standard input. This or the model is a file with a name.
+    /// The name of the stimulus, or of the witness file; `None` is the standard input. This or the model is a file with
+    /// a name.
     pub stimulus: Option<String>,
 }
 

@@ -1,7 +1,8 @@
 //! What the arguments of `aigsim` ask for.
 ghost use Rattle.std.specs.Prelude.{◌≡◌, IfErr, IfOk, None, OnOk, Some};
 ghost use Rattle.clap.specs.Words.{found_of, rows_of};
-ghost use Rattle.aig_command.specs.Answer.{CanDo, HasOneStandardInput, IsAnswer, IsReason, simulation_of};
+ghost use Rattle.aig_command.specs.Answer.{CanDo, HasOneStandardInput, IsAnswer, IsReason, IsWitnessAlone};
+ghost use Rattle.aig_command.specs.Answer.{simulation_of};
 ghost use Rattle.aig_command.specs.Asked.{aigsim, simulation, simulation_refusal};
 
 use crate::options::{file, is_set, limit};
@@ -19,6 +20,7 @@ fn simulation(alloc: Global, matches: &ArgMatches<'_>) -> Result<Sim, AllocError
     Ok(Sim {
         batch: is_set(matches, "batch"),
         properties: is_set(matches, "properties"),
+        witness: is_set(matches, "witness"),
         max_var: limit(matches),
         model,
         stimulus,
@@ -31,9 +33,13 @@ fn check(request: &Sim) -> Result<(), Usage>
     ensures err { IfErr result (λ reason. IsReason reason
         × (simulation_refusal (simulation_of request.now) ≡ Some reason)) }
     ensures one { OnOk result (HasOneStandardInput request.now) }
+    ensures alone { OnOk result (IsWitnessAlone request.now) }
 {
     if request.model.is_none() && request.stimulus.is_none() {
         return Err(Usage::BothStandardInput);
+    }
+    if request.witness && (request.batch || request.properties) {
+        return Err(Usage::WitnessAlone);
     }
     Ok(())
 }

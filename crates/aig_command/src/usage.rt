@@ -22,6 +22,8 @@ pub enum Usage {
     BothStandardInput,
     /// The destination's name is that of a compressed file.
     CompressedOutput,
+    /// A witness is judged, and a batch or properties in a trace are asked for too.
+    WitnessAlone,
     /// An allocation failed; nothing is known of the command line.
     OutOfMemory,
 }
@@ -38,6 +40,7 @@ impl Usage {
             Usage::KeepMapExcludesUndoMap => "--keep-map excludes --undo-map",
             Usage::BothStandardInput => "model and stimulus are both standard input",
             Usage::CompressedOutput => "compressed output is not supported",
+            Usage::WitnessAlone => "--witness stands alone",
             Usage::OutOfMemory => "out of memory",
         }
     }

@@ -6,3 +6,4 @@ pub mod Traces
 pub mod Lines
 pub mod Sources
 pub mod Unrollings
+pub mod WitnessesUnrolled

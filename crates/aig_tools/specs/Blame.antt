@@ -13,7 +13,7 @@ use Rattle.aig_unroll.specs.declared.fault.UnrollFault.TheVariants as unroll_fau
 use Rattle.aig_tools.specs.declared.fault.ToolFault.TheVariants.{Read, Map, Sim, Unroll, Source, Sink, OutOfMemory}
 
 -- The device that failed, memory that was refused, or else what the source gave, or the stimulus. Of a simulation the
--- model is the source.
+-- model is the source; a witness file stands in the place of the stimulus.
 pub data Party : Type 0 where
   TheSource : Party
   TheSink : Party
@@ -32,10 +32,11 @@ abbrev pub map_blamed : MapFault → Party
 map_blamed map_faults.OutOfMemory = Memory
 map_blamed _ = TheInput
 
--- where a simulation ended early
+-- where a simulation ended early, or a witness file got no verdict
 abbrev pub sim_blamed : SimFault → Party
 sim_blamed sim_faults.OutOfMemory = Memory
 sim_blamed (sim_faults.BadStimulus line) = TheSteps
+sim_blamed (sim_faults.BadWitness line) = TheSteps
 sim_blamed sim_faults.ReadFailed = TheStimulus
 sim_blamed sim_faults.WriteFailed = TheSink
 

@@ -1,5 +1,5 @@
 -- How a call of the program ends: its status, and what it did to its streams (this project's profile).
-use Rattle.std.specs.Prelude.{◌≡◌, ◌+◌, ◌⊎◌, ℕ, List, Option, Result, Ok, Err, codes, string_bytes}
+use Rattle.std.specs.Prelude.{◌≡◌, ◌+◌, ◌⊎◌, ℕ, List, Option, None, Some, Result, Ok, Err, codes, string_bytes}
 use Rattle.std.specs.Io.KnownBytes.{Appends}
 use Rattle.aig_io.specs.Transfer.{TookBeginning}
 use Rattle.aig_command.specs.Answer.{IsCommand, IsUsage, name_of}
@@ -10,6 +10,8 @@ use Rattle.aig_command.specs.declared.request.ToAig.{ToAig}
 use Rattle.aig_command.specs.declared.request.Unroll.{Unroll}
 use Rattle.aig_command.specs.declared.usage.Usage.{Usage}
 use Rattle.aig_command.specs.declared.usage.Usage.TheVariants as usages
+use Rattle.aig_sim.specs.declared.verdict.Verdict.{Verdict}
+use Rattle.aig_sim.specs.declared.verdict.Verdict.TheVariants.{Confirmed, NotConfirmed}
 use Rattle.aig_tools.specs.declared.fault.ToolFault.{ToolFault}
 use Rattle.aig_tools.specs.Devices.{FilesByName, SinkUse, SourceUse}
 use Rattle.aig_tools.specs.Messages.{error_line, line_of, IsReported, simulation_error_line, usage_text}
@@ -50,12 +52,20 @@ UnrollingEnds request files input output errors status =
     EndsBetween (name_of request.source) (name_of request.destination) (UnrollingDone request files input output)
     (λ error. UnrollingNotDone request error files input output) input output errors status
 
--- A simulation was asked for: the same, but of a model and a stimulus. The standard input is left alone where it is
--- neither of them.
+-- the status where what was asked for is done: 1 where a witness is not confirmed, else 0
+abbrev pub done_status : Option Verdict → ℕ
+done_status None = 0
+done_status (Some (Confirmed step)) = 0
+done_status (Some NotConfirmed) = 1
+
+-- A simulation was asked for, or a verdict on a witness file: the same, but of a model and a stimulus, in the place of
+-- which the witness file stands. The standard input is left alone where it is neither of them. Also where a witness is
+-- not confirmed nothing is reported: the verdict is written to the output.
 abbrev pub SimulationEnds : {R W E : Type 0} → Sim → FilesByName → SourceUse R → SinkUse W → SinkUse E → ℕ → Type 0
 SimulationEnds request files input output errors status =
     IsUnusedWhereBoth (name_of request.model) (name_of request.stimulus) input.before input.after
-    × (((status ≡ 0) × (errors.after ≡ errors.before) × SimulationDone request files input output)
+    × (((verdict : Option Verdict) × (status ≡ done_status verdict) × (errors.after ≡ errors.before)
+    × SimulationDone request verdict files input output)
     ⊎ ((status ≡ 1) × ((error : ToolFault)
     × SimulationNotDone request error files input output × IsReported errors (simulation_error_line request error))))
 

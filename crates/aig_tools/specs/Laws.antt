@@ -1,5 +1,6 @@
 -- What the definitions of this crate say of one another.
-use Rattle.std.specs.Prelude.{◌≡◌, ◌↔◌, ℕ, List, None, Ok, true, false}
+use Rattle.std.specs.Prelude.{◌≡◌, ◌↔◌, ◌+◌, ◌*◌, ℕ, List, [], ◌∷◌, None, Ok, true, false, length}
+use Rattle.std.specs.Prelude.{slice_index_or, take}
 use Rattle.aig_core.specs.declared.circuit.TheConstants.{LARGEST}
 use Rattle.aig_core.specs.Wellformed.{IsWellFormed}
 use Rattle.aig_text.specs.AsciiText.{ascii_text}
@@ -13,7 +14,13 @@ use Rattle.aig_order.specs.Undone.{IsMapFault}
 use Rattle.aig_command.specs.declared.request.Sim.{Sim}
 use Rattle.aig_command.specs.declared.request.ToAig.{ToAig}
 use Rattle.aig_command.specs.declared.request.Unroll.{Unroll}
+use Rattle.aig_meaning.specs.Meaning.{Row}
+use Rattle.aig_meaning.specs.Trace.{IsTrace}
+use Rattle.aig_core.specs.declared.value.Val.TheVariants.{Zero, One}
+use Rattle.aig_sim.specs.declared.verdict.Verdict.TheVariants.{Confirmed}
 use Rattle.aig_sim.specs.Outcome.{first_bad_line}
+use Rattle.aig_sim.specs.Witness.{Claim, IsVerdict}
+use Rattle.aig_unroll.specs.SideBySide.{inputs_side_by_side}
 use Rattle.aig_unroll.specs.Unrolled.{IsTooLarge, IsUnrolled, IsUnsupported}
 use Rattle.aig_tools.specs.File.{IsFileOf, file_reading, first_fault}
 use Rattle.aig_tools.specs.Conversion.{IsConversionText}
@@ -140,3 +147,14 @@ MappedTextsHaveNoFault = (there : ToAig) → KeepsMap there
     → (first_fault LARGEST binary ≡ None)
     × ((found : Circuit) (fault : MapFault)
     → IsFileOf binary LARGEST found → IsMapFault found fault → fault ≡ OutOfMemory)
+
+-- A witness that is confirmed at a step sets the unrolled circuit of as many frames and one more. Where that is given the
+-- first values of the uninitialised latches and then the inputs of the witness's steps, it has exactly one trace, of one
+-- row; and there the bad state that stands for the claimed one in the last frame is 1.
+abbrev pub ConfirmedWitnessesSetUnrolledCircuits : Type 0
+ConfirmedWitnessesSetUnrolledCircuits = (c d : Circuit) (claim : Claim) (step : ℕ)
+    → IsWellFormed c → IsWellFormed d → IsUnrolled c (step + 1) d
+    → IsVerdict c claim (Confirmed step)
+    → (row : Row) × (slice_index_or row.bad (step * length c.bad + claim.property) Zero ≡ One)
+    × ((rows : List Row)
+    → IsTrace d [] (inputs_side_by_side c claim.first (take (step + 1) claim.steps) ∷ []) rows ↔ (rows ≡ row ∷ []))

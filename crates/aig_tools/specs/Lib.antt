@@ -1,11 +1,13 @@
 pub mod File
 pub mod Conversion
 pub mod Simulation
+pub mod WitnessAnswer
 pub mod Unrolling
 pub mod Blame
 pub mod Devices
 pub mod Reading
 pub mod Outcome
+pub mod WitnessOutcome
 pub mod SimulationOutcome
 pub mod UnrollingOutcome
 pub mod Messages

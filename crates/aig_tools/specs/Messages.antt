@@ -42,7 +42,7 @@ abbrev pub name_between : Option (List ℕ) → Option (List ℕ) → Party → 
 name_between source destination TheSink = shown destination
 name_between source destination _ = shown source
 
--- of a simulation, whose trace goes to a stream
+-- of a simulation, whose trace or verdict goes to a stream
 abbrev pub simulation_name_at : Sim → Party → List ℕ
 simulation_name_at request TheSink = codes "-"
 simulation_name_at request TheStimulus = shown (name_of request.stimulus)

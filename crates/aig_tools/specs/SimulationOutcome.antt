@@ -1,6 +1,6 @@
 -- What came of a simulation, for a model and a stimulus and what is left of them, and a sink and how it is filled then.
 -- Nothing is said of the bytes of a device that does not tell them.
-use Rattle.std.specs.Prelude.{◌≡◌, ◌≢◌, ◌+◌, ℕ, List, Option, Some, ⊤, true, false}
+use Rattle.std.specs.Prelude.{◌≡◌, ◌≢◌, ◌+◌, ℕ, List, Bool, Option, None, Some, ⊤, true, false}
 use Rattle.std.specs.Io.KnownBytes.{Appends}
 use Rattle.aig_io.specs.Transfer.{GaveAll}
 use Rattle.aig_core.specs.declared.circuit.Circuit.{Circuit}
@@ -10,11 +10,13 @@ use Rattle.aig_sim.specs.declared.fault.SimFault.{SimFault}
 use Rattle.aig_sim.specs.declared.fault.SimFault.TheVariants as sim_faults
 use Rattle.aig_sim.specs.Batched.{NotBatched}
 use Rattle.aig_sim.specs.Outcome.{NotSimulated, sink_failures, source_failures}
+use Rattle.aig_sim.specs.declared.verdict.Verdict.{Verdict}
 use Rattle.aig_tools.specs.declared.fault.ToolFault.{ToolFault}
 use Rattle.aig_tools.specs.declared.fault.ToolFault.TheVariants as faults
 use Rattle.aig_tools.specs.Devices.{FilesByName, IsSentInBlocks, OfSource, SinkUse, SourceUse}
 use Rattle.aig_tools.specs.Reading.{HasRead, NotRead}
 use Rattle.aig_tools.specs.Simulation.{columns_of, IsSimulationText}
+use Rattle.aig_tools.specs.WitnessOutcome.{Answered, NotAnswered}
 
 -- Model and stimulus gave all their bytes, the sink took the simulation text of them, and none of the three failed.
 pub record Traced {M R W : Type 0} (request : Sim)
@@ -57,22 +59,35 @@ NotTraced request (faults.Sim fault) model stimulus sink = Stopped request fault
 NotTraced request error model stimulus sink =
     NotRead request.max_var error model × (stimulus.after ≡ stimulus.before) × (sink.after ≡ sink.before)
 
+-- What was done with a model and a stimulus: the trace was written, or, where a witness was to be judged, the file in
+-- the stimulus's place got this verdict.
+abbrev pub DoneAs : {M R W : Type 0} → Bool → Sim → Option Verdict → SourceUse M → SourceUse R → SinkUse W → Type 0
+DoneAs true request (Some verdict) model stimulus sink = Answered request verdict model stimulus sink
+DoneAs true request None model stimulus sink = ⊥
+DoneAs false request (Some verdict) model stimulus sink = ⊥
+DoneAs false request None model stimulus sink = Traced request model stimulus sink
+
+-- what an error says where it was not done
+abbrev pub NotDoneAs : {M R W : Type 0} → Bool → Sim → ToolFault → SourceUse M → SourceUse R → SinkUse W → Type 0
+NotDoneAs true request error model stimulus sink = NotAnswered request error model stimulus sink
+NotDoneAs false request error model stimulus sink = NotTraced request error model stimulus sink
+
 -- the standard input is left alone where files are named for model and stimulus both
 abbrev pub IsUnusedWhereBoth : {X : Type 0} → Option (List ℕ) → Option (List ℕ) → X → X → Type 0
 IsUnusedWhereBoth (Some model) (Some stimulus) before after = after ≡ before
 IsUnusedWhereBoth model stimulus before after = ⊤
 
--- The simulation is done, of the model and on the stimulus that the request names, of which one at most is the standard
--- input. No slice that the sink was handed is longer than a block.
-abbrev pub SimulationDone : {R W : Type 0} → Sim → FilesByName → SourceUse R → SinkUse W → Type 0
-SimulationDone request files input sink =
+-- The trace is written, or there is this verdict, for the model and the stimulus that the request names. One of them at
+-- most is the standard input. No slice that the sink was handed is longer than a block.
+abbrev pub SimulationDone : {R W : Type 0} → Sim → Option Verdict → FilesByName → SourceUse R → SinkUse W → Type 0
+SimulationDone request verdict files input sink =
     OfSource files (name_of request.model) input (λ M model.
     OfSource files (name_of request.stimulus) input (λ R stimulus.
-    Traced request model stimulus sink × IsSentInBlocks sink))
+    DoneAs request.witness request verdict model stimulus sink × IsSentInBlocks sink))
 
 -- what an error says where it is not done
 abbrev pub SimulationNotDone : {R W : Type 0} → Sim → ToolFault → FilesByName → SourceUse R → SinkUse W → Type 0
 SimulationNotDone request error files input sink =
     OfSource files (name_of request.model) input (λ M model.
     OfSource files (name_of request.stimulus) input (λ R stimulus.
-    NotTraced request error model stimulus sink × IsSentInBlocks sink))
+    NotDoneAs request.witness request error model stimulus sink × IsSentInBlocks sink))

@@ -26,16 +26,16 @@ pub enum ToolFault {
     Read(ReadFault),
     /// The source is the file of a circuit that has no undone one.
     Map(MapFault),
-    /// The simulation ended early.
+    /// The simulation ended early, or a witness file got no verdict.
     Sim(SimFault),
     /// The source is the file of a circuit that is not unrolled.
     Unroll(UnrollFault),
-    /// The source failed; of a simulation, the model's.
+    /// The source failed; of a simulation or a witness, the model's.
     Source,
     /// The sink failed.
     Sink,
-    /// An allocation failed. One that fails while a file or a map is checked, for a simulation, or while a circuit is
-    /// unrolled, is in `Read`, `Map`, `Sim` or `Unroll`.
+    /// An allocation failed. One that fails while a file or a map is checked, for a simulation or a witness, or while a
+    /// circuit is unrolled, is in `Read`, `Map`, `Sim` or `Unroll`.
     OutOfMemory,
 }
 

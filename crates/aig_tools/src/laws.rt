@@ -3,6 +3,7 @@ ghost use Rattle.aig_tools.specs.Laws.{FilesAreReadExactly, FilesAreUnambiguous,
 ghost use Rattle.aig_tools.specs.Laws.{FilesConvertThereAndBack, BinaryFilesConvertThereAndBack};
 ghost use Rattle.aig_tools.specs.Laws.{MappedTextsHaveNoFault, SimulationsAreUnambiguous, SimulationTextsExist};
 ghost use Rattle.aig_tools.specs.Laws.{UnrolledTextsAreFiles, UnrolledTextsExist, UnrollingsAreUnambiguous};
+ghost use Rattle.aig_tools.specs.Laws.{ConfirmedWitnessesSetUnrolledCircuits};
 
 /// What is read of a text is a circuit exactly where the text is a file of that circuit, ASCII or binary.
 pub fn files_are_read_exactly()
@@ -68,4 +69,10 @@ pub fn simulation_texts_exist()
 /// undoing it fails only where an allocation fails.
 pub fn mapped_texts_have_no_fault()
     ensures { MappedTextsHaveNoFault }
+{}
+
+/// A witness that is confirmed at a step gives the unrolled circuit of the steps up to it inputs for which the bad state
+/// that stands for the claimed one in the last frame is 1.
+pub fn confirmed_witnesses_set_unrolled_circuits()
+    ensures { ConfirmedWitnessesSetUnrolledCircuits }
 {}

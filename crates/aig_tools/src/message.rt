@@ -131,7 +131,8 @@ fn simulation_name_at_fault<'a>(request: &'a Sim, fault: &ToolFault) -> &'a str
 {
     match fault {
         ToolFault::Sink | ToolFault::Sim(SimFault::WriteFailed) => "-",
-        ToolFault::Sim(SimFault::BadStimulus(_) | SimFault::ReadFailed) => shown(&request.stimulus),
+        ToolFault::Sim(SimFault::BadStimulus(_) | SimFault::BadWitness(_) | SimFault::ReadFailed) =>
+            shown(&request.stimulus),
         _ => shown(&request.model),
     }
 }

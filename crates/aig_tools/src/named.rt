@@ -1,20 +1,23 @@
 //! What is done between the devices that a request names: streams and files.
-ghost use Rattle.std.specs.Prelude.{◌≡◌, ◌-◌, ◌≤◌, ◌^◌, ◌<◌, IfErr, OnOk, max, true};
+ghost use Rattle.std.specs.Prelude.{◌≡◌, ◌-◌, ◌≤◌, ◌^◌, ◌<◌, IfErr, IfOk, OnOk, max, true};
 ghost use Rattle.aig_io.specs.declared.block.TheConstants.{ROOM};
 ghost use Rattle.aig_command.specs.Answer.{name_of};
 ghost use Rattle.aig_files.specs.Named.{FileSink, unwritten};
 ghost use Rattle.aig_tools.specs.Devices.{DoneBetween, files_by_name, IsSentInBlocks, NotDoneBetween, OfSink};
 ghost use Rattle.aig_tools.specs.Devices.{sink_use, source_use, use_of_file_sink};
 ghost use Rattle.aig_tools.specs.Outcome.{IsUnusedWhere};
-ghost use Rattle.aig_tools.specs.SimulationOutcome.{IsUnusedWhereBoth, SimulationDone, SimulationNotDone};
-ghost use Rattle.aig_command.specs.Answer.{HasOneStandardInput};
+ghost use Rattle.aig_tools.specs.SimulationOutcome.{DoneAs, IsUnusedWhereBoth, NotDoneAs, SimulationDone};
+ghost use Rattle.aig_tools.specs.SimulationOutcome.{SimulationNotDone};
+ghost use Rattle.aig_command.specs.Answer.{HasOneStandardInput, IsWitnessAlone};
 
 use crate::engine::Engine;
 use crate::fault::ToolFault;
 use crate::simulation::run_sim;
+use crate::witness::run_witness;
 use aig_command::Sim;
 use aig_core::{Sink, Source};
 use aig_files::{FileAccess, NamedSink, NamedSource};
+use aig_sim::Verdict;
 use std::alloc::Global;
 
 /// Does what a request asks for, from a source to the file with a name, and closes that.
@@ -104,19 +107,52 @@ pub(crate) fn run_between<T: Engine, A: FileAccess, R: Source, W: Sink>(
     }
 }
 
-/// Simulates the model that the request names, on the stimulus that it names: `input` in the place of the one for which
-/// it names no file.
-pub(crate) fn trace<A: FileAccess, R: Source, W: Sink>(
+/// Writes the trace of the stimulus, or judges it as a witness file, as the request asks. There is a verdict where it
+/// is judged.
+fn trace_or_judge<M: Source, R: Source, W: Sink>(
+    alloc: Global,
+    request: &Sim,
+    model: &mut M,
+    stimulus: &mut R,
+    output: &mut W,
+) -> Result<Option<Verdict>, ToolFault>
+    requires model { M.failed model.old < 2 ^ 64 - 1 }
+    requires stimulus { R.failed stimulus.old < 2 ^ 64 - 1 }
+    requires output { W.failed output.old < 2 ^ 64 - 1 }
+    requires alone { IsWitnessAlone request.now }
+    ensures ok { IfOk result (λ verdict. DoneAs request.now.witness request.now verdict
+        (source_use M.coming M.failed model.old model.new)
+        (source_use R.coming R.failed stimulus.old stimulus.new)
+        (sink_use W.taken W.longest W.failed output.old output.new)) }
+    ensures err { IfErr result (λ error. NotDoneAs request.now.witness request.now error
+        (source_use M.coming M.failed model.old model.new)
+        (source_use R.coming R.failed stimulus.old stimulus.new)
+        (sink_use W.taken W.longest W.failed output.old output.new)) }
+    ensures short { W.longest output.new ≤ max (W.longest output.old) ROOM }
+{
+    if request.witness {
+        let verdict = run_witness(alloc, request, model, stimulus, output)?;
+        return Ok(Some(verdict));
+    }
+    run_sim(alloc, request, model, stimulus, output)?;
+    Ok(None)
+}
+
+/// Writes a trace, or judges a witness, of the model and the stimulus that the request names: `input` in the place of
+/// the one for which it names no file.
+pub(crate) fn run_model<A: FileAccess, R: Source, W: Sink>(
     alloc: Global,
     access: &A,
     request: &Sim,
     input: &mut R,
     output: &mut W,
-) -> Result<(), ToolFault>
+) -> Result<Option<Verdict>, ToolFault>
     requires input { R.failed input.old < 2 ^ 64 - 1 }
     requires output { W.failed output.old < 2 ^ 64 - 1 }
     requires one_input { HasOneStandardInput request.now }
-    ensures ok { OnOk result (SimulationDone request.now (files_by_name (A.holds access.now) (A.made access.now))
+    requires alone { IsWitnessAlone request.now }
+    ensures ok { IfOk result (λ verdict. SimulationDone request.now verdict
+        (files_by_name (A.holds access.now) (A.made access.now))
         (source_use R.coming R.failed input.old input.new)
         (sink_use W.taken W.longest W.failed output.old output.new)) }
     ensures err { IfErr result (λ error. SimulationNotDone request.now error
@@ -130,15 +166,15 @@ pub(crate) fn trace<A: FileAccess, R: Source, W: Sink>(
         (Some(model), Some(stimulus)) => {
             let mut model = NamedSource::new(access, model.as_str());
             let mut stimulus = NamedSource::new(access, stimulus.as_str());
-            run_sim(alloc, request, &mut model, &mut stimulus, output)
+            trace_or_judge(alloc, request, &mut model, &mut stimulus, output)
         }
         (Some(model), None) => {
             let mut model = NamedSource::new(access, model.as_str());
-            run_sim(alloc, request, &mut model, input, output)
+            trace_or_judge(alloc, request, &mut model, input, output)
         }
         (None, Some(stimulus)) => {
             let mut stimulus = NamedSource::new(access, stimulus.as_str());
-            run_sim(alloc, request, input, &mut stimulus, output)
+            trace_or_judge(alloc, request, input, &mut stimulus, output)
         }
         (None, None) => unreachable!(),
     }

@@ -2,27 +2,28 @@
 ghost use Rattle.std.specs.Prelude.{◌≡◌, ◌-◌, ◌^◌, ◌<◌, ◌≤◌, None, max};
 ghost use Rattle.aig_io.specs.declared.block.TheConstants.{ROOM};
 ghost use Rattle.aig_command.specs.Answer.{texts};
-ghost use Rattle.aig_tools.specs.Ending.{Ends, EndsBetween, HelpEnds, RefusalEnds, SimulationEnds, status_of};
+ghost use Rattle.aig_tools.specs.Ending.{done_status, Ends, EndsBetween, HelpEnds, SimulationEnds, status_of};
 ghost use Rattle.aig_tools.specs.Devices.{DoneBetween, files_by_name, NotDoneBetween, sink_use, source_use};
 ghost use Rattle.aig_tools.specs.Messages.{memory_line, IsReported, usage_text, words_line};
-ghost use Rattle.aig_command.specs.Answer.{HasOneStandardInput};
+ghost use Rattle.aig_command.specs.Answer.{HasOneStandardInput, IsWitnessAlone};
 
 use crate::engine::Engine;
 use crate::message::{
     report_error, report_memory, report_simulation_error, report_unwritten, report_usage,
     report_words,
 };
-use crate::named::{run_between, trace};
+use crate::named::{run_between, run_model};
 use aig_command::{Command, Sim, Usage, command};
 use aig_core::{Output, Sink, Source};
 use aig_files::{FileAccess, HostFiles};
+use aig_sim::Verdict;
 use std::alloc::Global;
 use std::rt::Files;
 
 /// Done as asked.
 const DONE: u8 = 0;
 
-/// Refused input, a device that failed, or out of memory.
+/// Refused input, a witness that is not confirmed, a device that failed, or out of memory.
 const FAILED: u8 = 1;
 
 /// Refused arguments.
@@ -65,7 +66,17 @@ fn run_reporting<T: Engine, A: FileAccess, R: Source, W: Sink, E: Sink>(
     }
 }
 
-/// Simulates as a request asks, reports an error, and answers the status.
+/// The status where what was asked for is done. That a witness is not confirmed is an answer, but no success.
+fn done_status(verdict: Option<Verdict>) -> u8
+    ensures { result ≡ done_status verdict }
+{
+    match verdict {
+        None | Some(Verdict::Confirmed(_)) => DONE,
+        Some(Verdict::NotConfirmed) => FAILED,
+    }
+}
+
+/// Simulates or judges a witness as a request asks, reports an error, and answers the status.
 fn run_simulation<A: FileAccess, R: Source, W: Sink, E: Sink>(
     alloc: Global,
     access: &A,
@@ -78,6 +89,7 @@ fn run_simulation<A: FileAccess, R: Source, W: Sink, E: Sink>(
     requires output { W.failed output.old < 2 ^ 64 - 1 }
     requires errors { E.failed errors.old < 2 ^ 64 - 1 }
     requires one_input { HasOneStandardInput request.now }
+    requires alone { IsWitnessAlone request.now }
     ensures ends { SimulationEnds request.now (files_by_name (A.holds access.now) (A.made access.now))
         (source_use R.coming R.failed input.old input.new)
         (sink_use W.taken W.longest W.failed output.old output.new)
@@ -85,8 +97,8 @@ fn run_simulation<A: FileAccess, R: Source, W: Sink, E: Sink>(
     ensures short { W.longest output.new ≤ max (W.longest output.old) ROOM }
     ensures reported_short { E.longest errors.new ≤ max (E.longest errors.old) ROOM }
 {
-    match trace(alloc, access, request, input, output) {
-        Ok(()) => DONE,
+    match run_model(alloc, access, request, input, output) {
+        Ok(verdict) => done_status(verdict),
         Err(fault) => {
             report_simulation_error(errors, request, &fault);
             FAILED
@@ -129,9 +141,8 @@ fn refuse<E: Sink>(errors: &mut E, usage: &Usage) -> u8
 }
 
 /// Does what the arguments ask for, the program's name first, over the three streams and the files that they name, and
-/// answers the status: 0 done, 1 refused input, a device that failed or out of memory, 2 refused words. An error is
-/// reported on
-/// `errors`; whether `errors` takes that changes nothing.
+/// answers the status: 0 done; 1 refused input, a witness that is not confirmed, a device that failed or out of memory;
+/// 2 refused words. An error is reported on `errors`; whether `errors` takes that changes nothing.
 pub fn serve<A: FileAccess, R: Source, W: Sink, E: Sink>(
     access: &A,
     alloc: Global,

@@ -76,6 +76,7 @@ pub fn run_sim<M: Source, R: Source, W: Sink>(
     requires model { M.failed model.old < 2 ^ 64 - 1 }
     requires stimulus { R.failed stimulus.old < 2 ^ 64 - 1 }
     requires output { W.failed output.old < 2 ^ 64 - 1 }
+    requires traced { request.now.witness ≡ false }
     ensures ok { OnOk result (Traced request.now (source_use M.coming M.failed model.old model.new)
         (source_use R.coming R.failed stimulus.old stimulus.new)
         (sink_use W.taken W.longest W.failed output.old output.new)) }

@@ -3,8 +3,8 @@ use aig_command::{Command, Sim, ToAig, Unroll, Usage, command};
 use std::alloc::{AllocError, Global};
 use std::test::Fail;
 
-/// Arguments after the program's name, and what they ask for: the options of the conversion, its limit, its source and its
-/// destination. `<>` is a name of no bytes.
+/// Arguments after the program's name, and what they ask for: the options of the conversion, its limit, its source and
+/// its destination. `<>` is a name of no bytes.
 const CONVERSIONS: &str = "\
 aigtoaig => 2147483647 - -;\
 aigtoaig a.aig => 2147483647 a.aig -;\
@@ -29,7 +29,7 @@ aigtoaig -- --ascii --help => 2147483647 --ascii --help;\
 aigtoaig --strip -- - -x.aag => ascii strip 2147483647 - -x.aag";
 
 /// Arguments after the program's name, and what they ask for: the options of the simulation, its limit, its model and
-/// its stimulus.
+/// its stimulus or its witness file.
 const SIMULATIONS: &str = "\
 aigsim m => 2147483647 m -;\
 aigsim m - => 2147483647 m -;\
@@ -51,7 +51,14 @@ aigsim m.aag s.gz => 2147483647 m.aag s.gz;\
 aigsim aigtoaig help => 2147483647 aigtoaig help;\
 aigsim -- --properties --help => 2147483647 --properties --help;\
 aigsim --batch -- - --batch => batch 2147483647 - --batch;\
-aigsim --properties -- -m => properties 2147483647 -m -";
+aigsim --properties -- -m => properties 2147483647 -m -;\
+aigsim --witness m => witness 2147483647 m -;\
+aigsim --witness m - => witness 2147483647 m -;\
+aigsim - --witness w => witness 2147483647 - w;\
+aigsim m w --witness --max-var 7 => witness 7 m w;\
+aigsim --witness m w.gz => witness 2147483647 m w.gz;\
+aigsim --witness -- --batch --properties => witness 2147483647 --batch --properties;\
+aigsim --batch -- m --witness => batch 2147483647 m --witness";
 
 /// Arguments after the program's name, and what they ask for: the frames of the unrolling, its option, its limit, its
 /// source and its destination.
@@ -92,6 +99,16 @@ aigsim - => model and stimulus are both standard input;\
 aigsim - - => model and stimulus are both standard input;\
 aigsim --properties --max-var 7 -- - => model and stimulus are both standard input;\
 aigsim --batch - => model and stimulus are both standard input;\
+aigsim --witness - => model and stimulus are both standard input;\
+aigsim --witness - - => model and stimulus are both standard input;\
+aigsim --witness --batch - => model and stimulus are both standard input;\
+aigsim --properties - --witness - => model and stimulus are both standard input;\
+aigsim --witness --batch m => --witness stands alone;\
+aigsim --batch --witness m w => --witness stands alone;\
+aigsim --witness --properties m => --witness stands alone;\
+aigsim --properties - w --witness => --witness stands alone;\
+aigsim --witness --batch --properties m => --witness stands alone;\
+aigsim --max-var 0 --witness --batch m w.gz => --witness stands alone;\
 aigunroll --frames 2 - x.aig.gz => compressed output is not supported;\
 aigunroll --ascii --frames 2 a.aag .gz => compressed output is not supported;\
 aigtoaig --help => help;\
@@ -105,6 +122,7 @@ aigsim -h => help;\
 aigsim - --help => help;\
 aigsim --properties m s --help t => help;\
 aigsim --batch - --help => help;\
+aigsim --witness --batch - --help => help;\
 aigunroll --help => help;\
 aigunroll -h => help;\
 aigunroll --frames 2 - b.gz --help => help;\
@@ -123,6 +141,7 @@ aigtoaig --Help => words;\
 aigtoaig -x => words;\
 aigtoaig --version => words;\
 aigtoaig --properties => words;\
+aigtoaig --witness => words;\
 aigtoaig --frames 2 => words;\
 aigsim => words;\
 aigsim --properties => words;\
@@ -150,7 +169,15 @@ aigsim --ascii m => words;\
 aigsim --strip m => words;\
 aigsim --keep-map m => words;\
 aigsim --undo-map m => words;\
-aigsim --witness m s => words;\
+aigsim --witness => words;\
+aigsim --witness m w v => words;\
+aigsim --witness --witness m => words;\
+aigsim --witness --batch --witness m => words;\
+aigsim --witness=yes m => words;\
+aigsim --witness= m => words;\
+aigsim --witnes m => words;\
+aigsim --Witness m => words;\
+aigsim -w m => words;\
 aigsim --frames 2 m => words;\
 aigsim -x => words;\
 aigunroll => words;\
@@ -180,6 +207,7 @@ aigunroll --frames 2 --keep-map => words;\
 aigunroll --frames 2 --undo-map => words;\
 aigunroll --frames 2 --properties => words;\
 aigunroll --frames 2 --batch => words;\
+aigunroll --frames 2 --witness => words;\
 aigunroll --frames 2 a b c => words;\
 aigunroll --frames 2 - - - => words;\
 help => words;\
@@ -197,6 +225,7 @@ AIGUNROLL --frames 2 => words;\
 --ascii aigtoaig => words;\
 --properties aigsim m => words;\
 --batch aigsim m => words;\
+--witness aigsim m => words;\
 <> => words";
 
 /// The program's name and the arguments of a line, with one space between them.
@@ -239,10 +268,11 @@ fn shown_simulation(alloc: Global, request: &Sim) -> Result<String, AllocError> 
     } else {
         ""
     };
+    let witness = if request.witness { "witness " } else { "" };
     let model = shown(&request.model);
     let stimulus = shown(&request.stimulus);
     let limit = request.max_var;
-    format!(in alloc; "{batch}{properties}{limit} {model} {stimulus}")
+    format!(in alloc; "{batch}{properties}{witness}{limit} {model} {stimulus}")
 }
 
 /// An unrolling, as a row shows it.

@@ -16,3 +16,5 @@ mod simulations;
 mod streams;
 #[cfg(test)]
 mod unrollings;
+#[cfg(test)]
+mod witnesses;

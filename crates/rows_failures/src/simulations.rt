@@ -20,17 +20,17 @@ const WORDS: &str = "aiger aigsim model stimulus#aiger aigsim model#aiger aigsim
 
 /// What is read, how many bytes the devices move in a call, and which call of each fails, counted from 0.
 #[derive(Clone, Copy)]
-struct Devices<'a> {
-    model: &'a [u8],
-    stimulus: &'a [u8],
-    piece: usize,
-    failing_model: u64,
-    failing_stimulus: u64,
-    failing_trace: u64,
+pub(crate) struct Devices<'a> {
+    pub model: &'a [u8],
+    pub stimulus: &'a [u8],
+    pub piece: usize,
+    pub failing_model: u64,
+    pub failing_stimulus: u64,
+    pub failing_trace: u64,
 }
 
 /// No call fails.
-const SOUND: Devices<'static> = Devices {
+pub(crate) const SOUND: Devices<'static> = Devices {
     model: MODEL,
     stimulus: STIMULUS,
     piece: 2,
@@ -58,7 +58,7 @@ impl<'a> Devices<'a> {
     }
 
     /// A run of the program with these words.
-    fn run(&self, alloc: Global, words: &str) -> Result<Outcome, Fail> {
+    pub(crate) fn run(&self, alloc: Global, words: &str) -> Result<Outcome, Fail> {
         let input = if words.ends_with(" - stimulus") {
             self.model()
         } else {
@@ -92,7 +92,7 @@ impl<'a> FileAccess for Devices<'a> {
 }
 
 /// The line about a model that cannot be read.
-fn unread_model(words: &str) -> &'static str {
+pub(crate) fn unread_model(words: &str) -> &'static str {
     if words.ends_with(" - stimulus") {
         "aiger: -: cannot read\n"
     } else {
@@ -101,7 +101,7 @@ fn unread_model(words: &str) -> &'static str {
 }
 
 /// The line about a stimulus that cannot be read.
-fn unread_stimulus(words: &str) -> &'static str {
+pub(crate) fn unread_stimulus(words: &str) -> &'static str {
     if words.ends_with(" stimulus") {
         "aiger: stimulus: cannot read\n"
     } else {

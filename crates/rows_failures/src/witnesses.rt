@@ -1,0 +1,114 @@
+//! Witnesses over devices that fail, and devices that move few bytes in a call.
+use crate::simulations::{Devices, SOUND, unread_model, unread_stimulus};
+use std::test::Fail;
+
+/// The latch takes the input, and is the bad state.
+const MODEL: &[u8] = b"aag 2 1 1 0 0 1\n2\n4 2\n4\n";
+
+const WITNESS: &[u8] = b"1\nb0\n0\n1\n0\n.";
+
+const ANSWER: &[u8] = b"confirmed 1\n";
+
+const UNCONFIRMED: &[u8] = b"not confirmed\n";
+
+/// The words of each row, with a `#` between them: which of model and witness is a file, and which the standard input.
+const WORDS: &str = "aiger aigsim --witness model stimulus#aiger aigsim --witness model#\
+    aiger aigsim --witness - stimulus";
+
+/// The witness over its model; no call fails.
+const JUDGED: Devices<'static> = Devices {
+    model: MODEL,
+    stimulus: WITNESS,
+    ..SOUND
+};
+
+/// Each read of the model fails in turn: nothing was written, and nothing was read of a witness, which would fail too.
+#[test]
+fn failed_models(rt: HostRuntime) -> Result<(), Fail> {
+    for words in WORDS.split('#') {
+        let mut devices = JUDGED;
+        devices.failing_stimulus = 0;
+        for call in 0..=MODEL.len() as u64 / 2 {
+            devices.failing_model = call;
+            let outcome = devices.run(rt.alloc(), words)?;
+            assert!(rt; outcome.told(1, unread_model(words)), "read {call}");
+            assert_eq!(rt; outcome.output.calls, 0);
+        }
+    }
+    Ok(())
+}
+
+/// Each read of the witness fails in turn, also the one at its end: nothing was written.
+#[test]
+fn failed_witnesses(rt: HostRuntime) -> Result<(), Fail> {
+    for words in WORDS.split('#') {
+        let mut devices = JUDGED;
+        for call in 0..=WITNESS.len() as u64 / 2 {
+            devices.failing_stimulus = call;
+            let outcome = devices.run(rt.alloc(), words)?;
+            assert!(rt; outcome.told(1, unread_stimulus(words)), "read {call}");
+            assert_eq!(rt; outcome.output.calls, 0);
+        }
+    }
+    Ok(())
+}
+
+/// Each write of the answer fails in turn: a beginning was written, and no write came after it.
+#[test]
+fn failed_answers(rt: HostRuntime) -> Result<(), Fail> {
+    for words in WORDS.split('#') {
+        let mut devices = JUDGED;
+        for call in 0..ANSWER.len() as u64 / 2 {
+            devices.failing_trace = call;
+            let outcome = devices.run(rt.alloc(), words)?;
+            assert!(rt; outcome.told(1, "aiger: -: cannot write\n"), "write {call}");
+            let taken = outcome.output.taken.as_slice();
+            assert!(rt; ANSWER.starts_with(taken), "write {call}");
+            assert_eq!(rt; outcome.output.calls, call + 1);
+        }
+    }
+    Ok(())
+}
+
+/// Few bytes in a call change nothing.
+#[test]
+fn answers_in_pieces(rt: HostRuntime) -> Result<(), Fail> {
+    for words in WORDS.split('#') {
+        let mut devices = JUDGED;
+        for piece in [1, 7, 30_000] {
+            devices.piece = piece;
+            let outcome = devices.run(rt.alloc(), words)?;
+            assert!(rt; outcome.told(0, ""), "in pieces of {piece}");
+            assert!(rt;
+                outcome.output.taken.as_slice() == ANSWER,
+                "in pieces of {piece}"
+            );
+        }
+    }
+    Ok(())
+}
+
+/// A witness that is not confirmed has the status of an error, and nothing is told.
+#[test]
+fn unconfirmed(rt: HostRuntime) -> Result<(), Fail> {
+    for words in WORDS.split('#') {
+        let mut devices = JUDGED;
+        devices.stimulus = b"1\nb0\n0\n1\n.\n";
+        let outcome = devices.run(rt.alloc(), words)?;
+        assert!(rt; outcome.told(1, ""));
+        assert!(rt; outcome.output.taken.as_slice() == UNCONFIRMED);
+    }
+    Ok(())
+}
+
+/// At a wrong line nothing is written, and nothing is read behind the bytes that its end came with.
+#[test]
+fn wrong_lines(rt: HostRuntime) -> Result<(), Fail> {
+    let mut devices = JUDGED;
+    devices.stimulus = b"1\nb0\n0\n1\n2\n.\n";
+    devices.failing_stimulus = 6;
+    let outcome = devices.run(rt.alloc(), "aiger aigsim --witness model stimulus")?;
+    assert!(rt; outcome.told(1, "aiger: stimulus: line 5: bad witness line\n"));
+    assert_eq!(rt; outcome.output.calls, 0);
+    Ok(())
+}
