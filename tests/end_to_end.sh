@@ -462,6 +462,8 @@ begins() {
     child=$!
     IFS= read -r -t 10 line <&"$from"
     kill "$child"
+    # It may say that it cannot write, which must not come among what a later run says.
+    wait "$child" 2> /dev/null
     exec {from}<&-
     printf '%s\n' "$line" > "$work/out"
     wants "$2\n" '' 0
@@ -480,6 +482,8 @@ check 'binary images of circuits made by chance, and their maps' "$top/tests/ima
 check 'traces of circuits made by chance, of their images and of what is undone' "$top/tests/traces.py" "$program"
 check 'batches of runs made by chance, of circuits made by chance' "$top/tests/batches.py" "$program"
 check 'circuits made by chance, unrolled' "$top/tests/unrolled.py" "$program"
+wants '2000 passed, 0 failed\n' '' 0
+check 'witnesses made by chance, for circuits made by chance' "$top/tests/witnesses.py" "$program"
 
 # --- the examples ---
 # some_steps INPUTS: two runs of 20 steps, which look made by chance
@@ -521,6 +525,8 @@ for file in "$top"/examples/*.aag "$top"/examples/*.aig; do
 done
 
 . "$top/tests/files.sh"
+. "$top/tests/witness_devices.sh"
+witness_devices
 . "$top/tests/launcher.sh"
 . "$top/tests/other_tools.sh"
 

@@ -473,11 +473,13 @@ if [ "$ran" = all ] && [ "$(wc -l < "$work/examples")" = 4 ] && grep -aq '^aigma
     fail 'the examples of help run' "came   $ran, of" "$(cat "$work/examples")"
 fi
 helps 'help of aigsim' aigsim --help
-# its examples run as they stand too, and the traces of the half adder come
+# its examples run as they stand too, over a half adder whose carry is the bad state: its traces come, and a witness is
+# confirmed
+printf 'aag 7 2 0 2 3 1\n2\n4\n6\n12\n12\n6 13 15\n12 2 4\n14 3 5\n' > "$files/model.aag"
 grep '^  printf \|^  aiger aigsim ' "$work/out" | sed 's/aiger aigsim /"$program" aigsim /; s/   .*//' > "$work/examples"
 simulation_examples() { ( cd "$files" && set -e && . "$work/examples" ); }
 half=' 10 10 \n.\n 1x xx \n.\n'
-wants " 10 10 \n 1x xx \n.\n 10 10   \n.\n 1x xx   \n.\n$half$half" '' 0
+wants " 10 10 \n 1x xx \n.\n 10 10  0 \n.\n 1x xx  x \n.\n${half}confirmed 0\n$half" '' 0
 check 'the examples of help of aigsim run' simulation_examples
 helps 'help of aigunroll' aigunroll --help
 # its examples too; the half adder has no latches, so each frame is a copy of it
