@@ -458,13 +458,14 @@ check 'a toggle over as many frames as there may be, in 10 MB of memory' within 
 # begins NAME LINE: the first line of the file in over 524,287 frames; the rest would take long, and is not waited for
 begins() {
     local from child line=
-    exec {from}< <(ulimit -v 204800 && exec timeout 10 "$program" aigunroll --frames 524287 --ascii < "$work/in" 2> "$work/err")
+    # What it says when it is stopped goes nowhere: it may come when a later run has the file err.
+    exec {from}< <(ulimit -v 204800 && exec timeout 10 "$program" aigunroll --frames 524287 --ascii < "$work/in" 2> /dev/null)
     child=$!
     IFS= read -r -t 10 line <&"$from"
     kill "$child"
-    # It may say that it cannot write, which must not come among what a later run says.
     wait "$child" 2> /dev/null
     exec {from}<&-
+    : > "$work/err"
     printf '%s\n' "$line" > "$work/out"
     wants "$2\n" '' 0
     judge "$1" 0

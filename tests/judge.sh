@@ -27,10 +27,12 @@ tell() {
 # judge NAME STATUS
 judge() { if came "$2"; then pass; else tell "$1"; fi; }
 
-# check NAME WORD..: runs the words, and judges what comes
+# check NAME WORD..: runs the words, and judges what comes. The files are new ones, so nothing that an earlier run left
+# behind can write into them.
 check() {
     local name=$1
     shift
+    rm -f "$work/out" "$work/err"
     "$@" > "$work/out" 2> "$work/err"
     judge "$name" $?
 }
