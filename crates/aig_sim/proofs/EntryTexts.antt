@@ -65,7 +65,7 @@ and_false : (a : Bool) → (a && false) ≡ false
 and_false true = refl
 and_false false = refl
 
-kept_first : (b c : ℕ) (bs : List ℕ) → without_return (b ∷ c ∷ bs) ≡ b ∷ without_return (c ∷ bs)
+pub kept_first : (b c : ℕ) (bs : List ℕ) → without_return (b ∷ c ∷ bs) ≡ b ∷ without_return (c ∷ bs)
 kept_first b c bs =
     let some : length (c ∷ bs) ≢ 0 = omega arith in
     ap (λ (last : Bool). if (b == 13) && last then [] else b ∷ without_return (c ∷ bs))

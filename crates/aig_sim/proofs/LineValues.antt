@@ -1,6 +1,6 @@
 -- The characters of a step's inputs, and how long its line is.
 use Rattle.std.proofs.Common.{◌≡◌, ◌==◌, ◌≤◌, ℕ, List, [], ◌∷◌, Bool, true, false, Option, Some, None, codes}
-use Rattle.std.proofs.Common.{length, map}
+use Rattle.std.proofs.Common.{length, map, replicate}
 use Rattle.std.proofs.Common.{refl, sym, ap, ap₂, ◌∙◌, arith, bytes_eq, option_map, option_and_then, if◌then◌else◌}
 use Rattle.std.proofs.lemmas.Bool.{eqb-true}
 use Rattle.std.proofs.lemmas.List.{length-map}
@@ -11,6 +11,9 @@ use Rattle.aig_core.specs.declared.value.Val.{Val}
 use Rattle.aig_core.specs.declared.value.Val.TheVariants.{Zero, One, X}
 use Rattle.aig_meaning.specs.Meaning.{IsRow, IsStepAssignment, MeansTheSame, Row, latch_variables, literal_value}
 use Rattle.aig_meaning.specs.Meaning.{next_literals}
+use Rattle.aig_meaning.proofs.Rows.{one_row}
+use Rattle.aig_core.specs.Wellformed.{IsWellFormed}
+use Rattle.std.proofs.lemmas.Simd.{length-replicate}
 use Rattle.aig_io.specs.Output.{Out, Put}
 use Rattle.aig_sim.specs.Stimulus.{Step, Stop, entry_in, value_of, values_of}
 use Rattle.aig_sim.specs.TraceText.{character_of, row_text, values_text}
@@ -121,6 +124,15 @@ row_long c row (a, read) =
 -- that of a circuit that means the same
 pub row_fits : (c d : Circuit) (row : Row) → MeansTheSame c d → IsRow d row → row_size row ≡ line_size c
 row_fits c d row means is = row_long c row ((means.rows row).1 is)
+
+-- circuits that mean the same have lines of the same length
+pub same_size : (c d : Circuit) → IsWellFormed c → MeansTheSame c d → line_size c ≡ line_size d
+same_size c d formed means =
+    let states = length c.latches in
+    let inputs = length c.inputs in
+    let there = one_row c (replicate states X) (replicate inputs X) formed (length-replicate states X)
+    (length-replicate inputs X) in
+    sym (row_long c there.0 there.3) ∙ row_long d there.0 ((means.rows there.0).0 there.3)
 
 -- the values of a step show a row
 pub row_is_read : (c : Circuit) (state given : List Val) (a : ℕ → Val) → IsStepAssignment c state given a

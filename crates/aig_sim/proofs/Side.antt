@@ -5,8 +5,8 @@ pub mod Groups
 pub mod TextGroups
 pub mod RunsRead
 pub mod Fronts
-pub mod Vectors
 pub mod ShownTexts
 pub mod Given
 pub mod Strips
+pub mod Vectors
 pub mod Shown

@@ -16,3 +16,4 @@ pub mod RunsRead
 pub mod Strips
 pub mod Vectors
 pub mod Witnessing
+pub mod Benches

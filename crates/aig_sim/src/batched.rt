@@ -1,31 +1,39 @@
 //! A simulation that reads the whole stimulus before it sends anything.
 ghost use Rattle.std.specs.Prelude.{◌≡◌, ◌≢◌, ◌+◌, ◌-◌, ◌^◌, ◌<◌, ◌≤◌, ℕ, List, [], IfErr, None};
-ghost use Rattle.std.specs.Prelude.{OnOk, length, max, true};
+ghost use Rattle.std.specs.Prelude.{OnOk, length, map, max, true};
+ghost use Rattle.std.specs.List.{All};
 ghost use Rattle.aig_core.specs.declared.circuit.Circuit.{Circuit as CircuitRecord};
 ghost use Rattle.aig_io.specs.Output.{Put};
 ghost use Rattle.aig_io.specs.declared.block.TheConstants.{ROOM};
 ghost use Rattle.aig_sim.specs.declared.fault.SimFault.TheVariants.{WriteFailed};
-ghost use Rattle.aig_sim.specs.declared.trace.Columns.{Columns as ColumnsAsked};
+ghost use Rattle.aig_sim.specs.declared.run.Run.{Run as RunRecord};
 ghost use Rattle.aig_sim.specs.Batched.{NotBatched};
 ghost use Rattle.aig_sim.specs.Outcome.{Simulated, first_bad_line, sink_failures, source_failures};
-ghost use Rattle.aig_sim.specs.Parts.RunsRead.{IsFront, text_of_group, text_of_groups};
+ghost use Rattle.aig_sim.specs.Parts.Benches.{IsBench};
+ghost use Rattle.aig_sim.specs.Parts.LaneTexts.{HaveRoom};
+ghost use Rattle.aig_sim.specs.Parts.Lines.{Keeping as KeepingRecord, line_size};
+ghost use Rattle.aig_sim.specs.Parts.RunsRead.{PutRuns, Says, entries_of_groups, text_of_group};
 ghost use Rattle.aig_sim.specs.Parts.Streaming.{NotTraced, SentAll, SentInPart};
 ghost use Rattle.aig_sim.specs.Parts.Tracing.{IsFresh};
+ghost use Rattle.aig_sim.specs.Runs.{IsRunOf};
+ghost use Rattle.aig_meaning.specs.Meaning.{MeansTheSame};
 
 use crate::collected::collect;
 use crate::fault::SimFault;
-use crate::front::trace_front;
+use crate::front::read_front;
 use crate::gathered::Gathered;
 use crate::lane_text::RunText;
+use crate::machine::Machine;
 use crate::reader::Reader;
-use crate::text_group::GroupText;
+use crate::runs_read::RunGroup;
+use crate::text_group::{Bench, set_up};
 use crate::trace::Columns;
 use aig_core::{Checked, Sink, Source};
 use std::alloc::Global;
 
 /// Puts the texts of a group, with the line that ends each.
 fn put_group<W: Sink>(output: &mut Gathered<W>, texts: &[RunText])
-    ensures { Put output.old output.new (text_of_group texts.now) }
+    ensures { Put output.old output.new (text_of_group (map (λ (t : KeepingRecord). t.bytes) texts.now)) }
 {
     for text in texts {
         output.put(text.as_slice());
@@ -34,11 +42,24 @@ fn put_group<W: Sink>(output: &mut Gathered<W>, texts: &[RunText])
 }
 
 /// Puts the texts of groups, one after the other.
-fn put_groups<W: Sink>(output: &mut Gathered<W>, groups: &[GroupText])
-    ensures { Put output.old output.new (text_of_groups groups.now) }
+fn put_groups<W: Sink>(
+    output: &mut Gathered<W>,
+    machine: &Machine,
+    columns: Columns,
+    groups: &[RunGroup],
+    bench: &mut Bench,
+)
+    requires lanes { All (λ (runs : List RunRecord). length runs ≤ 256) groups.now }
+    requires fits { All (λ (runs : List RunRecord). All (IsRunOf machine.now) runs) groups.now }
+    requires is { IsBench machine.now bench.old }
+    requires room { All (λ (runs : List RunRecord).
+        HaveRoom (line_size machine.now) runs bench.old.texts.items) groups.now }
+    ensures { PutRuns machine.now columns groups.now output.old output.new }
 {
     for group in groups {
-        put_group(output, group.as_slice());
+        let runs = group.as_slice();
+        bench.run(machine, columns, runs);
+        put_group(output, &bench.texts()[..runs.len()]);
     }
 }
 
@@ -46,18 +67,28 @@ fn put_groups<W: Sink>(output: &mut Gathered<W>, groups: &[GroupText])
 fn trace_good<W: Sink>(
     reader: &mut Reader,
     sink: &mut W,
-    groups: &[GroupText],
+    machine: &Machine,
+    columns: Columns,
+    groups: &[RunGroup],
+    bench: &mut Bench,
     lines: usize,
     rest: &[u8],
 ) -> Result<(), SimFault>
     requires number { reader.old.number ≡ 1 }
     requires lines { lines + length rest.now < 2 ^ 64 - 1 }
     requires sink { W.failed sink.old < 2 ^ 64 - 1 }
-    ensures ok { OnOk result ((c : CircuitRecord) (columns : ColumnsAsked) (bytes : List ℕ)
-        → IsFresh c columns reader.old → IsFront c columns bytes (text_of_groups groups.now) lines rest.now
+    requires lanes { All (λ (runs : List RunRecord). length runs ≤ 256) groups.now }
+    requires fits { All (λ (runs : List RunRecord). All (IsRunOf machine.now) runs) groups.now }
+    requires is { IsBench machine.now bench.old }
+    requires room { All (λ (runs : List RunRecord).
+        HaveRoom (line_size machine.now) runs bench.old.texts.items) groups.now }
+    ensures ok { OnOk result ((c : CircuitRecord) (bytes : List ℕ) → IsFresh c columns reader.old
+        → MeansTheSame c machine.now
+        → Says (length c.inputs) bytes lines (entries_of_groups groups.now) rest.now
         → first_bad_line c bytes true ≡ None → SentAll c columns bytes [] (W.taken sink.old) (W.taken sink.new)) }
-    ensures err { IfErr result (λ e. (c : CircuitRecord) (columns : ColumnsAsked) (bytes : List ℕ)
-        → IsFresh c columns reader.old → IsFront c columns bytes (text_of_groups groups.now) lines rest.now
+    ensures err { IfErr result (λ e. (c : CircuitRecord) (bytes : List ℕ) → IsFresh c columns reader.old
+        → MeansTheSame c machine.now
+        → Says (length c.inputs) bytes lines (entries_of_groups groups.now) rest.now
         → first_bad_line c bytes true ≡ None
         → SentInPart c columns bytes true [] (W.taken sink.old) (W.taken sink.new)) }
     ensures kind { IfErr result (λ e. e ≡ WriteFailed) }
@@ -66,7 +97,7 @@ fn trace_good<W: Sink>(
     ensures short { W.longest sink.new ≤ max (W.longest sink.old) ROOM }
 {
     let mut output = Gathered::new(sink);
-    put_groups(&mut output, groups);
+    put_groups(&mut output, machine, columns, groups, bench);
     reader.pass(lines as u64);
     let _all = reader.take_chunk(&mut output, rest);
     let _last = reader.take_end(&mut output);
@@ -98,14 +129,18 @@ fn trace_collected<W: Sink>(
     ensures kind { IfErr result (λ e. source_failures e ≡ 0) }
     ensures short { W.longest sink.new ≤ max (W.longest sink.old) ROOM }
 {
-    let (groups, lines, rest) = trace_front(alloc, checked, columns, bytes)?;
-    trace_good(reader, sink, &groups, lines, rest)
+    let inputs = checked.circuit().inputs.len();
+    let (groups, lines, rest) = read_front(alloc, inputs, bytes)?;
+    let (machine, mut bench) = set_up(alloc, checked, &groups)?;
+    trace_good(
+        reader, sink, &machine, columns, &groups, &mut bench, lines, rest,
+    )
 }
 
 /// Simulates a circuit over a stimulus text, and writes the trace text, as `simulate` does; but the whole stimulus is
 /// read, and each line of it found good, before anything is sent. All memory is taken before that too: beside the
-/// stimulus that of the text for those runs that are stepped side by side, 256 at a time. That is faster than
-/// `simulate` from some hundred gates on, and slower below.
+/// stimulus that of the text for 256 runs, which are stepped side by side. That is faster than `simulate` from some
+/// hundred gates on.
 pub fn simulate_batched<R: Source, W: Sink>(
     alloc: Global,
     checked: &Checked,

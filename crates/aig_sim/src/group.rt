@@ -45,6 +45,15 @@ pub(crate) fn new_table(alloc: Global, variables: usize) -> Result<Vec<Plane>, O
     Ok(table)
 }
 
+/// Puts x into all lanes of a table.
+pub(crate) fn fill_table(table: &mut [Plane])
+    ensures size { length table.new ≡ length table.old }
+    ensures lanes { (l variables : ℕ) → l < 256 → length table.old ≡ 2 * variables
+        → IsLane l table.new (replicate variables X) }
+{
+    table.fill(plane_of(true));
+}
+
 /// A table of the state by the resets, in all lanes.
 pub(crate) fn reset_table(alloc: Global, latches: &[Latch]) -> Result<Vec<Plane>, OutOfMemory>
     requires { length latches.now < 2 ^ 62 }

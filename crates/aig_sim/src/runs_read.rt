@@ -10,37 +10,70 @@ use crate::vectors::Vectors;
 use aig_core::OutOfMemory;
 use memchr::memchr;
 use std::alloc::Global;
+use std::marker::Model;
 
 /// How many runs are stepped side by side.
 pub(crate) const LANES: usize = 256;
 
-/// The run at the front of the bytes and what comes behind it, if there are good lines up to one that ends it.
-fn read_run<'a>(
-    alloc: Global,
-    inputs: usize,
-    bytes: &'a [u8],
-) -> Result<Option<(Vectors, &'a [u8])>, OutOfMemory>
-    ensures says { IfOk result (λ found. IfSome found (λ read. Says inputs bytes.now (length read.0.steps + 1)
-        (entries_of_run read.0) read.1.now)) }
-    ensures fits { IfOk result (λ found. IfSome found (λ read.
-        All (λ (vector : List Value). length vector ≡ inputs) read.0.steps)) }
+/// How long the first line is, with its line feed; 0 where there is none.
+fn first_stride(bytes: &[u8]) -> usize {
+    match memchr(b'\n', bytes) {
+        Some(next) => next + 1,
+        None => 0,
+    }
+}
+
+/// The run at the front of the bytes and what comes behind it, if there are good lines, all of one length but for the
+/// last, which ends it.
+fn read_run<'a>(inputs: usize, bytes: &'a [u8]) -> Option<(Vectors<'a>, &'a [u8])>
+    ensures says { IfSome result (λ read. Says inputs bytes.now (length read.0.steps + 1)
+        (entries_of_run read.0) read.1.now) }
+    ensures fits { IfSome result (λ read. All (λ (vector : List Value). length vector ≡ inputs) read.0.steps) }
 {
-    let mut run = Vectors::new(alloc);
+    let stride = first_stride(bytes);
+    let mut steps = 0;
     let mut rest = bytes;
     while let Some(next) = memchr(b'\n', rest) {
         let (line, more) = rest.split_at(next);
         let (_, more) = more.split_at(1);
-        rest = more;
         let text = without_return(line);
         if is_stop(text) {
-            return Ok(Some((run, rest)));
+            return Some((Vectors::new(bytes, inputs, stride, steps), more));
+        }
+        if next + 1 != stride {
+            return None;
         }
         if !is_vector(inputs, text) {
-            return Ok(None);
+            return None;
         }
-        run.push(text)?;
+        steps += 1;
+        rest = more;
     }
-    Ok(None)
+    None
+}
+
+/// The runs of a group.
+#[derive(Drop)]
+pub(crate) struct RunGroup<'a> {
+    runs: Vec<Vectors<'a>>,
+}
+
+impl<'a> Model for RunGroup<'a> {
+    ghost use Rattle.std.specs.Prelude.{List};
+    ghost use Rattle.aig_sim.specs.declared.run.Run.{Run as RunRecord};
+
+    ghost Value = { List RunRecord };
+
+    ghost view = { λ g. g.runs.items };
+}
+
+impl<'a> RunGroup<'a> {
+    /// The runs.
+    pub(crate) fn as_slice(&self) -> &[Vectors<'a>]
+        ensures { result.now ≡ self.now }
+    {
+        &self.runs
+    }
 }
 
 /// The runs at the front of the bytes, as many as are stepped side by side or fewer, how many lines they have, and what
@@ -49,24 +82,24 @@ pub(crate) fn read_group<'a>(
     alloc: Global,
     inputs: usize,
     bytes: &'a [u8],
-) -> Result<(Vec<Vectors>, usize, &'a [u8]), OutOfMemory>
+) -> Result<(RunGroup<'a>, usize, &'a [u8]), OutOfMemory>
     ensures says { IfOk result (λ read.
-        Says inputs bytes.now read.1 (flat_map entries_of_run read.0.items) read.2.now) }
+        Says inputs bytes.now read.1 (flat_map entries_of_run read.0) read.2.now) }
     ensures fits { IfOk result (λ read. All (λ (run : RunRecord).
-        All (λ (vector : List Value). length vector ≡ inputs) run.steps) read.0.items) }
-    ensures few { IfOk result (λ read. length read.0.items ≤ 256) }
-    ensures some { IfOk result (λ read. length read.0.items ≤ read.1) }
+        All (λ (vector : List Value). length vector ≡ inputs) run.steps) read.0) }
+    ensures few { IfOk result (λ read. length read.0 ≤ 256) }
+    ensures some { IfOk result (λ read. length read.0 ≤ read.1) }
 {
-    let mut runs = Vec::new(alloc);
+    let mut runs = Vec::with_capacity(alloc, LANES)?;
     let mut lines = 0;
     let mut rest = bytes;
     while runs.len() < LANES {
-        let Some((run, more)) = read_run(alloc, inputs, rest)? else {
+        let Some((run, more)) = read_run(inputs, rest) else {
             break;
         };
         lines += run.len() + 1;
         runs.push(run)?;
         rest = more;
     }
-    Ok((runs, lines, rest))
+    Ok((RunGroup { runs }, lines, rest))
 }

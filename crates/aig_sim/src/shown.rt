@@ -1,6 +1,5 @@
 //! What a step shows, as characters, in all lanes.
-ghost use Rattle.std.specs.Prelude.{◌≡◌, ◌+◌, ◌*◌, ◌/◌, ◌^◌, ◌-◌, ◌++◌, ◌<◌, ◌≤◌, ℕ, List, IfOk};
-ghost use Rattle.std.specs.Prelude.{length, map, min, take};
+ghost use Rattle.std.specs.Prelude.{◌≡◌, ◌+◌, ◌*◌, ◌/◌, ◌++◌, ◌<◌, ◌≤◌, ℕ, List, IfOk, length, map, take};
 ghost use Rattle.std.specs.List.{All};
 ghost use Rattle.aig_core.specs.declared.circuit.Latch.{Latch as LatchRecord};
 ghost use Rattle.aig_core.specs.declared.value.Val.{Val as Value};
@@ -108,20 +107,6 @@ impl Shown {
         })
     }
 
-    /// How long a line may be, with so many inputs, as far as that can be counted.
-    pub(crate) fn line_room(&self, inputs: usize) -> usize
-        ensures { result ≡ min (shown_size self.now + inputs) (2 ^ 64 - 1) }
-    {
-        self.state
-            .len()
-            .saturating_add(self.outputs.len())
-            .saturating_add(self.next.len())
-            .saturating_add(self.bad.len())
-            .saturating_add(self.constraints.len())
-            .saturating_add(6)
-            .saturating_add(inputs)
-    }
-
     /// Puts what a step shows, from its table and the state before it.
     pub(crate) fn show(
         &mut self,
@@ -178,21 +163,22 @@ impl Shown {
         }
     }
 
-    /// Writes the line of the step in a lane with these inputs, and answers where it ends.
+    /// Writes the line of the step in a lane with these inputs, from a place on, and answers where it ends.
     #[inline(always)]
     pub(crate) fn write(
         &self,
         line: &mut [u8],
+        at: usize,
         columns: Columns,
         given: &[u8],
         lane: usize,
     ) -> usize
         requires lane { lane < 256 }
-        requires room { shown_size self.now + length given.now ≤ length line.old }
-        ensures end { result ≤ length line.new }
-        ensures text { take result line.new ≡ shown_text columns lane given.now self.now }
+        requires room { at + (shown_size self.now + length given.now) ≤ length line.old }
+        ensures end { result ≤ at + (shown_size self.now + length given.now) }
+        ensures text { take result line.new ≡ take at line.old ++ shown_text columns lane given.now self.now }
     {
-        let end = write_lane(line, 0, &self.state, lane);
+        let end = write_lane(line, at, &self.state, lane);
         let end = write_text(line, end, given);
         let end = write_column(line, end, &self.outputs, lane);
         let end = write_column(line, end, &self.next, lane);

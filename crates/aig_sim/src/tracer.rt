@@ -1,5 +1,6 @@
 //! Lines of a stimulus, and the lines of the trace for them.
 ghost use Rattle.std.specs.Prelude.{◌≡◌, ◌+◌, IfErr, IfOk, None, codes, false, length, true};
+ghost use Rattle.aig_core.specs.Wellformed.{IsWellFormed};
 ghost use Rattle.aig_io.specs.Output.{Put};
 ghost use Rattle.aig_meaning.specs.Meaning.{MeansTheSame};
 ghost use Rattle.aig_sim.specs.declared.fault.SimFault.TheVariants.{OutOfMemory as IsOutOfMemory};
@@ -53,8 +54,9 @@ impl Model for Tracer {
 }
 
 /// How long the line of a step may be.
-fn line_room(checked: &Checked) -> usize
-    ensures { result ≡ line_size checked.now }
+pub(crate) fn line_room(checked: &Checked) -> usize
+    ensures size { result ≡ line_size checked.now }
+    ensures formed { IsWellFormed checked.now }
 {
     let circuit = checked.circuit();
     2 * circuit.latches.len()

@@ -1,43 +1,44 @@
-//! The stimulus of a run, as characters.
-ghost use Rattle.std.specs.Prelude.{◌≡◌, ◌++◌, ◌∷◌, ◌+◌, ◌-◌, ◌^◌, ◌<◌, ◌≤◌, ℕ, List, [], Some, IfOk, is_some, length};
-ghost use Rattle.std.specs.Prelude.{slice_index_or, true};
-ghost use Rattle.std.specs.List.{All};
-ghost use Rattle.aig_core.specs.declared.value.Val.{Val as Value};
+//! The stimulus of a run, where it stands in the text.
+ghost use Rattle.std.specs.Prelude.{◌≡◌, ◌<◌, ◌≤◌, ℕ, List, [], length, slice_index_or};
 ghost use Rattle.aig_sim.specs.declared.run.Run.{Run as RunRecord};
-ghost use Rattle.aig_sim.specs.Stimulus.{values_of};
+ghost use Rattle.aig_sim.specs.Parts.Vectors.{AreVectors, vectors_in};
 ghost use Rattle.aig_sim.specs.TraceText.{values_text};
 
-use std::alloc::{AllocError, Global};
 use std::marker::Model;
 
-/// The inputs of each step of a run: their characters, one step behind the other.
+/// The steps of a run: lines of one length, each of which begins with the characters of the inputs.
 #[derive(Drop)]
-pub(crate) struct Vectors {
-    characters: Vec<u8>,
+pub(crate) struct Vectors<'a> {
+    /// From the first line on.
+    lines: &'a [u8],
     inputs: usize,
+    /// How long a line is, with its end.
+    stride: usize,
     steps: usize,
 }
 
-impl Model for Vectors {
+impl<'a> Model for Vectors<'a> {
     ghost use Rattle.aig_sim.specs.declared.run.Run.{Run as RunRecord};
     ghost use Rattle.aig_sim.specs.Parts.Vectors.{AreVectors, vectors_in};
 
     ghost Value = { RunRecord };
 
-    ghost view = { λ v. record { steps = vectors_in v.inputs v.steps v.characters.items } };
+    ghost view = { λ v. record { steps = vectors_in v.inputs v.stride v.steps v.lines.now } };
 
-    ghost invariant = { λ v. AreVectors v.inputs v.steps v.characters.items };
+    ghost invariant = { λ v. AreVectors v.inputs v.stride v.steps v.lines.now };
 }
 
-impl Vectors {
-    /// No step.
-    pub(crate) fn new(alloc: Global) -> Self
-        ensures { result.steps ≡ [] }
+impl<'a> Vectors<'a> {
+    /// The steps that so many lines say, where each has this length.
+    pub(crate) fn new(lines: &'a [u8], inputs: usize, stride: usize, steps: usize) -> Self
+        requires { AreVectors inputs stride steps lines.now }
+        ensures { result.steps ≡ vectors_in inputs stride steps lines.now }
     {
         Vectors {
-            characters: Vec::new(alloc),
-            inputs: 0,
-            steps: 0,
+            lines,
+            inputs,
+            stride,
+            steps,
         }
     }
 
@@ -49,27 +50,13 @@ impl Vectors {
         self.steps
     }
 
-    /// Adds a step with the inputs that these characters stand for.
-    pub(crate) fn push(&mut self, text: &[u8]) -> Result<(), AllocError>
-        requires good { is_some (values_of text.now) ≡ true }
-        requires each { All (λ (vector : List Value). length vector ≡ length text.now) self.old.steps }
-        requires short { length self.old.steps < 2 ^ 64 - 1 }
-        ensures { IfOk result (λ _. (vector : List Value) → values_of text.now ≡ Some vector
-            → self.new.steps ≡ self.old.steps ++ vector ∷ []) }
-    {
-        self.characters.extend_from_slice(text)?;
-        self.inputs = text.len();
-        self.steps += 1;
-        Ok(())
-    }
-
     /// The characters of a step.
     #[inline(always)]
     pub(crate) fn text(&self, step: usize) -> &[u8]
         requires { step < length self.now.steps }
         ensures { result.now ≡ values_text (slice_index_or self.now.steps step []) }
     {
-        let (_, rest) = self.characters.split_at(step * self.inputs);
+        let (_, rest) = self.lines.split_at(step * self.stride);
         let (text, _) = rest.split_at(self.inputs);
         text
     }

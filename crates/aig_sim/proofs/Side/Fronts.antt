@@ -1,5 +1,5 @@
 -- The front of a stimulus, group by group.
-use Rattle.std.proofs.Common.{◌≡◌, ◌+◌, ◌++◌, ◌∷◌, ℕ, List, [], codes, length, map, refl, sym, subst}
+use Rattle.std.proofs.Common.{◌≡◌, ◌++◌, ◌∷◌, ◌∙◌, ℕ, List, [], ap, append-nil, codes, length, map, refl, sym, subst}
 use Rattle.std.proofs.Common.{true}
 use Rattle.std.specs.List.{AllZip, flat_map}
 use Rattle.aig_core.specs.declared.circuit.Circuit.{Circuit}
@@ -12,9 +12,12 @@ use Rattle.aig_sim.specs.Stimulus.{Entry, Step, Stop}
 use Rattle.aig_sim.specs.TraceText.{row_text, rows_text}
 use Rattle.aig_sim.specs.Parts.LaneTexts.{IsTextOf}
 use Rattle.aig_sim.specs.Parts.Progress.{Goes, Point, begin_of}
-use Rattle.aig_sim.specs.Parts.RunsRead.{IsFront, Says, entries_of_run}
+use Rattle.aig_sim.specs.Parts.RunsRead.{IsFront, PutRuns, Says, entries_of_group, entries_of_groups}
+use Rattle.aig_sim.specs.Parts.RunsRead.{entries_of_run, text_of_group}
+use Rattle.aig_io.specs.Output.{Out, Put}
+use Rattle.aig_io.proofs.Puts.{put_twice}
+use Rattle.std.proofs.lemmas.List.Concat.{flat_map-append}
 use Rattle.aig_sim.proofs.Going.{goes_on, goes_over}
-use Rattle.aig_sim.proofs.Side.RunsRead.{says_none, says_then}
 use Rattle.aig_sim.proofs.Taking.{begin_same, does_same}
 
 -- a trace is a way
@@ -66,29 +69,22 @@ goes_runs c columns (run ∷ runs) (text ∷ texts) each =
     (text ++ codes ".\n") (flat_map (λ (t : List ℕ). t ++ codes ".\n") texts) (goes_run c columns run text each.0)
     (goes_runs c columns runs texts each.1)
 
--- nothing
-pub front_none : (c : Circuit) (columns : Columns) (bytes : List ℕ) → IsFront c columns bytes [] 0 bytes
-front_none c columns bytes =
-    record { entries = []; says = says_none (length c.inputs) bytes; goes = (refl, refl) }
-
--- one more group
-pub front_more : (c : Circuit) (columns : Columns) (bytes text : List ℕ) (lines : ℕ) (rest : List ℕ) (inputs : ℕ)
-    (runs : List Run) (texts : List (List ℕ)) (count : ℕ) (more now : List ℕ)
-    → IsFront c columns bytes text lines rest → inputs ≡ length c.inputs
-    → Says inputs rest count (flat_map entries_of_run runs) more → AllZip (IsTextOf columns c) runs texts
-    → now ≡ text ++ flat_map (λ (t : List ℕ). t ++ codes ".\n") texts
-    → IsFront c columns bytes now (lines + count) more
-front_more c columns bytes text lines rest inputs runs texts count more now front same says each is = record {
-  entries = front.entries ++ flat_map entries_of_run runs;
-  says =
-      says_then (length c.inputs) bytes rest more lines count front.entries (flat_map entries_of_run runs) front.says
-      (subst (λ (n : ℕ). Says n rest count (flat_map entries_of_run runs) more) same says);
+-- the text for one more group
+pub put_more : {W : Type 0} (c : Circuit) (columns : Columns) (groups : List (List Run)) (runs : List Run)
+    (texts : List (List ℕ)) (before between after : Out W) → PutRuns c columns groups before between
+    → AllZip (IsTextOf columns c) runs texts → Put between after (text_of_group texts)
+    → PutRuns c columns (groups ++ runs ∷ []) before after
+put_more c columns groups runs texts before between after so_far each put = record {
+  text = so_far.text ++ text_of_group texts;
+  put = put_twice before between after so_far.text (text_of_group texts) so_far.put put;
   goes =
-      subst
-      (λ (t : List ℕ). Goes c columns (begin_of c) (front.entries ++ flat_map entries_of_run runs) (begin_of c) t)
-      (sym is)
-      (goes_over c columns (begin_of c) (begin_of c) (begin_of c) front.entries (flat_map entries_of_run runs) text
-      (flat_map (λ (t : List ℕ). t ++ codes ".\n") texts) front.goes (goes_runs c columns runs texts each));
+      let entries : entries_of_groups (groups ++ runs ∷ []) ≡ entries_of_groups groups ++ entries_of_group runs =
+      flat_map-append entries_of_group groups (runs ∷ [])
+      ∙ ap (λ (es : List Entry). entries_of_groups groups ++ es) (append-nil (entries_of_group runs)) in
+      subst (λ (es : List Entry). Goes c columns (begin_of c) es (begin_of c) (so_far.text ++ text_of_group texts))
+      (sym entries)
+      (goes_over c columns (begin_of c) (begin_of c) (begin_of c) (entries_of_groups groups) (entries_of_group runs)
+      so_far.text (text_of_group texts) so_far.goes (goes_runs c columns runs texts each));
 }
 
 -- of circuits that mean the same
@@ -104,12 +100,15 @@ goes_same c d columns p q (e ∷ es) text means (between, front, rest, does, goe
   joined,
 )
 
-pub front_same : (c d : Circuit) (columns : Columns) (bytes text : List ℕ) (lines : ℕ) (rest : List ℕ)
-    → MeansTheSame c d → IsFront d columns bytes text lines rest → IsFront c columns bytes text lines rest
-front_same c d columns bytes text lines rest means front = record {
-  entries = front.entries;
-  says = subst (λ (n : ℕ). Says n bytes lines front.entries rest) means.inputs front.says;
+-- what was read and the text for it
+pub front_of : (c d : Circuit) (columns : Columns) (bytes : List ℕ) (groups : List (List Run)) (lines : ℕ)
+    (rest text : List ℕ) → MeansTheSame c d → Says (length c.inputs) bytes lines (entries_of_groups groups) rest
+    → Goes d columns (begin_of d) (entries_of_groups groups) (begin_of d) text
+    → IsFront c columns bytes text lines rest
+front_of c d columns bytes groups lines rest text means says goes = record {
+  entries = entries_of_groups groups;
+  says = says;
   goes =
-      subst (λ (p : Point). Goes c columns p front.entries p text) (begin_same c d means)
-      (goes_same c d columns (begin_of d) (begin_of d) front.entries text means front.goes);
+      subst (λ (p : Point). Goes c columns p (entries_of_groups groups) p text) (begin_same c d means)
+      (goes_same c d columns (begin_of d) (begin_of d) (entries_of_groups groups) text means goes);
 }

@@ -1,10 +1,11 @@
 -- Runs that are read at the front of a stimulus.
-use Rattle.std.proofs.Common.{◌≡◌, ◌+◌, ◌++◌, ◌∷◌, ℕ, List, [], Some, length, take, drop, refl, sym, ap}
+use Rattle.std.proofs.Common.{◌≡◌, ◌+◌, ◌*◌, ◌≤◌, ◌==◌, ◌&&◌, ◌++◌, ◌∷◌, Bool, false, ℕ, List, [], Option, Some}
+use Rattle.std.proofs.Common.{if◌then◌else◌, is_some, length, take, drop, refl, sym, ap}
 use Rattle.std.proofs.Common.{subst, ◌∙◌, append_assoc, append-nil, arith}
 use Rattle.std.proofs.Common.{bytes_eq, codes, map, true}
 use Rattle.std.proofs.lemmas.Bool.{eq-eqb}
 use Rattle.std.specs.List.{flat_map}
-use Rattle.std.proofs.lemmas.List.{length-append, map-append}
+use Rattle.std.proofs.lemmas.List.{drop-drop, length-append, length-drop, map-append, take-append-le}
 use Rattle.std.proofs.lemmas.List.Concat.{flat_map-append}
 use Rattle.memchr.specs.Find.{IsFirstByte, is_byte}
 use Rattle.aig_core.specs.declared.value.Val.{Val}
@@ -13,9 +14,11 @@ use Rattle.aig_sim.specs.Stimulus.{Entry, Step, Stop, entry_in, values_of, witho
 use Rattle.aig_sim.specs.Parts.Lines.{vector_in}
 use Rattle.aig_sim.specs.Parts.RunsRead.{Says, entries_of_run}
 use Rattle.aig_sim.specs.Parts.Seen.{IsHeard}
-use Rattle.aig_sim.proofs.EntryTexts.{values_length}
+use Rattle.aig_sim.specs.Parts.Vectors.{AreVectors, said, vectors_in}
+use Rattle.aig_sim.proofs.EntryTexts.{kept_first, values_length}
 use Rattle.aig_sim.proofs.Heard.{heard_line}
 use Rattle.aig_sim.proofs.LineValues.{vector_long, vector_says}
+use Rattle.aig_sim.proofs.Side.Vectors.{more_vectors, vectors_push}
 use Rattle.aig_sim.proofs.WholeLines.{first_line}
 
 -- no line
@@ -118,3 +121,77 @@ one_run inputs bytes before rest lines runs now run is front next =
     subst (λ (es : List Entry). Says inputs bytes (lines + (length run.steps + 1)) es rest) (sym all)
     (says_then inputs bytes before rest lines (length run.steps + 1) (flat_map entries_of_run runs) (entries_of_run run)
     front next)
+
+last_cut : (p : Bool) (b : ℕ) → (if p then [] else b ∷ []) ≡ take (length (if p then [] else b ∷ [])) (b ∷ [])
+last_cut true b = refl
+last_cut false b = refl
+
+last_shorter : (p : Bool) (b : ℕ) → length (if p then [] else b ∷ []) ≤ 1
+last_shorter true b = omega arith
+last_shorter false b = omega arith
+
+-- the text of a line is at its front
+text_in_front : (line : List ℕ) → without_return line ≡ take (length (without_return line)) line
+text_in_front [] = refl
+text_in_front (b ∷ []) = last_cut ((b == 13) && true) b
+text_in_front (a ∷ b ∷ bs) =
+    kept_first a b bs
+    ∙ ap (λ (t : List ℕ). a ∷ t) (text_in_front (b ∷ bs))
+    ∙ ap (λ (t : List ℕ). take (length t) (a ∷ b ∷ bs)) (sym (kept_first a b bs))
+
+text_shorter : (line : List ℕ) → length (without_return line) ≤ length line
+text_shorter [] = omega arith
+text_shorter (b ∷ []) = last_shorter ((b == 13) && true) b
+text_shorter (a ∷ b ∷ bs) = omega (arith, ap length (kept_first a b bs), text_shorter (b ∷ bs))
+
+one_more_step : (n size : ℕ) → (n + 1) * size ≡ n * size + size
+one_more_step n size = omega arith
+
+-- a line that says a step stands where the next one of its run is due
+module _ (inputs stride steps next : ℕ) (bytes rest : List ℕ) (vector : List Val)
+    (are : AreVectors inputs stride steps bytes) (rest_is : rest ≡ drop (steps * stride) bytes)
+    (found : IsFirstByte (is_byte 10) rest (Some next)) (long : next + 1 ≡ stride)
+    (says : vector_in inputs (without_return (take next rest)) ≡ Some vector) where
+  abbrev text : List ℕ
+  text = without_return (take next rest)
+
+  fits : length text ≡ inputs
+  fits = vector_long inputs text vector says
+
+  cut : rest ≡ take next rest ++ 10 ∷ drop 1 (drop next rest)
+  cut = (first_line rest next found).1
+
+  enough : inputs ≤ length (take next rest)
+  enough = omega (arith, fits, text_shorter (take next rest))
+
+  text_there : take inputs (drop (steps * stride) bytes) ≡ text
+  text_there =
+      ap (take inputs) (sym rest_is ∙ cut)
+      ∙ take-append-le inputs (take next rest) (10 ∷ drop 1 (drop next rest)) enough
+      ∙ ap (λ n. take n (take next rest)) (sym fits) ∙ sym (text_in_front (take next rest))
+
+  values_there : values_of (take inputs (drop (steps * stride) bytes)) ≡ Some vector
+  values_there = ap values_of text_there ∙ sym (vector_is inputs text fits) ∙ says
+
+  pub vectors_more : AreVectors inputs stride (steps + 1) bytes
+  vectors_more =
+      more_vectors inputs stride steps bytes are
+      (omega (
+        arith,
+        enough,
+        ap length cut,
+        length-append (take next rest) (10 ∷ drop 1 (drop next rest)),
+        ap length rest_is,
+        length-drop (steps * stride) bytes,
+      )) (ap is_some values_there)
+
+  pub vectors_are : vectors_in inputs stride (steps + 1) bytes ≡ vectors_in inputs stride steps bytes ++ vector ∷ []
+  vectors_are =
+      vectors_push inputs stride steps bytes
+      ∙ ap (λ (o : Option (List Val)). vectors_in inputs stride steps bytes ++ said o ∷ []) values_there
+
+  pub rest_more : drop 1 (drop next rest) ≡ drop ((steps + 1) * stride) bytes
+  rest_more =
+      let sum : steps * stride + stride ≡ (steps + 1) * stride = omega (arith, one_more_step steps stride) in
+      drop-drop 1 next rest ∙ ap (λ n. drop n rest) long ∙ ap (drop stride) rest_is
+      ∙ drop-drop stride (steps * stride) bytes ∙ ap (λ n. drop n bytes) sum

@@ -18,7 +18,7 @@ use Rattle.aig_sim.specs.declared.trace.Columns.{Columns}
 use Rattle.aig_sim.specs.Parts.Groups.{Assigned}
 use Rattle.aig_sim.specs.Parts.LaneTexts.{TextGrew, TextStands}
 use Rattle.aig_sim.specs.Parts.Lanes.{IsLane}
-use Rattle.aig_sim.specs.Parts.Lines.{row_read}
+use Rattle.aig_sim.specs.Parts.Lines.{Keeping, row_read}
 use Rattle.aig_sim.specs.Parts.Tables.{read_from}
 use Rattle.aig_sim.specs.Runs.{IsRunOf}
 use Rattle.aig_sim.specs.TraceText.{row_text, rows_text}
@@ -130,13 +130,13 @@ text_stands_first columns c run lane table state text empty is from = record {
   state_stands = λ _. from;
 }
 
--- place by place
-pub zipped_texts : (R : Run → List ℕ → Type 0) (xs : List Run) (ys : List (List ℕ)) → length ys ≡ length xs
-    → ((j : ℕ) (d : Run) (e : List ℕ) → j < length xs → R (get_or xs j d) (get_or ys j e)) → AllZip R xs ys
-zipped_texts R [] [] same each = tt
-zipped_texts R [] (y ∷ ys) same each = absurd (omega (arith, same))
-zipped_texts R (x ∷ xs) [] same each = absurd (omega (arith, same))
-zipped_texts R (x ∷ xs) (y ∷ ys) same each = (
-  each 0 x y (omega arith),
-  zipped_texts R xs ys (omega (arith, same)) (λ j d e below. each (suc j) d e (omega (arith, below))),
+-- place by place, behind which there may be more texts
+pub zipped_texts : (R : Run → List ℕ → Type 0) (runs : List Run) (texts : List Keeping) → length runs ≤ length texts
+    → ((j : ℕ) (d : Run) (e : Keeping) → j < length runs → R (get_or runs j d) (get_or texts j e).bytes)
+    → AllZip R runs (map (λ (t : Keeping). t.bytes) (take (length runs) texts))
+zipped_texts R [] texts enough each = tt
+zipped_texts R (x ∷ xs) [] enough each = absurd (omega (arith, enough))
+zipped_texts R (x ∷ xs) (t ∷ ts) enough each = (
+  each 0 x t (omega arith),
+  zipped_texts R xs ts (omega (arith, enough)) (λ j d e below. each (suc j) d e (omega (arith, below))),
 )

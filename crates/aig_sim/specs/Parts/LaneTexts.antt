@@ -1,8 +1,9 @@
 -- The texts of runs of a group, stepped side by side: where each stands. Only private functions cite this.
-use Rattle.std.specs.Prelude.{◌≡◌, ◌+◌, ◌<◌, ◌≤◌, ◌++◌, ℕ, List, [], codes, length, map, slice_index_or, take}
-use Rattle.std.specs.List.{All}
+use Rattle.std.specs.Prelude.{◌≡◌, ◌+◌, ◌*◌, ◌<◌, ◌≤◌, ◌++◌, ℕ, List, [], codes, length, map, replicate}
+use Rattle.std.specs.Prelude.{slice_index_or, take}
 use Rattle.aig_core.specs.declared.circuit.Circuit.{Circuit}
 use Rattle.aig_core.specs.declared.value.Val.{Val}
+use Rattle.aig_core.specs.declared.value.Val.TheVariants.{X}
 use Rattle.aig_meaning.specs.Meaning.{Row, literal_value, next_literals}
 use Rattle.aig_meaning.specs.Trace.{IsTrace, reset_state, state_after}
 use Rattle.aig_sim.specs.declared.run.Run.{Run}
@@ -11,7 +12,7 @@ use Rattle.aig_sim.specs.declared.trace.Columns.{Columns}
 use Rattle.aig_sim.specs.declared.trace.Columns.TheVariants.{Plain, Properties}
 use Rattle.aig_sim.specs.Parts.Groups.{IsTable}
 use Rattle.aig_sim.specs.Parts.Lanes.{IsLane}
-use Rattle.aig_sim.specs.Parts.Lines.{row_read}
+use Rattle.aig_sim.specs.Parts.Lines.{Keeping, line_size, row_read}
 use Rattle.aig_sim.specs.Parts.Strips.{text_in}
 use Rattle.aig_sim.specs.Parts.Tables.{read_from}
 use Rattle.aig_sim.specs.TraceText.{row_text, rows_text, values_text}
@@ -29,10 +30,6 @@ abbrev pub shown_size : Shown → ℕ
 shown_size shown =
     length shown.state.items + length shown.outputs.items + length shown.next.items + length shown.bad.items
     + length shown.constraints.items + 6
-
--- so many bytes are room for the line of each step of a run
-abbrev pub HasRoomFor : Shown → ℕ → Run → Type 0
-HasRoomFor shown room run = All (λ (vector : List Val). shown_size shown + length vector ≤ room) run.steps
 
 -- the columns of bad states and constraints in a lane, where they are asked for
 abbrev pub shown_properties : Columns → ℕ → Shown → List ℕ
@@ -61,12 +58,30 @@ pub record AreShown (columns : Columns) (c : Circuit) (lane : ℕ) (values befor
   pub next : text_in lane shown.next.items ≡ values_text (map (literal_value (read_from values)) (next_literals c))
   pub properties : AreShownToo columns c lane values shown.bad.items shown.constraints.items
 
+-- there is room behind a text for the line of a step that a run has
+abbrev pub FitsBehind : Shown → Run → ℕ → Keeping → Type 0
+FitsBehind shown run step text = step < length run.steps
+    → length text.bytes + (shown_size shown + length (slice_index_or run.steps step [])) ≤ text.room
+
 -- What a step of its lane does to the text of a run: where the run has the step, its line is added, and else nothing.
-pub record Extended (columns : Columns) (run : Run) (step lane : ℕ) (shown : Shown) (before after : List ℕ)
+pub record Extended (columns : Columns) (run : Run) (step lane : ℕ) (shown : Shown) (before after : Keeping)
     : Type 0 where
-  pub row : step < length run.steps
-      → after ≡ before ++ shown_text columns lane (values_text (slice_index_or run.steps step [])) shown
-  pub ended : length run.steps ≤ step → after ≡ before
+  pub row : step < length run.steps → after.bytes
+      ≡ before.bytes ++ shown_text columns lane (values_text (slice_index_or run.steps step [])) shown
+  pub size : step < length run.steps → length after.bytes
+      ≤ length before.bytes + (shown_size shown + length (slice_index_or run.steps step []))
+  pub ended : length run.steps ≤ step → after.bytes ≡ before.bytes
+  pub room : after.room ≡ before.room
+
+-- the texts have as much room as they had
+abbrev pub SameRoom : (before after : List Keeping) → Type 0
+SameRoom before after =
+    (j : ℕ) (e : Keeping) → (slice_index_or after j e).room ≡ (slice_index_or before j e).room
+
+-- each run has room in its lane for lines of this length, one for each step
+abbrev pub HaveRoom : ℕ → List Run → List Keeping → Type 0
+HaveRoom line runs texts = (j : ℕ) (d : Run) (e : Keeping) → j < length runs
+    → length (slice_index_or runs j d).steps * line ≤ (slice_index_or texts j e).room
 
 -- What a step of its lane does to the text of a run: where the run has the step, a line is added, which shows what
 -- stands in the lane; where the run has ended, the text stays, whatever its lane holds.
@@ -91,3 +106,19 @@ pub record IsTextOf (columns : Columns) (c : Circuit) (run : Run) (text : List �
   pub rows : List Row
   pub traced : IsTrace c (reset_state c) run.steps rows
   pub is : text ≡ rows_text columns rows
+
+-- no step was taken yet
+pub record HasBegun (c : Circuit) (table state : List (List ℕ)) (texts : List Keeping) : Type 0 where
+  pub table_is : (l : ℕ) → l < 256 → IsLane l table (replicate (1 + c.max_var) X)
+  pub state_is : (l : ℕ) → l < 256 → IsLane l state (reset_state c)
+  pub texts_are : (j : ℕ) (e : Keeping) → j < 256 → (slice_index_or texts j e).bytes ≡ []
+
+-- so many steps were taken, and the run has room for those that are left
+pub record HasRoom (c : Circuit) (run : Run) (steps : ℕ) (text : Keeping) : Type 0 where
+  pub room : length run.steps * line_size c ≤ text.room
+  pub size : length text.bytes ≤ steps * line_size c
+
+-- each of the runs has
+abbrev pub AllHaveRoom : Circuit → List Run → ℕ → List Keeping → Type 0
+AllHaveRoom c runs steps texts = (j : ℕ) (d : Run) (e : Keeping) → j < length runs
+    → HasRoom c (slice_index_or runs j d) steps (slice_index_or texts j e)

@@ -2,6 +2,7 @@
 use Rattle.std.specs.Prelude.{◌≡◌, ◌+◌, ◌≤◌, ◌++◌, ℕ, List, [], ◌∷◌, codes, length, map}
 use Rattle.std.specs.List.{flat_map}
 use Rattle.aig_core.specs.declared.circuit.Circuit.{Circuit}
+use Rattle.aig_io.specs.Output.{Out, Put}
 use Rattle.aig_sim.specs.declared.run.Run.{Run}
 use Rattle.aig_sim.specs.declared.trace.Columns.{Columns}
 use Rattle.aig_sim.specs.Stimulus.{Entry, Step, Stop}
@@ -20,12 +21,22 @@ pub record Says (inputs : ℕ) (bytes : List ℕ) (lines : ℕ) (entries : List 
   pub heard : (front : List ℕ) (count : ℕ) (before : List Entry) → IsHeard inputs front count [] before
       → IsHeard inputs (front ++ passed) (count + lines) [] (before ++ entries)
 
+abbrev pub entries_of_group : List Run → List Entry
+entries_of_group runs = flat_map entries_of_run runs
+
+abbrev pub entries_of_groups : List (List Run) → List Entry
+entries_of_groups groups = flat_map entries_of_group groups
+
 -- the texts of runs, each with the line that ends it
 abbrev pub text_of_group : List (List ℕ) → List ℕ
 text_of_group texts = flat_map (λ (text : List ℕ). text ++ codes ".\n") texts
 
-abbrev pub text_of_groups : List (List (List ℕ)) → List ℕ
-text_of_groups groups = flat_map text_of_group groups
+-- the text for groups of runs was put
+pub record PutRuns {W : Type 0} (c : Circuit) (columns : Columns) (groups : List (List Run)) (before after : Out W)
+    : Type 0 where
+  pub text : List ℕ
+  pub put : Put before after text
+  pub goes : Goes c columns (begin_of c) (entries_of_groups groups) (begin_of c) text
 
 -- The bytes begin with so many lines, which are whole runs, and this is the text for them.
 pub record IsFront (c : Circuit) (columns : Columns) (bytes text : List ℕ) (lines : ℕ) (rest : List ℕ) : Type 0 where

@@ -1,5 +1,6 @@
--- The stimulus of a run as characters: those of each step, one step behind the other. Only private functions cite this.
-use Rattle.std.specs.Prelude.{◌≡◌, ◌*◌, ℕ, zero, suc, List, [], ◌∷◌, Option, None, Some}
+-- The steps of a run where they stand: lines of one length, each of which begins with the characters of the inputs.
+-- Only private functions cite this.
+use Rattle.std.specs.Prelude.{◌≡◌, ◌+◌, ◌*◌, ◌<◌, ◌≤◌, ℕ, zero, suc, List, [], ◌∷◌, Option, None, Some}
 use Rattle.std.specs.Prelude.{drop, is_some, length, take, true}
 use Rattle.aig_core.specs.declared.value.Val.{Val}
 use Rattle.aig_sim.specs.Stimulus.{values_of}
@@ -9,16 +10,13 @@ abbrev pub said : Option (List Val) → List Val
 said None = []
 said (Some values) = values
 
--- so many pieces of this size
-abbrev pub pieces : ℕ → ℕ → List Val → List (List Val)
-pieces size zero values = []
-pieces size (suc count) values = take size values ∷ pieces size count (drop size values)
+-- the vectors that so many lines of this length say
+abbrev pub vectors_in : (inputs stride steps : ℕ) → List ℕ → List (List Val)
+vectors_in inputs stride zero lines = []
+vectors_in inputs stride (suc steps) lines =
+    said (values_of (take inputs lines)) ∷ vectors_in inputs stride steps (drop stride lines)
 
--- the vectors of so many steps with so many inputs, by their characters
-abbrev pub vectors_in : ℕ → ℕ → List ℕ → List (List Val)
-vectors_in inputs steps characters = pieces inputs steps (said (values_of characters))
-
--- as many characters as there are inputs in all steps, each of which stands for a value
-pub record AreVectors (inputs steps : ℕ) (characters : List ℕ) : Type 0 where
-  pub long : length characters ≡ steps * inputs
-  pub good : is_some (values_of characters) ≡ true
+-- each of them is there, and says one
+pub record AreVectors (inputs stride steps : ℕ) (lines : List ℕ) : Type 0 where
+  pub within : (k : ℕ) → k < steps → k * stride + inputs ≤ length lines
+  pub good : (k : ℕ) → k < steps → is_some (values_of (take inputs (drop (k * stride) lines))) ≡ true

@@ -5,13 +5,13 @@ use Rattle.aig_sim.specs.declared.run.Run.{Run}
 use Rattle.aig_sim.specs.Parts.RunsRead.{Says, entries_of_run}
 use Rattle.aig_sim.proofs.runs_read.read_group.Given as goal
 
-abbrev pub invariant-loop-alloc : goal.invariant-loop-alloc
-invariant-loop-alloc l = record {
+abbrev pub invariant-loop-rest : goal.invariant-loop-rest
+invariant-loop-rest l = record {
   says : Says l.inputs l.bytes l.lines (flat_map entries_of_run l.runs.items) l.rest;
   fits : All (λ (run : Run). All (λ (vector : List Val). length vector ≡ l.inputs) run.steps) l.runs.items;
   few : length l.runs.items ≤ 256;
   some : length l.runs.items ≤ l.lines;
 }
 
-abbrev pub decreases-loop-alloc : goal.decreases-loop-alloc
-decreases-loop-alloc l = 256 - length l.runs.items
+abbrev pub decreases-loop-rest : goal.decreases-loop-rest
+decreases-loop-rest l = 256 - length l.runs.items

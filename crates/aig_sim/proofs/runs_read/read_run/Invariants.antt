@@ -1,14 +1,15 @@
-use Rattle.std.specs.Prelude.{◌≡◌, List, length, map}
-use Rattle.std.specs.List.{All}
-use Rattle.aig_core.specs.declared.value.Val.{Val}
+use Rattle.std.specs.Prelude.{◌≡◌, ◌*◌, drop, length, map}
 use Rattle.aig_sim.specs.Stimulus.{Step}
 use Rattle.aig_sim.specs.Parts.RunsRead.{Says}
+use Rattle.aig_sim.specs.Parts.Vectors.{AreVectors, vectors_in}
 use Rattle.aig_sim.proofs.runs_read.read_run.Given as goal
 
 abbrev pub invariant-loop-next : goal.invariant-loop-next
 invariant-loop-next l = record {
-  says : Says l.inputs l.bytes (length l.run.steps) (map Step l.run.steps) l.rest;
-  fits : All (λ (vector : List Val). length vector ≡ l.inputs) l.run.steps;
+  says : Says l.inputs l.bytes (length (vectors_in l.inputs l.stride l.steps l.bytes))
+      (map Step (vectors_in l.inputs l.stride l.steps l.bytes)) l.rest;
+  are : AreVectors l.inputs l.stride l.steps l.bytes;
+  rest_is : l.rest ≡ drop (l.steps * l.stride) l.bytes;
 }
 
 abbrev pub decreases-loop-next : goal.decreases-loop-next

@@ -7,17 +7,18 @@ use Rattle.aig_sim.proofs.text_group.step_all_texts.Goals as goal
 pub loop-step-preserved : goal.loop-step-preserved
 loop-step-preserved c = record {
   stand = λ j d e below start.
-      c.in_ok-step_texts.ensures.stands j d e below (c.loop-step.invariant.stand j d e below start);
+      c.step_texts.ensures.stands j d e below (c.loop-step.invariant.stand j d e below start);
   given = c.step_texts.auto.given ∙ c.loop-step.invariant.given;
-  line = c.step_texts.auto.line ∙ c.loop-step.invariant.line;
-  strips = c.step_texts.ensures.strips;
   table = c.step_texts.auto.table ∙ c.loop-step.invariant.table;
   state = c.step_texts.auto.state ∙ c.loop-step.invariant.state;
-  texts = c.step_texts.auto.texts ∙ c.loop-step.invariant.texts;
+  texts = c.step_texts.ensures.texts ∙ c.loop-step.invariant.texts;
+  same = λ j e. c.step_texts.ensures.same j e ∙ c.loop-step.invariant.same j e;
+  room = c.step_texts.ensures.room;
+  strips = c.step_texts.ensures.strips;
 }
 
-pub returns : goal.returns
-returns c j d e below start =
+pub returns-clause-all : goal.returns-clause-all
+returns-clause-all c j d e below start =
     let machine = c.args.machine.now in
     let run = get_or c.args.runs.now j d in
     let stood = c.loop-step.invariant.stand j d e below start in

@@ -6,6 +6,6 @@ pub with_room-requires : goal.with_room-requires
 with_room-requires c = λ row is.
     omega (
       arith,
-      c.line_room.ensures,
+      c.line_room.ensures.size,
       row_fits c.args.checked.now c.in_ok-machine.machine row c.in_ok-machine.ensures is,
     )
