@@ -50,9 +50,9 @@ def literals(chance, literal, most):
     return [literal() for _ in range(chance.randrange(most))]
 
 
-def circuit(chance, may_be_cyclic=False, most_latches=3, most_inputs=4):
+def circuit(chance, may_be_cyclic=False, most_latches=3, most_inputs=4, most_gates=11):
     """A circuit made by chance."""
-    inputs, latches, count = (chance.randrange(most) for most in (most_inputs + 1, most_latches + 1, 12))
+    inputs, latches, count = (chance.randrange(most + 1) for most in (most_inputs, most_latches, most_gates))
     total = inputs + latches + count
     largest = chance.choice([total + 3, 1000, 2147483647])
     variables = chance.sample(range(1, largest + 1), total)

@@ -104,20 +104,29 @@ def unrolled(made, frames):
     )
 
 
-def frames_as_step(made, first, rows):
-    """The trace line of the unrolled circuit, by the source's own equations: from these first values of latches without a
-    reset, over these inputs of each frame."""
-    order, free = images.placed(made.gates), iter(first)
-    state = "".join(next(free) if reset == "x" else reset for reset in made.resets)
-    outputs, bad, held = "", "", "1"
-    for given in rows:
-        _, line, state = traces.step(made, order, state, given)
-        _, _, shown, _, states, constraints = line.split(" ")
+def side_by_side(first, lines):
+    """The trace line of the unrolled circuit, where these are the lines of its frames, with properties, and these the
+    first values of latches without a reset."""
+    given, outputs, bad, held = "", "", "", "1"
+    for line in lines:
+        _, inputs, shown, _, states, constraints = line.split(" ")
+        given += inputs
         outputs += shown
         for constraint in constraints:
             held = traces.conjunction(held, constraint)
         bad += "".join(traces.conjunction(held, it) for it in states)
-    return f" {first}{''.join(rows)} {outputs}  {bad} \n"
+    return f" {first}{given} {outputs}  {bad} \n"
+
+
+def frames_as_step(made, first, rows):
+    """The trace line of the unrolled circuit, by the source's own equations: from these first values of latches without a
+    reset, over these inputs of each frame."""
+    order, free, lines = images.placed(made.gates), iter(first), []
+    state = "".join(next(free) if reset == "x" else reset for reset in made.resets)
+    for given in rows:
+        _, line, state = traces.step(made, order, state, given)
+        lines.append(line)
+    return side_by_side(first, lines)
 
 
 def lines_of_steps(chance, made, frames):
