@@ -39,9 +39,10 @@ RT
 chmod +x "$work/rt"
 cp "$program" "$work/program"
 
-launch() { RT=$work/rt "$tree/aiger" "$@"; }
-calls() { wc -l < "$work/calls"; }
-edit() { echo '// more' >> "$tree/crates/low/src/lib.rt"; }
+# look_again: the next launch looks at the sources, even in the same second as the one before it
+look_again() { rm -f "$tree/crates/aiger/out/launch.seen"; }
+launch() { look_again && RT=$work/rt "$tree/aiger" "$@"; }
+edit() { echo '// more' >> "$tree/crates/low/src/lib.rt" && look_again; }
 begins='aiger: proving and linking the program, about ten minutes the first time ..
 aiger: proving 1 of 2: low ..
 aiger:   0 of 2 functions checked
@@ -153,9 +154,42 @@ mkdir "$tree/crates/low/out" "$tree/crates/low/must-fail"
 touch "$tree/crates/low/out/kept" "$tree/crates/low/must-fail/wrong.edit"
 check 'what rt keeps beside the sources, and edits that must fail' launch aigtoaig --ascii < "$work/small"
 
+# --- within one second ---
+# twice: two launches in one second, between which the stamp goes; what the second one gives. Where a second ends between
+# them it starts over.
+twice() {
+    local status moment
+    for _ in {1..50}; do
+        moment=$EPOCHSECONDS
+        launch aigtoaig --ascii < "$work/small" > /dev/null 2>&1
+        rm -f "$tree/crates/aiger/out/launch.stamp"
+        : > "$work/calls"
+        RT=$work/rt "$tree/aiger" aigtoaig --ascii < "$work/small" > "$work/second" 2>&1
+        status=$?
+        [ "$moment" != "$EPOCHSECONDS" ] || break
+    done
+    cat "$work/second"
+    return "$status"
+}
+wants "$small" '' 0
+check 'the sources are not looked at twice in a second' twice
+wants '' '' 0
+check 'so nothing is proved then' cat "$work/calls"
+wants "$small" "$proves" 0
+check 'but in the next second' launch aigtoaig --ascii < "$work/small"
+# old_mark SECONDS RT: as a launch so many seconds ago left it
+old_mark() { echo "$((EPOCHSECONDS - $1)) $2" > "$tree/crates/aiger/out/launch.seen"; }
+for mark in "1 $work/rt" "0 $work/none" "-60 $work/rt"; do
+    edit
+    read -r ago known <<< "$mark"
+    old_mark "$ago" "$known"
+    check "a mark of $ago seconds ago" env RT="$work/rt" "$tree/aiger" aigtoaig --ascii < "$work/small"
+done
+
 # --- no rt ---
 with_rt() { ( export RT=$1 && shift && exec "$@" ); }
 on_the_path() { ( unset RT; export PATH=$1:/usr/bin:/bin && shift && exec "$@" ); }
+wants "$small" '' 0
 check 'a linked program needs no rt' with_rt "$work/none" "$tree/aiger" aigtoaig --ascii < "$work/small"
 edit
 wants '' "aiger: cannot prove and link the program: there is no command $work/none\n" 125
