@@ -49,7 +49,7 @@ a later line of the stimulus is refused, what was written stands.
 With --batch the trace is the same, but the whole stimulus is read before
 anything is written. If a line of it is refused, nothing is written. Many runs
 go side by side, which is faster for a large circuit. This takes memory for the
-stimulus and the trace.
+stimulus and the trace of 256 runs.
 
 With --witness a witness stands in the place of the stimulus: a run that is to
 reach a bad state. Its lines are 1, then b and the number of the bad state,
