@@ -1,7 +1,9 @@
 //! The text of a map block.
-ghost use Rattle.std.specs.Prelude.{◌≡◌, ◌+◌, ◌++◌, ◌∷◌, ◌≤◌, [], length, decimal, IfOk, OnOk};
+ghost use Rattle.std.specs.Io.KnownBytes.{Appends};
+ghost use Rattle.std.specs.Prelude.{◌≡◌, ◌+◌, ◌-◌, ◌^◌, ◌<◌, ◌≤◌, length, IfOk, OnOk};
 ghost use Rattle.std.specs.List.{flat_map};
-ghost use Rattle.aig_text.specs.AsciiText.{spaced_number, more_numbers_text, numbers_text};
+ghost use Rattle.aig_io.specs.Output.{Put};
+ghost use Rattle.aig_text.specs.AsciiText.{numbers_text};
 ghost use Rattle.aig_image.specs.Parts.Numbers.{number_of};
 ghost use Rattle.aig_image.specs.Relabelled.{FitIntoLiterals};
 ghost use Rattle.aig_order.specs.MapBlock.{block_by, block_text, first_line_text, gate_row, mapped_comment, mapped_gate};
@@ -9,9 +11,10 @@ ghost use Rattle.aig_order.specs.MapBlock.{variable_row};
 ghost use Rattle.aig_order.specs.Parts.Recorded.{counted_row};
 
 use crate::map_block::MappedGate;
-use aig_core::{Circuit, Gate, LARGEST, Listing, OutOfMemory};
+use crate::text_sink::TextSink;
+use aig_core::{Circuit, DeviceFault, Gate, LARGEST, Listing, OutOfMemory, Output, Sink};
 use aig_image::{Defines, NamesVariables, Numbers};
-use itoa::Buffer;
+use aig_text::put_numbers;
 use std::alloc::Global;
 
 /// The version of the map block's form.
@@ -26,70 +29,32 @@ const GATE_LINE: usize = 24;
 /// How many bytes the first and the last line have at most.
 const OTHER_LINES: usize = 66;
 
-/// Adds a number.
-fn put_number(text: &mut Vec<u8>, number: u64) -> Result<(), OutOfMemory>
-    ensures { OnOk result (text.new.items ≡ text.old.items ++ decimal number) }
+/// Puts the first line.
+fn put_first_line<W: Sink>(output: &mut Output<W>, circuit: &Circuit)
+    ensures { Put output.old output.new (first_line_text (counted_row circuit.now)) }
 {
-    let mut buffer = Buffer::new();
-    text.extend_from_slice(buffer.format(number).as_bytes())?;
-    Ok(())
-}
-
-/// Adds a space and a number.
-fn put_spaced_number(text: &mut Vec<u8>, number: u64) -> Result<(), OutOfMemory>
-    ensures { OnOk result (text.new.items ≡ text.old.items ++ spaced_number number) }
-{
-    text.push(b' ')?;
-    put_number(text, number)
-}
-
-/// Adds each number after a space, and the line feed.
-fn put_more_numbers(text: &mut Vec<u8>, numbers: &[u64]) -> Result<(), OutOfMemory>
-    ensures { OnOk result (text.new.items ≡ text.old.items ++ more_numbers_text numbers.now) }
-{
-    for number in numbers {
-        put_spaced_number(text, *number)?;
-    }
-    text.push(b'\n')?;
-    Ok(())
-}
-
-/// Adds a line of numbers: the first and the others.
-fn put_row(text: &mut Vec<u8>, first: u64, others: &[u64]) -> Result<(), OutOfMemory>
-    ensures { OnOk result (text.new.items ≡ text.old.items ++ numbers_text (first ∷ others.now)) }
-{
-    put_number(text, first)?;
-    put_more_numbers(text, others)
-}
-
-/// Adds the first line.
-fn put_first_line(text: &mut Vec<u8>, circuit: &Circuit) -> Result<(), OutOfMemory>
-    ensures { OnOk result (text.new.items ≡ text.old.items ++ first_line_text (counted_row circuit.now)) }
-{
-    let row = [
-        VERSION,
+    let others = [
         u64::from(circuit.max_var),
         circuit.inputs.len() as u64,
         circuit.latches.len() as u64,
         circuit.gates.len() as u64,
         u64::from(circuit.comment.is_some()),
     ];
-    text.extend_from_slice(b"aigmap")?;
-    put_more_numbers(text, &row)
+    output.put(b"aigmap ");
+    put_numbers(output, VERSION, &others);
 }
 
-/// Adds a line for each of these, with the variable that it defines.
-fn put_variables<T: Defines>(text: &mut Vec<u8>, items: &[T]) -> Result<(), OutOfMemory>
-    ensures { OnOk result (text.new.items ≡ text.old.items
-        ++ flat_map (λ x. numbers_text (variable_row (T.variable x))) items.now) }
+/// Puts a line for each of these, with the variable that it defines.
+fn put_variables<T: Defines, W: Sink>(output: &mut Output<W>, items: &[T])
+    ensures { Put output.old output.new (flat_map (λ x. numbers_text (variable_row (T.variable x))) items.now) }
 {
     for item in items {
-        put_row(text, u64::from(item.variable().0), &[])?;
+        put_numbers(output, u64::from(item.variable().0), &[]);
     }
-    Ok(())
 }
 
 /// What the block records of a gate; the first gate of the image has the number `first`.
+#[inline(always)]
 fn mapped_gate(numbers: &Numbers, first: u32, gate: &Gate) -> MappedGate
     requires { FitIntoLiterals (number_of numbers.now) }
     ensures { result ≡ mapped_gate (number_of numbers.now) first gate.now }
@@ -102,46 +67,69 @@ fn mapped_gate(numbers: &Numbers, first: u32, gate: &Gate) -> MappedGate
     }
 }
 
-/// Adds the line of a gate.
-fn put_gate(text: &mut Vec<u8>, gate: MappedGate) -> Result<(), OutOfMemory>
-    ensures { OnOk result (text.new.items ≡ text.old.items ++ numbers_text (gate_row gate)) }
+/// Puts the line of a gate.
+#[inline(always)]
+fn put_gate<W: Sink>(output: &mut Output<W>, gate: MappedGate)
+    ensures { Put output.old output.new (numbers_text (gate_row gate)) }
 {
     let others = [u64::from(gate.place), u64::from(gate.exchanged)];
-    put_row(text, u64::from(gate.var.0), &others)
+    put_numbers(output, u64::from(gate.var.0), &others);
 }
 
-/// Adds the lines of the gates, where the first one has this new number.
-fn put_gates(
-    text: &mut Vec<u8>,
-    numbers: &Numbers,
-    first: u32,
-    gates: &[Gate],
-) -> Result<(), OutOfMemory>
+/// Puts the lines of the gates, where the first one has this new number.
+#[inline(never)]
+fn put_gates<W: Sink>(output: &mut Output<W>, numbers: &Numbers, first: u32, gates: &[Gate])
     requires { FitIntoLiterals (number_of numbers.now) }
-    ensures { OnOk result (text.new.items ≡ text.old.items
-        ++ flat_map (λ g. numbers_text
+    ensures { Put output.old output.new (flat_map (λ g. numbers_text
         (gate_row (mapped_gate (number_of numbers.now) first g))) gates.now) }
 {
     for gate in gates {
-        put_gate(text, mapped_gate(numbers, first, gate))?;
+        put_gate(output, mapped_gate(numbers, first, gate));
     }
-    Ok(())
 }
 
-/// Adds the map block of a circuit whose variables get these numbers.
-fn put_block(text: &mut Vec<u8>, numbers: &Numbers, circuit: &Circuit) -> Result<(), OutOfMemory>
+/// Puts the map block of a circuit whose variables get these numbers.
+fn put_block<W: Sink>(output: &mut Output<W>, numbers: &Numbers, circuit: &Circuit)
     requires small { FitIntoLiterals (number_of numbers.now) }
     requires fits { length circuit.now.inputs + length circuit.now.latches ≤ LARGEST }
-    ensures { OnOk result (text.new.items ≡ text.old.items
-        ++ block_text (block_by (number_of numbers.now) circuit.now)) }
+    ensures { Put output.old output.new (block_text (block_by (number_of numbers.now) circuit.now)) }
 {
     let first_gate = (1 + circuit.inputs.len() + circuit.latches.len()) as u32;
-    put_first_line(text, circuit)?;
-    put_variables(text, circuit.inputs.as_slice())?;
-    put_variables(text, circuit.latches.as_slice())?;
-    put_gates(text, numbers, first_gate, circuit.gates.as_slice())?;
-    text.extend_from_slice(b"aigmap end\n")?;
-    Ok(())
+    put_first_line(output, circuit);
+    put_variables(output, circuit.inputs.as_slice());
+    put_variables(output, circuit.latches.as_slice());
+    put_gates(output, numbers, first_gate, circuit.gates.as_slice());
+    output.put(b"aigmap end\n");
+}
+
+/// Puts the comment of the mapped image of such a circuit: the map block, and then what its own comment holds.
+fn put_comment<W: Sink>(output: &mut Output<W>, numbers: &Numbers, circuit: &Circuit)
+    requires small { FitIntoLiterals (number_of numbers.now) }
+    requires fits { length circuit.now.inputs + length circuit.now.latches ≤ LARGEST }
+    ensures { Put output.old output.new (mapped_comment (block_by (number_of numbers.now) circuit.now) circuit.now) }
+{
+    put_block(output, numbers, circuit);
+    if let Some(comment) = &circuit.comment {
+        output.put(comment.as_slice());
+    }
+}
+
+/// Writes that comment to a sink.
+fn write_comment<W: Sink>(
+    numbers: &Numbers,
+    circuit: &Circuit,
+    sink: &mut W,
+) -> Result<(), DeviceFault>
+    requires small { FitIntoLiterals (number_of numbers.now) }
+    requires fits { length circuit.now.inputs + length circuit.now.latches ≤ LARGEST }
+    requires unfailed { W.failed sink.old < 2 ^ 64 - 1 }
+    ensures { OnOk result (Appends (W.taken sink.old) (W.taken sink.new)
+        (mapped_comment (block_by (number_of numbers.now) circuit.now) circuit.now)) }
+{
+    let mut output = Output::new(sink);
+    put_comment(&mut output, numbers, circuit);
+    let (sent, _sink) = output.finish();
+    sent
 }
 
 /// How many bytes the comment of a mapped image has at most. Room for them is reserved at once; the system gives no
@@ -169,10 +157,10 @@ pub(crate) fn map_comment(
     requires fits { length circuit.now.inputs + length circuit.now.latches ≤ LARGEST }
     ensures { IfOk result (λ r. r ≡ mapped_comment (block_by (number_of numbers.now) circuit.now) circuit.now) }
 {
-    let mut text = Vec::with_capacity(alloc, most_bytes(circuit))?;
-    put_block(&mut text, numbers, circuit)?;
-    if let Some(comment) = &circuit.comment {
-        text.extend_from_slice(comment.as_slice())?;
+    let mut kept = TextSink::with_room(alloc, most_bytes(circuit))?;
+    match write_comment(numbers, circuit, &mut kept) {
+        Ok(()) => Ok(kept.into_text()),
+        // the sink fails only where memory is refused
+        Err(_) => Err(OutOfMemory),
     }
-    Ok(Listing::from_vec(text))
 }

@@ -1,40 +1,25 @@
--- What is added to a text: by a loop so far, by a line of numbers, and by a map block.
-use Rattle.std.proofs.Common.{◌≡◌, ◌+◌, ◌<◌, ◌≤◌, ℕ, List, [], ◌∷◌, ◌++◌, length, get_or, take, map, codes}
-use Rattle.std.proofs.Common.{sym, ap, ap₂, ◌∙◌, append_assoc}
+-- The text of a map block, part by part as it is put.
+use Rattle.std.proofs.Common.{◌≡◌, ◌+◌, ℕ, List, [], ◌∷◌, ◌++◌, length, map}
+use Rattle.std.proofs.Common.{sym, ap, ap₂, ◌∙◌, append_assoc, subst}
 use Rattle.std.specs.List.{flat_map}
 use Rattle.std.specs.Option.{is_some}
-use Rattle.std.proofs.lemmas.List.{take_all, take_more, flat_map_more, length-map}
+use Rattle.std.proofs.lemmas.List.{length-map}
 use Rattle.std.proofs.lemmas.List.Concat.{flat_map-append}
 use Rattle.std.proofs.lemmas.List.Folds.{flat_map-map}
+use Rattle.aig_io.specs.Output.{Out, Put}
+use Rattle.aig_io.proofs.Puts.{put_twice}
 use Rattle.aig_core.specs.declared.circuit.Latch.{Latch}
 use Rattle.aig_core.specs.declared.circuit.Gate.{Gate}
 use Rattle.aig_core.specs.declared.circuit.Circuit.{Circuit}
-use Rattle.aig_text.specs.AsciiText.{spaced_number, more_numbers_text, numbers_text}
-use Rattle.aig_text.proofs.Written.{more_text}
+use Rattle.aig_text.specs.AsciiText.{numbers_text}
 use Rattle.aig_order.specs.declared.map_block.MappedGate.{MappedGate}
 use Rattle.aig_order.specs.MapBlock.{one_if, first_row, variable_row, gate_row, rows_of, first_line_text, last_line}
 use Rattle.aig_order.specs.MapBlock.{block_by, block_text, mapped_gate}
 use Rattle.aig_order.specs.Parts.Recorded.{counted_row}
 
--- the texts of the first items, and of one more
-pub added_more : {X : Type 0} (f : X → List ℕ) (before : List ℕ) (xs : List X) (i : ℕ) (d x : X) (now after : List ℕ)
-    → i < length xs → x ≡ get_or xs i d → now ≡ before ++ flat_map f (take i xs) → after ≡ now ++ f x
-    → after ≡ before ++ flat_map f (take (i + 1) xs)
-added_more f before xs i d x now after low is so more =
-    more ∙ ap₂ (λ a y. a ++ f y) so is ∙ flat_map_more f before (take i xs) (get_or xs i d)
-    ∙ ap (λ ys. before ++ flat_map f ys) (sym (take_more xs i d low))
-
--- all numbers of a line, and its end
-pub line_ended : (before ns : List ℕ) (i : ℕ) (now after : List ℕ)
-    → length ns ≤ i → now ≡ before ++ flat_map spaced_number (take i ns) → after ≡ now ++ codes "\n"
-    → after ≡ before ++ more_numbers_text ns
-line_ended before ns i now after all so more =
-    more ∙ ap (λ t. t ++ codes "\n") (so ∙ ap (λ ys. before ++ flat_map spaced_number ys) (take_all i ns all))
-    ∙ append_assoc before (flat_map spaced_number ns) (codes "\n") ∙ ap (λ t. before ++ t) (more_text ns)
-
--- texts that were added one after the other
-in_turn : (a b c d e f : List ℕ) → ((((a ++ b) ++ c) ++ d) ++ e) ++ f ≡ a ++ (b ++ (((c ++ d) ++ e) ++ f))
-in_turn a b c d e f = simp append_assoc
+-- three sections and the last line
+in_turn : (a b d last : List ℕ) → a ++ (b ++ (d ++ last)) ≡ ((a ++ b) ++ d) ++ last
+in_turn a b d last = simp append_assoc
 
 module _ (number : ℕ → ℕ) (c : Circuit) where
   abbrev of_variable : ℕ → List ℕ
@@ -86,23 +71,29 @@ module _ (number : ℕ → ℕ) (c : Circuit) where
       (flat_map-append numbers_text inputs latches ∙ ap₂ (λ (a b : List ℕ). a ++ b) inputs_text latches_text)
       gates_text)
 
-  -- the lines of a block, one section after the other
-  pub block_added : (t u v w x y : List ℕ) (first : ℕ) (inputs : List ℕ) (latches : List Latch) (gates : List Gate)
-      → first ≡ first_gate → inputs ≡ c.inputs → latches ≡ c.latches → gates ≡ c.gates
-      → u ≡ t ++ first_line_text (counted_row c)
-      → v ≡ u ++ flat_map of_variable inputs → w ≡ v ++ flat_map of_latch latches
-      → x ≡ w ++ flat_map (of_gate first) gates → y ≡ x ++ last_line
-      → y ≡ t ++ block_text (block_by number c)
+  parts_text : first_line_text (counted_row c)
+      ++ (flat_map of_variable c.inputs ++ (flat_map of_latch c.latches
+      ++ (flat_map (of_gate first_gate) c.gates ++ last_line))) ≡ block_text (block_by number c)
   unfolding block_text
-  block_added t u v w x y first inputs latches gates is_f is_i is_l is_g to_u to_v to_w to_x to_y =
-      let front : List ℕ = first_line_text (counted_row c) in
-      let a : List ℕ = flat_map of_variable c.inputs in
-      let b : List ℕ = flat_map of_latch c.latches in
-      let d : List ℕ = flat_map (of_gate first_gate) c.gates in
-      let v_is : v ≡ (t ++ front) ++ a = to_v ∙ ap₂ (λ n ns. n ++ flat_map of_variable ns) to_u is_i in
-      let w_is : w ≡ ((t ++ front) ++ a) ++ b = to_w ∙ ap₂ (λ n ls. n ++ flat_map of_latch ls) v_is is_l in
-      let gates_here : flat_map (of_gate first) gates ≡ d =
-      ap₂ (λ n gs. flat_map (of_gate n) gs) is_f is_g in
-      let x_is : x ≡ (((t ++ front) ++ a) ++ b) ++ d = to_x ∙ ap₂ (λ (n m : List ℕ). n ++ m) w_is gates_here in
-      to_y ∙ ap (λ n. n ++ last_line) x_is ∙ in_turn t front a b d last_line
-      ∙ ap₂ (λ row (rows : List ℕ). t ++ (first_line_text row ++ (rows ++ last_line))) first_is rows_text
+  parts_text =
+      ap (λ (rows : List ℕ). first_line_text (counted_row c) ++ rows)
+      (in_turn (flat_map of_variable c.inputs) (flat_map of_latch c.latches) (flat_map (of_gate first_gate) c.gates)
+      last_line)
+      ∙ ap₂ (λ row (rows : List ℕ). first_line_text row ++ (rows ++ last_line)) first_is rows_text
+
+  module _ {W : Type 0} where
+    -- the lines of a block, one section after the other
+    pub block_put : (t u v w x y : Out W) (first : ℕ) (inputs : List ℕ) (latches : List Latch) (gates : List Gate)
+        → first ≡ first_gate → inputs ≡ c.inputs → latches ≡ c.latches → gates ≡ c.gates
+        → Put t u (first_line_text (counted_row c))
+        → Put u v (flat_map of_variable inputs) → Put v w (flat_map of_latch latches)
+        → Put w x (flat_map (of_gate first) gates) → Put x y last_line
+        → Put t y (block_text (block_by number c))
+    block_put t u v w x y first inputs latches gates is_f is_i is_l is_g to_u to_v to_w to_x to_y =
+        let here : flat_map (of_gate first) gates ≡ flat_map (of_gate first_gate) c.gates =
+        ap₂ (λ n gs. flat_map (of_gate n) gs) is_f is_g in
+        subst (λ (text : List ℕ). Put t y text) parts_text
+        (put_twice t u y _ _ to_u
+        (put_twice u v y _ _ (subst (λ ns. Put u v (flat_map of_variable ns)) is_i to_v)
+        (put_twice v w y _ _ (subst (λ ls. Put v w (flat_map of_latch ls)) is_l to_w)
+        (put_twice w x y _ _ (subst (λ (text : List ℕ). Put w x text) here to_x) to_y))))
