@@ -1,3 +1,4 @@
 -- The mapped image.
 pub mod Recorded
 pub mod MappedOrder
+pub mod Alone

@@ -14,6 +14,6 @@ mod undoing;
 mod undone;
 
 pub use crate::fault::MapFault;
-pub use crate::mapped::to_binary_with_map;
+pub use crate::mapped::{into_binary_with_map, to_binary_with_map};
 pub use crate::undoing::undo;
 pub use aig_image::{into_binary, to_binary};

@@ -4,7 +4,6 @@ ghost use Rattle.std.specs.Prelude.{◌≡◌, ◌+◌, ◌-◌, ◌^◌, ◌<�
 ghost use Rattle.std.specs.List.{flat_map};
 ghost use Rattle.aig_io.specs.Output.{Put};
 ghost use Rattle.aig_text.specs.AsciiText.{numbers_text};
-ghost use Rattle.aig_image.specs.Parts.Numbers.{number_of};
 ghost use Rattle.aig_image.specs.Relabelled.{FitIntoLiterals};
 ghost use Rattle.aig_order.specs.MapBlock.{block_by, block_text, first_line_text, gate_row, mapped_comment, mapped_gate};
 ghost use Rattle.aig_order.specs.MapBlock.{variable_row};
@@ -13,7 +12,7 @@ ghost use Rattle.aig_order.specs.Parts.Recorded.{counted_row};
 use crate::map_block::MappedGate;
 use crate::text_sink::TextSink;
 use aig_core::{Circuit, DeviceFault, Gate, LARGEST, Listing, OutOfMemory, Output, Sink};
-use aig_image::{Defines, NamesVariables, Numbers};
+use aig_image::{Defines, Labels, NamesVariables};
 use aig_text::put_numbers;
 use std::alloc::Global;
 
@@ -53,13 +52,13 @@ fn put_variables<T: Defines, W: Sink>(output: &mut Output<W>, items: &[T])
     }
 }
 
-/// What the block records of a gate; the first gate of the image has the number `first`.
+/// What the block records of a gate; the first gate of the image has the variable `first`.
 #[inline(always)]
-fn mapped_gate(numbers: &Numbers, first: u32, gate: &Gate) -> MappedGate
-    requires { FitIntoLiterals (number_of numbers.now) }
-    ensures { result ≡ mapped_gate (number_of numbers.now) first gate.now }
+fn mapped_gate<L: Labels>(labels: &L, first: u32, gate: &Gate) -> MappedGate
+    requires { FitIntoLiterals (L.label labels.now) }
+    ensures { result ≡ mapped_gate (L.label labels.now) first gate.now }
 {
-    let new = gate.relabel(numbers);
+    let new = gate.relabel(labels);
     MappedGate {
         var: gate.var,
         place: new.var.0.saturating_sub(first),
@@ -76,58 +75,58 @@ fn put_gate<W: Sink>(output: &mut Output<W>, gate: MappedGate)
     put_numbers(output, u64::from(gate.var.0), &others);
 }
 
-/// Puts the lines of the gates, where the first one has this new number.
+/// Puts the lines of the gates, where the first one has this label.
 #[inline(never)]
-fn put_gates<W: Sink>(output: &mut Output<W>, numbers: &Numbers, first: u32, gates: &[Gate])
-    requires { FitIntoLiterals (number_of numbers.now) }
+fn put_gates<L: Labels, W: Sink>(output: &mut Output<W>, labels: &L, first: u32, gates: &[Gate])
+    requires { FitIntoLiterals (L.label labels.now) }
     ensures { Put output.old output.new (flat_map (λ g. numbers_text
-        (gate_row (mapped_gate (number_of numbers.now) first g))) gates.now) }
+        (gate_row (mapped_gate (L.label labels.now) first g))) gates.now) }
 {
     for gate in gates {
-        put_gate(output, mapped_gate(numbers, first, gate));
+        put_gate(output, mapped_gate(labels, first, gate));
     }
 }
 
-/// Puts the map block of a circuit whose variables get these numbers.
-fn put_block<W: Sink>(output: &mut Output<W>, numbers: &Numbers, circuit: &Circuit)
-    requires small { FitIntoLiterals (number_of numbers.now) }
+/// Puts the map block of a circuit whose variables get these labels.
+fn put_block<L: Labels, W: Sink>(output: &mut Output<W>, labels: &L, circuit: &Circuit)
+    requires small { FitIntoLiterals (L.label labels.now) }
     requires fits { length circuit.now.inputs + length circuit.now.latches ≤ LARGEST }
-    ensures { Put output.old output.new (block_text (block_by (number_of numbers.now) circuit.now)) }
+    ensures { Put output.old output.new (block_text (block_by (L.label labels.now) circuit.now)) }
 {
     let first_gate = (1 + circuit.inputs.len() + circuit.latches.len()) as u32;
     put_first_line(output, circuit);
     put_variables(output, circuit.inputs.as_slice());
     put_variables(output, circuit.latches.as_slice());
-    put_gates(output, numbers, first_gate, circuit.gates.as_slice());
+    put_gates(output, labels, first_gate, circuit.gates.as_slice());
     output.put(b"aigmap end\n");
 }
 
 /// Puts the comment of the mapped image of such a circuit: the map block, and then what its own comment holds.
-fn put_comment<W: Sink>(output: &mut Output<W>, numbers: &Numbers, circuit: &Circuit)
-    requires small { FitIntoLiterals (number_of numbers.now) }
+fn put_comment<L: Labels, W: Sink>(output: &mut Output<W>, labels: &L, circuit: &Circuit)
+    requires small { FitIntoLiterals (L.label labels.now) }
     requires fits { length circuit.now.inputs + length circuit.now.latches ≤ LARGEST }
-    ensures { Put output.old output.new (mapped_comment (block_by (number_of numbers.now) circuit.now) circuit.now) }
+    ensures { Put output.old output.new (mapped_comment (block_by (L.label labels.now) circuit.now) circuit.now) }
 {
-    put_block(output, numbers, circuit);
+    put_block(output, labels, circuit);
     if let Some(comment) = &circuit.comment {
         output.put(comment.as_slice());
     }
 }
 
 /// Writes that comment to a sink.
-fn write_comment<W: Sink>(
-    numbers: &Numbers,
+fn write_comment<L: Labels, W: Sink>(
+    labels: &L,
     circuit: &Circuit,
     sink: &mut W,
 ) -> Result<(), DeviceFault>
-    requires small { FitIntoLiterals (number_of numbers.now) }
+    requires small { FitIntoLiterals (L.label labels.now) }
     requires fits { length circuit.now.inputs + length circuit.now.latches ≤ LARGEST }
     requires unfailed { W.failed sink.old < 2 ^ 64 - 1 }
     ensures { OnOk result (Appends (W.taken sink.old) (W.taken sink.new)
-        (mapped_comment (block_by (number_of numbers.now) circuit.now) circuit.now)) }
+        (mapped_comment (block_by (L.label labels.now) circuit.now) circuit.now)) }
 {
     let mut output = Output::new(sink);
-    put_comment(&mut output, numbers, circuit);
+    put_comment(&mut output, labels, circuit);
     let (sent, _sink) = output.finish();
     sent
 }
@@ -146,19 +145,19 @@ fn most_bytes(circuit: &Circuit) -> usize {
         .saturating_add(comment)
 }
 
-/// The comment of the mapped image of a circuit whose variables get these numbers: the map block, and then what the
+/// The comment of the mapped image of a circuit whose variables get these labels: the map block, and then what the
 /// circuit's own comment holds.
-pub(crate) fn map_comment(
+pub(crate) fn map_comment<L: Labels>(
     alloc: Global,
-    numbers: &Numbers,
+    labels: &L,
     circuit: &Circuit,
 ) -> Result<Listing<u8>, OutOfMemory>
-    requires small { FitIntoLiterals (number_of numbers.now) }
+    requires small { FitIntoLiterals (L.label labels.now) }
     requires fits { length circuit.now.inputs + length circuit.now.latches ≤ LARGEST }
-    ensures { IfOk result (λ r. r ≡ mapped_comment (block_by (number_of numbers.now) circuit.now) circuit.now) }
+    ensures { IfOk result (λ r. r ≡ mapped_comment (block_by (L.label labels.now) circuit.now) circuit.now) }
 {
     let mut kept = TextSink::with_room(alloc, most_bytes(circuit))?;
-    match write_comment(numbers, circuit, &mut kept) {
+    match write_comment(labels, circuit, &mut kept) {
         Ok(()) => Ok(kept.into_text()),
         // the sink fails only where memory is refused
         Err(_) => Err(OutOfMemory),

@@ -15,7 +15,7 @@ use crate::file::read_circuit;
 use aig_binary::{Ordered, write_binary};
 use aig_command::ToAig;
 use aig_core::{Checked, Circuit, Listing, OutOfMemory, Sink, Source};
-use aig_order::{MapFault, into_binary, to_binary_with_map, undo};
+use aig_order::{MapFault, into_binary, into_binary_with_map, undo};
 use aig_text::write_ascii;
 use std::alloc::Global;
 
@@ -51,7 +51,7 @@ fn image(alloc: Global, request: &ToAig, circuit: Checked) -> Result<Ordered, Ou
     ensures { IfOk result (λ image. IsImageAs request.now.keep_map circuit image) }
 {
     if request.keep_map {
-        to_binary_with_map(alloc, &circuit)
+        into_binary_with_map(alloc, circuit)
     } else {
         into_binary(alloc, circuit)
     }

@@ -10,8 +10,8 @@ use Rattle.aig_core.proofs.Checking.Fitting.{definitions_fit}
 use Rattle.aig_core.proofs.Ordering.LeastReady.{one_least_ready_order}
 use Rattle.aig_image.specs.declared.image.Renumbering.{Renumbering}
 use Rattle.aig_image.specs.Image.{image_by, IsBinaryImage}
-use Rattle.aig_image.specs.Parts.Numbers.{number_of, number_in, IsRenumberingOf}
-use Rattle.aig_image.specs.Relabelled.{GateNames}
+use Rattle.aig_image.specs.Parts.Numbers.{number_of, IsRenumberingOf}
+use Rattle.aig_image.specs.Relabelled.{GateNames, NamesOnly}
 use Rattle.aig_image.specs.Renumbering.{in_new_order, renumbered}
 use Rattle.aig_image.specs.Reordered.{has_smaller_first}
 use Rattle.aig_image.proofs.Relabelling.Lists.{map_where}
@@ -25,22 +25,20 @@ use Rattle.aig_order.specs.MapBlock.{block_by, map_block, mapped_comment, mapped
 abbrev of_new : ℕ → Gate → Gate → MappedGate
 of_new first g new = record { var = g.var; place = new.var - first; exchanged = has_smaller_first new }
 
-module _ (c : Circuit) (order : List ℕ) (good : IsWellFormed c) (least : IsLeastReadyOrder c order)
-    (number : ℕ → ℕ) (recorded : (v : ℕ) → number v ≡ number_in (in_new_order c order) v) where
+module _ (c : Circuit) (order : List ℕ) (number : ℕ → ℕ)
+    (same : NamesOnly (λ v. number v ≡ renumbered (in_new_order c order) v) c) where
   abbrev f : ℕ → ℕ
   f = renumbered (in_new_order c order)
 
   abbrev first : ℕ
   first = 1 + length c.inputs + length c.latches
 
-  -- what is recorded is the map block
+  -- what is recorded is the map block, where what the circuit names has its new number
   pub block_is : block_by number c ≡ map_block order c
   block_is =
-      let Names : Gate → Type 0 = GateNames (λ v. number v ≡ f v) in
       ap (λ (gates : List MappedGate). record (map_block order c) { gates = gates })
-      (map_where Names (mapped_gate number first) (mapped_gate f first)
-      (λ g named. ap (of_new first g) (same_gate number f g named)) c.gates
-      (same_names c order good least number recorded).gates)
+      (map_where (GateNames (λ v. number v ≡ f v)) (mapped_gate number first) (mapped_gate f first)
+      (λ g named. ap (of_new first g) (same_gate number f g named)) c.gates same.gates)
 
 -- the first gate's number is small
 pub few_before_gates : (c : Circuit) → IsWellFormed c → length c.inputs + length c.latches ≤ LARGEST
@@ -71,7 +69,8 @@ module _ (c : Circuit) (comment : List ℕ) where
       let here : IsLeastReadyOrder c order = record { in_turn = least.in_turn; full = least.full } in
       let same : of_it.order ≡ order = one_least_ready_order c of_it.order order of_it.least here in
       let block : block_by (number_of r.numbers) c ≡ map_block order c =
-      block_is c of_it.order good of_it.least (number_of r.numbers) of_it.numbers.numbers
+      block_is c of_it.order (number_of r.numbers)
+      (same_names c of_it.order good of_it.least (number_of r.numbers) of_it.numbers.numbers)
       ∙ ap (λ at. map_block at c) same in
       let text = tells ∙ ap (λ (b : MapBlock). mapped_comment b c) block in
       (order, here, is ∙ ap (λ bytes. record (image_by order c) { comment = Some bytes }) text)

@@ -1,0 +1,24 @@
+use Rattle.std.proofs.Common.{subst, sym, Some}
+use Rattle.aig_core.specs.declared.circuit.Circuit.{Circuit}
+use Rattle.aig_core.specs.Wellformed.{IsWellFormed}
+use Rattle.aig_image.specs.Image.{IsBinaryImage}
+use Rattle.aig_image.specs.Parts.Numbers.{IsRenumberingOf}
+use Rattle.aig_order.proofs.Mapping.MappedOrder.{comment_is_free}
+use Rattle.aig_order.proofs.Mapping.Recorded.{is_mapped_image, renumbering_stays}
+use Rattle.aig_order.proofs.mapped.image_with_map.Goals as goal
+
+pub image-requires-clause-good : goal.image-requires-clause-good
+image-requires-clause-good c =
+    subst IsWellFormed (sym c.with_comment.ensures)
+    (comment_is_free c.args.circuit (Some c.args.comment) c.requires.good)
+
+pub image-requires-clause-of_it : goal.image-requires-clause-of_it
+image-requires-clause-of_it c =
+    subst (λ (d : Circuit). IsRenumberingOf d c.args.renumbering) (sym c.with_comment.ensures)
+    (renumbering_stays c.args.circuit c.args.comment c.args.renumbering c.requires.of_it)
+
+pub returns : goal.returns
+returns c =
+    is_mapped_image c.args.circuit c.args.comment c.args.renumbering c.image.result c.requires.good c.requires.of_it
+    c.requires.tells
+    (subst (λ (d : Circuit). IsBinaryImage d c.image.result) c.with_comment.ensures c.image.ensures)
