@@ -7,5 +7,6 @@ pub mod Chains
 pub mod Served
 pub mod TakenLeast
 pub mod Cyclic
+pub mod DepthFirst
 pub mod Steps
 pub mod Trees

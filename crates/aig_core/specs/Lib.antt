@@ -6,6 +6,7 @@ pub mod Form
 pub mod Names
 pub mod VarMap
 pub mod Order
+pub mod Cycle
 pub mod Fault
 pub mod Operands
 pub mod Users

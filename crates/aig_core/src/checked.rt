@@ -26,7 +26,7 @@ pub use crate::checked::copies::{copy_comment, copy_justice, copy_symbols};
 #[derive(Drop)]
 pub struct Checked {
     circuit: Circuit,
-    /// The least ready order of its gates, where the check had to make it.
+    /// The least ready order of its gates, where the check had to make it and was to keep it.
     order: Option<Order>,
 }
 
@@ -55,7 +55,8 @@ impl Checked {
         }
     }
 
-    /// The least ready order of the gates, if the check had to make it: of gates that stand in order it makes none.
+    /// The least ready order of the gates, if the check had to make it and was to keep it (`check_keeping`): of gates
+    /// that stand in order it makes none.
     pub fn order(&self) -> Option<&Order>
         ensures { IfSome result (λ order. IsLeastReadyOrder self.now order.now.list) }
     {
@@ -90,7 +91,8 @@ impl Checked {
     }
 }
 
-/// Checks a circuit in form. The error has the circuit as it was, and its first fault or that memory ran out.
+/// Checks a circuit in form. The error has the circuit as it was, and its first fault or that memory ran out. No order of
+/// the gates is kept (`check_keeping`).
 pub fn check(alloc: Global, circuit: Circuit) -> Result<Checked, (Circuit, CheckFault)>
     requires in_form { IsInForm circuit }
     ensures ok { IfOk result (λ checked. checked ≡ circuit) }
@@ -100,7 +102,34 @@ pub fn check(alloc: Global, circuit: Circuit) -> Result<Checked, (Circuit, Check
     ensures fault { IfErr result (λ e. IsFault e.1 (first_structural_fault circuit)) }
     ensures refused { IfErr result (λ e. e.1 ≢ WantOfMemory → ¬ IsWellFormed circuit) }
 {
-    match find_fault(alloc, &circuit) {
+    check_keeping(alloc, circuit, Keep::Circuit)
+}
+
+/// What a check keeps.
+#[derive(Clone, Copy)]
+pub enum Keep {
+    /// The circuit alone. It takes the least time and memory if nobody asks for an order of the gates later.
+    Circuit,
+    /// The least ready order of the gates too, where they do not stand in order: for a binary image, which would otherwise
+    /// make it once more.
+    Order,
+}
+
+/// Checks a circuit in form, as `check` does, and keeps what is wanted of it later.
+pub fn check_keeping(
+    alloc: Global,
+    circuit: Circuit,
+    keep: Keep,
+) -> Result<Checked, (Circuit, CheckFault)>
+    requires in_form { IsInForm circuit }
+    ensures ok { IfOk result (λ checked. checked ≡ circuit) }
+    ensures well_formed { OnOk result (IsWellFormed circuit) }
+    ensures ok_faultless { OnOk result (first_structural_fault circuit ≡ None) }
+    ensures handed_back { IfErr result (λ e. e.0 ≡ circuit) }
+    ensures fault { IfErr result (λ e. IsFault e.1 (first_structural_fault circuit)) }
+    ensures refused { IfErr result (λ e. e.1 ≢ WantOfMemory → ¬ IsWellFormed circuit) }
+{
+    match find_fault(alloc, &circuit, keep) {
         Ok(order) => Ok(Checked { circuit, order }),
         Err(fault) => Err((circuit, fault)),
     }

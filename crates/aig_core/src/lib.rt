@@ -3,6 +3,7 @@
 
 mod checked;
 mod circuit;
+mod cycle;
 mod entry;
 mod fault;
 mod form;
@@ -19,7 +20,8 @@ mod var_map;
 mod var_set;
 
 pub use crate::checked::{
-    Checked, check, copy_comment, copy_justice, copy_symbols, is_defined_once, same,
+    Checked, Keep, check, check_keeping, copy_comment, copy_justice, copy_symbols, is_defined_once,
+    same,
 };
 pub use crate::circuit::{Circuit, Gate, Justice, Kind, LARGEST, Latch, Reset, Symbol};
 pub use crate::fault::{CheckFault, OutOfMemory};

@@ -26,7 +26,11 @@ impl Operands {
 }
 
 /// The positions of gates by the variables that they define. Of two gates that define one, it has the first.
-fn gate_index(alloc: Global, gates: &[Gate], max_var: u32) -> Result<VarMap<u32>, AllocError>
+pub(crate) fn gate_index(
+    alloc: Global,
+    gates: &[Gate],
+    max_var: u32,
+) -> Result<VarMap<u32>, AllocError>
     requires { length gates.now ≤ LARGEST }
     ensures { IfOk result (λ index. (v : ℕ) → get index v ≡ gate_of gates.now v) }
 {

@@ -37,7 +37,7 @@ pub all_true : (p : ℕ → Bool) (xs : List ℕ) → ((x : ℕ) → IsAmong x x
 all_true p [] h = refl
 all_true p (x ∷ xs) h = and_both (p x) (list_all p xs) (h x (inl refl)) (all_true p xs (λ y a. h y (inr a)))
 
-each_true : (p : ℕ → Bool) (xs : List ℕ) → list_all p xs ≡ true → (x : ℕ) → IsAmong x xs → p x ≡ true
+pub each_true : (p : ℕ → Bool) (xs : List ℕ) → list_all p xs ≡ true → (x : ℕ) → IsAmong x xs → p x ≡ true
 each_true p [] h x a = absurd a
 each_true p (y ∷ ys) h x a =
     ⊎_elim (λ (e : x ≡ y). subst (λ z. p z ≡ true) (sym e) (and_left (p y) (list_all p ys) h))
@@ -159,16 +159,33 @@ module _ (gates : List Gate) (list : List ℕ) (order_full : IsFull (length gate
       placed_where_free i there
       (none_found (depends_on_cycle gates) gates (none_mapped (find (depends_on_cycle gates) gates) h) i there)
 
-none_before : (ws : List ℕ) → position (λ n. ltb 0 n) ws ≡ None → (k : ℕ) → k < length ws
-    → ltb 0 (get_or ws k 0) ≡ false
-none_before ws e k below =
-    ⊎_elim (λ (there : position_or_len (λ n. ltb 0 n) ws < length ws).
-    let some : position (λ n. ltb 0 n) ws ≡ Some (position_or_len (λ n. ltb 0 n) ws) =
-    ap (λ b. cond b (Some (position_or_len (λ n. ltb 0 n) ws)) None)
-    (lt-ltb (position_or_len (λ n. ltb 0 n) ws) (length ws) there) in cc)
-    (λ (past : length ws ≤ position_or_len (λ n. ltb 0 n) ws). fails_before_first (λ n. ltb 0 n) ws k 0
-    (omega (arith, past, below)))
-    (cases_lt (position_or_len (λ n. ltb 0 n) ws) (length ws))
+none_before : {X : Type 0} (p : X → Bool) (xs : List X) (d : X) → position p xs ≡ None → (k : ℕ) → k < length xs
+    → p (get_or xs k d) ≡ false
+none_before p xs d e k below =
+    ⊎_elim (λ (there : position_or_len p xs < length xs).
+    let some : position p xs ≡ Some (position_or_len p xs) =
+    ap (λ b. cond b (Some (position_or_len p xs)) None) (lt-ltb (position_or_len p xs) (length xs) there) in cc)
+    (λ (past : length xs ≤ position_or_len p xs). fails_before_first p xs k d (omega (arith, past, below)))
+    (cases_lt (position_or_len p xs) (length xs))
+
+-- the first gate that depends on a cycle, by its position
+pub cyclic_there : (gates : List Gate) (i : ℕ) → position (depends_on_cycle gates) gates ≡ Some i
+    → (i < length gates) × (first_cyclic gates ≡ Some (2 * (at gates i).var))
+cyclic_there gates i e =
+    let told = position-Some (depends_on_cycle gates) gates i no_gate e in
+    let place : position_or_len (depends_on_cycle gates) gates ≡ i =
+    position_or_len_is (depends_on_cycle gates) gates i no_gate (omega (arith, told.0)) told.2 (λ _. told.1) in (
+      told.0,
+      ap (option_map (λ (g : Gate). 2 * g.var))
+          (find_at (depends_on_cycle gates) gates ∙ ap (slice_get gates) place
+          ∙ slice_get-get_or gates i no_gate told.0),
+    )
+
+pub cyclic_nowhere_there : (gates : List Gate) → position (depends_on_cycle gates) gates ≡ None
+    → first_cyclic gates ≡ None
+cyclic_nowhere_there gates e =
+    ap (option_map (λ (g : Gate). 2 * g.var))
+    (find_none (depends_on_cycle gates) gates (none_before (depends_on_cycle gates) gates no_gate e))
 
 some_below : (n : ℕ) → ¬ (n ≡ 0) → ltb 0 n ≡ true
 some_below zero h = absurd (h refl)
@@ -218,7 +235,7 @@ module _ (gates : List Gate) (list waiting : List ℕ) (full : IsFull (length ga
   cyclic_nowhere e =
       ap (option_map (λ (g : Gate). 2 * g.var))
       (find_none (depends_on_cycle gates) gates
-      (λ i there. waits_where i there ∙ none_before waiting e i (omega (arith, there, as_many))))
+      (λ i there. waits_where i there ∙ none_before (λ n. ltb 0 n) waiting 0 e i (omega (arith, there, as_many))))
 
 -- a gate's variable is one that a circuit in form may define
 pub in_bounds : (c : Circuit) → IsInForm c → (p : ℕ) → p < length c.gates → (at c.gates p).var ≤ LARGEST

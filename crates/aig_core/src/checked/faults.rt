@@ -1,6 +1,6 @@
 //! What is wrong with a circuit: the first variable that is defined twice, or else the first literal that is used and
 //! not defined, or else the first gate that depends on a cycle.
-ghost use Rattle.std.specs.Prelude.{◌≡◌, ◌≤◌, ◌*◌, ◌++◌, IfOk, IfErr, OnOk, None, map};
+ghost use Rattle.std.specs.Prelude.{◌≡◌, ◌≤◌, ◌*◌, ◌++◌, IfOk, IfErr, OnOk, None, map, true, false};
 ghost use Rattle.std.specs.List.{concat, flat_map};
 ghost use Rattle.std.specs.Option.{option_map, option_to_list, IfSome};
 ghost use Rattle.std.specs.FinSet as set;
@@ -14,7 +14,9 @@ ghost use Rattle.aig_core.specs.declared.fault.CheckFault.TheVariants.{Cyclic as
 ghost use Rattle.aig_core.specs.Parts.InOrder.{are_in_order, has_gates_in_order};
 ghost use Rattle.aig_core.specs.declared.circuit.TheConstants.{LARGEST as largest};
 
+use crate::checked::Keep;
 use crate::circuit::{Circuit, Gate, LARGEST};
+use crate::cycle::first_cyclic_gate;
 use crate::entry::Entry;
 use crate::fault::{CheckFault, OutOfMemory};
 use crate::least_ready::gate_order;
@@ -215,20 +217,57 @@ fn order_of_all(alloc: Global, circuit: &Circuit) -> Result<Order, CheckFault>
     }
 }
 
-/// The first fault of a circuit. Where there is none, the order of its gates, where it had to be made.
-pub(crate) fn find_fault(alloc: Global, circuit: &Circuit) -> Result<Option<Order>, CheckFault>
+/// The first gate that depends on a cycle, as a fault. No order of the gates is made for it.
+fn find_cycle(alloc: Global, circuit: &Circuit) -> Result<(), CheckFault>
+    requires { IsInForm circuit.now }
+    ensures ok { OnOk result (first_cyclic circuit.now.gates ≡ None) }
+    ensures err { IfErr result (λ e. IsFault e (option_map CyclicFault (first_cyclic circuit.now.gates))) }
+{
+    let found = first_cyclic_gate(alloc, circuit)?;
+    match found {
+        Some(gate) => Err(CheckFault::Cyclic(own_literal(&circuit.gates.as_slice()[gate]))),
+        None => Ok(()),
+    }
+}
+
+/// The first fault of a circuit but for cycles. Where there is none, whether its gates stand in order, so that there is
+/// no cycle.
+fn find_fault_but_cycles(alloc: Global, circuit: &Circuit) -> Result<bool, CheckFault>
+    requires { IsInForm circuit.now }
+    ensures cycles { IfOk result (λ in_order. in_order ≡ false
+        → first_structural_fault circuit.now ≡ option_map CyclicFault (first_cyclic circuit.now.gates)) }
+    ensures in_order { IfOk result (λ in_order. in_order ≡ true → first_structural_fault circuit.now ≡ None) }
+    ensures err { IfErr result (λ e. IsFault e (first_structural_fault circuit.now)) }
+{
+    let (variables, in_order) = definitions(alloc, circuit)?;
+    if in_order && first_undefined_end(&variables, circuit).is_none() {
+        return Ok(true);
+    }
+    match first_undefined(&variables, circuit) {
+        Some(literal) => Err(CheckFault::Undefined(literal)),
+        None => Ok(false),
+    }
+}
+
+/// The first fault of a circuit. Where there is none, the order of its gates, if that is to be kept and had to be made.
+pub(crate) fn find_fault(
+    alloc: Global,
+    circuit: &Circuit,
+    keep: Keep,
+) -> Result<Option<Order>, CheckFault>
     requires { IsInForm circuit.now }
     ensures ok { OnOk result (first_structural_fault circuit.now ≡ None) }
     ensures least { IfOk result (λ some. IfSome some (λ order. IsLeastReadyOrder circuit.now order.list)) }
     ensures err { IfErr result (λ e. IsFault e (first_structural_fault circuit.now)) }
 {
-    let (variables, in_order) = definitions(alloc, circuit)?;
-    if in_order && first_undefined_end(&variables, circuit).is_none() {
+    if find_fault_but_cycles(alloc, circuit)? {
         return Ok(None);
     }
-    if let Some(literal) = first_undefined(&variables, circuit) {
-        return Err(CheckFault::Undefined(literal));
+    match keep {
+        Keep::Order => Ok(Some(order_of_all(alloc, circuit)?)),
+        Keep::Circuit => {
+            find_cycle(alloc, circuit)?;
+            Ok(None)
+        }
     }
-    drop(variables);
-    Ok(Some(order_of_all(alloc, circuit)?))
 }

@@ -1,5 +1,5 @@
 use Rattle.aig_core.proofs.Checking.Faultless.{refuted, well_formed}
-use Rattle.aig_core.proofs.checked.check.Goals as goal
+use Rattle.aig_core.proofs.checked.check_keeping.Goals as goal
 
 pub invariant_of-result : goal.invariant_of-result
 invariant_of-result c = (well_formed c.args.circuit c.requires.in_form c.in-Ok.ensures.ok, c.in-Ok.ensures.least)
