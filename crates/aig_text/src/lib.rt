@@ -23,7 +23,7 @@ pub use crate::line::Cursor;
 pub use crate::message::Message;
 pub use crate::number::canonical_number;
 pub use crate::parts::{first_word_is, header, next_states, numbers, tail};
-pub use crate::reader::{empty_circuit, read_ascii};
+pub use crate::reader::{empty_circuit, read_ascii, read_ascii_keeping};
 pub use crate::row::{NextState, Role, RowForm};
 pub use crate::section::{SECTIONS, Section, read_section};
 pub use crate::writer::{

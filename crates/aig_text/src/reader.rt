@@ -14,7 +14,7 @@ use crate::limits::Limits;
 use crate::line::Cursor;
 use crate::parts::{header, tail};
 use crate::section::read_sections;
-use aig_core::{CheckFault, Checked, Circuit, Justice, Listing, check};
+use aig_core::{CheckFault, Checked, Circuit, Justice, Keep, Listing, check_keeping};
 use std::alloc::Global;
 
 /// A circuit that has nothing in it.
@@ -62,15 +62,31 @@ fn kind_of_fault(fault: CheckFault) -> ReadKind
     }
 }
 
-/// Reads an ASCII file, within these limits. The error is the first fault of the text, or that memory ran out.
+/// Reads an ASCII file, within these limits. The error is the first fault of the text, or that memory ran out. No order of
+/// the gates is kept (`read_ascii_keeping`).
 pub fn read_ascii(alloc: Global, bytes: &[u8], limits: Limits) -> Result<Checked, ReadFault>
     ensures ok { IfOk result (λ c. IsAsciiText bytes.now limits.max_var c) }
     ensures only { (c : CircuitRecord) → IsAsciiText bytes.now limits.max_var c
         → MatchResult result (λ d. d ≡ c) (λ e. e ≡ want_of_memory) }
     ensures fault { IfErr result (λ e. IsFirstFault e (first_ascii_fault limits.max_var bytes.now)) }
 {
+    read_ascii_keeping(alloc, bytes, limits, Keep::Circuit)
+}
+
+/// Reads an ASCII file, as `read_ascii` does, and keeps what is wanted of the check later.
+pub fn read_ascii_keeping(
+    alloc: Global,
+    bytes: &[u8],
+    limits: Limits,
+    keep: Keep,
+) -> Result<Checked, ReadFault>
+    ensures ok { IfOk result (λ c. IsAsciiText bytes.now limits.max_var c) }
+    ensures only { (c : CircuitRecord) → IsAsciiText bytes.now limits.max_var c
+        → MatchResult result (λ d. d ≡ c) (λ e. e ≡ want_of_memory) }
+    ensures fault { IfErr result (λ e. IsFirstFault e (first_ascii_fault limits.max_var bytes.now)) }
+{
     let circuit = read_circuit(alloc, bytes, limits)?;
-    match check(alloc, circuit) {
+    match check_keeping(alloc, circuit, keep) {
         Ok(checked) => Ok(checked),
         Err(refused) => Err(ReadFault {
             place: Place::Whole,

@@ -4,7 +4,7 @@ use Rattle.aig_text.specs.Lines.{lines_of}
 use Rattle.aig_text.proofs.Grammar.Text.{circuit_in_form, reading_is_accepted}
 use Rattle.aig_text.proofs.Loops.Cutting.{pieces}
 use Rattle.aig_text.proofs.Grammar.Faults.{sound, line_fault, structural_fault, memory_only, one_circuit}
-use Rattle.aig_text.proofs.reader.read_ascii.Goals as goal
+use Rattle.aig_text.proofs.reader.read_ascii_keeping.Goals as goal
 
 pub returns-in_err-circuit-clause-only : goal.returns-in_err-circuit-clause-only
 returns-in_err-circuit-clause-only c = let h = err_from_is_err_and c.from_residual.result c.from_residual.ensures.1 in
@@ -17,8 +17,8 @@ returns-in_err-circuit-clause-fault c = let h = err_from_is_err_and c.from_resid
     rw (h.1, h.2)
     (line_fault c.args.limits.max_var c.args.bytes.now c.in_err-circuit.field-0.0 c.in_err-circuit.ensures)
 
-pub check-requires : goal.check-requires
-check-requires c =
+pub check_keeping-requires : goal.check_keeping-requires
+check_keeping-requires c =
     record {
       in_form =
           circuit_in_form c.args.limits.max_var (lines_of c.args.bytes.now) c.in_ok-circuit.circuit
