@@ -14,10 +14,20 @@ use crate::fault::ToolFault;
 use crate::file::read_circuit;
 use aig_binary::{Ordered, write_binary};
 use aig_command::ToAig;
-use aig_core::{Checked, Circuit, Listing, OutOfMemory, Sink, Source};
+use aig_core::{Checked, Circuit, Keep, Listing, OutOfMemory, Sink, Source};
 use aig_order::{MapFault, into_binary, into_binary_with_map, undo};
 use aig_text::write_ascii;
 use std::alloc::Global;
+
+/// What is wanted of the check later: a binary image of the circuit that is read needs an order of its gates. ASCII needs
+/// none, and a circuit that is undone comes from gates in order.
+fn kept(request: &ToAig) -> Keep {
+    if request.ascii || request.undo_map {
+        Keep::Circuit
+    } else {
+        Keep::Order
+    }
+}
 
 /// The circuit without its symbols and its comment, where the request asks for that.
 fn changed(alloc: Global, request: &ToAig, circuit: Checked) -> Checked
@@ -100,7 +110,7 @@ pub fn run_toaig<R: Source, W: Sink>(
         (sink_use W.taken W.longest W.failed sink.old sink.new)) }
     ensures short { W.longest sink.new ≤ max (W.longest sink.old) ROOM }
 {
-    let found = read_circuit(alloc, source, request.max_var)?;
+    let found = read_circuit(alloc, source, request.max_var, kept(request))?;
     let source_circuit = undone(alloc, request, found)?;
     let circuit = changed(alloc, request, source_circuit);
     write(alloc, request, circuit, sink)

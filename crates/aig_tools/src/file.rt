@@ -8,13 +8,14 @@ ghost use Rattle.aig_tools.specs.Reading.{HasRead, NotRead};
 
 use crate::fault::ToolFault;
 use aig_binary::{BINARY_WORD, read_binary};
-use aig_core::{Checked, Source, read_all};
-use aig_text::{Limits, ReadFault, first_word_is, read_ascii};
+use aig_core::{Checked, Keep, Source, read_all};
+use aig_text::{Limits, ReadFault, first_word_is, read_ascii_keeping};
 use std::alloc::Global;
 
 /// Reads a file of either kind, within these limits: as a binary file if that is what its first word says, otherwise as
-/// an ASCII file. The error is the first fault of the text, or that memory ran out.
-fn read_file(alloc: Global, bytes: &[u8], limits: Limits) -> Result<Checked, ReadFault>
+/// an ASCII file. The error is the first fault of the text, or that memory ran out. A binary file has its gates in order,
+/// so there is none to keep.
+fn read_file(alloc: Global, bytes: &[u8], limits: Limits, keep: Keep) -> Result<Checked, ReadFault>
     ensures ok { IfOk result (λ c. IsFileOf bytes.now limits.max_var c) }
     ensures only { (c : CircuitRecord) → IsFileOf bytes.now limits.max_var c
         → MatchResult result (λ d. d ≡ c) (λ e. e ≡ want_of_memory) }
@@ -23,15 +24,16 @@ fn read_file(alloc: Global, bytes: &[u8], limits: Limits) -> Result<Checked, Rea
     if first_word_is(bytes, BINARY_WORD) {
         read_binary(alloc, bytes, limits)
     } else {
-        read_ascii(alloc, bytes, limits)
+        read_ascii_keeping(alloc, bytes, limits, keep)
     }
 }
 
-/// Reads the source to its end, as a file of either kind within this limit.
+/// Reads the source to its end, as a file of either kind within this limit, and keeps what is wanted of the check later.
 pub(crate) fn read_circuit<R: Source>(
     alloc: Global,
     source: &mut R,
     max_var: u32,
+    keep: Keep,
 ) -> Result<Checked, ToolFault>
     requires { R.failed source.old < 2 ^ 64 - 1 }
     ensures ok { IfOk result (λ found. HasRead max_var found (source_use R.coming R.failed source.old source.new)) }
@@ -40,6 +42,6 @@ pub(crate) fn read_circuit<R: Source>(
 {
     let bytes = read_all(alloc, source)?;
     // The text ends here: it is not needed from here on, and may be larger than the circuit.
-    let found = read_file(alloc, bytes.as_slice(), Limits { max_var })?;
+    let found = read_file(alloc, bytes.as_slice(), Limits { max_var }, keep)?;
     Ok(found)
 }

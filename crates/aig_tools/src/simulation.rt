@@ -11,7 +11,7 @@ ghost use Rattle.aig_tools.specs.SimulationOutcome.{NotTraced, Traced};
 use crate::fault::ToolFault;
 use crate::file::read_circuit;
 use aig_command::Sim;
-use aig_core::{Checked, Sink, Source};
+use aig_core::{Checked, Keep, Sink, Source};
 use aig_sim::{Columns, SimFault, simulate, simulate_batched};
 use std::alloc::Global;
 
@@ -86,7 +86,7 @@ pub fn run_sim<M: Source, R: Source, W: Sink>(
         (sink_use W.taken W.longest W.failed output.old output.new)) }
     ensures short { W.longest output.new ≤ max (W.longest output.old) ROOM }
 {
-    let found = read_circuit(alloc, model, request.max_var)?;
+    let found = read_circuit(alloc, model, request.max_var, Keep::Order)?;
     simulate_as_asked(alloc, request, &found, stimulus, output)?;
     Ok(())
 }

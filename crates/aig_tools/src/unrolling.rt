@@ -14,7 +14,7 @@ use crate::engine::Engine;
 use crate::fault::ToolFault;
 use crate::file::read_circuit;
 use aig_command::Unroll;
-use aig_core::{Sink, Source};
+use aig_core::{Keep, Sink, Source};
 use aig_unroll::Unrolling;
 use std::alloc::Global;
 
@@ -55,7 +55,7 @@ pub fn run_unroll<R: Source, W: Sink>(
         (sink_use W.taken W.longest W.failed sink.old sink.new)) }
     ensures short { W.longest sink.new ≤ max (W.longest sink.old) ROOM }
 {
-    let found = read_circuit(alloc, source, request.max_var)?;
+    let found = read_circuit(alloc, source, request.max_var, Keep::Order)?;
     let circuit = Unrolling::new(alloc, found, request.frames)?;
     write(request.ascii, circuit, sink)
 }

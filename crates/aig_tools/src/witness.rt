@@ -13,7 +13,7 @@ ghost use Rattle.aig_tools.specs.WitnessOutcome.{Answered, NotAnswered};
 use crate::fault::ToolFault;
 use crate::file::read_circuit;
 use aig_command::Sim;
-use aig_core::{Output, Sink, Source};
+use aig_core::{Keep, Output, Sink, Source};
 use aig_sim::{Verdict, confirm};
 use aig_text::Message;
 use std::alloc::Global;
@@ -72,7 +72,7 @@ pub fn run_witness<M: Source, R: Source, W: Sink>(
         (sink_use W.taken W.longest W.failed output.old output.new)) }
     ensures short { W.longest output.new ≤ max (W.longest output.old) ROOM }
 {
-    let found = read_circuit(alloc, model, request.max_var)?;
+    let found = read_circuit(alloc, model, request.max_var, Keep::Order)?;
     let verdict = confirm(alloc, &found, witness)?;
     send_answer(verdict, output)?;
     Ok(verdict)

@@ -6,7 +6,7 @@ use Rattle.aig_tools.proofs.file.read_file.Goals as goal
 
 pub returns-else-first_word_is-clause-only : goal.returns-else-first_word_is-clause-only
 returns-else-first_word_is-clause-only c = λ d is.
-    ⊎_elim (λ (a : IsAsciiText c.args.bytes.now c.args.limits.max_var d). c.read_ascii.ensures.only d a)
+    ⊎_elim (λ (a : IsAsciiText c.args.bytes.now c.args.limits.max_var d). c.read_ascii_keeping.ensures.only d a)
     (λ (b : IsBinaryText c.args.bytes.now c.args.limits.max_var d).
     absurd (no_binary_file c.args.bytes.now c.args.limits.max_var d
     (sym c.first_word_is.ensures ∙ c.if-first_word_is.false) b))
