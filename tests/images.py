@@ -209,13 +209,16 @@ def converted(program, text, *words):
 
 
 def refused_for_cycle(program, gates, text):
-    """Whether the first gate that the plain search leaves out is told, if there is one."""
+    """Whether the first gate that the plain search leaves out is told, if there is one, to binary and to ASCII."""
     left = [gate for gate in gates if gate not in placed(gates)]
-    ran = converted(program, text)
-    if not left:
-        return isinstance(ran, bytes)
-    told = f"aiger: -: gate {left[0][0]} depends on a cycle\n".encode()
-    return not isinstance(ran, bytes) and (ran.returncode, ran.stdout, ran.stderr) == (1, b"", told)
+    for ran in converted(program, text), converted(program, text, "--ascii"):
+        if isinstance(ran, bytes):
+            told = None
+        else:
+            told = (ran.returncode, ran.stdout, ran.stderr)
+        if told != ((1, b"", f"aiger: -: gate {left[0][0]} depends on a cycle\n".encode()) if left else None):
+            return False
+    return True
 
 
 def main(program):

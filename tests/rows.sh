@@ -71,6 +71,11 @@ bad_block() { no_undone "$1" "aig 1 1 0 1 0\n3\nc\n$2" "$3"; }
 # a block that is not right, of a circuit with an input, an output and a gate with equal operands
 bad_gate_block() { no_undone "$1" "aig 2 1 0 1 1\n4\n\x02\x00c\n$2" "$3"; }
 refuses() { row "$1" "$2" '' "aiger: -: $3\n" 1 aigtoaig --ascii; }
+# a gate that depends on a cycle: it is looked for depth first to ASCII, and by the order that is made to binary
+cyclic() {
+    refuses "$1" "$2" "gate $3 depends on a cycle"
+    row "$1, to binary" "$2" '' "aiger: -: gate $3 depends on a cycle\n" 1 aigtoaig
+}
 # arguments that are refused, before anything is read: in clap's words, or in the program's own
 misused() { local name=$1 text=$2; shift 2; row "$name" 'aag 0 0 0 0 0\n' '' "error: $text\n\nFor more information, try '--help'.\n" 2 "$@"; }
 unwanted() { local name=$1 text=$2; shift 2; row "$name" 'aag 0 0 0 0 0\n' '' "aiger: $text\n" 2 "$@"; }
@@ -380,13 +385,22 @@ rows_gates() {
     refuses 'a left operand that is not defined' 'aag 4 1 0 0 1\n2\n4 6 8\n' 'literal 6 not defined'
     refuses 'a right operand that is not defined' 'aag 4 1 0 0 1\n2\n4 2 9\n' 'literal 9 not defined'
     refuses 'an output before an operand' 'aag 5 1 0 1 1\n2\n10\n4 6 8\n' 'literal 10 not defined'
-    refuses 'a gate of itself' 'aag 1 0 0 0 1\n2 2 2\n' 'gate 2 depends on a cycle'
-    refuses 'a gate of its own negation' 'aag 2 1 0 0 1\n2\n4 2 5\n' 'gate 4 depends on a cycle'
-    refuses 'two gates of one another' 'aag 3 1 0 0 2\n2\n4 6 2\n6 4 2\n' 'gate 4 depends on a cycle'
-    refuses 'a gate that only depends on a cycle' 'aag 4 1 0 0 3\n2\n4 6 2\n6 8 2\n8 6 2\n' 'gate 4 depends on a cycle'
-    refuses 'the first in the file, not the least' 'aag 4 1 0 0 3\n2\n8 6 2\n6 8 2\n4 2 2\n' 'gate 8 depends on a cycle'
-    refuses 'a cycle behind a gate that is right' 'aag 4 1 0 0 3\n2\n4 2 2\n6 8 4\n8 6 4\n' 'gate 6 depends on a cycle'
-    refuses 'a cycle of large variables' 'aag 2147483647 0 0 0 2\n4294967294 4294967292 1\n4294967292 4294967294 1\n' 'gate 4294967294 depends on a cycle'
+    cyclic 'a gate of itself' 'aag 1 0 0 0 1\n2 2 2\n' 2
+    cyclic 'a gate of its own negation' 'aag 2 1 0 0 1\n2\n4 2 5\n' 4
+    cyclic 'two gates of one another' 'aag 3 1 0 0 2\n2\n4 6 2\n6 4 2\n' 4
+    cyclic 'a gate that only depends on a cycle' 'aag 4 1 0 0 3\n2\n4 6 2\n6 8 2\n8 6 2\n' 4
+    cyclic 'the first in the file, not the least' 'aag 4 1 0 0 3\n2\n8 6 2\n6 8 2\n4 2 2\n' 8
+    cyclic 'a cycle behind a gate that is right' 'aag 4 1 0 0 3\n2\n4 2 2\n6 8 4\n8 6 4\n' 6
+    cyclic 'a cycle of large variables' 'aag 2147483647 0 0 0 2\n4294967294 4294967292 1\n4294967292 4294967294 1\n' 4294967294
+    cyclic 'a gate that is its own left operand' 'aag 2 1 0 0 1\n2\n4 4 2\n' 4
+    cyclic 'a gate that is its own right operand' 'aag 2 1 0 0 1\n2\n4 2 4\n' 4
+    cyclic 'a cycle of equal operands' 'aag 4 1 0 0 3\n2\n4 6 6\n6 8 8\n8 6 6\n' 4
+    cyclic 'a cycle a long way from the first gate' 'aag 6 1 0 0 5\n2\n4 6 2\n6 8 2\n8 10 2\n10 12 2\n12 10 2\n' 4
+    cyclic 'a cycle on the right, behind a left operand that is right' 'aag 5 1 0 0 4\n2\n4 6 8\n6 2 2\n8 10 2\n10 8 2\n' 4
+    cyclic 'a gate of itself and of gates that are right' 'aag 4 1 0 0 3\n2\n6 4 2\n4 2 3\n8 6 8\n' 8
+    cyclic 'a cycle through a gate that two others use' 'aag 5 1 0 0 4\n2\n4 2 2\n6 4 10\n8 4 10\n10 8 4\n' 6
+    same 'gates of equal operands before those' 'aag 4 1 0 0 3\n2\n8 6 6\n6 4 4\n4 2 2\n'
+    same 'a gate on two ways from the first one' 'aag 6 1 0 0 5\n2\n12 10 8\n10 6 4\n8 6 4\n6 4 2\n4 2 2\n'
     refuses 'a variable defined twice before a cycle' 'aag 3 1 0 0 2\n2\n4 4 2\n4 2 2\n' 'variable 2 defined twice'
     refuses 'a literal not defined before a cycle' 'aag 3 0 0 0 2\n4 4 4\n2 6 6\n' 'literal 6 not defined'
     refuses 'a bad symbol line before a cycle' 'aag 1 0 0 0 1\n2 2 2\nx\n' 'line 3: bad symbol line'
@@ -677,7 +691,7 @@ rows_uses() {
     refuses 'the second bad state' 'aag 3 1 0 0 0 2\n2\n3\n6\n' 'literal 6 not defined'
     refuses 'a variable defined twice before a bad state' 'aag 3 2 0 0 0 1\n2\n2\n6\n' 'variable 1 defined twice'
     refuses 'a bad state before a cycle' 'aag 3 1 0 0 1 1\n2\n6\n4 4 2\n' 'literal 6 not defined'
-    refuses 'a cycle that a bad state uses' 'aag 2 1 0 0 1 1\n2\n4\n4 4 2\n' 'gate 4 depends on a cycle'
+    cyclic 'a cycle that a bad state uses' 'aag 2 1 0 0 1 1\n2\n4\n4 4 2\n' 4
 }
 
 rows_named_properties() {
