@@ -12,6 +12,9 @@ pub mod Operands
 pub mod Users
 pub mod Ready
 pub mod Progress
+pub mod Placed
+pub mod Lists
+pub mod Placing
 pub mod BinaryOrder
 pub mod Laws
 pub mod Parts

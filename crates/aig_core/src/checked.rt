@@ -12,7 +12,7 @@ use crate::checked::copies::copy_circuit;
 use crate::checked::faults::{find_fault, find_redefinition};
 use crate::circuit::Circuit;
 use crate::fault::{CheckFault, OutOfMemory};
-use crate::order::Order;
+use crate::placed::Placed;
 use std::alloc::Global;
 use std::marker::Model;
 
@@ -27,7 +27,7 @@ pub use crate::checked::copies::{copy_comment, copy_justice, copy_symbols};
 pub struct Checked {
     circuit: Circuit,
     /// The least ready order of its gates, where the check had to make it and was to keep it.
-    order: Option<Order>,
+    order: Option<Placed>,
 }
 
 impl Model for Checked {
@@ -57,7 +57,7 @@ impl Checked {
 
     /// The least ready order of the gates, if the check had to make it and was to keep it (`check_keeping`): of gates
     /// that stand in order it makes none.
-    pub fn order(&self) -> Option<&Order>
+    pub fn order(&self) -> Option<&Placed>
         ensures { IfSome result (λ order. IsLeastReadyOrder self.now order.now.list) }
     {
         self.order.as_ref()

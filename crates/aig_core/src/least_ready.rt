@@ -12,9 +12,14 @@ use crate::operands::all_operands;
 use crate::order::Order;
 use std::alloc::{AllocError, Global};
 
+mod lists;
+mod needs;
+mod placing;
 mod ready;
 mod serve;
 mod users;
+
+pub use crate::least_ready::placing::place_gates;
 
 /// The first so many gates that wait for nothing.
 fn all_ready(alloc: Global, order: &Order, gates: u32) -> Result<Ready, AllocError>

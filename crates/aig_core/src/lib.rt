@@ -15,6 +15,7 @@ mod names;
 mod operands;
 mod order;
 mod ordered;
+mod placed;
 mod value;
 mod var_map;
 mod var_set;
@@ -25,12 +26,13 @@ pub use crate::checked::{
 };
 pub use crate::circuit::{Circuit, Gate, Justice, Kind, LARGEST, Latch, Reset, Symbol};
 pub use crate::fault::{CheckFault, OutOfMemory};
-pub use crate::least_ready::gate_order;
+pub use crate::least_ready::{gate_order, place_gates};
 pub use crate::listing::Listing;
 pub use crate::literal::{Lit, Var};
 pub use crate::names::{NamedCounts, Names};
 pub use crate::order::Order;
 pub use crate::ordered::{Ordered, is_in_binary_order};
+pub use crate::placed::Placed;
 pub use crate::value::Val;
 pub use crate::var_map::VarMap;
 pub use aig_io::{

@@ -1,11 +1,10 @@
 //! An order of gates that is being made. No module stands in this one: its fields are private, so steps change through
 //! `take` and `count_down` alone.
-ghost use Rattle.std.specs.Prelude.{◌≡◌, ◌+◌, ◌-◌, ◌*◌, ◌<◌, ◌≤◌, [], ◌∷◌, ◌++◌, length, map, nat_lt, slice_index};
+ghost use Rattle.std.specs.Prelude.{◌≡◌, ◌+◌, ◌-◌, ◌*◌, ◌<◌, ◌≤◌, [], ◌∷◌, ◌++◌, length, map, slice_index};
 ghost use Rattle.std.specs.Prelude.{slice_set, IfOk};
 ghost use Rattle.aig_core.specs.Wellformed.{IsAmong};
 ghost use Rattle.aig_core.specs.Order.{gates_under};
 ghost use Rattle.aig_core.specs.Operands.{how_many};
-ghost use Rattle.std.specs.List.{position};
 
 use crate::circuit::{Circuit, LARGEST};
 use crate::fault::OutOfMemory;
@@ -89,13 +88,6 @@ impl Order {
         ensures { result ≡ slice_index self.now.waiting gate }
     {
         u32::from(self.waiting[gate as usize])
-    }
-
-    /// The first gate that still waits for an operand.
-    pub(crate) fn first_waiting(&self) -> Option<usize>
-        ensures { result ≡ position (λ n. nat_lt 0 n) self.now.waiting }
-    {
-        self.waiting.iter().position(|operands| *operands > 0)
     }
 
     /// Takes a gate that waits for nothing, as one step.

@@ -24,7 +24,7 @@ among_either x (z ∷ xs) ys a =
     (λ (b : IsAmong x (xs ++ ys)). ⊎_elim (λ i. inl (inr i)) (λ i. inr i) (among_either x xs ys b)) a
 
 -- distinct numbers and a new one at the end
-distinct_more : (xs : List ℕ) (g : ℕ) → AreDistinct xs → ¬ IsAmong g xs → AreDistinct (xs ++ g ∷ [])
+pub distinct_more : (xs : List ℕ) (g : ℕ) → AreDistinct xs → ¬ IsAmong g xs → AreDistinct (xs ++ g ∷ [])
 distinct_more [] g d new = (λ a. a, tt)
 distinct_more (x ∷ xs) g d new = (
   λ a. ⊎_elim d.0 (λ (b : IsAmong x (g ∷ [])). ⊎_elim (λ (e : x ≡ g). new (inl (sym e))) (λ (n : ⊥). n) b)

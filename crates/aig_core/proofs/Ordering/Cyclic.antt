@@ -1,7 +1,7 @@
 -- Which gates depend on a cycle: those that the least ready order does not have.
 use Rattle.std.proofs.Common.{◌≡◌, ◌<◌, ◌≤◌, ◌+◌, ◌-◌, ◌*◌, ℕ, zero, suc, List, [], ◌∷◌, ◌++◌, Bool, true, false, not}
-use Rattle.std.proofs.Common.{◌&&◌, cond, ltb, Option, None, Some, length, map, get_or, refl, sym, ap, subst, ◌∙◌, ◌⊎◌}
-use Rattle.std.proofs.Common.{◌↔◌, inl, inr, ⊎_elim, arith, true≢false}
+use Rattle.std.proofs.Common.{◌&&◌, cond, Option, None, Some, length, map, get_or, refl, sym, ap, subst, ◌∙◌, ◌⊎◌}
+use Rattle.std.proofs.Common.{◌↔◌, inl, inr, ⊎_elim, arith}
 use Rattle.std.specs.List.{AllByRecursion, list_all, find, position, position_or_len, slice_get}
 use Rattle.std.specs.Option.{option_map}
 use Rattle.aig_core.specs.declared.circuit.Gate.{Gate}
@@ -11,10 +11,9 @@ use Rattle.aig_core.specs.declared.circuit.TheConstants.{LARGEST}
 use Rattle.aig_core.specs.Form.{IsInForm}
 use Rattle.aig_core.specs.Wellformed.{IsAmong, AreDistinct, IsVariableUpTo, defined_variables}
 use Rattle.aig_core.specs.Order.{gate_operands, IsReady, TakesLeast, IsFull, IsLeastReadyOrder, ends_within}
-use Rattle.aig_core.specs.Order.{depends_on_cycle, first_cyclic, left_over}
+use Rattle.aig_core.specs.Order.{depends_on_cycle, first_cyclic}
 use Rattle.aig_core.proofs.Checking.Fitting.{each, at_most_below}
 use Rattle.aig_core.proofs.Ordering.Ranked.{over_one, all_served, no_gate, at, needed, stands_there}
-use Rattle.aig_core.proofs.Ordering.TakenLeast.{none_open, all_in, each_served}
 use Rattle.std.proofs.lemmas.List.Folds.{find_at}
 use Rattle.std.proofs.lemmas.Bool.{cases_lt, lt-ltb}
 use Rattle.std.proofs.lemmas.List.Sums.{position_or_len_is, fails_before_first}
@@ -187,55 +186,28 @@ cyclic_nowhere_there gates e =
     ap (option_map (λ (g : Gate). 2 * g.var))
     (find_none (depends_on_cycle gates) gates (none_before (depends_on_cycle gates) gates no_gate e))
 
-some_below : (n : ℕ) → ¬ (n ≡ 0) → ltb 0 n ≡ true
-some_below zero h = absurd (h refl)
-some_below (suc n) h = lt-ltb 0 (suc n) (omega arith)
-
 pub among_last : (xs ys : List ℕ) (x : ℕ) → IsAmong x ys → IsAmong x (xs ++ ys)
 among_last [] ys x a = a
 among_last (z ∷ xs) ys x a = inr (among_last xs ys x a)
 
--- the first gate that waits is the first that depends on a cycle
-module _ (gates : List Gate) (list waiting : List ℕ) (full : IsFull (length gates) (gate_operands gates) list)
-    (in_turn : TakesLeast (length gates) (gate_operands gates) [] list) (as_many : length waiting ≡ length gates)
-    (left : (u : ℕ) → u < length gates → get_or waiting u 0 ≡ left_over list (gate_operands gates u)) where
-  waits_where : (i : ℕ) → i < length gates → depends_on_cycle gates (at gates i) ≡ ltb 0 (get_or waiting i 0)
-  waits_where i there =
-      elim (depends_on_cycle gates (at gates i)) as (λ b. depends_on_cycle gates (at gates i) ≡ b
-      → b ≡ ltb 0 (get_or waiting i 0)) [
-        | true ↦ λ e. sym (some_below (get_or waiting i 0) (λ z.
-            let listed : IsAmong i list =
-            full i there (none_open list (gate_operands gates i) (sym (left i there) ∙ z)) in
-            true≢false (sym e ∙ free gates list full in_turn i there listed)))
-        | false ↦ λ e.
-            let listed : IsAmong i list = placed_where_free gates list full in_turn i there e in
-            let nothing : get_or waiting i 0 ≡ 0 = left i there
-            ∙ all_in list (gate_operands gates i)
-            (each_served (length gates) (gate_operands gates) [] list in_turn list (λ h n. absurd n) (λ h a. a) i
-            listed) in
-            ap (ltb 0) (sym nothing)
+-- the first gate that is left is the first that depends on a cycle
+module _ (gates : List Gate) (list : List ℕ) (full : IsFull (length gates) (gate_operands gates) list)
+    (in_turn : TakesLeast (length gates) (gate_operands gates) [] list) (p : ℕ) (there : p < length gates)
+    (left : ¬ IsAmong p list) (before : (g : ℕ) → g < p → IsAmong g list) where
+  depends : depends_on_cycle gates (at gates p) ≡ true
+  depends =
+      elim (depends_on_cycle gates (at gates p)) as (λ b. depends_on_cycle gates (at gates p) ≡ b → b ≡ true) [
+        | true ↦ λ _. refl
+        | false ↦ λ e. absurd (left (placed_where_free gates list full in_turn p there e))
       ] refl
 
-  pub cyclic_at : (p : ℕ) → position (λ n. ltb 0 n) waiting ≡ Some p
-      → (p < length gates) × (first_cyclic gates ≡ Some (2 * (at gates p).var))
-  cyclic_at p e =
-      let told = position-Some (λ n. ltb 0 n) waiting p 0 e in
-      let there : p < length gates = omega (arith, told.0, as_many) in
+  pub cyclic_where : first_cyclic gates ≡ Some (2 * (at gates p).var)
+  cyclic_where =
       let place : position_or_len (depends_on_cycle gates) gates ≡ p =
-      position_or_len_is (depends_on_cycle gates) gates p no_gate (omega arith)
-      (λ k before. waits_where k (omega (arith, before, there)) ∙ told.2 k before)
-      (λ _. waits_where p there ∙ told.1) in (
-        there,
-        ap (option_map (λ (g : Gate). 2 * g.var))
-            (find_at (depends_on_cycle gates) gates ∙ ap (slice_get gates) place
-            ∙ slice_get-get_or gates p no_gate there),
-      )
-
-  pub cyclic_nowhere : position (λ n. ltb 0 n) waiting ≡ None → first_cyclic gates ≡ None
-  cyclic_nowhere e =
+      position_or_len_is (depends_on_cycle gates) gates p no_gate (omega (arith, there))
+      (λ k early. free gates list full in_turn k (omega (arith, early, there)) (before k early)) (λ _. depends) in
       ap (option_map (λ (g : Gate). 2 * g.var))
-      (find_none (depends_on_cycle gates) gates
-      (λ i there. waits_where i there ∙ none_before (λ n. ltb 0 n) waiting 0 e i (omega (arith, there, as_many))))
+      (find_at (depends_on_cycle gates) gates ∙ ap (slice_get gates) place ∙ slice_get-get_or gates p no_gate there)
 
 -- a gate's variable is one that a circuit in form may define
 pub in_bounds : (c : Circuit) → IsInForm c → (p : ℕ) → p < length c.gates → (at c.gates p).var ≤ LARGEST

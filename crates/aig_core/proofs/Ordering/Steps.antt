@@ -65,7 +65,7 @@ module _ (gates : List Gate) (list : List ℕ) where
       ∙ sum_by-append (λ h. cond (listed list h) 1 0) (gates_under gates g) (flat_map (gates_under gates) gs) in
       omega (arith, waits, all, has, has_or_not list (gates_under gates g), by_gates gs)
 
-none_past : (gates : List Gate) (u : ℕ) → length gates ≤ u → gate_operands gates u ≡ []
+pub none_past : (gates : List Gate) (u : ℕ) → length gates ≤ u → gate_operands gates u ≡ []
 none_past gates u past =
     get_or_past (map (gates_under gates) gates) u [] (omega (arith, past, length-map gates (gates_under gates)))
 

@@ -129,7 +129,7 @@ module _ (count : ℕ) (needs : ℕ → List ℕ) where
   no_longer xs in_turn = let d = distinct [] xs in_turn in at_most_below count xs d.0 d.1
 
   -- one more gate at the end
-  at_the_end : (taken xs list : List ℕ) (g : ℕ) → ((h : ℕ) → IsAmong h taken ⊎ IsAmong h xs → IsAmong h list)
+  pub at_the_end : (taken xs list : List ℕ) (g : ℕ) → ((h : ℕ) → IsAmong h taken ⊎ IsAmong h xs → IsAmong h list)
       → ((h : ℕ) → IsAmong h list → IsAmong h taken ⊎ IsAmong h xs) → TakesLeast count needs taken xs
       → IsReady count needs list g → ((h : ℕ) → IsReady count needs list h → g ≤ h)
       → TakesLeast count needs taken (xs ++ g ∷ [])

@@ -19,10 +19,10 @@ use crate::circuit::{Circuit, Gate, LARGEST};
 use crate::cycle::first_cyclic_gate;
 use crate::entry::Entry;
 use crate::fault::{CheckFault, OutOfMemory};
-use crate::least_ready::gate_order;
+use crate::least_ready::place_gates;
 use crate::listing::Listing;
 use crate::literal::Lit;
-use crate::order::Order;
+use crate::placed::Placed;
 use crate::var_set::VarSet;
 use std::alloc::Global;
 
@@ -204,14 +204,14 @@ fn own_literal(gate: &Gate) -> Lit
 }
 
 /// The least ready order of the gates, or the literal of the first one that depends on a cycle.
-fn order_of_all(alloc: Global, circuit: &Circuit) -> Result<Order, CheckFault>
+fn order_of_all(alloc: Global, circuit: &Circuit) -> Result<Placed, CheckFault>
     requires { IsInForm circuit.now }
     ensures ok { OnOk result (first_cyclic circuit.now.gates ≡ None) }
     ensures least { IfOk result (λ order. IsLeastReadyOrder circuit.now order.list) }
     ensures err { IfErr result (λ e. IsFault e (option_map CyclicFault (first_cyclic circuit.now.gates))) }
 {
-    let order = gate_order(alloc, circuit)?;
-    match order.first_waiting() {
+    let order = place_gates(alloc, circuit)?;
+    match order.first_left() {
         Some(gate) => Err(CheckFault::Cyclic(own_literal(&circuit.gates.as_slice()[gate]))),
         None => Ok(order),
     }
@@ -254,7 +254,7 @@ pub(crate) fn find_fault(
     alloc: Global,
     circuit: &Circuit,
     keep: Keep,
-) -> Result<Option<Order>, CheckFault>
+) -> Result<Option<Placed>, CheckFault>
     requires { IsInForm circuit.now }
     ensures ok { OnOk result (first_structural_fault circuit.now ≡ None) }
     ensures least { IfOk result (λ some. IfSome some (λ order. IsLeastReadyOrder circuit.now order.list)) }

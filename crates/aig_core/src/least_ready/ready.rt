@@ -114,6 +114,7 @@ impl Ready {
     /// Takes the least gate out.
     pub(super) fn pop_first(&mut self) -> Option<u32>
         ensures none { IfNone result ((g : ℕ) → has self.old g ≡ false) }
+        ensures same { IfNone result (self.new ≡ self.old) }
         ensures first { IfSome result (λ gate. has self.old gate ≡ true) }
         ensures least { IfSome result (λ gate. (g : ℕ) → has self.old g ≡ true → gate ≤ g) }
         ensures rest { IfSome result (λ gate. (g : ℕ) → has self.new g ≡ (not (g == gate) && has self.old g)) }

@@ -1,0 +1,37 @@
+-- A list of gates for each gate, all in one table. A link is one more than a gate's position, or 0 at the end of a list.
+use Rattle.std.specs.Prelude.{ℕ, zero, suc, ◌≡◌, ◌<◌, List, [], ◌∷◌, length, slice_index_or}
+use Rattle.std.specs.List.{AllByRecursion}
+use Rattle.aig_core.specs.declared.least_ready.lists.Link.{Link}
+use Rattle.aig_core.specs.Wellformed.{AreDistinct}
+
+abbrev pub no_link : Link
+no_link = record { next = 0; first = 0 }
+
+-- the link to the gate behind this one
+abbrev pub next_of : List Link → ℕ → ℕ
+next_of links gate = (slice_index_or links gate no_link).next
+
+-- the link to the first gate of this one's list
+abbrev pub first_of : List Link → ℕ → ℕ
+first_of links gate = (slice_index_or links gate no_link).first
+
+-- the gates from a link on, at most so many
+unfoldable pub gates_up_to : ℕ → List Link → ℕ → List ℕ
+gates_up_to zero links link = []
+gates_up_to (suc most) links zero = []
+gates_up_to (suc most) links (suc gate) = gate ∷ gates_up_to most links (next_of links gate)
+
+-- a gate's list
+abbrev pub list_of : List Link → ℕ → List ℕ
+list_of links gate = gates_up_to (length links) links (first_of links gate)
+
+-- a link leads to these gates, and then to an end
+abbrev pub LeadsTo : List Link → ℕ → List ℕ → Type 0
+LeadsTo links link [] = link ≡ 0
+LeadsTo links link (gate ∷ gates) = (link ≡ suc gate) × LeadsTo links (next_of links gate) gates
+
+-- each list ends, and has no gate twice
+pub record AreLists (links : List Link) : Type 0 where
+  pub ends : (gate : ℕ) → LeadsTo links (first_of links gate) (list_of links gate)
+  pub once : (gate : ℕ) → AreDistinct (list_of links gate)
+  pub below : (gate : ℕ) → AllByRecursion (λ g. g < length links) (list_of links gate)

@@ -1,0 +1,60 @@
+//! Which gates a gate needs.
+ghost use Rattle.std.specs.Prelude.{◌≡◌, ◌<◌, ◌≤◌, ℕ, length, map, IfOk};
+ghost use Rattle.std.specs.Option.{IfSome};
+ghost use Rattle.std.specs.FinMap.{get};
+ghost use Rattle.aig_core.specs.Literal.{variable_of};
+ghost use Rattle.aig_core.specs.Placing.{link_to, needs_of};
+
+use crate::circuit::{Circuit, Gate, LARGEST};
+use crate::literal::Lit;
+use crate::operands::gate_index;
+use crate::var_map::VarMap;
+use std::alloc::{AllocError, Global};
+
+/// The gates that a gate's operands are over: each is one more than its position, or 0 where there is none.
+#[derive(Clone, Copy)]
+pub(super) struct Needs {
+    pub(super) left: u32,
+    pub(super) right: u32,
+}
+
+/// The gate that defines the literal's variable, as one more than its position.
+#[inline(always)]
+fn needed(index: &VarMap<u32>, literal: Lit) -> u32
+    requires { (v : ℕ) → IfSome (get index.now v) (λ at. at < LARGEST) }
+    ensures { result ≡ link_to (get index.now (variable_of literal)) }
+{
+    match index.get(literal.var()) {
+        Some(position) => position + 1,
+        None => 0,
+    }
+}
+
+/// What a gate needs.
+#[inline(always)]
+fn look_up(index: &VarMap<u32>, gate: &Gate) -> Needs
+    requires { (v : ℕ) → IfSome (get index.now v) (λ at. at < LARGEST) }
+    ensures { result ≡ record {
+      left = link_to (get index.now (variable_of gate.now.left));
+      right = link_to (get index.now (variable_of gate.now.right));
+    } }
+{
+    Needs {
+        left: needed(index, gate.left),
+        right: needed(index, gate.right),
+    }
+}
+
+/// What all gates need.
+pub(super) fn all_needs(alloc: Global, circuit: &Circuit) -> Result<Vec<Needs>, AllocError>
+    requires { length circuit.now.gates ≤ LARGEST }
+    ensures { IfOk result (λ all. all.items ≡ map (needs_of circuit.now.gates) circuit.now.gates) }
+{
+    let gates = circuit.gates.as_slice();
+    let index = gate_index(alloc, gates, circuit.max_var)?;
+    let mut all = Vec::with_capacity(alloc, gates.len())?;
+    for gate in gates {
+        all.push(look_up(&index, gate))?;
+    }
+    Ok(all)
+}
