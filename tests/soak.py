@@ -36,6 +36,7 @@ from pathlib import Path
 sys.dont_write_bytecode = True
 import batches
 import images
+import refusals
 import traces
 import unrolled
 import witnesses
@@ -151,8 +152,8 @@ def wrong_form(call, output, errors, status):
         return None
     if status == 2 and errors.startswith(b"error: "):
         return "no output" if output else None
-    if not re.fullmatch(rb"aiger: [^\n]+\n", errors):
-        return "one line 'aiger: ..' on standard error"
+    if not refusals.kind_of(errors):
+        return "one line 'aiger: ..' of a kind that is known on standard error"
     if errors == b"aiger: out of memory\n" and not may_lack_memory(call):
         return "memory is enough"
     may_write = call.words[0] == "aigsim" and "--batch" not in call.words and errors.endswith(b": bad stimulus line\n")
@@ -392,14 +393,19 @@ def trace_of(made, given):
     return traces.texts(made, witnesses.lines_of(given.decode("latin-1")))
 
 
+def wanted_trace(made, name, given, words):
+    """Standard output, standard error and the status of a simulation with these words, over the stimulus of this name."""
+    texts, bad_at = trace_of(made, given)
+    errors = f"aiger: {name}: line {bad_at}: bad stimulus line\n".encode() if bad_at else b""
+    output = b"" if bad_at and "--batch" in words else texts["--properties" in words]
+    return output, errors, 1 if bad_at else 0
+
+
 def same_trace(here, models, made, given):
     """The models have the trace that is evaluated here, without and with properties, also as a batch."""
-    texts, bad_at = trace_of(made, given)
-    for model, batch, which in itertools.product(models, ([], ["--batch"]), (0, 1)):
-        call, name = simulation(here.chance, model, given, *batch, *["--properties"] * which)
-        errors = f"aiger: {name}: line {bad_at}: bad stimulus line\n".encode() if bad_at else b""
-        output = b"" if bad_at and batch else texts[which]
-        here.expect("the trace", call, output, errors, 1 if bad_at else 0)
+    for model, batch, shown in itertools.product(models, ([], ["--batch"]), ([], ["--properties"])):
+        call, name = simulation(here.chance, model, given, *batch, *shown)
+        here.expect("the trace", call, *wanted_trace(made, name, given, call.words))
 
 
 def program_trace(here, model, rows):

@@ -1,0 +1,52 @@
+"""What the program says where it refuses: which kinds of lines there are on standard error, and of which kind a line is."""
+import re
+
+# of a file, of its map, of what it is used for, and of devices: behind the file's name. Each number is N.
+OF_FILES = """line N: not an AIGER file
+line N: bad header
+line N: number above the limit
+line N: bad line
+line N: not a variable
+line N: literal out of range
+line N: bad reset
+line N: file ends too early
+gate N: file ends too early
+gate N: bad delta
+line N: bad symbol line
+line N: symbol position out of range
+line N: symbol given twice
+variable N defined twice
+literal N not defined
+gate N depends on a cycle""".split("\n")
+OF_MAPS = """not in binary order
+no map
+map line N: bad line
+map counts differ
+map does not belong to this circuit""".split("\n")
+OF_USE = """justice or fairness cannot be unrolled
+too large to unroll
+line N: bad stimulus line
+line N: bad witness line""".split("\n")
+OF_DEVICES = ["cannot read", "cannot write"]
+NAMED = [*OF_FILES, *OF_MAPS, *OF_USE, *OF_DEVICES]
+# of memory and of arguments, without a name; and what clap refuses, in words of its own
+OF_MEMORY = "out of memory"
+OF_ARGUMENTS = """--keep-map needs binary output
+--keep-map excludes --strip
+--keep-map excludes --undo-map
+model and stimulus are both standard input
+compressed output is not supported
+--witness stands alone
+an argument is not UTF-8 text""".split("\n")
+BY_CLAP = "error: .."
+ALL = [*NAMED, OF_MEMORY, *OF_ARGUMENTS, BY_CLAP]
+
+FORMS = {kind: re.compile(f"aiger: [^\n]*: {re.escape(kind)}\n") for kind in NAMED}
+FORMS.update({kind: re.compile(f"aiger: {re.escape(kind)}\n") for kind in (OF_MEMORY, *OF_ARGUMENTS)})
+FORMS[BY_CLAP] = re.compile("error: .*", re.DOTALL)
+
+
+def kind_of(errors):
+    """The kind of a refusal by all that is on standard error, if it is one."""
+    said = re.sub(rb"\d+", b"N", errors).decode("latin-1")
+    return next((kind for kind, form in FORMS.items() if form.fullmatch(said)), None)

@@ -1,0 +1,106 @@
+"""Small circuits, what each tool makes of them, and how a tool is run over them: what the hostile scripts have in common.
+
+Each answer was worked out by hand from docs/FORMAT.md. Between them the circuits have each section of a file, resets of each
+kind, symbols of each kind, and comments.
+"""
+import dataclasses
+import os
+import signal
+import tempfile
+from pathlib import Path
+
+# how many seconds a run may take
+PATIENCE = 20
+
+HALF = b"aag 7 2 0 2 3\n2\n4\n6\n12\n6 13 15\n12 2 4\n14 3 5\ni0 x\ni1 y\no0 s\no1 c\nc\nhalf adder\n"
+HALF_GATES = b"aig 5 2 0 2 3\n10\n6\n\x02\x02\x03\x02\x01\x02"
+HALF_NAMES = b"i0 x\ni1 y\no0 s\no1 c\nc\n"
+HALF_IMAGE = HALF_GATES + HALF_NAMES + b"half adder\n"
+HALF_BLOCK = b"aigmap 1 7 2 0 3 1\n1\n2\n3 2 1\n6 0 1\n7 1 1\naigmap end\n"
+HALF_MAPPED = HALF_GATES + HALF_NAMES + HALF_BLOCK + b"half adder\n"
+EQUAL = b"aag 2 1 0 1 1\n2\n4\n4 2 2\n"
+EQUAL_IMAGE = b"aig 2 1 0 1 1\n4\n\x02\x00"
+EQUAL_MAPPED = EQUAL_IMAGE + b"c\naigmap 1 2 1 0 1 0\n1\n2 0 0\naigmap end\n"
+TOGGLE = b"aag 1 0 1 2 0\n2 3\n2\n3\n"
+HELD = b"aag 3 1 1 1 1\n2\n4 6\n6\n6 2 5\n"
+HELD_IMAGE = b"aig 3 1 1 1 1\n6\n6\n\x01\x03"
+BAD = b"aag 1 0 1 0 0 1\n2 3\n2\n"
+EVERY = b"aag 9 1 2 1 1 2 1 2 1\n18\n4 19 1\n14 4 14\n6\n14\n15\n7\n2\n1\n19\n4\n6\n5\n6 19 14\n"
+EVERY_NAMES = b"b1 a\nc0 b\nj0 c\nf0 d\no0 e\nl1 f\ni0 g\nc\n"
+EVERY_IMAGE = b"aig 4 1 2 1 1 2 1 2 1\n3 1\n4 6\n8\n6\n7\n9\n2\n1\n3\n4\n8\n5\n\x02\x03"
+EVERY_MAPPED = EVERY_IMAGE + EVERY_NAMES + b"aigmap 1 9 1 2 1 1\n9\n2\n7\n3 0 1\naigmap end\nx"
+
+
+@dataclasses.dataclass
+class Row:
+    """The words of a command line, its standard input, what else is read, the file `model` or `steps`, and its output."""
+
+    name: str
+    words: str
+    given: bytes
+    output: bytes
+    files: dict = dataclasses.field(default_factory=dict)
+
+
+def simulated(name, words, model, steps, output):
+    """A simulation, once with the model and once with the stimulus or the witness by standard input."""
+    yield Row(name, f"aigsim {words} model", steps, output, {"model": model})
+    yield Row(f"{name}, the model by standard input", f"aigsim {words} - steps", model, output, {"steps": steps})
+
+
+ROWS = [
+    Row("a half adder to binary", "aigtoaig", HALF, HALF_IMAGE),
+    Row("a half adder to binary, stripped", "aigtoaig --strip", HALF, HALF_GATES),
+    Row("a half adder with its map", "aigtoaig --keep-map", HALF, HALF_MAPPED),
+    Row("a half adder by its map", "aigtoaig --undo-map --ascii", HALF_MAPPED, HALF),
+    Row("equal operands with their map", "aigtoaig --keep-map", EQUAL, EQUAL_MAPPED),
+    Row("equal operands by their map", "aigtoaig --undo-map --ascii", EQUAL_MAPPED, EQUAL),
+    *simulated("a toggle", "", TOGGLE, b"\n\n\n.\n", b"0  01 1\n1  10 0\n0  01 1\n.\n"),
+    *simulated("a latch and a gate", "", HELD, b"1\n1\n", b"0 1 1 1\n1 1 0 0\n.\n"),
+    Row("a latch and a gate, unrolled", "aigunroll --frames 2 --ascii", HELD, b"aag 4 2 0 2 2\n2\n4\n6\n8\n6 2 1\n8 7 4\n"),
+    Row("a latch and a gate, unrolled to binary", "aigunroll --frames 2", HELD, b"aig 4 2 0 2 2\n6\n8\n\x04\x01\x01\x03"),
+    Row("a latch and a gate to binary", "aigtoaig", HELD, HELD_IMAGE),
+    *simulated("two runs", "", HELD_IMAGE, b"1\n.\n1\n.\n", b"0 1 1 1\n.\n0 1 1 1\n.\n"),
+    *simulated("two runs in a batch", "--batch", HELD_IMAGE, b"1\n.\n1\n.\n", b"0 1 1 1\n.\n0 1 1 1\n.\n"),
+    *simulated("a witness", "--witness", BAD, b"1\nb0\n0\n\n\n.\n", b"confirmed 1\n"),
+    Row("every section", "aigtoaig --ascii", EVERY + EVERY_NAMES, EVERY + EVERY_NAMES),
+    Row("every section with its map", "aigtoaig --keep-map", EVERY + EVERY_NAMES + b"x", EVERY_MAPPED),
+    Row("every section by its map", "aigtoaig --undo-map --ascii", EVERY_MAPPED, EVERY + EVERY_NAMES + b"x"),
+    *simulated("every section simulated", "--properties", EVERY, b"0\n1\n", b"1x 0 x 11 xx x\n11 1 0 01 10 1\n.\n"),
+    *simulated("every section in a batch", "--batch --properties", EVERY_MAPPED, b".\n0\n", b".\n1x 0 x 11 xx x\n.\n"),
+    *simulated("every section and a witness", "--witness", EVERY, b"1\nb1\n1x\n1\n0\n.\n", b"not confirmed\n"),
+]
+
+
+def status_of(row):
+    """The status with which a row ends well."""
+    return 1 if row.output == b"not confirmed\n" else 0
+
+
+class Runner:
+    """Runs the program in a folder of its own, made under this one, over files that are there by name."""
+
+    def __init__(self, program, under):
+        self.program = program
+        os.chdir(tempfile.mkdtemp(dir=under))
+        signal.signal(signal.SIGALRM, signal.default_int_handler)
+
+    def put(self, name, text):
+        Path(name).write_bytes(text)
+
+    def run(self, words, given, environment=None):
+        """Standard output, standard error and the status of these words over this standard input; a signal is a status
+        below 0, and SIGKILL a run that took too long."""
+        self.put("given", given)
+        to = os.O_WRONLY | os.O_CREAT | os.O_TRUNC
+        streams = [(0, "given", os.O_RDONLY), (1, "output", to), (2, "errors", to)]
+        actions = [(os.POSIX_SPAWN_OPEN, stream, name, how, 0o600) for stream, name, how in streams]
+        child = os.posix_spawn(self.program, [self.program, *words], environment or {}, file_actions=actions)
+        signal.alarm(PATIENCE)
+        try:
+            _, ended = os.waitpid(child, 0)
+        except KeyboardInterrupt:
+            os.kill(child, signal.SIGKILL)
+            _, ended = os.waitpid(child, 0)
+        signal.alarm(0)
+        return Path("output").read_bytes(), Path("errors").read_bytes(), os.waitstatus_to_exitcode(ended)
