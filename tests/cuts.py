@@ -1,14 +1,14 @@
 #!/usr/bin/env python3
-"""Cuts small files after each byte, and changes each byte to ten others, and gives them to every tool that takes them.
+"""Cuts small files after each byte, changes each byte to ten others, and gives them to every tool that takes them.
 
     tests/cuts.py PROGRAM
 
-The files are those of small_rows.py: circuits in ASCII and binary, with and without a map, stimuli and witnesses. What is
-refused as a circuit must be refused by all tools in the same words. What is accepted must have the image, the traces, the
-unrolled circuit and the answer to a witness that are worked out here from its ASCII text. A cut or changed stimulus must have
-the trace that is worked out here up to its first bad line, and nothing with --batch if there is one; a witness must have its
-answer. Whatever comes, the status is 0, 1 or 2, a refusal is one line of a kind that is known, and with it nothing is sent
-but the trace before a bad line.
+The files are those of small_rows.py: circuits in ASCII and binary, with and without a map, stimuli and
+witnesses. What is refused as a circuit must be refused by all tools in the same words. What is accepted must
+have the image, the traces, the unrolled circuit and the answer to a witness that are worked out here from its
+ASCII text. A cut or changed stimulus must have the trace that is worked out here up to its first bad line, and
+nothing with --batch if there is one; a witness must have its answer. Whatever comes, the status is 0, 1 or 2, a
+refusal is one line of a kind that is known, and with it nothing is sent but the trace before a bad line.
 
 The last line is 'N passed, M failed', and counts files that were cut or changed.
 """
@@ -166,16 +166,14 @@ def main(program):
                 some, said = it.result()
                 came += some
                 wrong += said
-            print(f"{name}: {came['cuts']} cuts, {came['changes']} changes, {came['runs']} runs, {came['answers']} answered")
+            counts = f"{came['cuts']} cuts, {came['changes']} changes, {came['runs']} runs, {came['answers']} answered"
+            print(f"{name}: {counts}")
             total += came
     for kind in refusals.ALL:
         if total[kind]:
             print(f"{total[kind]:7} {kind}")
     print(f"{total['runs']} runs, {total['answers']} answered, {total['runs'] - total['answers']} refused")
-    for said in wrong[:5]:
-        print(f"FAILED {said}")
-    print(f"{total['cuts'] + total['changes'] - len(wrong)} passed, {len(wrong)} failed")
-    sys.exit(bool(wrong))
+    rows.finish(wrong, total["cuts"] + total["changes"] - len(wrong))
 
 
 if __name__ == "__main__":

@@ -1,4 +1,5 @@
-"""What the program says where it refuses: which kinds of lines there are on standard error, and of which kind a line is."""
+"""What the program says where it refuses: which kinds of lines there are on standard error, and of which kind a
+line is."""
 import re
 
 # of a file, of its map, of what it is used for, and of devices: behind the file's name. Each number is N.

@@ -1,16 +1,22 @@
-"""Small circuits, what each tool makes of them, and how a tool is run over them: what the hostile scripts have in common.
+"""What the hostile scripts have in common: small circuits, what each tool makes of them, and how it is run.
 
-Each answer was worked out by hand from docs/FORMAT.md. Between them the circuits have each section of a file, resets of each
-kind, symbols of each kind, and comments.
+Each answer was worked out by hand from docs/FORMAT.md. Between them the circuits have each section of a file,
+resets of each kind, symbols of each kind, and comments.
 """
+import collections
+import concurrent.futures
 import dataclasses
 import os
 import signal
+import subprocess
+import sys
 import tempfile
 from pathlib import Path
 
 # how many seconds a run may take
 PATIENCE = 20
+# compiles fail_call.c in the way that the other scripts have
+COMPILE = '. "$0/rows.sh"; . "$0/judge.sh"; compile_preload fail_call && cp "$work/fail_call.so" "$1"'
 
 HALF = b"aag 7 2 0 2 3\n2\n4\n6\n12\n6 13 15\n12 2 4\n14 3 5\ni0 x\ni1 y\no0 s\no1 c\nc\nhalf adder\n"
 HALF_GATES = b"aig 5 2 0 2 3\n10\n6\n\x02\x02\x03\x02\x01\x02"
@@ -24,6 +30,8 @@ EQUAL_MAPPED = EQUAL_IMAGE + b"c\naigmap 1 2 1 0 1 0\n1\n2 0 0\naigmap end\n"
 TOGGLE = b"aag 1 0 1 2 0\n2 3\n2\n3\n"
 HELD = b"aag 3 1 1 1 1\n2\n4 6\n6\n6 2 5\n"
 HELD_IMAGE = b"aig 3 1 1 1 1\n6\n6\n\x01\x03"
+HELD_TWICE = b"aag 4 2 0 2 2\n2\n4\n6\n8\n6 2 1\n8 7 4\n"
+HELD_TWICE_IMAGE = b"aig 4 2 0 2 2\n6\n8\n\x04\x01\x01\x03"
 BAD = b"aag 1 0 1 0 0 1\n2 3\n2\n"
 EVERY = b"aag 9 1 2 1 1 2 1 2 1\n18\n4 19 1\n14 4 14\n6\n14\n15\n7\n2\n1\n19\n4\n6\n5\n6 19 14\n"
 EVERY_NAMES = b"b1 a\nc0 b\nj0 c\nf0 d\no0 e\nl1 f\ni0 g\nc\n"
@@ -33,7 +41,7 @@ EVERY_MAPPED = EVERY_IMAGE + EVERY_NAMES + b"aigmap 1 9 1 2 1 1\n9\n2\n7\n3 0 1\
 
 @dataclasses.dataclass
 class Row:
-    """The words of a command line, its standard input, what else is read, the file `model` or `steps`, and its output."""
+    """The words of a command line, its standard input, its output, and the file `model` or `steps` if it has one."""
 
     name: str
     words: str
@@ -57,8 +65,8 @@ ROWS = [
     Row("equal operands by their map", "aigtoaig --undo-map --ascii", EQUAL_MAPPED, EQUAL),
     *simulated("a toggle", "", TOGGLE, b"\n\n\n.\n", b"0  01 1\n1  10 0\n0  01 1\n.\n"),
     *simulated("a latch and a gate", "", HELD, b"1\n1\n", b"0 1 1 1\n1 1 0 0\n.\n"),
-    Row("a latch and a gate, unrolled", "aigunroll --frames 2 --ascii", HELD, b"aag 4 2 0 2 2\n2\n4\n6\n8\n6 2 1\n8 7 4\n"),
-    Row("a latch and a gate, unrolled to binary", "aigunroll --frames 2", HELD, b"aig 4 2 0 2 2\n6\n8\n\x04\x01\x01\x03"),
+    Row("a latch and a gate, unrolled", "aigunroll --frames 2 --ascii", HELD, HELD_TWICE),
+    Row("a latch and a gate, unrolled to binary", "aigunroll --frames 2", HELD, HELD_TWICE_IMAGE),
     Row("a latch and a gate to binary", "aigtoaig", HELD, HELD_IMAGE),
     *simulated("two runs", "", HELD_IMAGE, b"1\n.\n1\n.\n", b"0 1 1 1\n.\n0 1 1 1\n.\n"),
     *simulated("two runs in a batch", "--batch", HELD_IMAGE, b"1\n.\n1\n.\n", b"0 1 1 1\n.\n0 1 1 1\n.\n"),
@@ -88,14 +96,20 @@ class Runner:
     def put(self, name, text):
         Path(name).write_bytes(text)
 
-    def run(self, words, given, environment=None):
-        """Standard output, standard error and the status of these words over this standard input; a signal is a status
-        below 0, and SIGKILL a run that took too long."""
-        self.put("given", given)
-        to = os.O_WRONLY | os.O_CREAT | os.O_TRUNC
-        streams = [(0, "given", os.O_RDONLY), (1, "output", to), (2, "errors", to)]
-        actions = [(os.POSIX_SPAWN_OPEN, stream, name, how, 0o600) for stream, name, how in streams]
+    def run(self, words, given, environment=None, source="given", output="output"):
+        """Standard output, standard error and the status of these words over this standard input, or over another file
+        that is there by name; a signal is a status below 0, and SIGKILL a run that took too long. Standard output may
+        go to another file, or to a descriptor; then nothing of it is read here."""
+        if given is not None:
+            self.put("given", given)
+        errors, to_errors = os.pipe()
+        actions = [(os.POSIX_SPAWN_OPEN, 0, source, os.O_RDONLY, 0), (os.POSIX_SPAWN_DUP2, to_errors, 2)]
+        if isinstance(output, int):
+            actions.append((os.POSIX_SPAWN_DUP2, output, 1))
+        else:
+            actions.append((os.POSIX_SPAWN_OPEN, 1, output, os.O_WRONLY | os.O_CREAT | os.O_TRUNC, 0o600))
         child = os.posix_spawn(self.program, [self.program, *words], environment or {}, file_actions=actions)
+        os.close(to_errors)
         signal.alarm(PATIENCE)
         try:
             _, ended = os.waitpid(child, 0)
@@ -103,4 +117,32 @@ class Runner:
             os.kill(child, signal.SIGKILL)
             _, ended = os.waitpid(child, 0)
         signal.alarm(0)
-        return Path("output").read_bytes(), Path("errors").read_bytes(), os.waitstatus_to_exitcode(ended)
+        with open(errors, "rb") as said:
+            sent = Path(output).read_bytes() if output == "output" else b""
+            return sent, said.read(), os.waitstatus_to_exitcode(ended)
+
+
+def finish(wrong, passed):
+    """Says what was wrong, and how much was right."""
+    for said in wrong[:5]:
+        print(f"FAILED {said}")
+    print(f"{passed} passed, {len(wrong)} failed")
+    sys.exit(bool(wrong))
+
+
+def judge_rows(judged, program):
+    """Judges each row in a process of its own, by a function of the program, of what fail_call.c was compiled to, of
+    a folder and of the row's number, which gives how often what came, and what was wrong. Prints the sums."""
+    total, wrong = collections.Counter(), []
+    with tempfile.TemporaryDirectory() as under, concurrent.futures.ProcessPoolExecutor(os.cpu_count()) as pool:
+        said = subprocess.run(["bash", "-c", COMPILE, Path(__file__).parent, under], capture_output=True, check=False)
+        preload = f"{under}/fail_call.so"
+        if not os.path.exists(preload):
+            finish([f"tests/fail_call.c compiles: {said}"], 0)
+        asked = [pool.submit(judged, os.path.abspath(program), preload, under, number) for number in range(len(ROWS))]
+        for came, said in (it.result() for it in asked):
+            total += came
+            wrong += said
+    for kind, count in sorted(total.items()):
+        print(f"{count:7} {kind}")
+    finish(wrong, total.total() - len(wrong))

@@ -1,0 +1,85 @@
+#!/usr/bin/env python3
+"""Runs the rows of small_rows.py with little memory: from as much as lets the program begin to as much as it needs.
+
+    tests/little_memory.py PROGRAM
+
+fail_call.c tells whether the program began, or whether the loader could not make it ready before that. A
+program that began answers as it would with ample memory, or that it is out of memory, with status 1, and then
+it has sent nothing. The limit (`ulimit -v`) goes up in steps of a page until the row was answered some times.
+
+The stack has all its pages before the program begins. It is the system that lets a stack grow, at any call, and
+if there is no memory for that it ends the program by a signal, which no program can answer. So each row is also
+run with no more stack than that, and must be answered.
+
+The last line is 'N passed, M failed', and counts runs.
+"""
+import collections
+import os
+import sys
+
+sys.dont_write_bytecode = True
+import small_rows as rows
+
+# in kilobytes: where the search for the beginning starts, its steps, those of the sweep, and the most there may be
+FIRST, FAR, NEAR, MOST = 1024, 64, 4, 65536
+# how often a row is to be answered
+ANSWERS = 8
+# how many kilobytes of stack there are
+STACK = 256
+LIMITED = ["-c", 'ulimit -v "$0" && LD_PRELOAD=$PRELOAD exec "$@"']
+WITH_STACK = ["-c", 'ulimit -s "$0" && exec "$@"']
+
+
+class Sweep:
+    """A row, and what came of it with little memory."""
+
+    def __init__(self, program, preload, under, number):
+        self.row, self.came, self.wrong = rows.ROWS[number], collections.Counter(), []
+        self.runner = rows.Runner("/bin/sh", under)
+        self.environment = {"PRELOAD": preload, "STARTED": "started", "STACK": str(1024 * STACK)}
+        self.words = [program, *self.row.words.split()]
+        for name, text in self.row.files.items():
+            self.runner.put(name, text)
+
+    def within(self, limit):
+        """Whether the program began with so many kilobytes, and what came."""
+        came = self.runner.run([*LIMITED, str(limit), *self.words], self.row.given, self.environment)
+        has_begun = os.path.exists("started")
+        if has_begun:
+            os.unlink("started")
+        return has_begun, came
+
+    def least(self):
+        """A limit near the least with which the program begins."""
+        return next((limit - FAR for limit in range(FIRST, MOST, FAR) if self.within(limit)[0]), MOST)
+
+    def with_stack(self):
+        """The row with so much stack and no more."""
+        came = self.runner.run([*WITH_STACK, str(STACK), *self.words], self.row.given)
+        self.came[f"answered with {STACK} KB of stack"] += 1
+        if came != (self.row.output, b"", rows.status_of(self.row)):
+            self.wrong.append(f"{self.row.name}, {STACK} KB of stack: came {came!r}")
+
+    def sweep(self):
+        answers = {(b"", b"aiger: out of memory\n", 1): "out of memory"}
+        answers[self.row.output, b"", rows.status_of(self.row)] = "answered"
+        for limit in range(self.least(), MOST, NEAR):
+            has_begun, came = self.within(limit)
+            kind = answers.get(came) if has_begun else "not begun" if came[2] and not came[0] else None
+            self.came[kind or "wrong"] += 1
+            if not kind:
+                self.wrong.append(f"{self.row.name}, {limit} KB: came {came!r}")
+            if self.came["answered"] == ANSWERS:
+                return
+        self.wrong.append(f"{self.row.name}: not answered with {MOST} KB")
+
+
+def judged(program, preload, under, number):
+    it = Sweep(program, preload, under, number)
+    it.with_stack()
+    it.sweep()
+    return it.came, it.wrong
+
+
+if __name__ == "__main__":
+    rows.judge_rows(judged, *sys.argv[1:])
