@@ -247,8 +247,25 @@ rows_ends() {
     refuses 'a CR first in a line' 'aag 1 1 0 0 0\n\r2\n' 'line 2: bad line'
     refuses 'a TAB at the end of a line' 'aag 1 1 0 0 0\n2\t\n' 'line 2: bad line'
 
-    # one text, cut after each of its bytes
-    local text='aag 3 1 1 2 0\n6\n2 7\n2\n0\n' cut answer plain
+    # texts, cut after each of their bytes
+    local text='aag 2 1 0 1 1\n2\n4\n4 2 2\n' cut answer plain
+    plain=$(printf '%b.' "$text")
+    for ((cut = 3; cut <= 24; cut++)); do
+        case $cut in
+            3 | 4 | 5 | 6 | 7 | 8 | 9 | 10 | 11 | 12) answer='line 1: bad header' ;;
+            13 | 14) answer='line 2: file ends too early' ;;
+            15 | 16) answer='line 3: file ends too early' ;;
+            17 | 18) answer='line 4: file ends too early' ;;
+            19 | 20 | 21 | 22) answer='line 4: bad line' ;;
+            *) answer='' ;;
+        esac
+        if [ -n "$answer" ]; then
+            refuses "a gate cut after $cut bytes" "${plain:0:cut}" "$answer"
+        else
+            accepts "a gate cut after $cut bytes" "${plain:0:cut}" "$text"
+        fi
+    done
+    text='aag 3 1 1 2 0\n6\n2 7\n2\n0\n'
     plain=$(printf '%b.' "$text")
     for ((cut = 0; cut <= 24; cut++)); do
         case $cut in
@@ -464,6 +481,7 @@ rows_binary_lines() {
     refuses 'a missing output line' 'aig 1 0 1 1 0\n2\n' 'line 3: file ends too early'
     refuses 'a last line without LF before the gates' 'aig 2 1 0 1 1\n4' 'gate 1: file ends too early'
     refuses 'a last line with CR alone before the gates' 'aig 2 1 0 1 1\n4\r' 'line 2: bad line'
+    refuses 'a header alone that asks for all binary latches' 'aig 2147483647 0 2147483647 0 0\n' 'line 2: file ends too early'
     refuses 'many inputs and a line that is missing' 'aig 2147483647 2147483647 0 1 0\n' 'line 2: file ends too early'
     refuses 'many inputs and a gate that is missing' 'aig 2147483647 2147483646 0 0 1\n' 'gate 1: file ends too early'
     refuses 'a symbol out of range in binary' 'aig 1 1 0 0 0\ni1 a\n' 'line 2: symbol position out of range'
@@ -1027,6 +1045,8 @@ rows_words() {
     misused 'a limit above the largest' "invalid value '2147483648' for '--max-var <N>': 2147483648 is not in 0..=2147483647" aigtoaig --max-var 2147483648
     row 'a limit that is reached' "$small" "$small" '' 0 aigtoaig --max-var 3 --ascii
     row 'a limit that is passed' "$small" '' 'aiger: -: line 1: number above the limit\n' 1 aigtoaig --ascii --max-var=2
+    row 'inputs that are not listed, above the limit' 'aig 3 3 0 0 0\n' '' 'aiger: -: line 1: number above the limit\n' 1 \
+        aigtoaig --ascii --max-var 2
     row 'a limit of nothing' 'aag 0 0 0 0 0\n' 'aig 0 0 0 0 0\n' '' 0 aigtoaig --max-var=0
     row 'symbols and comment left out' 'aag 1 1 0 0 0\n2\ni0 a\nc\nx\n' 'aag 1 1 0 0 0\n2\n' '' 0 aigtoaig --strip --ascii
     row 'symbols and comment left out of a binary file' 'aag 9 1 0 1 0\n18\n19\ni0 a\nc\n' 'aig 1 1 0 1 0\n3\n' '' 0 aigtoaig --strip
