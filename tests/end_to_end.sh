@@ -417,6 +417,51 @@ check '20,000 gates over 50 frames in 10 MB of memory' within 10240 "$program" a
 within 10240 "$program" aigunroll --frames 50 < "$work/in" 2> "$work/err" | convert 2> /dev/null > "$work/out"
 judge '20,000 gates over 50 frames in 10 MB of memory, to binary' "${PIPESTATUS[0]}"
 
+# a chain of 200,000 gates, each over the one behind it, so that numbers and places go in opposite orders
+{
+    printf 'aag 200001 1 0 1 200000\n2\n4\n'
+    seq 2 200000 | awk '{ print 2 * $1, 2 * $1 + 2, 2 }'
+    printf '400002 2 2\n'
+} > "$work/chain"
+# chain_over FRAMES: the chain unrolled, over an input in each frame
+chain_over() {
+    awk -v frames="$1" -v gates=200000 'BEGIN {
+        printf "aag %d %d 0 %d %d\n", frames + frames * gates, frames, frames, frames * gates
+        for (frame = 1; frame <= frames; frame++) print 2 * frame
+        for (frame = 1; frame <= frames; frame++) print 2 * (frames + frame * gates)
+        for (gate = 0; gate < frames * gates; gate++) {
+            own = 2 * (frames + 1 + gate)
+            input = 2 * int(gate / gates) + 2
+            print own, gate % gates ? own - 2 : input, input
+        }
+    }'
+}
+# its binary text: the first deltas are 2 and 0, and those of the gate of variable n are 2 and 2n - 4
+image_of_chain() {
+    PYTHONPATH=$top/tests python3 -B -c '
+import images, sys
+deltas = b"".join(images.spelled(2) + images.spelled(2 * n - 4) for n in range(2, 200002))
+sys.stdout.buffer.write(b"aig 200001 1 0 1 200000\n400002\n" + deltas)'
+}
+wants '' '' 0
+image_of_chain > "$work/want_out"
+check 'the image of 200,000 gates, each over the one behind it' "$program" aigtoaig < "$work/chain"
+cp "$work/chain" "$work/want_out"
+check '200,000 gates, each over the one behind it, come back' convert < "$work/chain"
+check '200,000 gates, each over the one behind it, come back by their map' with_map "$work/chain"
+wants ' 1 1 \n.\n' '' 0
+printf '1\n' > "$work/in"
+check '200,000 gates, each over the one behind it, are simulated' "$program" aigsim "$work/chain" < "$work/in"
+check '200,000 gates, each over the one behind it, in a batch' "$program" aigsim --batch "$work/chain" < "$work/in"
+wants '' '' 0
+for frames in 1 3; do
+    chain_over $frames > "$work/want_out"
+    check "200,000 gates, each over the one behind it, over $frames frames" unroll $frames --ascii < "$work/chain"
+    "$program" aigtoaig < "$work/want_out" > "$work/in"
+    cp "$work/in" "$work/want_out"
+    check "200,000 gates, each over the one behind it, over $frames frames, to binary" unroll $frames < "$work/chain"
+done
+
 # least_memory WORD..: how many kilobytes the words need over the file in, up to 128 more than that
 least_memory() {
     local enough=65536 few=1024 between
