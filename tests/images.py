@@ -208,15 +208,19 @@ def converted(program, text, *words):
     return ran.stdout if (ran.returncode, ran.stderr) == (0, b"") else ran
 
 
+def told_of_cycle(gates):
+    """What is told of the first gate that the plain search leaves out, if there is one."""
+    order = placed(gates)
+    left = [gate for gate in gates if gate not in order]
+    return f"aiger: -: gate {left[0][0]} depends on a cycle\n".encode() if left else None
+
+
 def refused_for_cycle(program, gates, text):
     """Whether the first gate that the plain search leaves out is told, if there is one, to binary and to ASCII."""
-    left = [gate for gate in gates if gate not in placed(gates)]
+    told = told_of_cycle(gates)
     for ran in converted(program, text), converted(program, text, "--ascii"):
-        if isinstance(ran, bytes):
-            told = None
-        else:
-            told = (ran.returncode, ran.stdout, ran.stderr)
-        if told != ((1, b"", f"aiger: -: gate {left[0][0]} depends on a cycle\n".encode()) if left else None):
+        came = None if isinstance(ran, bytes) else (ran.returncode, ran.stdout, ran.stderr)
+        if came != ((1, b"", told) if told else None):
             return False
     return True
 

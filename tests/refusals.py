@@ -42,12 +42,20 @@ an argument is not UTF-8 text""".split("\n")
 BY_CLAP = "error: .."
 ALL = [*NAMED, OF_MEMORY, *OF_ARGUMENTS, BY_CLAP]
 
-FORMS = {kind: re.compile(f"aiger: [^\n]*: {re.escape(kind)}\n") for kind in NAMED}
-FORMS.update({kind: re.compile(f"aiger: {re.escape(kind)}\n") for kind in (OF_MEMORY, *OF_ARGUMENTS)})
-FORMS[BY_CLAP] = re.compile("error: .*", re.DOTALL)
+
+
+def form_of(kind):
+    """What standard error is where a refusal is of this kind."""
+    if kind == BY_CLAP:
+        return re.compile("error: .*", re.DOTALL)
+    name = "[^\n]*: " if kind in NAMED else ""
+    return re.compile(f"aiger: {name}{re.escape(kind)}\n".replace("N", r"\d+"))
+
+
+FORMS = {kind: form_of(kind) for kind in ALL}
 
 
 def kind_of(errors):
     """The kind of a refusal by all that is on standard error, if it is one."""
-    said = re.sub(rb"\d+", b"N", errors).decode("latin-1")
+    said = errors.decode("latin-1")
     return next((kind for kind, form in FORMS.items() if form.fullmatch(said)), None)

@@ -8,13 +8,16 @@ Without a seed there is a fresh one. A good round has a circuit of images.py or 
 in one of the ways that are accepted, and looks at what must hold between the answers: there and back, traces alike,
 the unrolled row is the trace, a witness is confirmed exactly where the trace says so. In a hostile round the bytes of
 a good file are edited. If every tool refuses it in the same words, that is well; if it is accepted, all of a good
-round must hold for it. In each run the status is 0, 1 or 2, there is one message at a refusal and none otherwise, and
+round must hold for it. Other rounds have circuits with cycles or with wrong definitions, images with edited maps, and
+sizes that are too large. In each run the status is 0, 1 or 2, there is one message at a refusal and none otherwise, and
 a refusal leaves nothing behind.
 
 The first failure ends the soak, and leaves a folder with what is needed to run the command again: under FOLDER, or
-where temporary files are. The last line is 'N passed, M failed', and counts rounds.
+where temporary files are. At the end stands how often each kind of refusal came, counted in runs. The last line is
+'N passed, M failed', and counts rounds.
 """
 import argparse
+import collections
 import concurrent.futures
 import dataclasses
 import io
@@ -41,7 +44,7 @@ import traces
 import unrolled
 import witnesses
 
-AT_ONCE = 2
+AT_ONCE = 4
 SECONDS = 60
 # of each run: how long it may take, and how much it may have of addresses
 PATIENCE = 20
@@ -52,10 +55,24 @@ MANY_INPUTS = 3000
 # second number on there is no memory for them
 WIDE, TOO_WIDE = 100_000, 2**29
 LIKELY = b"0123456789 \n\r\tcaigolbjfx.-\x00\x7f\x80\xff"
+LARGEST = 2**31 - 1
 LARGE = [0, 1, 7, 99, 1000, 65536, 100000, 2**31 - 2, 2**31 - 1, 2**31, 2**32, 2**32 + 1, 2**64 + 2, 10**30]
 WORDS = """aigtoaig aigtoaig aigsim aigsim aigunroll aigunroll --ascii --strip --keep-map --undo-map --max-var
     --max-var=9 --max-var=2147483648 --frames --frames=2 --frames=0 --batch --properties --witness --help -h -- -
     source source source out.aag out.aig out.gz 3 --unknown""".split() + [""]
+# what the arguments that refusals.py lists are refused for, in this order; and names of files that cannot be there
+REFUSED_WORDS = """aigtoaig --keep-map --ascii
+aigtoaig --strip --keep-map
+aigtoaig --undo-map --keep-map
+aigsim - -
+aigunroll --frames 2 - out.aig.gz
+aigsim --witness --batch model
+aigtoaig \udcff""".split("\n")
+NO_FILES = {
+    "aigtoaig none/source": "none/source: cannot read",
+    "aigsim none/model": "none/model: cannot read",
+    "aigtoaig - none/out.aag": "none/out.aag: cannot write",
+}
 AGAIN = """#!/bin/sh
 # Runs the command once more, over copies of its files: again.sh [PROGRAM]
 program=${1:-%s}
@@ -91,7 +108,7 @@ class Round:
 
     def __init__(self, program, room, chance):
         self.program, self.room, self.chance = program, room, chance
-        self.source, self.last = b"", Call([])
+        self.source, self.last, self.came = b"", Call([]), collections.Counter()
 
     def files(self):
         return {entry.name: Path(entry).read_bytes() for entry in os.scandir(self.room)}
@@ -113,6 +130,7 @@ class Round:
         except subprocess.TimeoutExpired:
             raise Failed("there is an answer in time", call, f"an answer within {PATIENCE} s", "none") from None
         came = done.stdout, done.stderr, done.returncode
+        self.came[refusals.kind_of(came[1]) if came[1] else "answered"] += 1
         wrong = wrong_form(call, *came)
         if wrong:
             raise Failed("each run has the form of an answer", call, wrong, came)
@@ -367,10 +385,13 @@ def limited(here, text, canonical, made):
 
 
 def undone(here, text, image):
-    """If the text itself is undone, it is the mapped image of what comes of it."""
-    output, _, status = here.ask(Call(["aigtoaig", "--undo-map", "--ascii"], text))
-    if status == 0:
-        here.converts("what is undone was converted so", image, output, "--keep-map")
+    """If the text itself is undone, it is the mapped image of what comes of it; or it is refused for its map."""
+    call = Call(["aigtoaig", "--undo-map", "--ascii"], text)
+    came = here.ask(call)
+    if came[2] == 0:
+        here.converts("what is undone was converted so", image, came[0], "--keep-map")
+    elif refusals.kind_of(came[1]) not in refusals.OF_MAPS:
+        raise Failed("what is accepted is refused for its map alone", call, refusals.OF_MAPS, came)
 
 
 def simulation(chance, model, steps, *words):
@@ -394,7 +415,7 @@ def trace_of(made, given):
 
 
 def wanted_trace(made, name, given, words):
-    """Standard output, standard error and the status of a simulation with these words, over the stimulus of this name."""
+    """Standard output, standard error and the status of a simulation with these words, over a stimulus of this name."""
     texts, bad_at = trace_of(made, given)
     errors = f"aiger: {name}: line {bad_at}: bad stimulus line\n".encode() if bad_at else b""
     output = b"" if bad_at and "--batch" in words else texts["--properties" in words]
@@ -592,6 +613,20 @@ def line_end(chance, text, _):
     return replaced(chance, rb"\r?\n", text, lambda _: chance.choice([b"\r\n", b"\r", b"", b"\n\n", b" \n", b"\n\r"]))
 
 
+def line_doubled(chance, text, _):
+    """The text with a line once more, directly behind it or at the end."""
+    lines = text.splitlines(True)
+    place = chance.randrange(len(lines)) if lines else 0
+    again = lines[place : place + 1]
+    return b"".join([*lines, *again] if chance.randrange(2) else [*lines[:place], *again, *lines[place:]])
+
+
+def cut_at_line(chance, text, _):
+    """The text up to the end of a line, or near it."""
+    ends = [found.end() for found in re.finditer(b"\n", text)] or [0]
+    return text[: max(0, chance.choice(ends) + chance.choice([-1, 0, 0, 1, 2]))]
+
+
 def line_ends(_, text, __):
     return text.replace(b"\n", b"\r\n")
 
@@ -604,7 +639,8 @@ def lines_exchanged(chance, text, _):
 
 
 EDITS = [other_bytes, less, more, moved, doubled, cut, joined, large_number, near_number, near_number, same_number]
-EDITS += [more_inputs, digit_doubled, line_end, line_ends, lines_exchanged]
+EDITS += [more_inputs, digit_doubled, line_end, line_ends, lines_exchanged, line_doubled, line_doubled, cut_at_line]
+MAP_EDITS = [near_number, same_number, lines_exchanged, lines_exchanged, digit_doubled, less, more, cut, line_end]
 
 
 def edited(chance, text, other):
@@ -662,6 +698,95 @@ def refused_alike(here, text, errors, limit):
         here.expect("a refusal has the file's name", Call(words, b"0\n", files), b"", told, 1)
 
 
+def cyclic_circuit(here):
+    """Of a circuit whose gates may go in a circle, all tools name the first gate that the plain search leaves out."""
+    made = images.circuit(here.chance, may_be_cyclic=True)
+    text, told = images.ascii_text(made), images.told_of_cycle(made.gates)
+    here.source = text
+    if told:
+        refused_alike(here, text, told, [])
+    else:
+        relations(here, text)
+
+
+def definitions(made):
+    return [*made.inputs, *made.latches, *(gate[0] // 2 for gate in made.gates)]
+
+
+def with_definitions(made, defined):
+    """The circuit, its definitions being of these variables."""
+    first, last = len(made.inputs), len(made.inputs) + len(made.latches)
+    gates = [(2 * variable, *operands) for variable, (_, *operands) in zip(defined[last:], made.gates)]
+    return dataclasses.replace(made, inputs=defined[:first], latches=defined[first:last], gates=gates)
+
+
+def told_of_definitions(made):
+    """What is told of the first variable that is defined twice, or of the first literal that is not defined."""
+    seen = {0}
+    for variable in definitions(made):
+        if variable in seen:
+            return f"aiger: -: variable {variable} defined twice\n".encode()
+        seen.add(variable)
+    used = itertools.chain(made.nexts, *made.lists(), *(gate[1:] for gate in made.gates))
+    wrong = next((literal for literal in used if literal // 2 not in seen), None)
+    return f"aiger: -: literal {wrong} not defined\n".encode() if wrong else None
+
+
+def misdefined_circuit(here):
+    """Of a circuit in which a definition has another variable, all tools tell of the one that is defined twice, or of a
+    literal that has none."""
+    chance, made = here.chance, circuit(here.chance)
+    defined = definitions(made)
+    if defined:
+        place = chance.randrange(len(defined))
+        others = [chance.choice(defined), chance.randrange(1, made.largest + 1)]
+        defined[place] = chance.choice(others)
+    made = with_definitions(made, defined)
+    here.source = images.ascii_text(made)
+    told = told_of_definitions(made)
+    if told:
+        refused_alike(here, here.source, told, [])
+    else:
+        relations(here, here.source)
+
+
+def hostile_map(here):
+    """An image whose map is edited is refused for its map, or it is the mapped image of what comes of it."""
+    chance, made = here.chance, bare(circuit(here.chance))
+    text = images.mapped_image(made)
+    before = images.image(made) + b"c\n"
+    map_and_rest = text[len(before) :]
+    for _ in range(4):
+        edits = chance.choices(MAP_EDITS, k=chance.choice([1, 1, 2]))
+        block = map_and_rest
+        for edit in edits:
+            block = edit(chance, block, map_and_rest)
+        here.source = before + block
+        undone(here, here.source, here.source)
+
+
+def wide_circuit(here):
+    """There is no memory for so many inputs without a line, and none is needed where a gate is missing behind them."""
+    count = here.chance.randrange(TOO_WIDE, LARGEST)
+    for words in (["aigtoaig"], ["aigtoaig", "--ascii"], ["aigunroll", "--frames", "1"]):
+        here.source = b"aig %d %d 0 0 0\n" % (count, count)
+        here.expect("inputs need memory", Call(words, here.source), b"", b"aiger: out of memory\n", 1)
+        here.source = b"aig %d %d 0 0 1\n" % (count + 1, count) + here.chance.choice([b"", b"\x02", b"\x80"])
+        told = b"aiger: -: gate 1: file ends too early\n"
+        here.expect("a header needs no memory", Call(words, here.source), b"", told, 1)
+
+
+def large_unrolling(here):
+    """A circuit that has too many inputs, outputs or bad states over so many frames is refused."""
+    chance, frames = here.chance, here.chance.choice([30000, 99999, 999999, 1000000])
+    count = LARGEST // frames + chance.choice([1, 2, 1000])
+    lines = b"%d\n" % chance.randrange(2) * count
+    texts = [b"aig %d %d 0 0 0\n" % (count, count), b"aag 0 0 0 %d 0\n" % count + lines]
+    for here.source in [*texts, b"aag 0 0 0 0 0 %d\n" % count + lines]:
+        call = Call(["aigunroll", "--frames", str(frames), *chance.choice([[], ["--ascii"]])], here.source)
+        here.expect("what would be too large is refused", call, b"", b"aiger: -: too large to unroll\n", 1)
+
+
 def hostile_steps(here):
     """An edited stimulus has the trace up to its first bad line, and an edited witness its answer."""
     chance = here.chance
@@ -685,28 +810,34 @@ def hostile_words(here):
             words = [chance.choice(WORDS[:6]), *words]
         given = chance.choice([text, b"0\n", b""])
         here.ask(Call(words, given, {"source": text, "out.aig": b"as it was\n"}))
+    for words, told in zip(REFUSED_WORDS, refusals.OF_ARGUMENTS):
+        here.expect("words are refused", Call(words.split(), text), b"", f"aiger: {told}\n".encode(), 2)
+    for words, told in NO_FILES.items():
+        here.expect("a file that is not there", Call(words.split(), text), b"", f"aiger: {told}\n".encode(), 1)
 
 
 KINDS = [good_round] * 4 + [hostile_circuit] * 7 + [hostile_steps] * 2 + [hostile_words]
+KINDS += [cyclic_circuit] + [misdefined_circuit] * 2 + [hostile_map] * 2 + [wide_circuit, large_unrolling]
 
 
 def run_round(program, seed, number):
-    """Nothing, or how this round failed, and the text that it is about."""
-    chance = random.Random(f"{seed} {number}")
+    """How often which answers came; and nothing, or how this round failed, and the text that it is about."""
+    chance, found = random.Random(f"{seed} {number}"), None
     with tempfile.TemporaryDirectory() as folder:
         here = Round(program, Path(folder), chance)
         try:
             chance.choice(KINDS)(here)
         except Failed as failed:
-            return failed, here.source
+            found = failed, here.source
         except Exception:
             # an answer that makes no sense to what is evaluated here
-            return Failed("an answer can be understood", here.last, "no exception", traceback.format_exc()), here.source
-    return None
+            failed = Failed("an answer can be understood", here.last, "no exception", traceback.format_exc())
+            found = failed, here.source
+    return here.came, found
 
 
 def as_bytes(it):
-    return it if isinstance(it, bytes) else f"{it}\n".encode()
+    return it if isinstance(it, bytes) else f"{it}\n".encode(errors="surrogateescape")
 
 
 def keep(program, failed, text, under, again):
@@ -725,14 +856,16 @@ def keep(program, failed, text, under, again):
     for name, content in kept.items():
         (folder / name).write_bytes(as_bytes(content))
     script = folder / "again.sh"
-    script.write_text(AGAIN % (shlex.quote(program), MEMORY // 1024, shlex.join(call.words)))
+    script.write_bytes(as_bytes(AGAIN % (shlex.quote(program), MEMORY // 1024, shlex.join(call.words))))
     script.chmod(0o755)
     return folder
 
 
 def soak(program, seed, numbers, seconds):
-    """How many rounds passed, and the first failure with its number and its text, if there is one."""
+    """How many rounds passed, how often which answers came, and the first failure with its number and its text, if
+    there is one."""
     ends, lock, passed, wrong = time.monotonic() + seconds, threading.Lock(), [], []
+    total = collections.Counter()
 
     def work():
         while not wrong and (not passed or time.monotonic() < ends):
@@ -740,13 +873,24 @@ def soak(program, seed, numbers, seconds):
                 number = next(numbers, None)
             if number is None:
                 return
-            found = run_round(program, seed, number)
+            came, found = run_round(program, seed, number)
+            with lock:
+                total.update(came)
             (wrong if found else passed).append((number, found))
 
     with concurrent.futures.ThreadPoolExecutor(AT_ONCE) as pool:
         for asked in [pool.submit(work) for _ in range(AT_ONCE)]:
             asked.result()
-    return len(passed), min(wrong, key=lambda it: it[0], default=None)
+    return len(passed), total, min(wrong, key=lambda it: it[0], default=None)
+
+
+def tell(total):
+    """How often which answers came, in runs, and which refusals never came."""
+    for kind in refusals.ALL:
+        if total[kind]:
+            print(f"{total[kind]:7} {kind}")
+    never = [kind for kind in refusals.ALL if not total[kind]]
+    print(f"{total.total()} runs, {total['answered']} answered; never came: {'; '.join(never) or 'none'}")
 
 
 def arguments():
@@ -771,7 +915,8 @@ def main():
         print(f"FAILED wanted an executable file {program}; came none\n0 passed, 1 failed")
         sys.exit(1)
     numbers = itertools.count() if asked.round is None else iter([asked.round])
-    passed, wrong = soak(program, seed, numbers, asked.seconds)
+    passed, total, wrong = soak(program, seed, numbers, asked.seconds)
+    tell(total)
     if wrong:
         number, (failed, text) = wrong
         again = f"tests/soak.py {shlex.quote(asked.program)} --seed {shlex.quote(seed)} --round {number}"
