@@ -21,7 +21,7 @@ sys.dont_write_bytecode = True
 import small_rows as rows
 
 # in kilobytes: where the search for the beginning starts, its steps, those of the sweep, and the most there may be
-FIRST, FAR, NEAR, MOST = 1024, 64, 4, 65536
+FIRST, FAR, NEAR, MOST = 1024, 64, 4, 16384
 # how often a row is to be answered
 ANSWERS = 8
 # how many kilobytes of stack there are
@@ -69,7 +69,7 @@ class Sweep:
             self.came[kind or "wrong"] += 1
             if not kind:
                 self.wrong.append(f"{self.row.name}, {limit} KB: came {came!r}")
-            if self.came["answered"] == ANSWERS:
+            if self.came["answered"] == ANSWERS or len(self.wrong) > ANSWERS:
                 return
         self.wrong.append(f"{self.row.name}: not answered with {MOST} KB")
 
