@@ -17,7 +17,6 @@ import concurrent.futures
 import itertools
 import os
 import sys
-import tempfile
 
 sys.dont_write_bytecode = True
 import images
@@ -155,7 +154,7 @@ def tasks():
 
 def main(program):
     program, total, wrong = os.path.abspath(program), collections.Counter(), []
-    with tempfile.TemporaryDirectory() as under, concurrent.futures.ProcessPoolExecutor(os.cpu_count()) as pool:
+    with rows.folder() as under, concurrent.futures.ProcessPoolExecutor(os.cpu_count()) as pool:
         asked = []
         for name, *task in tasks():
             for place in range(len(task[1]) + 1):

@@ -85,6 +85,11 @@ def status_of(row):
     return 1 if row.output == b"not confirmed\n" else 0
 
 
+def folder():
+    """A folder for many small files, which goes with the script: in memory, if there is such a place."""
+    return tempfile.TemporaryDirectory(dir="/dev/shm" if os.access("/dev/shm", os.W_OK) else None)
+
+
 class Runner:
     """Runs the program in a folder of its own, made under this one, over files that are there by name."""
 
@@ -134,9 +139,11 @@ def judge_rows(judged, program):
     """Judges each row in a process of its own, by a function of the program, of what fail_call.c was compiled to, of
     a folder and of the row's number, which gives how often what came, and what was wrong. Prints the sums."""
     total, wrong = collections.Counter(), []
-    with tempfile.TemporaryDirectory() as under, concurrent.futures.ProcessPoolExecutor(os.cpu_count()) as pool:
-        said = subprocess.run(["bash", "-c", COMPILE, Path(__file__).parent, under], capture_output=True, check=False)
-        preload = f"{under}/fail_call.so"
+    pools = concurrent.futures.ProcessPoolExecutor(os.cpu_count())
+    # a library is not loaded from everywhere, as from where there are only files in memory
+    with tempfile.TemporaryDirectory() as compiled, folder() as under, pools as pool:
+        said = subprocess.run(["bash", "-c", COMPILE, Path(__file__).parent, compiled], capture_output=True, check=False)
+        preload = f"{compiled}/fail_call.so"
         if not os.path.exists(preload):
             finish([f"tests/fail_call.c compiles: {said}"], 0)
         asked = [pool.submit(judged, os.path.abspath(program), preload, under, number) for number in range(len(ROWS))]
