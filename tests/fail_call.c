@@ -2,11 +2,11 @@
 
        FAIL_READ=3 PIECE=1 FAILED=/tmp/failed LD_PRELOAD=./fail_call.so aiger aigtoaig --ascii < some.aag
 
-   FAIL_READ and FAIL_WRITE are the number of the call that fails, from 1; 0 and nothing fail none. The call answers the error
-   ERROR, or EIO; with ERROR=0 it answers that no byte was moved. PIECE is how many bytes a call moves at most; 0 and nothing
-   leave that alone. What goes to standard error is let through and not counted, so that the message is seen. The file
-   FAILED is made when a call fails, and the file STARTED when the program begins, once it was loaded and before its main;
-   with STACK the stack has so many bytes by then, so that it need not grow.
+   FAIL_READ and FAIL_WRITE are the number of the call that fails, from 1; 0 and nothing fail none. The call answers
+   the error ERROR, or EIO; with ERROR=0 it answers that no byte was moved. PIECE is how many bytes a call moves at
+   most; 0 and nothing leave that alone. What goes to standard error is let through and not counted, so that the message
+   is seen. The file FAILED is made when a call fails, and the file STARTED when the program begins, once it was loaded
+   and before its main; with STACK the stack has so many bytes by then, so that it need not grow.
 
    Nothing is included and nothing is linked, as for refuse_growth.c. */
 

@@ -142,7 +142,8 @@ def judge_rows(judged, program):
     pools = concurrent.futures.ProcessPoolExecutor(os.cpu_count())
     # a library is not loaded from everywhere, as from where there are only files in memory
     with tempfile.TemporaryDirectory() as compiled, folder() as under, pools as pool:
-        said = subprocess.run(["bash", "-c", COMPILE, Path(__file__).parent, compiled], capture_output=True, check=False)
+        words = ["bash", "-c", COMPILE, Path(__file__).parent, compiled]
+        said = subprocess.run(words, capture_output=True, check=False)
         preload = f"{compiled}/fail_call.so"
         if not os.path.exists(preload):
             finish([f"tests/fail_call.c compiles: {said}"], 0)

@@ -1,11 +1,11 @@
 #!/usr/bin/env python3
-"""A circuit of 1,000,000 gates in any order, with variables spread up to the largest there is, against the same in order.
+"""A circuit of 1,000,000 gates in any order, with variables spread up to the largest, against the same in order.
 
     tests/spread_gates.py PROGRAM
 
-What is in any order may take at most so many times the time of a processor: as ASCII, as binary, with a map, and back by
-that map. The least of some runs counts. Each output is judged too: ASCII text is the file itself, and so is what comes
-back by the map; and the image is that of the ASCII text that comes of it.
+What is in any order may take at most eight times the time of a processor: as ASCII, as binary, with a map, and back
+by that map. The least of some runs counts. Each output is judged too: ASCII text is the file itself, and so is what
+comes back by the map; and the image is its own image.
 
 The last line is 'N passed, M failed'.
 """
@@ -62,9 +62,10 @@ def main(program):
             time_of(program, ["aigtoaig"], f"{source} to binary", f"{source} again")
             alike = [("source", "to ASCII"), ("source", "by the map"), ("to binary", "again")]
             for first, second in alike:
-                texts = [Path(folder, name if it == "source" else f"{name} {it}").read_bytes() for it in (first, second)]
-                passed += texts[0] == texts[1]
-                if texts[0] != texts[1]:
+                files = [source if it == "source" else Path(f"{source} {it}") for it in (first, second)]
+                is_same = files[0].read_bytes() == files[1].read_bytes()
+                passed += is_same
+                if not is_same:
                     wrong.append(f"{second}, {name}: wanted the same as {first}")
     for kind, slow in times["in any order"].items():
         fast = times["in order"][kind]
