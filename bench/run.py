@@ -43,7 +43,7 @@ class Measurement(NamedTuple):
     # Whether a peer runs beside the program, if one is given.
     has_peer: bool = True
     # How many bytes of memory a line there should be at most.
-    aimed_bytes: int = 80
+    aimed_bytes: int = 60
     # How many lines of its kind a file has for which there are aims.
     aimed_at: int = AIMED_AT
     # Where the text stands by whose lines a time is divided; memory is always divided by those of the file that is read.
@@ -51,13 +51,13 @@ class Measurement(NamedTuple):
 
 
 TO_BINARY_AIMS = {
-    "gates-ordered": 0.6,
+    "gates-ordered": 0.4,
     "gates-shuffled": 0.9,
-    "gates-sparse": 0.5,
-    "gates-eighth": 0.5,
+    "gates-sparse": 0.45,
+    "gates-eighth": 0.45,
     "gates-eighth-shuffled": 0.9,
-    "gates-chain": 1.0,
-    **dict.fromkeys(generate.BINARY_KINDS, 0.5),
+    "gates-chain": 0.8,
+    **dict.fromkeys(generate.BINARY_KINDS, 0.55),
 }
 GATES = tuple(kind for kind in generate.KINDS if kind.startswith("gates-"))
 LATER = ("resets", "bad")
@@ -66,6 +66,7 @@ MEASUREMENTS = {
         words="aigtoaig --ascii",
         kinds=(*(kind for kind in generate.KINDS if kind not in LATER), *generate.BINARY_KINDS),
         wanted=generate.ascii_of,
+        aims={"gates-shuffled": 0.65},
     ),
     # what version 1.9 added, beside files of the first version with as many lines; the program alone
     "later": Measurement(
@@ -87,7 +88,6 @@ MEASUREMENTS = {
         wanted=generate.mapped_of,
         beside="aigtoaig",
         aims=dict.fromkeys(GATES, 1.6),
-        aimed_bytes=120,
     ),
     "undo": Measurement(
         words="aigtoaig --undo-map --ascii",
@@ -95,8 +95,7 @@ MEASUREMENTS = {
         wanted=generate.source_of,
         beside="aigtoaig --ascii",
         made_by="aigtoaig --keep-map",
-        aims=dict.fromkeys(GATES, 2.0),
-        aimed_bytes=120,
+        aims=dict.fromkeys(GATES, 2.6),
     ),
 }
 
