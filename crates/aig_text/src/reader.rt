@@ -62,8 +62,8 @@ fn kind_of_fault(fault: CheckFault) -> ReadKind
     }
 }
 
-/// Reads an ASCII file, within these limits. The error is the first fault of the text, or that memory ran out. No order of
-/// the gates is kept (`read_ascii_keeping`).
+/// Reads an ASCII file, within these limits. The error is the first fault of the text, or that memory ran out. No order
+/// of the gates is kept (`read_ascii_keeping`).
 pub fn read_ascii(alloc: Global, bytes: &[u8], limits: Limits) -> Result<Checked, ReadFault>
     ensures ok { IfOk result (λ c. IsAsciiText bytes.now limits.max_var c) }
     ensures only { (c : CircuitRecord) → IsAsciiText bytes.now limits.max_var c

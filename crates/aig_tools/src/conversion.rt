@@ -19,8 +19,8 @@ use aig_order::{MapFault, into_binary, into_binary_with_map, undo};
 use aig_text::write_ascii;
 use std::alloc::Global;
 
-/// What is wanted of the check later: a binary image of the circuit that is read needs an order of its gates. ASCII needs
-/// none, and a circuit that is undone comes from gates in order.
+/// What is wanted of the check later: a binary image of the circuit that is read needs an order of its gates. ASCII
+/// needs none, and a circuit that is undone comes from gates in order.
 fn kept(request: &ToAig) -> Keep {
     if request.ascii || request.undo_map {
         Keep::Circuit
