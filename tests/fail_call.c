@@ -6,7 +6,7 @@
    the error ERROR, or EIO; with ERROR=0 it answers that no byte was moved. PIECE is how many bytes a call moves at
    most; 0 and nothing leave that alone. What goes to standard error is let through and not counted, so that the message
    is seen. The file FAILED is made when a call fails, and the file STARTED when the program begins, once it was loaded
-   and before its main; with STACK the stack has so many bytes by then, so that it need not grow.
+   and before its main.
 
    Nothing is included and nothing is linked, as for refuse_growth.c. */
 
@@ -37,16 +37,7 @@ static void mark(const char *variable) {
   if (name) close(creat(name, 0644));
 }
 
-/* a stack that has been used once stays as large */
-static void use_stack(size bytes) {
-  volatile char page[4096];
-  page[0] = 0;
-  if (bytes > sizeof page) use_stack(bytes - sizeof page);
-  page[1] = 0;
-}
-
 __attribute__((constructor)) static void started(void) {
-  use_stack(number("STACK", 0));
   mark("STARTED");
 }
 

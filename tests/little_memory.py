@@ -7,9 +7,10 @@ fail_call.c tells whether the program began, or whether the loader could not mak
 program that began answers as it would with ample memory, or that it is out of memory, with status 1, and then
 it has sent nothing. The limit (`ulimit -v`) goes up in steps of a page until the row was answered some times.
 
-The stack has all its pages before the program begins. It is the system that lets a stack grow, at any call, and
-if there is no memory for that it ends the program by a signal, which no program can answer. So each row is also
-run with no more stack than that, and must be answered.
+It is the system that lets a stack grow, at any call, and if there is no memory for that it ends the program by a
+signal, which no program can answer. But 128 KB of it are there before a program begins (Linux gives them when it
+loads it), so each row is also run with no more stack than these, arguments and environment among them, and must
+be answered: then the stack never grows.
 
 The last line is 'N passed, M failed', and counts runs.
 """
@@ -24,8 +25,8 @@ import small_rows as rows
 FIRST, FAR, NEAR, MOST = 1024, 64, 4, 16384
 # how often a row is to be answered
 ANSWERS = 8
-# how many kilobytes of stack there are
-STACK = 256
+# how many kilobytes of stack there are before a program begins
+STACK = 128
 LIMITED = ["-c", 'ulimit -v "$0" && LD_PRELOAD=$PRELOAD exec "$@"']
 WITH_STACK = ["-c", 'ulimit -s "$0" && exec "$@"']
 
@@ -36,7 +37,7 @@ class Sweep:
     def __init__(self, program, preload, under, number):
         self.row, self.came, self.wrong = rows.ROWS[number], collections.Counter(), []
         self.runner = rows.Runner("/bin/sh", under)
-        self.environment = {"PRELOAD": preload, "STARTED": "started", "STACK": str(1024 * STACK)}
+        self.environment = {"PRELOAD": preload, "STARTED": "started"}
         self.words = [program, *self.row.words.split()]
         for name, text in self.row.files.items():
             self.runner.put(name, text)

@@ -141,6 +141,8 @@ fn trace_collected<W: Sink>(
 /// read, and each line of it found good, before anything is sent. All memory is taken before that too: beside the
 /// stimulus that of the text for 256 runs, which are stepped side by side. That is faster than `simulate` from some
 /// hundred gates on.
+// Not built into its callers, whose stack would then hold the rooms for lines several times over.
+#[inline(never)]
 pub fn simulate_batched<R: Source, W: Sink>(
     alloc: Global,
     checked: &Checked,

@@ -105,6 +105,8 @@ fn trace_all<R: Source, W: Sink>(
 
 /// Simulates a circuit over a stimulus text, and writes the trace text. The text of a line is sent before more bytes
 /// are fetched, so that a step can be seen when its line was typed. All memory is taken before the first fetch.
+// Not built into its callers, whose stack would then hold the rooms for lines several times over.
+#[inline(never)]
 pub fn simulate<R: Source, W: Sink>(
     alloc: Global,
     checked: &Checked,
