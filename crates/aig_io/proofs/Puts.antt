@@ -2,7 +2,7 @@
 use Rattle.std.proofs.Common.{◌≡◌, ◌+◌, ◌<◌, ◌++◌, ◌∷◌, ℕ, List, [], Bool, true, false, length, take, drop, get_or}
 use Rattle.std.proofs.Common.{take-add, arith, refl, sym, ap, subst, ◌∙◌}
 use Rattle.std.specs.List.{flat_map}
-use Rattle.std.proofs.lemmas.List.{append-nil, take_more}
+use Rattle.std.proofs.lemmas.List.{append-nil, take-append-drop, take_more}
 use Rattle.std.proofs.lemmas.List.Concat.{flat_map-append}
 use Rattle.std.proofs.lemmas.Bool.{false≢true}
 use Rattle.aig_io.specs.Output.{IsLeftAlone, Out, Put}
@@ -88,6 +88,13 @@ module _ {W : Type 0} where
   pub put_next : (a b c : Out W) (bytes : List ℕ) (at n : ℕ) → Put a b (take at bytes)
       → Put b c (take n (drop at bytes)) → Put a c (take (at + n) bytes)
   put_next a b c bytes at n p q = rw take-add (put_twice a b c (take at bytes) (take n (drop at bytes)) p q)
+
+  -- the first bytes of a text were put, and then those behind them
+  pub put_rest : (a b c : Out W) (bytes : List ℕ) (at : ℕ) → Put a b (take at bytes) → Put b c (drop at bytes)
+      → Put a c bytes
+  put_rest a b c bytes at p q =
+      subst (λ (text : List ℕ). Put a c text) (take-append-drop at bytes)
+      (put_twice a b c (take at bytes) (drop at bytes) p q)
 
   -- the texts of the items so far, and that of the next item
   pub put_more : {X : Type 0} (f : X → List ℕ) (xs : List X) (i : ℕ) (d x : X) (a b c : Out W) → x ≡ get_or xs i d

@@ -109,7 +109,47 @@ impl<'a, W: Sink> Output<'a, W> {
         self.block.fill_first(bytes, count);
     }
 
-    /// Takes some of the bytes, and answers how many; sends what is held first where the block is full.
+    /// Sends a text from where it stands, unless the sink failed before. Nothing is held.
+    fn send_straight(&mut self, bytes: &[u8])
+        requires empty { self.old.held ≡ [] }
+        requires short { length bytes.now ≤ ROOM }
+        ensures put { Put self.old self.new bytes.now }
+        ensures empty { self.new.held ≡ [] }
+    {
+        if !self.failed {
+            self.failed = send_all(self.sink, bytes).is_err();
+        }
+    }
+
+    /// Sends whole blocks of the bytes from where they stand, and holds the last bytes, which fit into one.
+    fn send_blocks(&mut self, bytes: &[u8]) -> usize
+        requires empty { self.old.held ≡ [] }
+        ensures within { result ≤ length bytes.now }
+        ensures left { 0 < length bytes.now → result < length bytes.now }
+        ensures fits { length bytes.now ≤ result + ROOM }
+        ensures whole { result % ROOM ≡ 0 }
+        ensures put { Put self.old self.new (take result bytes.now) }
+        ensures empty { self.new.held ≡ [] }
+    {
+        let mut at = 0;
+        while bytes.len() - at > ROOM {
+            self.send_straight(bytes.split_at(at).1.split_at(ROOM).0);
+            at += ROOM;
+        }
+        at
+    }
+
+    /// Puts bytes, of which whole blocks are sent from where they stand, where nothing is held.
+    fn put_long(&mut self, bytes: &[u8])
+        requires empty { self.old.held ≡ [] }
+        ensures left { 0 < length bytes.now → length self.new.held ≡ (length bytes.now - 1) % ROOM + 1 }
+        ensures put { Put self.old self.new bytes.now }
+    {
+        let at = self.send_blocks(bytes);
+        self.block.fill(bytes.split_at(at).1);
+    }
+
+    /// Takes some of the bytes, and answers how many: as many as fit, or where the block is full all, once it is sent.
     fn put_some(&mut self, bytes: &[u8]) -> usize
         requires { 0 < length bytes.now }
         ensures within { result ≤ length bytes.now }
@@ -117,12 +157,16 @@ impl<'a, W: Sink> Output<'a, W> {
         ensures held { length self.old.held ≤ ROOM }
         ensures kept { length self.old.held < ROOM → self.new.sink ≡ self.old.sink }
         ensures added { length self.old.held < ROOM → length self.new.held ≡ length self.old.held + result }
-        ensures emptied { ROOM ≤ length self.old.held → length self.new.held ≡ result }
+        ensures emptied { ROOM ≤ length self.old.held → length self.new.held ≡ (result - 1) % ROOM + 1 }
         ensures short { length self.new.held ≤ ROOM }
         ensures put { Put self.old self.new (take result bytes.now) }
     {
-        self.make_room(1);
-        self.block.fill(bytes)
+        if self.block.has_room(1) {
+            return self.block.fill(bytes);
+        }
+        self.send_held();
+        self.put_long(bytes);
+        bytes.len()
     }
 
     /// Adds bytes. What is held is sent each time that the block is full and another byte comes, and no sooner.
