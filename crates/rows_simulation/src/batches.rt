@@ -25,11 +25,11 @@ fn run_of(alloc: Global, steps: usize) -> Result<Run, Fail> {
     Ok(run)
 }
 
-/// So many runs of different lengths.
+/// So many runs, of 0 to 40 steps.
 fn runs_of(alloc: Global, count: usize) -> Result<Vec<Run>, Fail> {
     let mut runs = Vec::new(alloc);
     for n in 0..count {
-        runs.push(run_of(alloc, n % 3)?)?;
+        runs.push(run_of(alloc, n * 7 % 41)?)?;
     }
     Ok(runs)
 }
@@ -44,7 +44,7 @@ fn all_fit(circuit: &Checked, runs: &[Run]) -> bool
 #[test]
 fn batches(rt: HostRuntime) -> Result<(), Fail> {
     let circuit = read_ascii(rt.alloc(), REGISTER.as_bytes(), Limits::default())?;
-    for count in [0, 1, 257] {
+    for count in [0, 1, 255, 256, 257, 600] {
         let runs = runs_of(rt.alloc(), count)?;
         let done = all_fit(&circuit, &runs) && simulate_batch(rt.alloc(), &circuit, &runs).is_ok();
         assert!(rt; done, "{count} runs");
