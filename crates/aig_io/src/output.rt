@@ -56,6 +56,14 @@ impl<'a, W: Sink> Output<'a, W> {
         self.block.clear();
     }
 
+    /// Whether the sink failed: then nothing that is put later is sent.
+    #[inline(always)]
+    pub fn has_failed(&self) -> bool
+        ensures { result ≡ self.now.failed }
+    {
+        self.failed
+    }
+
     /// Sends what is held. Ok means that the sink took all that was put. After a failure it sends nothing, and reports
     /// the failure again.
     pub fn flush(&mut self) -> Result<(), DeviceFault>

@@ -1,11 +1,11 @@
 //! The text of an unrolled circuit, put frame by frame.
-ghost use Rattle.std.specs.Prelude.{◌≡◌, ◌≤◌, length};
+ghost use Rattle.std.specs.Prelude.{◌≡◌, ◌+◌, ◌<◌, ◌≤◌, false, length};
 ghost use Rattle.std.specs.List.{flat_map, range_with_len};
 ghost use Rattle.aig_core.specs.declared.circuit.TheConstants.{LARGEST};
 ghost use Rattle.aig_io.specs.Output.{Put};
 ghost use Rattle.aig_text.specs.Rows.{header_row};
 ghost use Rattle.aig_binary.specs.BinaryText.{gate_text};
-ghost use Rattle.aig_unroll.specs.Unrolled.{frame_size, unrolled};
+ghost use Rattle.aig_unroll.specs.Unrolled.{bad_at, frame_size, gates_at, outputs_at, unrolled};
 ghost use Rattle.aig_unroll.specs.Parts.Writing.{gate_lines, input_lines, literal_lines};
 
 use crate::frames::Frames;
@@ -38,6 +38,29 @@ pub(crate) fn put_inputs<W: Sink>(output: &mut Output<W>, count: u32)
     }
 }
 
+/// Puts the lines of a frame's outputs, unless the sink failed: nobody takes them then.
+fn put_frame_outputs<W: Sink>(
+    output: &mut Output<W>,
+    copies: &mut Frames,
+    room: &mut [Lit],
+    frame: u32,
+)
+    requires within { frame < copies.old.frames }
+    requires behind { output.old.failed ≡ false → 0 < frame → frame ≡ copies.old.frame + 1 }
+    requires room { length room.old ≡ length copies.old.circuit.outputs }
+    ensures kept { copies.new ≡ record copies.old { frame = copies.new.frame } }
+    ensures here { output.new.failed ≡ false → copies.new.frame ≡ frame }
+    ensures put { Put output.old output.new
+        (literal_lines (outputs_at copies.old.circuit copies.old.frames frame)) }
+{
+    if output.has_failed() {
+        return;
+    }
+    copies.enter(frame);
+    copies.put_outputs(room);
+    put_lines(output, room);
+}
+
 /// Puts the lines of the outputs of all frames. The room is for those of one frame.
 pub(crate) fn put_output_lines<W: Sink>(
     output: &mut Output<W>,
@@ -50,10 +73,26 @@ pub(crate) fn put_output_lines<W: Sink>(
         (literal_lines (unrolled copies.old.circuit copies.old.frames).outputs) }
 {
     for frame in 0..copies.frames() {
-        copies.enter(frame);
-        copies.put_outputs(room);
-        put_lines(output, room);
+        put_frame_outputs(output, copies, room, frame);
     }
+}
+
+/// Puts the lines of a frame's bad states, unless the sink failed.
+fn put_frame_bad<W: Sink>(output: &mut Output<W>, copies: &mut Frames, room: &mut [Lit], frame: u32)
+    requires within { frame < copies.old.frames }
+    requires behind { output.old.failed ≡ false → 0 < frame → frame ≡ copies.old.frame + 1 }
+    requires room { length room.old ≡ length copies.old.circuit.bad }
+    ensures kept { copies.new ≡ record copies.old { frame = copies.new.frame } }
+    ensures here { output.new.failed ≡ false → copies.new.frame ≡ frame }
+    ensures put { Put output.old output.new
+        (literal_lines (bad_at copies.old.circuit copies.old.frames frame)) }
+{
+    if output.has_failed() {
+        return;
+    }
+    copies.enter(frame);
+    copies.put_bad(room);
+    put_lines(output, room);
 }
 
 /// Puts the lines of the bad states of all frames. The room is for those of one frame.
@@ -64,10 +103,30 @@ pub(crate) fn put_bad_lines<W: Sink>(output: &mut Output<W>, copies: &mut Frames
         (literal_lines (unrolled copies.old.circuit copies.old.frames).bad) }
 {
     for frame in 0..copies.frames() {
-        copies.enter(frame);
-        copies.put_bad(room);
-        put_lines(output, room);
+        put_frame_bad(output, copies, room, frame);
     }
+}
+
+/// Puts the lines of a frame's gates, unless the sink failed.
+fn put_frame_lines<W: Sink>(
+    output: &mut Output<W>,
+    copies: &mut Frames,
+    room: &mut [Gate],
+    frame: u32,
+)
+    requires within { frame < copies.old.frames }
+    requires behind { output.old.failed ≡ false → 0 < frame → frame ≡ copies.old.frame + 1 }
+    requires room { length room.old ≡ frame_size copies.old.circuit }
+    ensures kept { copies.new ≡ record copies.old { frame = copies.new.frame } }
+    ensures here { output.new.failed ≡ false → copies.new.frame ≡ frame }
+    ensures put { Put output.old output.new (gate_lines (gates_at copies.old.circuit copies.old.frames frame)) }
+{
+    if output.has_failed() {
+        return;
+    }
+    copies.enter(frame);
+    copies.put_gates(room);
+    put_lines(output, room);
 }
 
 /// Puts the lines of the gates of all frames. The room is for those of one frame.
@@ -80,10 +139,31 @@ pub(crate) fn put_gate_lines<W: Sink>(
     ensures { Put output.old output.new (gate_lines (unrolled copies.old.circuit copies.old.frames).gates) }
 {
     for frame in 0..copies.frames() {
-        copies.enter(frame);
-        copies.put_gates(room);
-        put_lines(output, room);
+        put_frame_lines(output, copies, room, frame);
     }
+}
+
+/// Puts a frame's gates by their deltas, unless the sink failed.
+fn put_frame_deltas<W: Sink>(
+    output: &mut Output<W>,
+    copies: &mut Frames,
+    room: &mut [Gate],
+    frame: u32,
+)
+    requires within { frame < copies.old.frames }
+    requires behind { output.old.failed ≡ false → 0 < frame → frame ≡ copies.old.frame + 1 }
+    requires room { length room.old ≡ frame_size copies.old.circuit }
+    ensures kept { copies.new ≡ record copies.old { frame = copies.new.frame } }
+    ensures here { output.new.failed ≡ false → copies.new.frame ≡ frame }
+    ensures put { Put output.old output.new
+        (flat_map gate_text (gates_at copies.old.circuit copies.old.frames frame)) }
+{
+    if output.has_failed() {
+        return;
+    }
+    copies.enter(frame);
+    copies.put_gates(room);
+    put_gates(output, room);
 }
 
 /// Puts the gates of all frames by their deltas. The room is for those of one frame.
@@ -97,8 +177,6 @@ pub(crate) fn put_gate_deltas<W: Sink>(
         (flat_map gate_text (unrolled copies.old.circuit copies.old.frames).gates) }
 {
     for frame in 0..copies.frames() {
-        copies.enter(frame);
-        copies.put_gates(room);
-        put_gates(output, room);
+        put_frame_deltas(output, copies, room, frame);
     }
 }

@@ -1,4 +1,4 @@
-use Rattle.std.proofs.Common.{◌≡◌, ◌+◌, ◌∙◌, ap, sym}
+use Rattle.std.proofs.Common.{◌+◌, ◌∙◌, ap, sym}
 use Rattle.aig_unroll.specs.Unrolled.{gates_at}
 use Rattle.aig_unroll.specs.Parts.Frames.{Frame}
 use Rattle.aig_binary.specs.BinaryText.{gate_text}
@@ -9,12 +9,13 @@ pub loop-frame-preserved : goal.loop-frame-preserved
 loop-frame-preserved g c =
     let loop = c.loop-frame in
     let copies : Frame = c.args.copies.now in
-    let here : c.enter.new.self ≡ record copies { frame = loop.frame } =
-    c.enter.ensures ∙ ap (λ (k : Frame). record k { frame = loop.frame }) loop.invariant.kept in
+    let done = c.put_frame_deltas.ensures in
     record {
-      kept = here ∙ ap (λ (k : Frame). record copies { frame = k.frame }) (sym here);
-      behind = λ _. ap (λ (k : Frame). k.frame + 1) (sym here);
-      put = frame_more (gates_at copies.circuit copies.frames) gate_text loop.frame _ _ _ _
-          (c.put_gates.ensures.gates ∙ ap (λ (k : Frame). gates_at k.circuit k.frames k.frame) here)
-          loop.invariant.put c.put_gates-in-loop-frame.ensures;
+      kept = done.kept
+          ∙ ap (λ (k : Frame). record k { frame = c.put_frame_deltas.new.copies.frame }) loop.invariant.kept;
+      behind = λ good _. ap (λ n. n + 1) (sym (done.here good));
+      put = frame_more (gates_at copies.circuit copies.frames) gate_text
+          loop.frame _ _ _ _
+          (ap (λ (k : Frame). gates_at k.circuit k.frames loop.frame) loop.invariant.kept)
+          loop.invariant.put done.put;
     }

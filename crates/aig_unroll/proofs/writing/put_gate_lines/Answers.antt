@@ -1,4 +1,4 @@
-use Rattle.std.proofs.Common.{◌≡◌, ◌+◌, ◌∙◌, ap, sym}
+use Rattle.std.proofs.Common.{◌+◌, ◌∙◌, ap, sym}
 use Rattle.aig_unroll.specs.Unrolled.{gates_at}
 use Rattle.aig_unroll.specs.Parts.Frames.{Frame}
 use Rattle.aig_core.specs.declared.circuit.Gate.{Gate}
@@ -11,13 +11,13 @@ pub loop-frame-preserved : goal.loop-frame-preserved
 loop-frame-preserved g c =
     let loop = c.loop-frame in
     let copies : Frame = c.args.copies.now in
-    let here : c.enter.new.self ≡ record copies { frame = loop.frame } =
-    c.enter.ensures ∙ ap (λ (k : Frame). record k { frame = loop.frame }) loop.invariant.kept in
+    let done = c.put_frame_lines.ensures in
     record {
-      kept = here ∙ ap (λ (k : Frame). record copies { frame = k.frame }) (sym here);
-      behind = λ _. ap (λ (k : Frame). k.frame + 1) (sym here);
+      kept = done.kept
+          ∙ ap (λ (k : Frame). record k { frame = c.put_frame_lines.new.copies.frame }) loop.invariant.kept;
+      behind = λ good _. ap (λ n. n + 1) (sym (done.here good));
       put = frame_more (gates_at copies.circuit copies.frames) (λ (gate : Gate). numbers_text (gate_row gate))
           loop.frame _ _ _ _
-          (c.put_gates.ensures.gates ∙ ap (λ (k : Frame). gates_at k.circuit k.frames k.frame) here)
-          loop.invariant.put c.put_lines.ensures;
+          (ap (λ (k : Frame). gates_at k.circuit k.frames loop.frame) loop.invariant.kept)
+          loop.invariant.put done.put;
     }
