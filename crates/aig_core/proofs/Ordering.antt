@@ -14,3 +14,4 @@ pub mod Lists
 pub mod Placing
 pub mod Placements
 pub mod Needs
+pub mod Rows

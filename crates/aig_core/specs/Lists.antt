@@ -1,8 +1,19 @@
--- A list of gates for each gate, all in one table. A link is one more than a gate's position, or 0 at the end of a list.
-use Rattle.std.specs.Prelude.{ℕ, zero, suc, ◌≡◌, ◌<◌, List, [], ◌∷◌, length, slice_index_or}
+-- What each gate needs, and a list of gates for each gate, all in one table. A link is one more than a gate's position,
+-- or 0 at the end of a list.
+use Rattle.std.specs.Prelude.{ℕ, zero, suc, ◌≡◌, ◌<◌, List, [], ◌∷◌, map, length, slice_index_or}
 use Rattle.std.specs.List.{AllByRecursion}
 use Rattle.aig_core.specs.declared.least_ready.lists.Link.{Link}
+use Rattle.aig_core.specs.declared.least_ready.lists.Row.{Row}
+use Rattle.aig_core.specs.declared.least_ready.needs.Needs.{Needs}
 use Rattle.aig_core.specs.Wellformed.{AreDistinct}
+
+-- what the gates need
+abbrev pub needs_in : List Row → List Needs
+needs_in rows = map (λ (r : Row). r.needs) rows
+
+-- their links
+abbrev pub links_in : List Row → List Link
+links_in rows = map (λ (r : Row). r.link) rows
 
 abbrev pub no_link : Link
 no_link = record { next = 0; first = 0 }
@@ -24,6 +35,10 @@ gates_up_to (suc most) links (suc gate) = gate ∷ gates_up_to most links (next_
 -- a gate's list
 abbrev pub list_of : List Link → ℕ → List ℕ
 list_of links gate = gates_up_to (length links) links (first_of links gate)
+
+-- the same in a table of rows
+abbrev pub list_in : List Row → ℕ → List ℕ
+list_in rows gate = list_of (links_in rows) gate
 
 -- a link leads to these gates, and then to an end
 abbrev pub LeadsTo : List Link → ℕ → List ℕ → Type 0

@@ -5,12 +5,13 @@ use Rattle.std.specs.List.{AllByRecursion, find}
 use Rattle.aig_core.specs.declared.circuit.Gate.{Gate}
 use Rattle.aig_core.specs.declared.circuit.TheConstants.{LARGEST}
 use Rattle.aig_core.specs.declared.least_ready.lists.Link.{Link}
+use Rattle.aig_core.specs.declared.least_ready.lists.Row.{Row}
 use Rattle.aig_core.specs.declared.least_ready.needs.Needs.{Needs}
 use Rattle.aig_core.specs.Literal.{variable_of}
 use Rattle.aig_core.specs.Wellformed.{IsAmong}
 use Rattle.aig_core.specs.Order.{gate_of}
 use Rattle.aig_core.specs.Placed.{has_gate}
-use Rattle.aig_core.specs.Lists.{list_of, AreLists}
+use Rattle.aig_core.specs.Lists.{needs_in, links_in, list_of, AreLists}
 
 -- one more than a position, or 0 for none
 abbrev pub link_to : Option ℕ → ℕ
@@ -44,23 +45,25 @@ AreThere all = (gate : ℕ) → AllByRecursion (λ h. h < length all) (needs_at 
 abbrev pub first_missing : List ℕ → List ℕ → Option ℕ
 first_missing list needs = find (λ h. not (has_gate list h)) needs
 
--- What each step needs of the tables of so many gates: places for those that are placed, lists, and bits for those that
--- are ready.
-pub record IsRoomy (all : List Needs) (places : ℕ) (table : List Link) (bits : ℕ) : Type 0 where
-  pub few : length all ≤ LARGEST
-  pub there : AreThere all
-  pub placed : places ≡ length all
-  pub links : length table ≡ length all
-  pub ready : length all ≤ bits
-  pub lists : AreLists table
+-- what the gate of a position needs, by its row
+abbrev pub needs_by : List Row → ℕ → List ℕ
+needs_by rows = needs_at (needs_in rows)
+
+-- What each step needs of a table of rows: places for the gates that are placed, and bits for those that are ready.
+pub record IsRoomy (rows : List Row) (places bits : ℕ) : Type 0 where
+  pub few : length rows ≤ LARGEST
+  pub there : AreThere (needs_in rows)
+  pub placed : places ≡ length rows
+  pub ready : length rows ≤ bits
+  pub lists : AreLists (links_in rows)
 
 -- no gate is in two lists
 abbrev pub AreApart : List Link → Type 0
 AreApart links = (m n u : ℕ) → IsAmong u (list_of links m) → IsAmong u (list_of links n) → m ≡ n
 
--- The gates below a position were looked at. Each of them is listed, or is ready, or waits in the list of the first gate
--- that it needs and that is not listed. But for those in the list of one gate, which may be listed by now, and but for one
--- gate that is taken out of it.
+-- The gates below a position were looked at. Each of them is listed, or is ready, or waits in the list of the first
+-- gate that it needs and that is not listed. But for those in the list of one gate, which may be listed by now, and but
+-- for one gate that is taken out of it.
 pub record Waits (needs : ℕ → List ℕ) (list : List ℕ) (links : List Link) (has : ℕ → Bool) (seen : ℕ)
     (served out : Option ℕ) : Type 0 where
   pub before : (u : ℕ) → IsAmong u list → u < seen
@@ -71,3 +74,7 @@ pub record Waits (needs : ℕ → List ℕ) (list : List ℕ) (links : List Link
   pub each : (u : ℕ) → u < seen
       → IsAmong u list ⊎ (has u ≡ true) ⊎ ((m : ℕ) × IsAmong u (list_of links m)) ⊎ (out ≡ Some u)
   pub taken_out : (u : ℕ) → out ≡ Some u → (u < seen) × (¬ IsAmong u list)
+
+-- the same by rows
+abbrev pub RowsWait : List Row → List ℕ → (ℕ → Bool) → ℕ → Option ℕ → Option ℕ → Type 0
+RowsWait rows list has seen served out = Waits (needs_by rows) list (links_in rows) has seen served out

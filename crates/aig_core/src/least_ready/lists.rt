@@ -1,10 +1,12 @@
-//! A list of gates for each gate.
-ghost use Rattle.std.specs.Prelude.{◌≡◌, ◌≢◌, ◌<◌, ◌≤◌, ℕ, [], ◌∷◌, length, IfOk};
+//! What each gate needs, and a list of gates for each gate, in one table.
+ghost use Rattle.std.specs.Prelude.{◌≡◌, ◌≢◌, ◌<◌, ◌≤◌, ℕ, List, [], ◌∷◌, length, IfOk};
 ghost use Rattle.std.specs.Option.{IfSome, IfNone};
 ghost use Rattle.aig_core.specs.Wellformed.{IsAmong};
-ghost use Rattle.aig_core.specs.Lists.{list_of, AreLists};
+ghost use Rattle.aig_core.specs.Lists.{needs_in, links_in, list_in, AreLists};
+ghost use Rattle.aig_core.specs.Placing.{needs_by, under};
 
 use crate::circuit::LARGEST;
+use crate::least_ready::needs::Needs;
 use std::alloc::{AllocError, Global};
 
 /// The gate behind this one in its list, and the first of its own list: each is one more than a position, or 0 where
@@ -15,60 +17,115 @@ struct Link {
     first: u32,
 }
 
-/// A list of gates for each gate. A gate is in one of them at most, so one table has them all.
+/// All that is asked of a gate where it is entered or served. It stands together, since gates are served in any order:
+/// what stands apart comes from memory apart.
+#[derive(Clone, Copy)]
+struct Row {
+    needs: Needs,
+    link: Link,
+}
+
+/// What each gate needs, and a list of gates for each gate. A gate is in one list at most, so one table has them all.
 #[derive(Drop)]
 pub(super) struct Lists {
-    links: Vec<Link>,
+    rows: Vec<Row>,
 }
 
 impl Lists {
-    /// Empty lists of so many gates.
-    pub(super) fn new(alloc: Global, gates: usize) -> Result<Self, AllocError>
-        ensures lists { IfOk result (λ lists. AreLists lists.links.items) }
-        ensures as_many { IfOk result (λ lists. length lists.links.items ≡ gates) }
-        ensures empty { IfOk result (λ lists. (g : ℕ) → list_of lists.links.items g ≡ []) }
+    /// Empty lists of the gates that need this. The rows are not made while that is looked up: the map from variables
+    /// may be several times as large, and is gone by now.
+    pub(super) fn new(alloc: Global, needs: Vec<Needs>) -> Result<Self, AllocError>
+        ensures needs { IfOk result (λ lists. needs_in lists.rows.items ≡ needs.items) }
+        ensures lists { IfOk result (λ lists. AreLists (links_in lists.rows.items)) }
+        ensures empty { IfOk result (λ lists. (g : ℕ) → list_in lists.rows.items g ≡ []) }
     {
-        Ok(Lists {
-            links: vec![in alloc; Link { next: 0, first: 0 }; gates]?,
-        })
+        let mut rows = Vec::with_capacity(alloc, needs.len())?;
+        for needed in needs.as_slice() {
+            rows.push(Row {
+                needs: *needed,
+                link: Link { next: 0, first: 0 },
+            })?;
+        }
+        Ok(Lists { rows })
+    }
+
+    /// How many gates there are.
+    pub(super) fn len(&self) -> usize
+        ensures { result ≡ length self.now.rows.items }
+    {
+        self.rows.len()
+    }
+
+    /// What a gate needs.
+    #[inline(always)]
+    pub(super) fn needs(&self, gate: u32) -> Needs
+        requires { gate < length self.now.rows.items }
+        ensures { under result ≡ needs_by self.now.rows.items gate }
+    {
+        self.rows[gate as usize].needs
+    }
+
+    /// What the first gate of a list needs; nothing, where the list is empty.
+    #[inline(always)]
+    pub(super) fn first_needs(&self, list: u32) -> Needs
+        requires there { list < length self.now.rows.items }
+        requires lists { AreLists (links_in self.now.rows.items) }
+        ensures { (u : ℕ) → (us : List ℕ) → list_in self.now.rows.items list ≡ u ∷ us
+            → under result ≡ needs_by self.now.rows.items u }
+    {
+        let first = self.rows[list as usize].link.first;
+        if first == 0 {
+            return Needs { left: 0, right: 0 };
+        }
+        self.rows[first as usize - 1].needs
+    }
+
+    /// Whether a list has a first gate that needs nothing.
+    #[inline(always)]
+    pub(super) fn is_idle(&self, list: u32) -> bool
+        requires there { list < length self.now.rows.items }
+        requires lists { AreLists (links_in self.now.rows.items) }
+    {
+        let needs = self.first_needs(list);
+        self.rows[list as usize].link.first > 0 && needs.left == 0 && needs.right == 0
     }
 
     /// Puts a gate at the front of another's list.
     #[inline(always)]
     pub(super) fn push(&mut self, list: u32, gate: u32)
-        requires few { length self.old.links.items ≤ LARGEST }
-        requires lists { AreLists self.old.links.items }
-        requires list { list < length self.old.links.items }
-        requires gate { gate < length self.old.links.items }
-        requires nowhere { (g : ℕ) → ¬ IsAmong gate (list_of self.old.links.items g) }
-        ensures lists { AreLists self.new.links.items }
-        ensures as_many { length self.new.links.items ≡ length self.old.links.items }
-        ensures pushed { list_of self.new.links.items list ≡ gate ∷ list_of self.old.links.items list }
-        ensures others { (g : ℕ) → g ≢ list → list_of self.new.links.items g ≡ list_of self.old.links.items g }
+        requires few { length self.old.rows.items ≤ LARGEST }
+        requires lists { AreLists (links_in self.old.rows.items) }
+        requires list { list < length self.old.rows.items }
+        requires gate { gate < length self.old.rows.items }
+        requires nowhere { (g : ℕ) → ¬ IsAmong gate (list_in self.old.rows.items g) }
+        ensures lists { AreLists (links_in self.new.rows.items) }
+        ensures needs { needs_in self.new.rows.items ≡ needs_in self.old.rows.items }
+        ensures pushed { list_in self.new.rows.items list ≡ gate ∷ list_in self.old.rows.items list }
+        ensures others { (g : ℕ) → g ≢ list → list_in self.new.rows.items g ≡ list_in self.old.rows.items g }
     {
-        self.links[gate as usize].next = self.links[list as usize].first;
-        self.links[list as usize].first = gate + 1;
+        self.rows[gate as usize].link.next = self.rows[list as usize].link.first;
+        self.rows[list as usize].link.first = gate + 1;
     }
 
     /// Takes the gate at the front out of a list.
     #[inline(always)]
     pub(super) fn pop(&mut self, list: u32) -> Option<u32>
-        requires lists { AreLists self.old.links.items }
-        requires list { list < length self.old.links.items }
-        ensures lists { AreLists self.new.links.items }
-        ensures as_many { length self.new.links.items ≡ length self.old.links.items }
-        ensures none { IfNone result (list_of self.old.links.items list ≡ []) }
-        ensures same { IfNone result (self.new.links.items ≡ self.old.links.items) }
+        requires lists { AreLists (links_in self.old.rows.items) }
+        requires list { list < length self.old.rows.items }
+        ensures lists { AreLists (links_in self.new.rows.items) }
+        ensures needs { needs_in self.new.rows.items ≡ needs_in self.old.rows.items }
+        ensures none { IfNone result (list_in self.old.rows.items list ≡ []) }
+        ensures same { IfNone result (self.new.rows.items ≡ self.old.rows.items) }
         ensures first { IfSome result (λ gate.
-            list_of self.old.links.items list ≡ gate ∷ list_of self.new.links.items list) }
-        ensures others { (g : ℕ) → g ≢ list → list_of self.new.links.items g ≡ list_of self.old.links.items g }
+            list_in self.old.rows.items list ≡ gate ∷ list_in self.new.rows.items list) }
+        ensures others { (g : ℕ) → g ≢ list → list_in self.new.rows.items g ≡ list_in self.old.rows.items g }
     {
-        let first = self.links[list as usize].first;
+        let first = self.rows[list as usize].link.first;
         if first == 0 {
             return None;
         }
         let gate = first - 1;
-        self.links[list as usize].first = self.links[gate as usize].next;
+        self.rows[list as usize].link.first = self.rows[gate as usize].link.next;
         Some(gate)
     }
 }

@@ -1,10 +1,10 @@
 //! The least ready order in little memory: each gate waits in the list of one gate that it needs.
-ghost use Rattle.std.specs.Prelude.{◌≡◌, ◌+◌, ◌<◌, ◌≤◌, ℕ, [], Option, None, Some, false, length, IfOk};
+ghost use Rattle.std.specs.Prelude.{◌≡◌, ◌==◌, ◌||◌, ◌+◌, ◌<◌, ◌≤◌, ℕ, [], Option, None, Some, false, length, IfOk};
 ghost use Rattle.std.specs.List.{AllByRecursion};
 ghost use Rattle.aig_core.specs.Wellformed.{IsAmong};
 ghost use Rattle.aig_core.specs.Order.{IsLeastReadyOrder, TakesLeast};
-ghost use Rattle.aig_core.specs.Lists.{list_of};
-ghost use Rattle.aig_core.specs.Placing.{under, needs_at, first_missing, IsRoomy, AreApart, Waits};
+ghost use Rattle.aig_core.specs.Lists.{needs_in, links_in, list_in, AreLists};
+ghost use Rattle.aig_core.specs.Placing.{under, needs_by, first_missing, IsRoomy, AreApart, RowsWait};
 ghost use Rattle.aig_core.specs.Ready.{has, room};
 
 use crate::circuit::{Circuit, LARGEST};
@@ -30,81 +30,104 @@ fn missing(needs: Needs, placed: &Placed) -> Option<u32>
     None
 }
 
+/// Puts a gate among those that are ready. The first gate that waits for it is never idle, and to put it there twice
+/// would do no harm: that is asked for the sake of the read alone, by which the row of that gate is on its way from
+/// memory before this one is placed. A read that decided nothing would be left out by the compiler.
+#[inline(always)]
+fn make_ready(gate: u32, lists: &Lists, ready: &mut Ready)
+    requires there { gate < length lists.now.rows.items }
+    requires lists { AreLists (links_in lists.now.rows.items) }
+    requires bit { gate < room ready.old }
+    ensures ready { (g : ℕ) → has ready.new g ≡ ((g == gate) || has ready.old g) }
+    ensures room { room ready.new ≡ room ready.old }
+{
+    if lists.is_idle(gate) {
+        ready.insert(gate);
+    }
+    ready.insert(gate);
+}
+
 /// Lets a gate wait for the first that it needs and that is not placed; if there is none, the gate is ready.
 #[inline(always)]
-fn enter(needs: &[Needs], gate: u32, placed: &Placed, lists: &mut Lists, ready: &mut Ready)
-    requires room { IsRoomy needs.now placed.now.room lists.old.links.items (room ready.old) }
-    requires apart { AreApart lists.old.links.items }
-    requires there { gate < length needs.now }
-    requires nowhere { (g : ℕ) → ¬ IsAmong gate (list_of lists.old.links.items g) }
-    ensures room { IsRoomy needs.now placed.now.room lists.new.links.items (room ready.new) }
-    ensures apart { AreApart lists.new.links.items }
+fn enter(gate: u32, needs: Needs, placed: &Placed, lists: &mut Lists, ready: &mut Ready)
+    requires needs { under needs ≡ needs_by lists.old.rows.items gate }
+    requires room { IsRoomy lists.old.rows.items placed.now.room (room ready.old) }
+    requires apart { AreApart (links_in lists.old.rows.items) }
+    requires there { gate < length lists.old.rows.items }
+    requires nowhere { (g : ℕ) → ¬ IsAmong gate (list_in lists.old.rows.items g) }
+    ensures needs { needs_in lists.new.rows.items ≡ needs_in lists.old.rows.items }
+    ensures room { IsRoomy lists.new.rows.items placed.now.room (room ready.new) }
+    ensures apart { AreApart (links_in lists.new.rows.items) }
     ensures of_placed { (g : ℕ) → IsAmong g placed.now.list
-        → list_of lists.new.links.items g ≡ list_of lists.old.links.items g }
+        → list_in lists.new.rows.items g ≡ list_in lists.old.rows.items g }
     ensures waits { (seen : ℕ) → (served : Option ℕ)
-        → Waits (needs_at needs.now) placed.now.list lists.old.links.items (has ready.old) seen served (Some gate)
-        → Waits (needs_at needs.now) placed.now.list lists.new.links.items (has ready.new) seen served None }
+        → RowsWait lists.old.rows.items placed.now.list (has ready.old) seen served (Some gate)
+        → RowsWait lists.new.rows.items placed.now.list (has ready.new) seen served None }
 {
-    match missing(needs[gate as usize], placed) {
+    match missing(needs, placed) {
         Some(other) => lists.push(other, gate),
-        None => ready.insert(gate),
+        None => make_ready(gate, lists, ready),
     }
 }
 
-/// Enters again each gate that waited for this one.
+/// Enters again each gate that waited for this one. What the next of them needs is read before one is entered, so that
+/// it comes from memory meanwhile.
 #[inline(always)]
-fn serve(needs: &[Needs], gate: u32, placed: &Placed, lists: &mut Lists, ready: &mut Ready)
-    requires room { IsRoomy needs.now placed.now.room lists.old.links.items (room ready.old) }
-    requires apart { AreApart lists.old.links.items }
-    requires there { gate < length needs.now }
+fn serve(gate: u32, placed: &Placed, lists: &mut Lists, ready: &mut Ready)
+    requires room { IsRoomy lists.old.rows.items placed.now.room (room ready.old) }
+    requires apart { AreApart (links_in lists.old.rows.items) }
+    requires there { gate < length lists.old.rows.items }
     requires placed { IsAmong gate placed.now.list }
-    ensures room { IsRoomy needs.now placed.now.room lists.new.links.items (room ready.new) }
-    ensures apart { AreApart lists.new.links.items }
+    ensures needs { needs_in lists.new.rows.items ≡ needs_in lists.old.rows.items }
+    ensures room { IsRoomy lists.new.rows.items placed.now.room (room ready.new) }
+    ensures apart { AreApart (links_in lists.new.rows.items) }
     ensures waits { (seen : ℕ)
-        → Waits (needs_at needs.now) placed.now.list lists.old.links.items (has ready.old) seen (Some gate) None
-        → Waits (needs_at needs.now) placed.now.list lists.new.links.items (has ready.new) seen None None }
+        → RowsWait lists.old.rows.items placed.now.list (has ready.old) seen (Some gate) None
+        → RowsWait lists.new.rows.items placed.now.list (has ready.new) seen None None }
 {
+    let mut ahead = lists.first_needs(gate);
     while let Some(user) = lists.pop(gate) {
-        enter(needs, user, placed, lists, ready);
+        let needs = ahead;
+        ahead = lists.first_needs(gate);
+        enter(user, needs, placed, lists, ready);
     }
 }
 
 /// Enters the gate behind those that were looked at, and places all that are ready then, each time the least one.
-fn look_at(needs: &[Needs], gate: u32, placed: &mut Placed, lists: &mut Lists, ready: &mut Ready)
-    requires room { IsRoomy needs.now placed.old.room lists.old.links.items (room ready.old) }
-    requires apart { AreApart lists.old.links.items }
-    requires there { gate < length needs.now }
-    requires in_turn { TakesLeast (length needs.now) (needs_at needs.now) [] placed.old.list }
+fn look_at(gate: u32, placed: &mut Placed, lists: &mut Lists, ready: &mut Ready)
+    requires room { IsRoomy lists.old.rows.items placed.old.room (room ready.old) }
+    requires apart { AreApart (links_in lists.old.rows.items) }
+    requires there { gate < length lists.old.rows.items }
+    requires in_turn { TakesLeast (length lists.old.rows.items) (needs_by lists.old.rows.items) [] placed.old.list }
     requires none { (g : ℕ) → has ready.old g ≡ false }
-    requires waits { Waits (needs_at needs.now) placed.old.list lists.old.links.items (has ready.old) gate None None }
-    ensures room { IsRoomy needs.now placed.new.room lists.new.links.items (room ready.new) }
-    ensures apart { AreApart lists.new.links.items }
-    ensures in_turn { TakesLeast (length needs.now) (needs_at needs.now) [] placed.new.list }
+    requires waits { RowsWait lists.old.rows.items placed.old.list (has ready.old) gate None None }
+    ensures needs { needs_in lists.new.rows.items ≡ needs_in lists.old.rows.items }
+    ensures room { IsRoomy lists.new.rows.items placed.new.room (room ready.new) }
+    ensures apart { AreApart (links_in lists.new.rows.items) }
+    ensures in_turn { TakesLeast (length lists.new.rows.items) (needs_by lists.new.rows.items) [] placed.new.list }
     ensures none { (g : ℕ) → has ready.new g ≡ false }
-    ensures waits { Waits (needs_at needs.now) placed.new.list lists.new.links.items (has ready.new) (gate + 1)
-        None None }
+    ensures waits { RowsWait lists.new.rows.items placed.new.list (has ready.new) (gate + 1) None None }
 {
-    enter(needs, gate, placed, lists, ready);
+    enter(gate, lists.needs(gate), placed, lists, ready);
     while let Some(next) = ready.pop_first() {
         placed.place(next);
-        serve(needs, next, placed, lists, ready);
+        serve(next, placed, lists, ready);
     }
 }
 
-/// The least ready order of a circuit's gates. In contrast to `gate_order` it does not tell what the gates that are left
-/// still wait for, nor in how many steps it was made, and takes less time and memory.
+/// The least ready order of a circuit's gates. In contrast to `gate_order` it does not tell what the gates that are
+/// left still wait for, nor in how many steps it was made, and takes less time and memory.
 pub fn place_gates(alloc: Global, circuit: &Circuit) -> Result<Placed, OutOfMemory>
     requires { length circuit.now.gates ≤ LARGEST }
     ensures least { IfOk result (λ placed. IsLeastReadyOrder circuit.now placed.list) }
     ensures room { IfOk result (λ placed. placed.room ≡ length circuit.now.gates) }
 {
-    let all = all_needs(alloc, circuit)?;
-    let needs = all.as_slice();
-    let mut placed = Placed::new(alloc, needs.len())?;
-    let mut lists = Lists::new(alloc, needs.len())?;
-    let mut ready = Ready::new(alloc, needs.len() as u32)?;
-    for gate in 0..needs.len() as u32 {
-        look_at(needs, gate, &mut placed, &mut lists, &mut ready);
+    let mut lists = Lists::new(alloc, all_needs(alloc, circuit)?)?;
+    let gates = lists.len();
+    let mut placed = Placed::new(alloc, gates)?;
+    let mut ready = Ready::new(alloc, gates as u32)?;
+    for gate in 0..gates as u32 {
+        look_at(gate, &mut placed, &mut lists, &mut ready);
     }
     Ok(placed)
 }

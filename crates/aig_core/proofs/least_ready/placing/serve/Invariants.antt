@@ -1,17 +1,19 @@
-use Rattle.std.proofs.Common.{ℕ, Some, None, length}
-use Rattle.aig_core.specs.Lists.{list_of}
-use Rattle.aig_core.specs.Placing.{needs_at, IsRoomy, AreApart, Waits}
+use Rattle.std.proofs.Common.{◌≡◌, ℕ, List, ◌∷◌, Some, None, length}
+use Rattle.aig_core.specs.Lists.{needs_in, links_in, list_in}
+use Rattle.aig_core.specs.Placing.{under, needs_by, IsRoomy, AreApart, RowsWait}
 use Rattle.aig_core.specs.Ready.{has, room}
 use Rattle.aig_core.proofs.least_ready.placing.serve.Given as goal
 
 abbrev pub invariant-loop-user : goal.invariant-loop-user
 invariant-loop-user l = record {
-  room : IsRoomy l.needs l.placed.room l.lists.links.items (room l.ready);
-  apart : AreApart l.lists.links.items;
-  waits : (seen : ℕ)
-      → Waits (needs_at l.needs) l.placed.list l.fn.lists.links.items (has l.fn.ready) seen (Some l.gate) None
-      → Waits (needs_at l.needs) l.placed.list l.lists.links.items (has l.ready) seen (Some l.gate) None;
+  needs : needs_in l.lists.rows.items ≡ needs_in l.fn.lists.rows.items;
+  room : IsRoomy l.lists.rows.items l.placed.room (room l.ready);
+  ahead : (u : ℕ) → (us : List ℕ) → list_in l.lists.rows.items l.gate ≡ u ∷ us
+      → under l.ahead ≡ needs_by l.lists.rows.items u;
+  apart : AreApart (links_in l.lists.rows.items);
+  waits : (seen : ℕ) → RowsWait l.fn.lists.rows.items l.placed.list (has l.fn.ready) seen (Some l.gate) None
+      → RowsWait l.lists.rows.items l.placed.list (has l.ready) seen (Some l.gate) None;
 }
 
 abbrev pub decreases-loop-user : goal.decreases-loop-user
-decreases-loop-user l = length (list_of l.lists.links.items l.gate)
+decreases-loop-user l = length (list_in l.lists.rows.items l.gate)

@@ -1,45 +1,52 @@
-use Rattle.std.proofs.Common.{◌≡◌, ◌-◌, ◌∙◌, ℕ, suc, List, sym, arith}
-use Rattle.std.proofs.lemmas.List.{length-set}
+use Rattle.std.proofs.Common.{◌≡◌, ◌-◌, ◌<◌, ◌∙◌, ℕ, suc, List, length, sym, subst, arith}
 use Rattle.aig_core.specs.declared.least_ready.lists.Link.{Link}
-use Rattle.aig_core.specs.Lists.{first_of}
-use Rattle.aig_core.proofs.Ordering.Lists.{nothing_there, front_below, read_first, read_next, have_less}
+use Rattle.aig_core.specs.declared.least_ready.lists.Row.{Row}
+use Rattle.aig_core.specs.Lists.{links_in, first_of}
+use Rattle.aig_core.proofs.Ordering.Lists.{nothing_there, read_next, have_less, HaveLess}
+use Rattle.aig_core.proofs.Ordering.Rows.{as_many_links, read_link, same_needs_in, links_then, first_read, first_there}
 use Rattle.aig_core.proofs.least_ready.lists.Lists.pop.Goals as goal
 
 pub returns-then-first-eq0-clause-none : goal.returns-then-first-eq0-clause-none
 returns-then-first-eq0-clause-none c =
-    nothing_there c.args.self.now.links.items c.args.list
-    (read_first c.args.self.now.links.items c.args.list c.index.result.now c.requires.list c.index.ensures
+    nothing_there (links_in c.args.self.now.rows.items) c.args.list
+    (first_read c.args.self.now.rows.items c.args.list c.index.result.now c.requires.list c.index.ensures
     ∙ c.if-first-eq0.true)
 
 pub index-requires-2 : goal.index-requires-2
 index-requires-2 c =
-    let links : List Link = c.args.self.now.links.items in
-    let is : first_of links c.args.list ≡ c.index.result.now.first =
-    read_first links c.args.list c.index.result.now c.requires.list c.index.ensures in
-    let first : first_of links c.args.list ≡ suc (c.index.result.now.first - 1) =
-    omega (arith, is, c.if-first-eq0.false) in
     omega (
       arith,
-      front_below links c.args.list (c.index.result.now.first - 1) c.requires.lists first,
-      c.args.self.now.links.ok.0,
+      first_there c.args.self.now.rows.items c.args.list c.index.result.now c.requires.list c.index.ensures
+          c.requires.lists (omega (arith, c.if-first-eq0.false)),
+      c.args.self.now.rows.ok.0,
     )
 
 pub returns : goal.returns
 returns c =
-    let links : List Link = c.args.self.now.links.items in
-    let gate : ℕ = c.index.result.now.first - 1 in
-    let changed : Link = record { next = c.index_mut.result.now.next; first = c.index-2.result.now.next } in
-    let is : first_of links c.args.list ≡ c.index.result.now.first =
-    read_first links c.args.list c.index.result.now c.requires.list c.index.ensures in
+    let rows : List Row = c.args.self.now.rows.items in
+    let links : List Link = links_in rows in
+    let gate : ℕ = c.index.result.now.link.first - 1 in
+    let list_row : Row = c.index_mut.result.now in
+    let gate_row : Row = c.index-2.result.now in
+    let changed : Link = record { next = list_row.link.next; first = gate_row.link.next } in
+    let is : first_of links c.args.list ≡ c.index.result.now.link.first =
+    first_read rows c.args.list c.index.result.now c.requires.list c.index.ensures in
     let first : first_of links c.args.list ≡ suc gate = omega (arith, is, c.if-first-eq0.false) in
-    let less = have_less links c.args.list gate c.requires.lists c.requires.list first changed
-    (sym (read_next links c.args.list c.index_mut.result.now c.requires.list c.index_mut.ensures.value))
-    (sym (read_next links gate c.index-2.result.now (front_below links c.args.list gate c.requires.lists first)
-    c.index-2.ensures)) in record {
-      lists = less.lists;
-      as_many = length-set links c.args.list changed;
+    let gate_in : gate < length rows =
+    first_there rows c.args.list c.index.result.now c.requires.list c.index.ensures c.requires.lists
+    (omega (arith, c.if-first-eq0.false)) in
+    let list_there : c.args.list < length links = omega (arith, c.requires.list, as_many_links rows) in
+    let gate_there : gate < length links = omega (arith, gate_in, as_many_links rows) in
+    let less = have_less links c.args.list gate c.requires.lists list_there first changed
+    (sym (read_next links c.args.list list_row.link list_there
+    (read_link rows c.args.list list_row c.requires.list c.index_mut.ensures.value)))
+    (sym (read_next links gate gate_row.link gate_there (read_link rows gate gate_row gate_in c.index-2.ensures))) in
+    let after = subst (λ ls. HaveLess links ls c.args.list gate)
+    (sym (links_then rows c.args.list list_row c.requires.list c.index_mut.ensures.value changed)) less in record {
+      lists = after.lists;
+      needs = same_needs_in rows c.args.list list_row c.requires.list c.index_mut.ensures.value changed;
       none = tt;
       same = tt;
-      first = less.front;
-      others = less.others;
+      first = after.front;
+      others = after.others;
     }

@@ -1,0 +1,36 @@
+use Rattle.std.proofs.Common.{◌≡◌, ◌-◌, ◌<◌, ℕ, suc, List, length, sym, subst, arith}
+use Rattle.aig_core.specs.declared.least_ready.lists.Row.{Row}
+use Rattle.aig_core.specs.Lists.{needs_in}
+use Rattle.aig_core.specs.Placing.{under, needs_by}
+use Rattle.aig_core.proofs.Ordering.Needs.{here_needs}
+use Rattle.aig_core.proofs.Ordering.Rows.{as_many_needs, read_needs, first_there, first_is}
+use Rattle.aig_core.proofs.least_ready.lists.Lists.first_needs.Goals as goal
+
+pub index-requires-2 : goal.index-requires-2
+index-requires-2 c =
+    omega (
+      arith,
+      first_there c.args.self.now.rows.items c.args.list c.index.result.now c.requires.there c.index.ensures
+          c.requires.lists (omega (arith, c.if-first-eq0.false)),
+      c.args.self.now.rows.ok.0,
+    )
+
+pub returns-then-first-eq0 : goal.returns-then-first-eq0
+returns-then-first-eq0 c = λ u us are.
+    let is = first_is c.args.self.now.rows.items c.args.list c.index.result.now c.requires.there c.index.ensures
+    c.requires.lists u us are in
+    absurd (omega (arith, is, c.if-first-eq0.true))
+
+pub returns : goal.returns
+returns c = λ u us are.
+    let rows : List Row = c.args.self.now.rows.items in
+    let at : ℕ = c.index.result.now.link.first - 1 in
+    let is : c.index.result.now.link.first ≡ suc u =
+    first_is rows c.args.list c.index.result.now c.requires.there c.index.ensures c.requires.lists u us are in
+    let there : at < length rows =
+    first_there rows c.args.list c.index.result.now c.requires.there c.index.ensures c.requires.lists
+    (omega (arith, is)) in
+    let same : at ≡ u = omega (arith, is) in
+    subst (λ z. under c.index-2.result.now.needs ≡ needs_by rows z) same
+    (sym (here_needs (needs_in rows) at c.index-2.result.now.needs (omega (arith, there, as_many_needs rows))
+    (read_needs rows at c.index-2.result.now there c.index-2.ensures)))
