@@ -3,3 +3,4 @@ pub mod Sets
 pub mod Maps
 pub mod Buckets
 pub mod Bits
+pub mod Ranks

@@ -4,5 +4,6 @@ pub mod SameLists
 pub mod SymbolOrder
 pub mod Marks
 pub mod Places
+pub mod Ranks
 pub mod InOrder
 pub mod Numbered

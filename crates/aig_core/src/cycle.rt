@@ -53,7 +53,7 @@ fn all_pairs(alloc: Global, circuit: &Circuit) -> Result<Vec<Pair>, AllocError>
     ensures { IfOk result (λ all. all.items ≡ map (pair_of circuit.now.gates) circuit.now.gates) }
 {
     let gates = circuit.gates.as_slice();
-    let index = gate_index(alloc, gates, circuit.max_var)?;
+    let index = gate_index(alloc, circuit)?;
     let none = gates.len() as u32;
     let mut all = Vec::with_capacity(alloc, gates.len())?;
     for gate in gates {

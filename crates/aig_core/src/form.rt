@@ -195,6 +195,14 @@ impl Circuit {
         ]
     }
 
+    /// How many definitions a circuit has.
+    pub(crate) fn definition_count(&self) -> usize {
+        self.inputs
+            .len()
+            .saturating_add(self.latches.len())
+            .saturating_add(self.gates.len())
+    }
+
     /// Whether the sizes of the justice properties are those of the literals that there are.
     fn has_sizes_of_justice(&self) -> bool
         ensures { IsTrue result ↔ ((length self.now.justice.sizes ≤ LARGEST)

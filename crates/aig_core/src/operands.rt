@@ -26,15 +26,12 @@ impl Operands {
 }
 
 /// The positions of gates by the variables that they define. Of two gates that define one, it has the first.
-pub(crate) fn gate_index(
-    alloc: Global,
-    gates: &[Gate],
-    max_var: u32,
-) -> Result<VarMap<u32>, AllocError>
-    requires { length gates.now ≤ LARGEST }
-    ensures { IfOk result (λ index. (v : ℕ) → get index v ≡ gate_of gates.now v) }
+pub(crate) fn gate_index(alloc: Global, circuit: &Circuit) -> Result<VarMap<u32>, AllocError>
+    requires { length circuit.now.gates ≤ LARGEST }
+    ensures { IfOk result (λ index. (v : ℕ) → get index v ≡ gate_of circuit.now.gates v) }
 {
-    let mut index = VarMap::new(alloc, gates.len(), max_var)?;
+    let gates = circuit.gates.as_slice();
+    let mut index = VarMap::for_circuit(alloc, circuit)?;
     for position in 0..gates.len() {
         index.insert(gates[position].var, position as u32)?;
     }
@@ -60,7 +57,7 @@ pub(crate) fn all_operands(alloc: Global, circuit: &Circuit) -> Result<Vec<Opera
     ensures { IfOk result (λ all. all.items ≡ map (operands_of circuit.now.gates) circuit.now.gates) }
 {
     let gates = circuit.gates.as_slice();
-    let index = gate_index(alloc, gates, circuit.max_var)?;
+    let index = gate_index(alloc, circuit)?;
     let mut all = Vec::with_capacity(alloc, gates.len())?;
     for gate in gates {
         all.push(look_up(&index, gate))?;

@@ -6,6 +6,7 @@ ghost use Rattle.std.specs.Coded.{coded_ℕ};
 ghost use Rattle.aig_core.specs.VarMap.{with_new};
 ghost use Rattle.aig_core.specs.Parts.Places.{map_of, kept_at};
 
+use crate::circuit::Circuit;
 use crate::literal::Var;
 use crate::var_map::places::{Kept, Places};
 use crate::var_map::spread::Spread;
@@ -15,11 +16,19 @@ use std::marker::Model;
 mod bits;
 mod bucket;
 mod places;
+mod ranks;
 mod spread;
 mod table;
 
+/// Below so many indices for each definition of a circuit, each index has its place.
+const PLACES_PER_DEFINITION: usize = 2;
+
+/// Below so many indices for each definition of a circuit, each index has a bit.
+const BITS_PER_DEFINITION: usize = 32;
+
 /// Values of variables. Where the largest index is not far above their number, which is most often, each index has its
-/// place. Otherwise few variables of large indices take little memory.
+/// place; where it is farther above, each that a circuit defines. Otherwise few variables of large indices take little
+/// memory.
 #[derive(Drop)]
 pub struct VarMap<T: Kept> {
     places: T::Table,
@@ -31,7 +40,7 @@ impl<T: Kept> Model for VarMap<T> {
 
     ghost coded = { map.code coded_ℕ T.code };
 
-    ghost view = { λ a. map_of (kept_at (T.Table.bound a.places) (T.Table.held a.places) a.spread) };
+    ghost view = { λ a. map_of (kept_at (T.Table.covered a.places) (T.Table.held a.places) a.spread) };
 }
 
 impl<T: Kept> VarMap<T> {
@@ -50,6 +59,23 @@ impl<T: Kept> VarMap<T> {
         Ok(VarMap {
             places: T::Table::new(alloc, places)?,
             spread: Spread::new(alloc, spread)?,
+        })
+    }
+
+    /// An empty map that is fast for the variables that a circuit defines. In contrast to `new` it knows them: where
+    /// they are spread, each has a place, and each index a bit.
+    pub fn for_circuit(alloc: Global, circuit: &Circuit) -> Result<Self, AllocError>
+        ensures { IfOk result (λ values. values ≡ map.empty) }
+    {
+        let definitions = circuit.definition_count();
+        let largest = circuit.max_var as usize;
+        let is_spread = largest >= definitions.saturating_mul(PLACES_PER_DEFINITION);
+        if !is_spread || largest >= definitions.saturating_mul(BITS_PER_DEFINITION) {
+            return VarMap::new(alloc, definitions, circuit.max_var);
+        }
+        Ok(VarMap {
+            places: T::Table::for_circuit(alloc, circuit)?,
+            spread: Spread::new(alloc, 0)?,
         })
     }
 

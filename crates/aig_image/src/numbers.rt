@@ -138,16 +138,15 @@ impl Numbers {
         Ok(true)
     }
 
-    /// The new numbers of inputs and latches, with room for those of so many gates too.
-    fn of_first(alloc: Global, circuit: &Circuit, gates: usize) -> Result<Self, AllocError>
-        requires { length circuit.now.inputs + length circuit.now.latches + gates ≤ LARGEST }
+    /// The new numbers of inputs and latches, with room for those of gates too.
+    fn of_first(alloc: Global, circuit: &Circuit) -> Result<Self, AllocError>
+        requires { length circuit.now.inputs + length circuit.now.latches ≤ LARGEST }
         ensures count { IfOk result (λ n. n.noted ≡ length circuit.now.inputs + length circuit.now.latches) }
         ensures numbers { IfOk result (λ n. AreNumbered n (first_variables circuit.now)) }
     {
-        let variables = circuit.inputs.len() + circuit.latches.len() + gates;
         let mut numbers = Numbers {
             noted: 0,
-            numbers: VarMap::new(alloc, variables, circuit.max_var)?,
+            numbers: VarMap::for_circuit(alloc, circuit)?,
         };
         numbers.note_all(circuit.inputs.as_slice())?;
         numbers.note_all(circuit.latches.as_slice())?;
@@ -160,7 +159,7 @@ impl Numbers {
         ensures numbers { IfOk result (λ n. AreNumbered n (variables_with circuit.now taken.now)) }
         ensures small { IfOk result (λ n. FitIntoLiterals (number_of n)) }
     {
-        let mut numbers = Numbers::of_first(alloc, circuit, taken.len())?;
+        let mut numbers = Numbers::of_first(alloc, circuit)?;
         numbers.note_all(taken)?;
         Ok(numbers)
     }
@@ -175,7 +174,7 @@ impl Numbers {
         ensures in_order { IfOk result (λ some. IfSome some (λ _.
             StandInOrder (first_variables circuit.now) circuit.now.gates)) }
     {
-        let mut numbers = Numbers::of_first(alloc, circuit, circuit.gates.len())?;
+        let mut numbers = Numbers::of_first(alloc, circuit)?;
         if numbers.note_in_order(circuit.gates.as_slice())? {
             Ok(Some(numbers))
         } else {

@@ -1,6 +1,6 @@
 -- Finite maps of indices, by what a function gives to each.
-use Rattle.std.proofs.Common.{◌≡◌, ◌<◌, ◌≤◌, ◌^◌, ℕ, zero, suc, cond, eqb, Option, None, Some, refl, sym, ap, ◌∙◌}
-use Rattle.std.proofs.Common.{⊎_elim, arith}
+use Rattle.std.proofs.Common.{◌≡◌, ◌<◌, ◌≤◌, ◌^◌, ℕ, Bool, true, false, zero, suc, cond, eqb, Option, None, Some}
+use Rattle.std.proofs.Common.{refl, sym, ap, ◌∙◌, ⊎_elim, arith}
 use Rattle.std.specs.Option.{option_or}
 use Rattle.std.specs.Ordering.{nat_cmp}
 use Rattle.std.specs.Cmp.{unsigned_tied}
@@ -70,16 +70,20 @@ grown old new k v below more = same_map nat_cmp_total nat_cmp-IsAntisymmetric _ 
     rw has (grind (arith, common_steps, told, old_has, new_has, old_past, new_past)))
 
 -- what is kept in its place, or else among the others
-module _ {T : Type 0} (places : ℕ) (held : ℕ → Option T) (others : FinMap nat_cmp T) where
-  pub more_in_place : (k : ℕ) (v : T) (more : ℕ → Option T) → k < places → HasNew held more k v
-      → HasNew (kept_at places held others) (kept_at places more others) k v
-  more_in_place k v more below is q = grind (arith, common_steps, is)
+module _ {T : Type 0} (covered : ℕ → Bool) (held : ℕ → Option T) (others : FinMap nat_cmp T) where
+  pub more_in_place : (k : ℕ) (v : T) (still : ℕ → Bool) (more : ℕ → Option T) → covered k ≡ true
+      → ((q : ℕ) → still q ≡ covered q) → HasNew held more k v
+      → HasNew (kept_at covered held others) (kept_at still more others) k v
+  more_in_place k v still more has same is q =
+      let told = is q in
+      let kept = same q in
+      grind (arith, common_steps, told, kept)
 
-  pub more_elsewhere : (k : ℕ) (v : T) (more : FinMap nat_cmp T) → places ≤ k → more ≡ with_new others k v
-      → HasNew (kept_at places held others) (kept_at places held more) k v
-  more_elsewhere k v more above is q =
+  pub more_elsewhere : (k : ℕ) (v : T) (more : FinMap nat_cmp T) → covered k ≡ false → more ≡ with_new others k v
+      → HasNew (kept_at covered held others) (kept_at covered held more) k v
+  more_elsewhere k v more lacks is q =
       let has = get-with_new others k v q in
       rw is (grind (arith, common_steps, has))
 
-  pub none_kept : ((q : ℕ) → held q ≡ None) → others ≡ empty → (q : ℕ) → kept_at places held others q ≡ None
+  pub none_kept : ((q : ℕ) → held q ≡ None) → others ≡ empty → (q : ℕ) → kept_at covered held others q ≡ None
   none_kept none nothing_there q = grind (arith, common_steps, none, get-empty)

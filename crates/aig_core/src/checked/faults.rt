@@ -121,15 +121,6 @@ fn define_in_order<T: Entry>(seen: &mut VarSet, entries: &Listing<T>) -> Result<
     Ok(in_order)
 }
 
-/// How many definitions a circuit has.
-fn definition_count(circuit: &Circuit) -> usize {
-    circuit
-        .inputs
-        .len()
-        .saturating_add(circuit.latches.len())
-        .saturating_add(circuit.gates.len())
-}
-
 /// The variables that inputs and latches define, unless one of them is defined twice.
 fn definitions_before_gates(alloc: Global, circuit: &Circuit) -> Result<VarSet, CheckFault>
     ensures variables { IfOk result (λ variables.
@@ -138,7 +129,7 @@ fn definitions_before_gates(alloc: Global, circuit: &Circuit) -> Result<VarSet, 
         (first_repeat set.empty (circuit.now.inputs ++ map (λ l. l.var) circuit.now.latches) ≡ None) }
     ensures err { IfErr result (λ e. IsFault e (first_redefinition set.empty (defined_variables circuit.now))) }
 {
-    let mut variables = VarSet::new(alloc, definition_count(circuit), circuit.max_var)?;
+    let mut variables = VarSet::new(alloc, circuit.definition_count(), circuit.max_var)?;
     define_all(&mut variables, &circuit.inputs)?;
     define_all(&mut variables, &circuit.latches)?;
     Ok(variables)

@@ -51,7 +51,7 @@ pub(super) fn all_needs(alloc: Global, circuit: &Circuit) -> Result<Vec<Needs>, 
     ensures { IfOk result (λ all. all.items ≡ map (needs_of circuit.now.gates) circuit.now.gates) }
 {
     let gates = circuit.gates.as_slice();
-    let index = gate_index(alloc, gates, circuit.max_var)?;
+    let index = gate_index(alloc, circuit)?;
     let mut all = Vec::with_capacity(alloc, gates.len())?;
     for gate in gates {
         all.push(look_up(&index, gate))?;

@@ -1,9 +1,10 @@
 //! Tables of bits.
-ghost use Rattle.std.specs.Prelude.{◌*◌, length};
+ghost use Rattle.std.specs.Prelude.{◌*◌, length, nat_lt};
 ghost use Rattle.std.proofs.Common.{refl};
 ghost use Rattle.std.proofs.lemmas.Bool.{ltb-true};
 ghost use Rattle.aig_core.specs.Parts.Places.{mark_of};
 
+use crate::circuit::Circuit;
 use crate::var_map::places::{Kept, Places};
 use std::alloc::{AllocError, Global};
 
@@ -24,7 +25,7 @@ impl Kept for () {
 impl Places for Bits {
     type Item = ();
 
-    ghost bound = { λ b. 64 * length b.words.items };
+    ghost covered = { λ b i. nat_lt i (64 * length b.words.items) };
 
     ghost held = { λ b. mark_of b.words.items };
 
@@ -34,6 +35,10 @@ impl Places for Bits {
         Ok(Bits {
             words: vec![in alloc; 0; places.div_ceil(64)]?,
         })
+    }
+
+    fn for_circuit(alloc: Global, circuit: &Circuit) -> Result<Self, AllocError> {
+        Bits::new(alloc, circuit.max_var as usize + 1)
     }
 
     #[inline(always)]

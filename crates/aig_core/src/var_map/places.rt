@@ -1,10 +1,11 @@
 //! Places by index.
-ghost use Rattle.std.specs.Prelude.{◌≡◌, ◌==◌, ◌↔◌, ◌<◌, ℕ, Option, None, Some, not, is_some, IfOk, IsTrue};
+ghost use Rattle.std.specs.Prelude.{◌≡◌, ◌==◌, ℕ, Bool, true, Option, None, Some, not, is_some, IfOk};
 ghost use Rattle.std.specs.Prelude.{if◌then◌else◌};
 ghost use Rattle.std.specs.Option.{option_or};
 ghost use Rattle.std.specs.Mem.{FitsInMemory};
 ghost use Rattle.aig_core.specs.contracts.var_map.bucket.Bucket.{the_row as bucket_row};
 
+use crate::circuit::Circuit;
 use std::alloc::{AllocError, Global};
 
 /// Places by index, each of which has a value or none.
@@ -12,8 +13,8 @@ pub trait Places {
     /// What a place may have.
     type Item: Copy;
 
-    /// The indices below this have a place.
-    ghost bound: { Self → ℕ };
+    /// Whether an index has a place.
+    ghost covered: { Self → ℕ → Bool };
 
     /// What the place of an index has.
     ghost held: { Self → ℕ → Option Self.Item };
@@ -25,23 +26,27 @@ pub trait Places {
     fn new(alloc: Global, places: usize) -> Result<Self, AllocError>
         ensures { IfOk result (λ places. (i : ℕ) → held places i ≡ None) };
 
+    /// Places of what a circuit defines, and perhaps of other indices, with no values.
+    fn for_circuit(alloc: Global, circuit: &Circuit) -> Result<Self, AllocError>
+        ensures { IfOk result (λ places. (i : ℕ) → held places i ≡ None) };
+
     /// Whether there is a place for the index.
     fn covers(&self, index: usize) -> bool
-        ensures { IsTrue result ↔ (index < bound self.now) };
+        ensures { result ≡ covered self.now index };
 
     /// What the place of the index has.
     fn get(&self, index: usize) -> Option<Self::Item>
-        requires { index < bound self.now }
+        requires { covered self.now index ≡ true }
         ensures { result ≡ held self.now index };
 
     /// Puts a value into the place of an index, unless it has one, and answers whether it had none.
     fn insert(&mut self, index: usize, value: Self::Item) -> bool
-        requires covered { index < bound self.old }
+        requires has_place { covered self.old index ≡ true }
         requires fits { fits value }
         ensures added { result ≡ not (is_some (held self.old index)) }
         ensures held { (i : ℕ) → held self.new i
             ≡ option_or (held self.old i) (if i == index then Some value else None) }
-        ensures bound { bound self.new ≡ bound self.old };
+        ensures same_places { (i : ℕ) → covered self.new i ≡ covered self.old i };
 }
 
 /// What a map may have of variables, and the places for it.

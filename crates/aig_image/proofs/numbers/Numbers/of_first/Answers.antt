@@ -8,4 +8,5 @@ returns-clause-numbers c =
     two_sections
     (λ (l : Latch). l.var) c.note_all-2.new.self c.as_slice.result.now c.args.circuit.now.inputs c.as_slice-2.result.now
     c.args.circuit.now.latches c.as_slice.ensures c.as_slice-2.ensures
-    (c.in_ok-note_all-2.ensures.numbers _ (c.in_ok-note_all.ensures.numbers [] (none_noted _ refl c.in_ok-new.ensures)))
+    (c.in_ok-note_all-2.ensures.numbers _
+    (c.in_ok-note_all.ensures.numbers [] (none_noted _ refl c.in_ok-for_circuit.ensures)))
