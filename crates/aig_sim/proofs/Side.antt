@@ -7,6 +7,5 @@ pub mod RunsRead
 pub mod Fronts
 pub mod ShownTexts
 pub mod Given
-pub mod Strips
+pub mod Sheets
 pub mod Vectors
-pub mod Shown

@@ -13,7 +13,7 @@ pub mod Tracing
 pub mod Streaming
 pub mod Judging
 pub mod RunsRead
-pub mod Strips
+pub mod Sheets
 pub mod Vectors
 pub mod Witnessing
 pub mod Benches

@@ -7,7 +7,7 @@ ghost use Rattle.aig_core.specs.declared.value.Val.{Val as Value};
 ghost use Rattle.aig_core.specs.declared.value.Val.TheVariants.{Zero};
 ghost use Rattle.aig_sim.specs.declared.run.Run.{Run as RunRecord};
 ghost use Rattle.aig_sim.specs.Parts.Lanes.{IsLane, IsPlane, bit_in};
-ghost use Rattle.aig_sim.specs.Parts.Strips.{given_in};
+ghost use Rattle.aig_sim.specs.Parts.Sheets.{given_in};
 ghost use Rattle.aig_sim.specs.Parts.Tables.{placed};
 ghost use Rattle.aig_sim.specs.TraceText.{values_text};
 
@@ -19,7 +19,8 @@ use std::alloc::Global;
 use std::simd::Simd;
 use std::simd::prelude::*;
 
-/// The characters of one input in all lanes, and room behind them as in a strip.
+/// The characters of one input in all lanes. Eight more stand behind them, so that the same lane of one input and of
+/// the next do not share a place of the processor's cache.
 pub(crate) type Given = [u8; 264];
 
 /// The characters of so many inputs.

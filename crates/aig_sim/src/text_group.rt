@@ -4,7 +4,7 @@ ghost use Rattle.std.specs.List.{All, AllZip};
 ghost use Rattle.aig_meaning.specs.Meaning.{MeansTheSame};
 ghost use Rattle.aig_sim.specs.declared.run.Run.{Run as RunRecord};
 ghost use Rattle.aig_sim.specs.Parts.Benches.{IsBench};
-ghost use Rattle.aig_sim.specs.Parts.LaneTexts.{AllHaveRoom, HasBegun, HasStrips, HaveRoom, IsTextOf, SameRoom};
+ghost use Rattle.aig_sim.specs.Parts.LaneTexts.{AllHaveRoom, HasBegun, HasSheets, HaveRoom, IsTextOf, SameRoom};
 ghost use Rattle.aig_sim.specs.Parts.LaneTexts.{TextStands};
 ghost use Rattle.aig_sim.specs.Parts.Lines.{Keeping as KeepingRecord, line_size};
 ghost use Rattle.aig_sim.specs.Runs.{IsRunOf};
@@ -56,9 +56,9 @@ fn step_texts(
     requires given { length given.old ≡ length machine.now.inputs }
     requires table { length table.old ≡ 2 * (1 + machine.now.max_var) }
     requires state { length state.old ≡ 2 * length machine.now.latches }
-    requires strips { HasStrips machine.now shown.old }
+    requires sheets { HasSheets machine.now shown.old }
     requires room { AllHaveRoom machine.now runs.now step texts.old }
-    ensures strips { HasStrips machine.now shown.new }
+    ensures sheets { HasSheets machine.now shown.new }
     ensures texts { length texts.new ≡ length texts.old }
     ensures same { SameRoom texts.old texts.new }
     ensures room { AllHaveRoom machine.now runs.now (step + 1) texts.new }
@@ -93,9 +93,9 @@ fn step_all_texts(
     requires given { length given.old ≡ length machine.now.inputs }
     requires table { length table.old ≡ 2 * (1 + machine.now.max_var) }
     requires state { length state.old ≡ 2 * length machine.now.latches }
-    requires strips { HasStrips machine.now shown.old }
+    requires sheets { HasSheets machine.now shown.old }
     requires room { AllHaveRoom machine.now runs.now 0 texts.old }
-    ensures strips { HasStrips machine.now shown.new }
+    ensures sheets { HasSheets machine.now shown.new }
     ensures texts { length texts.new ≡ length texts.old }
     ensures same { SameRoom texts.old texts.new }
     ensures all { (j : ℕ) (d : RunRecord) (e : KeepingRecord) → j < length runs.now

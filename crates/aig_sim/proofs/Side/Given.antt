@@ -13,7 +13,7 @@ use Rattle.aig_core.specs.declared.value.Val.{Val}
 use Rattle.aig_core.specs.declared.value.Val.TheVariants.{Zero, One, X}
 use Rattle.aig_core.specs.Values.{value_not}
 use Rattle.aig_sim.specs.Parts.Lanes.{bit_in, may_be_one}
-use Rattle.aig_sim.specs.Parts.Strips.{given_in}
+use Rattle.aig_sim.specs.Parts.Sheets.{given_in}
 use Rattle.aig_sim.specs.TraceText.{character_of, values_text}
 
 abbrev differs : ℕ → ℕ → Bool

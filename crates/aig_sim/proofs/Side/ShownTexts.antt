@@ -9,7 +9,7 @@ use Rattle.aig_sim.specs.declared.run.Run.{Run}
 use Rattle.aig_sim.specs.declared.shown.Shown.{Shown}
 use Rattle.aig_sim.specs.declared.trace.Columns.{Columns}
 use Rattle.aig_sim.specs.declared.trace.Columns.TheVariants.{Plain, Properties}
-use Rattle.aig_sim.specs.Parts.LaneTexts.{AreShown, AreShownToo, Extended, FitsBehind, HasStrips}
+use Rattle.aig_sim.specs.Parts.LaneTexts.{AreShown, AreShownToo, Extended, FitsBehind, HasSheets}
 use Rattle.aig_sim.specs.Parts.LaneTexts.{TextGrew, shown_properties, shown_size, shown_text}
 use Rattle.aig_sim.specs.Parts.Lanes.{IsLane}
 use Rattle.aig_sim.specs.Parts.Lines.{Keeping, line_size, row_read}
@@ -19,7 +19,7 @@ use Rattle.aig_sim.specs.TraceText.{properties_text, row_text, values_text}
 use Rattle.aig_sim.proofs.Side.Groups.{ShowsTheSame}
 
 properties_shown : (columns : Columns) (c : Circuit) (lane : ℕ) (values before given : List Val) (shown : Shown)
-    → AreShownToo columns c lane values shown.bad.items shown.constraints.items
+    → AreShownToo columns c lane values shown.bad shown.constraints
     → shown_properties columns lane shown ≡ properties_text columns (row_read c before given (read_from values))
 properties_shown Plain c lane values before given shown are = refl
 properties_shown Properties c lane values before given shown are =
@@ -47,8 +47,8 @@ grew_by columns c run step lane table state shown before after more are = record
   ended = more.ended;
 }
 
-pub strips_same : (a b : Circuit) (shown : Shown) → ShowsTheSame a b → HasStrips b shown → HasStrips a shown
-strips_same a b shown same has = record {
+pub sheets_same : (a b : Circuit) (shown : Shown) → ShowsTheSame a b → HasSheets b shown → HasSheets a shown
+sheets_same a b shown same has = record {
   state = has.state ∙ ap length (sym same.latches);
   outputs = has.outputs ∙ ap length (sym same.outputs);
   next = has.next ∙ ap length (sym same.latches);
@@ -56,8 +56,8 @@ strips_same a b shown same has = record {
   constraints = has.constraints ∙ ap length (sym same.constraints);
 }
 
-pub strips_back : (a b : Circuit) (shown : Shown) → ShowsTheSame a b → HasStrips a shown → HasStrips b shown
-strips_back a b shown same has = record {
+pub sheets_back : (a b : Circuit) (shown : Shown) → ShowsTheSame a b → HasSheets a shown → HasSheets b shown
+sheets_back a b shown same has = record {
   state = has.state ∙ ap length same.latches;
   outputs = has.outputs ∙ ap length same.outputs;
   next = has.next ∙ ap length same.latches;
@@ -66,7 +66,7 @@ strips_back a b shown same has = record {
 }
 
 -- what one step shows of a run is as long as a line of the circuit
-line_fits : (c : Circuit) (shown : Shown) (run : Run) (step : ℕ) → HasStrips c shown → IsRunOf c run
+line_fits : (c : Circuit) (shown : Shown) (run : Run) (step : ℕ) → HasSheets c shown → IsRunOf c run
     → step < length run.steps → shown_size shown + length (get_or run.steps step []) ≡ line_size c
 line_fits c shown run step has fits below =
     omega (arith, has.state, has.outputs, has.next, has.bad, has.constraints, fits step [] below)
@@ -80,7 +80,7 @@ lines_within step steps line below =
     omega (arith, next, mul-le-mul_right {m = step + 1} {n = steps} line more)
 
 -- there is room for a line behind those of the steps before it
-pub fits_behind : (c : Circuit) (shown : Shown) (run : Run) (step : ℕ) (text : Keeping) → HasStrips c shown
+pub fits_behind : (c : Circuit) (shown : Shown) (run : Run) (step : ℕ) (text : Keeping) → HasSheets c shown
     → IsRunOf c run → length run.steps * line_size c ≤ text.room → length text.bytes ≤ step * line_size c
     → FitsBehind shown run step text
 fits_behind c shown run step text has fits room size below =
@@ -94,7 +94,7 @@ fits_behind c shown run step text has fits room size below =
 
 -- a step adds no more than a line
 pub size_after : (columns : Columns) (c : Circuit) (run : Run) (step lane : ℕ) (shown : Shown)
-    (before after : Keeping) → HasStrips c shown → IsRunOf c run → length before.bytes ≤ step * line_size c
+    (before after : Keeping) → HasSheets c shown → IsRunOf c run → length before.bytes ≤ step * line_size c
     → Extended columns run step lane shown before after → length after.bytes ≤ (step + 1) * line_size c
 size_after columns c run step lane shown before after has fits size more =
     let next : (step + 1) * line_size c ≡ step * line_size c + line_size c =

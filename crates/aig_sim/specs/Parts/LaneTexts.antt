@@ -13,38 +13,38 @@ use Rattle.aig_sim.specs.declared.trace.Columns.TheVariants.{Plain, Properties}
 use Rattle.aig_sim.specs.Parts.Groups.{IsTable}
 use Rattle.aig_sim.specs.Parts.Lanes.{IsLane}
 use Rattle.aig_sim.specs.Parts.Lines.{Keeping, line_size, row_read}
-use Rattle.aig_sim.specs.Parts.Strips.{text_in}
+use Rattle.aig_sim.specs.Parts.Sheets.{SheetText, text_in}
 use Rattle.aig_sim.specs.Parts.Tables.{read_from}
 use Rattle.aig_sim.specs.TraceText.{row_text, rows_text, values_text}
 
--- there is a strip for each value that the rows of a circuit have
-pub record HasStrips (c : Circuit) (shown : Shown) : Type 0 where
-  pub state : length shown.state.items ≡ length c.latches
-  pub outputs : length shown.outputs.items ≡ length c.outputs
-  pub next : length shown.next.items ≡ length c.latches
-  pub bad : length shown.bad.items ≡ length c.bad
-  pub constraints : length shown.constraints.items ≡ length c.constraints
+-- the sheets have a place for each value that the rows of a circuit have
+pub record HasSheets (c : Circuit) (shown : Shown) : Type 0 where
+  pub state : shown.state.width ≡ length c.latches
+  pub outputs : shown.outputs.width ≡ length c.outputs
+  pub next : shown.next.width ≡ length c.latches
+  pub bad : shown.bad.width ≡ length c.bad
+  pub constraints : shown.constraints.width ≡ length c.constraints
 
 -- how long a line may be, without its inputs
 abbrev pub shown_size : Shown → ℕ
 shown_size shown =
-    length shown.state.items + length shown.outputs.items + length shown.next.items + length shown.bad.items
-    + length shown.constraints.items + 6
+    shown.state.width + shown.outputs.width + shown.next.width + shown.bad.width
+    + shown.constraints.width + 6
 
 -- the columns of bad states and constraints in a lane, where they are asked for
 abbrev pub shown_properties : Columns → ℕ → Shown → List ℕ
 shown_properties Plain lane shown = []
 shown_properties Properties lane shown =
-    codes " " ++ (text_in lane shown.bad.items ++ (codes " " ++ text_in lane shown.constraints.items))
+    codes " " ++ (text_in lane shown.bad ++ (codes " " ++ text_in lane shown.constraints))
 
 -- the line of a step in a lane, with this text for its inputs
 abbrev pub shown_text : Columns → ℕ → List ℕ → Shown → List ℕ
 shown_text columns lane given shown =
-    text_in lane shown.state.items ++ (codes " " ++ (given ++ (codes " " ++ (text_in lane shown.outputs.items
-    ++ (codes " " ++ (text_in lane shown.next.items ++ (shown_properties columns lane shown ++ codes "\n")))))))
+    text_in lane shown.state ++ (codes " " ++ (given ++ (codes " " ++ (text_in lane shown.outputs
+    ++ (codes " " ++ (text_in lane shown.next ++ (shown_properties columns lane shown ++ codes "\n")))))))
 
 -- what is shown of bad states and constraints, where it is asked for, is that of these values
-abbrev pub AreShownToo : Columns → Circuit → ℕ → List Val → (bad constraints : List (List (List ℕ))) → Type 0
+abbrev pub AreShownToo : Columns → Circuit → ℕ → List Val → (bad constraints : SheetText) → Type 0
 AreShownToo Plain c lane values bad constraints = Unit {0}
 AreShownToo Properties c lane values bad constraints =
     (text_in lane bad ≡ values_text (map (literal_value (read_from values)) c.bad))
@@ -53,10 +53,10 @@ AreShownToo Properties c lane values bad constraints =
 -- what is shown in a lane is that of these values and of this state before them
 pub record AreShown (columns : Columns) (c : Circuit) (lane : ℕ) (values before : List Val) (shown : Shown)
     : Type 0 where
-  pub state : text_in lane shown.state.items ≡ values_text before
-  pub outputs : text_in lane shown.outputs.items ≡ values_text (map (literal_value (read_from values)) c.outputs)
-  pub next : text_in lane shown.next.items ≡ values_text (map (literal_value (read_from values)) (next_literals c))
-  pub properties : AreShownToo columns c lane values shown.bad.items shown.constraints.items
+  pub state : text_in lane shown.state ≡ values_text before
+  pub outputs : text_in lane shown.outputs ≡ values_text (map (literal_value (read_from values)) c.outputs)
+  pub next : text_in lane shown.next ≡ values_text (map (literal_value (read_from values)) (next_literals c))
+  pub properties : AreShownToo columns c lane values shown.bad shown.constraints
 
 -- there is room behind a text for the line of a step that a run has
 abbrev pub FitsBehind : Shown → Run → ℕ → Keeping → Type 0

@@ -1,7 +1,7 @@
 use Rattle.std.specs.Prelude.{◌≡◌, ◌<◌, ℕ, List, length, take}
 use Rattle.aig_core.specs.declared.value.Val.{Val}
 use Rattle.aig_sim.specs.Parts.Lanes.{IsLane}
-use Rattle.aig_sim.specs.Parts.Strips.{given_in}
+use Rattle.aig_sim.specs.Parts.Sheets.{given_in}
 use Rattle.aig_sim.specs.Parts.Tables.{placed}
 use Rattle.aig_sim.specs.TraceText.{values_text}
 use Rattle.aig_sim.proofs.put_vectors.put_given.Given as goal

@@ -1,6 +1,6 @@
 use Rattle.std.specs.Prelude.{◌≡◌, ◌≢◌, ℕ, List, length, take}
 use Rattle.std.specs.List.{All}
-use Rattle.aig_sim.specs.Parts.Strips.{given_in}
+use Rattle.aig_sim.specs.Parts.Sheets.{given_in}
 use Rattle.aig_sim.proofs.put_vectors.put_text.Given as goal
 
 abbrev pub invariant-loop-i : goal.invariant-loop-i

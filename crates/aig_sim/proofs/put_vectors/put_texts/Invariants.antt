@@ -1,6 +1,6 @@
 use Rattle.std.specs.Prelude.{◌≡◌, ◌<◌, ℕ, [], length, slice_index_or}
 use Rattle.aig_sim.specs.declared.run.Run.{Run}
-use Rattle.aig_sim.specs.Parts.Strips.{given_in}
+use Rattle.aig_sim.specs.Parts.Sheets.{given_in}
 use Rattle.aig_sim.specs.TraceText.{values_text}
 use Rattle.aig_sim.proofs.put_vectors.put_texts.Given as goal
 

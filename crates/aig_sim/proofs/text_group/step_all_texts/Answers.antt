@@ -14,7 +14,7 @@ loop-step-preserved c = record {
   texts = c.step_texts.ensures.texts ∙ c.loop-step.invariant.texts;
   same = λ j e. c.step_texts.ensures.same j e ∙ c.loop-step.invariant.same j e;
   room = c.step_texts.ensures.room;
-  strips = c.step_texts.ensures.strips;
+  sheets = c.step_texts.ensures.sheets;
 }
 
 pub returns-clause-all : goal.returns-clause-all

@@ -1,6 +1,6 @@
 use Rattle.std.specs.Prelude.{◌≡◌, ◌<◌, ℕ, length, slice_index_or}
 use Rattle.aig_sim.specs.declared.run.Run.{Run}
-use Rattle.aig_sim.specs.Parts.LaneTexts.{AllHaveRoom, HasStrips, SameRoom, TextStands}
+use Rattle.aig_sim.specs.Parts.LaneTexts.{AllHaveRoom, HasSheets, SameRoom, TextStands}
 use Rattle.aig_sim.specs.Parts.Lines.{Keeping}
 use Rattle.aig_sim.proofs.text_group.step_all_texts.Given as goal
 
@@ -17,5 +17,5 @@ invariant-loop-step l = record {
   texts : length l.texts ≡ length l.fn.texts;
   same : SameRoom l.fn.texts l.texts;
   room : AllHaveRoom l.machine l.runs l.step l.texts;
-  strips : HasStrips l.machine l.shown;
+  sheets : HasSheets l.machine l.shown;
 }

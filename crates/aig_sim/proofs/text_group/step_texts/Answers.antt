@@ -1,42 +1,42 @@
 use Rattle.std.proofs.Common.{◌<◌, List, arith, get_or, map, subst}
 use Rattle.aig_core.specs.declared.circuit.Latch.{Latch}
 use Rattle.aig_meaning.specs.Meaning.{literal_value}
-use Rattle.aig_sim.specs.Parts.LaneTexts.{HasStrips}
+use Rattle.aig_sim.specs.Parts.LaneTexts.{HasSheets}
 use Rattle.aig_sim.specs.Parts.Lanes.{IsLane}
 use Rattle.aig_sim.specs.Parts.Tables.{read_from}
-use Rattle.aig_sim.proofs.Side.ShownTexts.{fits_behind, grew_by, size_after, strips_back}
+use Rattle.aig_sim.proofs.Side.ShownTexts.{fits_behind, grew_by, size_after, sheets_back}
 use Rattle.aig_sim.proofs.Side.TextGroups.{text_stands_on}
 use Rattle.aig_sim.proofs.text_group.step_texts.Goals as goal
 
 pub extend_texts-requires-clause-room : goal.extend_texts-requires-clause-room
 extend_texts-requires-clause-room c j d e below =
     let machine = c.args.machine.now in
-    let strips : HasStrips machine c.show.new.self =
-    strips_back c.parts-parts.result.now machine c.show.new.self (record {
+    let sheets : HasSheets machine c.show.new.self =
+    sheets_back c.parts-parts.result.now machine c.show.new.self (record {
       latches = c.parts-parts.ensures.latches;
       outputs = c.parts-parts.ensures.outputs;
       bad = c.parts-parts.ensures.bad;
       constraints = c.parts-parts.ensures.constraints;
-    }) c.show.ensures.strips in
+    }) c.show.ensures.sheets in
     let has = c.requires.room j d e below in
-    fits_behind machine c.show.new.self (get_or c.args.runs.now j d) c.args.step (get_or c.args.texts.now j e) strips
+    fits_behind machine c.show.new.self (get_or c.args.runs.now j d) c.args.step (get_or c.args.texts.now j e) sheets
     (c.requires.fits j d below) has.room has.size
 
 pub returns-clause-room : goal.returns-clause-room
 returns-clause-room c j d e below =
     let machine = c.args.machine.now in
-    let strips : HasStrips machine c.show.new.self =
-    strips_back c.parts-parts.result.now machine c.show.new.self (record {
+    let sheets : HasSheets machine c.show.new.self =
+    sheets_back c.parts-parts.result.now machine c.show.new.self (record {
       latches = c.parts-parts.ensures.latches;
       outputs = c.parts-parts.ensures.outputs;
       bad = c.parts-parts.ensures.bad;
       constraints = c.parts-parts.ensures.constraints;
-    }) c.show.ensures.strips in
+    }) c.show.ensures.sheets in
     let has = c.requires.room j d e below in
     record {
       room = omega (arith, has.room, c.extend_texts.ensures.room j e);
       size = size_after c.args.columns machine (get_or c.args.runs.now j d) c.args.step j c.show.new.self
-          (get_or c.args.texts.now j e) (get_or c.extend_texts.new.texts j e) strips (c.requires.fits j d below)
+          (get_or c.args.texts.now j e) (get_or c.extend_texts.new.texts j e) sheets (c.requires.fits j d below)
           has.size (c.extend_texts.ensures.extended j d e below);
     }
 
