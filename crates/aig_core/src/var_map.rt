@@ -21,7 +21,7 @@ mod spread;
 mod table;
 
 /// Below so many indices for each definition of a circuit, each index has its place.
-const PLACES_PER_DEFINITION: usize = 2;
+const PLACES_PER_DEFINITION: usize = 3;
 
 /// Below so many indices for each definition of a circuit, each index has a bit.
 const BITS_PER_DEFINITION: usize = 32;
