@@ -7,3 +7,4 @@ pub mod RecordedRight
 pub mod OrderRecorded
 pub mod ConfirmedByOrder
 pub mod Judged
+pub mod Exchanges

@@ -4,3 +4,5 @@ pub mod Formed
 pub mod Again
 pub mod Recovered
 pub mod Gates
+pub mod InPlace
+pub mod AtPositions

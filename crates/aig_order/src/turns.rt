@@ -81,21 +81,22 @@ pub(crate) fn are_taken_in_turn(
 }
 
 /// Whether the places in a block are the order in which conversion takes the gates of its source, if the source defines
-/// no variable twice.
+/// no variable twice; by the positions in the source, place by place.
 pub(crate) fn tells_order(
     alloc: Global,
     block: &MapBlock,
+    places: &[u32],
     image: &Circuit,
 ) -> Result<bool, OutOfMemory>
     requires ordered { IsInBinaryOrder image.now }
     requires counts { HasCountsOf block.now image.now }
     requires bounds { IsWithinBounds block.now }
     requires places { AreDistinct (map (λ (g : MappedGateRecord). g.place) block.now.gates) }
+    requires are { places.now ≡ positions block.now.gates }
     ensures { (comment : Option (List ℕ)) → AreDistinct (defined_variables (undone block.now comment image.now))
         → IfOk result (λ recorded. IsTrue recorded
         ↔ IsLeastReadyOrder (undone block.now comment image.now) (positions block.now.gates)) }
 {
-    let places = positions(alloc, block.gates.as_slice())?;
     let first = 1 + image.inputs.len() as u32 + image.latches.len() as u32;
-    are_taken_in_turn(alloc, first, image.gates.as_slice(), places.as_slice())
+    are_taken_in_turn(alloc, first, image.gates.as_slice(), places)
 }

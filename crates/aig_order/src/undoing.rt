@@ -7,14 +7,16 @@ ghost use Rattle.aig_core.specs.BinaryOrder.{IsInBinaryOrder};
 ghost use Rattle.aig_order.specs.declared.map_block.MappedGate.{MappedGate as MappedGateRecord};
 ghost use Rattle.aig_order.specs.MapBlock.{IsMappedImage};
 ghost use Rattle.aig_order.specs.MapReading.{block_reading};
-ghost use Rattle.aig_order.specs.Undone.{IsMapFault, IsUndoneFrom, comment_behind, undone};
+ghost use Rattle.aig_order.specs.Parts.Confirmed.{ExchangesDiffer};
+ghost use Rattle.aig_order.specs.Parts.Turns.{positions};
+ghost use Rattle.aig_order.specs.Undone.{IsMapFault, IsUndoneFrom, comment_behind, source_variables, undone};
 
-use crate::confirmed::{tells_comment, tells_exchanges};
+use crate::confirmed::tells_comment;
 use crate::fault::MapFault;
 use crate::map_block::MapBlock;
 use crate::map_reading::read_block;
-use crate::turns::tells_order;
-use crate::undone::make_undone;
+use crate::turns::{positions, tells_order};
+use crate::undone::{SourceVariables, make_undone, source_variables};
 use aig_core::{Checked, Circuit, OutOfMemory, is_defined_once, is_in_binary_order};
 use std::alloc::Global;
 
@@ -39,12 +41,15 @@ fn has_image(
     alloc: Global,
     image: &Checked,
     block: &MapBlock,
+    places: &[u32],
     comment: &[u8],
 ) -> Result<bool, OutOfMemory>
     requires ordered { IsInBinaryOrder image.now }
     requires read { block_reading image.now ≡ Ok (block.now, comment.now) }
     requires once { AreDistinct (map (λ (g : MappedGateRecord). g.place) block.now.gates) }
+    requires are { places.now ≡ positions block.now.gates }
     requires formed { IsWellFormed (undone block.now (comment_behind block.now comment.now) image.now) }
+    requires differ { ExchangesDiffer block.now image.now }
     ensures { IfOk result (λ is. IsTrue is
         ↔ IsMappedImage (undone block.now (comment_behind block.now comment.now) image.now) image.now) }
 {
@@ -52,10 +57,7 @@ fn has_image(
     if !tells_comment(block, comment) {
         return Ok(false);
     }
-    if !tells_exchanges(circuit.gates.as_slice(), block.gates.as_slice()) {
-        return Ok(false);
-    }
-    tells_order(alloc, block, circuit)
+    tells_order(alloc, block, places, circuit)
 }
 
 /// The source, which is forged where its mapped image is another circuit than this one.
@@ -64,36 +66,45 @@ fn confirm(
     source: Checked,
     image: &Checked,
     block: &MapBlock,
+    places: &[u32],
     comment: &[u8],
 ) -> Result<Checked, MapFault>
     requires ordered { IsInBinaryOrder image.now }
     requires read { block_reading image.now ≡ Ok (block.now, comment.now) }
     requires once { AreDistinct (map (λ (g : MappedGateRecord). g.place) block.now.gates) }
+    requires are { places.now ≡ positions block.now.gates }
     requires is { source ≡ undone block.now (comment_behind block.now comment.now) image.now }
     requires formed { IsWellFormed source }
+    requires differ { ExchangesDiffer block.now image.now }
     ensures ok { IfOk result (λ c. IsUndoneFrom image.now c) }
     ensures err { IfErr result (λ e. (e ≡ IsOutOfMemory) ⊎ ((e ≡ IsForged) × (¬ IsMappedImage source image.now))) }
 {
-    match has_image(alloc, image, block, comment) {
+    match has_image(alloc, image, block, places, comment) {
         Ok(true) => Ok(source),
         Ok(false) => Err(MapFault::Forged),
         Err(_) => Err(MapFault::OutOfMemory),
     }
 }
 
-/// The circuit that is undone by the block that was read, where there is one.
-fn undo_by_block(
+/// The circuit that is undone by the block that was read, where there is one; by the variables of the source in their
+/// new order, and by the positions of gates there, place by place.
+fn undo_by_places(
     alloc: Global,
     image: &Checked,
-    block: MapBlock,
+    block: &MapBlock,
+    variables: &SourceVariables,
+    places: &[u32],
     comment: &[u8],
 ) -> Result<Checked, MapFault>
     requires ordered { IsInBinaryOrder image.now }
-    requires read { block_reading image.now ≡ Ok (block, comment.now) }
+    requires read { block_reading image.now ≡ Ok (block.now, comment.now) }
+    requires once { AreDistinct (map (λ (g : MappedGateRecord). g.place) block.now.gates) }
+    requires variables { variables.now.variables.items ≡ source_variables block.now }
+    requires are { places.now ≡ positions block.now.gates }
     ensures ok { IfOk result (λ c. IsUndoneFrom image.now c) }
     ensures fault { IfErr result (λ e. IsMapFault image.now e) }
 {
-    let source = match make_undone(alloc, &block, comment, image.circuit()) {
+    let source = match make_undone(alloc, variables, places, block, comment, image.circuit()) {
         Ok(source) => source,
         Err(fault) => return Err(fault),
     };
@@ -101,7 +112,29 @@ fn undo_by_block(
         Ok(source) => source,
         Err(fault) => return Err(fault),
     };
-    confirm(alloc, source, image, &block, comment)
+    confirm(alloc, source, image, block, places, comment)
+}
+
+/// The circuit that is undone by the block that was read, where there is one.
+fn undo_by_block(
+    alloc: Global,
+    image: &Checked,
+    block: &MapBlock,
+    comment: &[u8],
+) -> Result<Checked, MapFault>
+    requires ordered { IsInBinaryOrder image.now }
+    requires read { block_reading image.now ≡ Ok (block.now, comment.now) }
+    ensures ok { IfOk result (λ c. IsUndoneFrom image.now c) }
+    ensures fault { IfErr result (λ e. IsMapFault image.now e) }
+{
+    let variables = match source_variables(alloc, block) {
+        Ok(variables) => variables,
+        Err(fault) => return Err(fault),
+    };
+    match positions(alloc, block.gates.as_slice()) {
+        Ok(places) => undo_by_places(alloc, image, block, &variables, places.as_slice(), comment),
+        Err(_) => Err(MapFault::OutOfMemory),
+    }
 }
 
 /// The circuit whose mapped image this is, or why there is none.
@@ -113,7 +146,7 @@ fn recover(alloc: Global, image: &Checked) -> Result<Checked, MapFault>
         return Err(MapFault::NotOrdered);
     }
     match read_block(alloc, image.circuit()) {
-        Ok((block, comment)) => undo_by_block(alloc, image, block, comment),
+        Ok((block, comment)) => undo_by_block(alloc, image, &block, comment),
         Err(fault) => Err(fault),
     }
 }

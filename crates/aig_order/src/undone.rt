@@ -1,20 +1,24 @@
 //! The undone circuit: what a circuit was before its conversion, by a map block.
-ghost use Rattle.std.specs.Prelude.{◌≡◌, ◌<◌, ◌⊎◌, Some, None, length, map, IfOk, IfErr};
+ghost use Rattle.std.specs.Prelude.{◌≡◌, ◌<◌, ◌⊎◌, ◌↔◌, true, Some, None, length, map, IfOk, IfErr, IsTrue, OnOk};
 ghost use Rattle.std.specs.Bool.{OnTrue, OnFalse};
 ghost use Rattle.std.specs.List.{AllByRecursion};
 ghost use Rattle.aig_core.specs.Wellformed.{AreDistinct};
+ghost use Rattle.aig_image.specs.Relabelled.{FitIntoLiterals, relabelled_gate};
 ghost use Rattle.aig_image.specs.Renumbering.{source_variable};
+ghost use Rattle.aig_image.specs.Reordered.{exchanged_by, exchanged_if, taken};
 ghost use Rattle.aig_order.specs.declared.fault.MapFault.TheVariants.{Forged as IsForged, OutOfMemory as IsOutOfMemory};
 ghost use Rattle.aig_order.specs.declared.map_block.MappedGate.{MappedGate as MappedGateRecord};
 ghost use Rattle.aig_order.specs.MapReading.{HasCountsOf, IsWithinBounds};
 ghost use Rattle.aig_order.specs.Parts.Placed.{table_of, with_gates};
-ghost use Rattle.aig_order.specs.Parts.Had.{gate_had, in_order_had};
-ghost use Rattle.aig_order.specs.Undone.{comment_behind, source_variables, undone};
+ghost use Rattle.aig_order.specs.Parts.Had.{gate_had, gates_there, without_gates};
+ghost use Rattle.aig_order.specs.Parts.Confirmed.{DifferWhereExchanged, ExchangesDiffer};
+ghost use Rattle.aig_order.specs.Parts.Turns.{positions};
+ghost use Rattle.aig_order.specs.Undone.{comment_behind, exchanges_recorded, source_variables, undone};
 
 use crate::fault::MapFault;
 use crate::map_block::{MapBlock, MappedGate};
-use aig_core::{Circuit, Gate, Listing, OutOfMemory, Var, copy_justice, copy_symbols};
-use aig_image::{Labels, relabel};
+use aig_core::{Circuit, Gate, Listing, Lit, OutOfMemory, Var, copy_justice, copy_symbols};
+use aig_image::{Labels, NamesVariables, relabel};
 use std::alloc::Global;
 
 /// Puts the variable of each gate at its place, up to the first gate whose place has a variable. Returns whether none
@@ -51,7 +55,7 @@ fn place_gates(alloc: Global, gates: &[MappedGate]) -> Result<Vec<Var>, MapFault
 
 /// The variables of the source in their new order: inputs, latches, and gates by their places.
 #[derive(Drop)]
-struct SourceVariables {
+pub(crate) struct SourceVariables {
     variables: Vec<Var>,
 }
 
@@ -72,7 +76,7 @@ impl Labels for SourceVariables {
 }
 
 /// The variables of the source in their new order.
-fn source_variables(alloc: Global, block: &MapBlock) -> Result<SourceVariables, MapFault>
+pub(crate) fn source_variables(alloc: Global, block: &MapBlock) -> Result<SourceVariables, MapFault>
     requires bounds { IsWithinBounds block.now }
     ensures ok { IfOk result (λ r. r.variables.items ≡ source_variables block.now) }
     ensures places { IfOk result (λ _. AreDistinct (map (λ (g : MappedGateRecord). g.place) block.now.gates)) }
@@ -88,37 +92,112 @@ fn source_variables(alloc: Global, block: &MapBlock) -> Result<SourceVariables, 
     Ok(SourceVariables { variables })
 }
 
-/// The gate at the place that is recorded, with its operands in the order that they had.
-#[inline(always)]
-fn gate_had(gates: &[Gate], recorded: &MappedGate) -> Gate
-    requires { recorded.now.place < length gates.now }
-    ensures { result ≡ gate_had gates.now recorded.now }
+/// Puts each gate of the image, by the variables of the source, at its position there. It goes in the order of the
+/// image, where variables of operands mostly lie near one another.
+#[inline(never)]
+fn put_at_positions(found: &mut [Gate], variables: &SourceVariables, gates: &[Gate], places: &[u32])
+    requires fit { FitIntoLiterals (source_variable variables.now.variables.items) }
+    requires many { length places.now ≡ length gates.now }
+    requires there { AllByRecursion (λ at. at < length found.old) places.now }
+    requires once { AreDistinct places.now }
+    ensures many { length found.new ≡ length found.old }
+    ensures put { taken found.new places.now
+        ≡ map (relabelled_gate (source_variable variables.now.variables.items)) gates.now }
 {
-    let gate = gates[recorded.place as usize];
-    if !recorded.exchanged {
-        return gate;
-    }
-    Gate {
-        var: gate.var,
-        left: gate.right,
-        right: gate.left,
+    for (place, gate) in gates.iter().enumerate() {
+        found[places[place] as usize] = gate.relabel(variables);
     }
 }
 
-/// The gates in the order that they had, and so their operands.
-fn gates_had(
-    alloc: Global,
-    gates: &[Gate],
-    recorded: &[MappedGate],
-) -> Result<Listing<Gate>, OutOfMemory>
-    requires { AllByRecursion (λ (g : MappedGateRecord). g.place < length gates.now) recorded.now }
-    ensures { IfOk result (λ r. r ≡ map (gate_had gates.now) recorded.now) }
+/// The gate with its operands exchanged, if so.
+#[inline(always)]
+fn exchanged_if(exchanged: bool, gate: Gate) -> Gate
+    ensures { result ≡ exchanged_if exchanged gate }
 {
-    let mut found = Vec::with_capacity(alloc, recorded.len())?;
-    for gate in recorded {
-        found.push(gate_had(gates, gate))?;
+    Gate {
+        var: gate.var,
+        left: if exchanged { gate.right } else { gate.left },
+        right: if exchanged { gate.left } else { gate.right },
     }
-    Ok(Listing::from_vec(found))
+}
+
+/// Whether operands are exchanged that are equal.
+#[inline(always)]
+fn exchanges_equal(exchanged: bool, gate: &Gate) -> bool
+    ensures { IsTrue result ↔ ((exchanged ≡ true) × (gate.now.left ≡ gate.now.right)) }
+{
+    gate.left.0 == gate.right.0 && exchanged
+}
+
+/// Exchanges the operands of the gates that are recorded as exchanged, up to the first one with equal operands. Returns
+/// whether there is none.
+#[inline(never)]
+fn exchange_recorded(found: &mut [Gate], recorded: &[MappedGate]) -> bool
+    requires { length recorded.now ≡ length found.old }
+    ensures all { OnTrue result (found.new ≡ exchanged_by (exchanges_recorded recorded.now) found.old) }
+    ensures differ { IsTrue result ↔ DifferWhereExchanged found.old recorded.now }
+{
+    for (position, gate) in recorded.iter().enumerate() {
+        let there = found[position];
+        if exchanges_equal(gate.exchanged, &there) {
+            return false;
+        }
+        found[position] = exchanged_if(gate.exchanged, there);
+    }
+    true
+}
+
+/// The gates of the image by the variables of the source and at their positions there.
+fn gates_at_positions(
+    alloc: Global,
+    variables: &SourceVariables,
+    gates: &[Gate],
+    places: &[u32],
+) -> Result<Vec<Gate>, OutOfMemory>
+    requires fit { FitIntoLiterals (source_variable variables.now.variables.items) }
+    requires many { length places.now ≡ length gates.now }
+    requires there { AllByRecursion (λ at. at < length gates.now) places.now }
+    requires once { AreDistinct places.now }
+    ensures many { IfOk result (λ r. length r.items ≡ length gates.now) }
+    ensures put { IfOk result (λ r. taken r.items places.now
+        ≡ map (relabelled_gate (source_variable variables.now.variables.items)) gates.now) }
+{
+    let none = Gate {
+        var: Var(0),
+        left: Lit(0),
+        right: Lit(0),
+    };
+    let mut found = vec![in alloc; none; gates.len()]?;
+    put_at_positions(found.as_mut_slice(), variables, gates, places);
+    Ok(found)
+}
+
+/// The gates of the source, unless the operands of one are equal and recorded as exchanged.
+fn source_gates(
+    alloc: Global,
+    variables: &SourceVariables,
+    gates: &[Gate],
+    places: &[u32],
+    recorded: &[MappedGate],
+) -> Result<Listing<Gate>, MapFault>
+    requires fit { FitIntoLiterals (source_variable variables.now.variables.items) }
+    requires are { places.now ≡ positions recorded.now }
+    requires many { length recorded.now ≡ length gates.now }
+    requires there { AllByRecursion (λ (g : MappedGateRecord). g.place < length gates.now) recorded.now }
+    requires once { AreDistinct (map (λ (g : MappedGateRecord). g.place) recorded.now) }
+    ensures ok { IfOk result (λ r. r ≡ map (relabelled_gate (source_variable variables.now.variables.items))
+        (map (gate_had gates.now) recorded.now)) }
+    ensures differ { OnOk result (DifferWhereExchanged
+        (gates_there (source_variable variables.now.variables.items) gates.now recorded.now) recorded.now) }
+    ensures err { IfErr result (λ e. (e ≡ IsOutOfMemory) ⊎ ((e ≡ IsForged) × (¬ DifferWhereExchanged
+        (gates_there (source_variable variables.now.variables.items) gates.now recorded.now) recorded.now))) }
+{
+    let mut found = gates_at_positions(alloc, variables, gates, places)?;
+    if exchange_recorded(found.as_mut_slice(), recorded) {
+        Ok(Listing::from_vec(found))
+    } else {
+        Err(MapFault::Forged)
+    }
 }
 
 /// The comment behind a block, where there was a comment section.
@@ -135,15 +214,14 @@ fn source_comment(
     Ok(Some(Listing::from_vec(Vec::from_slice(alloc, comment)?)))
 }
 
-/// The circuit by the numbers of the image, in the orders of gates and operands that a block records.
-fn in_order_had(
+/// The circuit by the numbers of the image and without gates, with what a block records of the rest.
+fn without_gates(
     alloc: Global,
     block: &MapBlock,
     comment: &[u8],
     image: &Circuit,
 ) -> Result<Circuit, OutOfMemory>
-    requires { AllByRecursion (λ (g : MappedGateRecord). g.place < length image.now.gates) block.now.gates }
-    ensures { IfOk result (λ c. c ≡ in_order_had block.now (comment_behind block.now comment.now) image.now) }
+    ensures { IfOk result (λ c. c ≡ without_gates block.now (comment_behind block.now comment.now) image.now) }
 {
     Ok(Circuit {
         max_var: block.max_var,
@@ -154,28 +232,42 @@ fn in_order_had(
         constraints: image.constraints.copy(alloc)?,
         justice: copy_justice(alloc, &image.justice)?,
         fairness: image.fairness.copy(alloc)?,
-        gates: gates_had(alloc, image.gates.as_slice(), block.gates.as_slice())?,
+        gates: Listing::new(alloc),
         symbols: copy_symbols(alloc, &image.symbols)?,
         comment: source_comment(alloc, block, comment)?,
     })
 }
 
 /// The circuit with the variables and the orders of gates and operands that a block records; this comment follows the
-/// block.
+/// block. It is forged where the operands of a gate are equal and recorded as exchanged.
 pub(crate) fn make_undone(
     alloc: Global,
+    variables: &SourceVariables,
+    places: &[u32],
     block: &MapBlock,
     comment: &[u8],
     image: &Circuit,
 ) -> Result<Circuit, MapFault>
     requires counts { HasCountsOf block.now image.now }
     requires bounds { IsWithinBounds block.now }
+    requires once { AreDistinct (map (λ (g : MappedGateRecord). g.place) block.now.gates) }
+    requires variables { variables.now.variables.items ≡ source_variables block.now }
+    requires are { places.now ≡ positions block.now.gates }
     ensures ok { IfOk result (λ c. c ≡ undone block.now (comment_behind block.now comment.now) image.now) }
-    ensures places { IfOk result (λ _. AreDistinct (map (λ (g : MappedGateRecord). g.place) block.now.gates)) }
+    ensures differ { OnOk result (ExchangesDiffer block.now image.now) }
     ensures err { IfErr result (λ e. (e ≡ IsOutOfMemory)
-        ⊎ ((e ≡ IsForged) × (¬ AreDistinct (map (λ (g : MappedGateRecord). g.place) block.now.gates)))) }
+        ⊎ ((e ≡ IsForged) × (¬ ExchangesDiffer block.now image.now))) }
 {
-    let variables = source_variables(alloc, block)?;
-    let moved = in_order_had(alloc, block, comment, image)?;
-    Ok(relabel(&variables, moved))
+    let gates = source_gates(
+        alloc,
+        variables,
+        image.gates.as_slice(),
+        places,
+        block.gates.as_slice(),
+    )?;
+    let others = without_gates(alloc, block, comment, image)?;
+    Ok(Circuit {
+        gates,
+        ..relabel(variables, others)
+    })
 }

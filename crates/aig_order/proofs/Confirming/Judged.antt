@@ -1,5 +1,5 @@
 -- What a block tells, judged: whether the circuit that is undone by it has the image that it was read of.
-use Rattle.std.proofs.Common.{◌≡◌, ◌↔◌, ◌∙◌, sym, subst, ℕ, List, Bool, false, true≢false, IsTrue, Ok}
+use Rattle.std.proofs.Common.{◌≡◌, ◌↔◌, ◌∙◌, sym, ℕ, List, Bool, false, true≢false, IsTrue, Ok}
 use Rattle.aig_core.specs.declared.circuit.Circuit.{Circuit}
 use Rattle.aig_core.specs.Order.{IsLeastReadyOrder}
 use Rattle.aig_core.specs.Wellformed.{AreDistinct, IsWellFormed}
@@ -11,12 +11,6 @@ use Rattle.aig_order.specs.Parts.Confirmed.{TellsExchanges, TellsComment}
 use Rattle.aig_order.specs.Parts.Turns.{positions}
 use Rattle.aig_order.specs.Undone.{undone, comment_behind, places_recorded}
 use Rattle.aig_order.proofs.Confirming.ConfirmedByOrder.{confirmed_by_order}
-
--- what is recorded of two things is recorded of the same ones
-pub recorded_of_same : {A B : Type 0} (P : A → B → Type 0) (recorded : Bool) (a c : A) (b d : B)
-    → a ≡ c → b ≡ d → (IsTrue recorded ↔ P a b) → IsTrue recorded ↔ P c d
-recorded_of_same P recorded a c b d p q tells =
-    subst (λ y. IsTrue recorded ↔ P c y) q (subst (λ y. IsTrue recorded ↔ P y b) p tells)
 
 module _ (x : Circuit) (b : MapBlock) (rest : List ℕ) (good : IsWellFormed x) (ordered : IsInBinaryOrder x)
     (read : block_reading x ≡ Ok (b, rest)) (apart : AreDistinct (places_recorded b.gates))
@@ -36,12 +30,6 @@ module _ (x : Circuit) (b : MapBlock) (rest : List ℕ) (good : IsWellFormed x) 
       → IsTrue false ↔ IsMappedImage from x
   by_comment recorded tells is =
       refuted (λ (image : IsMappedImage from x). true≢false (sym (tells.1 (parts.0 image).2) ∙ is))
-
-  -- equal operands are recorded to be exchanged
-  pub by_exchanges : (recorded : Bool) → (IsTrue recorded ↔ TellsExchanges x.gates b.gates) → recorded ≡ false
-      → IsTrue false ↔ IsMappedImage from x
-  by_exchanges recorded tells is =
-      refuted (λ (image : IsMappedImage from x). true≢false (sym (tells.1 (parts.0 image).1) ∙ is))
 
   -- where neither is so, the order decides
   pub by_order : TellsComment b rest → TellsExchanges x.gates b.gates → (recorded : Bool)

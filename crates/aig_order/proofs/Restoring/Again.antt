@@ -89,7 +89,7 @@ module _ (b : MapBlock) (x : Circuit) (rest : List ℕ) (fit : IsFit b x) (good 
   first_is : first ≡ start b x comment fit
   first_is = omega (arith, length-map x.inputs g, length-map x.latches (relabelled_latch g))
 
-  names : NamesOnly (λ v. f (g v) ≡ v) x
+  pub names : NamesOnly (λ v. f (g v) ≡ v) x
   names =
       names_only (λ v. f (g v) ≡ v) x refl
       (all_weaker (IsVariableUpTo x.max_var) (λ v. f (g v) ≡ v) (λ v range. back b x comment fit once v range.1)

@@ -25,7 +25,7 @@ use Rattle.aig_image.proofs.Relabelling.Restored.{defined_in_order}
 use Rattle.aig_image.proofs.Relabelling.Standing.{at_place}
 use Rattle.aig_order.specs.declared.map_block.MappedGate.{MappedGate}
 use Rattle.aig_order.specs.declared.map_block.MapBlock.{MapBlock}
-use Rattle.aig_order.specs.Parts.Had.{gate_had, in_order_had}
+use Rattle.aig_order.specs.Parts.Had.{gate_had, without_gates}
 use Rattle.aig_order.specs.Undone.{exchanges_recorded, places_recorded, source_variables, undone, variable_at_place}
 use Rattle.aig_order.proofs.Restoring.Places.{IsFit, places, order, are, too, by_position, row_in_range}
 use Rattle.aig_order.proofs.Restoring.Places.{variables_recorded}
@@ -58,9 +58,11 @@ gates_had gates recorded =
     ap (exchanged_by (exchanges_recorded recorded)) (map-map (at gates) (λ (m : MappedGate). m.place) recorded)
     ∙ exchanged_each (λ (m : MappedGate). m.exchanged) (λ (m : MappedGate). at gates m.place) recorded
 
--- what was moved, by the variables of the source, is undone
+-- these gates and what there is beside gates, by the variables of the source, are undone
 pub undone_is : (b : MapBlock) (comment : Option (List ℕ)) (x : Circuit)
-    → relabelled (source_variable (source_variables b)) (in_order_had b comment x) ≡ undone b comment x
+    → record (relabelled (source_variable (source_variables b)) (without_gates b comment x)) {
+      gates = map (relabelled_gate (source_variable (source_variables b))) (map (gate_had x.gates) b.gates);
+    } ≡ undone b comment x
 undone_is b comment x =
     let by : Gate → Gate = relabelled_gate (source_variable (source_variables b)) in
     ap (λ (gs : List Gate). record (undone b comment x) { gates = map by gs })

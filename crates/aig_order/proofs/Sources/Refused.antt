@@ -4,7 +4,7 @@ use Rattle.std.proofs.Common.{IfOk, IfErr, MatchResult, List, Bool, true, false,
 use Rattle.std.proofs.Common.{Err, Option, None, Some}
 use Rattle.aig_core.specs.declared.circuit.Circuit.{Circuit}
 use Rattle.aig_core.specs.Form.{IsInForm}
-use Rattle.aig_core.specs.Wellformed.{AreDistinct, IsWellFormed}
+use Rattle.aig_core.specs.Wellformed.{AreDistinct, IsWellFormed, defined_variables}
 use Rattle.aig_core.proofs.Checking.Fitting.{well_formed_in_form}
 use Rattle.aig_core.proofs.Ordering.LeastReady.{one_least_ready_order}
 use Rattle.aig_core.specs.BinaryOrder.{IsInBinaryOrder}
@@ -17,7 +17,11 @@ use Rattle.aig_order.specs.declared.map_block.FirstLine.{FirstLine}
 use Rattle.aig_order.specs.MapSpelling.{after_text, first_line_at, variable_at, gate_at}
 use Rattle.aig_order.specs.MapReading.{◌>>=◌, or_else, entries_at, counts_match, counted_line, rest_of_block}
 use Rattle.aig_order.specs.MapReading.{block_reading}
+use Rattle.aig_order.specs.Parts.Confirmed.{ExchangesDiffer}
 use Rattle.aig_order.specs.Undone.{IsMapFault, IsUndoneFrom, comment_behind, places_recorded, undone}
+use Rattle.aig_order.proofs.BlockReading.Block.{read_is_within}
+use Rattle.aig_order.proofs.Confirming.Exchanges.{source_differs}
+use Rattle.aig_order.proofs.Confirming.RecordedRight.{recorded_right}
 use Rattle.aig_order.proofs.Sources.OneSource.{IsRecovered, one_reading, one_source, recovered}
 use Rattle.aig_order.proofs.Mapping.MappedOrder.{mapped_image_is_ordered}
 
@@ -140,6 +144,21 @@ module _ (x : Circuit) (b : MapBlock) (rest : List ℕ) (in_order : IsInBinaryOr
       → (e ≡ OutOfMemory) ⊎ ((e ≡ Forged) × (¬ AreDistinct (places_recorded b.gates))) → IsMapFault x e
   of_places e (inl memory) = subst (IsMapFault x) (sym memory) tt
   of_places e (inr twice) = forged e (λ c p. twice.1 (by_block c p).0) (inr twice.0)
+
+  -- operands that are equal and recorded as exchanged
+  pub of_exchanges : (e : MapFault) → IsWellFormed x
+      → (e ≡ OutOfMemory) ⊎ ((e ≡ Forged) × (¬ ExchangesDiffer b x)) → IsMapFault x e
+  of_exchanges e good (inl memory) = subst (IsMapFault x) (sym memory) tt
+  of_exchanges e good (inr equal) =
+      let within = read_is_within x b rest read in
+      forged e
+      (λ c p.
+      let by = by_block c p in
+      equal.1
+      (source_differs b x rest
+      (record { ordered = in_order; counts = within.0; bounds = within.1; once = by.0 }) good
+      (subst (λ (d : Circuit). AreDistinct (defined_variables d)) by.1 p.well_formed.once)
+      (recorded_right c x b rest p.well_formed p.image read).0)) (inr equal.0)
 
   pub of_source : (source : Circuit) (e : MapFault) → source ≡ undone b (comment_behind b rest) x
       → (e ≡ OutOfMemory) ⊎ ((e ≡ Forged) × (¬ IsWellFormed source)) → IsMapFault x e

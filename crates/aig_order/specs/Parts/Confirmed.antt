@@ -1,10 +1,14 @@
 -- What a block may tell wrongly even where its places are right: an exchange that changes nothing, and that there was
 -- no comment section where a comment follows.
-use Rattle.std.specs.Prelude.{◌≡◌, ◌≢◌, ◌⊎◌, ℕ, List, [], true, slice_index_or}
+use Rattle.std.specs.Prelude.{◌≡◌, ◌≢◌, ◌⊎◌, ◌<◌, ℕ, List, [], false, true, length, slice_index_or}
 use Rattle.std.specs.List.{AllByRecursion}
 use Rattle.aig_core.specs.declared.circuit.Gate.{Gate}
 use Rattle.aig_order.specs.declared.map_block.MappedGate.{MappedGate}
 use Rattle.aig_order.specs.declared.map_block.MapBlock.{MapBlock}
+use Rattle.aig_core.specs.declared.circuit.Circuit.{Circuit}
+use Rattle.aig_image.specs.Renumbering.{source_variable}
+use Rattle.aig_order.specs.Parts.Had.{gates_there}
+use Rattle.aig_order.specs.Undone.{source_variables}
 
 -- the gate has two operands
 abbrev pub HasTwoOperands : Gate → Type 0
@@ -19,6 +23,18 @@ abbrev pub TellsExchanges : List Gate → List MappedGate → Type 0
 TellsExchanges image_gates recorded =
     AllByRecursion (λ (m : MappedGate). m.exchanged ≡ true → HasTwoOperands (gate_in_place image_gates m.place))
     recorded
+
+-- no gate of a list with equal operands is recorded as exchanged, position by position
+abbrev pub DifferWhereExchanged : List Gate → List MappedGate → Type 0
+DifferWhereExchanged gates recorded =
+    (i : ℕ) → i < length recorded
+    → (slice_index_or recorded i (record { var = 0; place = 0; exchanged = false })).exchanged ≡ true
+    → HasTwoOperands (gate_in_place gates i)
+
+-- no gate with equal operands is recorded as exchanged, by the variables of the source
+abbrev pub ExchangesDiffer : MapBlock → Circuit → Type 0
+ExchangesDiffer b x =
+    DifferWhereExchanged (gates_there (source_variable (source_variables b)) x.gates b.gates) b.gates
 
 -- nothing follows a block that tells of no comment section
 abbrev pub TellsComment : MapBlock → List ℕ → Type 0

@@ -10,31 +10,23 @@ use Rattle.aig_order.proofs.turns.tells_order.Goals as goal
 pub are_taken_in_turn-requires-clause-few : goal.are_taken_in_turn-requires-clause-few
 are_taken_in_turn-requires-clause-few c =
     let gates = c.args.block.now.gates in
-    let are : c.as_slice-3.result.now ≡ positions gates =
-    c.as_slice-3.ensures.value ∙ c.in_ok-places.ensures ∙ ap positions c.as_slice.ensures in
-    let many : length c.as_slice-3.result.now ≡ length gates =
-    ap length are ∙ positions_many gates in
+    let many : length c.args.places.now ≡ length gates = ap length c.requires.are ∙ positions_many gates in
     omega (arith, many, c.requires.bounds.counts, c.requires.bounds.max_var)
 
 pub are_taken_in_turn-requires-clause-many : goal.are_taken_in_turn-requires-clause-many
 are_taken_in_turn-requires-clause-many c =
-    let gates = c.args.block.now.gates in
-    let are : c.as_slice-3.result.now ≡ positions gates =
-    c.as_slice-3.ensures.value ∙ c.in_ok-places.ensures ∙ ap positions c.as_slice.ensures in
-    ap length are ∙ positions_many gates
-    ∙ c.requires.counts.gates ∙ ap length (sym c.as_slice-2.ensures)
+    ap length c.requires.are ∙ positions_many c.args.block.now.gates
+    ∙ c.requires.counts.gates ∙ ap length (sym c.as_slice.ensures)
 
 pub returns : goal.returns
 returns c = λ comment once.
     let b = c.args.block.now in
     let x = c.args.image.now in
-    let are : c.as_slice-3.result.now ≡ positions b.gates =
-    c.as_slice-3.ensures.value ∙ c.in_ok-places.ensures ∙ ap positions c.as_slice.ensures in
     let start : 1 + c.len.result + c.len-2.result ≡ 1 + length x.inputs + length x.latches =
     omega (arith, c.len.ensures, c.len-2.ensures) in
     IfOk-weaker c.are_taken_in_turn.result
     (λ recorded. IsTrue recorded
-    ↔ AreTakenInTurn (1 + c.len.result + c.len-2.result) c.as_slice-2.result.now c.as_slice-3.result.now)
+    ↔ AreTakenInTurn (1 + c.len.result + c.len-2.result) c.as_slice.result.now c.args.places.now)
     (λ recorded. IsTrue recorded ↔ IsLeastReadyOrder (undone b comment x) (positions b.gates))
     (λ recorded is.
     tells_order b x comment
@@ -44,6 +36,6 @@ returns c = λ comment once.
       bounds = c.requires.bounds;
       once = c.requires.places;
     })
-    once (1 + c.len.result + c.len-2.result) c.as_slice-2.result.now c.as_slice-3.result.now recorded
-    start c.as_slice-2.ensures are is)
+    once (1 + c.len.result + c.len-2.result) c.as_slice.result.now c.args.places.now recorded
+    start c.as_slice.ensures c.requires.are is)
     c.are_taken_in_turn.ensures

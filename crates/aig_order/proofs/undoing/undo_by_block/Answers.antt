@@ -1,54 +1,29 @@
-use Rattle.std.proofs.Common.{◌∙◌, ap, subst, sym}
-use Rattle.aig_core.specs.declared.circuit.Circuit.{Circuit}
-use Rattle.aig_core.specs.Wellformed.{AreDistinct, IsWellFormed, defined_variables}
-use Rattle.aig_core.specs.BinaryOrder.{IsInBinaryOrder}
-use Rattle.aig_order.specs.MapReading.{HasCountsOf}
-use Rattle.aig_order.specs.Undone.{comment_behind, undone}
+use Rattle.std.proofs.Common.{◌<◌, List, length, arith, ap, refl, subst, sym}
+use Rattle.std.specs.List.{AllByRecursion}
+use Rattle.aig_order.specs.declared.map_block.MappedGate.{MappedGate}
 use Rattle.aig_order.proofs.BlockReading.Block.{read_is_within}
-use Rattle.aig_order.proofs.Restoring.Formed.{well_formed_again}
-use Rattle.aig_order.proofs.Sources.Refused.{of_places, of_source, of_confirmed}
+use Rattle.aig_order.proofs.Sources.Refused.{of_places}
+use Rattle.aig_order.proofs.Sources.SourceVariables.{places_there}
 use Rattle.aig_order.proofs.undoing.undo_by_block.Goals as goal
 
-pub make_undone-requires-clause-counts : goal.make_undone-requires-clause-counts
-make_undone-requires-clause-counts c =
-    subst (HasCountsOf c.args.block) (sym c.circuit.ensures.value)
-    (read_is_within c.args.image.now c.args.block c.args.comment.now c.requires.read).0
-
-pub make_undone-requires-clause-bounds : goal.make_undone-requires-clause-bounds
-make_undone-requires-clause-bounds c =
-    (read_is_within c.args.image.now c.args.block c.args.comment.now c.requires.read).1
+pub source_variables-requires : goal.source_variables-requires
+source_variables-requires c =
+    record { bounds = (read_is_within c.args.image.now c.args.block.now c.args.comment.now c.requires.read).1 }
 
 pub returns-in-Err-clause-fault : goal.returns-in-Err-clause-fault
 returns-in-Err-clause-fault c =
-    of_places c.args.image.now c.args.block c.args.comment.now c.requires.ordered c.requires.read c.in-Err.fault
+    of_places c.args.image.now c.args.block.now c.args.comment.now c.requires.ordered c.requires.read c.in-Err.fault
     c.in-Err.ensures.err
 
-pub returns-in-Err-check_source-clause-fault : goal.returns-in-Err-check_source-clause-fault
-returns-in-Err-check_source-clause-fault c =
-    of_source c.args.image.now c.args.block c.args.comment.now c.requires.ordered c.requires.read
-    c.in-Ok.source c.in-Err-check_source.fault
-    (c.in-Ok.ensures.ok
-    ∙ ap (undone c.args.block (comment_behind c.args.block c.args.comment.now)) c.circuit.ensures.value)
-    c.in-Err-check_source.ensures.err
+pub positions-requires-clause-few : goal.positions-requires-clause-few
+positions-requires-clause-few c =
+    let within = read_is_within c.args.image.now c.args.block.now c.args.comment.now c.requires.read in
+    omega (arith, ap length c.as_slice.ensures, within.1.counts, within.1.max_var)
 
-pub returns-clause-fault : goal.returns-clause-fault
-returns-clause-fault c =
-    of_confirmed c.args.image.now c.args.block c.args.comment.now c.requires.ordered c.requires.read
-    c.in-Ok-check_source.source c.confirm.result
-    (c.in-Ok-check_source.ensures.ok ∙ c.in-Ok.ensures.ok
-    ∙ ap (undone c.args.block (comment_behind c.args.block c.args.comment.now)) c.circuit.ensures.value)
-    c.confirm.ensures.err
-
-pub check_source-requires : goal.check_source-requires
-check_source-requires c =
-    let x = c.circuit.result.now in
-    let within = read_is_within c.args.image.now c.args.block c.args.comment.now c.requires.read in
-    let good = subst IsWellFormed (sym c.circuit.ensures.value) c.circuit.ensures.well_formed in
-    subst (λ (source : Circuit). AreDistinct (defined_variables source) → IsWellFormed source) (sym c.in-Ok.ensures.ok)
-    (well_formed_again c.args.block x (comment_behind c.args.block c.args.comment.now) good
-    (record {
-      ordered = subst IsInBinaryOrder (sym c.circuit.ensures.value) c.requires.ordered;
-      counts = subst (HasCountsOf c.args.block) (sym c.circuit.ensures.value) within.0;
-      bounds = within.1;
-      once = c.in-Ok.ensures.places;
-    }))
+pub positions-requires-clause-there : goal.positions-requires-clause-there
+positions-requires-clause-there c =
+    let gates = c.args.block.now.gates in
+    let within = read_is_within c.args.image.now c.args.block.now c.args.comment.now c.requires.read in
+    subst (λ (recorded : List MappedGate). AllByRecursion (λ (g : MappedGate). g.place < length recorded) recorded)
+    (sym c.as_slice.ensures)
+    (places_there c.args.block.now.max_var (length gates) gates within.1.gates (length gates) refl)

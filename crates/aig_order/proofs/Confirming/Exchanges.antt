@@ -1,0 +1,78 @@
+-- Operands that are recorded as exchanged differ in the source exactly where they differ in the image.
+use Rattle.std.proofs.Common.{◌≡◌, ◌↔◌, ◌<◌, ℕ, List, true, length, get_or, sym, ap, subst, ◌∙◌, arith}
+use Rattle.std.proofs.lemmas.List.{get_or-map, length-map}
+use Rattle.aig_core.specs.declared.circuit.Gate.{Gate}
+use Rattle.aig_core.specs.declared.circuit.Circuit.{Circuit}
+use Rattle.aig_core.specs.Wellformed.{AreDistinct, IsVariableUpTo, IsWellFormed, defined_variables}
+use Rattle.aig_core.proofs.Ordering.Ranked.{at, no_gate}
+use Rattle.aig_image.specs.Relabelled.{GateNames, relabelled_gate, relabelled_literal}
+use Rattle.aig_image.specs.Renumbering.{renumbered, source_variable}
+use Rattle.aig_image.specs.Reordered.{taken}
+use Rattle.aig_image.proofs.Relabelling.Relabelled.{gate_back}
+use Rattle.aig_image.proofs.Relabelling.Standing.{at_place, by_places}
+use Rattle.aig_order.specs.declared.map_block.MappedGate.{MappedGate}
+use Rattle.aig_order.specs.declared.map_block.MapBlock.{MapBlock}
+use Rattle.aig_order.specs.Parts.Confirmed.{DifferWhereExchanged, ExchangesDiffer, HasTwoOperands, TellsExchanges}
+use Rattle.aig_order.specs.Parts.Had.{gates_there}
+use Rattle.aig_order.specs.Undone.{comment_behind, places_recorded, source_variables, undone}
+use Rattle.aig_order.proofs.Restoring.Again.{names}
+use Rattle.aig_order.proofs.Restoring.Places.{IsFit}
+use Rattle.aig_order.proofs.Sources.RecordedAt.{none_recorded, recorded_at}
+
+-- what is said of the parts of a block and a circuit is said of these
+pub exchanges_of_same : (b : MapBlock) (x : Circuit) (vs : List ℕ) (gates : List Gate) (recorded : List MappedGate)
+    → vs ≡ source_variables b → gates ≡ x.gates → recorded ≡ b.gates
+    → DifferWhereExchanged (gates_there (source_variable vs) gates recorded) recorded ↔ ExchangesDiffer b x
+exchanges_of_same b x vs gates recorded vs_are gates_are recorded_are =
+    let Differ : List ℕ → List Gate → List MappedGate → Type 0 =
+    λ us gs ms. DifferWhereExchanged (gates_there (source_variable us) gs ms) ms in
+    let All : Type 0 = ExchangesDiffer b x in
+    subst (λ us. Differ us gates recorded ↔ All) (sym vs_are)
+    (subst (λ gs. Differ (source_variables b) gs recorded ↔ All) (sym gates_are)
+    (subst (λ ms. Differ (source_variables b) x.gates ms ↔ All) (sym recorded_are) (λ d. d, λ d. d)))
+
+module _ (b : MapBlock) (x : Circuit) where
+  abbrev g : ℕ → ℕ
+  g = source_variable (source_variables b)
+
+  abbrev there : ℕ → Gate
+  there i = at x.gates (recorded_at b.gates i).place
+
+  gate_there : (i : ℕ) → i < length b.gates
+      → at (gates_there g x.gates b.gates) i ≡ relabelled_gate g (there i)
+  gate_there i low =
+      let places : List ℕ = places_recorded b.gates in
+      let below : i < length places = omega (arith, low, length-map b.gates (λ (m : MappedGate). m.place)) in
+      let also : i < length (taken x.gates places) =
+      omega (arith, below, length-map places (λ p. get_or x.gates p no_gate)) in
+      get_or-map (relabelled_gate g) (taken x.gates places) i no_gate no_gate also
+      ∙ ap (relabelled_gate g)
+      (get_or-map (λ p. get_or x.gates p no_gate) places i 0 no_gate below
+      ∙ ap (at x.gates) (get_or-map (λ (m : MappedGate). m.place) b.gates i none_recorded 0 low))
+
+  -- equal operands have equal labels
+  pub image_differs : ExchangesDiffer b x → TellsExchanges x.gates b.gates
+  image_differs differ =
+      by_places (λ (m : MappedGate). m.exchanged ≡ true → HasTwoOperands (at x.gates m.place)) none_recorded b.gates
+      (λ i low exchanged equal. differ i low exchanged
+      (ap (λ (h : Gate). h.left) (gate_there i low) ∙ ap (relabelled_literal g) equal
+      ∙ sym (ap (λ (h : Gate). h.right) (gate_there i low))))
+
+  -- and where there is a way back, equal labels are those of equal operands
+  pub source_differs : (rest : List ℕ) → IsFit b x → IsWellFormed x
+      → AreDistinct (defined_variables (undone b (comment_behind b rest) x))
+      → TellsExchanges x.gates b.gates → ExchangesDiffer b x
+  source_differs rest fit good once tells i low exchanged equal =
+      let f : ℕ → ℕ = renumbered (source_variables b) in
+      let within = at_place (λ (m : MappedGate). IsVariableUpTo b.max_var m.var × (m.place < length b.gates))
+      none_recorded b.gates fit.bounds.gates i low in
+      let again : relabelled_gate f (relabelled_gate g (there i)) ≡ there i =
+      gate_back f g (there i)
+      (at_place (GateNames (λ v. f (g v) ≡ v)) no_gate x.gates (names b x rest fit good once).gates
+      (recorded_at b.gates i).place (omega (arith, within.1, fit.counts.gates))) in
+      let same : relabelled_literal g (there i).left ≡ relabelled_literal g (there i).right =
+      sym (ap (λ (h : Gate). h.left) (gate_there i low)) ∙ equal
+      ∙ ap (λ (h : Gate). h.right) (gate_there i low) in
+      at_place (λ (m : MappedGate). m.exchanged ≡ true → HasTwoOperands (at x.gates m.place)) none_recorded b.gates tells
+      i low exchanged
+      (sym (ap (λ (h : Gate). h.left) again) ∙ ap (relabelled_literal f) same ∙ ap (λ (h : Gate). h.right) again)
