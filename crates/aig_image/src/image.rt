@@ -1,5 +1,5 @@
 //! The binary image of a circuit.
-ghost use Rattle.std.specs.Prelude.{◌≡◌, ◌<◌, length, map, IfOk, OnOk};
+ghost use Rattle.std.specs.Prelude.{◌≡◌, ◌<◌, ◌↔◌, None, length, map, IfOk, IsTrue, OnOk};
 ghost use Rattle.std.specs.List.{AllByRecursion};
 ghost use Rattle.std.specs.Option.{unwrap_or};
 ghost use Rattle.aig_core.specs.Wellformed.{IsWellFormed};
@@ -47,7 +47,7 @@ fn with_larger_first(gate: Gate) -> Gate
 }
 
 /// The gates with the larger operand of each first, in the same memory.
-fn sort_operands(gates: Listing<Gate>) -> Listing<Gate>
+pub fn sort_operands(gates: Listing<Gate>) -> Listing<Gate>
     ensures { result ≡ map operands_sorted gates }
 {
     let mut found = gates.into_vec();
@@ -112,6 +112,13 @@ impl Renumbering {
             Some(order) => Renumbering::by_order(alloc, circuit, order),
             None => Renumbering::of_circuit(alloc, circuit),
         }
+    }
+
+    /// Whether the gates stand in the order in which they are taken.
+    pub fn is_in_order(&self) -> bool
+        ensures { IsTrue result ↔ (self.now.taken ≡ None) }
+    {
+        self.taken.is_none()
     }
 
     /// The new numbers of the variables.

@@ -7,6 +7,6 @@ mod labelling;
 pub mod laws;
 mod numbers;
 
-pub use crate::image::{Renumbering, into_binary, to_binary};
+pub use crate::image::{Renumbering, into_binary, sort_operands, to_binary};
 pub use crate::labelling::{Labels, NamesVariables, relabel};
 pub use crate::numbers::{Defines, Numbers};

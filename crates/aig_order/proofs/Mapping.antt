@@ -2,3 +2,4 @@
 pub mod Recorded
 pub mod MappedOrder
 pub mod Alone
+pub mod InOrder

@@ -5,3 +5,4 @@ pub mod MapOutcomes
 pub mod Placed
 pub mod Recorded
 pub mod Turns
+pub mod Kept

@@ -1,14 +1,17 @@
 //! The mapped image of a circuit: the binary image with a map block, by which it can be undone.
-ghost use Rattle.std.specs.Prelude.{◌≡◌, Some, IfOk, min};
+ghost use Rattle.std.specs.Prelude.{◌≡◌, ◌+◌, ◌≤◌, None, Some, IfOk, length, min};
 ghost use Rattle.aig_core.specs.declared.circuit.TheConstants.{LARGEST};
 ghost use Rattle.aig_core.specs.Wellformed.{IsWellFormed};
 ghost use Rattle.aig_core.specs.BinaryOrder.{IsInBinaryOrder};
 ghost use Rattle.aig_image.specs.Parts.Numbers.{number_of, IsRenumberingOf};
+ghost use Rattle.aig_image.specs.Relabelled.{FitIntoLiterals, relabelled};
+ghost use Rattle.aig_image.specs.Reordered.{with_operands_sorted};
 ghost use Rattle.aig_order.specs.MapBlock.{IsMappedImage, block_by, mapped_comment};
+ghost use Rattle.aig_order.specs.Parts.Kept.{AreVariablesOf};
 
-use crate::map_text::map_comment;
+use crate::map_text::{KeptVariables, keep_variables, map_comment, new_map_comment};
 use aig_core::{Checked, Circuit, LARGEST, Listing, Ordered, OutOfMemory, Var};
-use aig_image::{Labels, Renumbering};
+use aig_image::{Labels, Renumbering, relabel, sort_operands};
 use std::alloc::Global;
 
 /// What labels each variable with itself. One that is too large for a literal, as no circuit has any, gets the largest
@@ -54,11 +57,58 @@ fn with_map_alone(alloc: Global, circuit: Circuit) -> Result<Ordered, OutOfMemor
     Ok(Ordered::from_well_ordered(with_comment(circuit, comment)))
 }
 
+/// The circuit by its new numbers, its operands as they stand. The numbers are let go.
+fn by_numbers(renumbering: Renumbering, circuit: Circuit) -> Circuit
+    requires { FitIntoLiterals (number_of renumbering.numbers) }
+    ensures { result ≡ relabelled (number_of renumbering.numbers) circuit }
+{
+    relabel(renumbering.numbers(), circuit)
+}
+
+/// The circuit with the larger operand of each gate first and this comment, its largest index that of all it defines.
+fn sorted_with(circuit: Circuit, comment: Listing<u8>) -> Circuit
+    requires { length circuit.inputs + length circuit.latches + length circuit.gates ≤ LARGEST }
+    ensures { result ≡ record (with_operands_sorted circuit) {
+      max_var = length circuit.inputs + length circuit.latches + length circuit.gates;
+      comment = Some comment;
+    } }
+{
+    let sorted = Circuit {
+        max_var: (circuit.inputs.len() + circuit.latches.len() + circuit.gates.len()) as u32,
+        gates: sort_operands(circuit.gates),
+        ..circuit
+    };
+    with_comment(sorted, comment)
+}
+
+/// The mapped image of a circuit whose gates stand in order. What the map records is read off the circuit by its new
+/// numbers, so that these are looked up once, and let go before there is a text.
+fn image_in_order(
+    alloc: Global,
+    variables: &KeptVariables,
+    renumbering: Renumbering,
+    circuit: Circuit,
+) -> Result<Ordered, OutOfMemory>
+    requires good { IsWellFormed circuit }
+    requires of_it { IsRenumberingOf circuit renumbering }
+    requires in_order { renumbering.taken ≡ None }
+    requires kept { AreVariablesOf variables.now circuit }
+    ensures { IfOk result (λ o. IsMappedImage circuit o) }
+{
+    let new = by_numbers(renumbering, circuit);
+    let comment = new_map_comment(alloc, variables, &new)?;
+    Ok(Ordered::from_well_ordered(sorted_with(new, comment)))
+}
+
 /// The mapped image of a circuit that is no longer needed.
 fn into_mapped_image(alloc: Global, checked: Checked) -> Result<Ordered, OutOfMemory>
     ensures { IfOk result (λ o. IsMappedImage checked o) }
 {
     let renumbering = Renumbering::new(alloc, &checked)?;
+    if renumbering.is_in_order() {
+        let variables = keep_variables(alloc, checked.circuit())?;
+        return image_in_order(alloc, &variables, renumbering, checked.into_circuit());
+    }
     let comment = map_comment(alloc, renumbering.numbers(), checked.circuit())?;
     Ok(image_with_map(renumbering, checked.into_circuit(), comment))
 }
@@ -68,10 +118,7 @@ fn into_mapped_image(alloc: Global, checked: Checked) -> Result<Ordered, OutOfMe
 pub fn to_binary_with_map(alloc: Global, checked: &Checked) -> Result<Ordered, OutOfMemory>
     ensures { IfOk result (λ o. IsMappedImage checked.now o) }
 {
-    let renumbering = Renumbering::new(alloc, checked)?;
-    let comment = map_comment(alloc, renumbering.numbers(), checked.circuit())?;
-    let source = checked.copy(alloc)?.into_circuit();
-    Ok(image_with_map(renumbering, source, comment))
+    into_mapped_image(alloc, checked.copy(alloc)?)
 }
 
 /// The mapped image of a circuit that is no longer needed, in the circuit's own memory. It fails only if an allocation

@@ -73,6 +73,6 @@ module _ (b : MapBlock) (x : Circuit) where
       let same : relabelled_literal g (there i).left ≡ relabelled_literal g (there i).right =
       sym (ap (λ (h : Gate). h.left) (gate_there i low)) ∙ equal
       ∙ ap (λ (h : Gate). h.right) (gate_there i low) in
-      at_place (λ (m : MappedGate). m.exchanged ≡ true → HasTwoOperands (at x.gates m.place)) none_recorded b.gates tells
-      i low exchanged
+      at_place (λ (m : MappedGate). m.exchanged ≡ true → HasTwoOperands (at x.gates m.place)) none_recorded b.gates
+      tells i low exchanged
       (sym (ap (λ (h : Gate). h.left) again) ∙ ap (relabelled_literal f) same ∙ ap (λ (h : Gate). h.right) again)

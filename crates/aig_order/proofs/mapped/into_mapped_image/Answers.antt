@@ -9,25 +9,25 @@ use Rattle.aig_order.proofs.mapped.into_mapped_image.Goals as goal
 
 pub map_comment-requires-clause-fits : goal.map_comment-requires-clause-fits
 map_comment-requires-clause-fits c =
-    few_before_gates c.circuit.result.now
-    (subst IsWellFormed (sym c.circuit.ensures.value) c.circuit.ensures.well_formed)
+    few_before_gates c.circuit-2.result.now
+    (subst IsWellFormed (sym c.circuit-2.ensures.value) c.circuit-2.ensures.well_formed)
 
 pub image_with_map-requires-clause-good : goal.image_with_map-requires-clause-good
 image_with_map-requires-clause-good c =
-    subst IsWellFormed (sym c.into_circuit.ensures.value) c.into_circuit.ensures.well_formed
+    subst IsWellFormed (sym c.into_circuit-2.ensures.value) c.into_circuit-2.ensures.well_formed
 
 pub image_with_map-requires-clause-of_it : goal.image_with_map-requires-clause-of_it
 image_with_map-requires-clause-of_it c =
-    subst (λ (d : Circuit). IsRenumberingOf d c.in_ok-renumbering.renumbering) (sym c.into_circuit.ensures.value)
+    subst (λ (d : Circuit). IsRenumberingOf d c.in_ok-renumbering.renumbering) (sym c.into_circuit-2.ensures.value)
     c.in_ok-renumbering.ensures.renumbering
 
 pub image_with_map-requires-clause-tells : goal.image_with_map-requires-clause-tells
 image_with_map-requires-clause-tells c =
     c.in_ok-comment.ensures
     ∙ ap₂ (λ (n : Numbers) (d : Circuit). mapped_comment (block_by (number_of n) d) d) c.numbers.ensures
-    (c.circuit.ensures.value ∙ sym c.into_circuit.ensures.value)
+    (c.circuit-2.ensures.value ∙ sym c.into_circuit-2.ensures.value)
 
 pub returns : goal.returns
 returns c =
-    subst (λ (d : Circuit). IsMappedImage d c.image_with_map.result) c.into_circuit.ensures.value
+    subst (λ (d : Circuit). IsMappedImage d c.image_with_map.result) c.into_circuit-2.ensures.value
     c.image_with_map.ensures

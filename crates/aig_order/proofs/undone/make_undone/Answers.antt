@@ -52,7 +52,8 @@ returns-clause-ok c =
     c.in_ok-gates.ensures.ok
     ∙ ap₂ (λ vs gs. by vs gs c.as_slice-2.result.now) c.requires.variables c.as_slice.ensures
     ∙ ap (by (source_variables block) image.gates) c.as_slice-2.ensures in
-    let others : c.relabel.result ≡ relabelled (source_variable (source_variables block)) (without_gates block comment image) =
+    let others : c.relabel.result
+    ≡ relabelled (source_variable (source_variables block)) (without_gates block comment image) =
     c.relabel.ensures
     ∙ ap₂ (λ (vs : List ℕ) (d : Circuit). relabelled (source_variable vs) d) c.requires.variables
     c.in_ok-others.ensures in

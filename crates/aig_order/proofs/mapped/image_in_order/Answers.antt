@@ -1,0 +1,69 @@
+use Rattle.std.proofs.Common.{◌≡◌, ◌∙◌, ℕ, ap, arith, subst, sym}
+use Rattle.aig_core.specs.declared.circuit.Circuit.{Circuit}
+use Rattle.aig_core.specs.BinaryOrder.{IsInBinaryOrder}
+use Rattle.aig_core.specs.Wellformed.{IsWellFormed}
+use Rattle.aig_core.proofs.Checking.Fitting.{definitions_fit}
+use Rattle.aig_image.specs.Parts.Numbers.{number_of}
+use Rattle.aig_order.specs.MapBlock.{IsMappedImage, block_by, mapped_comment}
+use Rattle.aig_order.proofs.BlockText.NewGates.{as_many_gates, as_many_inputs, as_many_latches}
+use Rattle.aig_order.proofs.Mapping.InOrder.{made, made_is_mapped, made_is_ordered, sorted_with}
+use Rattle.aig_order.proofs.Mapping.Recorded.{few_before_gates}
+use Rattle.aig_order.proofs.mapped.image_in_order.Goals as goal
+
+pub new_map_comment-requires-clause-fits : goal.new_map_comment-requires-clause-fits
+new_map_comment-requires-clause-fits c =
+    let f : ℕ → ℕ = number_of c.args.renumbering.numbers in
+    let old = c.args.circuit in
+    let new = c.by_numbers-new.result in
+    omega (
+      arith,
+      few_before_gates old c.requires.good,
+      as_many_inputs f old new c.by_numbers-new.ensures,
+      as_many_latches f old new c.by_numbers-new.ensures,
+    )
+
+pub sorted_with-requires : goal.sorted_with-requires
+sorted_with-requires c =
+    let f : ℕ → ℕ = number_of c.args.renumbering.numbers in
+    let old = c.args.circuit in
+    let new = c.by_numbers-new.result in
+    omega (
+      arith,
+      definitions_fit old c.requires.good,
+      c.requires.good.limits.max_var,
+      as_many_inputs f old new c.by_numbers-new.ensures,
+      as_many_latches f old new c.by_numbers-new.ensures,
+      as_many_gates f old new c.by_numbers-new.ensures,
+    )
+
+abbrev made_here : goal.After-sorted_with → Circuit
+made_here c =
+    made c.args.circuit c.args.renumbering c.requires.good c.requires.of_it c.requires.in_order c.in_ok-comment.comment
+
+made_is : (c : goal.After-sorted_with) → c.sorted_with.result ≡ made_here c
+made_is c = c.sorted_with.ensures ∙ ap (sorted_with c.in_ok-comment.comment) c.by_numbers-new.ensures
+
+is_ordered : (c : goal.After-sorted_with) → IsWellFormed (made_here c) × IsInBinaryOrder (made_here c)
+is_ordered c =
+    made_is_ordered c.args.circuit c.args.renumbering c.requires.good c.requires.of_it c.requires.in_order
+    c.in_ok-comment.comment
+
+pub from_well_ordered-requires-clause-well_formed : goal.from_well_ordered-requires-clause-well_formed
+from_well_ordered-requires-clause-well_formed c = subst IsWellFormed (sym (made_is c)) (is_ordered c).0
+
+pub from_well_ordered-requires-clause-in_order : goal.from_well_ordered-requires-clause-in_order
+from_well_ordered-requires-clause-in_order c = subst IsInBinaryOrder (sym (made_is c)) (is_ordered c).1
+
+pub returns : goal.returns
+returns c =
+    let f : ℕ → ℕ = number_of c.args.renumbering.numbers in
+    let old = c.args.circuit in
+    let comment = c.in_ok-comment.comment in
+    let tells : comment ≡ mapped_comment (block_by f old) old =
+    c.in_ok-comment.ensures f old c.requires.kept c.by_numbers-new.ensures
+    ∙ ap (mapped_comment (block_by f old)) c.by_numbers-new.ensures in
+    let same : c.from_well_ordered.result
+    ≡ made old c.args.renumbering c.requires.good c.requires.of_it c.requires.in_order comment =
+    c.from_well_ordered.ensures ∙ c.sorted_with.ensures ∙ ap (sorted_with comment) c.by_numbers-new.ensures in
+    subst (IsMappedImage old) (sym same)
+    (made_is_mapped old c.args.renumbering c.requires.good c.requires.of_it c.requires.in_order comment tells)
