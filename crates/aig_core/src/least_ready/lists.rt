@@ -1,12 +1,13 @@
 //! What each gate needs, and a list of gates for each gate, in one table.
-ghost use Rattle.std.specs.Prelude.{◌≡◌, ◌≢◌, ◌<◌, ◌≤◌, ℕ, List, [], ◌∷◌, length, IfOk};
+ghost use Rattle.std.specs.Prelude.{◌≡◌, ◌≢◌, ◌<◌, ◌≤◌, ℕ, List, [], ◌∷◌, length, map, IfOk};
 ghost use Rattle.std.specs.Option.{IfSome, IfNone};
 ghost use Rattle.aig_core.specs.Wellformed.{IsAmong};
 ghost use Rattle.aig_core.specs.Lists.{needs_in, links_in, list_in, AreLists};
-ghost use Rattle.aig_core.specs.Placing.{needs_by, under};
+ghost use Rattle.aig_core.specs.Placing.{needs_by, needs_of, under};
 
-use crate::circuit::LARGEST;
-use crate::least_ready::needs::Needs;
+use crate::circuit::{Circuit, LARGEST};
+use crate::least_ready::needs::{Needs, look_up};
+use crate::operands::gate_index;
 use std::alloc::{AllocError, Global};
 
 /// The gate behind this one in its list, and the first of its own list: each is one more than a position, or 0 where
@@ -32,17 +33,20 @@ pub(super) struct Lists {
 }
 
 impl Lists {
-    /// Empty lists of the gates that need this. The rows are not made while that is looked up: the map from variables
-    /// may be several times as large, and is gone by now.
-    pub(super) fn new(alloc: Global, needs: Vec<Needs>) -> Result<Self, AllocError>
-        ensures needs { IfOk result (λ lists. needs_in lists.rows.items ≡ needs.items) }
+    /// What the gates of a circuit need, and empty lists of them.
+    pub(super) fn new(alloc: Global, circuit: &Circuit) -> Result<Self, AllocError>
+        requires { length circuit.now.gates ≤ LARGEST }
+        ensures needs { IfOk result (λ lists.
+            needs_in lists.rows.items ≡ map (needs_of circuit.now.gates) circuit.now.gates) }
         ensures lists { IfOk result (λ lists. AreLists (links_in lists.rows.items)) }
         ensures empty { IfOk result (λ lists. (g : ℕ) → list_in lists.rows.items g ≡ []) }
     {
-        let mut rows = Vec::with_capacity(alloc, needs.len())?;
-        for needed in needs.as_slice() {
+        let gates = circuit.gates.as_slice();
+        let index = gate_index(alloc, circuit)?;
+        let mut rows = Vec::with_capacity(alloc, gates.len())?;
+        for gate in gates {
             rows.push(Row {
-                needs: *needed,
+                needs: look_up(&index, gate),
                 link: Link { next: 0, first: 0 },
             })?;
         }

@@ -1,15 +1,13 @@
 //! Which gates a gate needs.
-ghost use Rattle.std.specs.Prelude.{◌≡◌, ◌<◌, ◌≤◌, ℕ, length, map, IfOk};
+ghost use Rattle.std.specs.Prelude.{◌≡◌, ◌<◌, ℕ};
 ghost use Rattle.std.specs.Option.{IfSome};
 ghost use Rattle.std.specs.FinMap.{get};
 ghost use Rattle.aig_core.specs.Literal.{variable_of};
 ghost use Rattle.aig_core.specs.Placing.{link_to, needs_of};
 
-use crate::circuit::{Circuit, Gate, LARGEST};
+use crate::circuit::{Gate, LARGEST};
 use crate::literal::Lit;
-use crate::operands::gate_index;
 use crate::var_map::VarMap;
-use std::alloc::{AllocError, Global};
 
 /// The gates that a gate's operands are over: each is one more than its position, or 0 where there is none.
 #[derive(Clone, Copy)]
@@ -32,7 +30,7 @@ fn needed(index: &VarMap<u32>, literal: Lit) -> u32
 
 /// What a gate needs.
 #[inline(always)]
-fn look_up(index: &VarMap<u32>, gate: &Gate) -> Needs
+pub(super) fn look_up(index: &VarMap<u32>, gate: &Gate) -> Needs
     requires { (v : ℕ) → IfSome (get index.now v) (λ at. at < LARGEST) }
     ensures { result ≡ record {
       left = link_to (get index.now (variable_of gate.now.left));
@@ -43,18 +41,4 @@ fn look_up(index: &VarMap<u32>, gate: &Gate) -> Needs
         left: needed(index, gate.left),
         right: needed(index, gate.right),
     }
-}
-
-/// What all gates need.
-pub(super) fn all_needs(alloc: Global, circuit: &Circuit) -> Result<Vec<Needs>, AllocError>
-    requires { length circuit.now.gates ≤ LARGEST }
-    ensures { IfOk result (λ all. all.items ≡ map (needs_of circuit.now.gates) circuit.now.gates) }
-{
-    let gates = circuit.gates.as_slice();
-    let index = gate_index(alloc, circuit)?;
-    let mut all = Vec::with_capacity(alloc, gates.len())?;
-    for gate in gates {
-        all.push(look_up(&index, gate))?;
-    }
-    Ok(all)
 }

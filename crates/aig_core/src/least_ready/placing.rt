@@ -10,7 +10,7 @@ ghost use Rattle.aig_core.specs.Ready.{has, room};
 use crate::circuit::{Circuit, LARGEST};
 use crate::fault::OutOfMemory;
 use crate::least_ready::lists::Lists;
-use crate::least_ready::needs::{Needs, all_needs};
+use crate::least_ready::needs::Needs;
 use crate::least_ready::ready::Ready;
 use crate::placed::Placed;
 use std::alloc::Global;
@@ -122,7 +122,7 @@ pub fn place_gates(alloc: Global, circuit: &Circuit) -> Result<Placed, OutOfMemo
     ensures least { IfOk result (λ placed. IsLeastReadyOrder circuit.now placed.list) }
     ensures room { IfOk result (λ placed. placed.room ≡ length circuit.now.gates) }
 {
-    let mut lists = Lists::new(alloc, all_needs(alloc, circuit)?)?;
+    let mut lists = Lists::new(alloc, circuit)?;
     let gates = lists.len();
     let mut placed = Placed::new(alloc, gates)?;
     let mut ready = Ready::new(alloc, gates as u32)?;

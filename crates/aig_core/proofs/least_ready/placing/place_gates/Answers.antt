@@ -15,7 +15,7 @@ pub loop-gate-init : goal.loop-gate-init
 loop-gate-init c =
     let gates : List Gate = c.args.circuit.now.gates in
     let rows : List Row = c.in_ok-lists.lists.rows.items in
-    let all_are = c.in_ok-lists.ensures.needs ∙ c.in_ok-all_needs.ensures in
+    let all_are = c.in_ok-lists.ensures.needs in
     let no_gate : c.in_ok-placed.placed.list ≡ [] = ap (λ (p : Placement). p.list) c.in_ok-placed.ensures in record {
       needs = all_are;
       room = record {
@@ -47,7 +47,7 @@ returns-clause-least c =
     omega (
       arith,
       as_many_needs first,
-      as_long gates (needs_in first) (c.in_ok-lists.ensures.needs ∙ c.in_ok-all_needs.ensures),
+      as_long gates (needs_in first) c.in_ok-lists.ensures.needs,
       c.len-gates.ensures,
       c.loop-gate-test.false,
     ) in

@@ -1,38 +1,52 @@
 use Rattle.std.proofs.Common.{◌≡◌, ◌≤◌, ◌∙◌, ℕ, List, take, ap, sym, subst, arith, length, map}
+use Rattle.std.specs.FinMap.{get}
 use Rattle.std.specs.Prelude.{replicate}
-use Rattle.std.proofs.lemmas.List.{take_all}
+use Rattle.std.proofs.lemmas.List.{take_all, length-map}
+use Rattle.std.proofs.lemmas.Simd.{map-map}
+use Rattle.aig_core.specs.declared.circuit.Gate.{Gate}
 use Rattle.aig_core.specs.declared.least_ready.lists.Row.{Row}
-use Rattle.aig_core.specs.declared.least_ready.needs.Needs.{Needs}
 use Rattle.aig_core.specs.Lists.{no_link, needs_in, links_in, list_of, AreLists}
+use Rattle.aig_core.specs.Placing.{needs_of}
 use Rattle.aig_core.proofs.Ordering.Lists.{all_empty, empty_lists}
+use Rattle.aig_core.proofs.Ordering.Needs.{few_places}
 use Rattle.aig_core.proofs.Ordering.Rows.{row_of, needs_of_rows, links_of_rows}
 use Rattle.aig_core.proofs.least_ready.lists.Lists.new.Goals as goal
 
 -- what the rows of all gates say, once the first so many are all of them
-module _ (all : List Needs) (n : ℕ) (rows : List Row) (are : rows ≡ map row_of (take n all)) (enough : length all ≤ n)
+module _ (gates : List Gate) (n : ℕ) (rows : List Row)
+    (are : rows ≡ map (λ g. row_of (needs_of gates g)) (take n gates)) (enough : length gates ≤ n)
   where
-    all_rows : rows ≡ map row_of all
-    all_rows = are ∙ ap (map row_of) (take_all n all enough)
+    all_rows : rows ≡ map row_of (map (needs_of gates) gates)
+    all_rows =
+        are ∙ ap (map (λ g. row_of (needs_of gates g))) (take_all n gates enough)
+        ∙ sym (map-map row_of (needs_of gates) gates)
 
-    same_needs : needs_in rows ≡ all
-    same_needs = ap needs_in all_rows ∙ needs_of_rows all
+    same_needs : needs_in rows ≡ map (needs_of gates) gates
+    same_needs = ap needs_in all_rows ∙ needs_of_rows (map (needs_of gates) gates)
 
-    no_links : links_in rows ≡ replicate (length all) no_link
-    no_links = ap links_in all_rows ∙ links_of_rows all
+    no_links : links_in rows ≡ replicate (length gates) no_link
+    no_links =
+        ap links_in all_rows ∙ links_of_rows (map (needs_of gates) gates)
+        ∙ ap (λ many. replicate many no_link) (length-map gates (needs_of gates))
+
+pub look_up-requires : goal.look_up-requires
+look_up-requires c =
+    few_places c.args.circuit.now.gates (get c.in_ok-index.index) c.in_ok-index.ensures (omega (arith, c.requires))
 
 pub returns-clause-needs : goal.returns-clause-needs
 returns-clause-needs c =
-    same_needs c.as_slice-needed-items.result.now c.loop-needed.needed-index c.loop-needed.rows.items
-    c.loop-needed.invariant (omega (arith, c.loop-needed-test.false)) ∙ c.as_slice-needed-items.ensures.value
+    same_needs c.as_slice-gates.result.now c.loop-gate.gate-index c.loop-gate.rows.items c.loop-gate.invariant
+    (omega (arith, c.loop-gate-test.false))
+    ∙ ap (λ gates. map (needs_of gates) gates) c.as_slice-gates.ensures
 
 pub returns-clause-lists : goal.returns-clause-lists
 returns-clause-lists c =
-    let all : List Needs = c.as_slice-needed-items.result.now in
-    subst AreLists (sym (no_links all c.loop-needed.needed-index c.loop-needed.rows.items c.loop-needed.invariant
-    (omega (arith, c.loop-needed-test.false)))) (empty_lists (length all))
+    let gates : List Gate = c.as_slice-gates.result.now in
+    subst AreLists (sym (no_links gates c.loop-gate.gate-index c.loop-gate.rows.items c.loop-gate.invariant
+    (omega (arith, c.loop-gate-test.false)))) (empty_lists (length gates))
 
 pub returns-clause-empty : goal.returns-clause-empty
 returns-clause-empty c = λ g.
-    let all : List Needs = c.as_slice-needed-items.result.now in
-    ap (λ links. list_of links g) (no_links all c.loop-needed.needed-index c.loop-needed.rows.items
-    c.loop-needed.invariant (omega (arith, c.loop-needed-test.false))) ∙ all_empty (length all) g
+    let gates : List Gate = c.as_slice-gates.result.now in
+    ap (λ links. list_of links g) (no_links gates c.loop-gate.gate-index c.loop-gate.rows.items
+    c.loop-gate.invariant (omega (arith, c.loop-gate-test.false))) ∙ all_empty (length gates) g
