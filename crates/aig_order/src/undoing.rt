@@ -35,8 +35,8 @@ fn check_source(alloc: Global, source: Circuit) -> Result<Checked, MapFault>
     }
 }
 
-/// Whether this is the mapped image of the circuit that its block gives. The image is not made again to compare: the
-/// block is checked by itself.
+/// Whether this is the mapped image of the circuit that its block gives, if that one is well formed. The image is not
+/// made again to compare: the block is checked by itself.
 fn has_image(
     alloc: Global,
     image: &Checked,
@@ -48,9 +48,9 @@ fn has_image(
     requires read { block_reading image.now ≡ Ok (block.now, comment.now) }
     requires once { AreDistinct (map (λ (g : MappedGateRecord). g.place) block.now.gates) }
     requires are { places.now ≡ positions block.now.gates }
-    requires formed { IsWellFormed (undone block.now (comment_behind block.now comment.now) image.now) }
     requires differ { ExchangesDiffer block.now image.now }
-    ensures { IfOk result (λ is. IsTrue is
+    ensures { IsWellFormed (undone block.now (comment_behind block.now comment.now) image.now)
+        → IfOk result (λ is. IsTrue is
         ↔ IsMappedImage (undone block.now (comment_behind block.now comment.now) image.now) image.now) }
 {
     let circuit = image.circuit();
@@ -60,24 +60,25 @@ fn has_image(
     tells_order(alloc, block, places, circuit)
 }
 
-/// The source, which is forged where its mapped image is another circuit than this one.
+/// The source, which is forged where it is well formed and its mapped image is another circuit than this one.
 fn confirm(
     alloc: Global,
-    source: Checked,
+    source: Circuit,
     image: &Checked,
     block: &MapBlock,
     places: &[u32],
     comment: &[u8],
-) -> Result<Checked, MapFault>
+) -> Result<Circuit, MapFault>
     requires ordered { IsInBinaryOrder image.now }
     requires read { block_reading image.now ≡ Ok (block.now, comment.now) }
     requires once { AreDistinct (map (λ (g : MappedGateRecord). g.place) block.now.gates) }
     requires are { places.now ≡ positions block.now.gates }
     requires is { source ≡ undone block.now (comment_behind block.now comment.now) image.now }
-    requires formed { IsWellFormed source }
     requires differ { ExchangesDiffer block.now image.now }
-    ensures ok { IfOk result (λ c. IsUndoneFrom image.now c) }
-    ensures err { IfErr result (λ e. (e ≡ IsOutOfMemory) ⊎ ((e ≡ IsForged) × (¬ IsMappedImage source image.now))) }
+    ensures ok { IfOk result (λ c. c ≡ source) }
+    ensures image { IfOk result (λ c. IsWellFormed c → IsMappedImage c image.now) }
+    ensures err { IfErr result (λ e. (e ≡ IsOutOfMemory)
+        ⊎ ((e ≡ IsForged) × (¬ (IsWellFormed source × IsMappedImage source image.now)))) }
 {
     match has_image(alloc, image, block, places, comment) {
         Ok(true) => Ok(source),
@@ -86,54 +87,80 @@ fn confirm(
     }
 }
 
-/// The circuit that is undone by the block that was read, where there is one; by the variables of the source in their
-/// new order, and by the positions of gates there, place by place.
-fn undo_by_places(
+/// The source by the block that was read, if it is well formed; by its variables in their new order, and by the
+/// positions of gates there, place by place. Nothing else can be wrong with it than that a variable is defined twice.
+fn source_by_places(
     alloc: Global,
     image: &Checked,
     block: &MapBlock,
     variables: &SourceVariables,
     places: &[u32],
     comment: &[u8],
-) -> Result<Checked, MapFault>
+) -> Result<Circuit, MapFault>
     requires ordered { IsInBinaryOrder image.now }
     requires read { block_reading image.now ≡ Ok (block.now, comment.now) }
     requires once { AreDistinct (map (λ (g : MappedGateRecord). g.place) block.now.gates) }
     requires variables { variables.now.variables.items ≡ source_variables block.now }
     requires are { places.now ≡ positions block.now.gates }
-    ensures ok { IfOk result (λ c. IsUndoneFrom image.now c) }
+    ensures ok { IfOk result (λ c. c ≡ undone block.now (comment_behind block.now comment.now) image.now) }
+    ensures formed { IfOk result (λ c. AreDistinct (defined_variables c) → IsWellFormed c) }
+    ensures image { IfOk result (λ c. IsWellFormed c → IsMappedImage c image.now) }
     ensures fault { IfErr result (λ e. IsMapFault image.now e) }
 {
     let source = match make_undone(alloc, variables, places, block, comment, image.circuit()) {
         Ok(source) => source,
         Err(fault) => return Err(fault),
     };
-    let source = match check_source(alloc, source) {
-        Ok(source) => source,
+    confirm(alloc, source, image, block, places, comment)
+}
+
+/// The source by the block that was read, if it is well formed. The block, and the tables that are made of it, are let
+/// go here: to find out whether the source defines a variable twice takes memory of its own.
+fn source_by_block(
+    alloc: Global,
+    image: &Checked,
+    block: MapBlock,
+    comment: &[u8],
+) -> Result<Circuit, MapFault>
+    requires ordered { IsInBinaryOrder image.now }
+    requires read { block_reading image.now ≡ Ok (block, comment.now) }
+    ensures ok { IfOk result (λ c. c ≡ undone block (comment_behind block comment.now) image.now) }
+    ensures formed { IfOk result (λ c. AreDistinct (defined_variables c) → IsWellFormed c) }
+    ensures image { IfOk result (λ c. IsWellFormed c → IsMappedImage c image.now) }
+    ensures fault { IfErr result (λ e. IsMapFault image.now e) }
+{
+    let variables = match source_variables(alloc, &block) {
+        Ok(variables) => variables,
         Err(fault) => return Err(fault),
     };
-    confirm(alloc, source, image, block, places, comment)
+    match positions(alloc, block.gates.as_slice()) {
+        Ok(places) => source_by_places(
+            alloc,
+            image,
+            &block,
+            &variables,
+            places.as_slice(),
+            comment,
+        ),
+        Err(_) => Err(MapFault::OutOfMemory),
+    }
 }
 
 /// The circuit that is undone by the block that was read, where there is one.
 fn undo_by_block(
     alloc: Global,
     image: &Checked,
-    block: &MapBlock,
+    block: MapBlock,
     comment: &[u8],
 ) -> Result<Checked, MapFault>
     requires ordered { IsInBinaryOrder image.now }
-    requires read { block_reading image.now ≡ Ok (block.now, comment.now) }
+    requires read { block_reading image.now ≡ Ok (block, comment.now) }
     ensures ok { IfOk result (λ c. IsUndoneFrom image.now c) }
     ensures fault { IfErr result (λ e. IsMapFault image.now e) }
 {
-    let variables = match source_variables(alloc, block) {
-        Ok(variables) => variables,
-        Err(fault) => return Err(fault),
-    };
-    match positions(alloc, block.gates.as_slice()) {
-        Ok(places) => undo_by_places(alloc, image, block, &variables, places.as_slice(), comment),
-        Err(_) => Err(MapFault::OutOfMemory),
+    match source_by_block(alloc, image, block, comment) {
+        Ok(source) => check_source(alloc, source),
+        Err(fault) => Err(fault),
     }
 }
 
@@ -146,7 +173,7 @@ fn recover(alloc: Global, image: &Checked) -> Result<Checked, MapFault>
         return Err(MapFault::NotOrdered);
     }
     match read_block(alloc, image.circuit()) {
-        Ok((block, comment)) => undo_by_block(alloc, image, &block, comment),
+        Ok((block, comment)) => undo_by_block(alloc, image, block, comment),
         Err(fault) => Err(fault),
     }
 }

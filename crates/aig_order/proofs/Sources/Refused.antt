@@ -1,6 +1,6 @@
 -- Why undoing refuses.
 use Rattle.std.proofs.Common.{◌≡◌, ◌↔◌, ap, ◌∙◌, sym, subst, refl, ◌⊎◌, inl, inr, ⊎_elim, ℕ, zero, suc, ◌+◌, cond, IsOk}
-use Rattle.std.proofs.Common.{IfOk, IfErr, MatchResult, List, Bool, true, false, true≢false, IsTrue, Result, Ok}
+use Rattle.std.proofs.Common.{IfOk, IfErr, OnOk, MatchResult, List, Bool, true, false, true≢false, IsTrue, Result, Ok}
 use Rattle.std.proofs.Common.{Err, Option, None, Some}
 use Rattle.aig_core.specs.declared.circuit.Circuit.{Circuit}
 use Rattle.aig_core.specs.Form.{IsInForm}
@@ -23,6 +23,7 @@ use Rattle.aig_order.proofs.BlockReading.Block.{read_is_within}
 use Rattle.aig_order.proofs.Confirming.Exchanges.{source_differs}
 use Rattle.aig_order.proofs.Confirming.RecordedRight.{recorded_right}
 use Rattle.aig_order.proofs.Sources.OneSource.{IsRecovered, one_reading, one_source, recovered}
+use Rattle.aig_order.proofs.Sources.OneSource.{undoing_recovers}
 use Rattle.aig_order.proofs.Mapping.MappedOrder.{mapped_image_is_ordered}
 
 -- a circuit has one mapped image, since its gates have one order
@@ -160,26 +161,44 @@ module _ (x : Circuit) (b : MapBlock) (rest : List ℕ) (in_order : IsInBinaryOr
       (subst (λ (d : Circuit). AreDistinct (defined_variables d)) by.1 p.well_formed.once)
       (recorded_right c x b rest p.well_formed p.image read).0)) (inr equal.0)
 
-  pub of_source : (source : Circuit) (e : MapFault) → source ≡ undone b (comment_behind b rest) x
+  of_source : (source : Circuit) (e : MapFault) → source ≡ undone b (comment_behind b rest) x
       → (e ≡ OutOfMemory) ⊎ ((e ≡ Forged) × (¬ IsWellFormed source)) → IsMapFault x e
   of_source source e is (inl memory) = subst (IsMapFault x) (sym memory) tt
   of_source source e is (inr ill) =
       forged e (λ c p. ill.1 (subst IsWellFormed ((by_block c p).1 ∙ sym is) p.well_formed)) (inr ill.0)
 
+  pub of_judged : (source : Circuit) (judged : Result Circuit MapFault) → source ≡ undone b (comment_behind b rest) x
+      → IfErr judged (λ e. (e ≡ OutOfMemory) ⊎ ((e ≡ Forged) × (¬ IsWellFormed source)))
+      → IfErr judged (IsMapFault x)
+  of_judged source (Ok c) is refused = tt
+  of_judged source (Err e) is refused = of_source source e is refused
+
   of_image : (source : Circuit) (e : MapFault) → source ≡ undone b (comment_behind b rest) x
-      → (e ≡ OutOfMemory) ⊎ ((e ≡ Forged) × (¬ IsMappedImage source x)) → IsMapFault x e
+      → (e ≡ OutOfMemory) ⊎ ((e ≡ Forged) × (¬ (IsWellFormed source × IsMappedImage source x))) → IsMapFault x e
   of_image source e is (inl memory) = subst (IsMapFault x) (sym memory) tt
   of_image source e is (inr other) =
       forged e
-      (λ c p. other.1 (subst (λ (d : Circuit). IsMappedImage d x) ((by_block c p).1 ∙ sym is) p.image)) (inr other.0)
+      (λ c p.
+      let same : c ≡ source = (by_block c p).1 ∙ sym is in
+      other.1
+      (subst IsWellFormed same p.well_formed, subst (λ (d : Circuit). IsMappedImage d x) same p.image)) (inr other.0)
 
-  -- so why the last step refuses
+  -- so why the image is not the one that the block tells of
   pub of_confirmed : (source : Circuit) (recorded : Result Circuit MapFault)
       → source ≡ undone b (comment_behind b rest) x
-      → IfErr recorded (λ e. (e ≡ OutOfMemory) ⊎ ((e ≡ Forged) × (¬ IsMappedImage source x)))
+      → IfErr recorded
+      (λ e. (e ≡ OutOfMemory) ⊎ ((e ≡ Forged) × (¬ (IsWellFormed source × IsMappedImage source x))))
       → IfErr recorded (IsMapFault x)
   of_confirmed source (Ok c) is refused = tt
   of_confirmed source (Err e) is refused = of_image source e is refused
+
+-- what is undone, once it is found to be well formed
+pub undone_where_judged : (x source : Circuit) (judged : Result Circuit MapFault)
+    → (IsWellFormed source → IsMappedImage source x) → IfOk judged (λ c. c ≡ source)
+    → OnOk judged (IsWellFormed source) → IfOk judged (IsUndoneFrom x)
+undone_where_judged x source (Ok c) image is formed =
+    subst (IsUndoneFrom x) (sym is) (undoing_recovers source x formed (image formed)).0
+undone_where_judged x source (Err e) image is formed = tt
 
 -- a circuit that has an undone one is refused for want of memory alone
 pub only_memory : (x : Circuit) (e : MapFault) → IsMapFault x e → (c : Circuit) → IsUndoneFrom x c → e ≡ OutOfMemory

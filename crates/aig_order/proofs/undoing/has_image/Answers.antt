@@ -13,9 +13,9 @@ use Rattle.aig_order.proofs.Confirming.Judged.{by_comment, by_order}
 use Rattle.aig_order.proofs.undoing.has_image.Goals as goal
 
 pub returns-then-not-tells_comment : goal.returns-then-not-tells_comment
-returns-then-not-tells_comment c =
+returns-then-not-tells_comment c = λ formed.
     by_comment c.args.image.now c.args.block.now c.args.comment.now c.circuit-circuit.ensures.well_formed
-    c.requires.ordered c.requires.read c.requires.once c.requires.formed
+    c.requires.ordered c.requires.read c.requires.once formed
     c.tells_comment.result c.tells_comment.ensures c.if-not-tells_comment.true
 
 pub tells_order-requires-clause-counts : goal.tells_order-requires-clause-counts
@@ -28,7 +28,7 @@ tells_order-requires-clause-bounds c =
     (read_is_within c.args.image.now c.args.block.now c.args.comment.now c.requires.read).1
 
 pub returns : goal.returns
-returns c =
+returns c = λ formed.
     let b = c.args.block.now in
     let comment = comment_behind b c.args.comment.now in
     let recorded = subst (λ (y : Circuit). (comment : Option (List ℕ))
@@ -40,6 +40,6 @@ returns c =
     (λ (t : Bool). IsTrue t ↔ IsLeastReadyOrder (undone b comment c.args.image.now) (positions b.gates))
     (λ (t : Bool). IsTrue t ↔ IsMappedImage (undone b comment c.args.image.now) c.args.image.now)
     (by_order c.args.image.now b c.args.comment.now c.circuit-circuit.ensures.well_formed
-    c.requires.ordered c.requires.read c.requires.once c.requires.formed
+    c.requires.ordered c.requires.read c.requires.once formed
     (c.tells_comment.ensures.0 c.if-not-tells_comment.false) (image_differs b c.args.image.now c.requires.differ))
-    (recorded comment c.requires.formed.once)
+    (recorded comment formed.once)

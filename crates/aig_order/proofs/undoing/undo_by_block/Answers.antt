@@ -1,29 +1,12 @@
-use Rattle.std.proofs.Common.{◌<◌, List, length, arith, ap, refl, subst, sym}
-use Rattle.std.specs.List.{AllByRecursion}
-use Rattle.aig_order.specs.declared.map_block.MappedGate.{MappedGate}
-use Rattle.aig_order.proofs.BlockReading.Block.{read_is_within}
-use Rattle.aig_order.proofs.Sources.Refused.{of_places}
-use Rattle.aig_order.proofs.Sources.SourceVariables.{places_there}
+use Rattle.aig_order.proofs.Sources.Refused.{of_judged, undone_where_judged}
 use Rattle.aig_order.proofs.undoing.undo_by_block.Goals as goal
 
-pub source_variables-requires : goal.source_variables-requires
-source_variables-requires c =
-    record { bounds = (read_is_within c.args.image.now c.args.block.now c.args.comment.now c.requires.read).1 }
+pub returns-in-Ok-clause-ok : goal.returns-in-Ok-clause-ok
+returns-in-Ok-clause-ok c =
+    undone_where_judged c.args.image.now c.in-Ok.source c.check_source.result c.in-Ok.ensures.image
+    c.check_source.ensures.ok c.check_source.ensures.formed
 
-pub returns-in-Err-clause-fault : goal.returns-in-Err-clause-fault
-returns-in-Err-clause-fault c =
-    of_places c.args.image.now c.args.block.now c.args.comment.now c.requires.ordered c.requires.read c.in-Err.fault
-    c.in-Err.ensures.err
-
-pub positions-requires-clause-few : goal.positions-requires-clause-few
-positions-requires-clause-few c =
-    let within = read_is_within c.args.image.now c.args.block.now c.args.comment.now c.requires.read in
-    omega (arith, ap length c.as_slice.ensures, within.1.counts, within.1.max_var)
-
-pub positions-requires-clause-there : goal.positions-requires-clause-there
-positions-requires-clause-there c =
-    let gates = c.args.block.now.gates in
-    let within = read_is_within c.args.image.now c.args.block.now c.args.comment.now c.requires.read in
-    subst (λ (recorded : List MappedGate). AllByRecursion (λ (g : MappedGate). g.place < length recorded) recorded)
-    (sym c.as_slice.ensures)
-    (places_there c.args.block.now.max_var (length gates) gates within.1.gates (length gates) refl)
+pub returns-in-Ok-clause-fault : goal.returns-in-Ok-clause-fault
+returns-in-Ok-clause-fault c =
+    of_judged c.args.image.now c.args.block c.args.comment.now c.requires.ordered c.requires.read c.in-Ok.source
+    c.check_source.result c.in-Ok.ensures.ok c.check_source.ensures.err
