@@ -1,6 +1,6 @@
 //! A simulation that reads the whole stimulus before it sends anything.
 ghost use Rattle.std.specs.Prelude.{◌≡◌, ◌≢◌, ◌+◌, ◌-◌, ◌^◌, ◌<◌, ◌≤◌, ℕ, List, [], IfErr, None};
-ghost use Rattle.std.specs.Prelude.{OnOk, length, map, max, true};
+ghost use Rattle.std.specs.Prelude.{OnOk, length, max, true};
 ghost use Rattle.std.specs.List.{All};
 ghost use Rattle.aig_core.specs.declared.circuit.Circuit.{Circuit as CircuitRecord};
 ghost use Rattle.aig_io.specs.Output.{Put};
@@ -9,10 +9,9 @@ ghost use Rattle.aig_sim.specs.declared.fault.SimFault.TheVariants.{WriteFailed}
 ghost use Rattle.aig_sim.specs.declared.run.Run.{Run as RunRecord};
 ghost use Rattle.aig_sim.specs.Batched.{NotBatched};
 ghost use Rattle.aig_sim.specs.Outcome.{Simulated, first_bad_line, sink_failures, source_failures};
-ghost use Rattle.aig_sim.specs.Parts.Benches.{IsBench};
-ghost use Rattle.aig_sim.specs.Parts.LaneTexts.{HaveRoom};
-ghost use Rattle.aig_sim.specs.Parts.Lines.{Keeping as KeepingRecord, line_size};
-ghost use Rattle.aig_sim.specs.Parts.RunsRead.{PutRuns, Says, entries_of_groups, text_of_group};
+ghost use Rattle.aig_sim.specs.Parts.Benches.{Fits, IsBench};
+ghost use Rattle.aig_sim.specs.Parts.LaneTexts.{HoldsRuns};
+ghost use Rattle.aig_sim.specs.Parts.RunsRead.{PutRuns, Says, entries_of_groups};
 ghost use Rattle.aig_sim.specs.Parts.Streaming.{NotTraced, SentAll, SentInPart};
 ghost use Rattle.aig_sim.specs.Parts.Tracing.{IsFresh};
 ghost use Rattle.aig_sim.specs.Runs.{IsRunOf};
@@ -22,7 +21,6 @@ use crate::collected::collect;
 use crate::fault::SimFault;
 use crate::front::read_front;
 use crate::gathered::Gathered;
-use crate::lane_text::RunText;
 use crate::machine::Machine;
 use crate::reader::Reader;
 use crate::runs_read::RunGroup;
@@ -30,16 +28,6 @@ use crate::text_group::{Bench, set_up};
 use crate::trace::Columns;
 use aig_core::{Checked, Sink, Source};
 use std::alloc::Global;
-
-/// Puts the texts of a group, with the line that ends each.
-fn put_group<W: Sink>(output: &mut Gathered<W>, texts: &[RunText])
-    ensures { Put output.old output.new (text_of_group (map (λ (t : KeepingRecord). t.bytes) texts.now)) }
-{
-    for text in texts {
-        output.put(text.as_slice());
-        output.put(b".\n");
-    }
-}
 
 /// Puts the texts of groups, one after the other.
 fn put_groups<W: Sink>(
@@ -52,14 +40,12 @@ fn put_groups<W: Sink>(
     requires lanes { All (λ (runs : List RunRecord). length runs ≤ 256) groups.now }
     requires fits { All (λ (runs : List RunRecord). All (IsRunOf machine.now) runs) groups.now }
     requires is { IsBench machine.now bench.old }
-    requires room { All (λ (runs : List RunRecord).
-        HaveRoom (line_size machine.now) runs bench.old.texts.items) groups.now }
+    requires counts { All (All (Fits machine.now)) groups.now }
+    requires room { All (HoldsRuns bench.old.shown) groups.now }
     ensures { PutRuns machine.now columns groups.now output.old output.new }
 {
     for group in groups {
-        let runs = group.as_slice();
-        bench.run(machine, columns, runs);
-        put_group(output, &bench.texts()[..runs.len()]);
+        bench.run(machine, columns, group.as_slice(), output);
     }
 }
 
@@ -80,8 +66,8 @@ fn trace_good<W: Sink>(
     requires lanes { All (λ (runs : List RunRecord). length runs ≤ 256) groups.now }
     requires fits { All (λ (runs : List RunRecord). All (IsRunOf machine.now) runs) groups.now }
     requires is { IsBench machine.now bench.old }
-    requires room { All (λ (runs : List RunRecord).
-        HaveRoom (line_size machine.now) runs bench.old.texts.items) groups.now }
+    requires counts { All (All (Fits machine.now)) groups.now }
+    requires room { All (HoldsRuns bench.old.shown) groups.now }
     ensures ok { OnOk result ((c : CircuitRecord) (bytes : List ℕ) → IsFresh c columns reader.old
         → MeansTheSame c machine.now
         → Says (length c.inputs) bytes lines (entries_of_groups groups.now) rest.now
@@ -139,7 +125,7 @@ fn trace_collected<W: Sink>(
 
 /// Simulates a circuit over a stimulus text, and writes the trace text, as `simulate` does; but the whole stimulus is
 /// read, and each line of it found good, before anything is sent. All memory is taken before that too: beside the
-/// stimulus that of the text for 256 runs, which are stepped side by side. That is faster than `simulate` from some
+/// stimulus that of what is kept of 256 runs, which are stepped side by side. That is faster than `simulate` from some
 /// hundred gates on.
 // Not built into its callers, whose stack would then hold the rooms for lines several times over.
 #[inline(never)]

@@ -1,5 +1,6 @@
 //! Lines of a trace, gathered on their way to an output.
-ghost use Rattle.std.specs.Prelude.{◌≡◌, ◌+◌, ◌-◌, ◌^◌, ◌<◌, ◌≤◌, ◌++◌, ◌↔◌, [], List, IsTrue, false, is_err, length};
+ghost use Rattle.std.specs.Prelude.{◌≡◌, ◌+◌, ◌-◌, ◌*◌, ◌^◌, ◌<◌, ◌≤◌, ◌++◌, ◌↔◌, [], List, IsTrue, false, is_err};
+ghost use Rattle.std.specs.Prelude.{length};
 ghost use Rattle.std.specs.Prelude.{map};
 ghost use Rattle.aig_core.specs.declared.value.Val.{Val as Value};
 ghost use Rattle.aig_io.specs.Output.{Put, output_to};
@@ -7,11 +8,13 @@ ghost use Rattle.aig_io.specs.declared.block.TheConstants.{ROOM};
 ghost use Rattle.aig_meaning.specs.Meaning.{literal_value, next_literals};
 ghost use Rattle.aig_sim.specs.TraceText.{row_text, values_text};
 ghost use Rattle.aig_sim.specs.Parts.Gathering.{holding};
+ghost use Rattle.aig_sim.specs.Parts.LaneTexts.{HasShown, shown_size, shown_text};
 ghost use Rattle.aig_sim.specs.Parts.Lines.{line_size, row_read};
 ghost use Rattle.aig_sim.specs.Parts.Machines.{ShowsBelow};
 ghost use Rattle.aig_sim.specs.Parts.Tables.{read_from};
 
 use crate::cells::{Code, Table};
+use crate::shown::Shown;
 use crate::trace::{Columns, write_row};
 use aig_core::{Circuit, DeviceFault, Output, ROOM, Sink};
 use std::marker::Model;
@@ -123,6 +126,25 @@ impl Lines {
             state,
         );
     }
+
+    /// Adds the line of a step in a lane, where there is room for it.
+    #[inline(always)]
+    fn fill_shown(
+        &mut self,
+        columns: Columns,
+        given: &[u8],
+        shown: &Shown,
+        step: usize,
+        lane: usize,
+    )
+        requires room { length self.old + (shown_size shown.now + length given.now) ≤ ROOM }
+        requires lane { lane < 256 }
+        requires fits { (step + 1) * shown_size shown.now < 2 ^ 64 }
+        requires has { HasShown step lane shown.now }
+        ensures { self.new ≡ self.old ++ shown_text columns step lane given.now shown.now }
+    {
+        self.len = shown.write(&mut self.bytes, self.len, columns, given, step, lane);
+    }
 }
 
 /// Puts what is gathered.
@@ -222,6 +244,54 @@ impl<'a, W: Sink> Gathered<'a, W> {
         }
         make_room(&mut self.output, &mut self.lines, line.len());
         self.lines.fill_row(columns, inputs, values, parts, state);
+    }
+
+    /// Adds the line of a step in a lane, which is written here first.
+    #[inline(never)]
+    fn put_long_shown(
+        &mut self,
+        line: &mut [u8],
+        columns: Columns,
+        given: &[u8],
+        shown: &Shown,
+        step: usize,
+        lane: usize,
+    )
+        requires room { shown_size shown.now + length given.now ≤ length line.old }
+        requires lane { lane < 256 }
+        requires fits { (step + 1) * shown_size shown.now < 2 ^ 64 }
+        requires has { HasShown step lane shown.now }
+        ensures { Put self.old self.new (shown_text columns step lane given.now shown.now) }
+    {
+        let end = shown.write(line, 0, columns, given, step, lane);
+        let (row, _) = line.split_at(end);
+        self.put(row);
+    }
+
+    /// Adds the line of a step in a lane, with these inputs. Here is a place that has room for it, which serves where
+    /// a block has not.
+    #[inline(always)]
+    pub(crate) fn put_shown(
+        &mut self,
+        line: &mut [u8],
+        columns: Columns,
+        given: &[u8],
+        shown: &Shown,
+        step: usize,
+        lane: usize,
+    )
+        requires room { shown_size shown.now + length given.now ≤ length line.old }
+        requires lane { lane < 256 }
+        requires fits { (step + 1) * shown_size shown.now < 2 ^ 64 }
+        requires has { HasShown step lane shown.now }
+        ensures { Put self.old self.new (shown_text columns step lane given.now shown.now) }
+    {
+        if line.len() > ROOM {
+            self.put_long_shown(line, columns, given, shown, step, lane);
+            return;
+        }
+        make_room(&mut self.output, &mut self.lines, line.len());
+        self.lines.fill_shown(columns, given, shown, step, lane);
     }
 
     /// Sends all, and hands the sink back. Ok means that the sink took all that was put.

@@ -15,7 +15,6 @@ mod group;
 mod kept;
 mod lane_row;
 mod lane_step;
-mod lane_text;
 mod lanes;
 pub mod laws;
 mod machine;

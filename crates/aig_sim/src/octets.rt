@@ -1,5 +1,5 @@
 //! Octets: what literals are in eight lanes.
-ghost use Rattle.std.specs.Prelude.{◌≡◌, ◌+◌, ◌++◌, ◌<◌, ◌≤◌, ◌^◌, ℕ, IfOk, length, slice_set, take};
+ghost use Rattle.std.specs.Prelude.{◌≡◌, ◌+◌, ◌++◌, ◌<◌, ◌≤◌, ◌^◌, ℕ, IfOk, drop, length, slice_set, take};
 ghost use Rattle.std.specs.Int.{bit_at};
 ghost use Rattle.aig_sim.specs.Parts.Sheets.{character_by, octet_text};
 
@@ -66,25 +66,31 @@ impl Octet {
         })
     }
 
-    /// Puts the bytes of a literal.
+    /// Puts the bytes of a literal, where it has a place.
     #[inline(always)]
     pub(crate) fn put(&mut self, at: usize, ones: u8, zeros: u8)
-        requires { at < length (octet_text 0 self.old) }
         ensures { (place : ℕ) → octet_text place self.new
             ≡ slice_set (octet_text place self.old) at (character_by (bit_at ones place) (bit_at zeros place)) }
     {
-        self.ones[at] = ones;
-        self.zeros[at] = zeros;
+        if at < self.ones.len() {
+            self.ones[at] = ones;
+            self.zeros[at] = zeros;
+        }
     }
 
-    /// Writes the characters of a lane from a place on.
+    /// Writes the characters that so many literals, from one on, have in a lane, from a place on.
     #[inline(always)]
-    pub(crate) fn write(&self, line: &mut [u8], at: usize, place: usize)
+    pub(crate) fn write(&self, line: &mut [u8], at: usize, from: usize, count: usize, place: usize)
         requires lane { place < 8 }
-        requires room { at + length (octet_text place self.now) ≤ length line.old }
-        ensures { take (at + length (octet_text place self.now)) line.new
-            ≡ take at line.old ++ octet_text place self.now }
+        requires has { from + count ≤ length (octet_text place self.now) }
+        requires room { at + count ≤ length line.old }
+        ensures { take (at + count) line.new
+            ≡ take at line.old ++ take count (drop from (octet_text place self.now)) }
     {
-        write_bits(line, at, &self.ones, &self.zeros, place);
+        let (_, ones) = self.ones.split_at(from);
+        let (ones, _) = ones.split_at(count);
+        let (_, zeros) = self.zeros.split_at(from);
+        let (zeros, _) = zeros.split_at(count);
+        write_bits(line, at, ones, zeros, place);
     }
 }

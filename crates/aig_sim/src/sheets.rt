@@ -1,24 +1,71 @@
-//! Sheets: what literals are in all lanes.
-ghost use Rattle.std.specs.Prelude.{◌≡◌, ◌+◌, ◌*◌, ◌++◌, ◌<◌, ◌≤◌, ℕ, IfOk, codes, length, slice_index_or, slice_set};
-ghost use Rattle.std.specs.Prelude.{take};
+//! Sheets: what literals are in all lanes, step by step.
+ghost use Rattle.std.specs.Prelude.{◌≡◌, ◌+◌, ◌*◌, ◌/◌, ◌++◌, ◌<◌, ◌≤◌, ◌^◌, ℕ, List, IfOk, codes, length};
+ghost use Rattle.std.specs.Prelude.{slice_index_or};
+ghost use Rattle.std.specs.Prelude.{slice_set, take};
 ghost use Rattle.std.specs.Int.{bit_at};
-ghost use Rattle.aig_core.specs.declared.value.Val.{Val as Value};
-ghost use Rattle.aig_sim.specs.Parts.Lanes.{IsPair};
-ghost use Rattle.aig_sim.specs.Parts.Sheets.{IsSheet, OctetText, character_by, lane_text, octet_text, text_in};
-ghost use Rattle.aig_sim.specs.TraceText.{character_of};
+ghost use Rattle.std.specs.List.{All};
+ghost use Rattle.aig_sim.specs.declared.run.Run.{Run as RunRecord};
+ghost use Rattle.aig_sim.specs.Parts.Lanes.{bit_in};
+ghost use Rattle.aig_sim.specs.Parts.Sheets.{HasStep, HoldsSteps, IsSheet, OctetText, character_by, lane_text};
+ghost use Rattle.aig_sim.specs.Parts.Sheets.{octet_text};
+ghost use Rattle.aig_sim.specs.Parts.Sheets.{step_in, text_in};
 
 use crate::octets::Octet;
 use crate::planes::Plane;
+use crate::runs_read::RunGroup;
+use crate::vectors::Vectors;
 use aig_core::OutOfMemory;
 use std::alloc::Global;
 use std::marker::Model;
 
-/// Octets of so many literals, for all lanes.
-fn new_octets(alloc: Global, count: usize) -> Result<Vec<Octet>, OutOfMemory>
-    ensures { IfOk result (λ octets. IsSheet count octets.items) }
+/// How many steps the longest of the runs has whose lanes are these eight, or this number if that is more.
+fn longer_of(runs: &[Vectors], octet: usize, least: usize) -> usize
+    requires { octet < 32 }
+    ensures least { least ≤ result }
+    ensures all { (l : ℕ) (d : RunRecord) → l / 8 ≡ octet → l < length runs.now
+        → length (slice_index_or runs.now l d).steps ≤ result }
+{
+    let mut longest = least;
+    for lane in 8 * octet..8 * octet + 8 {
+        if lane < runs.len() && runs[lane].len() > longest {
+            longest = runs[lane].len();
+        }
+    }
+    longest
+}
+
+/// How many steps the longest run has whose lane is one of these eight.
+fn longest_in(groups: &[RunGroup], octet: usize) -> usize
+    requires { octet < 32 }
+    ensures { All (λ (runs : List RunRecord). (l : ℕ) (d : RunRecord) → l / 8 ≡ octet → l < length runs
+        → length (slice_index_or runs l d).steps ≤ result) groups.now }
+{
+    let mut longest = 0;
+    for group in groups {
+        longest = longer_of(group.as_slice(), octet, longest);
+    }
+    longest
+}
+
+/// Octets for all lanes, each of so many literals for each step of the longest run in its lanes, and for so many steps
+/// more.
+fn new_octets(
+    alloc: Global,
+    width: usize,
+    more: usize,
+    groups: &[RunGroup],
+) -> Result<Vec<Octet>, OutOfMemory>
+    ensures is { IfOk result (λ octets. IsSheet octets.items) }
+    ensures room { IfOk result (λ octets. All (HoldsSteps width more octets.items) groups.now) }
 {
     let mut octets = Vec::with_capacity(alloc, 32)?;
-    for i in 0..32usize {
+    for octet in 0..32usize {
+        let Some(steps) = longest_in(groups, octet).checked_add(more) else {
+            return Err(OutOfMemory);
+        };
+        let Some(count) = steps.checked_mul(width) else {
+            return Err(OutOfMemory);
+        };
         octets.push(Octet::new(alloc, count)?)?;
     }
     Ok(octets)
@@ -27,9 +74,7 @@ fn new_octets(alloc: Global, count: usize) -> Result<Vec<Octet>, OutOfMemory>
 /// Puts a literal into the octets of 64 lanes, by a word of each plane, from this octet on.
 #[inline(always)]
 fn put_word(octets: &mut [Octet], first: usize, at: usize, one: u64, zero: u64)
-    requires lanes { first + 8 ≤ length octets.old }
-    requires room { (k : ℕ) (d : OctetText) → k < length octets.old
-        → at < length (octet_text 0 (slice_index_or octets.old k d)) }
+    requires { first + 8 ≤ length octets.old }
     ensures own { (place j : ℕ) (d : OctetText) → place < 8 → j < 8
         → octet_text j (slice_index_or octets.new (first + place) d)
         ≡ slice_set (octet_text j (slice_index_or octets.old (first + place) d)) at
@@ -52,11 +97,9 @@ fn put_word(octets: &mut [Octet], first: usize, at: usize, one: u64, zero: u64)
 /// Puts a literal with this plane, and that plane of its negation.
 #[inline(always)]
 fn put_planes(octets: &mut [Octet], at: usize, one: Plane, zero: Plane)
-    requires lanes { length octets.old ≡ 32 }
-    requires room { (k : ℕ) (d : OctetText) → k < length octets.old
-        → at < length (octet_text 0 (slice_index_or octets.old k d)) }
-    ensures text { (l : ℕ) (x : Value) → l < 256 → IsPair l one zero x
-        → lane_text l octets.new ≡ slice_set (lane_text l octets.old) at (character_of x) }
+    requires { length octets.old ≡ 32 }
+    ensures text { (l : ℕ) → l < 256 → lane_text l octets.new
+        ≡ slice_set (lane_text l octets.old) at (character_by (bit_in l one) (bit_in l zero)) }
     ensures size { (k j : ℕ) (d : OctetText) → length (octet_text j (slice_index_or octets.new k d))
         ≡ length (octet_text j (slice_index_or octets.old k d)) }
 {
@@ -67,7 +110,7 @@ fn put_planes(octets: &mut [Octet], at: usize, one: Plane, zero: Plane)
     }
 }
 
-/// What so many literals are in all lanes.
+/// What so many literals are in all lanes, step by step.
 #[derive(Drop)]
 pub(crate) struct Sheet {
     width: usize,
@@ -81,64 +124,73 @@ impl Model for Sheet {
 
     ghost view = { λ s. record { width = s.width; octets = s.octets.items } };
 
-    ghost invariant = { λ s. IsSheet s.width s.octets.items };
+    ghost invariant = { λ s. IsSheet s.octets.items };
 }
 
 impl Sheet {
-    /// Of so many literals.
-    pub(crate) fn new(alloc: Global, width: usize) -> Result<Self, OutOfMemory>
-        ensures { IfOk result (λ sheet. sheet.width ≡ width) }
+    /// Of so many literals, with room for each step of these groups, and for so many steps more.
+    pub(crate) fn new(
+        alloc: Global,
+        width: usize,
+        more: usize,
+        groups: &[RunGroup],
+    ) -> Result<Self, OutOfMemory>
+        ensures width { IfOk result (λ sheet. sheet.width ≡ width) }
+        ensures room { IfOk result (λ sheet. All (HoldsSteps width more sheet.octets) groups.now) }
     {
         Ok(Sheet {
             width,
-            octets: new_octets(alloc, width)?,
+            octets: new_octets(alloc, width, more, groups)?,
         })
     }
 
-    /// How many literals.
+    /// Where the literals of a step begin.
     #[inline(always)]
-    pub(crate) fn len(&self) -> usize
-        ensures value { result ≡ self.now.width }
-        ensures long { (l : ℕ) → l < 256 → length (text_in l self.now) ≡ self.now.width }
+    pub(crate) fn start(&self, step: usize) -> usize
+        requires { step * self.now.width < 2 ^ 64 }
+        ensures { result ≡ step * self.now.width }
     {
-        self.width
+        step * self.width
     }
 
-    /// Puts a literal with this plane, and that plane of its negation.
+    /// Puts a literal with this plane, and that plane of its negation, in the lanes that have a place for it.
     #[inline(always)]
     pub(crate) fn put(&mut self, at: usize, one: Plane, zero: Plane)
-        requires { at < self.old.width }
         ensures width { self.new.width ≡ self.old.width }
-        ensures text { (l : ℕ) (x : Value) → l < 256 → IsPair l one zero x
-            → text_in l self.new ≡ slice_set (text_in l self.old) at (character_of x) }
+        ensures text { (l : ℕ) → l < 256 → text_in l self.new
+            ≡ slice_set (text_in l self.old) at (character_by (bit_in l one) (bit_in l zero)) }
         ensures long { (l : ℕ) → length (text_in l self.new) ≡ length (text_in l self.old) }
     {
         put_planes(&mut self.octets, at, one, zero);
     }
 
-    /// Writes the characters in a lane from a place on, and answers where they end.
+    /// Writes the characters of a step in a lane from a place on, and answers where they end.
     #[inline(always)]
-    pub(crate) fn write(&self, line: &mut [u8], at: usize, lane: usize) -> usize
+    pub(crate) fn write(&self, line: &mut [u8], at: usize, step: usize, lane: usize) -> usize
         requires lane { lane < 256 }
+        requires fits { step * self.now.width < 2 ^ 64 }
+        requires has { HasStep step lane self.now }
         requires room { at + self.now.width ≤ length line.old }
         ensures end { result ≡ at + self.now.width }
         ensures size { length line.new ≡ length line.old }
-        ensures text { take result line.new ≡ take at line.old ++ text_in lane self.now }
+        ensures text { take result line.new ≡ take at line.old ++ step_in step lane self.now }
     {
-        self.octets[lane / 8].write(line, at, lane % 8);
+        self.octets[lane / 8].write(line, at, step * self.width, self.width, lane % 8);
         at + self.width
     }
 
-    /// Writes a space and the characters in a lane, as `write` writes those.
+    /// Writes a space and the characters of a step in a lane, as `write` writes those.
     #[inline(always)]
-    pub(crate) fn write_column(&self, line: &mut [u8], at: usize, lane: usize) -> usize
+    pub(crate) fn write_column(&self, line: &mut [u8], at: usize, step: usize, lane: usize) -> usize
         requires lane { lane < 256 }
+        requires fits { step * self.now.width < 2 ^ 64 }
+        requires has { HasStep step lane self.now }
         requires room { at + 1 + self.now.width ≤ length line.old }
         ensures end { result ≡ at + 1 + self.now.width }
         ensures size { length line.new ≡ length line.old }
-        ensures text { take result line.new ≡ take at line.old ++ (codes " " ++ text_in lane self.now) }
+        ensures text { take result line.new ≡ take at line.old ++ (codes " " ++ step_in step lane self.now) }
     {
         line[at] = b' ';
-        self.write(line, at + 1, lane)
+        self.write(line, at + 1, step, lane)
     }
 }

@@ -1,17 +1,21 @@
-//! The texts of a group of runs, stepped side by side until all have ended.
-ghost use Rattle.std.specs.Prelude.{◌≡◌, ◌+◌, ◌*◌, ◌<◌, ◌≤◌, ℕ, List, IfOk, length, map, slice_index_or, take};
-ghost use Rattle.std.specs.List.{All, AllZip};
+//! What groups of runs are stepped in, side by side until all have ended, and their texts, put run by run.
+ghost use Rattle.std.specs.Prelude.{◌≡◌, ◌+◌, ◌*◌, ◌<◌, ◌≤◌, ◌^◌, ◌++◌, ℕ, List, IfOk, IsTrue, codes, length};
+ghost use Rattle.std.specs.Prelude.{slice_index_or};
+ghost use Rattle.std.specs.List.{All};
+ghost use Rattle.aig_core.specs.declared.value.Val.{Val as Value};
+ghost use Rattle.aig_io.specs.Output.{Put};
 ghost use Rattle.aig_meaning.specs.Meaning.{MeansTheSame};
 ghost use Rattle.aig_sim.specs.declared.run.Run.{Run as RunRecord};
-ghost use Rattle.aig_sim.specs.Parts.Benches.{IsBench};
-ghost use Rattle.aig_sim.specs.Parts.LaneTexts.{AllHaveRoom, HasBegun, HasSheets, HaveRoom, IsTextOf, SameRoom};
-ghost use Rattle.aig_sim.specs.Parts.LaneTexts.{TextStands};
-ghost use Rattle.aig_sim.specs.Parts.Lines.{Keeping as KeepingRecord, line_size};
+ghost use Rattle.aig_sim.specs.Parts.Benches.{Fits, IsBench};
+ghost use Rattle.aig_sim.specs.Parts.LaneTexts.{HasBegun, HasSheets, HoldsRun, HoldsRuns, IsTextOf, SameRoom};
+ghost use Rattle.aig_sim.specs.Parts.LaneTexts.{TextStands, kept_text, shown_size};
+ghost use Rattle.aig_sim.specs.Parts.Lines.{line_size};
+ghost use Rattle.aig_sim.specs.Parts.RunsRead.{kept_texts, text_of_group};
 ghost use Rattle.aig_sim.specs.Runs.{IsRunOf};
 
+use crate::gathered::Gathered;
 use crate::group::{fill_table, new_table};
 use crate::lane_step::{put_reset_lanes, show_next_lanes};
-use crate::lane_text::{RunText, clear_texts, extend_texts, new_texts};
 use crate::machine::Machine;
 use crate::planes::Plane;
 use crate::put_vectors::{Given, new_given, put_vectors};
@@ -20,26 +24,26 @@ use crate::shown::Shown;
 use crate::trace::Columns;
 use crate::tracer::line_room;
 use crate::vectors::{Vectors, longest};
-use aig_core::{Checked, OutOfMemory};
+use aig_core::{Checked, OutOfMemory, Sink};
 use std::alloc::Global;
 
-/// Before the first step of a group: all variables are x, the state is that by the resets, and no text has a line.
-fn begin_texts(machine: &Machine, table: &mut [Plane], state: &mut [Plane], texts: &mut [RunText])
+/// Before the first step of a group: all variables are x, and the state is that by the resets, which is kept.
+fn begin_steps(machine: &Machine, table: &mut [Plane], state: &mut [Plane], shown: &mut Shown)
     requires table { length table.old ≡ 2 * (1 + machine.now.max_var) }
     requires state { length state.old ≡ 2 * length machine.now.latches }
-    requires texts { length texts.old ≡ 256 }
-    ensures begun { HasBegun machine.now table.new state.new texts.new }
-    ensures texts { length texts.new ≡ length texts.old }
-    ensures same { SameRoom texts.old texts.new }
+    requires sheets { HasSheets machine.now shown.old }
+    requires fits { shown_size shown.old < 2 ^ 64 }
+    ensures begun { HasBegun machine.now table.new state.new shown.new }
+    ensures same { SameRoom shown.old shown.new }
 {
     fill_table(table);
     fill_table(state);
     put_reset_lanes(machine.parts().latches.as_slice(), state);
-    clear_texts(texts);
+    shown.show_state(state, 0);
 }
 
-/// A step of each run that has it.
-fn step_texts(
+/// A step of each run that has it. What it shows is kept, and the state behind it.
+fn take_step(
     machine: &Machine,
     columns: Columns,
     runs: &[Vectors],
@@ -48,76 +52,110 @@ fn step_texts(
     table: &mut [Plane],
     state: &mut [Plane],
     shown: &mut Shown,
-    texts: &mut [RunText],
 )
     requires lanes { length runs.now ≤ 256 }
-    requires each { length runs.now ≤ length texts.old }
-    requires fits { All (IsRunOf machine.now) runs.now }
+    requires runs { All (IsRunOf machine.now) runs.now }
     requires given { length given.old ≡ length machine.now.inputs }
     requires table { length table.old ≡ 2 * (1 + machine.now.max_var) }
     requires state { length state.old ≡ 2 * length machine.now.latches }
     requires sheets { HasSheets machine.now shown.old }
-    requires room { AllHaveRoom machine.now runs.now step texts.old }
-    ensures sheets { HasSheets machine.now shown.new }
-    ensures texts { length texts.new ≡ length texts.old }
-    ensures same { SameRoom texts.old texts.new }
-    ensures room { AllHaveRoom machine.now runs.now (step + 1) texts.new }
-    ensures stands { (j : ℕ) (d : RunRecord) (e : KeepingRecord) → j < length runs.now
-        → TextStands columns machine.now (slice_index_or runs.now j d) step j table.old state.old
-        (slice_index_or texts.old j e).bytes
-        → TextStands columns machine.now (slice_index_or runs.now j d) (step + 1) j table.new state.new
-        (slice_index_or texts.new j e).bytes }
+    requires fits { (step + 1) * shown_size shown.old < 2 ^ 64 }
+    requires room { HoldsRuns shown.old runs.now }
+    ensures same { SameRoom shown.old shown.new }
+    ensures stands { (j : ℕ) (d : RunRecord) → j < length runs.now
+        → TextStands columns machine.now (slice_index_or runs.now j d) step j table.old state.old shown.old
+        → TextStands columns machine.now (slice_index_or runs.now j d) (step + 1) j table.new state.new shown.new }
 {
     let parts = machine.parts();
     put_vectors(runs, step, given, table);
     machine.assign_lanes(state, table);
-    shown.show(columns, parts, table, state);
-    extend_texts(columns, runs, step, shown, texts);
+    shown.show(columns, parts, table, step);
     show_next_lanes(parts.latches.as_slice(), table, state);
+    shown.show_state(state, step + 1);
 }
 
 /// All steps of all runs.
-fn step_all_texts(
+fn take_steps(
     machine: &Machine,
     columns: Columns,
     runs: &[Vectors],
+    steps: usize,
     given: &mut [Given],
     table: &mut [Plane],
     state: &mut [Plane],
     shown: &mut Shown,
-    texts: &mut [RunText],
 )
     requires lanes { length runs.now ≤ 256 }
-    requires each { length runs.now ≤ length texts.old }
-    requires fits { All (IsRunOf machine.now) runs.now }
+    requires runs { All (IsRunOf machine.now) runs.now }
     requires given { length given.old ≡ length machine.now.inputs }
     requires table { length table.old ≡ 2 * (1 + machine.now.max_var) }
     requires state { length state.old ≡ 2 * length machine.now.latches }
     requires sheets { HasSheets machine.now shown.old }
-    requires room { AllHaveRoom machine.now runs.now 0 texts.old }
-    ensures sheets { HasSheets machine.now shown.new }
-    ensures texts { length texts.new ≡ length texts.old }
-    ensures same { SameRoom texts.old texts.new }
-    ensures all { (j : ℕ) (d : RunRecord) (e : KeepingRecord) → j < length runs.now
-        → TextStands columns machine.now (slice_index_or runs.now j d) 0 j table.old state.old
-        (slice_index_or texts.old j e).bytes
-        → IsTextOf columns machine.now (slice_index_or runs.now j d) (slice_index_or texts.new j e).bytes }
+    requires fits { steps * shown_size shown.old < 2 ^ 64 }
+    requires room { HoldsRuns shown.old runs.now }
+    ensures same { SameRoom shown.old shown.new }
+    ensures stands { (j : ℕ) (d : RunRecord) → j < length runs.now
+        → TextStands columns machine.now (slice_index_or runs.now j d) 0 j table.old state.old shown.old
+        → TextStands columns machine.now (slice_index_or runs.now j d) steps j table.new state.new shown.new }
 {
-    for step in 0..longest(runs) {
-        step_texts(
-            machine, columns, runs, step, given, table, state, shown, texts,
-        );
+    for step in 0..steps {
+        take_step(machine, columns, runs, step, given, table, state, shown);
     }
 }
 
-/// What runs are stepped in, one group after the other, and the texts of the last group.
+/// Puts the line of each step of a run, and the line that ends it.
+fn put_run<W: Sink>(
+    output: &mut Gathered<W>,
+    line: &mut [u8],
+    columns: Columns,
+    run: &Vectors,
+    shown: &Shown,
+    lane: usize,
+)
+    requires lane { lane < 256 }
+    requires fits { length run.now.steps * shown_size shown.now < 2 ^ 64 }
+    requires room { HoldsRun lane run.now shown.now }
+    requires line { All (λ (vector : List Value). shown_size shown.now + length vector ≤ length line.old)
+        run.now.steps }
+    ensures { Put output.old output.new
+        (kept_text columns run.now (length run.now.steps) lane shown.now ++ codes ".\n") }
+{
+    for step in 0..run.len() {
+        output.put_shown(line, columns, run.text(step), shown, step, lane);
+    }
+    output.put(b".\n");
+}
+
+/// Puts the texts of runs.
+fn put_runs<W: Sink>(
+    output: &mut Gathered<W>,
+    line: &mut [u8],
+    columns: Columns,
+    runs: &[Vectors],
+    shown: &Shown,
+)
+    requires lanes { length runs.now ≤ 256 }
+    requires fits { All (λ (run : RunRecord). length run.steps * shown_size shown.now < 2 ^ 64) runs.now }
+    requires room { HoldsRuns shown.now runs.now }
+    requires line { All (λ (run : RunRecord). All (λ (vector : List Value).
+        shown_size shown.now + length vector ≤ length line.old) run.steps) runs.now }
+    ensures { Put output.old output.new
+        (text_of_group (kept_texts columns runs.now (length runs.now) shown.now)) }
+{
+    for lane in 0..runs.len() {
+        put_run(output, line, columns, &runs[lane], shown, lane);
+    }
+}
+
+/// What runs are stepped in, one group after the other, and what their steps show.
 #[derive(Drop)]
 pub(crate) struct Bench {
     given: Vec<Given>,
     table: Vec<Plane>,
     state: Vec<Plane>,
     shown: Shown,
-    texts: Vec<RunText>,
+    /// As long as a line may be.
+    line: Vec<u8>,
 }
 
 impl Bench {
@@ -128,53 +166,94 @@ impl Bench {
         line_room: usize,
         groups: &[RunGroup],
     ) -> Result<Self, OutOfMemory>
-        requires { All (λ (runs : List RunRecord). length runs ≤ 256) groups.now }
+        requires line { line_room ≡ line_size machine.now }
+        requires lanes { All (λ (runs : List RunRecord). length runs ≤ 256) groups.now }
         ensures is { IfOk result (λ bench. IsBench machine.now bench) }
-        ensures room { IfOk result (λ bench.
-            All (λ (runs : List RunRecord).
-            HaveRoom line_room runs bench.texts.items) groups.now) }
+        ensures room { IfOk result (λ bench. All (HoldsRuns bench.shown) groups.now) }
     {
         let parts = machine.parts();
         Ok(Bench {
             given: new_given(alloc, parts.inputs.len())?,
             table: new_table(alloc, 1 + parts.max_var as usize)?,
             state: new_table(alloc, parts.latches.len())?,
-            shown: Shown::new(alloc, parts)?,
-            texts: new_texts(alloc, line_room, groups)?,
+            shown: Shown::new(alloc, parts, groups)?,
+            line: vec![in alloc; 0; line_room]?,
         })
     }
 
     /// Steps the runs of a group.
-    pub(crate) fn run(&mut self, machine: &Machine, columns: Columns, runs: &[Vectors])
+    fn step(&mut self, machine: &Machine, columns: Columns, runs: &[Vectors])
         requires lanes { length runs.now ≤ 256 }
-        requires fits { All (IsRunOf machine.now) runs.now }
+        requires runs { All (IsRunOf machine.now) runs.now }
+        requires fits { All (Fits machine.now) runs.now }
         requires is { IsBench machine.now self.old }
-        requires room { HaveRoom (line_size machine.now) runs.now self.old.texts.items }
+        requires room { HoldsRuns self.old.shown runs.now }
         ensures is { IsBench machine.now self.new }
-        ensures same { SameRoom self.old.texts.items self.new.texts.items }
-        ensures texts { (j : ℕ) (d : RunRecord) (e : KeepingRecord) → j < length runs.now
+        ensures same { SameRoom self.old.shown self.new.shown }
+        ensures texts { (j : ℕ) (d : RunRecord) → j < length runs.now
             → IsTextOf columns machine.now (slice_index_or runs.now j d)
-            (slice_index_or self.new.texts.items j e).bytes }
+            (kept_text columns (slice_index_or runs.now j d) (length (slice_index_or runs.now j d).steps) j
+            self.new.shown) }
     {
-        begin_texts(machine, &mut self.table, &mut self.state, &mut self.texts);
-        step_all_texts(
+        begin_steps(machine, &mut self.table, &mut self.state, &mut self.shown);
+        take_steps(
             machine,
             columns,
             runs,
+            longest(runs),
             &mut self.given,
             &mut self.table,
             &mut self.state,
             &mut self.shown,
-            &mut self.texts,
         );
     }
 
-    /// The texts of the runs of the last group, and behind them those of other lanes.
-    pub(crate) fn texts(&self) -> &[RunText]
-        ensures { result.now ≡ self.now.texts.items }
+    /// Steps the runs of a group, and puts their texts.
+    pub(crate) fn run<W: Sink>(
+        &mut self,
+        machine: &Machine,
+        columns: Columns,
+        runs: &[Vectors],
+        output: &mut Gathered<W>,
+    )
+        requires lanes { length runs.now ≤ 256 }
+        requires runs { All (IsRunOf machine.now) runs.now }
+        requires fits { All (Fits machine.now) runs.now }
+        requires is { IsBench machine.now self.old }
+        requires room { HoldsRuns self.old.shown runs.now }
+        ensures is { IsBench machine.now self.new }
+        ensures same { SameRoom self.old.shown self.new.shown }
+        ensures put { Put output.old output.new
+            (text_of_group (kept_texts columns runs.now (length runs.now) self.new.shown)) }
+        ensures texts { (j : ℕ) (d : RunRecord) → j < length runs.now
+            → IsTextOf columns machine.now (slice_index_or runs.now j d)
+            (kept_text columns (slice_index_or runs.now j d) (length (slice_index_or runs.now j d).steps) j
+            self.new.shown) }
     {
-        &self.texts
+        self.step(machine, columns, runs);
+        put_runs(output, &mut self.line, columns, runs, &self.shown);
     }
+}
+
+/// How many steps the longest run of all groups has.
+fn longest_of(groups: &[RunGroup]) -> usize
+    ensures { All (All (λ (run : RunRecord). length run.steps ≤ result)) groups.now }
+{
+    let mut most = 0;
+    for group in groups {
+        let steps = longest(group.as_slice());
+        if steps > most {
+            most = steps;
+        }
+    }
+    most
+}
+
+/// Whether as many lines of this size as the longest run has steps can be counted.
+fn can_count(groups: &[RunGroup], line_room: usize) -> bool
+    ensures { IsTrue result → All (All (λ (run : RunRecord). length run.steps * line_room < 2 ^ 64)) groups.now }
+{
+    longest_of(groups).checked_mul(line_room).is_some()
 }
 
 /// What runs a circuit, and what these groups of runs are stepped in.
@@ -186,10 +265,14 @@ pub(crate) fn set_up(
     requires { All (λ (runs : List RunRecord). length runs ≤ 256) groups.now }
     ensures means { IfOk result (λ made. MeansTheSame checked.now made.0) }
     ensures is { IfOk result (λ made. IsBench made.0 made.1) }
-    ensures room { IfOk result (λ made. All (λ (runs : List RunRecord).
-        HaveRoom (line_size made.0) runs made.1.texts.items) groups.now) }
+    ensures fits { IfOk result (λ made. All (All (Fits made.0)) groups.now) }
+    ensures room { IfOk result (λ made. All (HoldsRuns made.1.shown) groups.now) }
 {
+    let room = line_room(checked);
+    if !can_count(groups, room) {
+        return Err(OutOfMemory);
+    }
     let machine = Machine::new(alloc, checked)?;
-    let bench = Bench::new(alloc, &machine, line_room(checked), groups)?;
+    let bench = Bench::new(alloc, &machine, room, groups)?;
     Ok((machine, bench))
 }

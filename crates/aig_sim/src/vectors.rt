@@ -1,5 +1,6 @@
 //! The stimulus of a run, where it stands in the text.
-ghost use Rattle.std.specs.Prelude.{◌≡◌, ◌<◌, ◌≤◌, ℕ, List, [], length, slice_index_or};
+ghost use Rattle.std.specs.Prelude.{◌≡◌, ◌*◌, ◌<◌, ◌≤◌, ℕ, List, [], length, slice_index_or};
+ghost use Rattle.std.specs.List.{All};
 ghost use Rattle.aig_sim.specs.declared.run.Run.{Run as RunRecord};
 ghost use Rattle.aig_sim.specs.Parts.Vectors.{AreVectors, vectors_in};
 ghost use Rattle.aig_sim.specs.TraceText.{values_text};
@@ -64,7 +65,9 @@ impl<'a> Vectors<'a> {
 
 /// How many steps the longest run has.
 pub(crate) fn longest(runs: &[Vectors]) -> usize
-    ensures { (j : ℕ) (d : RunRecord) → j < length runs.now → length (slice_index_or runs.now j d).steps ≤ result }
+    ensures most { (j : ℕ) (d : RunRecord) → j < length runs.now → length (slice_index_or runs.now j d).steps ≤ result }
+    ensures least { (size bound : ℕ) → 0 < bound → All (λ (run : RunRecord). length run.steps * size < bound) runs.now
+        → result * size < bound }
 {
     let mut longest = 0;
     for run in runs {

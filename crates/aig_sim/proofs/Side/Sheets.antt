@@ -1,8 +1,10 @@
 -- The characters of literals in all lanes.
 use Rattle.std.proofs.Common.{◌≡◌, ◌≢◌, ◌+◌, ◌*◌, ◌/◌, ◌%◌, ◌^◌, ◌<◌, ◌≤◌, ◌++◌, ℕ, zero, suc, List, [], ◌∷◌}
-use Rattle.std.proofs.Common.{length, get_or, set, take, refl, sym, ap, ap₂, ◌∙◌, arith, inl, inr, subst}
+use Rattle.std.proofs.Common.{drop, length, get_or, set, take, refl, sym, ap, ap₂, ◌∙◌, arith, inl, inr, subst}
 use Rattle.std.proofs.lemmas.Bool.{cases_lt}
-use Rattle.std.proofs.lemmas.List.{get_or-set_other, get_or-set_same, map-append, take_all, take_more, take_more_set}
+use Rattle.std.proofs.Math.Nat.{add-mul, mul-le-mul_right, one-mul}
+use Rattle.std.proofs.lemmas.List.{drop-take, get_or-set_other, get_or-set_same, map-append, take-take, take_all}
+use Rattle.std.proofs.lemmas.List.{take_more, take_more_set}
 use Rattle.std.proofs.lemmas.Nat.{pow_below, pow_pos, shr-shr}
 use Rattle.std.proofs.lemmas.Nat.Bits.{and_pow, bit_at_and, bit_at_ones, bit_at-lt}
 use Rattle.std.specs.Int.{bit_at}
@@ -24,6 +26,23 @@ zip_set f (x ∷ xs) [] zero a b = refl
 zip_set f (x ∷ xs) [] (suc i) a b = refl
 zip_set f (x ∷ xs) (y ∷ ys) zero a b = refl
 zip_set f (x ∷ xs) (y ∷ ys) (suc i) a b = ap (λ (zs : List ℕ). f x y ∷ zs) (zip_set f xs ys i a b)
+
+-- a part of both lists
+pub zip_take : (f : ℕ → ℕ → ℕ) (n : ℕ) (xs ys : List ℕ) → zip2 f (take n xs) (take n ys) ≡ take n (zip2 f xs ys)
+zip_take f zero xs ys = refl
+zip_take f (suc n) [] ys = refl
+zip_take f (suc n) (x ∷ xs) [] = refl
+zip_take f (suc n) (x ∷ xs) (y ∷ ys) = ap (λ (zs : List ℕ). f x y ∷ zs) (zip_take f n xs ys)
+
+zip_none : (f : ℕ → ℕ → ℕ) (xs : List ℕ) → zip2 f xs [] ≡ []
+zip_none f [] = refl
+zip_none f (x ∷ xs) = refl
+
+pub zip_drop : (f : ℕ → ℕ → ℕ) (n : ℕ) (xs ys : List ℕ) → zip2 f (drop n xs) (drop n ys) ≡ drop n (zip2 f xs ys)
+zip_drop f zero xs ys = refl
+zip_drop f (suc n) [] ys = refl
+zip_drop f (suc n) (x ∷ xs) [] = zip_none f (drop n xs)
+zip_drop f (suc n) (x ∷ xs) (y ∷ ys) = zip_drop f n xs ys
 
 -- a byte of a word has its bits
 pub byte_bit : (word shift k : ℕ) → k < 8 → bit_at (bit_and (word / 2 ^ shift) 255) k ≡ bit_at word (shift + k)
@@ -88,6 +107,25 @@ pub text_long : (place : ℕ) (o : OctetText) → length o.ones ≡ length o.zer
     → length (octet_text place o) ≡ length o.ones
 text_long place o same =
     length-zip2 (λ (high low : ℕ). character_by (bit_at high place) (bit_at low place)) o.ones o.zeros same
+
+-- a part of what two texts begin with is the same
+pub part_same : (from count end : ℕ) (xs ys : List ℕ) → from + count ≤ end → take end xs ≡ take end ys
+    → take count (drop from xs) ≡ take count (drop from ys)
+part_same from count end xs ys within same =
+    sym (drop-take from count xs)
+    ∙ ap (drop from)
+    (sym (take-take (from + count) end xs within)
+    ∙ ap (take (from + count)) same
+    ∙ take-take (from + count) end ys within)
+    ∙ drop-take from count ys
+
+-- the places of a step are among those of the steps before a later one
+pub steps_within : (step end width : ℕ) → step < end → step * width + width ≤ end * width
+steps_within step end width below =
+    let next : (step + 1) * width ≡ step * width + width =
+    add-mul step 1 width ∙ ap (λ (n : ℕ). step * width + n) (one-mul width) in
+    let more : step + 1 ≤ end = omega arith in
+    omega (arith, next, mul-le-mul_right {m = step + 1} {n = end} width more)
 
 -- an octet is replaced by one that is as long
 pub long_after : (octets : List OctetText) (here k j : ℕ) (now d : OctetText) → here < length octets

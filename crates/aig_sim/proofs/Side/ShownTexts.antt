@@ -1,105 +1,218 @@
--- The text of a run, by what is shown in its lane.
-use Rattle.std.proofs.Common.{◌≡◌, ◌+◌, ◌*◌, ◌<◌, ◌≤◌, ◌++◌, ℕ, List, [], ap, ap₂, arith, codes, get_or, inl, inr}
-use Rattle.std.proofs.Common.{◌∙◌, length, refl, sym}
-use Rattle.std.proofs.Math.Nat.{add-mul, mul-le-mul_right, one-mul}
-use Rattle.std.proofs.lemmas.Bool.{cases_lt}
+-- What is kept of the steps of a run, by what is shown in its lane.
+use Rattle.std.proofs.Common.{◌≡◌, ◌+◌, ◌*◌, ◌<◌, ◌≤◌, ◌++◌, ℕ, zero, suc, List, [], ap, ap₂, arith, codes, drop}
+use Rattle.std.proofs.Common.{get_or}
+use Rattle.std.proofs.Common.{◌∙◌, length, map, refl, subst, sym, take}
+use Rattle.std.proofs.Math.Nat.{mul-add, mul-le-mul_left}
 use Rattle.aig_core.specs.declared.circuit.Circuit.{Circuit}
 use Rattle.aig_core.specs.declared.value.Val.{Val}
+use Rattle.aig_meaning.specs.Meaning.{literal_value, next_literals}
 use Rattle.aig_sim.specs.declared.run.Run.{Run}
 use Rattle.aig_sim.specs.declared.shown.Shown.{Shown}
 use Rattle.aig_sim.specs.declared.trace.Columns.{Columns}
 use Rattle.aig_sim.specs.declared.trace.Columns.TheVariants.{Plain, Properties}
-use Rattle.aig_sim.specs.Parts.LaneTexts.{AreShown, AreShownToo, Extended, FitsBehind, HasSheets}
-use Rattle.aig_sim.specs.Parts.LaneTexts.{TextGrew, shown_properties, shown_size, shown_text}
-use Rattle.aig_sim.specs.Parts.Lanes.{IsLane}
-use Rattle.aig_sim.specs.Parts.Lines.{Keeping, line_size, row_read}
+use Rattle.aig_sim.specs.Parts.LaneTexts.{AreShown, AreShownToo, HasSheets, HasShown, HoldsRun, PutBehind, PutsShown}
+use Rattle.aig_sim.specs.Parts.LaneTexts.{SameRoom, SameSheet, kept_text, shown_properties, shown_size, shown_text}
+use Rattle.aig_sim.specs.Parts.Lines.{row_read}
+use Rattle.aig_sim.specs.Parts.Sheets.{SheetText, step_in, text_in}
 use Rattle.aig_sim.specs.Parts.Tables.{read_from}
-use Rattle.aig_sim.specs.Runs.{IsRunOf}
 use Rattle.aig_sim.specs.TraceText.{properties_text, row_text, values_text}
 use Rattle.aig_sim.proofs.Side.Groups.{ShowsTheSame}
+use Rattle.aig_sim.proofs.Side.Sheets.{part_same, steps_within}
 
-properties_shown : (columns : Columns) (c : Circuit) (lane : ℕ) (values before given : List Val) (shown : Shown)
-    → AreShownToo columns c lane values shown.bad shown.constraints
-    → shown_properties columns lane shown ≡ properties_text columns (row_read c before given (read_from values))
-properties_shown Plain c lane values before given shown are = refl
-properties_shown Properties c lane values before given shown are =
+properties_shown : (columns : Columns) (c : Circuit) (lane : ℕ) (values before given : List Val) (step : ℕ)
+    (shown : Shown) → AreShownToo columns c lane values step shown.bad shown.constraints
+    → shown_properties columns step lane shown ≡ properties_text columns (row_read c before given (read_from values))
+properties_shown Plain c lane values before given step shown are = refl
+properties_shown Properties c lane values before given step shown are =
     ap₂ (λ (bad constraints : List ℕ). codes " " ++ (bad ++ (codes " " ++ constraints))) are.0 are.1
 
 -- the line of a step is that of its row
-line_shown : (columns : Columns) (c : Circuit) (lane : ℕ) (values before given : List Val) (shown : Shown)
-    → AreShown columns c lane values before shown
-    → shown_text columns lane (values_text given) shown
+pub line_shown : (columns : Columns) (c : Circuit) (lane : ℕ) (values before given : List Val) (step : ℕ)
+    (shown : Shown) → step_in step lane shown.state ≡ values_text before
+    → step_in (step + 1) lane shown.state ≡ values_text (map (literal_value (read_from values)) (next_literals c))
+    → AreShown columns c lane values step shown
+    → shown_text columns step lane (values_text given) shown
     ≡ row_text columns (row_read c before given (read_from values))
-line_shown columns c lane values before given shown are =
-    let properties = properties_shown columns c lane values before given shown are.properties in
-    rw (are.state, are.outputs, are.next, properties) refl
-
-pub grew_by : (columns : Columns) (c : Circuit) (run : Run) (step lane : ℕ) (table state : List (List ℕ))
-    (shown : Shown) (before after : Keeping) → Extended columns run step lane shown before after
-    → ((values start : List Val) → IsLane lane table values → IsLane lane state start
-    → AreShown columns c lane values start shown)
-    → TextGrew columns c run step lane table state before.bytes after.bytes
-grew_by columns c run step lane table state shown before after more are = record {
-  row = λ values start has is from.
-      more.row has
-      ∙ ap (λ (line : List ℕ). before.bytes ++ line)
-      (line_shown columns c lane values start (get_or run.steps step []) shown (are values start is from));
-  ended = more.ended;
-}
+line_shown columns c lane values before given step shown state next are =
+    let properties = properties_shown columns c lane values before given step shown are.properties in
+    rw (state, are.outputs, next, properties) refl
 
 pub sheets_same : (a b : Circuit) (shown : Shown) → ShowsTheSame a b → HasSheets b shown → HasSheets a shown
 sheets_same a b shown same has = record {
   state = has.state ∙ ap length (sym same.latches);
   outputs = has.outputs ∙ ap length (sym same.outputs);
-  next = has.next ∙ ap length (sym same.latches);
   bad = has.bad ∙ ap length (sym same.bad);
   constraints = has.constraints ∙ ap length (sym same.constraints);
 }
 
-pub sheets_back : (a b : Circuit) (shown : Shown) → ShowsTheSame a b → HasSheets a shown → HasSheets b shown
-sheets_back a b shown same has = record {
-  state = has.state ∙ ap length same.latches;
-  outputs = has.outputs ∙ ap length same.outputs;
-  next = has.next ∙ ap length same.latches;
-  bad = has.bad ∙ ap length same.bad;
-  constraints = has.constraints ∙ ap length same.constraints;
+-- sheets that have the places that they had are sheets of the circuit still
+pub sheets_stay : (c : Circuit) (before after : Shown) → SameRoom before after → HasSheets c before → HasSheets c after
+sheets_stay c before after same has = record {
+  state = same.state.width ∙ has.state;
+  outputs = same.outputs.width ∙ has.outputs;
+  bad = same.bad.width ∙ has.bad;
+  constraints = same.constraints.width ∙ has.constraints;
 }
 
--- what one step shows of a run is as long as a line of the circuit
-line_fits : (c : Circuit) (shown : Shown) (run : Run) (step : ℕ) → HasSheets c shown → IsRunOf c run
-    → step < length run.steps → shown_size shown + length (get_or run.steps step []) ≡ line_size c
-line_fits c shown run step has fits below =
-    omega (arith, has.state, has.outputs, has.next, has.bad, has.constraints, fits step [] below)
+-- a step was put: what sheets held of the steps before it is as it was
+pub record Kept (step : ℕ) (before after : Shown) : Type 0 where
+  pub state : PutBehind (step + 1) before.state after.state
+  pub outputs : PutBehind step before.outputs after.outputs
+  pub bad : PutBehind step before.bad after.bad
+  pub constraints : PutBehind step before.constraints after.constraints
 
--- the lines of a step and of those before it are among those of the run
-lines_within : (step steps line : ℕ) → step < steps → step * line + line ≤ steps * line
-lines_within step steps line below =
-    let next : (step + 1) * line ≡ step * line + line =
-    add-mul step 1 line ∙ ap (λ (n : ℕ). step * line + n) (one-mul line) in
-    let more : step + 1 ≤ steps = omega arith in
-    omega (arith, next, mul-le-mul_right {m = step + 1} {n = steps} line more)
+pub step_same : (step end lane : ℕ) (before after : SheetText) → lane < 256 → step < end → PutBehind end before after
+    → step_in step lane after ≡ step_in step lane before
+step_same step end lane before after low less put =
+    ap (λ (w : ℕ). take w (drop (step * w) (text_in lane after))) put.same.width
+    ∙ part_same (step * before.width) before.width (end * before.width) (text_in lane after) (text_in lane before)
+    (steps_within step end before.width less) (put.front lane low)
 
--- there is room for a line behind those of the steps before it
-pub fits_behind : (c : Circuit) (shown : Shown) (run : Run) (step : ℕ) (text : Keeping) → HasSheets c shown
-    → IsRunOf c run → length run.steps * line_size c ≤ text.room → length text.bytes ≤ step * line_size c
-    → FitsBehind shown run step text
-fits_behind c shown run step text has fits room size below =
-    omega (
-      arith,
-      room,
-      size,
-      line_fits c shown run step has fits below,
-      lines_within step (length run.steps) (line_size c) below,
-    )
+module _ (step lane : ℕ) (before after : Shown) (low : lane < 256) (kept : Kept step before after) where
+  properties_same : (columns : Columns) (t : ℕ) → t < step
+      → shown_properties columns t lane after ≡ shown_properties columns t lane before
+  properties_same Plain t less = refl
+  properties_same Properties t less =
+      ap₂ (λ (bad constraints : List ℕ). codes " " ++ (bad ++ (codes " " ++ constraints)))
+      (step_same t step lane before.bad after.bad low less kept.bad)
+      (step_same t step lane before.constraints after.constraints low less kept.constraints)
 
--- a step adds no more than a line
-pub size_after : (columns : Columns) (c : Circuit) (run : Run) (step lane : ℕ) (shown : Shown)
-    (before after : Keeping) → HasSheets c shown → IsRunOf c run → length before.bytes ≤ step * line_size c
-    → Extended columns run step lane shown before after → length after.bytes ≤ (step + 1) * line_size c
-size_after columns c run step lane shown before after has fits size more =
-    let next : (step + 1) * line_size c ≡ step * line_size c + line_size c =
-    add-mul step 1 (line_size c) ∙ ap (λ (n : ℕ). step * line_size c + n) (one-mul (line_size c)) in
-    elim (cases_lt step (length run.steps)) [
-      | inl has_it ↦ omega (arith, more.size has_it, line_fits c shown run step has fits has_it, size, next)
-      | inr ended ↦ omega (arith, ap length (more.ended ended), size, next)
-    ]
+  line_same : (columns : Columns) (t : ℕ) (given : List ℕ) → t < step
+      → shown_text columns t lane given after ≡ shown_text columns t lane given before
+  line_same columns t given less =
+      let state = step_same t (step + 1) lane before.state after.state low (omega (arith, less)) kept.state in
+      let next = step_same (t + 1) (step + 1) lane before.state after.state low (omega (arith, less)) kept.state in
+      let outputs = step_same t step lane before.outputs after.outputs low less kept.outputs in
+      let properties = properties_same columns t less in
+      rw (state, outputs, next, properties) refl
+
+  -- the lines of the steps before it are the same
+  pub kept_same : (columns : Columns) (run : Run) (n : ℕ) → n ≤ step
+      → kept_text columns run n lane after ≡ kept_text columns run n lane before
+  kept_same columns run zero within = refl
+  kept_same columns run (suc n) within =
+      ap₂ (λ (front line : List ℕ). front ++ line) (kept_same columns run n (omega (arith, within)))
+      (line_same columns n (values_text (get_or run.steps n [])) (omega (arith, within)))
+
+-- where there are places for all steps of a run, there are for each
+pub holds_step : (lane step : ℕ) (run : Run) (shown : Shown) → step < length run.steps → HoldsRun lane run shown
+    → HasShown step lane shown
+holds_step lane step run shown less holds =
+    let steps = length run.steps in
+    record {
+      state = omega (arith, holds.state, steps_within step (steps + 1) shown.state.width (omega (arith, less)));
+      next = omega (
+        arith,
+        holds.state,
+        steps_within (step + 1) (steps + 1) shown.state.width (omega (arith, less)),
+      );
+      outputs = omega (arith, holds.outputs, steps_within step (steps + 0) shown.outputs.width (omega (arith, less)));
+      bad = omega (arith, holds.bad, steps_within step (steps + 0) shown.bad.width (omega (arith, less)));
+      constraints = omega (
+        arith,
+        holds.constraints,
+        steps_within step (steps + 0) shown.constraints.width (omega (arith, less)),
+      );
+    }
+
+same_sheet : (before after : SheetText) → after ≡ before → SameSheet before after
+same_sheet before after is = record {
+  width = ap (λ (s : SheetText). s.width) is;
+  long = λ l. ap (λ (s : SheetText). length (text_in l s)) is;
+}
+
+-- the state alone was put
+pub state_put : (step : ℕ) (before after : Shown) → after ≡ record before { state = after.state }
+    → PutBehind step before.state after.state → SameRoom before after
+state_put step before after is put = record {
+  state = put.same;
+  outputs = same_sheet before.outputs after.outputs (ap (λ (s : Shown). s.outputs) is);
+  bad = same_sheet before.bad after.bad (ap (λ (s : Shown). s.bad) is);
+  constraints = same_sheet before.constraints after.constraints (ap (λ (s : Shown). s.constraints) is);
+}
+
+-- what a step shows was put, and then the state behind it
+pub kept_by : (step : ℕ) (before between after : Shown) → PutsShown step before between
+    → after ≡ record between { state = after.state } → PutBehind (step + 1) between.state after.state
+    → Kept step before after
+kept_by step before between after puts is put = record {
+  state = subst (λ (s : SheetText). PutBehind (step + 1) s after.state) puts.state put;
+  outputs = subst (λ (s : SheetText). PutBehind step before.outputs s) (sym (ap (λ (s : Shown). s.outputs) is))
+      puts.outputs;
+  bad = subst (λ (s : SheetText). PutBehind step before.bad s) (sym (ap (λ (s : Shown). s.bad) is)) puts.bad;
+  constraints =
+      subst (λ (s : SheetText). PutBehind step before.constraints s) (sym (ap (λ (s : Shown). s.constraints) is))
+      puts.constraints;
+}
+
+pub room_kept : (step : ℕ) (before after : Shown) → Kept step before after → SameRoom before after
+room_kept step before after kept = record {
+  state = kept.state.same;
+  outputs = kept.outputs.same;
+  bad = kept.bad.same;
+  constraints = kept.constraints.same;
+}
+
+-- what is shown beside states stays where the state is put
+pub shown_still : (columns : Columns) (c : Circuit) (lane : ℕ) (values : List Val) (step : ℕ) (between after : Shown)
+    → after ≡ record between { state = after.state } → AreShown columns c lane values step between
+    → AreShown columns c lane values step after
+shown_still columns c lane values step between after is are =
+    subst (λ (s : Shown). AreShown columns c lane values step s) (sym is)
+    (record { outputs = are.outputs; properties = are.properties })
+
+same_room_twice : (a b c : SheetText) → SameSheet a b → SameSheet b c → SameSheet a c
+same_room_twice a b c one more = record {
+  width = more.width ∙ one.width;
+  long = λ l. more.long l ∙ one.long l;
+}
+
+pub rooms_twice : (a b c : Shown) → SameRoom a b → SameRoom b c → SameRoom a c
+rooms_twice a b c one more = record {
+  state = same_room_twice a.state b.state c.state one.state more.state;
+  outputs = same_room_twice a.outputs b.outputs c.outputs one.outputs more.outputs;
+  bad = same_room_twice a.bad b.bad c.bad one.bad more.bad;
+  constraints = same_room_twice a.constraints b.constraints c.constraints one.constraints more.constraints;
+}
+
+pub room_same : (a : Shown) → SameRoom a a
+room_same a = record {
+  state = same_sheet a.state a.state refl;
+  outputs = same_sheet a.outputs a.outputs refl;
+  bad = same_sheet a.bad a.bad refl;
+  constraints = same_sheet a.constraints a.constraints refl;
+}
+
+pub size_stays : (before after : Shown) → SameRoom before after → shown_size after ≡ shown_size before
+size_stays before after same =
+    omega (arith, same.state.width, same.outputs.width, same.bad.width, same.constraints.width)
+
+places_stay : (steps lane : ℕ) (before after : SheetText) → SameSheet before after
+    → steps * before.width ≤ length (text_in lane before) → steps * after.width ≤ length (text_in lane after)
+places_stay steps lane before after same there =
+    omega (arith, there, same.long lane, ap (λ (w : ℕ). steps * w) same.width)
+
+pub holds_still : (lane : ℕ) (run : Run) (before after : Shown) → SameRoom before after → HoldsRun lane run before
+    → HoldsRun lane run after
+holds_still lane run before after same holds =
+    let steps = length run.steps in
+    record {
+      state = places_stay (steps + 1) lane before.state after.state same.state holds.state;
+      outputs = places_stay (steps + 0) lane before.outputs after.outputs same.outputs holds.outputs;
+      bad = places_stay (steps + 0) lane before.bad after.bad same.bad holds.bad;
+      constraints = places_stay (steps + 0) lane before.constraints after.constraints same.constraints
+          holds.constraints;
+    }
+
+two_of : (n : ℕ) → 2 * n ≡ n + n
+two_of n = omega arith
+
+-- the places of the state behind a step can be counted where two states for each line can
+pub fits_behind : (step width size bound : ℕ) → 2 * width ≤ size → (step + 1) * size < bound
+    → (step + 1) * width + width < bound
+fits_behind step width size bound two fits =
+    let twice = mul-le-mul_left {m = 2 * width} {n = size} (step + 1) two in
+    let parts : (step + 1) * (2 * width) ≡ (step + 1) * width + (step + 1) * width =
+    ap (λ (n : ℕ). (step + 1) * n) (two_of width) ∙ mul-add (step + 1) width width in
+    let one = steps_within 0 (step + 1) width (omega arith) in
+    omega (arith, twice, parts, one, fits)

@@ -1,11 +1,13 @@
 -- Runs that are read at the front of a stimulus. Only private functions cite this.
-use Rattle.std.specs.Prelude.{◌≡◌, ◌+◌, ◌≤◌, ◌++◌, ℕ, List, [], ◌∷◌, codes, length, map}
+use Rattle.std.specs.Prelude.{◌≡◌, ◌+◌, ◌≤◌, ◌++◌, ℕ, zero, suc, List, [], ◌∷◌, codes, length, map, slice_index_or}
 use Rattle.std.specs.List.{flat_map}
 use Rattle.aig_core.specs.declared.circuit.Circuit.{Circuit}
 use Rattle.aig_io.specs.Output.{Out, Put}
 use Rattle.aig_sim.specs.declared.run.Run.{Run}
+use Rattle.aig_sim.specs.declared.shown.Shown.{Shown}
 use Rattle.aig_sim.specs.declared.trace.Columns.{Columns}
 use Rattle.aig_sim.specs.Stimulus.{Entry, Step, Stop}
+use Rattle.aig_sim.specs.Parts.LaneTexts.{kept_text}
 use Rattle.aig_sim.specs.Parts.Progress.{Goes, begin_of}
 use Rattle.aig_sim.specs.Parts.Seen.{IsHeard}
 
@@ -30,6 +32,18 @@ entries_of_groups groups = flat_map entries_of_group groups
 -- the texts of runs, each with the line that ends it
 abbrev pub text_of_group : List (List ℕ) → List ℕ
 text_of_group texts = flat_map (λ (text : List ℕ). text ++ codes ".\n") texts
+
+-- a run without steps
+abbrev pub no_run : Run
+no_run = record { steps = [] }
+
+-- what is kept of the first runs, one after the other
+abbrev pub kept_texts : Columns → List Run → ℕ → Shown → List (List ℕ)
+kept_texts columns runs zero shown = []
+kept_texts columns runs (suc lane) shown =
+    kept_texts columns runs lane shown
+    ++ kept_text columns (slice_index_or runs lane no_run) (length (slice_index_or runs lane no_run).steps) lane shown
+    ∷ []
 
 -- the text for groups of runs was put
 pub record PutRuns {W : Type 0} (c : Circuit) (columns : Columns) (groups : List (List Run)) (before after : Out W)

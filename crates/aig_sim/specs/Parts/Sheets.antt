@@ -1,8 +1,9 @@
 -- The characters of literals in all lanes. Only private functions cite this.
-use Rattle.std.specs.Prelude.{◌≡◌, ◌/◌, ◌%◌, ◌<◌, ◌==◌, ℕ, List, [], if◌then◌else◌, length, map}
-use Rattle.std.specs.Prelude.{slice_index_or}
+use Rattle.std.specs.Prelude.{◌≡◌, ◌+◌, ◌*◌, ◌/◌, ◌%◌, ◌<◌, ◌≤◌, ◌==◌, ℕ, List, [], if◌then◌else◌, drop, length}
+use Rattle.std.specs.Prelude.{map, slice_index_or, take}
 use Rattle.std.specs.Int.{bit_at}
 use Rattle.std.specs.Simd.Lanes.{zip2}
+use Rattle.aig_sim.specs.declared.run.Run.{Run}
 
 -- the character of a literal by two bits: whether it may be 1, and whether it may be 0
 abbrev pub character_by : ℕ → ℕ → ℕ
@@ -17,22 +18,34 @@ pub record OctetText : Type 0 where
 abbrev pub octet_text : ℕ → OctetText → List ℕ
 octet_text place o = zip2 (λ (high low : ℕ). character_by (bit_at high place) (bit_at low place)) o.ones o.zeros
 
--- octets for all lanes, of so many literals
+-- octets for all lanes, with so many literals for each step
 pub record SheetText : Type 0 where
   pub width : ℕ
   pub octets : List OctetText
 
--- the characters of literals in a lane
+-- the characters of literals in a lane, those of one step behind those of the step before it
 abbrev pub lane_text : ℕ → List OctetText → List ℕ
 lane_text lane octets = octet_text (lane % 8) (slice_index_or octets (lane / 8) (record { ones = []; zeros = [] }))
 
 abbrev pub text_in : ℕ → SheetText → List ℕ
 text_in lane sheet = lane_text lane sheet.octets
 
--- there are as many octets as there are eights of lanes, each of so many literals
-pub record IsSheet (width : ℕ) (octets : List OctetText) : Type 0 where
-  pub all : length octets ≡ 32
-  pub wide : (k j : ℕ) (d : OctetText) → k < 32 → length (octet_text j (slice_index_or octets k d)) ≡ width
+-- the characters of a step in a lane
+abbrev pub step_in : (step lane : ℕ) → SheetText → List ℕ
+step_in step lane sheet = take sheet.width (drop (step * sheet.width) (text_in lane sheet))
+
+-- a lane has places for a step
+abbrev pub HasStep : (step lane : ℕ) → SheetText → Type 0
+HasStep step lane sheet = step * sheet.width + sheet.width ≤ length (text_in lane sheet)
+
+-- there are as many octets as there are eights of lanes
+abbrev pub IsSheet : List OctetText → Type 0
+IsSheet octets = length octets ≡ 32
+
+-- in the lane of each run there are places for so many literals for each step, and for so many steps more
+abbrev pub HoldsSteps : (width more : ℕ) → List OctetText → List Run → Type 0
+HoldsSteps width more octets runs = (l : ℕ) (d : Run) → l < 256 → l < length runs
+    → (length (slice_index_or runs l d).steps + more) * width ≤ length (lane_text l octets)
 
 -- the characters in a lane, where those of an input stand one behind the other
 abbrev pub given_in : ℕ → List (List ℕ) → List ℕ

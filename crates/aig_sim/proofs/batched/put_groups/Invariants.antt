@@ -1,15 +1,13 @@
-use Rattle.std.specs.Prelude.{List, take}
+use Rattle.std.specs.Prelude.{take}
 use Rattle.std.specs.List.{All}
-use Rattle.aig_sim.specs.declared.run.Run.{Run}
 use Rattle.aig_sim.specs.Parts.Benches.{IsBench}
-use Rattle.aig_sim.specs.Parts.LaneTexts.{HaveRoom}
-use Rattle.aig_sim.specs.Parts.Lines.{line_size}
+use Rattle.aig_sim.specs.Parts.LaneTexts.{HoldsRuns}
 use Rattle.aig_sim.specs.Parts.RunsRead.{PutRuns}
 use Rattle.aig_sim.proofs.batched.put_groups.Given as goal
 
 abbrev pub invariant-loop-group : goal.invariant-loop-group
 invariant-loop-group g l = record {
   is : IsBench l.machine l.bench;
-  room : All (λ (runs : List Run). HaveRoom (line_size l.machine) runs l.bench.texts.items) l.groups;
+  room : All (HoldsRuns l.bench.shown) l.groups;
   put : PutRuns l.machine l.columns (take l.group-index l.groups) l.fn.output l.output;
 }

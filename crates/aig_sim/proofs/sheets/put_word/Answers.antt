@@ -13,7 +13,7 @@ loop-place-preserved c =
     let here = first + c.loop-place.place in
     let now = c.put.new.self in
     let inv = c.loop-place.invariant in
-    let room : here < length octets = omega (arith, inv.all, c.requires.lanes, c.loop-place-test.true) in
+    let room : here < length octets = omega (arith, inv.all, c.requires, c.loop-place-test.true) in
     let e = c.index-octets-first.result in
     let was : (d : OctetText) → get_or octets here e ≡ get_or c.args.octets.now here d = λ d.
     get_or_default octets here e d room ∙ inv.behind here d (omega arith) in

@@ -1,40 +1,57 @@
-use Rattle.std.proofs.Common.{◌+◌, ◌<◌, ◌≤◌, ◌∙◌, [], ap, arith, length, refl, take}
+use Rattle.std.proofs.Common.{◌≡◌, ◌+◌, ◌*◌, ◌<◌, ◌≤◌, ◌∙◌, [], ap, arith, drop, length, refl, sym, take, ℕ, List}
+use Rattle.std.proofs.lemmas.List.{drop-set-add, length-drop, take-set-le, take_all}
 use Rattle.aig_sim.specs.Parts.Sheets.{text_in}
 use Rattle.aig_sim.specs.Parts.Tables.{read_from}
-use Rattle.aig_sim.specs.TraceText.{character_of}
-use Rattle.aig_sim.proofs.Side.Sheets.{all_shown, shown_more}
+use Rattle.aig_sim.specs.TraceText.{character_of, values_text}
+use Rattle.aig_sim.proofs.Side.Sheets.{pair_character, shown_more}
 use Rattle.aig_sim.proofs.Side.Tables.{lane_length, pair_of_variable}
 use Rattle.aig_sim.proofs.shown.show_table.Goals as goal
 
 pub loop-i-preserved : goal.loop-i-preserved
 loop-i-preserved c =
     let i = c.loop-i.i in
+    let start = c.start-start.result in
     let planes = c.args.planes.now in
     let inv = c.loop-i.invariant in
+    let sheet = c.loop-i.sheet in
     record {
-      shown = λ k values below is.
+      start = inv.start;
+      front = λ k below.
+          ap (take start) (c.put.ensures.text k below)
+          ∙ take-set-le start (text_in k sheet) (start + i) _ (omega arith)
+          ∙ inv.front k below;
+      shown = λ k values below has is.
           let value = read_from values i in
           let there : i < length values =
-          omega (arith, c.loop-i-test.true, c.len-i-end.ensures.value, c.requires, lane_length k planes values is) in
-          ap (take (i + 1)) (c.put.ensures.text k value below (pair_of_variable k planes values is i [] [] there))
-          ∙ shown_more i (text_in k c.loop-i.sheet) values (character_of value) value
-          (omega (arith, c.loop-i-test.true, inv.long k, c.len-i-end.ensures.long k below, c.len-i-end.ensures.value))
-          there (inv.shown k values below is) refl refl;
+          omega (arith, c.loop-i-test.true, c.requires.count, lane_length k planes values is) in
+          ap (λ (t : List ℕ). take (i + 1) (drop start t)) (c.put.ensures.text k below)
+          ∙ ap (take (i + 1)) (drop-set-add start (text_in k sheet) i _)
+          ∙ shown_more i (drop start (text_in k sheet)) values _ value
+          (omega (
+            arith,
+            c.loop-i-test.true,
+            inv.long k,
+            inv.start,
+            has,
+            c.requires.count,
+            length-drop start (text_in k sheet),
+          ))
+          there (inv.shown k values below has is)
+          (pair_character k _ _ value (pair_of_variable k planes values is i [] [] there)) refl;
       width = c.put.ensures.width ∙ inv.width;
       long = λ k. c.put.ensures.long k ∙ inv.long k;
     }
 
 pub returns-clause-text : goal.returns-clause-text
-returns-clause-text c = λ l values below is.
+returns-clause-text c = λ l values below has is.
     let inv = c.loop-i.invariant in
-    let end : length values ≤ c.loop-i.i =
-    omega (
-      arith,
-      c.loop-i-test.false,
-      c.len-i-end.ensures.value,
-      c.requires,
-      lane_length l c.args.planes.now values is,
-    ) in
-    all_shown c.loop-i.i (text_in l c.loop-i.sheet) values
-    (omega (arith, c.loop-i-test.false, inv.long l, c.len-i-end.ensures.long l below, c.len-i-end.ensures.value)) end
-    (inv.shown l values below is)
+    let text = text_in l c.loop-i.sheet in
+    let long : c.args.sheet.now.width ≡ c.loop-i.i =
+    omega (arith, c.requires.count, c.loop-i-test.false, c.loop-i.auto.i-end) in
+    let start : c.args.step * c.loop-i.i ≡ c.args.step * c.args.sheet.now.width =
+    ap (λ (n : ℕ). c.args.step * n) (sym long) in
+    ap (λ (n : ℕ). take n (drop (c.args.step * n) text)) (inv.width ∙ long)
+    ∙ ap (λ (n : ℕ). take c.loop-i.i (drop n text)) (start ∙ sym inv.start)
+    ∙ inv.shown l values below has is
+    ∙ ap values_text (take_all c.loop-i.i (values) (omega
+    (arith, long, c.requires.count, lane_length l c.args.planes.now values is)))
