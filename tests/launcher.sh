@@ -286,6 +286,21 @@ judge 'an edit while it proves' $?
 wants "$small" "$proves" 0
 check 'and the launch after it' launch aigtoaig --ascii < "$work/small"
 
+# --- what the program is told of memory ---
+unasked() { ( unset GLIBC_TUNABLES && "$@" ); }
+asked() { ( export GLIBC_TUNABLES=glibc.malloc.check=0 && "$@" ); }
+printf '#!/bin/sh\nprintf "%%s\\n" "$GLIBC_TUNABLES"\n' > "$work/program"
+chmod +x "$work/program"
+edit
+wants 'glibc.malloc.hugetlb=1\n' "$proves" 0
+check 'large pages are asked for' unasked launch
+wants 'glibc.malloc.check=0\n' '' 0
+check 'unless something else is' asked launch
+cp "$program" "$work/program"
+edit
+wants "$small" "$proves" 0
+check 'and the program again' launch aigtoaig --ascii < "$work/small"
+
 # a program that still reads holds up no other launch
 mkfifo "$work/pipe"
 edit
