@@ -24,4 +24,5 @@ returns-clause-begun c =
     }
 
 pub returns-clause-same : goal.returns-clause-same
-returns-clause-same c = state_put 0 c.args.shown.now c.show_state.new.self c.show_state.ensures.same c.show_state.ensures.behind
+returns-clause-same c =
+    state_put 0 c.args.shown.now c.show_state.new.self c.show_state.ensures.same c.show_state.ensures.behind
