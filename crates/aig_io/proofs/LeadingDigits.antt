@@ -1,9 +1,9 @@
 -- The zeros before a number in its eight digits.
 use Rattle.std.proofs.Common.{◌≡◌, ◌+◌, ◌-◌, ◌*◌, ◌/◌, ◌%◌, ◌^◌, ◌<◌, ◌≤◌, ℕ, zero, suc, List, [], ◌∷◌, ◌++◌, length}
-use Rattle.std.proofs.Common.{map, take, get_or, arith, refl, sym, ap, ◌∙◌, append_assoc, length-append, eq-zero-or-pos}
+use Rattle.std.proofs.Common.{map, take, get_or, arith, refl, sym, ap, ◌∙◌, append_assoc, append-nil, length-append, eq-zero-or-pos}
 use Rattle.std.proofs.Common.{inl, inr}
 use Rattle.std.proofs.lemmas.Nat.{mod-pow-add, shr-shr, le_bytes_8}
-use Rattle.std.proofs.Math.Nat.{pow-suc}
+use Rattle.std.proofs.Math.Nat.{div-div-eq-div-mul, pow-suc}
 use Rattle.std.proofs.lemmas.Bool.{cases_lt}
 use Rattle.std.proofs.lemmas.List.{map-append, length-replicate}
 use Rattle.std.proofs.Math.Seq.{take-append-add, take-append_seam}
@@ -246,6 +246,68 @@ text_bytes n digits zeros low e long =
     ap (λ w. w / 2 ^ (8 * zeros)) (glyphs ∙ ap (number_l 256) text) ∙ shifted zeros (decimal n) in
     le_bytes_8 (decimal n ++ replicate zeros 0) _ all (fit (decimal n) zeros (IsAscii-decimal n (omega arith)))
     (word ∙ sym (zeros_behind (decimal n) zeros) ∙ word_is _ all)
+
+-- ---- eight digits, the zeros in front too
+
+eight_fit : (n i : ℕ) → get_or (map (λ d. 48 + d) (last_digits 8 n)) i 0 < 256
+eight_fit n zero = omega arith
+eight_fit n (suc zero) = omega arith
+eight_fit n (suc (suc zero)) = omega arith
+eight_fit n (suc (suc (suc zero))) = omega arith
+eight_fit n (suc (suc (suc (suc zero)))) = omega arith
+eight_fit n (suc (suc (suc (suc (suc zero))))) = omega arith
+eight_fit n (suc (suc (suc (suc (suc (suc zero)))))) = omega arith
+eight_fit n (suc (suc (suc (suc (suc (suc (suc zero))))))) = omega arith
+eight_fit n (suc (suc (suc (suc (suc (suc (suc (suc i)))))))) = omega arith
+
+-- the bytes of the word, as characters
+pub eight_bytes : (n digits : ℕ) → digits ≡ number_l 256 (last_digits 8 n)
+    → to_le_bytes w64 (digits + 0x3030_3030_3030_3030) ≡ map (λ d. 48 + d) (last_digits 8 n)
+eight_bytes n digits e =
+    let glyphs : digits + 0x3030_3030_3030_3030 ≡ number_l 256 (map (λ d. 48 + d) (last_digits 8 n)) = omega arith in
+    le_bytes_8 (map (λ d. 48 + d) (last_digits 8 n)) _ refl (eight_fit n)
+    (glyphs ∙ word_is (map (λ d. 48 + d) (last_digits 8 n)) refl)
+
+some_power : (count : ℕ) → 0 < 10 ^ count
+some_power zero = omega arith
+some_power (suc count) = omega (arith, pow-suc 10 count, some_power count)
+
+-- the last digits of a number come behind those of what is left without them
+last_of : (count n : ℕ) → 10 ^ count ≤ n → n < 2 ^ 64
+    → decimal n ≡ decimal (n / 10 ^ count) ++ map (λ d. 48 + d) (last_digits count n)
+last_of zero n some fits =
+    let whole : n / 10 ^ 0 ≡ n = omega arith in
+    rw whole (sym (append-nil (decimal n)))
+last_of (suc count) n some fits =
+    let power : 10 ^ suc count ≡ 10 * 10 ^ count = omega (arith, pow-suc 10 count) in
+    let before : n / 10 / 10 ^ count ≡ n / 10 ^ suc count = div-div-eq-div-mul n 10 (10 ^ count) ∙ ap (λ k. n / k) (sym power) in
+    decimal_step n (omega (arith, power, some_power count)) fits
+    ∙ ap (λ (ds : List ℕ). ds ++ (48 + n % 10) ∷ [])
+    (last_of count (n / 10) (omega (arith, power)) (omega arith) ∙ ap (λ k. decimal k ++ map (λ d. 48 + d) (last_digits count (n / 10))) before)
+    ∙ append_assoc (decimal (n / 10 ^ suc count)) (map (λ d. 48 + d) (last_digits count (n / 10))) ((48 + n % 10) ∷ [])
+    ∙ ap (λ (ds : List ℕ). decimal (n / 10 ^ suc count) ++ ds)
+    (sym (map-append (λ d. 48 + d) (last_digits count (n / 10)) (n % 10 ∷ [])))
+
+-- the last eight digits, of the number or of what eight digits leave
+same_last : (n : ℕ) → last_digits 8 (n % 100_000_000) ≡ last_digits 8 n
+same_last n =
+    let e0 : n % 100_000_000 % 10 ≡ n % 10 = omega arith in
+    let e1 : n % 100_000_000 / 10 % 10 ≡ n / 10 % 10 = omega arith in
+    let e2 : n % 100_000_000 / 10 / 10 % 10 ≡ n / 10 / 10 % 10 = omega arith in
+    let e3 : n % 100_000_000 / 10 / 10 / 10 % 10 ≡ n / 10 / 10 / 10 % 10 = omega arith in
+    let e4 : n % 100_000_000 / 10 / 10 / 10 / 10 % 10 ≡ n / 10 / 10 / 10 / 10 % 10 = omega arith in
+    let e5 : n % 100_000_000 / 10 / 10 / 10 / 10 / 10 % 10 ≡ n / 10 / 10 / 10 / 10 / 10 % 10 = omega arith in
+    let e6 : n % 100_000_000 / 10 / 10 / 10 / 10 / 10 / 10 % 10 ≡ n / 10 / 10 / 10 / 10 / 10 / 10 % 10 =
+    omega arith in
+    let e7 : n % 100_000_000 / 10 / 10 / 10 / 10 / 10 / 10 / 10 % 10 ≡ n / 10 / 10 / 10 / 10 / 10 / 10 / 10 % 10 =
+    omega arith in
+    λ i. e7 i ∷ e6 i ∷ e5 i ∷ e4 i ∷ e3 i ∷ e2 i ∷ e1 i ∷ e0 i ∷ []
+
+-- a number of more than eight digits: what is left without the last eight, and these
+pub double_text : (n : ℕ) → 10 ^ 8 ≤ n → n < 2 ^ 64
+    → decimal n ≡ decimal (n / 100_000_000) ++ map (λ d. 48 + d) (last_digits 8 (n % 100_000_000))
+double_text n some fits = last_of 8 n some fits
+    ∙ ap (λ (ds : List ℕ). decimal (n / 100_000_000) ++ map (λ d. 48 + d) ds) (sym (same_last n))
 
 -- a text behind a beginning, and what follows it
 pub text_stands : (at m : ℕ) (front text behind after : List ℕ) → length front ≡ at → m ≡ at + length text

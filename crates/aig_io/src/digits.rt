@@ -1,6 +1,6 @@
 //! Numbers in decimal, written straight to where they are wanted.
 ghost use Rattle.std.specs.Prelude.{◌≡◌, ◌+◌, ◌*◌, ◌/◌, ◌%◌, ◌^◌, ◌<◌, ◌≤◌, ℕ, [], ◌∷◌, ◌++◌, length, decimal, codes};
-ghost use Rattle.std.specs.Prelude.{take};
+ghost use Rattle.std.specs.Prelude.{map, take};
 ghost use Rattle.std.specs.Simd.Lanes.{number_l};
 ghost use Rattle.aig_io.specs.Digits.{last_digits};
 ghost use Rattle.aig_io.specs.Output.{row_text};
@@ -11,6 +11,9 @@ pub const MOST_DIGITS: usize = 20;
 
 /// The first number of nine digits.
 const TEN_TO_THE_EIGHTH: u64 = 100_000_000;
+
+/// The first number of seventeen digits.
+const TEN_TO_THE_SIXTEENTH: u64 = 10_000_000_000_000_000;
 
 /// The first number of eleven digits.
 const TEN_TO_THE_TENTH: u64 = 10_000_000_000;
@@ -118,6 +121,34 @@ fn write_short_number(bytes: &mut [u8], at: usize, number: u32) -> usize
     at + 8 - zeros as usize
 }
 
+/// Writes eight digits from a place on.
+#[inline(always)]
+fn write_eight_digits(bytes: &mut [u8], at: usize, number: u32)
+    requires low { number < 10 ^ 8 }
+    requires room { at + 8 ≤ length bytes.old }
+    ensures len { length bytes.new ≡ length bytes.old }
+    ensures text { take (at + 8) bytes.new ≡ take at bytes.old ++ map (λ d. 48 + d) (last_digits 8 number) }
+{
+    let text = eight_digits(number) + 0x3030_3030_3030_3030;
+    bytes[at..at + 8].copy_from_slice(&text.to_le_bytes());
+}
+
+/// Writes a number of nine to sixteen digits, as `write_number` writes a number.
+fn write_double_number(bytes: &mut [u8], at: usize, number: u64) -> usize
+    requires high { 10 ^ 8 ≤ number }
+    requires low { number < 10 ^ 16 }
+    requires room { at + 16 ≤ length bytes.old }
+    ensures within { result ≤ at + 16 }
+    ensures len { length bytes.new ≡ length bytes.old }
+    ensures text { take result bytes.new ≡ take at bytes.old ++ decimal number }
+{
+    let first = (number / TEN_TO_THE_EIGHTH) as u32;
+    let last = (number % TEN_TO_THE_EIGHTH) as u32;
+    let end = write_short_number(bytes, at, first);
+    write_eight_digits(bytes, end, last);
+    end + 8
+}
+
 /// Writes a number of any size, as `write_number` writes a number.
 #[cold]
 #[inline(never)]
@@ -142,6 +173,8 @@ pub(crate) fn write_number(bytes: &mut [u8], at: usize, number: u64) -> usize
 {
     if number < TEN_TO_THE_EIGHTH {
         write_short_number(bytes, at, number as u32)
+    } else if number < TEN_TO_THE_SIXTEENTH {
+        write_double_number(bytes, at, number)
     } else {
         write_long_number(bytes, at, number)
     }

@@ -266,6 +266,22 @@ pub(crate) fn any_above(limit: u64, numbers: &[u64]) -> bool
     numbers.iter().any(|number| *number > limit)
 }
 
+/// A number of at most 18 digits at the front with this byte behind it, and what follows that.
+#[inline(always)]
+fn plain_number_before(bytes: &[u8], stop: u8) -> Option<(u64, &[u8])>
+    ensures { IfSome result (λ x. BeginsWithNumber bytes.now x.0 (stop ∷ x.1.now)) }
+{
+    let short = short_number_before(bytes, stop);
+    if short.is_some() {
+        return short;
+    }
+    let (value, behind, rest) = plain_number(bytes)?;
+    if behind != stop {
+        return None;
+    }
+    Some((value, rest))
+}
+
 /// The number at the front, however it is spelled, where this byte stands behind it; and what follows the byte.
 #[cold]
 #[inline(never)]
@@ -302,7 +318,7 @@ pub fn canonical_number(bytes: &[u8], stop: u8) -> Option<(u64, &[u8])>
     if is_padded(bytes) {
         return None;
     }
-    match short_number_before(bytes, stop) {
+    match plain_number_before(bytes, stop) {
         Some((value, rest)) => Some((value.min(FAR), rest)),
         None => long_number(bytes, stop),
     }
