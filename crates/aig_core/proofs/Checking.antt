@@ -6,3 +6,4 @@ pub mod Reported
 pub mod Fitting
 pub mod InOrder
 pub mod Properties
+pub mod Parted

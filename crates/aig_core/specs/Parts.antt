@@ -7,3 +7,4 @@ pub mod Places
 pub mod Ranks
 pub mod InOrder
 pub mod Numbered
+pub mod Parted

@@ -9,6 +9,7 @@ ghost use Rattle.aig_core.specs.Fault.{first_structural_fault, IsFault};
 ghost use Rattle.aig_core.specs.Parts.SameLists.{same_lists};
 
 use crate::checked::copies::copy_circuit;
+use crate::checked::distinct::{is_defined_once_by_parts, is_spread};
 use crate::checked::faults::{find_fault, find_redefinition};
 use crate::circuit::Circuit;
 use crate::fault::{CheckFault, OutOfMemory};
@@ -17,6 +18,7 @@ use std::alloc::Global;
 use std::marker::Model;
 
 mod copies;
+mod distinct;
 mod faults;
 
 pub use crate::checked::copies::{copy_comment, copy_justice, copy_symbols};
@@ -139,6 +141,9 @@ pub fn check_keeping(
 pub fn is_defined_once(alloc: Global, circuit: &Circuit) -> Result<bool, OutOfMemory>
     ensures { IfOk result (λ once. IsTrue once ↔ AreDistinct (defined_variables circuit.now)) }
 {
+    if is_spread(circuit) {
+        return is_defined_once_by_parts(alloc, circuit);
+    }
     match find_redefinition(alloc, circuit) {
         Ok(()) => Ok(true),
         Err(CheckFault::Redefined(_)) => Ok(false),

@@ -1,5 +1,5 @@
 -- Buckets and trees, read as what they have of indices.
-use Rattle.std.proofs.Common.{◌≡◌, ◌≢◌, ◌<◌, ◌≤◌, ◌+◌, ℕ, List, [], ◌∷◌, ◌++◌, false, cond, eqb, length, get_or, drop}
+use Rattle.std.proofs.Common.{◌≡◌, ◌≢◌, ◌==◌, ◌||◌, zero, suc, Bool, true, take, ◌<◌, ◌≤◌, ◌+◌, ℕ, List, [], ◌∷◌, ◌++◌, false, cond, eqb, length, get_or, drop}
 use Rattle.std.proofs.Common.{Option, None, Some, refl, sym, ap, ◌∙◌, true≢false, arith}
 use Rattle.std.proofs.Math.ListN.{set as put, replicate}
 use Rattle.std.specs.Option.{is_some, option_or}
@@ -7,13 +7,18 @@ use Rattle.std.specs.Ordering.{nat_cmp}
 use Rattle.std.specs.Cmp.{eq_by_cmp_equiv, unsigned_tied}
 use Rattle.std.specs.BTreeMap.{BTreeMap, get, Updates}
 use Rattle.std.specs.FinMap.{find}
-use Rattle.std.proofs.lemmas.Bool.{ne_eqb, eq-eqb}
+use Rattle.std.proofs.lemmas.Bool.{ne_eqb, eq-eqb, eqb-false}
+use Rattle.std.specs.List.{list_any}
 use Rattle.std.proofs.lemmas.Cmp.{nat_cmp_total}
 use Rattle.std.proofs.lemmas.Grind.{common_steps}
 use Rattle.std.proofs.lemmas.List.{drop_all, drop_more, length-set}
 use Rattle.aig_core.specs.declared.var_map.bucket.TheConstants.{ROOM}
 use Rattle.aig_core.specs.Parts.Places.{bucket_of, spread_at, IsSpread}
 use Rattle.aig_core.proofs.Tables.Maps.{HasNew}
+
+neither : (a b : Bool) → (a || b) ≡ false → (a ≡ false) × (b ≡ false)
+neither true b none = absurd (true≢false none)
+neither false b none = (refl, none)
 
 -- what is found in a list from a place on
 module _ {T : Type 0} (es : List (ℕ × T)) (i q : ℕ) where
@@ -37,6 +42,18 @@ module _ {T : Type 0} (es : List (ℕ × T)) (i q : ℕ) where
 
   pub found_nowhere : length es ≤ i → find nat_cmp q (drop i es) ≡ None
   found_nowhere past = ap (find nat_cmp q) (drop_all i es past)
+
+-- nothing is found where no entry has the index, nor any behind them
+pub none_has : {T : Type 0} (es : List (ℕ × T)) (n q : ℕ) → list_any (λ (e : ℕ × T). e.0 == q) es ≡ false
+    → find nat_cmp q (take n es) ≡ None
+none_has [] zero q none = refl
+none_has [] (suc n) q none = refl
+none_has (e ∷ es) zero q none = refl
+none_has (e ∷ es) (suc n) q none =
+    let both : ((e.0 == q) ≡ false) × (list_any (λ (e : ℕ × _). e.0 == q) es ≡ false) = neither _ _ none in
+    ap (λ b. cond b (Some e.1) (find nat_cmp q (take n es)))
+    (unsigned_tied q e.0 ∙ ne_eqb q e.0 (λ (same : q ≡ e.0). eqb-false e.0 q both.0 (sym same)))
+    ∙ none_has es n q both.1
 
 -- what is found in a list with one more entry at its end
 find_push : {T : Type 0} (es : List (ℕ × T)) (k q : ℕ) (v : T)

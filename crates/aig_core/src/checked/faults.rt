@@ -42,7 +42,10 @@ fn define<T: Entry>(seen: &mut VarSet, entry: &T) -> Result<(), CheckFault>
 
 /// Adds the variables of a section to those that were seen, unless one of them was seen before.
 #[tactic(auto, using(crate::proofs::Checking::Sections::joined_lists))]
-fn define_all<T: Entry>(seen: &mut VarSet, entries: &Listing<T>) -> Result<(), CheckFault>
+pub(super) fn define_all<T: Entry>(
+    seen: &mut VarSet,
+    entries: &Listing<T>,
+) -> Result<(), CheckFault>
     ensures seen { OnOk result (seen.new ≡ with_all seen.old (flat_map T.defined entries.now)) }
     ensures ok { OnOk result (first_repeat seen.old (flat_map T.defined entries.now) ≡ None) }
     ensures err { IfErr result (λ e. IsFault e (first_redefinition seen.old (flat_map T.defined entries.now))) }

@@ -1,5 +1,6 @@
 //! A few variables and their values that lie together.
-ghost use Rattle.std.specs.Prelude.{◌≡◌, ◌↔◌, ◌<◌, ◌≤◌, [], ◌∷◌, ◌++◌, length, IsTrue};
+ghost use Rattle.std.specs.Prelude.{◌≡◌, ◌==◌, ◌↔◌, ◌<◌, ◌≤◌, [], ◌∷◌, ◌++◌, length, IsTrue};
+ghost use Rattle.std.specs.List.{list_any};
 ghost use Rattle.std.specs.Ordering.{nat_cmp};
 ghost use Rattle.std.specs.FinMap.{find};
 
@@ -27,6 +28,19 @@ impl<T: Copy> Model for Bucket<T> {
     ghost invariant = { λ b. (b.len ≤ MOST) × (length b.entries ≡ MOST) };
 }
 
+/// Whether one of the entries has the index. All are looked at, with no branch at any of them: most that are asked for
+/// are new, and how many entries there are is not to be guessed then.
+#[inline(always)]
+fn any_has<T: Copy>(entries: &[(u32, T)], index: u32) -> bool
+    ensures { result ≡ list_any (λ e. e.0 == index) entries.now }
+{
+    let mut any = false;
+    for entry in entries {
+        any |= entry.0 == index;
+    }
+    any
+}
+
 impl<T: Copy> Bucket<T> {
     /// An empty bucket. What stands where there is no entry yet is never read.
     pub(super) fn new(any: T) -> Self
@@ -43,6 +57,9 @@ impl<T: Copy> Bucket<T> {
     pub(super) fn get(&self, index: u32) -> Option<T>
         ensures { result ≡ find nat_cmp index self.now }
     {
+        if !any_has(&self.entries, index) {
+            return None;
+        }
         for entry in &self.entries[..self.len as usize] {
             if entry.0 == index {
                 return Some(entry.1);

@@ -1,8 +1,13 @@
 use Rattle.std.proofs.Common.{ap, ◌∙◌, sym, arith, take}
 use Rattle.std.specs.Ordering.{nat_cmp}
 use Rattle.std.specs.FinMap.{find}
-use Rattle.aig_core.proofs.Tables.Buckets.{found_here, found_later, found_nowhere}
+use Rattle.aig_core.proofs.Tables.Buckets.{found_here, found_later, found_nowhere, none_has}
 use Rattle.aig_core.proofs.var_map.bucket.Bucket.get.Goals as goal
+
+pub returns-then-not-any_has : goal.returns-then-not-any_has
+returns-then-not-any_has g c =
+    sym (ap (find nat_cmp c.args.index) (sym c.self.view_is)
+    ∙ none_has c.self.inside.entries c.self.inside.len c.args.index (sym c.any_has.ensures ∙ c.if-not-any_has.true))
 
 pub loop-entry-init : goal.loop-entry-init
 loop-entry-init g c = ap (find nat_cmp c.args.index) (sym c.self.view_is)
