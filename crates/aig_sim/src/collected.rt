@@ -7,9 +7,9 @@ ghost use Rattle.aig_sim.specs.Stimulus.{stimulus};
 ghost use Rattle.aig_sim.specs.Parts.Judging.{IsJudged};
 
 use crate::fault::SimFault;
+use crate::line_feed::line_feed;
 use crate::stimulus::{is_entry, without_return};
 use aig_core::{Checked, ROOM, Source};
-use memchr::memchr;
 use std::alloc::Global;
 
 /// What judges the lines of a stimulus for a circuit of so many inputs.
@@ -34,7 +34,7 @@ impl Judge {
     {
         let mut at = from;
         let (_, mut rest) = bytes.split_at(from);
-        while let Some(next) = memchr(b'\n', rest) {
+        while let Some(next) = line_feed(rest, self.inputs) {
             let end = at + next;
             if !is_entry(self.inputs, without_return(&bytes[self.begun..end])) {
                 return false;

@@ -17,6 +17,7 @@ mod lane_row;
 mod lane_step;
 mod lanes;
 pub mod laws;
+mod line_feed;
 mod machine;
 mod octets;
 mod planes;

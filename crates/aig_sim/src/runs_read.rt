@@ -5,6 +5,7 @@ ghost use Rattle.aig_core.specs.declared.value.Val.{Val as Value};
 ghost use Rattle.aig_sim.specs.declared.run.Run.{Run as RunRecord};
 ghost use Rattle.aig_sim.specs.Parts.RunsRead.{Says, entries_of_run};
 
+use crate::line_feed::line_feed;
 use crate::stimulus::{is_stop, is_vector, without_return};
 use crate::vectors::Vectors;
 use aig_core::OutOfMemory;
@@ -33,7 +34,7 @@ fn read_run<'a>(inputs: usize, bytes: &'a [u8]) -> Option<(Vectors<'a>, &'a [u8]
     let stride = first_stride(bytes);
     let mut steps = 0;
     let mut rest = bytes;
-    while let Some(next) = memchr(b'\n', rest) {
+    while let Some(next) = line_feed(rest, inputs) {
         let (line, more) = rest.split_at(next);
         let (_, more) = more.split_at(1);
         let text = without_return(line);
