@@ -3,7 +3,8 @@ ghost use Rattle.std.specs.Prelude.{◌≡◌, ◌+◌, ◌^◌, ◌<◌, ◌≤
 ghost use Rattle.std.specs.Option.{unwrap_or};
 ghost use Rattle.aig_core.specs.declared.circuit.TheConstants.{LARGEST as largest_index};
 ghost use Rattle.aig_text.specs.Outcomes.{Gives, GivesOrFails};
-ghost use Rattle.aig_order.specs.MapSpelling.{after_text, first_line_at, gate_at, is_variable, variable_at};
+ghost use Rattle.aig_order.specs.MapSpelling.{after_text, first_line_at, gate_at, is_variable, last_number_at};
+ghost use Rattle.aig_order.specs.MapSpelling.{variable_at};
 ghost use Rattle.aig_order.specs.MapReading.{entries_at, counts_match, counted_line, rest_of_block, block_reading};
 ghost use Rattle.aig_order.specs.Parts.MapOutcomes.{GivesOrMemory};
 
@@ -26,6 +27,19 @@ fn after_text<'a>(bytes: &'a [u8], text: &[u8]) -> Option<&'a [u8]>
     ensures { Gives (λ x. x.now) result (after_text text.now bytes.now) }
 {
     bytes.strip_prefix(text)
+}
+
+/// The last number of a line, and what follows the line. Whether operands were exchanged is told by one digit in every
+/// good line, which is read by its two bytes.
+#[inline(always)]
+fn line_end_number(bytes: &[u8]) -> Option<(u64, &[u8])>
+    ensures { Gives (λ x. (x.0, x.1.now)) result (last_number_at bytes.now) }
+{
+    if bytes.len() > 1 && bytes[1] == b'\n' && b'0' <= bytes[0] && bytes[0] <= b'1' {
+        let (_, rest) = bytes.split_at(2);
+        return Some((u64::from(bytes[0] - b'0'), rest));
+    }
+    canonical_number(bytes, b'\n')
 }
 
 /// What one line of a block holds, after the first line.
@@ -62,7 +76,7 @@ impl BlockEntry for MappedGate {
     fn read_entry(bytes: &[u8], max_var: u64, count: u64) -> Option<(MappedGate, &[u8])> {
         let (index, rest) = canonical_number(bytes, b' ')?;
         let (place, rest) = canonical_number(rest, b' ')?;
-        let (exchanged, rest) = canonical_number(rest, b'\n')?;
+        let (exchanged, rest) = line_end_number(rest)?;
         if !is_variable(max_var, index) || place >= count || exchanged > 1 {
             return None;
         }

@@ -1,10 +1,12 @@
 -- The lines of a map block: the text of one is read as what it tells, and what is read is the text of what it tells.
-use Rattle.std.proofs.Common.{◌≡◌, ◌<◌, ◌≤◌, ◌^◌, ◌&&◌, ℕ, zero, suc, Bool, true, false, eqb, arith, append_assoc}
-use Rattle.std.proofs.Common.{List, [], ◌∷◌, ◌++◌, Option, Some, refl, sym, ap, subst, ◌∙◌}
+use Rattle.std.proofs.Common.{◌≡◌, ◌<◌, ◌≤◌, ◌^◌, ◌+◌, ◌-◌, ◌&&◌, ℕ, zero, suc, Bool, true, false, eqb, arith}
+use Rattle.std.proofs.Common.{append_assoc, List, [], ◌∷◌, ◌++◌, length, get_or, drop, Option, Some, refl, sym, ap, subst}
+use Rattle.std.proofs.Common.{◌∙◌}
 use Rattle.std.specs.Prelude.{◌==◌, decimal, nat_lt, nat_le}
 use Rattle.std.specs.Bool.{Decides}
 use Rattle.std.proofs.lemmas.Bool.{leb-true, le-leb}
 use Rattle.std.proofs.lemmas.Bool.Decides.{Decides-and, Decides-ltb}
+use Rattle.std.proofs.lemmas.Fmt.{decimal_digit}
 use Rattle.std.proofs.lemmas.Option.{cond_some}
 use Rattle.aig_core.specs.declared.circuit.TheConstants.{LARGEST}
 use Rattle.aig_core.specs.Wellformed.{IsVariableUpTo}
@@ -34,6 +36,19 @@ number_is_read n m ns rest small =
 pub last_is_read : (n : ℕ) (rest : List ℕ) → IsSmall n → last_number_at (line (n ∷ []) rest) ≡ Some (n, rest)
 last_is_read n rest small =
     ap (canonical_before 10) (append_assoc (decimal n) (10 ∷ []) rest) ∙ canonical_is_read n 10 rest small refl
+
+-- so one of two digits is, by its own byte and the line feed behind it
+pub flag_is_read : (bytes : List ℕ) → 1 < length bytes → get_or bytes 1 0 ≡ 10 → 48 ≤ get_or bytes 0 0
+    → get_or bytes 0 0 ≤ 49 → last_number_at bytes ≡ Some (get_or bytes 0 0 - 48, drop 2 bytes)
+flag_is_read [] long ends low high = absurd (omega (arith, long))
+flag_is_read (a ∷ []) long ends low high = absurd (omega (arith, long))
+flag_is_read (a ∷ b ∷ rest) long ends low high =
+    let digit : 48 + (a - 48) ≡ a = omega (arith, low) in
+    let spelled : decimal (a - 48) ≡ a ∷ [] =
+    decimal_digit (a - 48) (omega (arith, high)) ∙ ap (λ (d : ℕ). d ∷ []) digit in
+    ap (λ (e : ℕ). canonical_before 10 (a ∷ e ∷ rest)) ends
+    ∙ ap (λ (digits : List ℕ). canonical_before 10 (digits ++ 10 ∷ rest)) (sym spelled)
+    ∙ canonical_is_read (a - 48) 10 rest (omega (arith, high)) refl
 
 -- and where they are read, they stand there
 pub number_reads : (n m : ℕ) (ns bytes after rest : List ℕ) → IsSmall n → number_at bytes ≡ Some (n, after)
