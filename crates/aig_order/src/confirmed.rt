@@ -2,11 +2,11 @@
 ghost use Rattle.std.specs.Prelude.{◌↔◌, IsTrue};
 ghost use Rattle.aig_order.specs.Parts.Confirmed.{TellsComment};
 
-use crate::map_block::MapBlock;
+use crate::recorded::Recorded;
 
 /// Whether nothing follows a block that records no comment section.
-pub(crate) fn tells_comment(block: &MapBlock, rest: &[u8]) -> bool
-    ensures { IsTrue result ↔ TellsComment block.now rest.now }
+pub(crate) fn tells_comment(recorded: &Recorded, rest: &[u8]) -> bool
+    ensures { IsTrue result ↔ TellsComment recorded.now.has_comment rest.now }
 {
-    block.has_comment || rest.is_empty()
+    recorded.has_comment || rest.is_empty()
 }

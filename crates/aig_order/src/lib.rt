@@ -8,6 +8,7 @@ mod map_block;
 mod map_reading;
 mod map_text;
 mod mapped;
+mod recorded;
 mod text_sink;
 mod turns;
 mod undoing;

@@ -9,10 +9,11 @@ ghost use Rattle.aig_core.specs.Wellformed.{AreDistinct, defined_variables};
 ghost use Rattle.aig_core.specs.BinaryOrder.{IsInBinaryOrder};
 ghost use Rattle.aig_order.specs.declared.map_block.MappedGate.{MappedGate as MappedGateRecord};
 ghost use Rattle.aig_order.specs.MapReading.{HasCountsOf, IsWithinBounds};
-ghost use Rattle.aig_order.specs.Undone.{undone};
+ghost use Rattle.aig_order.specs.Undone.{places_recorded, undone};
+ghost use Rattle.aig_order.specs.Parts.Tables.{block_read};
 ghost use Rattle.aig_order.specs.Parts.Turns.{positions, ready_from, AreLinks, AreTakenInTurn, IsClear};
 
-use crate::map_block::{MapBlock, MappedGate};
+use crate::map_block::MappedGate;
 use aig_core::{Circuit, Gate, OutOfMemory};
 use std::alloc::Global;
 
@@ -84,18 +85,18 @@ pub(crate) fn are_taken_in_turn(
 /// no variable twice; by the positions in the source, place by place.
 pub(crate) fn tells_order(
     alloc: Global,
-    block: &MapBlock,
     places: &[u32],
     image: &Circuit,
 ) -> Result<bool, OutOfMemory>
     requires ordered { IsInBinaryOrder image.now }
-    requires counts { HasCountsOf block.now image.now }
-    requires bounds { IsWithinBounds block.now }
-    requires places { AreDistinct (map (λ (g : MappedGateRecord). g.place) block.now.gates) }
-    requires are { places.now ≡ positions block.now.gates }
-    ensures { (comment : Option (List ℕ)) → AreDistinct (defined_variables (undone block.now comment image.now))
-        → IfOk result (λ recorded. IsTrue recorded
-        ↔ IsLeastReadyOrder (undone block.now comment image.now) (positions block.now.gates)) }
+    requires counts { HasCountsOf (block_read image.now) image.now }
+    requires bounds { IsWithinBounds (block_read image.now) }
+    requires once { AreDistinct (places_recorded (block_read image.now).gates) }
+    requires are { places.now ≡ positions (block_read image.now).gates }
+    ensures { (comment : Option (List ℕ))
+        → AreDistinct (defined_variables (undone (block_read image.now) comment image.now))
+        → IfOk result (λ recorded. IsTrue recorded ↔ IsLeastReadyOrder (undone (block_read image.now) comment image.now)
+        (positions (block_read image.now).gates)) }
 {
     let first = 1 + image.inputs.len() as u32 + image.latches.len() as u32;
     are_taken_in_turn(alloc, first, image.gates.as_slice(), places)

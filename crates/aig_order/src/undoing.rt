@@ -1,20 +1,22 @@
 //! Conversions undone by the map block of their image.
-ghost use Rattle.std.specs.Prelude.{◌≡◌, ◌↔◌, ◌⊎◌, map, IfOk, IfErr, IsTrue, MatchResult, Ok, OnOk};
+ghost use Rattle.std.specs.Prelude.{◌≡◌, ◌↔◌, ◌⊎◌, IfOk, IfErr, IsTrue, MatchResult, Ok, OnOk};
 ghost use Rattle.aig_core.specs.declared.circuit.Circuit.{Circuit as CircuitRecord};
 ghost use Rattle.aig_core.specs.Wellformed.{AreDistinct, IsWellFormed, defined_variables};
 ghost use Rattle.aig_order.specs.declared.fault.MapFault.TheVariants.{Forged as IsForged, OutOfMemory as IsOutOfMemory};
 ghost use Rattle.aig_core.specs.BinaryOrder.{IsInBinaryOrder};
-ghost use Rattle.aig_order.specs.declared.map_block.MappedGate.{MappedGate as MappedGateRecord};
 ghost use Rattle.aig_order.specs.MapBlock.{IsMappedImage};
 ghost use Rattle.aig_order.specs.MapReading.{block_reading};
 ghost use Rattle.aig_order.specs.Parts.Confirmed.{ExchangesDiffer};
+ghost use Rattle.aig_order.specs.Parts.Tables.{block_read, source_read, IsTakenOutOf};
 ghost use Rattle.aig_order.specs.Parts.Turns.{positions};
-ghost use Rattle.aig_order.specs.Undone.{IsMapFault, IsUndoneFrom, comment_behind, source_variables, undone};
+ghost use Rattle.aig_order.specs.Undone.{IsMapFault, IsUndoneFrom, comment_behind, places_recorded, source_variables};
+ghost use Rattle.aig_order.specs.Undone.{undone};
 
 use crate::confirmed::tells_comment;
 use crate::fault::MapFault;
 use crate::map_block::MapBlock;
 use crate::map_reading::read_block;
+use crate::recorded::{Recorded, take_out};
 use crate::turns::{positions, tells_order};
 use crate::undone::{SourceVariables, make_undone, source_variables};
 use aig_core::{Checked, Circuit, OutOfMemory, is_defined_once, is_in_binary_order};
@@ -40,24 +42,24 @@ fn check_source(alloc: Global, source: Circuit) -> Result<Checked, MapFault>
 fn has_image(
     alloc: Global,
     image: &Checked,
-    block: &MapBlock,
+    recorded: &Recorded,
     places: &[u32],
     comment: &[u8],
 ) -> Result<bool, OutOfMemory>
     requires ordered { IsInBinaryOrder image.now }
-    requires read { block_reading image.now ≡ Ok (block.now, comment.now) }
-    requires once { AreDistinct (map (λ (g : MappedGateRecord). g.place) block.now.gates) }
-    requires are { places.now ≡ positions block.now.gates }
-    requires differ { ExchangesDiffer block.now image.now }
-    ensures { IsWellFormed (undone block.now (comment_behind block.now comment.now) image.now)
-        → IfOk result (λ is. IsTrue is
-        ↔ IsMappedImage (undone block.now (comment_behind block.now comment.now) image.now) image.now) }
+    requires read { block_reading image.now ≡ Ok (block_read image.now, comment.now) }
+    requires once { AreDistinct (places_recorded (block_read image.now).gates) }
+    requires are { places.now ≡ positions (block_read image.now).gates }
+    requires taken { IsTakenOutOf (block_read image.now) recorded.now }
+    requires differ { ExchangesDiffer (block_read image.now) image.now }
+    ensures { IsWellFormed (source_read image.now comment.now)
+        → IfOk result (λ is. IsTrue is ↔ IsMappedImage (source_read image.now comment.now) image.now) }
 {
     let circuit = image.circuit();
-    if !tells_comment(block, comment) {
+    if !tells_comment(recorded, comment) {
         return Ok(false);
     }
-    tells_order(alloc, block, places, circuit)
+    tells_order(alloc, places, circuit)
 }
 
 /// The source, which is forged where it is well formed and its mapped image is another circuit than this one.
@@ -65,57 +67,61 @@ fn confirm(
     alloc: Global,
     source: Circuit,
     image: &Checked,
-    block: &MapBlock,
+    recorded: &Recorded,
     places: &[u32],
     comment: &[u8],
 ) -> Result<Circuit, MapFault>
     requires ordered { IsInBinaryOrder image.now }
-    requires read { block_reading image.now ≡ Ok (block.now, comment.now) }
-    requires once { AreDistinct (map (λ (g : MappedGateRecord). g.place) block.now.gates) }
-    requires are { places.now ≡ positions block.now.gates }
-    requires is { source ≡ undone block.now (comment_behind block.now comment.now) image.now }
-    requires differ { ExchangesDiffer block.now image.now }
+    requires read { block_reading image.now ≡ Ok (block_read image.now, comment.now) }
+    requires once { AreDistinct (places_recorded (block_read image.now).gates) }
+    requires are { places.now ≡ positions (block_read image.now).gates }
+    requires taken { IsTakenOutOf (block_read image.now) recorded.now }
+    requires is { source ≡ source_read image.now comment.now }
+    requires differ { ExchangesDiffer (block_read image.now) image.now }
     ensures ok { IfOk result (λ c. c ≡ source) }
     ensures image { IfOk result (λ c. IsWellFormed c → IsMappedImage c image.now) }
     ensures err { IfErr result (λ e. (e ≡ IsOutOfMemory)
         ⊎ ((e ≡ IsForged) × (¬ (IsWellFormed source × IsMappedImage source image.now)))) }
 {
-    match has_image(alloc, image, block, places, comment) {
+    match has_image(alloc, image, recorded, places, comment) {
         Ok(true) => Ok(source),
         Ok(false) => Err(MapFault::Forged),
         Err(_) => Err(MapFault::OutOfMemory),
     }
 }
 
-/// The source by the block that was read, if it is well formed; by its variables in their new order, and by the
-/// positions of gates there, place by place. Nothing else can be wrong with it than that a variable is defined twice.
+/// The source by the block that was read, if it is well formed; by its variables in their new order, the positions of
+/// gates there, place by place, and what else the block recorded. Nothing else can be wrong with it than that a
+/// variable is defined twice.
 fn source_by_places(
     alloc: Global,
     image: &Checked,
-    block: &MapBlock,
+    recorded: &Recorded,
     variables: &SourceVariables,
     places: &[u32],
     comment: &[u8],
 ) -> Result<Circuit, MapFault>
     requires ordered { IsInBinaryOrder image.now }
-    requires read { block_reading image.now ≡ Ok (block.now, comment.now) }
-    requires once { AreDistinct (map (λ (g : MappedGateRecord). g.place) block.now.gates) }
-    requires variables { variables.now.variables.items ≡ source_variables block.now }
-    requires are { places.now ≡ positions block.now.gates }
-    ensures ok { IfOk result (λ c. c ≡ undone block.now (comment_behind block.now comment.now) image.now) }
+    requires read { block_reading image.now ≡ Ok (block_read image.now, comment.now) }
+    requires once { AreDistinct (places_recorded (block_read image.now).gates) }
+    requires variables { variables.now.variables.items ≡ source_variables (block_read image.now) }
+    requires are { places.now ≡ positions (block_read image.now).gates }
+    requires taken { IsTakenOutOf (block_read image.now) recorded.now }
+    ensures ok { IfOk result (λ c. c ≡ source_read image.now comment.now) }
     ensures formed { IfOk result (λ c. AreDistinct (defined_variables c) → IsWellFormed c) }
     ensures image { IfOk result (λ c. IsWellFormed c → IsMappedImage c image.now) }
     ensures fault { IfErr result (λ e. IsMapFault image.now e) }
 {
-    let source = match make_undone(alloc, variables, places, block, comment, image.circuit()) {
+    let source = match make_undone(alloc, variables, places, recorded, comment, image.circuit()) {
         Ok(source) => source,
         Err(fault) => return Err(fault),
     };
-    confirm(alloc, source, image, block, places, comment)
+    confirm(alloc, source, image, recorded, places, comment)
 }
 
-/// The source by the block that was read, if it is well formed. The block, and the tables that are made of it, are let
-/// go here: to find out whether the source defines a variable twice takes memory of its own.
+/// The source by the block that was read, if it is well formed. The block is let go before there are gates of the
+/// source, and the tables that are made of it at the end: to find out whether the source defines a variable twice takes
+/// memory of its own.
 fn source_by_block(
     alloc: Global,
     image: &Checked,
@@ -133,11 +139,15 @@ fn source_by_block(
         Ok(variables) => variables,
         Err(fault) => return Err(fault),
     };
-    match positions(alloc, block.gates.as_slice()) {
-        Ok(places) => source_by_places(
+    let places = match positions(alloc, block.gates.as_slice()) {
+        Ok(places) => places,
+        Err(_) => return Err(MapFault::OutOfMemory),
+    };
+    match take_out(alloc, block) {
+        Ok(recorded) => source_by_places(
             alloc,
             image,
-            &block,
+            &recorded,
             &variables,
             places.as_slice(),
             comment,

@@ -1,7 +1,9 @@
 //! The undone circuit: what a circuit was before its conversion, by a map block.
-ghost use Rattle.std.specs.Prelude.{◌≡◌, ◌<◌, ◌⊎◌, ◌↔◌, true, Some, None, length, map, IfOk, IfErr, IsTrue, OnOk};
+ghost use Rattle.std.specs.Prelude.{◌≡◌, ◌<◌, ◌⊎◌, ◌↔◌, true, Some, None, List, length, map, IfOk, IfErr, IsTrue, OnOk};
+ghost use Rattle.std.specs.Prelude.{if◌then◌else◌};
 ghost use Rattle.std.specs.Bool.{OnTrue, OnFalse};
 ghost use Rattle.std.specs.List.{AllByRecursion};
+ghost use Rattle.aig_core.specs.declared.circuit.Gate.{Gate as GateRecord};
 ghost use Rattle.aig_core.specs.Wellformed.{AreDistinct};
 ghost use Rattle.aig_image.specs.Relabelled.{FitIntoLiterals, relabelled_gate};
 ghost use Rattle.aig_image.specs.Renumbering.{source_variable};
@@ -10,13 +12,15 @@ ghost use Rattle.aig_order.specs.declared.fault.MapFault.TheVariants.{Forged as 
 ghost use Rattle.aig_order.specs.declared.map_block.MappedGate.{MappedGate as MappedGateRecord};
 ghost use Rattle.aig_order.specs.MapReading.{HasCountsOf, IsWithinBounds};
 ghost use Rattle.aig_order.specs.Parts.Placed.{table_of, with_gates};
-ghost use Rattle.aig_order.specs.Parts.Had.{gate_had, gates_there, without_gates};
+ghost use Rattle.aig_order.specs.Parts.Had.{without_gates};
 ghost use Rattle.aig_order.specs.Parts.Confirmed.{DifferWhereExchanged, ExchangesDiffer};
+ghost use Rattle.aig_order.specs.Parts.Tables.{block_read, source_read, ArePut, IsTakenOutOf};
 ghost use Rattle.aig_order.specs.Parts.Turns.{positions};
-ghost use Rattle.aig_order.specs.Undone.{comment_behind, exchanges_recorded, source_variables, undone};
+ghost use Rattle.aig_order.specs.Undone.{places_recorded, source_variables};
 
 use crate::fault::MapFault;
 use crate::map_block::{MapBlock, MappedGate};
+use crate::recorded::Recorded;
 use aig_core::{Circuit, Gate, Listing, Lit, OutOfMemory, Var, copy_justice, copy_symbols};
 use aig_image::{Labels, NamesVariables, relabel};
 use std::alloc::Global;
@@ -132,17 +136,17 @@ fn exchanges_equal(exchanged: bool, gate: &Gate) -> bool
 /// Exchanges the operands of the gates that are recorded as exchanged, up to the first one with equal operands. Returns
 /// whether there is none.
 #[inline(never)]
-fn exchange_recorded(found: &mut [Gate], recorded: &[MappedGate]) -> bool
-    requires { length recorded.now ≡ length found.old }
-    ensures all { OnTrue result (found.new ≡ exchanged_by (exchanges_recorded recorded.now) found.old) }
-    ensures differ { IsTrue result ↔ DifferWhereExchanged found.old recorded.now }
+fn exchange_recorded(found: &mut [Gate], exchanged: &[bool]) -> bool
+    requires { length exchanged.now ≡ length found.old }
+    ensures all { OnTrue result (found.new ≡ exchanged_by exchanged.now found.old) }
+    ensures differ { IsTrue result ↔ DifferWhereExchanged found.old exchanged.now }
 {
-    for (position, gate) in recorded.iter().enumerate() {
+    for (position, is_exchanged) in exchanged.iter().enumerate() {
         let there = found[position];
-        if exchanges_equal(gate.exchanged, &there) {
+        if exchanges_equal(*is_exchanged, &there) {
             return false;
         }
-        found[position] = exchanged_if(gate.exchanged, there);
+        found[position] = exchanged_if(*is_exchanged, there);
     }
     true
 }
@@ -158,9 +162,7 @@ fn gates_at_positions(
     requires many { length places.now ≡ length gates.now }
     requires there { AllByRecursion (λ at. at < length gates.now) places.now }
     requires once { AreDistinct places.now }
-    ensures many { IfOk result (λ r. length r.items ≡ length gates.now) }
-    ensures put { IfOk result (λ r. taken r.items places.now
-        ≡ map (relabelled_gate (source_variable variables.now.variables.items)) gates.now) }
+    ensures { IfOk result (λ r. ArePut (source_variable variables.now.variables.items) gates.now places.now r.items) }
 {
     let none = Gate {
         var: Var(0),
@@ -178,22 +180,22 @@ fn source_gates(
     variables: &SourceVariables,
     gates: &[Gate],
     places: &[u32],
-    recorded: &[MappedGate],
+    exchanged: &[bool],
 ) -> Result<Listing<Gate>, MapFault>
     requires fit { FitIntoLiterals (source_variable variables.now.variables.items) }
-    requires are { places.now ≡ positions recorded.now }
-    requires many { length recorded.now ≡ length gates.now }
-    requires there { AllByRecursion (λ (g : MappedGateRecord). g.place < length gates.now) recorded.now }
-    requires once { AreDistinct (map (λ (g : MappedGateRecord). g.place) recorded.now) }
-    ensures ok { IfOk result (λ r. r ≡ map (relabelled_gate (source_variable variables.now.variables.items))
-        (map (gate_had gates.now) recorded.now)) }
-    ensures differ { OnOk result (DifferWhereExchanged
-        (gates_there (source_variable variables.now.variables.items) gates.now recorded.now) recorded.now) }
-    ensures err { IfErr result (λ e. (e ≡ IsOutOfMemory) ⊎ ((e ≡ IsForged) × (¬ DifferWhereExchanged
-        (gates_there (source_variable variables.now.variables.items) gates.now recorded.now) recorded.now))) }
+    requires many { length places.now ≡ length gates.now }
+    requires there { AllByRecursion (λ at. at < length gates.now) places.now }
+    requires once { AreDistinct places.now }
+    requires flags { length exchanged.now ≡ length gates.now }
+    ensures ok { IfOk result (λ r. (found : List GateRecord)
+        × ArePut (source_variable variables.now.variables.items) gates.now places.now found
+        × DifferWhereExchanged found exchanged.now × (r ≡ exchanged_by exchanged.now found)) }
+    ensures err { IfErr result (λ e. (e ≡ IsOutOfMemory) ⊎ ((e ≡ IsForged) × ((found : List GateRecord)
+        × ArePut (source_variable variables.now.variables.items) gates.now places.now found
+        × (¬ DifferWhereExchanged found exchanged.now)))) }
 {
     let mut found = gates_at_positions(alloc, variables, gates, places)?;
-    if exchange_recorded(found.as_mut_slice(), recorded) {
+    if exchange_recorded(found.as_mut_slice(), exchanged) {
         Ok(Listing::from_vec(found))
     } else {
         Err(MapFault::Forged)
@@ -203,12 +205,12 @@ fn source_gates(
 /// The comment behind a block, where there was a comment section.
 fn source_comment(
     alloc: Global,
-    block: &MapBlock,
+    has_comment: bool,
     comment: &[u8],
 ) -> Result<Option<Listing<u8>>, OutOfMemory>
-    ensures { IfOk result (λ r. r ≡ comment_behind block.now comment.now) }
+    ensures { IfOk result (λ r. r ≡ (if has_comment then Some comment.now else None)) }
 {
-    if !block.has_comment {
+    if !has_comment {
         return Ok(None);
     }
     Ok(Some(Listing::from_vec(Vec::from_slice(alloc, comment)?)))
@@ -217,14 +219,15 @@ fn source_comment(
 /// The circuit by the numbers of the image and without gates, with what a block records of the rest.
 fn without_gates(
     alloc: Global,
-    block: &MapBlock,
+    recorded: &Recorded,
     comment: &[u8],
     image: &Circuit,
 ) -> Result<Circuit, OutOfMemory>
-    ensures { IfOk result (λ c. c ≡ without_gates block.now (comment_behind block.now comment.now) image.now) }
+    ensures { IfOk result (λ c. c ≡ without_gates recorded.now.max_var
+        (if recorded.now.has_comment then Some comment.now else None) image.now) }
 {
     Ok(Circuit {
-        max_var: block.max_var,
+        max_var: recorded.max_var,
         inputs: image.inputs.copy(alloc)?,
         latches: image.latches.copy(alloc)?,
         outputs: image.outputs.copy(alloc)?,
@@ -234,7 +237,7 @@ fn without_gates(
         fairness: image.fairness.copy(alloc)?,
         gates: Listing::new(alloc),
         symbols: copy_symbols(alloc, &image.symbols)?,
-        comment: source_comment(alloc, block, comment)?,
+        comment: source_comment(alloc, recorded.has_comment, comment)?,
     })
 }
 
@@ -244,28 +247,29 @@ pub(crate) fn make_undone(
     alloc: Global,
     variables: &SourceVariables,
     places: &[u32],
-    block: &MapBlock,
+    recorded: &Recorded,
     comment: &[u8],
     image: &Circuit,
 ) -> Result<Circuit, MapFault>
-    requires counts { HasCountsOf block.now image.now }
-    requires bounds { IsWithinBounds block.now }
-    requires once { AreDistinct (map (λ (g : MappedGateRecord). g.place) block.now.gates) }
-    requires variables { variables.now.variables.items ≡ source_variables block.now }
-    requires are { places.now ≡ positions block.now.gates }
-    ensures ok { IfOk result (λ c. c ≡ undone block.now (comment_behind block.now comment.now) image.now) }
-    ensures differ { OnOk result (ExchangesDiffer block.now image.now) }
+    requires counts { HasCountsOf (block_read image.now) image.now }
+    requires bounds { IsWithinBounds (block_read image.now) }
+    requires once { AreDistinct (places_recorded (block_read image.now).gates) }
+    requires variables { variables.now.variables.items ≡ source_variables (block_read image.now) }
+    requires are { places.now ≡ positions (block_read image.now).gates }
+    requires taken { IsTakenOutOf (block_read image.now) recorded.now }
+    ensures ok { IfOk result (λ c. c ≡ source_read image.now comment.now) }
+    ensures differ { OnOk result (ExchangesDiffer (block_read image.now) image.now) }
     ensures err { IfErr result (λ e. (e ≡ IsOutOfMemory)
-        ⊎ ((e ≡ IsForged) × (¬ ExchangesDiffer block.now image.now))) }
+        ⊎ ((e ≡ IsForged) × (¬ ExchangesDiffer (block_read image.now) image.now))) }
 {
     let gates = source_gates(
         alloc,
         variables,
         image.gates.as_slice(),
         places,
-        block.gates.as_slice(),
+        recorded.exchanged.as_slice(),
     )?;
-    let others = without_gates(alloc, block, comment, image)?;
+    let others = without_gates(alloc, recorded, comment, image)?;
     Ok(Circuit {
         gates,
         ..relabel(variables, others)

@@ -17,6 +17,7 @@ use Rattle.aig_order.specs.declared.map_block.MapBlock.{MapBlock}
 use Rattle.aig_order.specs.MapBlock.{first_row, variable_row, gate_row, rows_of, last_line, block_text}
 use Rattle.aig_order.specs.MapSpelling.{after_text}
 use Rattle.aig_order.specs.MapReading.{rest_of_block, block_reading, HasCountsOf, IsWithinBounds}
+use Rattle.aig_order.specs.Parts.Tables.{block_in, block_read}
 use Rattle.aig_order.proofs.BlockReading.Lines.{line, IsGoodGate, variables_are_exact, gates_are_exact}
 use Rattle.aig_order.proofs.BlockReading.Entries.{AreLinesOf, lines, there, entries_are_read, entries_read}
 use Rattle.aig_order.proofs.BlockReading.FirstLine.{IsFront, front_is_read, front_reads, text_reads}
@@ -169,3 +170,8 @@ read_is_within x b rest h = let r = block_reads x b rest h in (r.1, r.2)
 pub read_is_text : (x : Circuit) (b : MapBlock) (rest : List ℕ) → block_reading x ≡ Ok (b, rest)
     → x.comment ≡ Some (block_text b ++ rest)
 read_is_text x b rest h = (block_reads x b rest h).0
+
+-- and that one is the block that is read of the circuit
+pub read_is_block : (x : Circuit) (b : MapBlock) (rest : List ℕ) → block_reading x ≡ Ok (b, rest) → block_read x ≡ b
+unfolding block_read
+read_is_block x b rest h = ap block_in h

@@ -23,7 +23,7 @@ pub confirmed_by_order : (x : Circuit) (b : MapBlock) (rest : List ℕ) → IsWe
     → IsWellFormed (undone b (comment_behind b rest) x)
     → IsMappedImage (undone b (comment_behind b rest) x) x
     ↔ (IsLeastReadyOrder (undone b (comment_behind b rest) x) (positions b.gates) × TellsExchanges x.gates b.gates
-    × TellsComment b rest)
+    × TellsComment b.has_comment rest)
 confirmed_by_order x b rest good ordered read apart from_good =
     let from : Circuit = undone b (comment_behind b rest) x in
     let within = read_is_within x b rest read in

@@ -1,5 +1,5 @@
 -- Operands that are recorded as exchanged differ in the source exactly where they differ in the image.
-use Rattle.std.proofs.Common.{◌≡◌, ◌↔◌, ◌<◌, ℕ, List, true, length, get_or, sym, ap, subst, ◌∙◌, arith}
+use Rattle.std.proofs.Common.{◌≡◌, ◌↔◌, ◌<◌, ℕ, List, Bool, true, false, length, get_or, sym, ap, subst, ◌∙◌, arith}
 use Rattle.std.proofs.lemmas.List.{get_or-map, length-map}
 use Rattle.aig_core.specs.declared.circuit.Gate.{Gate}
 use Rattle.aig_core.specs.declared.circuit.Circuit.{Circuit}
@@ -14,22 +14,20 @@ use Rattle.aig_order.specs.declared.map_block.MappedGate.{MappedGate}
 use Rattle.aig_order.specs.declared.map_block.MapBlock.{MapBlock}
 use Rattle.aig_order.specs.Parts.Confirmed.{DifferWhereExchanged, ExchangesDiffer, HasTwoOperands, TellsExchanges}
 use Rattle.aig_order.specs.Parts.Had.{gates_there}
-use Rattle.aig_order.specs.Undone.{comment_behind, places_recorded, source_variables, undone}
+use Rattle.aig_order.specs.Undone.{comment_behind, exchanges_recorded, places_recorded, source_variables, undone}
 use Rattle.aig_order.proofs.Restoring.Again.{names}
 use Rattle.aig_order.proofs.Restoring.Places.{IsFit}
 use Rattle.aig_order.proofs.Sources.RecordedAt.{none_recorded, recorded_at}
 
 -- what is said of the parts of a block and a circuit is said of these
-pub exchanges_of_same : (b : MapBlock) (x : Circuit) (vs : List ℕ) (gates : List Gate) (recorded : List MappedGate)
-    → vs ≡ source_variables b → gates ≡ x.gates → recorded ≡ b.gates
-    → DifferWhereExchanged (gates_there (source_variable vs) gates recorded) recorded ↔ ExchangesDiffer b x
-exchanges_of_same b x vs gates recorded vs_are gates_are recorded_are =
-    let Differ : List ℕ → List Gate → List MappedGate → Type 0 =
-    λ us gs ms. DifferWhereExchanged (gates_there (source_variable us) gs ms) ms in
+pub exchanges_of_same : (b : MapBlock) (x : Circuit) (found : List Gate) (flags : List Bool)
+    → found ≡ gates_there (source_variable (source_variables b)) x.gates b.gates → flags ≡ exchanges_recorded b.gates
+    → DifferWhereExchanged found flags ↔ ExchangesDiffer b x
+exchanges_of_same b x found flags found_are flags_are =
     let All : Type 0 = ExchangesDiffer b x in
-    subst (λ us. Differ us gates recorded ↔ All) (sym vs_are)
-    (subst (λ gs. Differ (source_variables b) gs recorded ↔ All) (sym gates_are)
-    (subst (λ ms. Differ (source_variables b) x.gates ms ↔ All) (sym recorded_are) (λ d. d, λ d. d)))
+    subst (λ gs. DifferWhereExchanged gs flags ↔ All) (sym found_are)
+    (subst (λ es. DifferWhereExchanged (gates_there (source_variable (source_variables b)) x.gates b.gates) es ↔ All)
+    (sym flags_are) (λ d. d, λ d. d))
 
 module _ (b : MapBlock) (x : Circuit) where
   abbrev g : ℕ → ℕ
@@ -50,11 +48,18 @@ module _ (b : MapBlock) (x : Circuit) where
       (get_or-map (λ p. get_or x.gates p no_gate) places i 0 no_gate below
       ∙ ap (at x.gates) (get_or-map (λ (m : MappedGate). m.place) b.gates i none_recorded 0 low))
 
+  flag_at : (i : ℕ) → i < length b.gates
+      → get_or (exchanges_recorded b.gates) i false ≡ (recorded_at b.gates i).exchanged
+  flag_at i low = get_or-map (λ (m : MappedGate). m.exchanged) b.gates i none_recorded false low
+
+  flags_many : length (exchanges_recorded b.gates) ≡ length b.gates
+  flags_many = length-map b.gates (λ (m : MappedGate). m.exchanged)
+
   -- equal operands have equal labels
   pub image_differs : ExchangesDiffer b x → TellsExchanges x.gates b.gates
   image_differs differ =
       by_places (λ (m : MappedGate). m.exchanged ≡ true → HasTwoOperands (at x.gates m.place)) none_recorded b.gates
-      (λ i low exchanged equal. differ i low exchanged
+      (λ i low exchanged equal. differ i (omega (arith, low, flags_many)) (flag_at i low ∙ exchanged)
       (ap (λ (h : Gate). h.left) (gate_there i low) ∙ ap (relabelled_literal g) equal
       ∙ sym (ap (λ (h : Gate). h.right) (gate_there i low))))
 
@@ -62,7 +67,8 @@ module _ (b : MapBlock) (x : Circuit) where
   pub source_differs : (rest : List ℕ) → IsFit b x → IsWellFormed x
       → AreDistinct (defined_variables (undone b (comment_behind b rest) x))
       → TellsExchanges x.gates b.gates → ExchangesDiffer b x
-  source_differs rest fit good once tells i low exchanged equal =
+  source_differs rest fit good once tells i counted exchanged equal =
+      let low : i < length b.gates = omega (arith, counted, flags_many) in
       let f : ℕ → ℕ = renumbered (source_variables b) in
       let within = at_place (λ (m : MappedGate). IsVariableUpTo b.max_var m.var × (m.place < length b.gates))
       none_recorded b.gates fit.bounds.gates i low in
@@ -74,5 +80,5 @@ module _ (b : MapBlock) (x : Circuit) where
       sym (ap (λ (h : Gate). h.left) (gate_there i low)) ∙ equal
       ∙ ap (λ (h : Gate). h.right) (gate_there i low) in
       at_place (λ (m : MappedGate). m.exchanged ≡ true → HasTwoOperands (at x.gates m.place)) none_recorded b.gates
-      tells i low exchanged
+      tells i low (sym (flag_at i low) ∙ exchanged)
       (sym (ap (λ (h : Gate). h.left) again) ∙ ap (relabelled_literal f) same ∙ ap (λ (h : Gate). h.right) again)

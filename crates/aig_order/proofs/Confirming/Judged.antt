@@ -19,20 +19,20 @@ module _ (x : Circuit) (b : MapBlock) (rest : List ℕ) (good : IsWellFormed x) 
   from = undone b (comment_behind b rest) x
 
   parts : IsMappedImage from x
-      ↔ (IsLeastReadyOrder from (positions b.gates) × TellsExchanges x.gates b.gates × TellsComment b rest)
+      ↔ (IsLeastReadyOrder from (positions b.gates) × TellsExchanges x.gates b.gates × TellsComment b.has_comment rest)
   parts = confirmed_by_order x b rest good ordered read apart formed
 
   refuted : ¬ IsMappedImage from x → IsTrue false ↔ IsMappedImage from x
   refuted never = (λ (e : IsTrue false). absurd (true≢false (sym e)), λ (is : IsMappedImage from x). absurd (never is))
 
   -- something follows a block that tells of no comment section
-  pub by_comment : (recorded : Bool) → (IsTrue recorded ↔ TellsComment b rest) → recorded ≡ false
+  pub by_comment : (recorded : Bool) → (IsTrue recorded ↔ TellsComment b.has_comment rest) → recorded ≡ false
       → IsTrue false ↔ IsMappedImage from x
   by_comment recorded tells is =
       refuted (λ (image : IsMappedImage from x). true≢false (sym (tells.1 (parts.0 image).2) ∙ is))
 
   -- where neither is so, the order decides
-  pub by_order : TellsComment b rest → TellsExchanges x.gates b.gates → (recorded : Bool)
+  pub by_order : TellsComment b.has_comment rest → TellsExchanges x.gates b.gates → (recorded : Bool)
       → (IsTrue recorded ↔ IsLeastReadyOrder from (positions b.gates)) → IsTrue recorded ↔ IsMappedImage from x
   by_order comment exchanges recorded tells = (
     λ (t : IsTrue recorded). parts.1 (tells.0 t, exchanges, comment),

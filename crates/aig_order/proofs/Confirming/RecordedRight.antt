@@ -40,7 +40,7 @@ none_empty (Some text) = inl refl
 
 -- what is recorded rightly of an image
 abbrev IsRight : Circuit → MapBlock × List ℕ → Type 0
-IsRight x recorded = TellsExchanges x.gates recorded.0.gates × TellsComment recorded.0 recorded.1
+IsRight x recorded = TellsExchanges x.gates recorded.0.gates × TellsComment recorded.0.has_comment recorded.1
 
 module _ (c : Circuit) (order : List ℕ) (good : IsWellFormed c) (least : IsLeastReadyOrder c order) where
   abbrev vs : List ℕ
@@ -88,7 +88,7 @@ module _ (c : Circuit) (order : List ℕ) (good : IsWellFormed c) (least : IsLea
 -- what is read of a mapped image is recorded rightly
 pub recorded_right : (g x : Circuit) (b : MapBlock) (rest : List ℕ) → IsWellFormed g → IsMappedImage g x
     → block_reading x ≡ Ok (b, rest)
-    → TellsExchanges x.gates b.gates × TellsComment b rest
+    → TellsExchanges x.gates b.gates × TellsComment b.has_comment rest
 recorded_right g x b rest good (order, least, is) read =
     let made : MapBlock × List ℕ = (map_block order g, unwrap_or g.comment []) in
     let first : block_reading x ≡ Ok made = ap block_reading is ∙ mapped_reading g order good least in

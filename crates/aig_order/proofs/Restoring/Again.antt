@@ -30,9 +30,8 @@ use Rattle.aig_order.specs.declared.map_block.MappedGate.{MappedGate}
 use Rattle.aig_order.specs.declared.map_block.MapBlock.{MapBlock}
 use Rattle.aig_order.specs.MapBlock.{block_text, mapped_gate, map_block, mapped_by}
 use Rattle.aig_order.specs.Parts.Confirmed.{TellsExchanges, TellsComment}
-use Rattle.aig_order.specs.Parts.Had.{gate_had}
 use Rattle.aig_order.specs.Undone.{comment_behind, exchanges_recorded, undone}
-use Rattle.aig_order.proofs.Sources.RecordedAt.{none_recorded, recorded_at}
+use Rattle.aig_order.proofs.Sources.RecordedAt.{gate_had, none_recorded, recorded_at}
 use Rattle.aig_order.proofs.Restoring.Places.{IsFit, places, order, too}
 use Rattle.aig_order.proofs.Restoring.Source.{vs, source, start, as_many, new_is, inputs_are, latches_are}
 use Rattle.aig_order.proofs.Restoring.Source.{variable_there, gates_are, back}
@@ -156,8 +155,8 @@ module _ (b : MapBlock) (x : Circuit) (rest : List ℕ) (fit : IsFit b x) (good 
       }
 
   -- and the image
-  pub image_again : x.comment ≡ Some (block_text b ++ rest) → TellsExchanges x.gates b.gates → TellsComment b rest
-      → mapped_by (order b x fit) from ≡ x
+  pub image_again : x.comment ≡ Some (block_text b ++ rest) → TellsExchanges x.gates b.gates
+      → TellsComment b.has_comment rest → mapped_by (order b x fit) from ≡ x
   image_again begins exchanges tells =
       let text : Some (block_text (map_block (order b x fit) from) ++ unwrap_or comment []) ≡ x.comment =
       ap₂ (λ (block : MapBlock) (behind : List ℕ). Some (block_text block ++ behind)) (block_again exchanges)

@@ -16,11 +16,10 @@ use Rattle.aig_image.proofs.Imaging.OneByOne.{ordered_at}
 use Rattle.aig_image.proofs.Relabelling.Formed.{variable_there as carried_variable}
 use Rattle.aig_order.specs.declared.map_block.MappedGate.{MappedGate}
 use Rattle.aig_order.specs.declared.map_block.MapBlock.{MapBlock}
-use Rattle.aig_order.specs.Parts.Had.{gate_had}
 use Rattle.aig_order.specs.Undone.{undone}
 use Rattle.aig_order.proofs.Restoring.Places.{IsFit, places, order, are, too, position_at}
 use Rattle.aig_order.proofs.Restoring.Source.{vs, source, start, gates_are, gates_many, back}
-use Rattle.aig_order.proofs.Sources.RecordedAt.{none_recorded, recorded_at}
+use Rattle.aig_order.proofs.Sources.RecordedAt.{gate_had, none_recorded, recorded_at}
 
 -- a literal over the variable of a gate's operand, as it was carried back
 module _ (g : ℕ → ℕ) (h : Gate) (v : ℕ) where

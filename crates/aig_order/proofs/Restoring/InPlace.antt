@@ -1,5 +1,5 @@
 -- Gates that are put at positions one by one, and exchanged where they stand.
-use Rattle.std.proofs.Common.{◌≡◌, ◌+◌, ◌<◌, ◌≤◌, ℕ, zero, suc, List, [], ◌∷◌, ◌++◌, Bool, true, length}
+use Rattle.std.proofs.Common.{◌≡◌, ◌+◌, ◌<◌, ◌≤◌, ℕ, zero, suc, List, [], ◌∷◌, ◌++◌, Bool, true, false, length}
 use Rattle.std.proofs.Common.{get_or, map, set, take}
 use Rattle.std.proofs.Common.{refl, sym, ap, ap₂, subst, ◌∙◌, inl, inr, ⊎_elim, arith}
 use Rattle.std.proofs.Common.{get_or-set_same, get_or-set_other}
@@ -10,10 +10,7 @@ use Rattle.aig_core.specs.Wellformed.{AreDistinct, IsAmong}
 use Rattle.aig_core.proofs.Ordering.Ranked.{at, no_gate}
 use Rattle.aig_image.specs.Reordered.{exchanged_by, exchanged_if, taken}
 use Rattle.aig_image.proofs.Relabelling.Standing.{somewhere, same_place}
-use Rattle.aig_order.specs.declared.map_block.MappedGate.{MappedGate}
 use Rattle.aig_order.specs.Parts.Confirmed.{DifferWhereExchanged, HasTwoOperands, gate_in_place}
-use Rattle.aig_order.specs.Undone.{exchanges_recorded}
-use Rattle.aig_order.proofs.Sources.RecordedAt.{none_recorded, recorded_at}
 
 -- what is put at another position is not taken
 not_taken : (found : List Gate) (new : Gate) (at_new : ℕ) (positions : List ℕ) → ¬ IsAmong at_new positions
@@ -54,71 +51,64 @@ one_more_put h gates found positions k g new many once there fits is made before
     ∙ sym (map-append h (take k gates) (get_or gates k g ∷ []))
     ∙ ap (map h) (sym (take_more gates k g there))
 
-module _ (e : MappedGate → Bool) where
-  -- one gate more is exchanged where it stands
-  next_exchanged : (k : ℕ) (ms : List MappedGate) (gs : List Gate) → k < length ms → k < length gs
-      → exchanged_by (map e (take (suc k) ms)) gs
-      ≡ set (exchanged_by (map e (take k ms)) gs) k (exchanged_if (e (recorded_at ms k)) (at gs k))
-  next_exchanged k [] gs low low_too = absurd (omega (arith, low))
-  next_exchanged k (m ∷ ms) [] low low_too = absurd (omega (arith, low_too))
-  next_exchanged zero (m ∷ ms) (g ∷ gs) low low_too = refl
-  next_exchanged (suc k) (m ∷ ms) (g ∷ gs) low low_too =
-      ap (λ (hs : List Gate). exchanged_if (e m) g ∷ hs)
-      (next_exchanged k ms gs (omega (arith, low)) (omega (arith, low_too)))
+-- one gate more is exchanged where it stands
+next_exchanged : (k : ℕ) (es : List Bool) (gs : List Gate) → k < length es → k < length gs
+    → exchanged_by (take (suc k) es) gs
+    ≡ set (exchanged_by (take k es) gs) k (exchanged_if (get_or es k false) (at gs k))
+next_exchanged k [] gs low low_too = absurd (omega (arith, low))
+next_exchanged k (e ∷ es) [] low low_too = absurd (omega (arith, low_too))
+next_exchanged zero (e ∷ es) (g ∷ gs) low low_too = refl
+next_exchanged (suc k) (e ∷ es) (g ∷ gs) low low_too =
+    ap (λ (hs : List Gate). exchanged_if e g ∷ hs)
+    (next_exchanged k es gs (omega (arith, low)) (omega (arith, low_too)))
 
-  -- what is not exchanged yet stands as it stood
-  still_there : (k : ℕ) (ms : List MappedGate) (gs : List Gate) → at (exchanged_by (map e (take k ms)) gs) k ≡ at gs k
-  still_there zero ms gs = refl
-  still_there (suc k) [] gs = refl
-  still_there (suc k) (m ∷ ms) [] = refl
-  still_there (suc k) (m ∷ ms) (g ∷ gs) = still_there k ms gs
+-- what is not exchanged yet stands as it stood
+still_there : (k : ℕ) (es : List Bool) (gs : List Gate) → at (exchanged_by (take k es) gs) k ≡ at gs k
+still_there zero es gs = refl
+still_there (suc k) [] gs = refl
+still_there (suc k) (e ∷ es) [] = refl
+still_there (suc k) (e ∷ es) (g ∷ gs) = still_there k es gs
 
 as_many_exchanged : (flags : List Bool) (gs : List Gate) → length (exchanged_by flags gs) ≡ length gs
 as_many_exchanged [] gs = refl
 as_many_exchanged (e ∷ es) [] = refl
 as_many_exchanged (e ∷ es) (g ∷ gs) = ap suc (as_many_exchanged es gs)
 
--- a gate that is looked at, and then exchanged where it is recorded so
-module _ (recorded : List MappedGate) (gs found : List Gate) (k : ℕ) (m : MappedGate) (g : Gate)
-    (low : k < length recorded) (many : length recorded ≡ length gs) (is : m ≡ get_or recorded k m)
-    (before : found ≡ exchanged_by (exchanges_recorded (take k recorded)) gs) (here : g ≡ get_or found k g) where
+-- a gate that is looked at, and then exchanged where its flag says so
+module _ (flags : List Bool) (gs found : List Gate) (k : ℕ) (g : Gate) (low : k < length flags)
+    (many : length flags ≡ length gs) (before : found ≡ exchanged_by (take k flags) gs)
+    (here : g ≡ get_or found k g) where
   abbrev AreEqual : Type 0
-  AreEqual = (m.exchanged ≡ true) × (g.left ≡ g.right)
-
-  recorded_is : m ≡ recorded_at recorded k
-  recorded_is = is ∙ get_or_default recorded k m none_recorded low
+  AreEqual = (get_or flags k false ≡ true) × (g.left ≡ g.right)
 
   gate_is : g ≡ at gs k
   gate_is =
-      let long = ap length before ∙ as_many_exchanged (exchanges_recorded (take k recorded)) gs in
+      let long = ap length before ∙ as_many_exchanged (take k flags) gs in
       here ∙ get_or_default found k g no_gate (omega (arith, low, many, long))
-      ∙ ap (λ (hs : List Gate). at hs k) before ∙ still_there (λ (x : MappedGate). x.exchanged) k recorded gs
+      ∙ ap (λ (hs : List Gate). at hs k) before ∙ still_there k flags gs
 
-  pub one_more_exchanged : (new : Gate) → new ≡ exchanged_if m.exchanged g
-      → set found k new ≡ exchanged_by (exchanges_recorded (take (k + 1) recorded)) gs
+  pub one_more_exchanged : (new : Gate) → new ≡ exchanged_if (get_or flags k false) g
+      → set found k new ≡ exchanged_by (take (k + 1) flags) gs
   one_more_exchanged new made =
-      let e : MappedGate → Bool = λ (x : MappedGate). x.exchanged in
       let next : k + 1 ≡ suc k = omega arith in
       ap₂ (λ (hs : List Gate) (h : Gate). set hs k h) before
-      (made ∙ ap₂ (λ (x : MappedGate) (h : Gate). exchanged_if x.exchanged h) recorded_is gate_is)
-      ∙ sym (next_exchanged e k recorded gs low (omega (arith, low, many)))
-      ∙ ap (λ n. exchanged_by (exchanges_recorded (take n recorded)) gs) (sym next)
+      (made ∙ ap (exchanged_if (get_or flags k false)) gate_is)
+      ∙ sym (next_exchanged k flags gs low (omega (arith, low, many)))
+      ∙ ap (λ n. exchanged_by (take n flags) gs) (sym next)
 
-  pub not_all_differ : AreEqual → ¬ DifferWhereExchanged gs recorded
+  pub not_all_differ : AreEqual → ¬ DifferWhereExchanged gs flags
   not_all_differ equal differ =
-      differ k low (subst (λ (x : MappedGate). x.exchanged ≡ true) recorded_is equal.0)
-      (subst (λ (h : Gate). h.left ≡ h.right) gate_is equal.1)
+      differ k low equal.0 (subst (λ (h : Gate). h.left ≡ h.right) gate_is equal.1)
 
   pub one_more_differs : ¬ AreEqual
-      → ((i : ℕ) → i < k → (recorded_at recorded i).exchanged ≡ true → HasTwoOperands (gate_in_place gs i))
-      → (i : ℕ) → i < k + 1 → (recorded_at recorded i).exchanged ≡ true → HasTwoOperands (gate_in_place gs i)
+      → ((i : ℕ) → i < k → get_or flags i false ≡ true → HasTwoOperands (gate_in_place gs i))
+      → (i : ℕ) → i < k + 1 → get_or flags i false ≡ true → HasTwoOperands (gate_in_place gs i)
   one_more_differs two differ i below exchanged =
       ⊎_elim (λ (l : i < k). differ i l exchanged)
       (λ (l : k ≤ i).
       let same : k ≡ i = omega (arith, l, below) in
       λ equal. two (
-        subst (λ (x : MappedGate). x.exchanged ≡ true) (sym recorded_is)
-            (subst (λ j. (recorded_at recorded j).exchanged ≡ true) (sym same) exchanged),
+        subst (λ j. get_or flags j false ≡ true) (sym same) exchanged,
         subst (λ (h : Gate). h.left ≡ h.right) (sym gate_is)
             (subst (λ j. (at gs j).left ≡ (at gs j).right) (sym same) equal),
       ))

@@ -25,11 +25,11 @@ use Rattle.aig_image.proofs.Relabelling.Restored.{defined_in_order}
 use Rattle.aig_image.proofs.Relabelling.Standing.{at_place}
 use Rattle.aig_order.specs.declared.map_block.MappedGate.{MappedGate}
 use Rattle.aig_order.specs.declared.map_block.MapBlock.{MapBlock}
-use Rattle.aig_order.specs.Parts.Had.{gate_had, without_gates}
+use Rattle.aig_order.specs.Parts.Had.{without_gates}
 use Rattle.aig_order.specs.Undone.{exchanges_recorded, places_recorded, source_variables, undone, variable_at_place}
 use Rattle.aig_order.proofs.Restoring.Places.{IsFit, places, order, are, too, by_position, row_in_range}
 use Rattle.aig_order.proofs.Restoring.Places.{variables_recorded}
-use Rattle.aig_order.proofs.Sources.RecordedAt.{none_recorded, recorded_at}
+use Rattle.aig_order.proofs.Sources.RecordedAt.{gate_had, none_recorded, recorded_at}
 
 -- numbers from 1 on, carried back, are the variables in a row
 carried : (vs : List ℕ) → map (source_variable vs) (range_with_len 1 (length vs)) ≡ vs
@@ -60,7 +60,7 @@ gates_had gates recorded =
 
 -- these gates and what there is beside gates, by the variables of the source, are undone
 pub undone_is : (b : MapBlock) (comment : Option (List ℕ)) (x : Circuit)
-    → record (relabelled (source_variable (source_variables b)) (without_gates b comment x)) {
+    → record (relabelled (source_variable (source_variables b)) (without_gates b.max_var comment x)) {
       gates = map (relabelled_gate (source_variable (source_variables b))) (map (gate_had x.gates) b.gates);
     } ≡ undone b comment x
 undone_is b comment x =

@@ -1,6 +1,7 @@
 use Rattle.std.proofs.Common.{◌≡◌, ◌+◌, ◌↔◌, length, IsTrue, ap, sym, ◌∙◌, arith}
 use Rattle.std.proofs.lemmas.Result.{IfOk-weaker}
 use Rattle.aig_core.specs.Order.{IsLeastReadyOrder}
+use Rattle.aig_order.specs.Parts.Tables.{block_read}
 use Rattle.aig_order.specs.Parts.Turns.{positions, AreTakenInTurn}
 use Rattle.aig_order.specs.Undone.{undone}
 use Rattle.aig_order.proofs.Confirming.PositionsPut.{positions_many}
@@ -9,18 +10,18 @@ use Rattle.aig_order.proofs.turns.tells_order.Goals as goal
 
 pub are_taken_in_turn-requires-clause-few : goal.are_taken_in_turn-requires-clause-few
 are_taken_in_turn-requires-clause-few c =
-    let gates = c.args.block.now.gates in
+    let gates = (block_read c.args.image.now).gates in
     let many : length c.args.places.now ≡ length gates = ap length c.requires.are ∙ positions_many gates in
     omega (arith, many, c.requires.bounds.counts, c.requires.bounds.max_var)
 
 pub are_taken_in_turn-requires-clause-many : goal.are_taken_in_turn-requires-clause-many
 are_taken_in_turn-requires-clause-many c =
-    ap length c.requires.are ∙ positions_many c.args.block.now.gates
+    ap length c.requires.are ∙ positions_many (block_read c.args.image.now).gates
     ∙ c.requires.counts.gates ∙ ap length (sym c.as_slice.ensures)
 
 pub returns : goal.returns
 returns c = λ comment once.
-    let b = c.args.block.now in
+    let b = block_read c.args.image.now in
     let x = c.args.image.now in
     let start : 1 + c.len.result + c.len-2.result ≡ 1 + length x.inputs + length x.latches =
     omega (arith, c.len.ensures, c.len-2.ensures) in
@@ -34,7 +35,7 @@ returns c = λ comment once.
       ordered = c.requires.ordered;
       counts = c.requires.counts;
       bounds = c.requires.bounds;
-      once = c.requires.places;
+      once = c.requires.once;
     })
     once (1 + c.len.result + c.len-2.result) c.as_slice.result.now c.args.places.now recorded
     start c.as_slice.ensures c.requires.are is)

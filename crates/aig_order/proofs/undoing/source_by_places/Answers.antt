@@ -2,11 +2,12 @@ use Rattle.std.proofs.Common.{◌≡◌, ◌⊎◌, ◌∙◌, ap, subst, sym}
 use Rattle.std.proofs.lemmas.Result.{IfOk-weaker}
 use Rattle.aig_core.specs.declared.circuit.Circuit.{Circuit}
 use Rattle.aig_core.specs.Wellformed.{AreDistinct, IsWellFormed, defined_variables}
-use Rattle.aig_core.specs.BinaryOrder.{IsInBinaryOrder}
-use Rattle.aig_order.specs.MapReading.{HasCountsOf}
+use Rattle.aig_order.specs.MapReading.{HasCountsOf, IsWithinBounds}
 use Rattle.aig_order.specs.declared.fault.MapFault.TheVariants.{Forged, OutOfMemory}
 use Rattle.aig_order.specs.Parts.Confirmed.{ExchangesDiffer}
-use Rattle.aig_order.specs.Undone.{comment_behind, undone}
+use Rattle.aig_order.specs.Parts.Tables.{block_read, source_read, IsTakenOutOf}
+use Rattle.aig_order.specs.Parts.Turns.{positions}
+use Rattle.aig_order.specs.Undone.{comment_behind, places_recorded, source_variables}
 use Rattle.aig_order.proofs.BlockReading.Block.{read_is_within}
 use Rattle.aig_order.proofs.Restoring.Formed.{well_formed_again}
 use Rattle.aig_order.proofs.Sources.Refused.{of_exchanges, of_confirmed}
@@ -14,30 +15,62 @@ use Rattle.aig_order.proofs.undoing.source_by_places.Goals as goal
 
 pub make_undone-requires-clause-counts : goal.make_undone-requires-clause-counts
 make_undone-requires-clause-counts c =
-    subst (HasCountsOf c.args.block.now) (sym c.circuit.ensures.value)
-    (read_is_within c.args.image.now c.args.block.now c.args.comment.now c.requires.read).0
+    let image = c.args.image.now in
+    subst (λ (x : Circuit). HasCountsOf (block_read x) x) (sym c.circuit.ensures.value)
+    (read_is_within image (block_read image) c.args.comment.now c.requires.read).0
 
 pub make_undone-requires-clause-bounds : goal.make_undone-requires-clause-bounds
 make_undone-requires-clause-bounds c =
-    (read_is_within c.args.image.now c.args.block.now c.args.comment.now c.requires.read).1
+    let image = c.args.image.now in
+    subst (λ (x : Circuit). IsWithinBounds (block_read x)) (sym c.circuit.ensures.value)
+    (read_is_within image (block_read image) c.args.comment.now c.requires.read).1
+
+pub make_undone-requires-clause-once : goal.make_undone-requires-clause-once
+make_undone-requires-clause-once c =
+    subst (λ (x : Circuit). AreDistinct (places_recorded (block_read x).gates)) (sym c.circuit.ensures.value)
+    c.requires.once
+
+pub make_undone-requires-clause-variables : goal.make_undone-requires-clause-variables
+make_undone-requires-clause-variables c =
+    c.requires.variables ∙ ap (λ (x : Circuit). source_variables (block_read x)) (sym c.circuit.ensures.value)
+
+pub make_undone-requires-clause-are : goal.make_undone-requires-clause-are
+make_undone-requires-clause-are c =
+    c.requires.are ∙ ap (λ (x : Circuit). positions (block_read x).gates) (sym c.circuit.ensures.value)
+
+pub make_undone-requires-clause-taken : goal.make_undone-requires-clause-taken
+make_undone-requires-clause-taken c =
+    subst (λ (x : Circuit). IsTakenOutOf (block_read x) c.args.recorded.now) (sym c.circuit.ensures.value)
+    c.requires.taken
 
 pub returns-in-Err-clause-fault : goal.returns-in-Err-clause-fault
 returns-in-Err-clause-fault c =
-    of_exchanges c.args.image.now c.args.block.now c.args.comment.now c.requires.ordered c.requires.read c.in-Err.fault
+    let image = c.args.image.now in
+    of_exchanges image (block_read image) c.args.comment.now c.requires.ordered c.requires.read c.in-Err.fault
     c.circuit.ensures.well_formed
     (subst (λ (x : Circuit). (c.in-Err.fault ≡ OutOfMemory)
-    ⊎ ((c.in-Err.fault ≡ Forged) × (¬ ExchangesDiffer c.args.block.now x))) c.circuit.ensures.value
+    ⊎ ((c.in-Err.fault ≡ Forged) × (¬ ExchangesDiffer (block_read x) x))) c.circuit.ensures.value
     c.in-Err.ensures.err)
+
+pub returns-clause-ok : goal.returns-clause-ok
+returns-clause-ok c =
+    let rest = c.args.comment.now in
+    let source = c.in-Ok.source in
+    let is : source ≡ source_read c.args.image.now rest =
+    c.in-Ok.ensures.ok ∙ ap (λ (x : Circuit). source_read x rest) c.circuit.ensures.value in
+    IfOk-weaker c.confirm.result (λ (k : Circuit). k ≡ source) (λ (k : Circuit). k ≡ source_read c.args.image.now rest)
+    (λ k same. same ∙ is) c.confirm.ensures.ok
 
 pub returns-clause-formed : goal.returns-clause-formed
 returns-clause-formed c =
-    let b = c.args.block.now in
     let x = c.args.image.now in
-    let comment = comment_behind b c.args.comment.now in
-    let within = read_is_within x b c.args.comment.now c.requires.read in
+    let b = block_read x in
+    let rest = c.args.comment.now in
+    let within = read_is_within x b rest c.requires.read in
     let source = c.in-Ok.source in
-    let is : source ≡ undone b comment x = c.in-Ok.ensures.ok ∙ ap (undone b comment) c.circuit.ensures.value in
-    let again = well_formed_again b x comment c.circuit.ensures.well_formed
+    let is : source ≡ source_read x rest =
+    c.in-Ok.ensures.ok ∙ ap (λ (y : Circuit). source_read y rest) c.circuit.ensures.value in
+    let again = well_formed_again b x (comment_behind b rest) c.circuit.ensures.well_formed
     (record { ordered = c.requires.ordered; counts = within.0; bounds = within.1; once = c.requires.once }) in
     IfOk-weaker c.confirm.result (λ (k : Circuit). k ≡ source)
     (λ (k : Circuit). AreDistinct (defined_variables k) → IsWellFormed k)
@@ -46,12 +79,15 @@ returns-clause-formed c =
 
 pub returns-clause-fault : goal.returns-clause-fault
 returns-clause-fault c =
-    of_confirmed c.args.image.now c.args.block.now c.args.comment.now c.requires.ordered c.requires.read
-    c.in-Ok.source c.confirm.result
-    (c.in-Ok.ensures.ok
-    ∙ ap (undone c.args.block.now (comment_behind c.args.block.now c.args.comment.now)) c.circuit.ensures.value)
-    c.confirm.ensures.err
+    let image = c.args.image.now in
+    let rest = c.args.comment.now in
+    of_confirmed image (block_read image) rest c.requires.ordered c.requires.read c.in-Ok.source c.confirm.result
+    (c.in-Ok.ensures.ok ∙ ap (λ (x : Circuit). source_read x rest) c.circuit.ensures.value) c.confirm.ensures.err
+
+pub confirm-requires-clause-is : goal.confirm-requires-clause-is
+confirm-requires-clause-is c =
+    c.in-Ok.ensures.ok ∙ ap (λ (x : Circuit). source_read x c.args.comment.now) c.circuit.ensures.value
 
 pub confirm-requires-clause-differ : goal.confirm-requires-clause-differ
 confirm-requires-clause-differ c =
-    subst (ExchangesDiffer c.args.block.now) c.circuit.ensures.value c.in-Ok.ensures.differ
+    subst (λ (x : Circuit). ExchangesDiffer (block_read x) x) c.circuit.ensures.value c.in-Ok.ensures.differ

@@ -7,22 +7,21 @@ pub returns-then-exchanges_equal-clause-differ : goal.returns-then-exchanges_equ
 returns-then-exchanges_equal-clause-differ c =
     let equal = c.exchanges_equal.ensures.0 c.if-exchanges_equal.true in (
       λ (e : IsTrue false). absurd (true≢false (sym e)),
-      λ (differ : DifferWhereExchanged c.args.found.now c.args.recorded.now). absurd (
-          not_all_differ c.args.recorded.now c.args.found.now c.loop-position.found c.loop-position.position
-          c.index-recorded-position.result c.index-found-position.result c.loop-position-test.true c.requires
-          c.index-recorded-position.is c.loop-position.invariant.found c.index-found-position.is equal differ
+      λ (differ : DifferWhereExchanged c.args.found.now c.args.exchanged.now). absurd (
+          not_all_differ c.args.exchanged.now c.args.found.now c.loop-position.found c.loop-position.position
+          c.index-found-position.result c.loop-position-test.true c.requires c.loop-position.invariant.found
+          c.index-found-position.is equal differ
           ),
     )
 
 pub loop-position-preserved : goal.loop-position-preserved
 loop-position-preserved c = record {
-  found = one_more_exchanged c.args.recorded.now c.args.found.now c.loop-position.found c.loop-position.position
-      c.index-recorded-position.result c.index-found-position.result c.loop-position-test.true c.requires
-      c.index-recorded-position.is c.loop-position.invariant.found c.index-found-position.is c.exchanged_if.result
-      c.exchanged_if.ensures;
-  differ = one_more_differs c.args.recorded.now c.args.found.now c.loop-position.found c.loop-position.position
-      c.index-recorded-position.result c.index-found-position.result c.loop-position-test.true c.requires
-      c.index-recorded-position.is c.loop-position.invariant.found c.index-found-position.is
+  found = one_more_exchanged c.args.exchanged.now c.args.found.now c.loop-position.found c.loop-position.position
+      c.index-found-position.result c.loop-position-test.true c.requires c.loop-position.invariant.found
+      c.index-found-position.is c.exchanged_if.result c.exchanged_if.ensures;
+  differ = one_more_differs c.args.exchanged.now c.args.found.now c.loop-position.found c.loop-position.position
+      c.index-found-position.result c.loop-position-test.true c.requires c.loop-position.invariant.found
+      c.index-found-position.is
       (λ equal. true≢false (sym (c.exchanges_equal.ensures.1 equal) ∙ c.if-exchanges_equal.false))
       c.loop-position.invariant.differ;
 }

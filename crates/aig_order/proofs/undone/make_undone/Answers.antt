@@ -1,67 +1,106 @@
-use Rattle.std.proofs.Common.{◌≡◌, ◌<◌, ◌∙◌, ℕ, List, length, map, ap, ap₂, inl, inr, ⊎_elim, subst, sym}
+use Rattle.std.proofs.Common.{◌≡◌, ◌<◌, ◌∙◌, ℕ, List, Bool, Some, None, length, map, ap, ap₂, inl, inr, ⊎_elim, subst}
+use Rattle.std.proofs.Common.{sym}
+use Rattle.std.specs.Prelude.{if◌then◌else◌}
 use Rattle.std.specs.List.{AllByRecursion}
 use Rattle.std.proofs.lemmas.Result.{err_from_is_err_and}
 use Rattle.aig_core.specs.declared.circuit.Circuit.{Circuit}
 use Rattle.aig_core.specs.declared.circuit.Gate.{Gate}
+use Rattle.aig_core.specs.Wellformed.{AreDistinct}
 use Rattle.aig_image.specs.Relabelled.{FitIntoLiterals, relabelled, relabelled_gate}
 use Rattle.aig_image.specs.Renumbering.{source_variable}
+use Rattle.aig_image.specs.Reordered.{exchanged_by}
 use Rattle.aig_order.specs.declared.fault.MapFault.TheVariants.{OutOfMemory}
-use Rattle.aig_order.specs.declared.map_block.MappedGate.{MappedGate}
-use Rattle.aig_order.specs.Parts.Had.{gate_had, without_gates}
+use Rattle.aig_order.specs.Parts.Had.{without_gates}
+use Rattle.aig_order.specs.Parts.Tables.{block_read}
 use Rattle.aig_order.specs.Undone.{comment_behind, source_variables}
 use Rattle.aig_order.proofs.Confirming.Exchanges.{exchanges_of_same}
+use Rattle.aig_order.proofs.Restoring.AtPositions.{exchanged_as_recorded, flags_fit, positions_fit, put_as_recorded}
 use Rattle.aig_order.proofs.Restoring.Source.{undone_is}
-use Rattle.aig_order.proofs.Sources.SourceVariables.{they_fit, places_there}
+use Rattle.aig_order.proofs.Sources.RecordedAt.{gate_had}
+use Rattle.aig_order.proofs.Sources.SourceVariables.{they_fit}
 use Rattle.aig_order.proofs.undone.make_undone.Goals as goal
 
 pub source_gates-requires-clause-fit : goal.source_gates-requires-clause-fit
 source_gates-requires-clause-fit c =
     subst (λ vs. FitIntoLiterals (source_variable vs)) (sym c.requires.variables)
-    (they_fit c.args.block.now c.requires.bounds)
+    (they_fit (block_read c.args.image.now) c.requires.bounds)
+
+pub source_gates-requires-clause-many : goal.source_gates-requires-clause-many
+source_gates-requires-clause-many c =
+    let image = c.args.image.now in
+    let fit = positions_fit (block_read image) image c.requires.counts c.requires.bounds c.requires.once in
+    ap length c.requires.are ∙ fit.0 ∙ ap length (sym c.as_slice.ensures)
 
 pub source_gates-requires-clause-there : goal.source_gates-requires-clause-there
 source_gates-requires-clause-there c =
-    let block = c.args.block.now in
-    let many : length block.gates ≡ length c.as_slice.result.now =
-    c.requires.counts.gates ∙ ap length (sym c.as_slice.ensures) in
-    subst (λ recorded. AllByRecursion (λ (g : MappedGate). g.place < length c.as_slice.result.now) recorded)
-    (sym c.as_slice-2.ensures) (places_there block.max_var _ block.gates c.requires.bounds.gates _ many)
+    let image = c.args.image.now in
+    let fit = positions_fit (block_read image) image c.requires.counts c.requires.bounds c.requires.once in
+    subst (λ (gs : List Gate). AllByRecursion (λ p. p < length gs) c.args.places.now) (sym c.as_slice.ensures)
+    (subst (AllByRecursion (λ p. p < length image.gates)) (sym c.requires.are) fit.1)
+
+pub source_gates-requires-clause-once : goal.source_gates-requires-clause-once
+source_gates-requires-clause-once c =
+    let image = c.args.image.now in
+    let fit = positions_fit (block_read image) image c.requires.counts c.requires.bounds c.requires.once in
+    subst AreDistinct (sym c.requires.are) fit.2
+
+pub source_gates-requires-clause-flags : goal.source_gates-requires-clause-flags
+source_gates-requires-clause-flags c =
+    let image = c.args.image.now in
+    ap length (c.as_slice-2.ensures.value ∙ c.requires.taken.exchanged)
+    ∙ flags_fit (block_read image) image c.requires.counts c.requires.bounds c.requires.once
+    ∙ ap length (sym c.as_slice.ensures)
 
 pub returns-in_err-gates-clause-err : goal.returns-in_err-gates-clause-err
 returns-in_err-gates-clause-err c =
+    let image = c.args.image.now in
     let h = err_from_is_err_and c.from_residual.result c.from_residual.ensures.1 in
     let fault = c.in_err-gates.field-0.0 in
-    let same = exchanges_of_same c.args.block.now c.args.image.now _ _ _ c.requires.variables c.as_slice.ensures
-    c.as_slice-2.ensures in
     rw (h.1, h.2) (⊎_elim (λ (memory : fault ≡ OutOfMemory). inl memory)
-    (λ forged. inr (forged.0, λ differ. forged.1 (same.1 differ))) c.in_err-gates.ensures.err)
+    (λ forged.
+    let there = put_as_recorded (block_read image) image c.requires.counts c.requires.bounds c.requires.once _ _ _
+    forged.1.0 c.requires.variables c.requires.are c.as_slice.ensures forged.1.1 in
+    let same = exchanges_of_same (block_read image) image forged.1.0 _ there
+    (c.as_slice-2.ensures.value ∙ c.requires.taken.exchanged) in
+    inr (forged.0, λ differ. forged.1.2 (same.1 differ))) c.in_err-gates.ensures.err)
 
 pub relabel-requires : goal.relabel-requires
 relabel-requires c =
     subst (λ vs. FitIntoLiterals (source_variable vs)) (sym c.requires.variables)
-    (they_fit c.args.block.now c.requires.bounds)
+    (they_fit (block_read c.args.image.now) c.requires.bounds)
 
 pub returns-clause-ok : goal.returns-clause-ok
 returns-clause-ok c =
-    let block = c.args.block.now in
     let image = c.args.image.now in
+    let block = block_read image in
     let comment = comment_behind block c.args.comment.now in
-    let by : List ℕ → List Gate → List MappedGate → List Gate = λ vs gates recorded.
-    map (relabelled_gate (source_variable vs)) (map (gate_had gates) recorded) in
-    let gates : c.in_ok-gates.gates ≡ by (source_variables block) image.gates block.gates =
-    c.in_ok-gates.ensures.ok
-    ∙ ap₂ (λ vs gs. by vs gs c.as_slice-2.result.now) c.requires.variables c.as_slice.ensures
-    ∙ ap (by (source_variables block) image.gates) c.as_slice-2.ensures in
+    let found = c.in_ok-gates.ensures.ok.0 in
+    let there = put_as_recorded block image c.requires.counts c.requires.bounds c.requires.once _ _ _ found
+    c.requires.variables c.requires.are c.as_slice.ensures c.in_ok-gates.ensures.ok.1 in
+    let gates : c.in_ok-gates.gates
+    ≡ map (relabelled_gate (source_variable (source_variables block))) (map (gate_had image.gates) block.gates) =
+    c.in_ok-gates.ensures.ok.3
+    ∙ ap₂ (λ (flags : List Bool) (gs : List Gate). exchanged_by flags gs)
+    (c.as_slice-2.ensures.value ∙ c.requires.taken.exchanged) there
+    ∙ exchanged_as_recorded block image c.requires.counts c.requires.bounds c.requires.once in
+    let front : c.in_ok-others.others ≡ without_gates block.max_var comment image =
+    c.in_ok-others.ensures
+    ∙ ap₂ (λ (max_var : ℕ) (has : Bool).
+    without_gates max_var (if has then Some c.args.comment.now else None) image) c.requires.taken.max_var
+    c.requires.taken.has_comment in
     let others : c.relabel.result
-    ≡ relabelled (source_variable (source_variables block)) (without_gates block comment image) =
+    ≡ relabelled (source_variable (source_variables block)) (without_gates block.max_var comment image) =
     c.relabel.ensures
-    ∙ ap₂ (λ (vs : List ℕ) (d : Circuit). relabelled (source_variable vs) d) c.requires.variables
-    c.in_ok-others.ensures in
+    ∙ ap₂ (λ (vs : List ℕ) (d : Circuit). relabelled (source_variable vs) d) c.requires.variables front in
     ap₂ (λ (d : Circuit) (gs : List Gate). record d { gates = gs }) others gates
     ∙ undone_is block comment image
 
 pub returns-clause-differ : goal.returns-clause-differ
 returns-clause-differ c =
-    let same = exchanges_of_same c.args.block.now c.args.image.now _ _ _ c.requires.variables c.as_slice.ensures
-    c.as_slice-2.ensures in
-    same.0 c.in_ok-gates.ensures.differ
+    let image = c.args.image.now in
+    let found = c.in_ok-gates.ensures.ok.0 in
+    let there = put_as_recorded (block_read image) image c.requires.counts c.requires.bounds c.requires.once _ _ _
+    found c.requires.variables c.requires.are c.as_slice.ensures c.in_ok-gates.ensures.ok.1 in
+    let same = exchanges_of_same (block_read image) image found _ there
+    (c.as_slice-2.ensures.value ∙ c.requires.taken.exchanged) in
+    same.0 c.in_ok-gates.ensures.ok.2
