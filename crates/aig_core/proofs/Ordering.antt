@@ -15,3 +15,4 @@ pub mod Placing
 pub mod Placements
 pub mod Needs
 pub mod Rows
+pub mod Waiting

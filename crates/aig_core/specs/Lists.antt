@@ -1,19 +1,31 @@
--- What each gate needs, and a list of gates for each gate, all in one table. A link is one more than a gate's position,
--- or 0 at the end of a list.
+-- What is still to be asked of each gate, and a list of gates for each gate, all in one table. A link is one more than a
+-- gate's position, or 0 at the end of a list.
 use Rattle.std.specs.Prelude.{ℕ, zero, suc, ◌≡◌, ◌<◌, List, [], ◌∷◌, map, length, slice_index_or}
 use Rattle.std.specs.List.{AllByRecursion}
-use Rattle.aig_core.specs.declared.least_ready.lists.Link.{Link}
 use Rattle.aig_core.specs.declared.least_ready.lists.Row.{Row}
 use Rattle.aig_core.specs.declared.least_ready.needs.Needs.{Needs}
 use Rattle.aig_core.specs.Wellformed.{AreDistinct}
 
--- what the gates need
-abbrev pub needs_in : List Row → List Needs
-needs_in rows = map (λ (r : Row). r.needs) rows
+-- the gate behind one in its list, and the first of its own list
+pub record Link : Type 0 where
+  pub next : ℕ
+  pub first : ℕ
 
--- their links
+-- what a gate needs that was not looked at
+abbrev pub needs_in_row : Row → Needs
+needs_in_row row = record { left = row.next; right = row.rest }
+
+-- the links of a gate
+abbrev pub links_in_row : Row → Link
+links_in_row row = record { next = row.next; first = row.first }
+
+-- what the gates need that were not looked at
+abbrev pub needs_in : List Row → List Needs
+needs_in rows = map needs_in_row rows
+
+-- the links of all gates
 abbrev pub links_in : List Row → List Link
-links_in rows = map (λ (r : Row). r.link) rows
+links_in rows = map links_in_row rows
 
 abbrev pub no_link : Link
 no_link = record { next = 0; first = 0 }

@@ -4,14 +4,13 @@ use Rattle.std.specs.Prelude.{Some, map, length, slice_index_or}
 use Rattle.std.specs.List.{AllByRecursion, find}
 use Rattle.aig_core.specs.declared.circuit.Gate.{Gate}
 use Rattle.aig_core.specs.declared.circuit.TheConstants.{LARGEST}
-use Rattle.aig_core.specs.declared.least_ready.lists.Link.{Link}
 use Rattle.aig_core.specs.declared.least_ready.lists.Row.{Row}
 use Rattle.aig_core.specs.declared.least_ready.needs.Needs.{Needs}
 use Rattle.aig_core.specs.Literal.{variable_of}
 use Rattle.aig_core.specs.Wellformed.{IsAmong}
 use Rattle.aig_core.specs.Order.{gate_of}
 use Rattle.aig_core.specs.Placed.{has_gate}
-use Rattle.aig_core.specs.Lists.{needs_in, links_in, list_of, AreLists}
+use Rattle.aig_core.specs.Lists.{Link, needs_in, links_in, list_of, list_in, AreLists}
 
 -- one more than a position, or 0 for none
 abbrev pub link_to : Option ℕ → ℕ
@@ -45,9 +44,24 @@ AreThere all = (gate : ℕ) → AllByRecursion (λ h. h < length all) (needs_at 
 abbrev pub first_missing : List ℕ → List ℕ → Option ℕ
 first_missing list needs = find (λ h. not (has_gate list h)) needs
 
--- what the gate of a position needs, by its row
+-- what the gate of a position needs, by its row, if it was not looked at
 abbrev pub needs_by : List Row → ℕ → List ℕ
 needs_by rows = needs_at (needs_in rows)
+
+abbrev pub no_needs : Needs
+no_needs = record { left = 0; right = 0 }
+
+-- what a gate that waits needs beside the one that it waits for, by its row
+abbrev pub rest_by : List Row → ℕ → List ℕ
+rest_by rows gate = linked (slice_index_or (needs_in rows) gate no_needs).right
+
+-- a list has all that another one has
+abbrev pub HasAll : (list more : List ℕ) → Type 0
+HasAll list more = (g : ℕ) → IsAmong g list → IsAmong g more
+
+-- once all of this list are listed, what is missing of some gates is what is missing of others
+abbrev pub Suffices : (list needs asked : List ℕ) → Type 0
+Suffices list needs asked = (more : List ℕ) → HasAll list more → first_missing more needs ≡ first_missing more asked
 
 -- What each step needs of a table of rows: places for the gates that are placed, and bits for those that are ready.
 pub record IsRoomy (rows : List Row) (places bits : ℕ) : Type 0 where
@@ -75,6 +89,10 @@ pub record Waits (needs : ℕ → List ℕ) (list : List ℕ) (links : List Link
       → IsAmong u list ⊎ (has u ≡ true) ⊎ ((m : ℕ) × IsAmong u (list_of links m)) ⊎ (out ≡ Some u)
   pub taken_out : (u : ℕ) → out ≡ Some u → (u < seen) × (¬ IsAmong u list)
 
--- the same by rows
-abbrev pub RowsWait : List Row → List ℕ → (ℕ → Bool) → ℕ → Option ℕ → Option ℕ → Type 0
-RowsWait rows list has seen served out = Waits (needs_by rows) list (links_in rows) has seen served out
+-- The same by a table of rows. Of a gate that waits the row has what else it needs, beside the gate that it waits for and
+-- what is listed; of one that was not looked at, all that it needs.
+pub record RowsWait (needs : ℕ → List ℕ) (rows : List Row) (list : List ℕ) (has : ℕ → Bool) (seen : ℕ)
+    (served out : Option ℕ) : Type 0 where
+  pub waits : Waits needs list (links_in rows) has seen served out
+  pub behind : (m u : ℕ) → IsAmong u (list_in rows m) → Suffices (list ++ m ∷ []) (needs u) (rest_by rows u)
+  pub unasked : (u : ℕ) → seen ≤ u → needs_by rows u ≡ needs u

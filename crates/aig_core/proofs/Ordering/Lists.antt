@@ -1,14 +1,12 @@
 -- Lists in one table: what becomes of them where a gate is put at the front of one, or taken from there.
 use Rattle.std.proofs.Common.{◌≡◌, ◌≢◌, ◌<◌, ◌≤◌, ℕ, zero, suc, List, [], ◌∷◌, length, get_or, eqb, true, false}
 use Rattle.std.proofs.Common.{refl, sym, ap, subst, ◌∙◌, inl, inr, ⊎_elim, arith}
-use Rattle.std.specs.Prelude.{replicate}
 use Rattle.std.specs.List.{AllByRecursion}
 use Rattle.std.proofs.Math.ListN.{set as put}
 use Rattle.std.proofs.lemmas.Bool.Decides.{eqb_tells}
 use Rattle.std.proofs.lemmas.List.{get_or-set_same, get_or-set_other, get_or_default, length-set}
-use Rattle.aig_core.specs.declared.least_ready.lists.Link.{Link}
 use Rattle.aig_core.specs.Wellformed.{IsAmong, AreDistinct}
-use Rattle.aig_core.specs.Lists.{no_link, next_of, first_of, gates_up_to, list_of, LeadsTo, AreLists}
+use Rattle.aig_core.specs.Lists.{Link, no_link, next_of, first_of, gates_up_to, list_of, LeadsTo, AreLists}
 use Rattle.aig_core.proofs.Checking.Fitting.{at_most_below}
 
 -- where a link leads to some gates, they are what it gives
@@ -140,19 +138,13 @@ module _ (links more : List Link) (list gate : ℕ) (lists : AreLists links) (as
 pub nothing_there : (links : List Link) (list : ℕ) → first_of links list ≡ 0 → list_of links list ≡ []
 nothing_there links list is = list_is (length links) links (first_of links list) [] is (omega arith)
 
--- empty lists
-pub no_links : (n k : ℕ) → get_or (replicate n no_link) k no_link ≡ no_link
-no_links zero zero = refl
-no_links zero (suc k) = refl
-no_links (suc n) zero = refl
-no_links (suc n) (suc k) = no_links n k
+-- where no list has a first gate, all are empty, whatever is behind each gate
+module _ (links : List Link) (none : (k : ℕ) → first_of links k ≡ 0) where
+  pub all_empty : (k : ℕ) → list_of links k ≡ []
+  all_empty k = nothing_there links k (none k)
 
-pub all_empty : (n k : ℕ) → list_of (replicate n no_link) k ≡ []
-all_empty n k = nothing_there (replicate n no_link) k (ap (λ (l : Link). l.first) (no_links n k))
-
-pub empty_lists : (n : ℕ) → AreLists (replicate n no_link)
-empty_lists n =
-    all_lists (replicate n no_link) (λ k. ([], (ap (λ (l : Link). l.first) (no_links n k), tt, tt)))
+  pub empty_lists : AreLists links
+  empty_lists = all_lists links (λ k. ([], (none k, tt, tt)))
 
 -- a gate that is first in a list is one of the table's
 pub front_below : (links : List Link) (list gate : ℕ) → AreLists links → first_of links list ≡ suc gate

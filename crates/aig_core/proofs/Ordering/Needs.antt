@@ -12,7 +12,7 @@ use Rattle.aig_core.specs.declared.least_ready.needs.Needs.{Needs}
 use Rattle.aig_core.specs.Literal.{variable_of}
 use Rattle.aig_core.specs.Wellformed.{IsAmong}
 use Rattle.aig_core.specs.Order.{gate_of, gates_under, gate_operands, IsReady, TakesLeast, IsFull}
-use Rattle.aig_core.specs.Placing.{link_to, linked, needs_of, under, needs_at, AreThere}
+use Rattle.aig_core.specs.Placing.{link_to, linked, needs_of, under, needs_at, no_needs, AreThere}
 use Rattle.aig_core.proofs.Ordering.Ranked.{no_gate, needed, over_one}
 use Rattle.aig_core.proofs.Ordering.Steps.{all_of, none_past}
 
@@ -35,9 +35,6 @@ pub same_under : (gates : List Gate) (g : Gate) → under (needs_of gates g) ≡
 same_under gates g =
     ap₂ (λ xs ys. xs ++ ys) (linked_to (gate_of gates (variable_of g.left)))
     (linked_to (gate_of gates (variable_of g.right)))
-
-abbrev pub no_needs : Needs
-no_needs = record { left = 0; right = 0 }
 
 pub here_needs : (all : List Needs) (gate : ℕ) (n : Needs) → gate < length all → n ≡ get_or all gate n
     → needs_at all gate ≡ under n

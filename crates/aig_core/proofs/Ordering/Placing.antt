@@ -6,11 +6,10 @@ use mathlib.Core.Bool.{◌||◌, ◌&&◌, not}
 use Rattle.std.specs.List.{AllByRecursion}
 use Rattle.std.proofs.lemmas.Bool.{cases_lt}
 use Rattle.std.proofs.lemmas.Bool.Decides.{Decides-eqb, eqb_tells}
-use Rattle.aig_core.specs.declared.least_ready.lists.Link.{Link}
 use Rattle.aig_core.specs.Wellformed.{IsAmong, AreDistinct}
 use Rattle.aig_core.specs.Order.{IsReady, TakesLeast, IsFull}
 use Rattle.aig_core.specs.Placed.{has_gate}
-use Rattle.aig_core.specs.Lists.{list_of, AreLists}
+use Rattle.aig_core.specs.Lists.{Link, list_of, AreLists}
 use Rattle.aig_core.specs.Placing.{first_missing, AreApart, Waits}
 use Rattle.aig_core.proofs.Checking.Fitting.{all_weaker}
 use Rattle.aig_core.proofs.Checking.InForm.{among_decides}
@@ -63,7 +62,7 @@ all_there list (x ∷ xs) all =
     ap (λ b. cond (not b) (Some x) (first_missing list xs)) (has_it list x all.0) ∙ all_there list xs all.1
 
 -- the same with one gate more that is listed
-among_first : (x : ℕ) (xs ys : List ℕ) → IsAmong x xs → IsAmong x (xs ++ ys)
+pub among_first : (x : ℕ) (xs ys : List ℕ) → IsAmong x xs → IsAmong x (xs ++ ys)
 among_first x [] ys a = absurd a
 among_first x (z ∷ xs) ys a =
     ⊎_elim (λ (e : x ≡ z). inl e) (λ (b : IsAmong x xs). inr (among_first x xs ys b)) a
@@ -75,7 +74,7 @@ still_none list xs g is =
     (none_missing list xs is))
 
 -- who is in a list with one more is in it, or is the one
-in_longer : (list : List ℕ) (g h : ℕ) → IsAmong h (list ++ g ∷ []) → IsAmong h list ⊎ (h ≡ g)
+pub in_longer : (list : List ℕ) (g h : ℕ) → IsAmong h (list ++ g ∷ []) → IsAmong h list ⊎ (h ≡ g)
 in_longer list g h a =
     ⊎_elim (λ (b : IsAmong h list). inl b)
     (λ (b : IsAmong h (g ∷ [])). ⊎_elim (λ (e : h ≡ g). inr e) (λ (n : ⊥). absurd n) b)
@@ -105,7 +104,7 @@ module _ (needs : ℕ → List ℕ) (list : List ℕ) where
   module _ (links more : List Link) (gate m : ℕ) (is : first_missing list (needs gate) ≡ Some m)
       (front : list_of more m ≡ gate ∷ list_of links m)
       (others : (k : ℕ) → k ≢ m → list_of more k ≡ list_of links k) where
-    in_more : (k u : ℕ) → IsAmong u (list_of more k) → ((u ≡ gate) × (k ≡ m)) ⊎ IsAmong u (list_of links k)
+    pub in_more : (k u : ℕ) → IsAmong u (list_of more k) → ((u ≡ gate) × (k ≡ m)) ⊎ IsAmong u (list_of links k)
     in_more k u a =
         ⊎_elim (λ (t : (eqb k m ≡ true) × (k ≡ m)).
         let b : IsAmong u (gate ∷ list_of links m) =
@@ -197,14 +196,14 @@ module _ (needs : ℕ → List ℕ) (list : List ℕ) where
   module _ (links more : List Link) (list_at u : ℕ) (lists : AreLists links)
       (front : list_of links list_at ≡ u ∷ list_of more list_at)
       (others : (k : ℕ) → k ≢ list_at → list_of more k ≡ list_of links k) where
-    back : (k v : ℕ) → IsAmong v (list_of more k) → IsAmong v (list_of links k)
+    pub back : (k v : ℕ) → IsAmong v (list_of more k) → IsAmong v (list_of links k)
     back k v a =
         ⊎_elim (λ (t : (eqb k list_at ≡ true) × (k ≡ list_at)).
         let b : IsAmong v (u ∷ list_of more list_at) = inr (subst (λ z. IsAmong v (list_of more z)) t.1 a) in
         subst (λ z. IsAmong v (list_of links z)) (sym t.1) (subst (IsAmong v) (sym front) b))
         (λ (f : (eqb k list_at ≡ false) × (k ≢ list_at)). subst (IsAmong v) (others k f.1) a) (eqb_tells k list_at)
 
-    was_there : IsAmong u (list_of links list_at)
+    pub was_there : IsAmong u (list_of links list_at)
     was_there = subst (IsAmong u) (sym front) (inl refl)
 
     pub gone : AreApart links → (k : ℕ) → ¬ IsAmong u (list_of more k)

@@ -1,32 +1,31 @@
-//! What each gate needs, and a list of gates for each gate, in one table.
-ghost use Rattle.std.specs.Prelude.{◌≡◌, ◌≢◌, ◌<◌, ◌≤◌, ℕ, List, [], ◌∷◌, length, map, IfOk};
+//! What is still to be asked of each gate, and a list of gates for each gate, in one table.
+ghost use Rattle.std.specs.Prelude.{◌≡◌, ◌≢◌, ◌<◌, ◌≤◌, ℕ, List, [], ◌∷◌, length, map, slice_set, IfOk};
 ghost use Rattle.std.specs.Option.{IfSome, IfNone};
 ghost use Rattle.aig_core.specs.Wellformed.{IsAmong};
-ghost use Rattle.aig_core.specs.Lists.{needs_in, links_in, list_in, AreLists};
-ghost use Rattle.aig_core.specs.Placing.{needs_by, needs_of, under};
+ghost use Rattle.aig_core.specs.Lists.{needs_in, links_in, first_of, list_in, AreLists};
+ghost use Rattle.aig_core.specs.Placing.{linked, needs_by, needs_of, rest_by, under};
 
 use crate::circuit::{Circuit, LARGEST};
 use crate::least_ready::needs::{Needs, look_up};
 use crate::operands::gate_index;
 use std::alloc::{AllocError, Global};
 
-/// The gate behind this one in its list, and the first of its own list: each is one more than a position, or 0 where
-/// there is none.
+/// All that is asked of a gate where it is entered or served. It stands together, since gates are served in any order:
+/// what stands apart comes from memory apart. What a gate needs is asked for in full once, where it is looked at; from
+/// then on the row has what is left to ask, and the link of the list in which the gate waits takes the other place. So
+/// a row has 12 bytes, and more of them are in the cache. Each number is one more than a position, or 0 for none.
 #[derive(Clone, Copy)]
-struct Link {
+struct Row {
+    /// What the left operand needs; once the gate waits, the gate behind it in its list.
     next: u32,
+    /// What the right operand needs; once the gate waits, what it needs beside the gate that it waits for.
+    rest: u32,
+    /// The first of the gate's own list.
     first: u32,
 }
 
-/// All that is asked of a gate where it is entered or served. It stands together, since gates are served in any order:
-/// what stands apart comes from memory apart.
-#[derive(Clone, Copy)]
-struct Row {
-    needs: Needs,
-    link: Link,
-}
-
-/// What each gate needs, and a list of gates for each gate. A gate is in one list at most, so one table has them all.
+/// What is still to be asked of each gate, and a list of gates for each gate. A gate is in one list at most, so one
+/// table has them all.
 #[derive(Drop)]
 pub(super) struct Lists {
     rows: Vec<Row>,
@@ -45,9 +44,11 @@ impl Lists {
         let index = gate_index(alloc, circuit)?;
         let mut rows = Vec::with_capacity(alloc, gates.len())?;
         for gate in gates {
+            let needs = look_up(&index, gate);
             rows.push(Row {
-                needs: look_up(&index, gate),
-                link: Link { next: 0, first: 0 },
+                next: needs.left,
+                rest: needs.right,
+                first: 0,
             })?;
         }
         Ok(Lists { rows })
@@ -60,55 +61,53 @@ impl Lists {
         self.rows.len()
     }
 
-    /// What a gate needs.
+    /// What a gate needs that was not looked at.
     #[inline(always)]
     pub(super) fn needs(&self, gate: u32) -> Needs
         requires { gate < length self.now.rows.items }
         ensures { under result ≡ needs_by self.now.rows.items gate }
     {
-        self.rows[gate as usize].needs
+        let row = self.rows[gate as usize];
+        Needs {
+            left: row.next,
+            right: row.rest,
+        }
     }
 
-    /// What the first gate of a list needs; nothing, where the list is empty.
+    /// What the first gate of a list needs beside the gate that it waits for; nothing, where the list is empty.
     #[inline(always)]
-    pub(super) fn first_needs(&self, list: u32) -> Needs
+    pub(super) fn first_rest(&self, list: u32) -> u32
         requires there { list < length self.now.rows.items }
         requires lists { AreLists (links_in self.now.rows.items) }
         ensures { (u : ℕ) → (us : List ℕ) → list_in self.now.rows.items list ≡ u ∷ us
-            → under result ≡ needs_by self.now.rows.items u }
+            → linked result ≡ rest_by self.now.rows.items u }
     {
-        let first = self.rows[list as usize].link.first;
+        let first = self.rows[list as usize].first;
         if first == 0 {
-            return Needs { left: 0, right: 0 };
+            return 0;
         }
-        self.rows[first as usize - 1].needs
+        self.rows[first as usize - 1].rest
     }
 
-    /// Whether a list has a first gate that needs nothing.
+    /// Puts a gate, which needs this beside, at the front of another's list.
     #[inline(always)]
-    pub(super) fn is_idle(&self, list: u32) -> bool
-        requires there { list < length self.now.rows.items }
-        requires lists { AreLists (links_in self.now.rows.items) }
-    {
-        let needs = self.first_needs(list);
-        self.rows[list as usize].link.first > 0 && needs.left == 0 && needs.right == 0
-    }
-
-    /// Puts a gate at the front of another's list.
-    #[inline(always)]
-    pub(super) fn push(&mut self, list: u32, gate: u32)
+    pub(super) fn push(&mut self, list: u32, gate: u32, rest: u32)
         requires few { length self.old.rows.items ≤ LARGEST }
         requires lists { AreLists (links_in self.old.rows.items) }
         requires list { list < length self.old.rows.items }
         requires gate { gate < length self.old.rows.items }
         requires nowhere { (g : ℕ) → ¬ IsAmong gate (list_in self.old.rows.items g) }
         ensures lists { AreLists (links_in self.new.rows.items) }
-        ensures needs { needs_in self.new.rows.items ≡ needs_in self.old.rows.items }
+        ensures needs { needs_in self.new.rows.items ≡ slice_set (needs_in self.old.rows.items) gate
+            (record { left = first_of (links_in self.old.rows.items) list; right = rest }) }
         ensures pushed { list_in self.new.rows.items list ≡ gate ∷ list_in self.old.rows.items list }
         ensures others { (g : ℕ) → g ≢ list → list_in self.new.rows.items g ≡ list_in self.old.rows.items g }
     {
-        self.rows[gate as usize].link.next = self.rows[list as usize].link.first;
-        self.rows[list as usize].link.first = gate + 1;
+        let first = self.rows[list as usize].first;
+        let row = &mut self.rows[gate as usize];
+        row.next = first;
+        row.rest = rest;
+        self.rows[list as usize].first = gate + 1;
     }
 
     /// Takes the gate at the front out of a list.
@@ -124,12 +123,12 @@ impl Lists {
             list_in self.old.rows.items list ≡ gate ∷ list_in self.new.rows.items list) }
         ensures others { (g : ℕ) → g ≢ list → list_in self.new.rows.items g ≡ list_in self.old.rows.items g }
     {
-        let first = self.rows[list as usize].link.first;
+        let first = self.rows[list as usize].first;
         if first == 0 {
             return None;
         }
         let gate = first - 1;
-        self.rows[list as usize].link.first = self.rows[gate as usize].link.next;
+        self.rows[list as usize].first = self.rows[gate as usize].next;
         Some(gate)
     }
 }

@@ -1,10 +1,13 @@
 //! The least ready order in little memory: each gate waits in the list of one gate that it needs.
-ghost use Rattle.std.specs.Prelude.{◌≡◌, ◌==◌, ◌||◌, ◌+◌, ◌<◌, ◌≤◌, ℕ, [], Option, None, Some, false, length, IfOk};
+ghost use Rattle.std.specs.Prelude.{◌≡◌, ◌≢◌, ◌==◌, ◌||◌, ◌+◌, ◌<◌, ◌≤◌, ℕ, List, [], ◌∷◌, ◌++◌, Option, None, Some};
+ghost use Rattle.std.specs.Prelude.{false, length, IfOk};
 ghost use Rattle.std.specs.List.{AllByRecursion};
+ghost use Rattle.std.specs.Option.{IfSome, IfNone};
 ghost use Rattle.aig_core.specs.Wellformed.{IsAmong};
-ghost use Rattle.aig_core.specs.Order.{IsLeastReadyOrder, TakesLeast};
-ghost use Rattle.aig_core.specs.Lists.{needs_in, links_in, list_in, AreLists};
-ghost use Rattle.aig_core.specs.Placing.{under, needs_by, first_missing, IsRoomy, AreApart, RowsWait};
+ghost use Rattle.aig_core.specs.Order.{IsFull, IsLeastReadyOrder, TakesLeast};
+ghost use Rattle.aig_core.specs.Lists.{links_in, list_in, AreLists};
+ghost use Rattle.aig_core.specs.Placing.{linked, under, rest_by, first_missing, Suffices};
+ghost use Rattle.aig_core.specs.Placing.{IsRoomy, AreApart, RowsWait};
 ghost use Rattle.aig_core.specs.Ready.{has, room};
 
 use crate::circuit::{Circuit, LARGEST};
@@ -15,24 +18,41 @@ use crate::least_ready::ready::Ready;
 use crate::placed::Placed;
 use std::alloc::Global;
 
-/// The first of the gates that a gate needs that is not placed.
+/// A gate that is missing, by its position, and what is needed beside it and what is placed: one more than a position, or
+/// 0 for nothing.
+#[derive(Clone, Copy)]
+struct Missing {
+    gate: u32,
+    rest: u32,
+}
+
+/// The first of the gates that a gate needs that is not placed, and what it needs beside.
 #[inline(always)]
-fn missing(needs: Needs, placed: &Placed) -> Option<u32>
+fn missing_gate(needs: Needs, placed: &Placed) -> Option<Missing>
     requires { AllByRecursion (λ h. h < placed.now.room) (under needs) }
-    ensures { result ≡ first_missing placed.now.list (under needs) }
+    ensures none { IfNone result (first_missing placed.now.list (under needs) ≡ None) }
+    ensures first { IfSome result (λ m. first_missing placed.now.list (under needs) ≡ Some m.gate) }
+    ensures rest { IfSome result (λ m. Suffices (placed.now.list ++ m.gate ∷ []) (under needs) (linked m.rest)) }
+    ensures there { IfSome result (λ m. AllByRecursion (λ h. h < placed.now.room) (linked m.rest)) }
 {
     if needs.left > 0 && !placed.has(needs.left - 1) {
-        return Some(needs.left - 1);
+        return Some(Missing {
+            gate: needs.left - 1,
+            rest: needs.right,
+        });
     }
     if needs.right > 0 && !placed.has(needs.right - 1) {
-        return Some(needs.right - 1);
+        return Some(Missing {
+            gate: needs.right - 1,
+            rest: 0,
+        });
     }
     None
 }
 
-/// Puts a gate among those that are ready. The first gate that waits for it is never idle, and to put it there twice
-/// would do no harm: that is asked for the sake of the read alone, by which the row of that gate is on its way from
-/// memory before this one is placed. A read that decided nothing would be left out by the compiler.
+/// Puts a gate among those that are ready. What the first gate that waits for it needs beside is never so far, and to
+/// put it there twice would do no harm: that is asked for the sake of the read alone, by which the row of that gate is
+/// on its way from memory before this one is placed. A read that decided nothing would be left out by the compiler.
 #[inline(always)]
 fn make_ready(gate: u32, lists: &Lists, ready: &mut Ready)
     requires there { gate < length lists.now.rows.items }
@@ -41,77 +61,101 @@ fn make_ready(gate: u32, lists: &Lists, ready: &mut Ready)
     ensures ready { (g : ℕ) → has ready.new g ≡ ((g == gate) || has ready.old g) }
     ensures room { room ready.new ≡ room ready.old }
 {
-    if lists.is_idle(gate) {
+    if lists.first_rest(gate) == u32::MAX {
         ready.insert(gate);
     }
     ready.insert(gate);
 }
 
-/// Lets a gate wait for the first that it needs and that is not placed; if there is none, the gate is ready.
+/// Lets a gate wait for the first that it needs, of those that are still to be asked, and that is not placed; if there is
+/// none, the gate is ready.
 #[inline(always)]
-fn enter(gate: u32, needs: Needs, placed: &Placed, lists: &mut Lists, ready: &mut Ready)
-    requires needs { under needs ≡ needs_by lists.old.rows.items gate }
+fn enter(gate: u32, asked: Needs, placed: &Placed, lists: &mut Lists, ready: &mut Ready)
+    requires asked { AllByRecursion (λ h. h < length lists.old.rows.items) (under asked) }
     requires room { IsRoomy lists.old.rows.items placed.now.room (room ready.old) }
     requires apart { AreApart (links_in lists.old.rows.items) }
     requires there { gate < length lists.old.rows.items }
     requires nowhere { (g : ℕ) → ¬ IsAmong gate (list_in lists.old.rows.items g) }
-    ensures needs { needs_in lists.new.rows.items ≡ needs_in lists.old.rows.items }
+    ensures size { length lists.new.rows.items ≡ length lists.old.rows.items }
     ensures room { IsRoomy lists.new.rows.items placed.now.room (room ready.new) }
     ensures apart { AreApart (links_in lists.new.rows.items) }
     ensures of_placed { (g : ℕ) → IsAmong g placed.now.list
         → list_in lists.new.rows.items g ≡ list_in lists.old.rows.items g }
-    ensures waits { (seen : ℕ) → (served : Option ℕ)
-        → RowsWait lists.old.rows.items placed.now.list (has ready.old) seen served (Some gate)
-        → RowsWait lists.new.rows.items placed.now.list (has ready.new) seen served None }
+    ensures rests { (u : ℕ) → u ≢ gate → rest_by lists.new.rows.items u ≡ rest_by lists.old.rows.items u }
+    ensures waits { (needs : ℕ → List ℕ) → (seen : ℕ) → (served : Option ℕ)
+        → Suffices placed.now.list (needs gate) (under asked)
+        → RowsWait needs lists.old.rows.items placed.now.list (has ready.old) seen served (Some gate)
+        → RowsWait needs lists.new.rows.items placed.now.list (has ready.new) seen served None }
 {
-    match missing(needs, placed) {
-        Some(other) => lists.push(other, gate),
+    match missing_gate(asked, placed) {
+        Some(other) => lists.push(other.gate, gate, other.rest),
         None => make_ready(gate, lists, ready),
     }
 }
 
-/// Enters again each gate that waited for this one. What the next of them needs is read before one is entered, so that
-/// it comes from memory meanwhile.
+/// Enters again each gate that waited for this one. What the next of them needs beside is read before one is entered, so
+/// that it comes from memory meanwhile.
 #[inline(always)]
 fn serve(gate: u32, placed: &Placed, lists: &mut Lists, ready: &mut Ready)
     requires room { IsRoomy lists.old.rows.items placed.now.room (room ready.old) }
     requires apart { AreApart (links_in lists.old.rows.items) }
     requires there { gate < length lists.old.rows.items }
     requires placed { IsAmong gate placed.now.list }
-    ensures needs { needs_in lists.new.rows.items ≡ needs_in lists.old.rows.items }
+    ensures size { length lists.new.rows.items ≡ length lists.old.rows.items }
     ensures room { IsRoomy lists.new.rows.items placed.now.room (room ready.new) }
     ensures apart { AreApart (links_in lists.new.rows.items) }
-    ensures waits { (seen : ℕ)
-        → RowsWait lists.old.rows.items placed.now.list (has ready.old) seen (Some gate) None
-        → RowsWait lists.new.rows.items placed.now.list (has ready.new) seen None None }
+    ensures waits { (needs : ℕ → List ℕ) → (seen : ℕ)
+        → RowsWait needs lists.old.rows.items placed.now.list (has ready.old) seen (Some gate) None
+        → RowsWait needs lists.new.rows.items placed.now.list (has ready.new) seen None None }
 {
-    let mut ahead = lists.first_needs(gate);
+    let mut ahead = lists.first_rest(gate);
     while let Some(user) = lists.pop(gate) {
-        let needs = ahead;
-        ahead = lists.first_needs(gate);
-        enter(user, needs, placed, lists, ready);
+        let asked = Needs {
+            left: 0,
+            right: ahead,
+        };
+        ahead = lists.first_rest(gate);
+        enter(user, asked, placed, lists, ready);
     }
 }
 
 /// Enters the gate behind those that were looked at, and places all that are ready then, each time the least one.
 fn look_at(gate: u32, placed: &mut Placed, lists: &mut Lists, ready: &mut Ready)
+    ghost needs: { ℕ → List ℕ }
     requires room { IsRoomy lists.old.rows.items placed.old.room (room ready.old) }
     requires apart { AreApart (links_in lists.old.rows.items) }
     requires there { gate < length lists.old.rows.items }
-    requires in_turn { TakesLeast (length lists.old.rows.items) (needs_by lists.old.rows.items) [] placed.old.list }
+    requires in_turn { TakesLeast (length lists.old.rows.items) needs [] placed.old.list }
     requires none { (g : ℕ) → has ready.old g ≡ false }
-    requires waits { RowsWait lists.old.rows.items placed.old.list (has ready.old) gate None None }
-    ensures needs { needs_in lists.new.rows.items ≡ needs_in lists.old.rows.items }
+    requires waits { RowsWait needs lists.old.rows.items placed.old.list (has ready.old) gate None None }
+    ensures size { length lists.new.rows.items ≡ length lists.old.rows.items }
     ensures room { IsRoomy lists.new.rows.items placed.new.room (room ready.new) }
     ensures apart { AreApart (links_in lists.new.rows.items) }
-    ensures in_turn { TakesLeast (length lists.new.rows.items) (needs_by lists.new.rows.items) [] placed.new.list }
+    ensures in_turn { TakesLeast (length lists.new.rows.items) needs [] placed.new.list }
     ensures none { (g : ℕ) → has ready.new g ≡ false }
-    ensures waits { RowsWait lists.new.rows.items placed.new.list (has ready.new) (gate + 1) None None }
+    ensures waits { RowsWait needs lists.new.rows.items placed.new.list (has ready.new) (gate + 1) None None }
 {
     enter(gate, lists.needs(gate), placed, lists, ready);
     while let Some(next) = ready.pop_first() {
         placed.place(next);
         serve(next, placed, lists, ready);
+    }
+}
+
+/// Looks at all gates, one after the other.
+fn look_at_all(placed: &mut Placed, lists: &mut Lists, ready: &mut Ready)
+    ghost needs: { ℕ → List ℕ }
+    requires room { IsRoomy lists.old.rows.items placed.old.room (room ready.old) }
+    requires apart { AreApart (links_in lists.old.rows.items) }
+    requires in_turn { TakesLeast (length lists.old.rows.items) needs [] placed.old.list }
+    requires none { (g : ℕ) → has ready.old g ≡ false }
+    requires waits { RowsWait needs lists.old.rows.items placed.old.list (has ready.old) 0 None None }
+    ensures room { placed.new.room ≡ placed.old.room }
+    ensures in_turn { TakesLeast (length lists.old.rows.items) needs [] placed.new.list }
+    ensures full { IsFull (length lists.old.rows.items) needs placed.new.list }
+{
+    for gate in 0..lists.len() as u32 {
+        look_at(gate, placed, lists, ready);
     }
 }
 
@@ -126,8 +170,6 @@ pub fn place_gates(alloc: Global, circuit: &Circuit) -> Result<Placed, OutOfMemo
     let gates = lists.len();
     let mut placed = Placed::new(alloc, gates)?;
     let mut ready = Ready::new(alloc, gates as u32)?;
-    for gate in 0..gates as u32 {
-        look_at(gate, &mut placed, &mut lists, &mut ready);
-    }
+    look_at_all(&mut placed, &mut lists, &mut ready);
     Ok(placed)
 }

@@ -1,46 +1,45 @@
-use Rattle.std.proofs.Common.{◌≡◌, ◌<◌, ◌∙◌, ℕ, List, Some, None, sym, ap, subst, arith, length}
+use Rattle.std.proofs.Common.{◌≡◌, ◌<◌, ℕ, List, sym, arith, length}
 use Rattle.std.specs.List.{AllByRecursion}
 use Rattle.aig_core.specs.declared.least_ready.lists.Row.{Row}
 use Rattle.aig_core.specs.declared.least_ready.needs.Needs.{Needs}
-use Rattle.aig_core.specs.Lists.{needs_in, links_in}
-use Rattle.aig_core.specs.Placing.{under, needs_at, needs_by, first_missing, AreThere, Waits}
+use Rattle.aig_core.specs.Lists.{links_in, first_of}
+use Rattle.aig_core.specs.Placing.{linked, under}
 use Rattle.aig_core.specs.Ready.{has}
 use Rattle.aig_core.proofs.Checking.Fitting.{each}
-use Rattle.aig_core.proofs.Ordering.Placing.{missing_is, waits_in_list, waits_no_more, apart_still, listed_stay}
-use Rattle.aig_core.proofs.Ordering.Rows.{as_many, as_many_needs}
+use Rattle.aig_core.proofs.Ordering.Placing.{missing_is, apart_still, listed_stay}
+use Rattle.aig_core.proofs.Ordering.Rows.{as_many_links, as_many_then, first_fits, there_then, rest_elsewhere}
+use Rattle.aig_core.proofs.Ordering.Waiting.{both, rows_wait_in_list, rows_wait_no_more}
 use Rattle.aig_core.proofs.least_ready.placing.enter.Goals as goal
 
--- what is missing, by the gate's row
-is_missing : (rows : List Row) (gate : ℕ) (needs : Needs) (list : List ℕ) (m : ℕ) → under needs ≡ needs_by rows gate
-    → Some m ≡ first_missing list (under needs) → first_missing list (needs_by rows gate) ≡ Some m
-is_missing rows gate needs list m here is = ap (first_missing list) (sym here) ∙ sym is
-
-pub missing-requires : goal.missing-requires
-missing-requires c =
-    subst (AllByRecursion (λ h. h < c.args.placed.now.room)) (sym c.requires.needs)
-    (rw c.requires.room.placed
-    (rw (sym (as_many_needs c.args.lists.now.rows.items)) (c.requires.room.there c.args.gate)))
+pub missing_gate-requires : goal.missing_gate-requires
+missing_gate-requires c = rw c.requires.room.placed c.requires.asked
 
 pub push-requires-clause-list : goal.push-requires-clause-list
 push-requires-clause-list c =
-    let rows : List Row = c.args.lists.now.rows.items in
-    let is = is_missing rows c.args.gate c.args.needs c.args.placed.now.list c.in-Some.other c.requires.needs
-    c.in-Some.ensures in
-    let needed = (missing_is c.args.placed.now.list (needs_by rows c.args.gate) c.in-Some.other is).1 in
-    omega (
-      arith,
-      each (λ h. h < length (needs_in rows)) (needs_by rows c.args.gate) (c.requires.room.there c.args.gate)
-          c.in-Some.other needed,
-      as_many_needs rows,
-    )
+    let needed = (missing_is c.args.placed.now.list (under c.args.asked) c.in-Some.other.gate
+    c.in-Some.ensures.first).1 in
+    each (λ h. h < length c.args.lists.now.rows.items) (under c.args.asked) c.requires.asked c.in-Some.other.gate
+    needed
+
+pub returns-in-Some-clause-size : goal.returns-in-Some-clause-size
+returns-in-Some-clause-size c =
+    as_many_then c.args.lists.now.rows.items c.push.new.self.rows.items c.args.gate _ c.push.ensures.needs
 
 pub returns-in-Some-clause-room : goal.returns-in-Some-clause-room
 returns-in-Some-clause-room c =
     let r = c.requires.room in
-    let long : length c.push.new.self.rows.items ≡ length c.args.lists.now.rows.items =
-    as_many c.args.lists.now.rows.items c.push.new.self.rows.items c.push.ensures.needs in record {
+    let rows : List Row = c.args.lists.now.rows.items in
+    let more : List Row = c.push.new.self.rows.items in
+    let first : ℕ = first_of (links_in rows) c.in-Some.other.gate in
+    let n : Needs = record { left = first; right = c.in-Some.other.rest } in
+    let long : length more ≡ length rows = as_many_then rows more c.args.gate n c.push.ensures.needs in
+    let fits : AllByRecursion (λ h. h < length rows) (under n) =
+    both (λ h. h < length rows) (linked first) (linked c.in-Some.other.rest)
+    (rw (sym (as_many_links rows)) (first_fits (links_in rows) c.in-Some.other.gate r.lists))
+    (rw (sym r.placed) c.in-Some.ensures.there) in
+    record {
       few = omega (arith, r.few, long);
-      there = subst AreThere (sym c.push.ensures.needs) r.there;
+      there = there_then rows more c.args.gate n c.push.ensures.needs c.requires.there fits r.there;
       placed = omega (arith, r.placed, long);
       ready = omega (arith, r.ready, long);
       lists = c.push.ensures.lists;
@@ -48,35 +47,30 @@ returns-in-Some-clause-room c =
 
 pub returns-in-Some-clause-apart : goal.returns-in-Some-clause-apart
 returns-in-Some-clause-apart c =
-    let rows : List Row = c.args.lists.now.rows.items in
-    apart_still (needs_by rows) c.args.placed.now.list (links_in rows) (links_in c.push.new.self.rows.items)
-    c.args.gate c.in-Some.other
-    (is_missing rows c.args.gate c.args.needs c.args.placed.now.list c.in-Some.other c.requires.needs
-    c.in-Some.ensures) c.push.ensures.pushed c.push.ensures.others c.requires.nowhere c.requires.apart
+    apart_still (λ _. under c.args.asked) c.args.placed.now.list (links_in c.args.lists.now.rows.items)
+    (links_in c.push.new.self.rows.items) c.args.gate c.in-Some.other.gate c.in-Some.ensures.first
+    c.push.ensures.pushed c.push.ensures.others c.requires.nowhere c.requires.apart
 
 pub returns-in-Some-clause-of_placed : goal.returns-in-Some-clause-of_placed
 returns-in-Some-clause-of_placed c =
-    let rows : List Row = c.args.lists.now.rows.items in
-    listed_stay (needs_by rows) c.args.placed.now.list (links_in rows) (links_in c.push.new.self.rows.items)
-    c.args.gate c.in-Some.other
-    (is_missing rows c.args.gate c.args.needs c.args.placed.now.list c.in-Some.other c.requires.needs
-    c.in-Some.ensures) c.push.ensures.pushed c.push.ensures.others
+    listed_stay (λ _. under c.args.asked) c.args.placed.now.list (links_in c.args.lists.now.rows.items)
+    (links_in c.push.new.self.rows.items) c.args.gate c.in-Some.other.gate c.in-Some.ensures.first
+    c.push.ensures.pushed c.push.ensures.others
+
+pub returns-in-Some-clause-rests : goal.returns-in-Some-clause-rests
+returns-in-Some-clause-rests c =
+    rest_elsewhere c.args.lists.now.rows.items c.push.new.self.rows.items c.args.gate _ c.push.ensures.needs
 
 pub returns-in-Some-clause-waits : goal.returns-in-Some-clause-waits
-returns-in-Some-clause-waits c = λ seen served waits.
-    let rows : List Row = c.args.lists.now.rows.items in
-    let more : List Row = c.push.new.self.rows.items in
-    subst (λ ns. Waits (needs_at ns) c.args.placed.now.list (links_in more) (has c.args.ready.now) seen served None)
-    (sym c.push.ensures.needs)
-    (waits_in_list (needs_by rows) c.args.placed.now.list (links_in rows) (links_in more) c.args.gate
-    c.in-Some.other
-    (is_missing rows c.args.gate c.args.needs c.args.placed.now.list c.in-Some.other c.requires.needs
-    c.in-Some.ensures) c.push.ensures.pushed c.push.ensures.others (has c.args.ready.now) seen served waits)
+returns-in-Some-clause-waits c = λ needs seen served enough wait.
+    rows_wait_in_list needs c.args.placed.now.list c.args.lists.now.rows.items c.push.new.self.rows.items c.args.gate
+    c.in-Some.other.gate c.in-Some.other.rest
+    (first_of (links_in c.args.lists.now.rows.items) c.in-Some.other.gate) (under c.args.asked)
+    c.in-Some.ensures.first c.in-Some.ensures.rest c.push.ensures.pushed c.push.ensures.others c.push.ensures.needs
+    c.requires.nowhere c.requires.there (has c.args.ready.now) seen served enough wait
 
 pub returns-in-None-clause-waits : goal.returns-in-None-clause-waits
-returns-in-None-clause-waits c = λ seen served waits.
-    let rows : List Row = c.args.lists.now.rows.items in
-    waits_no_more (needs_by rows) c.args.placed.now.list (links_in rows) (has c.args.ready.now)
-    (has c.make_ready.new.ready) c.args.gate
-    (ap (first_missing c.args.placed.now.list) (sym c.requires.needs) ∙ sym c.in-None.ensures)
-    c.make_ready.ensures.ready seen served waits
+returns-in-None-clause-waits c = λ needs seen served enough wait.
+    rows_wait_no_more needs c.args.placed.now.list c.args.lists.now.rows.items (has c.args.ready.now)
+    (has c.make_ready.new.ready) c.args.gate (under c.args.asked) c.in-None.ensures.none c.make_ready.ensures.ready
+    seen served enough wait

@@ -1,15 +1,14 @@
-use Rattle.std.proofs.Common.{◌≡◌, ◌≤◌, ◌∙◌, ℕ, List, take, ap, sym, subst, arith, length, map}
+use Rattle.std.proofs.Common.{◌≡◌, ◌≤◌, ◌∙◌, ℕ, List, take, ap, sym, arith, length, map}
 use Rattle.std.specs.FinMap.{get}
-use Rattle.std.specs.Prelude.{replicate}
-use Rattle.std.proofs.lemmas.List.{take_all, length-map}
+use Rattle.std.proofs.lemmas.List.{take_all}
 use Rattle.std.proofs.lemmas.Simd.{map-map}
 use Rattle.aig_core.specs.declared.circuit.Gate.{Gate}
 use Rattle.aig_core.specs.declared.least_ready.lists.Row.{Row}
-use Rattle.aig_core.specs.Lists.{no_link, needs_in, links_in, list_of, AreLists}
+use Rattle.aig_core.specs.Lists.{needs_in, links_in, first_of}
 use Rattle.aig_core.specs.Placing.{needs_of}
 use Rattle.aig_core.proofs.Ordering.Lists.{all_empty, empty_lists}
 use Rattle.aig_core.proofs.Ordering.Needs.{few_places}
-use Rattle.aig_core.proofs.Ordering.Rows.{row_of, needs_of_rows, links_of_rows}
+use Rattle.aig_core.proofs.Ordering.Rows.{row_of, needs_of_rows, first_of_rows}
 use Rattle.aig_core.proofs.least_ready.lists.Lists.new.Goals as goal
 
 -- what the rows of all gates say, once the first so many are all of them
@@ -24,13 +23,12 @@ module _ (gates : List Gate) (n : ℕ) (rows : List Row)
     same_needs : needs_in rows ≡ map (needs_of gates) gates
     same_needs = ap needs_in all_rows ∙ needs_of_rows (map (needs_of gates) gates)
 
-    no_links : links_in rows ≡ replicate (length gates) no_link
-    no_links =
-        ap links_in all_rows ∙ links_of_rows (map (needs_of gates) gates)
-        ∙ ap (λ many. replicate many no_link) (length-map gates (needs_of gates))
+    no_first : (k : ℕ) → first_of (links_in rows) k ≡ 0
+    no_first k =
+        ap (λ more. first_of (links_in more) k) all_rows ∙ first_of_rows (map (needs_of gates) gates) k
 
-pub look_up-requires : goal.look_up-requires
-look_up-requires c =
+pub look_up-needs-requires : goal.look_up-needs-requires
+look_up-needs-requires c =
     few_places c.args.circuit.now.gates (get c.in_ok-index.index) c.in_ok-index.ensures (omega (arith, c.requires))
 
 pub returns-clause-needs : goal.returns-clause-needs
@@ -41,12 +39,12 @@ returns-clause-needs c =
 
 pub returns-clause-lists : goal.returns-clause-lists
 returns-clause-lists c =
-    let gates : List Gate = c.as_slice-gates.result.now in
-    subst AreLists (sym (no_links gates c.loop-gate.gate-index c.loop-gate.rows.items c.loop-gate.invariant
-    (omega (arith, c.loop-gate-test.false)))) (empty_lists (length gates))
+    empty_lists (links_in c.loop-gate.rows.items)
+    (no_first c.as_slice-gates.result.now c.loop-gate.gate-index c.loop-gate.rows.items c.loop-gate.invariant
+    (omega (arith, c.loop-gate-test.false)))
 
 pub returns-clause-empty : goal.returns-clause-empty
-returns-clause-empty c = λ g.
-    let gates : List Gate = c.as_slice-gates.result.now in
-    ap (λ links. list_of links g) (no_links gates c.loop-gate.gate-index c.loop-gate.rows.items
-    c.loop-gate.invariant (omega (arith, c.loop-gate-test.false))) ∙ all_empty (length gates) g
+returns-clause-empty c =
+    all_empty (links_in c.loop-gate.rows.items)
+    (no_first c.as_slice-gates.result.now c.loop-gate.gate-index c.loop-gate.rows.items c.loop-gate.invariant
+    (omega (arith, c.loop-gate-test.false)))

@@ -1,10 +1,11 @@
-use Rattle.std.proofs.Common.{◌≡◌, ◌-◌, ◌<◌, ℕ, suc, List, length, sym, subst, arith}
+use Rattle.std.proofs.Common.{◌≡◌, ◌-◌, ◌<◌, ◌∙◌, ℕ, suc, List, ap, length, get_or, subst, arith}
+use Rattle.std.proofs.lemmas.List.{get_or_default}
 use Rattle.aig_core.specs.declared.least_ready.lists.Row.{Row}
-use Rattle.aig_core.specs.Lists.{needs_in}
-use Rattle.aig_core.specs.Placing.{under, needs_by}
-use Rattle.aig_core.proofs.Ordering.Needs.{here_needs}
+use Rattle.aig_core.specs.declared.least_ready.needs.Needs.{Needs}
+use Rattle.aig_core.specs.Lists.{needs_in, needs_in_row}
+use Rattle.aig_core.specs.Placing.{linked, no_needs, rest_by}
 use Rattle.aig_core.proofs.Ordering.Rows.{as_many_needs, read_needs, first_there, first_is}
-use Rattle.aig_core.proofs.least_ready.lists.Lists.first_needs.Goals as goal
+use Rattle.aig_core.proofs.least_ready.lists.Lists.first_rest.Goals as goal
 
 pub index-requires-2 : goal.index-requires-2
 index-requires-2 c =
@@ -24,13 +25,15 @@ returns-then-first-eq0 c = λ u us are.
 pub returns : goal.returns
 returns c = λ u us are.
     let rows : List Row = c.args.self.now.rows.items in
-    let at : ℕ = c.index.result.now.link.first - 1 in
-    let is : c.index.result.now.link.first ≡ suc u =
+    let at : ℕ = c.index.result.now.first - 1 in
+    let row : Row = c.index-2.result.now in
+    let is : c.index.result.now.first ≡ suc u =
     first_is rows c.args.list c.index.result.now c.requires.there c.index.ensures c.requires.lists u us are in
     let there : at < length rows =
     first_there rows c.args.list c.index.result.now c.requires.there c.index.ensures c.requires.lists
     (omega (arith, is)) in
     let same : at ≡ u = omega (arith, is) in
-    subst (λ z. under c.index-2.result.now.needs ≡ needs_by rows z) same
-    (sym (here_needs (needs_in rows) at c.index-2.result.now.needs (omega (arith, there, as_many_needs rows))
-    (read_needs rows at c.index-2.result.now there c.index-2.ensures)))
+    let read : needs_in_row row ≡ get_or (needs_in rows) at no_needs =
+    read_needs rows at row there c.index-2.ensures
+    ∙ get_or_default (needs_in rows) at (needs_in_row row) no_needs (omega (arith, there, as_many_needs rows)) in
+    subst (λ z. linked row.rest ≡ rest_by rows z) same (ap (λ (n : Needs). linked n.right) read)
