@@ -31,7 +31,7 @@ pub use crate::listing::Listing;
 pub use crate::literal::{Lit, Var};
 pub use crate::names::{NamedCounts, Names};
 pub use crate::order::Order;
-pub use crate::ordered::{Ordered, is_in_binary_order};
+pub use crate::ordered::{Ordered, is_in_binary_order, is_numbered_in_order};
 pub use crate::placed::Placed;
 pub use crate::value::Val;
 pub use crate::var_map::VarMap;

@@ -1,8 +1,9 @@
 //! Circuits in binary order, and the test for it.
 ghost use Rattle.std.specs.Prelude.{◌≡◌, ◌↔◌, ◌+◌, ◌^◌, ◌<◌, ◌≤◌, ℕ, length, IsTrue, IsOk, IfOk, IfErr};
 ghost use Rattle.aig_core.specs.Wellformed.{IsWellFormed, IsWithinLimits};
-ghost use Rattle.aig_core.specs.BinaryOrder.{IsInBinaryOrder};
-ghost use Rattle.aig_core.specs.Parts.Numbered.{AreNumbered, AreSectionsInOrder, IsGateOf, IsInputOf, IsLatchOf};
+ghost use Rattle.aig_core.specs.BinaryOrder.{IsInBinaryOrder, IsNumberedInOrder};
+ghost use Rattle.aig_core.specs.Parts.Numbered.{AreFirstInOrder, AreNumbered, AreSectionsInOrder, AreSectionsNumbered};
+ghost use Rattle.aig_core.specs.Parts.Numbered.{IsGateOf, IsInputOf, IsLatchOf, IsNumberedGateOf};
 
 use crate::checked::Checked;
 use crate::circuit::{Circuit, Gate, Latch};
@@ -83,17 +84,63 @@ fn are_in_order<T: Numbered>(first: u64, items: &[T]) -> bool
     true
 }
 
+/// Whether a gate defines this variable and is over lower literals, its larger operand first or second.
+#[inline(always)]
+fn is_numbered(gate: &Gate, variable: u64) -> bool
+    ensures { IsTrue result ↔ IsNumberedGateOf variable gate.now }
+{
+    u64::from(gate.var.0) == variable
+        && u64::from(gate.left.0) < 2 * variable
+        && u64::from(gate.right.0) < 2 * variable
+}
+
+/// Whether gates are numbered on from this variable, each over lower literals.
+fn are_gates_numbered(first: u64, gates: &[Gate]) -> bool
+    requires { first + length gates.now < 2 ^ 64 }
+    ensures { IsTrue result ↔ AreNumbered IsNumberedGateOf first gates.now }
+{
+    let mut variable = first;
+    for gate in gates {
+        if !is_numbered(gate, variable) {
+            return false;
+        }
+        variable += 1;
+    }
+    true
+}
+
+/// The variable of the first gate, where inputs and latches are the first variables.
+fn first_gate(circuit: &Circuit) -> u64
+    requires { IsWithinLimits circuit.now }
+    ensures { result ≡ 1 + length circuit.now.inputs + length circuit.now.latches }
+{
+    1 + circuit.inputs.len() as u64 + circuit.latches.len() as u64
+}
+
+/// Whether inputs and latches are the first variables of a circuit, and there are as many others as gates.
+fn are_first_in_order(circuit: &Circuit) -> bool
+    requires { IsWithinLimits circuit.now }
+    ensures { IsTrue result ↔ AreFirstInOrder circuit.now }
+{
+    u64::from(circuit.max_var) + 1 == first_gate(circuit) + circuit.gates.len() as u64
+        && are_in_order(1, circuit.inputs.as_slice())
+        && are_in_order(1 + circuit.inputs.len() as u64, circuit.latches.as_slice())
+}
+
 /// Whether the sections of a circuit are in binary order.
 fn are_sections_in_order(circuit: &Circuit) -> bool
     requires { IsWithinLimits circuit.now }
     ensures { IsTrue result ↔ AreSectionsInOrder circuit.now }
 {
-    let first_latch = 1 + circuit.inputs.len() as u64;
-    let first_gate = first_latch + circuit.latches.len() as u64;
-    u64::from(circuit.max_var) + 1 == first_gate + circuit.gates.len() as u64
-        && are_in_order(1, circuit.inputs.as_slice())
-        && are_in_order(first_latch, circuit.latches.as_slice())
-        && are_in_order(first_gate, circuit.gates.as_slice())
+    are_first_in_order(circuit) && are_in_order(first_gate(circuit), circuit.gates.as_slice())
+}
+
+/// Whether they are, but for the order of operands.
+fn are_sections_numbered(circuit: &Circuit) -> bool
+    requires { IsWithinLimits circuit.now }
+    ensures { IsTrue result ↔ AreSectionsNumbered circuit.now }
+{
+    are_first_in_order(circuit) && are_gates_numbered(first_gate(circuit), circuit.gates.as_slice())
 }
 
 /// Whether a circuit is in binary order. It is gone over once, and no memory is taken.
@@ -102,6 +149,15 @@ pub fn is_in_binary_order(checked: &Checked) -> bool
     ensures { IsTrue result ↔ IsInBinaryOrder checked.now }
 {
     are_sections_in_order(checked.circuit())
+}
+
+/// Whether a circuit is in binary order, but for gates whose larger operand comes second, as many files are. It is gone
+/// over once, and no memory is taken.
+#[tactic(auto, using(crate::proofs::Numbered::Sections::by_numbered, crate::proofs::Numbered::Sections::all_numbered))]
+pub fn is_numbered_in_order(checked: &Checked) -> bool
+    ensures { IsTrue result ↔ IsNumberedInOrder checked.now }
+{
+    are_sections_numbered(checked.circuit())
 }
 
 impl Ordered {

@@ -2,6 +2,7 @@
 ghost use Rattle.std.specs.Prelude.{◌≡◌, ◌<◌, ◌↔◌, None, length, map, IfOk, IsTrue, OnOk};
 ghost use Rattle.std.specs.List.{AllByRecursion};
 ghost use Rattle.std.specs.Option.{unwrap_or};
+ghost use Rattle.aig_core.specs.BinaryOrder.{IsNumberedInOrder};
 ghost use Rattle.aig_core.specs.Wellformed.{IsWellFormed};
 ghost use Rattle.aig_core.specs.Order.{IsLeastReadyOrder};
 ghost use Rattle.aig_image.specs.Image.{IsBinaryImage};
@@ -11,7 +12,10 @@ ghost use Rattle.aig_image.specs.Reordered.{taken, operands_sorted, with_operand
 
 use crate::labelling::relabel;
 use crate::numbers::Numbers;
-use aig_core::{Checked, Circuit, Gate, Listing, Lit, Ordered, OutOfMemory, Placed, place_gates};
+use aig_core::{
+    Checked, Circuit, Gate, Listing, Lit, Ordered, OutOfMemory, Placed, is_numbered_in_order,
+    place_gates,
+};
 use std::alloc::Global;
 
 /// What makes the binary image of a circuit.
@@ -139,10 +143,26 @@ impl Renumbering {
     }
 }
 
-/// The binary image of a circuit that is no longer needed.
+/// The binary image of a circuit that is in binary order but for the operands of gates: they are sorted.
+fn sorted_image(circuit: Circuit) -> Ordered
+    requires good { IsWellFormed circuit }
+    requires numbered { IsNumberedInOrder circuit }
+    ensures { IsBinaryImage circuit result }
+{
+    Ordered::from_well_ordered(Circuit {
+        gates: sort_operands(circuit.gates),
+        ..circuit
+    })
+}
+
+/// The binary image of a circuit that is not in binary order and no longer needed. Where only operands are in the other
+/// order, there is nothing to number.
 fn into_image(alloc: Global, checked: Checked) -> Result<Ordered, OutOfMemory>
     ensures { IfOk result (λ o. IsBinaryImage checked o) }
 {
+    if is_numbered_in_order(&checked) {
+        return Ok(sorted_image(checked.into_circuit()));
+    }
     let renumbering = Renumbering::new(alloc, &checked)?;
     Ok(renumbering.image(checked.into_circuit()))
 }

@@ -2,7 +2,7 @@
 ghost use Rattle.std.specs.Prelude.{◌≡◌, ◌+◌, ◌≤◌, None, Some, IfOk, length, min};
 ghost use Rattle.aig_core.specs.declared.circuit.TheConstants.{LARGEST};
 ghost use Rattle.aig_core.specs.Wellformed.{IsWellFormed};
-ghost use Rattle.aig_core.specs.BinaryOrder.{IsInBinaryOrder};
+ghost use Rattle.aig_core.specs.BinaryOrder.{IsNumberedInOrder};
 ghost use Rattle.aig_image.specs.Parts.Numbers.{number_of, IsRenumberingOf};
 ghost use Rattle.aig_image.specs.Relabelled.{FitIntoLiterals, relabelled};
 ghost use Rattle.aig_image.specs.Reordered.{with_operands_sorted};
@@ -10,7 +10,9 @@ ghost use Rattle.aig_order.specs.MapBlock.{IsMappedImage, block_by, mapped_comme
 ghost use Rattle.aig_order.specs.Parts.Kept.{AreVariablesOf};
 
 use crate::map_text::{KeptVariables, keep_variables, map_comment, new_map_comment};
-use aig_core::{Checked, Circuit, LARGEST, Listing, Ordered, OutOfMemory, Var};
+use aig_core::{
+    Checked, Circuit, LARGEST, Listing, Ordered, OutOfMemory, Var, is_numbered_in_order,
+};
 use aig_image::{Labels, Renumbering, relabel, sort_operands};
 use std::alloc::Global;
 
@@ -47,14 +49,17 @@ fn image_with_map(renumbering: Renumbering, circuit: Circuit, comment: Listing<u
     renumbering.image(with_comment(circuit, comment))
 }
 
-/// The mapped image of a circuit in binary order: its map is all that is added, since it is its own image.
+/// The mapped image of a circuit that is in binary order, or is but for the operands of gates: its map is all that is
+/// added, since it has the numbers of its image.
 fn with_map_alone(alloc: Global, circuit: Circuit) -> Result<Ordered, OutOfMemory>
     requires good { IsWellFormed circuit }
-    requires ordered { IsInBinaryOrder circuit }
+    requires numbered { IsNumberedInOrder circuit }
     ensures { IfOk result (λ o. IsMappedImage circuit o) }
 {
     let comment = map_comment(alloc, &SameVariables, &circuit)?;
-    Ok(Ordered::from_well_ordered(with_comment(circuit, comment)))
+    let gates = sort_operands(circuit.gates);
+    let sorted = with_comment(Circuit { gates, ..circuit }, comment);
+    Ok(Ordered::from_well_ordered(sorted))
 }
 
 /// The circuit by its new numbers, its operands as they stand. The numbers are let go.
@@ -104,6 +109,9 @@ fn image_in_order(
 fn into_mapped_image(alloc: Global, checked: Checked) -> Result<Ordered, OutOfMemory>
     ensures { IfOk result (λ o. IsMappedImage checked o) }
 {
+    if is_numbered_in_order(&checked) {
+        return with_map_alone(alloc, checked.into_circuit());
+    }
     let renumbering = Renumbering::new(alloc, &checked)?;
     if renumbering.is_in_order() {
         let variables = keep_variables(alloc, checked.circuit())?;
@@ -126,8 +134,5 @@ pub fn to_binary_with_map(alloc: Global, checked: &Checked) -> Result<Ordered, O
 pub fn into_binary_with_map(alloc: Global, checked: Checked) -> Result<Ordered, OutOfMemory>
     ensures { IfOk result (λ o. IsMappedImage checked o) }
 {
-    match Ordered::try_from_checked(checked) {
-        Ok(ordered) => with_map_alone(alloc, ordered.into_checked().into_circuit()),
-        Err(checked) => into_mapped_image(alloc, checked),
-    }
+    into_mapped_image(alloc, checked)
 }

@@ -11,7 +11,7 @@ use Rattle.aig_core.specs.declared.circuit.Gate.{Gate}
 use Rattle.aig_core.specs.declared.circuit.Circuit.{Circuit}
 use Rattle.aig_core.specs.Wellformed.{IsAmong, AreDistinct, IsKnown, defined_variables}
 use Rattle.aig_core.proofs.Checking.Fitting.{each, among_from_test, distinct_by_test}
-use Rattle.aig_core.specs.BinaryOrder.{AreOrderedGates, IsInBinaryOrder}
+use Rattle.aig_core.specs.BinaryOrder.{AreNumberedGates, AreOrderedGates, IsInBinaryOrder, IsNumberedInOrder}
 
 -- numbers, and the next ones behind them
 pub ranges_joined : (a m n : ℕ) → range_with_len a m ++ range_with_len (a + m) n ≡ range_with_len a (m + n)
@@ -64,16 +64,16 @@ known m n h = elim (cases_lt 0 (n / 2)) [
   | inr none ↦ inl (omega arith)
 ]
 
-gates_define : (variable : ℕ) (gs : List Gate) → AreOrderedGates variable gs
+gates_define : (variable : ℕ) (gs : List Gate) → AreNumberedGates variable gs
     → map (λ (g : Gate). g.var) gs ≡ range_with_len variable (length gs)
 gates_define variable [] o = refl
 gates_define variable (g ∷ gs) o =
     ap₂ (λ (v : ℕ) (vs : List ℕ). v ∷ vs) o.0
     (gates_define (suc variable) gs o.3 ∙ ap (λ (k : ℕ). range_with_len k (length gs)) (sym (add-one variable)))
 
--- a circuit in binary order defines all variables
-pub variables_are : (c : Circuit) → IsInBinaryOrder c → defined_variables c ≡ range_with_len 1 c.max_var
-variables_are c o =
+-- a circuit whose variables are numbered in order defines all of them
+pub numbered_variables_are : (c : Circuit) → IsNumberedInOrder c → defined_variables c ≡ range_with_len 1 c.max_var
+numbered_variables_are c o =
     let i = length c.inputs in
     let l = length c.latches in
     let next : 1 + i + l ≡ 1 + (i + l) = omega arith in
@@ -81,6 +81,22 @@ variables_are c o =
     (gates_define (1 + i + l) c.gates o.gates ∙ ap (λ (k : ℕ). range_with_len k (length c.gates)) next)
     ∙ ranges_joined 1 (i + l) (length c.gates)
     ∙ ap (range_with_len 1) (sym o.all)
+
+-- and one in binary order is such
+gates_numbered : (variable : ℕ) (gs : List Gate) → AreOrderedGates variable gs → AreNumberedGates variable gs
+gates_numbered variable [] o = tt
+gates_numbered variable (g ∷ gs) o = (o.0, o.1, omega (arith, o.1, o.2), gates_numbered (suc variable) gs o.3)
+
+pub is_numbered : (c : Circuit) → IsInBinaryOrder c → IsNumberedInOrder c
+is_numbered c o = record {
+  inputs = o.inputs;
+  latches = o.latches;
+  gates = gates_numbered (1 + length c.inputs + length c.latches) c.gates o.gates;
+  all = o.all;
+}
+
+pub variables_are : (c : Circuit) → IsInBinaryOrder c → defined_variables c ≡ range_with_len 1 c.max_var
+variables_are c o = numbered_variables_are c (is_numbered c o)
 
 -- a test finds what stands in a list
 test_from_among : (x : ℕ) (xs : List ℕ) → IsAmong x xs → list_any (eqb x) xs ≡ true

@@ -5,8 +5,9 @@ use Rattle.std.proofs.lemmas.List.{map-id}
 use Rattle.aig_core.specs.declared.circuit.Latch.{Latch}
 use Rattle.aig_core.specs.declared.circuit.Gate.{Gate}
 use Rattle.aig_core.specs.declared.circuit.Circuit.{Circuit}
-use Rattle.aig_core.specs.BinaryOrder.{AreOrderedGates, IsInBinaryOrder}
-use Rattle.aig_core.specs.Parts.Numbered.{AreNumbered, AreSectionsInOrder, IsGateOf}
+use Rattle.aig_core.specs.BinaryOrder.{AreNumberedGates, AreOrderedGates, IsInBinaryOrder, IsNumberedInOrder}
+use Rattle.aig_core.specs.Parts.Numbered.{AreFirstInOrder, AreNumbered, AreSectionsInOrder, AreSectionsNumbered}
+use Rattle.aig_core.specs.Parts.Numbered.{IsGateOf, IsNumberedGateOf}
 
 -- entries whose variables are numbered on
 module _ {X : Type 0} (f : X → ℕ) where
@@ -31,18 +32,54 @@ gates_from : (n : ℕ) (gs : List Gate) → AreOrderedGates n gs → AreNumbered
 gates_from n [] h = tt
 gates_from n (g ∷ gs) h = ((h.0, h.1, h.2), gates_from (suc n) gs h.3)
 
+numbered_gates_to : (n : ℕ) (gs : List Gate) → AreNumbered IsNumberedGateOf n gs → AreNumberedGates n gs
+numbered_gates_to n [] h = tt
+numbered_gates_to n (g ∷ gs) h = (h.0.0, h.0.1, h.0.2, numbered_gates_to (suc n) gs h.1)
+
+numbered_gates_from : (n : ℕ) (gs : List Gate) → AreNumberedGates n gs → AreNumbered IsNumberedGateOf n gs
+numbered_gates_from n [] h = tt
+numbered_gates_from n (g ∷ gs) h = ((h.0, h.1, h.2), numbered_gates_from (suc n) gs h.3)
+
+inputs_to : (c : Circuit) → AreFirstInOrder c → c.inputs ≡ range_with_len 1 (length c.inputs)
+inputs_to c h = sym (map-id c.inputs) ∙ numbered_to (λ (x : ℕ). x) 1 c.inputs h.inputs
+
+latches_to : (c : Circuit) → AreFirstInOrder c
+    → map (λ (l : Latch). l.var) c.latches ≡ range_with_len (1 + length c.inputs) (length c.latches)
+latches_to c h = numbered_to (λ (l : Latch). l.var) (1 + length c.inputs) c.latches h.latches
+
+first_from : (c : Circuit) → c.inputs ≡ range_with_len 1 (length c.inputs)
+    → map (λ (l : Latch). l.var) c.latches ≡ range_with_len (1 + length c.inputs) (length c.latches)
+    → c.max_var ≡ length c.inputs + length c.latches + length c.gates → AreFirstInOrder c
+first_from c inputs latches all = record {
+  all = omega arith;
+  inputs = numbered_from (λ (x : ℕ). x) 1 c.inputs (map-id c.inputs ∙ inputs);
+  latches = numbered_from (λ (l : Latch). l.var) (1 + length c.inputs) c.latches latches;
+}
+
 pub by_sections : (c : Circuit) → AreSectionsInOrder c → IsInBinaryOrder c
 by_sections c h = record {
-  inputs = sym (map-id c.inputs) ∙ numbered_to (λ (x : ℕ). x) 1 c.inputs h.inputs;
-  latches = numbered_to (λ (l : Latch). l.var) (1 + length c.inputs) c.latches h.latches;
+  inputs = inputs_to c h.first;
+  latches = latches_to c h.first;
   gates = gates_to (1 + length c.inputs + length c.latches) c.gates h.gates;
-  all = let all = h.all in omega arith;
+  all = let all = h.first.all in omega arith;
 }
 
 pub all_sections : (c : Circuit) → IsInBinaryOrder c → AreSectionsInOrder c
 all_sections c h = record {
-  all = let all = h.all in omega arith;
-  inputs = numbered_from (λ (x : ℕ). x) 1 c.inputs (map-id c.inputs ∙ h.inputs);
-  latches = numbered_from (λ (l : Latch). l.var) (1 + length c.inputs) c.latches h.latches;
+  first = first_from c h.inputs h.latches h.all;
   gates = gates_from (1 + length c.inputs + length c.latches) c.gates h.gates;
+}
+
+pub by_numbered : (c : Circuit) → AreSectionsNumbered c → IsNumberedInOrder c
+by_numbered c h = record {
+  inputs = inputs_to c h.first;
+  latches = latches_to c h.first;
+  gates = numbered_gates_to (1 + length c.inputs + length c.latches) c.gates h.gates;
+  all = let all = h.first.all in omega arith;
+}
+
+pub all_numbered : (c : Circuit) → IsNumberedInOrder c → AreSectionsNumbered c
+all_numbered c h = record {
+  first = first_from c h.inputs h.latches h.all;
+  gates = numbered_gates_from (1 + length c.inputs + length c.latches) c.gates h.gates;
 }

@@ -20,8 +20,20 @@ IsLatchOf variable l = l.var ≡ variable
 abbrev pub IsGateOf : ℕ → Gate → Type 0
 IsGateOf variable g = (g.var ≡ variable) × (g.left < literal_of g.var) × (g.right ≤ g.left)
 
-pub record AreSectionsInOrder (c : Circuit) : Type 0 where
+-- and one that is, if only its operands are in the other order
+abbrev pub IsNumberedGateOf : ℕ → Gate → Type 0
+IsNumberedGateOf variable g = (g.var ≡ variable) × (g.left < literal_of g.var) × (g.right < literal_of g.var)
+
+-- inputs, latches and then gates are all variables
+pub record AreFirstInOrder (c : Circuit) : Type 0 where
   pub all : c.max_var + 1 ≡ 1 + length c.inputs + length c.latches + length c.gates
   pub inputs : AreNumbered IsInputOf 1 c.inputs
   pub latches : AreNumbered IsLatchOf (1 + length c.inputs) c.latches
+
+pub record AreSectionsInOrder (c : Circuit) : Type 0 where
+  pub first : AreFirstInOrder c
   pub gates : AreNumbered IsGateOf (1 + length c.inputs + length c.latches) c.gates
+
+pub record AreSectionsNumbered (c : Circuit) : Type 0 where
+  pub first : AreFirstInOrder c
+  pub gates : AreNumbered IsNumberedGateOf (1 + length c.inputs + length c.latches) c.gates

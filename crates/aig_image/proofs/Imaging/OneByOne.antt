@@ -9,8 +9,8 @@ use Rattle.aig_core.specs.Literal.{variable_of}
 use Rattle.aig_core.specs.Wellformed.{IsAmong}
 use Rattle.aig_core.specs.Order.{IsLeastReadyOrder, IsReady, TakesLeast, IsFull, gate_operands}
 use Rattle.aig_core.proofs.Ordering.Ranked.{at, over_one, all_served}
-use Rattle.aig_core.specs.BinaryOrder.{AreOrderedGates, IsInBinaryOrder}
-use Rattle.aig_core.proofs.Numbered.Ranges.{among}
+use Rattle.aig_core.specs.BinaryOrder.{AreNumberedGates, AreOrderedGates, IsInBinaryOrder, IsNumberedInOrder}
+use Rattle.aig_core.proofs.Numbered.Ranges.{among, is_numbered}
 
 -- where each gate needs only those before it, they are taken one after another
 module _ (count : ℕ) (needs : ℕ → List ℕ) (falls : (g h : ℕ) → g < count → IsAmong h (needs g) → h < g) where
@@ -57,19 +57,30 @@ ordered_at v (g ∷ gs) ordered (suc i) there =
     let number : (at gs i).var ≡ suc v + i = later.0 in
     (omega (arith, number), later.1, later.2)
 
-lower_variable : (x var left right : ℕ) → left < 2 * var → right ≤ left
+-- and so do gates that are numbered in order, whatever the order of their operands
+numbered_at : (v : ℕ) (gates : List Gate) → AreNumberedGates v gates → (i : ℕ) → i < length gates
+    → ((at gates i).var ≡ v + i) × ((at gates i).left < 2 * (at gates i).var)
+    × ((at gates i).right < 2 * (at gates i).var)
+numbered_at v [] numbered i there = absurd (omega arith)
+numbered_at v (g ∷ gs) numbered zero there = (omega (arith, numbered.0), numbered.1, numbered.2)
+numbered_at v (g ∷ gs) numbered (suc i) there =
+    let later = numbered_at (suc v) gs numbered.3 i (omega (arith, there)) in
+    let number : (at gs i).var ≡ suc v + i = later.0 in
+    (omega (arith, number), later.1, later.2)
+
+lower_variable : (x var left right : ℕ) → left < 2 * var → right < 2 * var
     → IsAmong x (map variable_of (left ∷ right ∷ [])) → x < var
 lower_variable x var left right l r a =
     ⊎_elim (λ (e : x ≡ left / 2). omega (arith, l, e))
-    (λ (i : IsAmong x (right / 2 ∷ [])). ⊎_elim (λ (e : x ≡ right / 2). omega (arith, l, r, e))
+    (λ (i : IsAmong x (right / 2 ∷ [])). ⊎_elim (λ (e : x ≡ right / 2). omega (arith, r, e))
     (λ (n : ⊥). absurd n) i) a
 
-needs_fall : (v : ℕ) (gates : List Gate) → AreOrderedGates v gates → (g h : ℕ) → g < length gates
+needs_fall : (v : ℕ) (gates : List Gate) → AreNumberedGates v gates → (g h : ℕ) → g < length gates
     → IsAmong h (gate_operands gates g) → h < g
-needs_fall v gates ordered g h there used =
+needs_fall v gates numbered g h there used =
     let over = over_one gates g h there used in
-    let here = ordered_at v gates ordered g there in
-    let under = ordered_at v gates ordered h over.0 in
+    let here = numbered_at v gates numbered g there in
+    let under = numbered_at v gates numbered h over.0 in
     let number : (at gates g).var ≡ v + g = here.0 in
     let number_under : (at gates h).var ≡ v + h = under.0 in
     let low : (at gates h).var < (at gates g).var =
@@ -77,10 +88,14 @@ needs_fall v gates ordered g h there used =
     omega (arith, number, number_under, low)
 
 -- so they are taken as they stand
-pub in_order : (c : Circuit) → IsInBinaryOrder c → IsLeastReadyOrder c (range_with_len 0 (length c.gates))
-in_order c ordered =
-    let falls = needs_fall (1 + length c.inputs + length c.latches) c.gates ordered.gates in
+pub numbered_in_order : (c : Circuit) → IsNumberedInOrder c
+    → IsLeastReadyOrder c (range_with_len 0 (length c.gates))
+numbered_in_order c numbered =
+    let falls = needs_fall (1 + length c.inputs + length c.latches) c.gates numbered.gates in
     record {
       in_turn = one_by_one (length c.gates) (gate_operands c.gates) falls;
       full = all_of_them (length c.gates) (gate_operands c.gates) falls;
     }
+
+pub in_order : (c : Circuit) → IsInBinaryOrder c → IsLeastReadyOrder c (range_with_len 0 (length c.gates))
+in_order c ordered = numbered_in_order c (is_numbered c ordered)

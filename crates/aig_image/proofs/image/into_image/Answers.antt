@@ -2,5 +2,9 @@ use Rattle.std.proofs.Common.{subst}
 use Rattle.aig_image.specs.Image.{IsBinaryImage}
 use Rattle.aig_image.proofs.image.into_image.Goals as goal
 
+pub returns-then-is_numbered_in_order : goal.returns-then-is_numbered_in_order
+returns-then-is_numbered_in_order c =
+    subst (λ d. IsBinaryImage d c.sorted_image.result) c.into_circuit.ensures.value c.sorted_image.ensures
+
 pub returns : goal.returns
-returns c = subst (λ d. IsBinaryImage d c.image.result) c.into_circuit.ensures.value c.image.ensures
+returns c = subst (λ d. IsBinaryImage d c.image.result) c.into_circuit-2.ensures.value c.image.ensures
