@@ -10,6 +10,7 @@ pub mod Cyclic
 pub mod DepthFirst
 pub mod Steps
 pub mod Trees
+pub mod LeastApart
 pub mod Lists
 pub mod Placing
 pub mod Placements

@@ -4,16 +4,20 @@ ghost use Rattle.std.specs.Prelude.{nat_lt, slice_index, if◌then◌else◌, If
 ghost use Rattle.std.specs.Int.{bit_at};
 ghost use Rattle.std.specs.Option.{IfSome, IfNone};
 ghost use Rattle.aig_core.specs.Parts.Marks.{is_marked};
-ghost use Rattle.aig_core.specs.Ready.{has, room, first_bit, Tells, IsTree};
+ghost use Rattle.aig_core.specs.Ready.{has, room, is_in_tree, first_bit, Tells, IsTree};
 
 use crate::circuit::LARGEST;
 use std::alloc::{AllocError, Global};
 use std::marker::Model;
 
-/// A set of gates, by their positions, that gives the least one first: a tree of words, where below bit b stands word
-/// b + 1. Each bit of the lowest level is a gate, and each bit above is set if the word below it has any.
+/// A set of gates, by their positions, that gives the least one first. That one stands apart, so that a gate that comes
+/// where there is none, and goes before another comes, never goes through the tree. The tree, which has the others, is
+/// made of words, where below bit b stands word b + 1. Each bit of the lowest level is a gate, and each bit above is set
+/// if the word below it has any.
 #[derive(Drop)]
 pub(super) struct Ready {
+    /// The least gate, if there is any.
+    least: Option<u32>,
     words: Vec<u64>,
     /// The bit of the first gate.
     first: usize,
@@ -22,15 +26,15 @@ pub(super) struct Ready {
 }
 
 impl Model for Ready {
-    ghost use Rattle.aig_core.specs.Ready.{Tree, tree_code, IsTree};
+    ghost use Rattle.aig_core.specs.Ready.{Tree, tree_code, IsReady};
 
     ghost Value = { Tree };
 
     ghost coded = { tree_code };
 
-    ghost view = { λ r. record { words = r.words.items; first = r.first } };
+    ghost view = { λ r. record { least = r.least; words = r.words.items; first = r.first } };
 
-    ghost invariant = { λ r. IsTree r.words.items r.first r.levels };
+    ghost invariant = { λ r. IsReady r.least r.words.items r.first r.levels };
 }
 
 /// The word with a bit set or cleared.
@@ -66,7 +70,7 @@ fn tell(words: &mut [u64], bit: usize, on: bool)
 }
 
 /// The least bit that is set, of the lowest level.
-fn least(words: &[u64], levels: u32) -> usize
+fn least_bit(words: &[u64], levels: u32) -> usize
     requires tree { IsTree words.now (first_bit levels) levels }
     requires some { 0 < slice_index words.now 0 }
     ensures there { first_bit levels ≤ result }
@@ -79,6 +83,26 @@ fn least(words: &[u64], levels: u32) -> usize
         bit = 64 * below + words[below].trailing_zeros() as usize;
     }
     bit
+}
+
+/// Takes the least gate out of the tree.
+fn pop_least(words: &mut [u64], first: usize, levels: u32) -> Option<u32>
+    requires { IsTree words.old first levels }
+    ensures none { IfNone result ((g : ℕ) → is_in_tree words.old first g ≡ false) }
+    ensures same { IfNone result (words.new ≡ words.old) }
+    ensures first { IfSome result (λ gate. is_in_tree words.old first gate ≡ true) }
+    ensures least { IfSome result (λ gate. (g : ℕ) → is_in_tree words.old first g ≡ true → gate ≤ g) }
+    ensures rest { IfSome result (λ gate. (g : ℕ) → is_in_tree words.new first g
+        ≡ (not (g == gate) && is_in_tree words.old first g)) }
+    ensures as_many { length words.new ≡ length words.old }
+    ensures tree { IsTree words.new first levels }
+{
+    if words[0] == 0 {
+        return None;
+    }
+    let bit = least_bit(words, levels);
+    tell(words, bit, false);
+    Some((bit - first) as u32)
 }
 
 impl Ready {
@@ -96,6 +120,7 @@ impl Ready {
             levels += 1;
         }
         Ok(Ready {
+            least: None,
             words: vec![in alloc; 0; (first + gates) / 64 + 1]?,
             first,
             levels,
@@ -108,7 +133,15 @@ impl Ready {
         ensures ready { (g : ℕ) → has self.new g ≡ ((g == gate) || has self.old g) }
         ensures room { room self.new ≡ room self.old }
     {
-        tell(&mut self.words, self.first + gate as usize, true);
+        let Some(least) = self.least else {
+            self.least = Some(gate);
+            return;
+        };
+        if gate == least {
+            return;
+        }
+        self.least = Some(gate.min(least));
+        tell(&mut self.words, self.first + gate.max(least) as usize, true);
     }
 
     /// Takes the least gate out.
@@ -120,11 +153,8 @@ impl Ready {
         ensures rest { IfSome result (λ gate. (g : ℕ) → has self.new g ≡ (not (g == gate) && has self.old g)) }
         ensures room { room self.new ≡ room self.old }
     {
-        if self.words[0] == 0 {
-            return None;
-        }
-        let bit = least(self.words.as_slice(), self.levels);
-        tell(self.words.as_mut_slice(), bit, false);
-        Some((bit - self.first) as u32)
+        let least = self.least?;
+        self.least = pop_least(&mut self.words, self.first, self.levels);
+        Some(least)
     }
 }

@@ -1,6 +1,7 @@
-use Rattle.std.proofs.Common.{◌≡◌, ◌+◌, ap, suc, refl, arith}
-use Rattle.aig_core.specs.Ready.{first_bit}
-use Rattle.aig_core.proofs.Ordering.Trees.{empty_tree}
+use Rattle.std.proofs.Common.{◌≡◌, ◌+◌, ◌∙◌, replicate, ap, suc, refl, arith}
+use Rattle.aig_core.specs.Ready.{first_bit, has}
+use Rattle.aig_core.specs.Parts.Marks.{is_marked}
+use Rattle.aig_core.proofs.Ordering.Trees.{empty_tree, empty_words}
 use Rattle.aig_core.proofs.least_ready.ready.Ready.new.Goals as goal
 
 pub loop-first-init : goal.loop-first-init
@@ -18,6 +19,14 @@ loop-first-preserved c =
 
 pub invariant_of-result : goal.invariant_of-result
 invariant_of-result c =
-    empty_tree _ _ c.loop-first.first c.loop-first.levels c.args.gates
-    (c.in_ok-vec.ensures.items_if_clones_equal (λ y e. e)) refl c.loop-first.invariant.first_is
-    c.loop-first.invariant.few (omega (arith, c.loop-first-test.false)) (omega (arith, c.requires))
+    let is : c.in_ok-vec.field-0.items ≡ replicate _ 0 = c.in_ok-vec.ensures.items_if_clones_equal (λ y e. e) in record {
+      tree = empty_tree _ _ c.loop-first.first c.loop-first.levels c.args.gates is refl c.loop-first.invariant.first_is
+          c.loop-first.invariant.few (omega (arith, c.loop-first-test.false)) (omega (arith, c.requires));
+      before = λ g. ap (λ ws. is_marked ws (c.loop-first.first + g)) is ∙ empty_words _ (c.loop-first.first + g);
+    }
+
+pub returns-clause-empty : goal.returns-clause-empty
+unfolding has
+returns-clause-empty c = λ g.
+    ap (λ ws. is_marked ws (c.loop-first.first + g)) (c.in_ok-vec.ensures.items_if_clones_equal (λ y e. e))
+    ∙ empty_words _ (c.loop-first.first + g)

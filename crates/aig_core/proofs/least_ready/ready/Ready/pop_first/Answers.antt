@@ -1,38 +1,62 @@
-use Rattle.std.proofs.Common.{◌≡◌, ◌∙◌, ◌+◌, ◌++◌, ap, sym, subst, arith, length, get_or, take, cond, eqb, ◌<◌, ◌≤◌}
-use Rattle.std.proofs.Common.{false, List, ℕ}
-use Rattle.std.specs.Prelude.{drop}
-use Rattle.std.proofs.lemmas.List.{get_or_default}
-use Rattle.std.proofs.Math.Seq.{take-append_seam}
-use Rattle.aig_core.specs.Ready.{Tree, has, Tells}
-use Rattle.aig_core.specs.Parts.Marks.{is_marked}
-use Rattle.aig_core.proofs.Ordering.Trees.{none_set, still_tree}
+use Rattle.std.proofs.Common.{◌≡◌, ◌∙◌, ◌||◌, ◌&&◌, ap, sym, subst, arith, eqb, refl, not, ℕ, List, Some}
+use Rattle.std.proofs.lemmas.Bool.{eq-eqb}
+use Rattle.aig_core.specs.Ready.{Tree, IsReady, IsBefore, has, is_in_tree, is_least}
+use Rattle.aig_core.proofs.Ordering.LeastApart.{written_back, same_ready, same_gates, comes_first, others_stay, next_ready}
 use Rattle.aig_core.proofs.least_ready.ready.Ready.pop_first.Goals as goal
 
-pub returns-then-index-eq0-clause-none : goal.returns-then-index-eq0-clause-none
-returns-then-index-eq0-clause-none c = λ g.
-    let empty : get_or c.self.inside.words.items 0 0 ≡ 0 =
-    sym (c.index.ensures ∙ get_or_default c.self.inside.words.items 0 c.index.result.now 0 c.self.invariant.some)
-    ∙ c.if-index-eq0.true in
-    subst (λ (t : Tree). has t g ≡ false) c.self.view_is
-    (none_set c.self.inside.words.items c.self.inside.first c.self.inside.levels c.self.invariant empty
-    (c.self.inside.first + g) (omega arith))
+pub returns-in_err-least-clause-none : goal.returns-in_err-least-clause-none
+unfolding has
+returns-in_err-least-clause-none c =
+    rw c.from_residual.ensures (λ g.
+    sym (ap (λ (t : Tree). has t g) c.self.view_is)
+    ∙ ap (λ o. is_least o g || is_in_tree c.self.inside.words.items c.self.inside.first g) c.in_err-least.was
+    ∙ subst (λ o. IsBefore o c.self.inside.words.items c.self.inside.first) c.in_err-least.was c.self.invariant.before g)
+
+pub returns-clause-first : goal.returns-clause-first
+unfolding has
+returns-clause-first c =
+    let least : ℕ = c.in_ok-least.least in
+    sym (ap (λ (t : Tree). has t least) c.self.view_is)
+    ∙ ap (λ o. is_least o least || is_in_tree c.self.inside.words.items c.self.inside.first least) c.in_ok-least.was
+    ∙ ap (λ b. b || is_in_tree c.self.inside.words.items c.self.inside.first least) (eq-eqb least least refl)
+
+pub returns-clause-least : goal.returns-clause-least
+unfolding has
+returns-clause-least c = λ g set.
+    comes_first c.self.inside.words.items c.self.inside.first c.self.inside.levels c.in_ok-least.least
+    (subst (λ o. IsReady o c.self.inside.words.items c.self.inside.first c.self.inside.levels) c.in_ok-least.was
+    c.self.invariant) g
+    (ap (λ o. is_least o g || is_in_tree c.self.inside.words.items c.self.inside.first g) (sym c.in_ok-least.was)
+    ∙ ap (λ (t : Tree). has t g) c.self.view_is ∙ set)
+
+pub returns-clause-rest : goal.returns-clause-rest
+unfolding has
+returns-clause-rest c = λ g.
+    let words : List ℕ = c.deref_mut.result.now in
+    let new : List ℕ = c.pop_least-self-inside.new.words in
+    let least : ℕ = c.in_ok-least.least in
+    let ready : IsReady (Some least) words c.self.inside.first c.self.inside.levels =
+    same_ready least _ words _ _ _ c.in_ok-least.was c.deref_mut.ensures.value c.self.invariant in
+    let now_is : (eqb g least || is_in_tree words c.self.inside.first g) ≡ has c.args.self.now g =
+    same_gates least _ words _ c.self.inside.first g c.in_ok-least.was c.deref_mut.ensures.value
+    ∙ ap (λ (t : Tree). has t g) c.self.view_is in
+    ap (λ ws. is_least c.pop_least-self-inside.result g || is_in_tree ws c.self.inside.first g)
+    (written_back new c.self.inside.words.items c.self.inside.words.len
+    (omega (arith, c.deref_mut.ensures.len, c.pop_least-self-inside.auto.words)))
+    ∙ others_stay words new c.self.inside.first c.self.inside.levels least ready c.pop_least-self-inside.result
+    c.pop_least-self-inside.ensures.none c.pop_least-self-inside.ensures.same c.pop_least-self-inside.ensures.first
+    c.pop_least-self-inside.ensures.rest g
+    ∙ ap (λ b. not (eqb g least) && b) now_is
 
 pub invariant_of-self : goal.invariant_of-self
 invariant_of-self c =
-    let new : List ℕ = c.tell.new.words in
-    let kept : length new ≡ length c.self.inside.words.items =
-    omega (arith, ap length c.as_mut_slice.ensures.value, c.tell.auto.words) in
-    let as_long : c.self.inside.words.len ≡ length new = omega (arith, c.as_mut_slice.ensures.len, c.tell.auto.words) in
-    let is : take c.self.inside.words.len (new ++ drop (length new) c.self.inside.words.items) ≡ new =
-    ap (λ n. take n (new ++ drop (length new) c.self.inside.words.items)) as_long
-    ∙ take-append_seam new (drop (length new) c.self.inside.words.items) in
-    let low : c.self.inside.first ≤ c.least-bit.result =
-    omega (arith, c.least-bit.ensures.there, c.self.invariant.first_is) in
-    let told : (b : ℕ) → b + 1 < length c.self.inside.words.items → Tells new b =
-    subst (λ ws. (b : ℕ) → b + 1 < length ws → Tells new b) c.as_mut_slice.ensures.value c.tell.ensures.told in
-    let lowest : (b : ℕ) → length c.self.inside.words.items ≤ b + 1
-    → is_marked new b ≡ cond (eqb b c.least-bit.result) false (is_marked c.self.inside.words.items b) =
-    subst (λ ws. (b : ℕ) → length ws ≤ b + 1 → is_marked new b ≡ cond (eqb b c.least-bit.result) false (is_marked ws b))
-    c.as_mut_slice.ensures.value c.tell.ensures.lowest in
-    rw is (still_tree c.self.inside.words.items new c.self.inside.first c.self.inside.levels c.least-bit.result false
-    c.self.invariant low kept told lowest)
+    let words : List ℕ = c.deref_mut.result.now in
+    let new : List ℕ = c.pop_least-self-inside.new.words in
+    let ready : IsReady (Some c.in_ok-least.least) words c.self.inside.first c.self.inside.levels =
+    same_ready c.in_ok-least.least _ words _ _ _ c.in_ok-least.was c.deref_mut.ensures.value c.self.invariant in
+    rw (written_back new c.self.inside.words.items c.self.inside.words.len
+    (omega (arith, c.deref_mut.ensures.len, c.pop_least-self-inside.auto.words)))
+    (next_ready words new c.self.inside.first c.self.inside.levels c.in_ok-least.least ready
+    c.pop_least-self-inside.result c.pop_least-self-inside.ensures.none c.pop_least-self-inside.ensures.same
+    c.pop_least-self-inside.ensures.first c.pop_least-self-inside.ensures.least c.pop_least-self-inside.ensures.rest
+    c.pop_least-self-inside.ensures.as_many c.pop_least-self-inside.ensures.tree)

@@ -3,7 +3,7 @@ use Rattle.std.proofs.Math.Facts.{Fits-lt-pow}
 use Rattle.std.specs.Int.{w64, trailing_zeros}
 use Rattle.aig_core.specs.Ready.{first_bit}
 use Rattle.aig_core.proofs.Ordering.Trees.{IsLeastAt, at_top, there_below, found_fits, one_down, at_end}
-use Rattle.aig_core.proofs.least_ready.ready.least.Goals as goal
+use Rattle.aig_core.proofs.least_ready.ready.least_bit.Goals as goal
 
 pub loop-init : goal.loop-init
 loop-init c = at_top c.args.words.now (first_bit c.args.levels) c.args.levels c.requires.tree
