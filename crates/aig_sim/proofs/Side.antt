@@ -7,5 +7,6 @@ pub mod RunsRead
 pub mod Fronts
 pub mod ShownTexts
 pub mod Given
+pub mod Squares
 pub mod Sheets
 pub mod Vectors

@@ -1,5 +1,5 @@
 //! Inputs of a step, as characters, put into planes.
-ghost use Rattle.std.specs.Prelude.{◌≡◌, ◌≢◌, ◌+◌, ◌*◌, ◌<◌, ◌≤◌, ◌==◌, ℕ, List, [], if◌then◌else◌, length};
+ghost use Rattle.std.specs.Prelude.{◌≡◌, ◌≢◌, ◌+◌, ◌*◌, ◌/◌, ◌%◌, ◌^◌, ◌<◌, ◌≤◌, ◌==◌, ℕ, List, [], if◌then◌else◌, length};
 ghost use Rattle.std.specs.Prelude.{slice_index_or, slice_set, IfOk};
 ghost use Rattle.std.specs.Int.{bit_at};
 ghost use Rattle.std.specs.List.{All};
@@ -7,7 +7,7 @@ ghost use Rattle.aig_core.specs.declared.value.Val.{Val as Value};
 ghost use Rattle.aig_core.specs.declared.value.Val.TheVariants.{Zero};
 ghost use Rattle.aig_sim.specs.declared.run.Run.{Run as RunRecord};
 ghost use Rattle.aig_sim.specs.Parts.Lanes.{IsLane, IsPlane, bit_in};
-ghost use Rattle.aig_sim.specs.Parts.Sheets.{given_in};
+ghost use Rattle.aig_sim.specs.Parts.Sheets.{given_character, given_in, step_text, IsGiven};
 ghost use Rattle.aig_sim.specs.Parts.Tables.{placed};
 ghost use Rattle.aig_sim.specs.TraceText.{values_text};
 
@@ -34,21 +34,128 @@ pub(crate) fn new_given(alloc: Global, count: usize) -> Result<Vec<Given>, OutOf
     Ok(given)
 }
 
-/// Puts the characters of a text into a lane, one for each input.
+/// The first eight characters, the first in the lowest byte of the word.
 #[inline(always)]
-fn put_text(given: &mut [Given], lane: usize, text: &[u8])
+fn word_of(text: &[u8]) -> u64
+    requires { 8 ≤ length text.now }
+    ensures { (k : ℕ) → k < 8 → result / 256 ^ k % 256 ≡ slice_index_or text.now k 0 }
+{
+    u64::from_le_bytes([
+        text[0], text[1], text[2], text[3], text[4], text[5], text[6], text[7],
+    ])
+}
+
+/// Eight characters of a lane, from an input on. Zeros where the lane has no such step: none looks at them.
+#[inline(always)]
+fn row_at(runs: &[Vectors], step: usize, lane: usize, input: usize) -> u64
+    requires { All (λ (run : RunRecord). All (λ (vector : List Value). input + 8 ≤ length vector) run.steps) runs.now }
+    ensures { (k : ℕ) → k < 8
+        → result / 256 ^ k % 256 ≡ slice_index_or (step_text step lane runs.now) (input + k) 0 }
+{
+    if lane < runs.len() && step < runs[lane].len() {
+        return word_of(&runs[lane].text(step)[input..]);
+    }
+    0
+}
+
+/// Such a row of each of eight lanes.
+#[inline(always)]
+fn rows_at(runs: &[Vectors], step: usize, lane: usize, input: usize) -> [u64; 8]
+    requires lane { lane + 8 ≤ 256 }
+    requires each { All (λ (run : RunRecord).
+        All (λ (vector : List Value). input + 8 ≤ length vector) run.steps) runs.now }
+    ensures words { All (λ (row : ℕ). row < 2 ^ 64) result }
+    ensures own { (r k : ℕ) → r < 8 → k < 8 → slice_index_or result r 0 / 256 ^ k % 256
+        ≡ slice_index_or (step_text step (lane + r) runs.now) (input + k) 0 }
+{
+    let mut rows = [0; 8];
+    for r in 0..8 {
+        rows[r] = row_at(runs, step, lane + r, input);
+    }
+    rows
+}
+
+/// The eight bytes of eight rows by columns: the first byte of each row, then the second of each, and so on.
+#[inline(always)]
+fn turned(rows: &[u64; 8]) -> [u8; 64]
+    requires { All (λ (row : ℕ). row < 2 ^ 64) rows.now }
+    ensures { (r k : ℕ) → r < 8 → k < 8
+        → slice_index_or result (8 * k + r) 0 ≡ slice_index_or rows.now r 0 / 256 ^ k % 256 }
+{
+    Simd::from_array(*rows)
+        .to_le_bytes()
+        .swizzle::<64>([
+            0, 8, 16, 24, 32, 40, 48, 56, 1, 9, 17, 25, 33, 41, 49, 57, 2, 10, 18, 26, 34, 42, 50,
+            58, 3, 11, 19, 27, 35, 43, 51, 59, 4, 12, 20, 28, 36, 44, 52, 60, 5, 13, 21, 29, 37,
+            45, 53, 61, 6, 14, 22, 30, 38, 46, 54, 62, 7, 15, 23, 31, 39, 47, 55, 63,
+        ])
+        .to_array()
+}
+
+/// Puts eight inputs of eight lanes.
+fn put_square(runs: &[Vectors], step: usize, given: &mut [Given], lane: usize, input: usize)
+    requires lane { lane + 8 ≤ 256 }
+    requires inputs { input + 8 ≤ length given.old }
+    requires each { All (λ (run : RunRecord).
+        All (λ (vector : List Value). length vector ≡ length given.old) run.steps) runs.now }
+    ensures size { length given.new ≡ length given.old }
+    ensures own { (i l : ℕ) → input ≤ i → i < input + 8 → lane ≤ l → l < lane + 8
+        → IsGiven i l (step_text step l runs.now) given.new }
+    ensures inputs { (i l : ℕ) → i < input → given_character i l given.new ≡ given_character i l given.old }
+    ensures lanes { (i l : ℕ) → l < lane → given_character i l given.new ≡ given_character i l given.old }
+{
+    let columns = turned(&rows_at(runs, step, lane, input));
+    for k in 0..8 {
+        given[input + k][lane..lane + 8].copy_from_slice(&columns[8 * k..8 * k + 8]);
+    }
+}
+
+/// Puts eight lanes, but for the inputs behind the last whole square.
+fn put_eight(runs: &[Vectors], step: usize, given: &mut [Given], lane: usize)
+    requires lane { lane + 8 ≤ 256 }
+    requires each { All (λ (run : RunRecord).
+        All (λ (vector : List Value). length vector ≡ length given.old) run.steps) runs.now }
+    ensures size { length given.new ≡ length given.old }
+    ensures own { (i l : ℕ) → i < 8 * (length given.old / 8) → lane ≤ l → l < lane + 8
+        → IsGiven i l (step_text step l runs.now) given.new }
+    ensures lanes { (i l : ℕ) → l < lane → given_character i l given.new ≡ given_character i l given.old }
+{
+    for square in 0..given.len() / 8 {
+        put_square(runs, step, given, lane, 8 * square);
+    }
+}
+
+/// Puts all lanes, but for the inputs behind the last whole square.
+fn put_squares(runs: &[Vectors], step: usize, given: &mut [Given])
+    requires lanes { length runs.now ≤ 256 }
+    requires each { All (λ (run : RunRecord).
+        All (λ (vector : List Value). length vector ≡ length given.old) run.steps) runs.now }
+    ensures size { length given.new ≡ length given.old }
+    ensures own { (i l : ℕ) → i < 8 * (length given.old / 8) → l < length runs.now
+        → IsGiven i l (step_text step l runs.now) given.new }
+{
+    for eight in 0..runs.len().div_ceil(8) {
+        put_eight(runs, step, given, 8 * eight);
+    }
+}
+
+/// Puts one lane, from an input on.
+#[inline(always)]
+fn put_rest(given: &mut [Given], lane: usize, text: &[u8], input: usize)
     requires lane { lane < 256 }
     requires each { length text.now ≡ length given.old }
     ensures size { length given.new ≡ length given.old }
-    ensures own { given_in lane given.new ≡ text.now }
-    ensures others { (l : ℕ) → l ≢ lane → given_in l given.new ≡ given_in l given.old }
+    ensures own { (i : ℕ) → input ≤ i → IsGiven i lane text.now given.new }
+    ensures inputs { (i l : ℕ) → i < input → given_character i l given.new ≡ given_character i l given.old }
+    ensures others { (i l : ℕ) → l ≢ lane → given_character i l given.new ≡ given_character i l given.old }
 {
-    for i in 0..text.len() {
+    for i in input..text.len() {
         given[i][lane] = text[i];
     }
 }
 
-/// Puts the characters of a step into the lane of each run that has it.
+/// Puts the characters of a step into the lane of each run that has it. Eight lanes by eight inputs are turned at
+/// once, and the inputs that are left, fewer than eight, are put one by one.
 fn put_texts(runs: &[Vectors], step: usize, given: &mut [Given])
     requires lanes { length runs.now ≤ 256 }
     requires each { All (λ (run : RunRecord).
@@ -57,9 +164,14 @@ fn put_texts(runs: &[Vectors], step: usize, given: &mut [Given])
     ensures own { (j : ℕ) (d : RunRecord) → j < length runs.now → step < length (slice_index_or runs.now j d).steps
         → given_in j given.new ≡ values_text (slice_index_or (slice_index_or runs.now j d).steps step []) }
 {
+    put_squares(runs, step, given);
+    let whole = 8 * (given.len() / 8);
+    if whole == given.len() {
+        return;
+    }
     for lane in 0..runs.len() {
         if step < runs[lane].len() {
-            put_text(given, lane, runs[lane].text(step));
+            put_rest(given, lane, runs[lane].text(step), whole);
         }
     }
 }

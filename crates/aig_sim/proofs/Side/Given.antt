@@ -1,13 +1,11 @@
 -- The characters of inputs in all lanes.
-use Rattle.std.proofs.Common.{◌≡◌, ◌≢◌, ◌+◌, ◌-◌, ◌/◌, ◌%◌, ◌^◌, ◌<◌, ◌≤◌, ◌==◌, ◌++◌, ℕ, List, [], ◌∷◌, Bool, true}
-use Rattle.std.proofs.Common.{false, not, cond, eqb, if◌then◌else◌, length, map, get_or, set, take, drop, replicate}
+use Rattle.std.proofs.Common.{◌≡◌, ◌+◌, ◌-◌, ◌/◌, ◌%◌, ◌^◌, ◌<◌, ◌≤◌, ◌==◌, ℕ, List, [], ◌∷◌, Bool, true}
+use Rattle.std.proofs.Common.{false, not, cond, eqb, if◌then◌else◌, length, map, get_or, take, drop, replicate}
 use Rattle.std.proofs.Common.{refl, sym, ap, ◌∙◌, arith, w8, inl, inr}
 use Rattle.std.specs.Int.{bit_at}
 use Rattle.std.specs.Simd.Lanes.{chunk, mask_l, top, zip2}
-use Rattle.std.proofs.Math.Seq.{map-set_same}
 use Rattle.std.proofs.lemmas.Bool.{cases_lt}
 use Rattle.std.proofs.lemmas.List.{get_or-drop, get_or-map, get_or-take, length-drop, length-map, length-take-le}
-use Rattle.std.proofs.lemmas.List.{get_or-set_other, get_or-set_same, map-set, take_all, take_more, take_more_set}
 use Rattle.std.proofs.lemmas.Simd.{bit_mask_l, bitmask_splat, get_or-chunk, length-chunk}
 use Rattle.aig_core.specs.declared.value.Val.{Val}
 use Rattle.aig_core.specs.declared.value.Val.TheVariants.{Zero, One, X}
@@ -99,32 +97,3 @@ given_at l i given strip vector is below =
     sym (get_or-map (λ (s : List ℕ). get_or s l 0) given i strip 0 below)
     ∙ ap (λ (text : List ℕ). get_or text i 0) is
     ∙ get_or-map character_of vector i Zero 0 (omega (arith, below, vector_length l given vector is))
-
--- one more character is put into a lane
-pub given_more : (lane i : ℕ) (given : List (List ℕ)) (text : List ℕ) → i < length given → i < length text
-    → lane < length (get_or given i []) → take i (given_in lane given) ≡ take i text
-    → take (i + 1) (given_in lane (set given i (set (get_or given i []) lane (get_or text i 0)))) ≡ take (i + 1) text
-given_more lane i given text below in_text in_strip before =
-    let strip = get_or given i [] in
-    let x = get_or text i 0 in
-    let column = λ (s : List ℕ). get_or s lane 0 in
-    ap (take (i + 1))
-    (map-set column given i (set strip lane x)
-    ∙ ap (set (map column given) i) (get_or-set_same strip lane x 0 in_strip))
-    ∙ take_more_set (map column given) i x (omega (arith, below, length-map given column))
-    ∙ ap (λ (front : List ℕ). front ++ x ∷ []) before ∙ sym (take_more text i 0 in_text)
-
--- and the other lanes keep theirs
-pub given_others : (l lane i : ℕ) (given : List (List ℕ)) (x : ℕ) → l ≢ lane
-    → given_in l (set given i (set (get_or given i []) lane x)) ≡ given_in l given
-given_others l lane i given x other =
-    map-set_same (λ (s : List ℕ). get_or s l 0) given i (set (get_or given i []) lane x) []
-    (get_or-set_other (get_or given i []) lane l x 0 other)
-
--- the lane has all of them
-pub given_all : (lane i : ℕ) (given : List (List ℕ)) (text : List ℕ) → length text ≤ i → length text ≡ length given
-    → take i (given_in lane given) ≡ take i text → given_in lane given ≡ text
-given_all lane i given text end same front =
-    sym (take_all i (given_in lane given)
-    (omega (arith, end, same, length-map given (λ (s : List ℕ). get_or s lane 0))))
-    ∙ front ∙ take_all i text end

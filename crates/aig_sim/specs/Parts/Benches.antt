@@ -1,8 +1,6 @@
 -- What runs are stepped in, one group after the other. Only private functions cite this.
-use Rattle.std.specs.Prelude.{◌≡◌, ◌+◌, ◌*◌, ◌<◌, ◌≤◌, ◌^◌, List, length}
-use Rattle.std.specs.List.{All}
+use Rattle.std.specs.Prelude.{◌≡◌, ◌+◌, ◌*◌, ◌<◌, ◌^◌, length}
 use Rattle.aig_core.specs.declared.circuit.Circuit.{Circuit}
-use Rattle.aig_core.specs.declared.value.Val.{Val}
 use Rattle.aig_sim.specs.declared.run.Run.{Run}
 use Rattle.aig_sim.specs.declared.text_group.Bench.{Bench}
 use Rattle.aig_sim.specs.Parts.LaneTexts.{HasSheets}

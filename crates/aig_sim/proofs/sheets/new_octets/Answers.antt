@@ -1,9 +1,8 @@
-use Rattle.std.proofs.Common.{◌≡◌, ◌+◌, ◌*◌, ◌/◌, ◌%◌, ◌<◌, ◌≤◌, ◌++◌, ◌∷◌, ◌∙◌, ℕ, List, [], ap, arith, get_or, inl}
+use Rattle.std.proofs.Common.{◌≡◌, ◌+◌, ◌*◌, ◌/◌, ◌%◌, ◌≤◌, ◌++◌, ◌∷◌, ◌∙◌, ℕ, List, [], ap, arith, get_or, inl}
 use Rattle.std.proofs.Common.{inr, length, rules, sym}
 use Rattle.std.proofs.Math.Nat.{mul-le-mul_right}
 use Rattle.std.proofs.lemmas.Bool.{cases_lt}
 use Rattle.std.proofs.lemmas.List.{get_or-append-add, get_or_append_left, length-append}
-use Rattle.aig_sim.specs.declared.run.Run.{Run}
 use Rattle.aig_sim.specs.Parts.Sheets.{OctetText, lane_text, octet_text}
 use Rattle.aig_sim.proofs.Side.Sheets.{octet_of}
 use Rattle.aig_sim.proofs.sheets.new_octets.Goals as goal

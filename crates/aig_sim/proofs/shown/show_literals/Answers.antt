@@ -1,10 +1,10 @@
-use Rattle.std.proofs.Common.{◌≡◌, ◌+◌, ◌*◌, ◌<◌, ◌∙◌, ap, arith, drop, length, map, subst, sym, take, ℕ, List}
+use Rattle.std.proofs.Common.{◌≡◌, ◌+◌, ◌*◌, ◌<◌, ◌∙◌, ap, arith, drop, length, map, sym, take, ℕ, List}
 use Rattle.std.proofs.lemmas.List.{drop-set-add, get_or-map, length-drop, length-map, take-set-le, take_all}
 use Rattle.aig_core.specs.declared.value.Val.TheVariants.{Zero}
 use Rattle.aig_meaning.specs.Meaning.{literal_value}
 use Rattle.aig_sim.specs.Parts.Sheets.{text_in}
 use Rattle.aig_sim.specs.Parts.Tables.{read_from}
-use Rattle.aig_sim.specs.TraceText.{character_of, values_text}
+use Rattle.aig_sim.specs.TraceText.{values_text}
 use Rattle.aig_sim.proofs.Side.Sheets.{pair_character, shown_more}
 use Rattle.aig_sim.proofs.shown.show_literals.Goals as goal
 

@@ -1,8 +1,8 @@
-use Rattle.std.proofs.Common.{◌≡◌, ◌+◌, ◌*◌, ◌<◌, ◌≤◌, ◌∙◌, [], ap, arith, drop, length, refl, sym, take, ℕ, List}
+use Rattle.std.proofs.Common.{◌≡◌, ◌+◌, ◌*◌, ◌<◌, ◌∙◌, [], ap, arith, drop, length, refl, sym, take, ℕ, List}
 use Rattle.std.proofs.lemmas.List.{drop-set-add, length-drop, take-set-le, take_all}
 use Rattle.aig_sim.specs.Parts.Sheets.{text_in}
 use Rattle.aig_sim.specs.Parts.Tables.{read_from}
-use Rattle.aig_sim.specs.TraceText.{character_of, values_text}
+use Rattle.aig_sim.specs.TraceText.{values_text}
 use Rattle.aig_sim.proofs.Side.Sheets.{pair_character, shown_more}
 use Rattle.aig_sim.proofs.Side.Tables.{lane_length, pair_of_variable}
 use Rattle.aig_sim.proofs.shown.show_table.Goals as goal

@@ -1,4 +1,4 @@
-use Rattle.std.proofs.Common.{◌≡◌, ◌+◌, ◌∙◌, ◌<◌, ◌*◌, List, arith, length, map, replicate, subst, ℕ}
+use Rattle.std.proofs.Common.{◌≡◌, ◌+◌, ◌∙◌, ◌<◌, List, arith, length, map, replicate, subst, ℕ}
 use Rattle.aig_core.specs.declared.circuit.Latch.{Latch}
 use Rattle.aig_core.specs.declared.value.Val.TheVariants.{X}
 use Rattle.aig_meaning.specs.Trace.{reset_state, reset_value}

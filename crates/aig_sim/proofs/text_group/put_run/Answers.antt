@@ -1,4 +1,4 @@
-use Rattle.std.proofs.Common.{◌≡◌, ◌+◌, ◌∙◌, ℕ, List, arith, codes, length, subst, sym, suc}
+use Rattle.std.proofs.Common.{◌≡◌, ◌∙◌, ℕ, List, arith, codes, length, subst}
 use Rattle.aig_io.specs.Output.{Put}
 use Rattle.aig_io.proofs.Puts.{put_twice}
 use Rattle.aig_sim.specs.Parts.LaneTexts.{kept_text, shown_text}

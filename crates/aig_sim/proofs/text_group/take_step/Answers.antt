@@ -1,10 +1,10 @@
-use Rattle.std.proofs.Common.{◌<◌, ◌+◌, ◌≡◌, List, arith, get_or, length, map, subst, sym}
+use Rattle.std.proofs.Common.{◌<◌, ◌+◌, List, arith, get_or, map, subst, sym}
 use Rattle.aig_core.specs.declared.circuit.Latch.{Latch}
 use Rattle.aig_meaning.specs.Meaning.{literal_value}
 use Rattle.aig_sim.specs.Parts.Lanes.{IsLane}
 use Rattle.aig_sim.specs.Parts.Sheets.{HasStep, SheetText}
 use Rattle.aig_sim.specs.Parts.Tables.{read_from}
-use Rattle.aig_sim.proofs.Side.ShownTexts.{fits_behind, holds_step, kept_by, room_kept, shown_still}
+use Rattle.aig_sim.proofs.Side.ShownTexts.{holds_step, kept_by, room_kept, shown_still}
 use Rattle.aig_sim.proofs.Side.TextGroups.{text_stands_on}
 use Rattle.aig_sim.proofs.text_group.take_step.Goals as goal
 

@@ -1,4 +1,4 @@
-use Rattle.std.proofs.Common.{◌<◌, ◌+◌, ◌*◌, ◌≡◌, ◌≤◌, ◌∙◌, ap, arith, get_or, length, ℕ}
+use Rattle.std.proofs.Common.{◌+◌, ◌*◌, ◌≤◌, ◌∙◌, ap, arith, get_or, ℕ}
 use Rattle.std.proofs.Math.Nat.{mul-le-mul_right}
 use Rattle.aig_sim.specs.Parts.LaneTexts.{shown_size}
 use Rattle.aig_sim.proofs.Side.ShownTexts.{holds_still, rooms_twice, sheets_stay, size_stays}

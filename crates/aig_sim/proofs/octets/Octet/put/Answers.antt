@@ -1,4 +1,4 @@
-use Rattle.std.proofs.Common.{◌≡◌, ◌≤◌, ap, arith, length, set, subst, sym, ◌∙◌}
+use Rattle.std.proofs.Common.{◌≤◌, ap, arith, length, set, sym, ◌∙◌}
 use Rattle.std.proofs.lemmas.List.{set_past}
 use Rattle.std.specs.Int.{bit_at}
 use Rattle.aig_sim.specs.Parts.Sheets.{OctetText, character_by, octet_text}

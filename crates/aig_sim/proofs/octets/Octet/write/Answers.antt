@@ -1,5 +1,4 @@
 use Rattle.std.proofs.Common.{◌≡◌, ◌+◌, ◌≤◌, ◌++◌, ◌∙◌, ℕ, List, ap, ap₂, arith, drop, length, subst, sym, take}
-use Rattle.std.proofs.lemmas.List.{length-drop}
 use Rattle.std.specs.Int.{bit_at}
 use Rattle.aig_sim.specs.Parts.Sheets.{OctetText, character_by, octet_text}
 use Rattle.aig_sim.proofs.Side.Sheets.{octet_of, text_long, zip_drop, zip_take}

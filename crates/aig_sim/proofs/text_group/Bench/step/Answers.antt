@@ -1,4 +1,4 @@
-use Rattle.std.proofs.Common.{◌≡◌, ◌∙◌, ◌+◌, ◌<◌, ◌≤◌, List, arith, get_or, length, subst, sym, ℕ}
+use Rattle.std.proofs.Common.{◌≡◌, ◌∙◌, ◌+◌, ◌<◌, ◌≤◌, List, arith, get_or, length, subst, ℕ}
 use Rattle.std.proofs.lemmas.List.{take_all, with_items_is}
 use Rattle.aig_core.specs.declared.value.Val.{Val}
 use Rattle.aig_meaning.specs.Trace.{IsTrace, reset_state}
