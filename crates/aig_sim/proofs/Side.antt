@@ -10,3 +10,4 @@ pub mod Given
 pub mod Squares
 pub mod Sheets
 pub mod Vectors
+pub mod GoodLines

@@ -3,7 +3,7 @@ ghost use Rattle.std.specs.Prelude.{◌≡◌, ◌≤◌, IfOk, List, length};
 ghost use Rattle.std.specs.List.{All};
 ghost use Rattle.aig_core.specs.declared.value.Val.{Val as Value};
 ghost use Rattle.aig_sim.specs.declared.run.Run.{Run as RunRecord};
-ghost use Rattle.aig_sim.specs.Parts.RunsRead.{Says, entries_of_groups};
+ghost use Rattle.aig_sim.specs.Parts.RunsRead.{HasNoBadLine, Says, entries_of_groups};
 
 use crate::runs_read::{RunGroup, read_group};
 use aig_core::OutOfMemory;
@@ -19,6 +19,7 @@ pub(crate) fn read_front<'a>(
     inputs: usize,
     bytes: &'a [u8],
 ) -> Result<(Vec<RunGroup<'a>>, usize, &'a [u8]), OutOfMemory>
+    requires { HasNoBadLine inputs bytes.now }
     ensures says { IfOk result (λ front.
         Says inputs bytes.now front.1 (entries_of_groups front.0.items) front.2.now) }
     ensures few { IfOk result (λ front. All (λ (runs : List RunRecord). length runs ≤ 256) front.0.items) }

@@ -3,10 +3,10 @@ ghost use Rattle.std.specs.Prelude.{◌≡◌, ◌+◌, ◌≤◌, List, IfOk, I
 ghost use Rattle.std.specs.List.{All, flat_map};
 ghost use Rattle.aig_core.specs.declared.value.Val.{Val as Value};
 ghost use Rattle.aig_sim.specs.declared.run.Run.{Run as RunRecord};
-ghost use Rattle.aig_sim.specs.Parts.RunsRead.{Says, entries_of_run};
+ghost use Rattle.aig_sim.specs.Parts.RunsRead.{HasNoBadLine, Says, entries_of_run};
+ghost use Rattle.memchr.specs.Find.{IsFirstByte, is_byte};
 
-use crate::line_feed::line_feed;
-use crate::stimulus::{is_stop, is_vector, without_return};
+use crate::stimulus::{is_stop, without_return};
 use crate::vectors::Vectors;
 use aig_core::OutOfMemory;
 use memchr::memchr;
@@ -24,27 +24,38 @@ fn first_stride(bytes: &[u8]) -> usize {
     }
 }
 
-/// The run at the front of the bytes and what comes behind it, if there are good lines, all of one length but for the
-/// last, which ends it.
+/// The first line feed. A line that does not begin as one that ends a run is a step, since none is bad, so its line feed
+/// has its place, and none is looked for.
+#[inline(always)]
+fn first_end(inputs: usize, bytes: &[u8]) -> Option<usize>
+    requires { HasNoBadLine inputs bytes.now }
+    ensures { IsFirstByte (is_byte 10) bytes.now result }
+{
+    if inputs < bytes.len() && bytes[inputs] == b'\n' && bytes[0] != b'.' {
+        return Some(inputs);
+    }
+    memchr(b'\n', bytes)
+}
+
+/// The run at the front of the bytes and what comes behind it, if it ends there and all its lines have one length but
+/// for the last, which ends it. No line is judged again.
 fn read_run<'a>(inputs: usize, bytes: &'a [u8]) -> Option<(Vectors<'a>, &'a [u8])>
+    requires { HasNoBadLine inputs bytes.now }
     ensures says { IfSome result (λ read. Says inputs bytes.now (length read.0.steps + 1)
         (entries_of_run read.0) read.1.now) }
     ensures fits { IfSome result (λ read. All (λ (vector : List Value). length vector ≡ inputs) read.0.steps) }
+    ensures good { IfSome result (λ read. HasNoBadLine inputs read.1.now) }
 {
     let stride = first_stride(bytes);
     let mut steps = 0;
     let mut rest = bytes;
-    while let Some(next) = line_feed(rest, inputs) {
+    while let Some(next) = first_end(inputs, rest) {
         let (line, more) = rest.split_at(next);
         let (_, more) = more.split_at(1);
-        let text = without_return(line);
-        if is_stop(text) {
+        if is_stop(without_return(line)) {
             return Some((Vectors::new(bytes, inputs, stride, steps), more));
         }
         if next + 1 != stride {
-            return None;
-        }
-        if !is_vector(inputs, text) {
             return None;
         }
         steps += 1;
@@ -84,12 +95,14 @@ pub(crate) fn read_group<'a>(
     inputs: usize,
     bytes: &'a [u8],
 ) -> Result<(RunGroup<'a>, usize, &'a [u8]), OutOfMemory>
+    requires { HasNoBadLine inputs bytes.now }
     ensures says { IfOk result (λ read.
         Says inputs bytes.now read.1 (flat_map entries_of_run read.0) read.2.now) }
     ensures fits { IfOk result (λ read. All (λ (run : RunRecord).
         All (λ (vector : List Value). length vector ≡ inputs) run.steps) read.0) }
     ensures few { IfOk result (λ read. length read.0 ≤ 256) }
     ensures some { IfOk result (λ read. length read.0 ≤ read.1) }
+    ensures good { IfOk result (λ read. HasNoBadLine inputs read.2.now) }
 {
     let mut runs = Vec::with_capacity(alloc, LANES)?;
     let mut lines = 0;

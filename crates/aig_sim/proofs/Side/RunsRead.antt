@@ -131,7 +131,7 @@ last_shorter true b = omega arith
 last_shorter false b = omega arith
 
 -- the text of a line is at its front
-text_in_front : (line : List ℕ) → without_return line ≡ take (length (without_return line)) line
+pub text_in_front : (line : List ℕ) → without_return line ≡ take (length (without_return line)) line
 text_in_front [] = refl
 text_in_front (b ∷ []) = last_cut ((b == 13) && true) b
 text_in_front (a ∷ b ∷ bs) =
@@ -139,7 +139,7 @@ text_in_front (a ∷ b ∷ bs) =
     ∙ ap (λ (t : List ℕ). a ∷ t) (text_in_front (b ∷ bs))
     ∙ ap (λ (t : List ℕ). take (length t) (a ∷ b ∷ bs)) (sym (kept_first a b bs))
 
-text_shorter : (line : List ℕ) → length (without_return line) ≤ length line
+pub text_shorter : (line : List ℕ) → length (without_return line) ≤ length line
 text_shorter [] = omega arith
 text_shorter (b ∷ []) = last_shorter ((b == 13) && true) b
 text_shorter (a ∷ b ∷ bs) = omega (arith, ap length (kept_first a b bs), text_shorter (b ∷ bs))

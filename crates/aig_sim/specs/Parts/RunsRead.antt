@@ -1,12 +1,13 @@
 -- Runs that are read at the front of a stimulus. Only private functions cite this.
-use Rattle.std.specs.Prelude.{◌≡◌, ◌+◌, ◌≤◌, ◌++◌, ℕ, zero, suc, List, [], ◌∷◌, codes, length, map, slice_index_or}
+use Rattle.std.specs.Prelude.{◌≡◌, ◌+◌, ◌≤◌, ◌++◌, ℕ, zero, suc, List, [], ◌∷◌, None, codes, length, map, slice_index_or}
+use Rattle.std.specs.Prelude.{true}
 use Rattle.std.specs.List.{flat_map}
 use Rattle.aig_core.specs.declared.circuit.Circuit.{Circuit}
 use Rattle.aig_io.specs.Output.{Out, Put}
 use Rattle.aig_sim.specs.declared.run.Run.{Run}
 use Rattle.aig_sim.specs.declared.shown.Shown.{Shown}
 use Rattle.aig_sim.specs.declared.trace.Columns.{Columns}
-use Rattle.aig_sim.specs.Stimulus.{Entry, Step, Stop}
+use Rattle.aig_sim.specs.Stimulus.{Entry, Step, Stop, judged_lines, lines_say}
 use Rattle.aig_sim.specs.Parts.LaneTexts.{kept_text}
 use Rattle.aig_sim.specs.Parts.Progress.{Goes, begin_of}
 use Rattle.aig_sim.specs.Parts.Seen.{IsHeard}
@@ -14,6 +15,10 @@ use Rattle.aig_sim.specs.Parts.Seen.{IsHeard}
 -- what the lines of a run say, with that of its end
 abbrev pub entries_of_run : Run → List Entry
 entries_of_run run = map Step run.steps ++ Stop ∷ []
+
+-- no line of the bytes is bad, which are all that is left of a stimulus
+abbrev pub HasNoBadLine : ℕ → List ℕ → Type 0
+HasNoBadLine inputs bytes = (number : ℕ) × ((lines_say inputs number (judged_lines bytes true)).bad ≡ None)
 
 -- The bytes begin with so many whole lines, which say these entries, and the rest comes behind them.
 pub record Says (inputs : ℕ) (bytes : List ℕ) (lines : ℕ) (entries : List Entry) (rest : List ℕ) : Type 0 where

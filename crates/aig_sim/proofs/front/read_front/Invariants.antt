@@ -2,12 +2,13 @@ use Rattle.std.specs.Prelude.{◌≡◌, ◌≤◌, List, length}
 use Rattle.std.specs.List.{All}
 use Rattle.aig_core.specs.declared.value.Val.{Val}
 use Rattle.aig_sim.specs.declared.run.Run.{Run}
-use Rattle.aig_sim.specs.Parts.RunsRead.{Says, entries_of_groups}
+use Rattle.aig_sim.specs.Parts.RunsRead.{HasNoBadLine, Says, entries_of_groups}
 use Rattle.aig_sim.proofs.front.read_front.Given as goal
 
 abbrev pub invariant-loop-groups : goal.invariant-loop-groups
 invariant-loop-groups l = record {
   says : Says l.inputs l.bytes l.lines (entries_of_groups l.groups.items) l.rest;
+  good : HasNoBadLine l.inputs l.rest;
   few : All (λ (runs : List Run). length runs ≤ 256) l.groups.items;
   fits : All (λ (runs : List Run). All (λ (run : Run).
       All (λ (vector : List Val). length vector ≡ l.inputs) run.steps) runs) l.groups.items;

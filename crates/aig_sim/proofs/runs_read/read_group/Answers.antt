@@ -22,6 +22,7 @@ loop-rest-preserved c =
           (sym more)
           (All-push (λ (r : Run). All (λ (v : List Val). length v ≡ inputs) r.steps) runs run
           c.loop-rest.invariant.fits c.in-Some.ensures.fits);
+      good = c.in-Some.ensures.good;
       few = omega (arith, ap length more, length-append runs (run ∷ []), c.loop-rest.invariant.few);
       some = omega (arith, ap length more, length-append runs (run ∷ []), c.loop-rest.invariant.some);
     }

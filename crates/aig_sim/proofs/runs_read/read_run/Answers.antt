@@ -4,9 +4,9 @@ use Rattle.std.specs.List.{All}
 use Rattle.aig_core.specs.declared.value.Val.{Val}
 use Rattle.aig_sim.specs.Stimulus.{without_return}
 use Rattle.aig_sim.specs.Parts.Lines.{vector_in}
-use Rattle.aig_sim.specs.Parts.RunsRead.{Says, entries_of_run}
+use Rattle.aig_sim.specs.Parts.RunsRead.{HasNoBadLine, Says, entries_of_run}
 use Rattle.aig_sim.specs.Parts.Vectors.{vectors_in}
-use Rattle.aig_sim.proofs.Judging.{some_is}
+use Rattle.aig_sim.proofs.Side.GoodLines.{good_line, is_step}
 use Rattle.aig_sim.proofs.Side.RunsRead.{one_step, rest_more, run_ends, vectors_are, vectors_more}
 use Rattle.aig_sim.proofs.Side.Vectors.{vectors_fit}
 use Rattle.aig_sim.proofs.runs_read.read_run.Goals as goal
@@ -16,8 +16,8 @@ returns-then-is_stop-clause-says c =
     let bytes = c.args.bytes.now in
     let before = c.loop-next.rest.now in
     let more = c.split_at-in-Some.result.1.now in
-    let text : c.without_return-text.result.now ≡ without_return (take c.in-Some.next before) =
-    c.without_return-text.ensures ∙ ap without_return c.split_at.ensures.front in
+    let text : c.without_return.result.now ≡ without_return (take c.in-Some.next before) =
+    c.without_return.ensures ∙ ap without_return c.split_at.ensures.front in
     subst
     (λ (vs : List (List Val)). Says c.args.inputs bytes (length vs + 1) (entries_of_run (record { steps = vs })) more)
     (sym c.new.ensures)
@@ -33,6 +33,13 @@ returns-then-is_stop-clause-fits c =
     (vectors_fit c.args.inputs c.first_stride-stride.result c.loop-next.steps c.args.bytes.now
     c.loop-next.invariant.are)
 
+pub returns-then-is_stop-clause-good : goal.returns-then-is_stop-clause-good
+returns-then-is_stop-clause-good c =
+    let before = c.loop-next.rest.now in
+    subst (HasNoBadLine c.args.inputs)
+    (sym (c.split_at-in-Some.ensures.back ∙ ap (λ (r : List ℕ). drop 1 r) c.split_at.ensures.back))
+    (good_line c.args.inputs before c.in-Some.next c.in-Some.ensures c.loop-next.invariant.good).1
+
 pub loop-next-preserved : goal.loop-next-preserved
 loop-next-preserved c =
     let inputs = c.args.inputs in
@@ -41,19 +48,22 @@ loop-next-preserved c =
     let steps = c.loop-next.steps in
     let before = c.loop-next.rest.now in
     let next = c.in-Some.next in
-    let text = c.without_return-text.result.now in
-    let one = some_is (vector_in inputs text) (sym c.is_vector.ensures ∙ c.if-not-is_vector.false) in
-    let vector = one.0 in
+    let text = c.without_return.result.now in
     let line : text ≡ without_return (take next before) =
-    c.without_return-text.ensures ∙ ap without_return c.split_at.ensures.front in
-    let here : vector_in inputs (without_return (take next before)) ≡ Some vector =
-    ap (vector_in inputs) (sym line) ∙ one.1 in
+    c.without_return.ensures ∙ ap without_return c.split_at.ensures.front in
+    let entry = (good_line inputs before next c.in-Some.ensures c.loop-next.invariant.good).0 in
+    let one = is_step inputs (without_return (take next before)) entry.0 entry.1
+    (ap (λ (t : List ℕ). bytes_eq t (codes ".")) (sym line) ∙ sym c.is_stop.ensures ∙ c.if-is_stop.false) in
+    let vector = one.0 in
+    let here : vector_in inputs (without_return (take next before)) ≡ Some vector = one.1 in
     let behind = c.split_at-in-Some.ensures.back ∙ ap (λ (r : List ℕ). drop 1 r) c.split_at.ensures.back in
     record {
       says = one_step inputs bytes (vectors_in inputs stride steps bytes) before c.split_at-in-Some.result.1.now next
           c.loop-next.invariant.says c.in-Some.ensures behind vector (vectors_in inputs stride (steps + 1) bytes)
           (vectors_are inputs stride steps next bytes before vector c.loop-next.invariant.are
           c.loop-next.invariant.rest_is c.in-Some.ensures c.if-next-stride.false here) here;
+      good = subst (HasNoBadLine inputs) (sym behind)
+          (good_line inputs before next c.in-Some.ensures c.loop-next.invariant.good).1;
       are = vectors_more inputs stride steps next bytes before vector c.loop-next.invariant.are
           c.loop-next.invariant.rest_is c.in-Some.ensures c.if-next-stride.false here;
       rest_is = behind

@@ -1,6 +1,6 @@
 use Rattle.std.specs.Prelude.{◌≡◌, ◌*◌, drop, length, map}
 use Rattle.aig_sim.specs.Stimulus.{Step}
-use Rattle.aig_sim.specs.Parts.RunsRead.{Says}
+use Rattle.aig_sim.specs.Parts.RunsRead.{HasNoBadLine, Says}
 use Rattle.aig_sim.specs.Parts.Vectors.{AreVectors, vectors_in}
 use Rattle.aig_sim.proofs.runs_read.read_run.Given as goal
 
@@ -9,6 +9,7 @@ invariant-loop-next l = record {
   says : Says l.inputs l.bytes (length (vectors_in l.inputs l.stride l.steps l.bytes))
       (map Step (vectors_in l.inputs l.stride l.steps l.bytes)) l.rest;
   are : AreVectors l.inputs l.stride l.steps l.bytes;
+  good : HasNoBadLine l.inputs l.rest;
   rest_is : l.rest ≡ drop (l.steps * l.stride) l.bytes;
 }
 
