@@ -138,13 +138,13 @@ at_begin c columns at means same begun none number = record {
 }
 
 -- the characters of values are no line feed and no carriage return
-none_feeds : (given : List Val) → HasNoLineFeed (values_text given)
+pub none_feeds : (given : List Val) → HasNoLineFeed (values_text given)
 none_feeds [] = tt
 none_feeds (Zero ∷ vs) = ((λ (e : 48 ≡ 10). absurd (omega arith)), none_feeds vs)
 none_feeds (One ∷ vs) = ((λ (e : 49 ≡ 10). absurd (omega arith)), none_feeds vs)
 none_feeds (X ∷ vs) = ((λ (e : 120 ≡ 10). absurd (omega arith)), none_feeds vs)
 
-none_returns : (given : List Val) → without_return (values_text given) ≡ values_text given
+pub none_returns : (given : List Val) → without_return (values_text given) ≡ values_text given
 none_returns [] = refl
 none_returns (Zero ∷ vs) = ap (λ (t : List ℕ). 48 ∷ t) (none_returns vs)
 none_returns (One ∷ vs) = ap (λ (t : List ℕ). 49 ∷ t) (none_returns vs)

@@ -1,14 +1,16 @@
 //! A whole stimulus, judged line by line while it comes.
 ghost use Rattle.std.specs.Prelude.{◌≡◌, ◌+◌, ◌^◌, ◌-◌, ◌<◌, ◌≤◌, Bool, IfErr, IfOk, OnOk, None, Some};
-ghost use Rattle.std.specs.Prelude.{false, length, take, true};
+ghost use Rattle.std.specs.Prelude.{drop, false, is_some, length, take, true};
+ghost use Rattle.std.specs.Option.{IfNone, IfSome};
+ghost use Rattle.memchr.specs.Find.{IsFirstByte, is_byte};
 ghost use Rattle.aig_sim.specs.Batched.{AllGood, NotAllGood};
 ghost use Rattle.aig_sim.specs.Outcome.{source_failures};
-ghost use Rattle.aig_sim.specs.Stimulus.{stimulus};
+ghost use Rattle.aig_sim.specs.Stimulus.{entry_in, stimulus, without_return};
 ghost use Rattle.aig_sim.specs.Parts.Judging.{IsJudged};
 
 use crate::fault::SimFault;
 use crate::line_feed::line_feed;
-use crate::stimulus::{is_entry, without_return};
+use crate::stimulus::{begins_with_step, is_entry, without_return};
 use aig_core::{Checked, ROOM, Source};
 use std::alloc::Global;
 
@@ -23,6 +25,25 @@ struct Judge {
 }
 
 impl Judge {
+    /// The first line feed from a place on, behind which the bytes are these, and whether the line that it ends is good.
+    /// Most lines are steps: there is no line feed among their values, and none is looked for.
+    #[inline(always)]
+    fn first_end(&self, bytes: &[u8], at: usize, rest: &[u8]) -> Option<(usize, bool)>
+        requires within { self.now.begun ≤ at }
+        requires rest { rest.now ≡ drop at bytes.now }
+        ensures none { IfNone result (IsFirstByte (is_byte 10) rest.now None) }
+        ensures feed { IfSome result (λ end. IsFirstByte (is_byte 10) rest.now (Some end.0)) }
+        ensures good { IfSome result (λ end. end.1 ≡ is_some (entry_in self.now.inputs
+            (without_return (take (at + end.0 - self.now.begun) (drop self.now.begun bytes.now))))) }
+    {
+        if self.begun == at && begins_with_step(self.inputs, rest) {
+            return Some((self.inputs, true));
+        }
+        let next = line_feed(rest, self.inputs)?;
+        let line = without_return(&bytes[self.begun..at + next]);
+        Some((next, is_entry(self.inputs, line)))
+    }
+
     /// Judges the lines that ended among the bytes from a place on, and answers whether each is good.
     fn judge_ended(&mut self, bytes: &[u8], from: usize) -> bool
         requires within { self.old.begun ≤ from × from ≤ length bytes.now }
@@ -34,11 +55,11 @@ impl Judge {
     {
         let mut at = from;
         let (_, mut rest) = bytes.split_at(from);
-        while let Some(next) = line_feed(rest, self.inputs) {
-            let end = at + next;
-            if !is_entry(self.inputs, without_return(&bytes[self.begun..end])) {
+        while let Some((next, good)) = self.first_end(bytes, at, rest) {
+            if !good {
                 return false;
             }
+            let end = at + next;
             at = end + 1;
             self.begun = at;
             self.number += 1;

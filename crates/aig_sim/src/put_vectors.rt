@@ -53,7 +53,7 @@ fn row_at(runs: &[Vectors], step: usize, lane: usize, input: usize) -> u64
         → result / 256 ^ k % 256 ≡ slice_index_or (step_text step lane runs.now) (input + k) 0 }
 {
     if lane < runs.len() && step < runs[lane].len() {
-        return word_of(&runs[lane].text(step)[input..]);
+        return word_of(&runs[lane].text(step)[input..input + 8]);
     }
     0
 }

@@ -1,6 +1,7 @@
 //! The lines of a stimulus.
-ghost use Rattle.std.specs.Prelude.{◌≡◌, codes, is_some};
+ghost use Rattle.std.specs.Prelude.{◌≡◌, Some, codes, is_some, take, true};
 ghost use Rattle.std.specs.Str.{bytes_eq};
+ghost use Rattle.memchr.specs.Find.{IsFirstByte, is_byte};
 ghost use Rattle.aig_sim.specs.Stimulus.{entry_in, value_of, values_of, without_return};
 ghost use Rattle.aig_sim.specs.Parts.Lines.{vector_in};
 
@@ -50,6 +51,19 @@ pub(crate) fn is_vector(inputs: usize, text: &[u8]) -> bool
     ensures { result ≡ is_some (vector_in inputs text.now) }
 {
     text.len() == inputs && are_values(text)
+}
+
+/// Whether a step stands at the front of the bytes, with its line feed behind it.
+#[inline(always)]
+pub(crate) fn begins_with_step(inputs: usize, bytes: &[u8]) -> bool
+    ensures feed { result ≡ true → IsFirstByte (is_byte 10) bytes.now (Some inputs) }
+    ensures step { result ≡ true → is_some (entry_in inputs (without_return (take inputs bytes.now))) ≡ true }
+{
+    if inputs < bytes.len() && bytes[inputs] == b'\n' {
+        let (text, _) = bytes.split_at(inputs);
+        return are_values(text);
+    }
+    false
 }
 
 /// Whether the text says a step or the end of a run, where the circuit has so many inputs.

@@ -1,7 +1,7 @@
 -- Lines of a stimulus that has no bad one.
 use Rattle.std.proofs.Common.{◌≡◌, ◌≢◌, ◌+◌, ◌<◌, ◌≤◌, ◌==◌, ◌++◌, ℕ, zero, suc, List, [], ◌∷◌, Bool, true, false}
 use Rattle.std.proofs.Common.{Option, None, Some, if◌then◌else◌, option_map, length, take, drop, bytes_eq, codes, refl, sym}
-use Rattle.std.proofs.Common.{ap, subst, ◌∙◌, append_assoc, append-nil, ⊎_elim, arith}
+use Rattle.std.proofs.Common.{is_some, eqb-true, ap, subst, ◌∙◌, append_assoc, append-nil, ⊎_elim, arith}
 use Rattle.std.specs.Prelude.{slice_index}
 use Rattle.std.proofs.lemmas.Bool.{cases_lt}
 use Rattle.std.proofs.lemmas.Slice.Eq.{bytes_eq-Decides}
@@ -13,8 +13,11 @@ use Rattle.aig_sim.specs.Stimulus.{Entry, Step, Stop, Stimulus, before_rest, ent
 use Rattle.aig_sim.specs.Stimulus.{values_of, without_return}
 use Rattle.aig_sim.specs.Parts.Lines.{vector_in}
 use Rattle.aig_sim.specs.Parts.RunsRead.{HasNoBadLine}
-use Rattle.aig_sim.proofs.LineValues.{vector_long}
-use Rattle.aig_sim.proofs.Side.RunsRead.{text_in_front, text_shorter}
+use Rattle.aig_sim.specs.Parts.Seen.{HasNoLineFeed}
+use Rattle.aig_sim.specs.TraceText.{values_text}
+use Rattle.aig_sim.proofs.LineValues.{values_back, vector_long, vector_says}
+use Rattle.aig_sim.proofs.Side.RunsRead.{text_in_front, text_shorter, vector_is}
+use Rattle.aig_sim.proofs.Taking.{none_feeds, none_returns}
 use Rattle.aig_sim.proofs.WholeLines.{first_line, judged_before}
 
 judged_first : (bytes : List ℕ) (next : ℕ) → IsFirstByte (is_byte 10) bytes (Some next)
@@ -118,3 +121,41 @@ step_ends inputs bytes good there at other =
     let same : k ≡ inputs =
     omega (arith, long, text_shorter (take k bytes), length-take-le k bytes (omega (arith, w.1, there)), w.1) in
     subst (λ (n : ℕ). IsFirstByte (is_byte 10) bytes (Some n)) same found
+
+no_feed_at : (bytes : List ℕ) (n j : ℕ) → HasNoLineFeed (take n bytes) → j < n → j < length bytes
+    → slice_index bytes j ≢ 10
+no_feed_at [] n j none below there = absurd (omega (arith, there))
+no_feed_at (b ∷ bs) zero j none below there = absurd (omega (arith, below))
+no_feed_at (b ∷ bs) (suc n) zero none below there = none.0
+no_feed_at (b ∷ bs) (suc n) (suc j) none below there =
+    no_feed_at bs n j none.1 (omega (arith, below)) (omega (arith, there))
+
+-- values have no line feed among them, and no carriage return
+module _ (inputs : ℕ) (bytes : List ℕ) (there : inputs < length bytes) (at : slice_index bytes inputs ≡ 10)
+    (given : List Val) (values : values_of (take inputs bytes) ≡ Some given) where
+  abbrev text : List ℕ
+  text = take inputs bytes
+
+  back : values_text given ≡ text
+  back = values_back text given values
+
+  pub values_end : IsFirstByte (is_byte 10) bytes (Some inputs)
+  values_end =
+      let none : HasNoLineFeed text = subst HasNoLineFeed back (none_feeds given) in (
+        record {
+          low = omega arith;
+          high = there;
+          before = λ j _ below passes.
+              no_feed_at bytes inputs j none below (omega (arith, below, there))
+              (eqb-true (slice_index bytes j) 10 passes);
+        },
+        ap (is_byte 10) at,
+      )
+
+  pub values_say : is_some (entry_in inputs (without_return text)) ≡ true
+  values_say =
+      let kept : without_return text ≡ text =
+      subst (λ (t : List ℕ). without_return t ≡ t) back (none_returns given) in
+      let long : length text ≡ inputs = length-take-le inputs bytes (omega (arith, there)) in
+      ap (λ (t : List ℕ). is_some (entry_in inputs t)) kept
+      ∙ ap is_some (vector_says inputs text given (vector_is inputs text long ∙ values))
