@@ -1,5 +1,5 @@
--- What is still to be asked of each gate, and a list of gates for each gate, all in one table. A link is one more than a
--- gate's position, or 0 at the end of a list.
+-- What is still to be asked of each gate, and a list of gates for each gate, all in one table. A link is one more than
+-- a gate's position, or 0 at the end of a list.
 use Rattle.std.specs.Prelude.{ℕ, zero, suc, ◌≡◌, ◌<◌, List, [], ◌∷◌, map, length, slice_index_or}
 use Rattle.std.specs.List.{AllByRecursion}
 use Rattle.aig_core.specs.declared.least_ready.lists.Row.{Row}

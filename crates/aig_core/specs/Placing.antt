@@ -89,8 +89,8 @@ pub record Waits (needs : ℕ → List ℕ) (list : List ℕ) (links : List Link
       → IsAmong u list ⊎ (has u ≡ true) ⊎ ((m : ℕ) × IsAmong u (list_of links m)) ⊎ (out ≡ Some u)
   pub taken_out : (u : ℕ) → out ≡ Some u → (u < seen) × (¬ IsAmong u list)
 
--- The same by a table of rows. Of a gate that waits the row has what else it needs, beside the gate that it waits for and
--- what is listed; of one that was not looked at, all that it needs.
+-- The same by a table of rows. Of a gate that waits the row has what else it needs, beside the gate that it waits for
+-- and what is listed; of one that was not looked at, all that it needs.
 pub record RowsWait (needs : ℕ → List ℕ) (rows : List Row) (list : List ℕ) (has : ℕ → Bool) (seen : ℕ)
     (served out : Option ℕ) : Type 0 where
   pub waits : Waits needs list (links_in rows) has seen served out

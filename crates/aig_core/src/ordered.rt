@@ -1,4 +1,4 @@
-//! Circuits in binary order, and the test for it.
+//! Circuits in binary order, and the tests for it.
 ghost use Rattle.std.specs.Prelude.{◌≡◌, ◌↔◌, ◌+◌, ◌^◌, ◌<◌, ◌≤◌, ℕ, length, IsTrue, IsOk, IfOk, IfErr};
 ghost use Rattle.aig_core.specs.Wellformed.{IsWellFormed, IsWithinLimits};
 ghost use Rattle.aig_core.specs.BinaryOrder.{IsInBinaryOrder, IsNumberedInOrder};

@@ -25,10 +25,10 @@ struct Judge {
 }
 
 impl Judge {
-    /// The first line feed from a place on, behind which the bytes are these, and whether the line that it ends is good.
-    /// Most lines are steps: there is no line feed among their values, and none is looked for.
+    /// The first line feed among the bytes from a place on, which are the rest, and whether the line that it ends is
+    /// good. Most lines are steps: there is no line feed among their values, and none is looked for.
     #[inline(always)]
-    fn first_end(&self, bytes: &[u8], at: usize, rest: &[u8]) -> Option<(usize, bool)>
+    fn judge_first(&self, bytes: &[u8], at: usize, rest: &[u8]) -> Option<(usize, bool)>
         requires within { self.now.begun ≤ at }
         requires rest { rest.now ≡ drop at bytes.now }
         ensures none { IfNone result (IsFirstByte (is_byte 10) rest.now None) }
@@ -55,7 +55,7 @@ impl Judge {
     {
         let mut at = from;
         let (_, mut rest) = bytes.split_at(from);
-        while let Some((next, good)) = self.first_end(bytes, at, rest) {
+        while let Some((next, good)) = self.judge_first(bytes, at, rest) {
             if !good {
                 return false;
             }

@@ -24,8 +24,8 @@ fn first_stride(bytes: &[u8]) -> usize {
     }
 }
 
-/// The first line feed. A line that does not begin as one that ends a run is a step, since none is bad, so its line feed
-/// has its place, and none is looked for.
+/// The first line feed. A line that does not begin as one that ends a run is a step, since none is bad, so its line
+/// feed has its place, and none is looked for.
 #[inline(always)]
 fn first_end(inputs: usize, bytes: &[u8]) -> Option<usize>
     requires { HasNoBadLine inputs bytes.now }

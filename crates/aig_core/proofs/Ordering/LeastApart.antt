@@ -1,5 +1,6 @@
 -- A set of gates whose least one stands apart from the tree of the others.
-use Rattle.std.proofs.Common.{◌≡◌, ◌≢◌, ◌<◌, ◌≤◌, ◌+◌, ◌-◌, ◌*◌, ◌∙◌, ◌++◌, ℕ, List, Bool, true, false, Option, None, Some}
+use Rattle.std.proofs.Common.{◌≡◌, ◌≢◌, ◌<◌, ◌≤◌, ◌+◌, ◌-◌, ◌*◌, ◌∙◌, ◌++◌, ℕ, List, Bool, true, false, Option, None}
+use Rattle.std.proofs.Common.{Some}
 use Rattle.std.proofs.Common.{cond, eqb, length, take, min, max, refl, sym, subst, ap, ap₂, ⊎_elim, arith}
 use mathlib.Core.Bool.{not, ◌||◌, ◌&&◌}
 use Rattle.std.specs.Prelude.{drop}
@@ -65,7 +66,8 @@ later_added true false t = refl
 later_added false true t = refl
 later_added false false t = refl
 
--- a gate more, where one stands apart: the earlier one of the two stands apart then, and the later one is put into the tree
+-- a gate more, where one stands apart: the earlier one of the two stands apart then, and the later one is put into the
+-- tree
 module _ (words new : List ℕ) (first levels least gate earlier later : ℕ)
     (ready : IsReady (Some least) words first levels)
     (other : gate ≢ least) (earlier_is : earlier ≡ min gate least) (later_is : later ≡ max gate least)

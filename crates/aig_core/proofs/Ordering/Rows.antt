@@ -1,5 +1,6 @@
 -- Rows: what gates need and their lists, in one table.
-use Rattle.std.proofs.Common.{◌≡◌, ◌≢◌, ◌<◌, ◌≤◌, ◌-◌, ◌∙◌, ℕ, zero, suc, List, [], ◌∷◌, ◌++◌, length, map, get_or, refl}
+use Rattle.std.proofs.Common.{◌≡◌, ◌≢◌, ◌<◌, ◌≤◌, ◌-◌, ◌∙◌, ℕ, zero, suc, List, [], ◌∷◌, ◌++◌, length, map, get_or}
+use Rattle.std.proofs.Common.{refl}
 use Rattle.std.proofs.Common.{sym, ap, subst, ⊎_elim, eqb, true, false, arith}
 use Rattle.std.specs.List.{AllByRecursion}
 use Rattle.std.proofs.Math.ListN.{set as put}
@@ -9,7 +10,8 @@ use Rattle.std.proofs.lemmas.List.{get_or-map, get_or-set_other, get_or-set_same
 use Rattle.std.proofs.lemmas.List.{map-set, set-get_or}
 use Rattle.aig_core.specs.declared.least_ready.lists.Row.{Row}
 use Rattle.aig_core.specs.declared.least_ready.needs.Needs.{Needs}
-use Rattle.aig_core.specs.Lists.{Link, needs_in, needs_in_row, links_in, links_in_row, first_of, list_in, LeadsTo, AreLists}
+use Rattle.aig_core.specs.Lists.{Link, needs_in, needs_in_row, links_in, links_in_row, first_of, list_in, LeadsTo}
+use Rattle.aig_core.specs.Lists.{AreLists}
 use Rattle.aig_core.specs.Placing.{linked, under, needs_by, rest_by, no_needs, AreThere}
 use Rattle.aig_core.proofs.Ordering.Lists.{read_first, front_below}
 
@@ -149,5 +151,6 @@ module _ (rows more : List Row) (gate : ℕ) (n : Needs) (now : needs_in more �
       (⊎_elim (λ (t : (eqb u gate ≡ true) × (u ≡ gate)).
       subst (AllByRecursion (λ h. h < length rows)) (sym (ap (needs_by more) t.1 ∙ here)) fits)
       (λ (f : (eqb u gate ≡ false) × (u ≢ gate)).
-      subst (AllByRecursion (λ h. h < length rows)) (sym (needs_elsewhere u f.1)) (rw (sym (as_many_needs rows)) (before u)))
+      subst (AllByRecursion (λ h. h < length rows)) (sym (needs_elsewhere u f.1))
+      (rw (sym (as_many_needs rows)) (before u)))
       (eqb_tells u gate))

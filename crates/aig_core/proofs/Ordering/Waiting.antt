@@ -1,5 +1,6 @@
 -- Who waits for whom, by a table of rows: what else a gate needs beside the one that it waits for.
-use Rattle.std.proofs.Common.{◌≡◌, ◌≢◌, ◌<◌, ◌≤◌, ◌+◌, ◌-◌, ℕ, zero, suc, List, [], ◌∷◌, ◌++◌, eqb, cond, Bool, true, false, length}
+use Rattle.std.proofs.Common.{◌≡◌, ◌≢◌, ◌<◌, ◌≤◌, ◌+◌, ◌-◌, ℕ, zero, suc, List, [], ◌∷◌, ◌++◌, eqb, cond, Bool, true}
+use Rattle.std.proofs.Common.{false, length}
 use Rattle.std.proofs.Common.{Option, None, Some, get_or, refl, sym, ap, subst, ◌∙◌, inl, ⊎_elim, arith}
 use mathlib.Core.Bool.{not, ◌||◌, ◌&&◌}
 use Rattle.std.specs.List.{AllByRecursion}

@@ -20,7 +20,7 @@ IsLatchOf variable l = l.var ≡ variable
 abbrev pub IsGateOf : ℕ → Gate → Type 0
 IsGateOf variable g = (g.var ≡ variable) × (g.left < literal_of g.var) × (g.right ≤ g.left)
 
--- and one that is, if only its operands are in the other order
+-- a gate that is, with its operands in one order or the other
 abbrev pub IsNumberedGateOf : ℕ → Gate → Type 0
 IsNumberedGateOf variable g = (g.var ≡ variable) × (g.left < literal_of g.var) × (g.right < literal_of g.var)
 

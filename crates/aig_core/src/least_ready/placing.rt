@@ -18,8 +18,8 @@ use crate::least_ready::ready::Ready;
 use crate::placed::Placed;
 use std::alloc::Global;
 
-/// A gate that is missing, by its position, and what is needed beside it and what is placed: one more than a position, or
-/// 0 for nothing.
+/// A gate that is missing, by its position, and what is needed beside it and what is placed: one more than a position,
+/// or 0 for nothing.
 #[derive(Clone, Copy)]
 struct Missing {
     gate: u32,
@@ -50,8 +50,8 @@ fn missing_gate(needs: Needs, placed: &Placed) -> Option<Missing>
     None
 }
 
-/// Puts a gate among those that are ready. What the first gate that waits for it needs beside is never so far, and to
-/// put it there twice would do no harm: that is asked for the sake of the read alone, by which the row of that gate is
+/// Puts a gate among those that are ready. No gate needs one at so high a position, and to put it there twice would do
+/// no harm: that is asked for the sake of the read alone, by which the row of the first gate that waits for this one is
 /// on its way from memory before this one is placed. A read that decided nothing would be left out by the compiler.
 #[inline(always)]
 fn make_ready(gate: u32, lists: &Lists, ready: &mut Ready)
@@ -67,8 +67,8 @@ fn make_ready(gate: u32, lists: &Lists, ready: &mut Ready)
     ready.insert(gate);
 }
 
-/// Lets a gate wait for the first that it needs, of those that are still to be asked, and that is not placed; if there is
-/// none, the gate is ready.
+/// Lets a gate wait for the first of those that are still to be asked for and that is not placed; if there is none, the
+/// gate is ready.
 #[inline(always)]
 fn enter(gate: u32, asked: Needs, placed: &Placed, lists: &mut Lists, ready: &mut Ready)
     requires asked { AllByRecursion (λ h. h < length lists.old.rows.items) (under asked) }
@@ -93,8 +93,8 @@ fn enter(gate: u32, asked: Needs, placed: &Placed, lists: &mut Lists, ready: &mu
     }
 }
 
-/// Enters again each gate that waited for this one. What the next of them needs beside is read before one is entered, so
-/// that it comes from memory meanwhile.
+/// Enters again each gate that waited for this one. What the next of them needs beside is read before one is entered,
+/// so that it comes from memory meanwhile.
 #[inline(always)]
 fn serve(gate: u32, placed: &Placed, lists: &mut Lists, ready: &mut Ready)
     requires room { IsRoomy lists.old.rows.items placed.now.room (room ready.old) }

@@ -12,8 +12,8 @@ use std::marker::Model;
 
 /// A set of gates, by their positions, that gives the least one first. That one stands apart, so that a gate that comes
 /// where there is none, and goes before another comes, never goes through the tree. The tree, which has the others, is
-/// made of words, where below bit b stands word b + 1. Each bit of the lowest level is a gate, and each bit above is set
-/// if the word below it has any.
+/// made of words, where below bit b stands word b + 1. Each bit of the lowest level is a gate, and each bit above is
+/// set if the word below it has any.
 #[derive(Drop)]
 pub(super) struct Ready {
     /// The least gate, if there is any.

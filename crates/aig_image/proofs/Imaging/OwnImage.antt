@@ -1,5 +1,5 @@
--- A well-formed circuit in binary order is its own image; one whose variables are numbered in order is, once its operands
--- are sorted.
+-- A well-formed circuit in binary order is its own image; one whose variables are numbered in order is, once its
+-- operands are sorted.
 use Rattle.std.proofs.Common.{◌≡◌, ◌+◌, ℕ, List, ◌++◌, length, map, refl, sym, subst, ap, ap₂, ◌∙◌}
 use Rattle.std.specs.List.{range_with_len}
 use Rattle.std.proofs.lemmas.List.FromFn.{length-range_with_len}

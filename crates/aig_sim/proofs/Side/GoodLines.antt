@@ -1,6 +1,7 @@
 -- Lines of a stimulus that has no bad one.
 use Rattle.std.proofs.Common.{◌≡◌, ◌≢◌, ◌+◌, ◌<◌, ◌≤◌, ◌==◌, ◌++◌, ℕ, zero, suc, List, [], ◌∷◌, Bool, true, false}
-use Rattle.std.proofs.Common.{Option, None, Some, if◌then◌else◌, option_map, length, take, drop, bytes_eq, codes, refl, sym}
+use Rattle.std.proofs.Common.{Option, None, Some, if◌then◌else◌, option_map, length, take, drop, bytes_eq, codes, refl}
+use Rattle.std.proofs.Common.{sym}
 use Rattle.std.proofs.Common.{is_some, eqb-true, ap, subst, ◌∙◌, append_assoc, append-nil, ⊎_elim, arith}
 use Rattle.std.specs.Prelude.{slice_index}
 use Rattle.std.proofs.lemmas.Bool.{cases_lt}
@@ -9,7 +10,8 @@ use Rattle.std.proofs.lemmas.List.{length-take-le}
 use Rattle.memchr.specs.Find.{IsFirstByte, is_byte}
 use Rattle.aig_core.specs.declared.value.Val.{Val}
 use Rattle.aig_text.specs.Lines.{Line, line, bytes_of}
-use Rattle.aig_sim.specs.Stimulus.{Entry, Step, Stop, Stimulus, before_rest, entry_in, entry_of, judged_lines, lines_say}
+use Rattle.aig_sim.specs.Stimulus.{Entry, Step, Stop, Stimulus, before_rest, entry_in, entry_of, judged_lines}
+use Rattle.aig_sim.specs.Stimulus.{lines_say}
 use Rattle.aig_sim.specs.Stimulus.{values_of, without_return}
 use Rattle.aig_sim.specs.Parts.Lines.{vector_in}
 use Rattle.aig_sim.specs.Parts.RunsRead.{HasNoBadLine}

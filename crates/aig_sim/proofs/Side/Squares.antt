@@ -64,7 +64,8 @@ strip_is_put l at given strip below = ap (λ (s : List ℕ). get_or s l 0) (get_
 
 -- and a lane in which the strip is as before is as before
 pub lane_stays : (i l at : ℕ) (given : List (List ℕ)) (strip : List ℕ) → at < length given
-    → get_or strip l 0 ≡ get_or (get_or given at []) l 0 → given_character i l (set given at strip) ≡ given_character i l given
+    → get_or strip l 0 ≡ get_or (get_or given at []) l 0
+    → given_character i l (set given at strip) ≡ given_character i l given
 lane_stays i l at given strip below same = elim (cases_eq i at) [
   | inl is ↦
       ap (λ (n : ℕ). given_character n l (set given at strip)) is ∙ strip_is_put l at given strip below ∙ same

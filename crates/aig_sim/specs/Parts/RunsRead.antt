@@ -1,6 +1,6 @@
 -- Runs that are read at the front of a stimulus. Only private functions cite this.
-use Rattle.std.specs.Prelude.{◌≡◌, ◌+◌, ◌≤◌, ◌++◌, ℕ, zero, suc, List, [], ◌∷◌, None, codes, length, map, slice_index_or}
-use Rattle.std.specs.Prelude.{true}
+use Rattle.std.specs.Prelude.{◌≡◌, ◌+◌, ◌≤◌, ◌++◌, ℕ, zero, suc, List, [], ◌∷◌, None, codes, length, map}
+use Rattle.std.specs.Prelude.{slice_index_or, true}
 use Rattle.std.specs.List.{flat_map}
 use Rattle.aig_core.specs.declared.circuit.Circuit.{Circuit}
 use Rattle.aig_io.specs.Output.{Out, Put}

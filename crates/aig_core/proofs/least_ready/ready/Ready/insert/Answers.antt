@@ -16,7 +16,8 @@ returns-in_default-clause-ready c = λ g.
 pub returns-then-gate-least-clause-ready : goal.returns-then-gate-least-clause-ready
 unfolding has
 returns-then-gate-least-clause-ready c = λ g.
-    let now_is : (eqb g c.args.gate || is_in_tree c.self.inside.words.items c.self.inside.first g) ≡ has c.args.self.now g =
+    let now_is :
+    (eqb g c.args.gate || is_in_tree c.self.inside.words.items c.self.inside.first g) ≡ has c.args.self.now g =
     ap (λ n. eqb g n || is_in_tree c.self.inside.words.items c.self.inside.first g) c.if-gate-least.true
     ∙ ap (λ o. is_least o g || is_in_tree c.self.inside.words.items c.self.inside.first g) (sym c.in-Some.is)
     ∙ ap (λ (t : Tree). has t g) c.self.view_is in
@@ -33,7 +34,8 @@ invariant_of-self-2 c =
     subst (λ (t : Tree). c.args.gate < room t) (sym c.self.view_is) c.requires in
     rw (written_back new c.self.inside.words.items c.self.inside.words.len
     (omega (arith, c.deref_mut.ensures.len, c.tell.auto.words)))
-    (stays_ready words new c.self.inside.first c.self.inside.levels c.in-Some.least c.args.gate c.min.result c.max.result
+    (stays_ready words new c.self.inside.first c.self.inside.levels c.in-Some.least c.args.gate c.min.result
+    c.max.result
     ready c.if-gate-least.false c.min.ensures c.max.ensures
     (gate_put words new c.self.inside.first c.max.result ready.tree.within c.tell.ensures.lowest)
     (still_tree words new c.self.inside.first c.self.inside.levels (c.self.inside.first + c.max.result) true ready.tree

@@ -19,7 +19,8 @@ loop-first-preserved c =
 
 pub invariant_of-result : goal.invariant_of-result
 invariant_of-result c =
-    let is : c.in_ok-vec.field-0.items ≡ replicate _ 0 = c.in_ok-vec.ensures.items_if_clones_equal (λ y e. e) in record {
+    let is : c.in_ok-vec.field-0.items ≡ replicate _ 0 =
+    c.in_ok-vec.ensures.items_if_clones_equal (λ y e. e) in record {
       tree = empty_tree _ _ c.loop-first.first c.loop-first.levels c.args.gates is refl c.loop-first.invariant.first_is
           c.loop-first.invariant.few (omega (arith, c.loop-first-test.false)) (omega (arith, c.requires));
       before = λ g. ap (λ ws. is_marked ws (c.loop-first.first + g)) is ∙ empty_words _ (c.loop-first.first + g);

@@ -1,7 +1,8 @@
 use Rattle.std.proofs.Common.{◌≡◌, ◌∙◌, ◌||◌, ◌&&◌, ap, sym, subst, arith, eqb, refl, not, ℕ, List, Some}
 use Rattle.std.proofs.lemmas.Bool.{eq-eqb}
 use Rattle.aig_core.specs.Ready.{Tree, IsReady, IsBefore, has, is_in_tree, is_least}
-use Rattle.aig_core.proofs.Ordering.LeastApart.{written_back, same_ready, same_gates, comes_first, others_stay, next_ready}
+use Rattle.aig_core.proofs.Ordering.LeastApart.{written_back, same_ready, same_gates, comes_first, others_stay}
+use Rattle.aig_core.proofs.Ordering.LeastApart.{next_ready}
 use Rattle.aig_core.proofs.least_ready.ready.Ready.pop_first.Goals as goal
 
 pub returns-in_err-least-clause-none : goal.returns-in_err-least-clause-none
@@ -10,7 +11,8 @@ returns-in_err-least-clause-none c =
     rw c.from_residual.ensures (λ g.
     sym (ap (λ (t : Tree). has t g) c.self.view_is)
     ∙ ap (λ o. is_least o g || is_in_tree c.self.inside.words.items c.self.inside.first g) c.in_err-least.was
-    ∙ subst (λ o. IsBefore o c.self.inside.words.items c.self.inside.first) c.in_err-least.was c.self.invariant.before g)
+    ∙ subst (λ o. IsBefore o c.self.inside.words.items c.self.inside.first) c.in_err-least.was
+    c.self.invariant.before g)
 
 pub returns-clause-first : goal.returns-clause-first
 unfolding has
