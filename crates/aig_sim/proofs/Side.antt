@@ -6,8 +6,9 @@ pub mod TextGroups
 pub mod RunsRead
 pub mod Fronts
 pub mod ShownTexts
-pub mod Given
+pub mod InputBits
 pub mod Squares
 pub mod Sheets
+pub mod Rooms
 pub mod Vectors
 pub mod GoodLines

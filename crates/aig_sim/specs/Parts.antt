@@ -14,6 +14,7 @@ pub mod Streaming
 pub mod Judging
 pub mod RunsRead
 pub mod Sheets
+pub mod InputBits
 pub mod Vectors
 pub mod Witnessing
 pub mod Benches

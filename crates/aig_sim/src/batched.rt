@@ -9,8 +9,7 @@ ghost use Rattle.aig_sim.specs.declared.fault.SimFault.TheVariants.{WriteFailed}
 ghost use Rattle.aig_sim.specs.declared.run.Run.{Run as RunRecord};
 ghost use Rattle.aig_sim.specs.Batched.{NotBatched};
 ghost use Rattle.aig_sim.specs.Outcome.{Simulated, first_bad_line, sink_failures, source_failures};
-ghost use Rattle.aig_sim.specs.Parts.Benches.{Fits, IsBench};
-ghost use Rattle.aig_sim.specs.Parts.LaneTexts.{HoldsRuns};
+ghost use Rattle.aig_sim.specs.Parts.Benches.{Fits, HasRoomFor, IsBench};
 ghost use Rattle.aig_sim.specs.Parts.RunsRead.{PutRuns, Says, entries_of_groups};
 ghost use Rattle.aig_sim.specs.Parts.Streaming.{NotTraced, SentAll, SentInPart};
 ghost use Rattle.aig_sim.specs.Parts.Tracing.{IsFresh};
@@ -41,7 +40,7 @@ fn put_groups<W: Sink>(
     requires fits { All (λ (runs : List RunRecord). All (IsRunOf machine.now) runs) groups.now }
     requires is { IsBench machine.now bench.old }
     requires counts { All (All (Fits machine.now)) groups.now }
-    requires room { All (HoldsRuns bench.old.shown) groups.now }
+    requires room { All (HasRoomFor bench.old) groups.now }
     ensures { PutRuns machine.now columns groups.now output.old output.new }
 {
     for group in groups {
@@ -67,7 +66,7 @@ fn trace_good<W: Sink>(
     requires fits { All (λ (runs : List RunRecord). All (IsRunOf machine.now) runs) groups.now }
     requires is { IsBench machine.now bench.old }
     requires counts { All (All (Fits machine.now)) groups.now }
-    requires room { All (HoldsRuns bench.old.shown) groups.now }
+    requires room { All (HasRoomFor bench.old) groups.now }
     ensures ok { OnOk result ((c : CircuitRecord) (bytes : List ℕ) → IsFresh c columns reader.old
         → MeansTheSame c machine.now
         → Says (length c.inputs) bytes lines (entries_of_groups groups.now) rest.now

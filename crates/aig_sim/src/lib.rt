@@ -12,6 +12,7 @@ mod fault;
 mod front;
 mod gathered;
 mod group;
+mod input_bits;
 mod kept;
 mod lane_row;
 mod lane_step;

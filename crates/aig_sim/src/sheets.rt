@@ -35,7 +35,7 @@ fn longer_of(runs: &[Vectors], octet: usize, least: usize) -> usize
 }
 
 /// How many steps the longest run has whose lane is one of these eight.
-fn longest_in(groups: &[RunGroup], octet: usize) -> usize
+pub(crate) fn longest_in(groups: &[RunGroup], octet: usize) -> usize
     requires { octet < 32 }
     ensures { All (λ (runs : List RunRecord). (l : ℕ) (d : RunRecord) → l / 8 ≡ octet → l < length runs
         → length (slice_index_or runs l d).steps ≤ result) groups.now }

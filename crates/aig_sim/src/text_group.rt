@@ -6,7 +6,8 @@ ghost use Rattle.aig_core.specs.declared.value.Val.{Val as Value};
 ghost use Rattle.aig_io.specs.Output.{Put};
 ghost use Rattle.aig_meaning.specs.Meaning.{MeansTheSame};
 ghost use Rattle.aig_sim.specs.declared.run.Run.{Run as RunRecord};
-ghost use Rattle.aig_sim.specs.Parts.Benches.{Fits, IsBench};
+ghost use Rattle.aig_sim.specs.Parts.Benches.{Fits, HasRoomFor, HasSameRoom, IsBench};
+ghost use Rattle.aig_sim.specs.Parts.InputBits.{AreBlocks, HoldsBlocks};
 ghost use Rattle.aig_sim.specs.Parts.LaneTexts.{HasBegun, HasSheets, HoldsRun, HoldsRuns, IsTextOf, SameRoom};
 ghost use Rattle.aig_sim.specs.Parts.LaneTexts.{TextStands, kept_text, shown_size};
 ghost use Rattle.aig_sim.specs.Parts.Lines.{line_size};
@@ -15,10 +16,11 @@ ghost use Rattle.aig_sim.specs.Runs.{IsRunOf};
 
 use crate::gathered::Gathered;
 use crate::group::{fill_table, new_table};
+use crate::input_bits::{BlockBits, fill_bits, new_bits};
 use crate::lane_step::{put_reset_lanes, show_next_lanes};
 use crate::machine::Machine;
 use crate::planes::Plane;
-use crate::put_vectors::{Given, new_given, put_vectors};
+use crate::put_vectors::put_vectors;
 use crate::runs_read::RunGroup;
 use crate::shown::Shown;
 use crate::trace::Columns;
@@ -48,14 +50,15 @@ fn take_step(
     columns: Columns,
     runs: &[Vectors],
     step: usize,
-    given: &mut [Given],
+    bits: &[BlockBits],
     table: &mut [Plane],
     state: &mut [Plane],
     shown: &mut Shown,
 )
     requires lanes { length runs.now ≤ 256 }
     requires runs { All (IsRunOf machine.now) runs.now }
-    requires given { length given.old ≡ length machine.now.inputs }
+    requires blocks { AreBlocks (length machine.now.inputs) (length bits.now) }
+    requires bits { HoldsBlocks runs.now bits.now }
     requires table { length table.old ≡ 2 * (1 + machine.now.max_var) }
     requires state { length state.old ≡ 2 * length machine.now.latches }
     requires sheets { HasSheets machine.now shown.old }
@@ -67,7 +70,7 @@ fn take_step(
         → TextStands columns machine.now (slice_index_or runs.now j d) (step + 1) j table.new state.new shown.new }
 {
     let parts = machine.parts();
-    put_vectors(runs, step, given, table);
+    put_vectors(bits, parts.inputs.len(), step, table);
     machine.assign_lanes(state, table);
     shown.show(columns, parts, table, step);
     show_next_lanes(parts.latches.as_slice(), table, state);
@@ -80,14 +83,15 @@ fn take_steps(
     columns: Columns,
     runs: &[Vectors],
     steps: usize,
-    given: &mut [Given],
+    bits: &[BlockBits],
     table: &mut [Plane],
     state: &mut [Plane],
     shown: &mut Shown,
 )
     requires lanes { length runs.now ≤ 256 }
     requires runs { All (IsRunOf machine.now) runs.now }
-    requires given { length given.old ≡ length machine.now.inputs }
+    requires blocks { AreBlocks (length machine.now.inputs) (length bits.now) }
+    requires bits { HoldsBlocks runs.now bits.now }
     requires table { length table.old ≡ 2 * (1 + machine.now.max_var) }
     requires state { length state.old ≡ 2 * length machine.now.latches }
     requires sheets { HasSheets machine.now shown.old }
@@ -99,7 +103,7 @@ fn take_steps(
         → TextStands columns machine.now (slice_index_or runs.now j d) steps j table.new state.new shown.new }
 {
     for step in 0..steps {
-        take_step(machine, columns, runs, step, given, table, state, shown);
+        take_step(machine, columns, runs, step, bits, table, state, shown);
     }
 }
 
@@ -150,7 +154,7 @@ fn put_runs<W: Sink>(
 /// What runs are stepped in, one group after the other, and what their steps show.
 #[derive(Drop)]
 pub(crate) struct Bench {
-    given: Vec<Given>,
+    bits: Vec<BlockBits>,
     table: Vec<Plane>,
     state: Vec<Plane>,
     shown: Shown,
@@ -169,11 +173,11 @@ impl Bench {
         requires line { line_room ≡ line_size machine.now }
         requires lanes { All (λ (runs : List RunRecord). length runs ≤ 256) groups.now }
         ensures is { IfOk result (λ bench. IsBench machine.now bench) }
-        ensures room { IfOk result (λ bench. All (HoldsRuns bench.shown) groups.now) }
+        ensures room { IfOk result (λ bench. All (HasRoomFor bench) groups.now) }
     {
         let parts = machine.parts();
         Ok(Bench {
-            given: new_given(alloc, parts.inputs.len())?,
+            bits: new_bits(alloc, parts.inputs.len(), groups)?,
             table: new_table(alloc, 1 + parts.max_var as usize)?,
             state: new_table(alloc, parts.latches.len())?,
             shown: Shown::new(alloc, parts, groups)?,
@@ -187,21 +191,22 @@ impl Bench {
         requires runs { All (IsRunOf machine.now) runs.now }
         requires fits { All (Fits machine.now) runs.now }
         requires is { IsBench machine.now self.old }
-        requires room { HoldsRuns self.old.shown runs.now }
+        requires room { HasRoomFor self.old runs.now }
         ensures is { IsBench machine.now self.new }
-        ensures same { SameRoom self.old.shown self.new.shown }
+        ensures same { HasSameRoom self.old self.new }
         ensures texts { (j : ℕ) (d : RunRecord) → j < length runs.now
             → IsTextOf columns machine.now (slice_index_or runs.now j d)
             (kept_text columns (slice_index_or runs.now j d) (length (slice_index_or runs.now j d).steps) j
             self.new.shown) }
     {
+        fill_bits(&mut self.bits, runs, machine.parts().inputs.len());
         begin_steps(machine, &mut self.table, &mut self.state, &mut self.shown);
         take_steps(
             machine,
             columns,
             runs,
             longest(runs),
-            &mut self.given,
+            &self.bits,
             &mut self.table,
             &mut self.state,
             &mut self.shown,
@@ -220,9 +225,9 @@ impl Bench {
         requires runs { All (IsRunOf machine.now) runs.now }
         requires fits { All (Fits machine.now) runs.now }
         requires is { IsBench machine.now self.old }
-        requires room { HoldsRuns self.old.shown runs.now }
+        requires room { HasRoomFor self.old runs.now }
         ensures is { IsBench machine.now self.new }
-        ensures same { SameRoom self.old.shown self.new.shown }
+        ensures same { HasSameRoom self.old self.new }
         ensures put { Put output.old output.new
             (text_of_group (kept_texts columns runs.now (length runs.now) self.new.shown)) }
         ensures texts { (j : ℕ) (d : RunRecord) → j < length runs.now
@@ -266,7 +271,7 @@ pub(crate) fn set_up(
     ensures means { IfOk result (λ made. MeansTheSame checked.now made.0) }
     ensures is { IfOk result (λ made. IsBench made.0 made.1) }
     ensures fits { IfOk result (λ made. All (All (Fits made.0)) groups.now) }
-    ensures room { IfOk result (λ made. All (HoldsRuns made.1.shown) groups.now) }
+    ensures room { IfOk result (λ made. All (HasRoomFor made.1) groups.now) }
 {
     let room = line_room(checked);
     if !can_count(groups, room) {

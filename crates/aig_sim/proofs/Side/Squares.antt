@@ -1,18 +1,13 @@
--- Characters of inputs, put by squares of eight lanes and eight inputs.
+-- Bits of inputs, put by squares of eight lanes and eight bytes.
 use Rattle.std.proofs.Common.{◌≡◌, ◌≢◌, ◌+◌, ◌-◌, ◌*◌, ◌/◌, ◌%◌, ◌^◌, ◌<◌, ◌≤◌, ◌++◌, ℕ, List, [], ◌∷◌, length, get_or}
 use Rattle.std.proofs.Common.{set, take, drop, refl, sym, ap, ◌∙◌, arith, inl, inr}
 use Rattle.std.specs.Simd.Lanes.{digits_l, number_l, pick_l, Each1}
 use Rattle.std.proofs.lemmas.Bool.{cases_eq}
 use Rattle.std.proofs.lemmas.List.{get_or-append-add, get_or-map, get_or-set_other, get_or-set_same, get_or-take}
-use Rattle.std.proofs.lemmas.List.{get_or_append_left, length-map, length-take-le, get_or_default, get_or_past}
+use Rattle.std.proofs.lemmas.List.{get_or_append_left, length-take-le}
 use Rattle.std.proofs.lemmas.List.FromFn.{get_or-map-range_with_len}
 use Rattle.std.proofs.lemmas.Simd.{get_or_narrower, pick_l_left}
-use Rattle.std.proofs.lemmas.Grind.{same_number_lists}
-use Rattle.std.specs.List.{All}
-use Rattle.aig_core.specs.declared.value.Val.{Val}
-use Rattle.aig_sim.specs.declared.run.Run.{Run}
-use Rattle.aig_sim.specs.Parts.Sheets.{given_character, given_in, step_text, IsGiven}
-use Rattle.aig_sim.specs.TraceText.{character_of, values_text}
+use Rattle.aig_sim.specs.Parts.InputBits.{byte_in}
 use borrow.Rule.Slice.PartMut.{put_mid}
 
 -- the places of a square, column by column
@@ -52,68 +47,33 @@ in_part a n xs ys i below inside =
     ∙ get_or-append-add (take a xs) (ys ++ drop n (drop a xs)) i 0
     ∙ get_or_append_left ys (drop n (drop a xs)) 0 i below
 
--- the strip of one input is put: the other inputs keep theirs
-pub others_stay : (i l at : ℕ) (given : List (List ℕ)) (strip : List ℕ) → i ≢ at
-    → given_character i l (set given at strip) ≡ given_character i l given
-others_stay i l at given strip other = ap (λ (s : List ℕ). get_or s l 0) (get_or-set_other given at i strip [] other)
+-- eight inputs are put: the others keep their bytes
+pub others_stay : (k l at : ℕ) (eights : List (List ℕ)) (eight : List ℕ) → k ≢ at
+    → byte_in k l (set eights at eight) ≡ byte_in k l eights
+others_stay k l at eights eight other = ap (λ (s : List ℕ). get_or s l 0) (get_or-set_other eights at k eight [] other)
 
--- the input has that strip
-pub strip_is_put : (l at : ℕ) (given : List (List ℕ)) (strip : List ℕ) → at < length given
-    → given_character at l (set given at strip) ≡ get_or strip l 0
-strip_is_put l at given strip below = ap (λ (s : List ℕ). get_or s l 0) (get_or-set_same given at strip [] below)
+-- they have these
+pub eight_is_put : (l at : ℕ) (eights : List (List ℕ)) (eight : List ℕ) → at < length eights
+    → byte_in at l (set eights at eight) ≡ get_or eight l 0
+eight_is_put l at eights eight below = ap (λ (s : List ℕ). get_or s l 0) (get_or-set_same eights at eight [] below)
 
--- and a lane in which the strip is as before is as before
-pub lane_stays : (i l at : ℕ) (given : List (List ℕ)) (strip : List ℕ) → at < length given
-    → get_or strip l 0 ≡ get_or (get_or given at []) l 0
-    → given_character i l (set given at strip) ≡ given_character i l given
-lane_stays i l at given strip below same = elim (cases_eq i at) [
+-- and a lane in which they are as before is as before
+pub lane_stays : (k l at : ℕ) (eights : List (List ℕ)) (eight : List ℕ) → at < length eights
+    → get_or eight l 0 ≡ get_or (get_or eights at []) l 0
+    → byte_in k l (set eights at eight) ≡ byte_in k l eights
+lane_stays k l at eights eight below same = elim (cases_eq k at) [
   | inl is ↦
-      ap (λ (n : ℕ). given_character n l (set given at strip)) is ∙ strip_is_put l at given strip below ∙ same
-      ∙ sym (ap (λ (n : ℕ). given_character n l given) is)
-  | inr other ↦ others_stay i l at given strip other
+      ap (λ (n : ℕ). byte_in n l (set eights at eight)) is ∙ eight_is_put l at eights eight below ∙ same
+      ∙ sym (ap (λ (n : ℕ). byte_in n l eights) is)
+  | inr other ↦ others_stay k l at eights eight other
 ]
 
--- one input is put in eight lanes
-pub eight_are_put : (at lane l n : ℕ) (given : List (List ℕ)) (bytes : List ℕ) → at < length given
-    → lane ≤ length (get_or given at []) → length bytes ≡ 8 → lane ≤ l → l < lane + 8
-    → given_character at l (set given at (put_mid lane n (get_or given at []) bytes)) ≡ get_or bytes (l - lane) 0
-eight_are_put at lane l n given bytes below inside eight from to =
-    let strip = put_mid lane n (get_or given at []) bytes in
-    strip_is_put l at given strip below
-    ∙ ap (λ (k : ℕ). get_or strip k 0) (omega (arith, from))
-    ∙ in_part lane n (get_or given at []) bytes (l - lane) (omega (arith, from, to, eight)) inside
-
--- the text of a lane is that of its run
-pub text_of_run : (step lane : ℕ) (run : Run) (runs : List Run) → lane < length runs → run ≡ get_or runs lane run
-    → step_text step lane runs ≡ values_text (get_or run.steps step [])
-text_of_run step lane run runs below is =
-    ap (λ (r : Run). values_text (get_or r.steps step []))
-    (get_or_default runs lane (record { steps = [] }) run below ∙ sym is)
-
--- and there is none where the run has ended
-pub no_text : (step lane : ℕ) (run : Run) (runs : List Run) → lane < length runs → run ≡ get_or runs lane run
-    → length run.steps ≤ step → step_text step lane runs ≡ []
-no_text step lane run runs below is end =
-    text_of_run step lane run runs below is ∙ ap values_text (get_or_past run.steps step [] end)
-
--- a lane with the character of each input has the text of its run
-pub lane_is_text : (step lane : ℕ) (run : Run) (runs : List Run) (given : List (List ℕ)) → lane < length runs
-    → step < length (get_or runs lane run).steps
-    → All (λ (r : Run). All (λ (vector : List Val). length vector ≡ length given) r.steps) runs
-    → ((i : ℕ) → i < length given → IsGiven i lane (step_text step lane runs) given)
-    → given_in lane given ≡ values_text (get_or (get_or runs lane run).steps step [])
-lane_is_text step lane run runs given below has each own =
-    let vector = get_or (get_or runs lane run).steps step [] in
-    let text = values_text vector in
-    let is : step_text step lane runs ≡ text =
-    ap (λ (r : Run). values_text (get_or r.steps step []))
-    (get_or_default runs lane (record { steps = [] }) run below) in
-    let long : length text ≡ length given =
-    length-map vector character_of ∙ each lane run below step [] has in
-    let wide : length (given_in lane given) ≡ length given = length-map given (λ (s : List ℕ). get_or s lane 0) in
-    same_number_lists (given_in lane given) text (wide ∙ sym long)
-    (λ i inside.
-    let in_given : i < length given = omega (arith, inside, wide) in
-    let in_text : i < length (step_text step lane runs) = omega (arith, in_given, long, ap length is) in
-    get_or-map (λ (s : List ℕ). get_or s lane 0) given i [] 0 in_given ∙ own i in_given in_text
-    ∙ ap (λ (t : List ℕ). get_or t i 0) is)
+-- eight inputs are put in eight lanes
+pub eight_are_put : (at lane l n : ℕ) (eights : List (List ℕ)) (bytes : List ℕ) → at < length eights
+    → lane ≤ length (get_or eights at []) → length bytes ≡ 8 → lane ≤ l → l < lane + 8
+    → byte_in at l (set eights at (put_mid lane n (get_or eights at []) bytes)) ≡ get_or bytes (l - lane) 0
+eight_are_put at lane l n eights bytes below inside eight from to =
+    let after = put_mid lane n (get_or eights at []) bytes in
+    eight_is_put l at eights after below
+    ∙ ap (λ (k : ℕ). get_or after k 0) (omega (arith, from))
+    ∙ in_part lane n (get_or eights at []) bytes (l - lane) (omega (arith, from, to, eight)) inside

@@ -1,10 +1,9 @@
 -- The characters of literals in all lanes. Only private functions cite this.
 use Rattle.std.specs.Prelude.{◌≡◌, ◌+◌, ◌*◌, ◌/◌, ◌%◌, ◌<◌, ◌≤◌, ◌==◌, ℕ, List, [], if◌then◌else◌, drop, length}
-use Rattle.std.specs.Prelude.{map, slice_index_or, take}
+use Rattle.std.specs.Prelude.{slice_index_or, take}
 use Rattle.std.specs.Int.{bit_at}
 use Rattle.std.specs.Simd.Lanes.{zip2}
 use Rattle.aig_sim.specs.declared.run.Run.{Run}
-use Rattle.aig_sim.specs.TraceText.{values_text}
 
 -- the character of a literal by two bits: whether it may be 1, and whether it may be 0
 abbrev pub character_by : ℕ → ℕ → ℕ
@@ -47,19 +46,3 @@ IsSheet octets = length octets ≡ 32
 abbrev pub HoldsSteps : (width more : ℕ) → List OctetText → List Run → Type 0
 HoldsSteps width more octets runs = (l : ℕ) (d : Run) → l < 256 → l < length runs
     → (length (slice_index_or runs l d).steps + more) * width ≤ length (lane_text l octets)
-
--- the characters in a lane, where those of an input stand one behind the other
-abbrev pub given_in : ℕ → List (List ℕ) → List ℕ
-given_in lane given = map (λ (input : List ℕ). slice_index_or input lane 0) given
-
--- the character of an input in a lane
-abbrev pub given_character : (input lane : ℕ) → List (List ℕ) → ℕ
-given_character input lane given = slice_index_or (slice_index_or given input []) lane 0
-
--- the text's character for an input, if it has one, stands in this lane
-abbrev pub IsGiven : (input lane : ℕ) → (text : List ℕ) → List (List ℕ) → Type 0
-IsGiven input lane text given = input < length text → given_character input lane given ≡ slice_index_or text input 0
-
--- the characters of a step of the run in a lane, and none where there is no such run or step
-abbrev pub step_text : (step lane : ℕ) → List Run → List ℕ
-step_text step lane runs = values_text (slice_index_or (slice_index_or runs lane (record { steps = [] })).steps step [])

@@ -1,9 +1,10 @@
 use Rattle.std.proofs.Common.{◌≡◌, ◌∙◌, ◌+◌, ◌++◌, ◌∷◌, List, [], ap, get_or, length, subst, sym, take}
 use Rattle.std.proofs.lemmas.List.{take_more}
 use Rattle.aig_sim.specs.declared.run.Run.{Run}
+use Rattle.aig_sim.specs.Parts.Benches.{HasRoomFor}
 use Rattle.aig_sim.specs.Parts.RunsRead.{PutRuns, kept_texts}
 use Rattle.aig_sim.proofs.Side.Fronts.{put_more}
-use Rattle.aig_sim.proofs.Side.ShownTexts.{holds_still}
+use Rattle.aig_sim.proofs.Side.Rooms.{room_stays}
 use Rattle.aig_sim.proofs.Side.TextGroups.{zipped_texts}
 use Rattle.aig_sim.proofs.batched.put_groups.Goals as goal
 
@@ -21,12 +22,17 @@ loop-group-preserved g c =
     ∙ ap (λ (r : List Run). take i groups ++ r ∷ []) (sym is_group) in
     record {
       is = c.run.ensures.is;
-      room = λ k d below l r low there.
-          holds_still l (get_or (get_or groups k d) l r) c.loop-group.bench.shown shown c.run.ensures.same
-          (c.loop-group.invariant.room k d below l r low there);
+      room = λ k d below.
+          room_stays c.loop-group.bench c.run.new.self (get_or groups k d) c.run.ensures.same
+          (c.loop-group.invariant.room k d below);
       put =
           subst (λ (gs : List (List Run)). PutRuns machine columns gs c.args.output.now c.run.new.output) (sym now)
           (put_more machine columns (take i groups) runs (kept_texts columns runs (length runs) shown)
           c.args.output.now c.loop-group.output c.run.new.output c.loop-group.invariant.put
           (zipped_texts columns machine runs shown c.run.ensures.texts) c.run.ensures.put);
     }
+
+pub run-requires-clause-room : goal.run-requires-clause-room
+run-requires-clause-room g c =
+    subst (HasRoomFor c.loop-group.bench) (sym (c.as_slice.ensures ∙ c.group-item.is))
+    (c.loop-group.invariant.room c.loop-group.group-index c.group-item.result c.loop-group-test.true)

@@ -1,13 +1,12 @@
 use Rattle.std.specs.Prelude.{take}
 use Rattle.std.specs.List.{All}
-use Rattle.aig_sim.specs.Parts.Benches.{IsBench}
-use Rattle.aig_sim.specs.Parts.LaneTexts.{HoldsRuns}
+use Rattle.aig_sim.specs.Parts.Benches.{HasRoomFor, IsBench}
 use Rattle.aig_sim.specs.Parts.RunsRead.{PutRuns}
 use Rattle.aig_sim.proofs.batched.put_groups.Given as goal
 
 abbrev pub invariant-loop-group : goal.invariant-loop-group
 invariant-loop-group g l = record {
   is : IsBench l.machine l.bench;
-  room : All (HoldsRuns l.bench.shown) l.groups;
+  room : All (HasRoomFor l.bench) l.groups;
   put : PutRuns l.machine l.columns (take l.group-index l.groups) l.fn.output l.output;
 }

@@ -1,9 +1,11 @@
 use Rattle.std.proofs.Common.{◌≡◌, ◌+◌, ◌∙◌, Err, IfErr, List, Ok, Result, ap, length, subst, sym, ℕ}
+use Rattle.std.specs.List.{All}
 use Rattle.std.proofs.lemmas.Result.{on_ok_weaker}
 use Rattle.aig_core.specs.declared.circuit.Circuit.{Circuit}
 use Rattle.aig_sim.specs.declared.fault.SimFault.{SimFault}
 use Rattle.aig_sim.specs.declared.run.Run.{Run}
 use Rattle.aig_sim.specs.Outcome.{sink_failures}
+use Rattle.aig_sim.specs.Parts.Benches.{HasRoomFor}
 use Rattle.aig_sim.specs.Parts.RunsRead.{Says, entries_of_groups}
 use Rattle.aig_sim.specs.Parts.Streaming.{NotTraced}
 use Rattle.aig_sim.proofs.batched.trace_collected.Goals as goal
@@ -58,3 +60,13 @@ returns-clause-count g c =
     (λ e kind more. subst (λ (k : SimFault). g.W.Sink.failed c.trace_good.new.sink
     ≡ g.W.Sink.failed c.args.sink.now + sink_failures k) (sym kind) more)
     c.trace_good.ensures.kind c.trace_good.ensures.count
+
+pub trace_good-requires-clause-room : goal.trace_good-requires-clause-room
+trace_good-requires-clause-room g c =
+    subst (λ (groups : List (List Run)). All (HasRoomFor c.in_ok-machine.bench) groups)
+    (c.deref.ensures.value ∙ sym c.deref-2.ensures.value) c.in_ok-machine.ensures.room
+
+pub returns-clause-unsent : goal.returns-clause-unsent
+returns-clause-unsent g c =
+    if_err_too c.trace_good.result (λ e kind same not. absurd (not kind)) c.trace_good.ensures.kind
+    c.trace_good.ensures.kind

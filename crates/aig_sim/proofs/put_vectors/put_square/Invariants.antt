@@ -1,13 +1,13 @@
-use Rattle.std.specs.Prelude.{◌≡◌, ◌+◌, ◌<◌, ◌≤◌, ℕ, List, length}
+use Rattle.std.specs.Prelude.{◌≡◌, ◌+◌, ◌-◌, ◌/◌, ◌%◌, ◌^◌, ◌<◌, ◌≤◌, ℕ, List, length, slice_index_or}
 use Rattle.std.specs.List.{All}
-use Rattle.aig_sim.specs.Parts.Sheets.{given_character, step_text, IsGiven}
+use Rattle.aig_sim.specs.Parts.InputBits.{byte_in}
 use Rattle.aig_sim.proofs.put_vectors.put_square.Given as goal
 
 abbrev pub invariant-loop-k : goal.invariant-loop-k
 invariant-loop-k l = record {
-  own : (i k : ℕ) → l.input ≤ i → i < l.input + l.k → l.lane ≤ k → k < l.lane + 8
-      → IsGiven i k (step_text l.step k l.runs) l.given;
-  inputs : (i k : ℕ) → i < l.input → given_character i k l.given ≡ given_character i k l.fn.given;
-  lanes : (i k : ℕ) → k < l.lane → given_character i k l.given ≡ given_character i k l.fn.given;
-  wide : All (λ (strip : List ℕ). length strip ≡ 264) l.given;
+  own : (k i : ℕ) → k < l.k → l.lane ≤ i → i < l.lane + 8
+      → byte_in k i l.eights ≡ slice_index_or l.rows (i - l.lane) 0 / 256 ^ k % 256;
+  lanes : (k i : ℕ) → i < l.lane → byte_in k i l.eights ≡ byte_in k i l.fn.eights;
+  wide : All (λ (eight : List ℕ). length eight ≡ 264) l.eights;
+  size : length l.eights ≡ 8;
 }

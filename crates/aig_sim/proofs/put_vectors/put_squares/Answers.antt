@@ -1,25 +1,36 @@
-use Rattle.std.proofs.Common.{◌*◌, ◌∙◌, sym, arith, inl, inr}
+use Rattle.std.proofs.Common.{◌≡◌, ◌+◌, ◌*◌, ◌/◌, ◌%◌, ◌^◌, ◌-◌, ◌<◌, ◌∙◌, ℕ, ap, arith, inl, inr}
 use Rattle.std.proofs.lemmas.Bool.{cases_lt}
+use Rattle.aig_sim.specs.Parts.InputBits.{word_at}
 use Rattle.aig_sim.proofs.put_vectors.put_squares.Goals as goal
 
-pub put_eight-requires : goal.put_eight-requires
-put_eight-requires c = record {
-  lane = omega (arith, c.requires.lanes, c.loop-eight-test.true, c.div_ceil-eight-end.ensures);
-  each = λ j d below k e in_run. c.requires.each j d below k e in_run ∙ sym c.loop-eight.invariant.size;
-}
-
 pub loop-eight-preserved : goal.loop-eight-preserved
-loop-eight-preserved c = record {
-  own = λ i k inside below. elim (cases_lt k (8 * c.loop-eight.eight)) [
-    | inl before ↦ λ in_text.
-        c.put_eight.ensures.lanes i k before ∙ c.loop-eight.invariant.own i k inside before in_text
-    | inr behind ↦
-        c.put_eight.ensures.own i k (omega (arith, inside, c.loop-eight.invariant.size)) behind (omega (arith, below))
-  ];
-  size = c.put_eight.ensures.size ∙ c.loop-eight.invariant.size;
-}
-
-pub returns-clause-own : goal.returns-clause-own
-returns-clause-own c i k inside below =
-    c.loop-eight.invariant.own i k inside
-    (omega (arith, below, c.loop-eight-test.false, c.div_ceil-eight-end.ensures))
+loop-eight-preserved c =
+    let first = 8 * c.loop-eight.eight in
+    let word_of = λ (n : ℕ). word_at n c.args.step c.args.bits.now in
+    record {
+      bytes = λ k less. elim (cases_lt k first) [
+        | inl before ↦
+            let was = c.loop-eight.invariant.bytes k before in
+            record {
+              one = λ i in_word. c.put_square.ensures.lanes i k before ∙ was.one i in_word;
+              zero = λ i in_word. c.put_square-in-loop-eight.ensures.lanes i k before ∙ was.zero i in_word;
+            }
+        | inr behind ↦
+            let r = k - first in
+            let row : r < 8 = omega (arith, behind, less) in
+            let to : k < first + 8 = omega (arith, less) in
+            let at : first + r ≡ k = omega (arith, behind) in
+            record {
+              one = λ i in_word.
+                  c.put_square.ensures.own i k in_word behind to
+                  ∙ ap (λ (n : ℕ). n / 256 ^ i % 256)
+                  (c.rows_at.ensures.ones r row ∙ ap (λ (n : ℕ). (word_of n).one) at);
+              zero = λ i in_word.
+                  c.put_square-in-loop-eight.ensures.own i k in_word behind to
+                  ∙ ap (λ (n : ℕ). n / 256 ^ i % 256)
+                  (c.rows_at.ensures.zeros r row ∙ ap (λ (n : ℕ). (word_of n).zero) at);
+            }
+      ];
+      ones = c.put_square.ensures.size;
+      zeros = c.put_square-in-loop-eight.ensures.size;
+    }

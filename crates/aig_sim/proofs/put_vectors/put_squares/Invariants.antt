@@ -1,10 +1,10 @@
-use Rattle.std.specs.Prelude.{◌≡◌, ◌*◌, ◌/◌, ◌<◌, ℕ, length}
-use Rattle.aig_sim.specs.Parts.Sheets.{step_text, IsGiven}
+use Rattle.std.specs.Prelude.{◌≡◌, ◌*◌, ◌<◌, ℕ, length}
+use Rattle.aig_sim.specs.Parts.InputBits.{AreBytes, word_at}
 use Rattle.aig_sim.proofs.put_vectors.put_squares.Given as goal
 
 abbrev pub invariant-loop-eight : goal.invariant-loop-eight
 invariant-loop-eight l = record {
-  own : (i k : ℕ) → i < 8 * (length l.fn.given / 8) → k < 8 * l.eight
-      → IsGiven i k (step_text l.step k l.runs) l.given;
-  size : length l.given ≡ length l.fn.given;
+  bytes : (k : ℕ) → k < 8 * l.eight → AreBytes k (word_at k l.step l.bits) l.ones l.zeros;
+  ones : length l.ones ≡ 8;
+  zeros : length l.zeros ≡ 8;
 }

@@ -1,27 +1,30 @@
-use Rattle.std.proofs.Common.{◌≡◌, ◌+◌, ◌/◌, ◌%◌, ◌^◌, ◌<◌, ◌∙◌, ℕ, ap, arith, below_more, get_or, set}
+use Rattle.std.proofs.Common.{◌≡◌, ◌+◌, ◌<◌, ◌∙◌, ℕ, List, ap, arith, below_more, get_or, length, set}
 use Rattle.std.proofs.lemmas.List.{get_or-set_other, get_or-set_same, length-set}
-use Rattle.std.proofs.lemmas.List.Elements.{All-set}
-use Rattle.aig_sim.specs.Parts.Sheets.{step_text}
+use Rattle.aig_sim.specs.Parts.InputBits.{word_at}
 use Rattle.aig_sim.proofs.put_vectors.rows_at.Goals as goal
+
+-- one more row is put
+one_more : (f : ℕ → ℕ) (rows : List ℕ) (at row : ℕ) → at < length rows → row ≡ f at
+    → ((r : ℕ) → r < at → get_or rows r 0 ≡ f r) → (r : ℕ) → r < at + 1 → get_or (set rows at row) r 0 ≡ f r
+one_more f rows at row inside is before r below =
+    below_more (λ (i : ℕ). get_or (set rows at row) i 0 ≡ f i) at
+    (λ i less. get_or-set_other rows at i row 0 (omega (arith, less)) ∙ before i less)
+    (get_or-set_same rows at row 0 inside ∙ is) r below
 
 pub loop-r-preserved : goal.loop-r-preserved
 loop-r-preserved c =
-    let rows = c.loop-r.rows in
     let at = c.loop-r.r in
-    let word = c.row_at.result in
+    let word = c.word-word.result in
+    let word_of = λ (r : ℕ). word_at (c.args.lane + r) c.args.step c.args.bits.now in
     record {
-      own = λ r k below in_row.
-          let digit = λ (w : ℕ). w / 256 ^ k % 256 in
-          below_more
-          (λ (i : ℕ). digit (get_or (set rows at word) i 0)
-          ≡ get_or (step_text c.args.step (c.args.lane + i) c.args.runs.now) (c.args.input + k) 0)
-          at
-          (λ i before.
-          ap digit (get_or-set_other rows at i word 0 (omega (arith, before)))
-          ∙ c.loop-r.invariant.own i k before in_row)
-          (ap digit (get_or-set_same rows at word 0 (omega (arith, c.loop-r-test.true, c.loop-r.invariant.size)))
-          ∙ c.row_at.ensures k in_row)
-          r below;
-      size = length-set rows at word ∙ c.loop-r.invariant.size;
-      words = All-set (λ (row : ℕ). row < 2 ^ 64) rows at word c.row_at.type_inv c.loop-r.invariant.words;
+      ones =
+          one_more (λ r. (word_of r).one) c.loop-r.ones at word.one
+          (omega (arith, c.loop-r-test.true, c.loop-r.invariant.ones_size)) (ap (λ w. w.one) c.word-word.ensures)
+          c.loop-r.invariant.ones;
+      zeros =
+          one_more (λ r. (word_of r).zero) c.loop-r.zeros at word.zero
+          (omega (arith, c.loop-r-test.true, c.loop-r.invariant.zeros_size)) (ap (λ w. w.zero) c.word-word.ensures)
+          c.loop-r.invariant.zeros;
+      ones_size = length-set c.loop-r.ones at word.one ∙ c.loop-r.invariant.ones_size;
+      zeros_size = length-set c.loop-r.zeros at word.zero ∙ c.loop-r.invariant.zeros_size;
     }

@@ -1,12 +1,11 @@
-use Rattle.std.specs.Prelude.{◌≡◌, ◌+◌, ◌/◌, ◌%◌, ◌^◌, ◌<◌, ℕ, length, slice_index_or}
-use Rattle.std.specs.List.{All}
-use Rattle.aig_sim.specs.Parts.Sheets.{step_text}
+use Rattle.std.specs.Prelude.{◌≡◌, ◌+◌, ◌<◌, ℕ, length, slice_index_or}
+use Rattle.aig_sim.specs.Parts.InputBits.{word_at}
 use Rattle.aig_sim.proofs.put_vectors.rows_at.Given as goal
 
 abbrev pub invariant-loop-r : goal.invariant-loop-r
 invariant-loop-r l = record {
-  own : (r k : ℕ) → r < l.r → k < 8 → slice_index_or l.rows r 0 / 256 ^ k % 256
-      ≡ slice_index_or (step_text l.step (l.lane + r) l.runs) (l.input + k) 0;
-  size : length l.rows ≡ 8;
-  words : All (λ (row : ℕ). row < 2 ^ 64) l.rows;
+  ones : (r : ℕ) → r < l.r → slice_index_or l.ones r 0 ≡ (word_at (l.lane + r) l.step l.bits).one;
+  zeros : (r : ℕ) → r < l.r → slice_index_or l.zeros r 0 ≡ (word_at (l.lane + r) l.step l.bits).zero;
+  ones_size : length l.ones ≡ 8;
+  zeros_size : length l.zeros ≡ 8;
 }

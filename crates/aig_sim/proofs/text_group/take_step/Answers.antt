@@ -1,6 +1,7 @@
-use Rattle.std.proofs.Common.{◌<◌, ◌+◌, List, arith, get_or, map, subst, sym}
+use Rattle.std.proofs.Common.{◌<◌, ◌+◌, ◌∙◌, List, [], ap, arith, get_or, length, map, subst, sym}
 use Rattle.aig_core.specs.declared.circuit.Latch.{Latch}
 use Rattle.aig_meaning.specs.Meaning.{literal_value}
+use Rattle.aig_sim.specs.Parts.InputBits.{no_word}
 use Rattle.aig_sim.specs.Parts.Lanes.{IsLane}
 use Rattle.aig_sim.specs.Parts.Sheets.{HasStep, SheetText}
 use Rattle.aig_sim.specs.Parts.Tables.{read_from}
@@ -31,7 +32,10 @@ returns-clause-stands c j d below stood =
       bad = c.parts-parts.ensures.bad;
       constraints = c.parts-parts.ensures.constraints;
     }) (c.requires.runs j d below) lane stood (record {
-      put = λ values has is. c.put_vectors.ensures.lanes j d values below has is;
+      put = λ values has is.
+          c.put_vectors.ensures j (get_or run.steps step []) values lane
+          (c.requires.runs j d below step [] has ∙ sym (ap length c.parts-parts.ensures.inputs) ∙ sym c.len.ensures)
+          (λ block inside. c.requires.bits block inside j d below step no_word has) is;
       assign = λ given values start long is from. c.assign_lanes.ensures j given values start long is from;
       show = λ values start is from.
           subst (λ (ls : List Latch).

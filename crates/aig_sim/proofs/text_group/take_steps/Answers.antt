@@ -28,7 +28,6 @@ take_step-requires-clause-room c = λ l d low below.
 pub loop-step-preserved : goal.loop-step-preserved
 loop-step-preserved c = record {
   stand = λ j d below start. c.take_step.ensures.stands j d below (c.loop-step.invariant.stand j d below start);
-  given = c.take_step.auto.given ∙ c.loop-step.invariant.given;
   table = c.take_step.auto.table ∙ c.loop-step.invariant.table;
   state = c.take_step.auto.state ∙ c.loop-step.invariant.state;
   same = rooms_twice c.args.shown.now c.loop-step.shown c.take_step.new.shown c.loop-step.invariant.same

@@ -8,7 +8,6 @@ invariant-loop-step l = record {
   stand : (j : ℕ) (d : Run) → j < length l.runs
       → TextStands l.columns l.machine (slice_index_or l.runs j d) 0 j l.fn.table l.fn.state l.fn.shown
       → TextStands l.columns l.machine (slice_index_or l.runs j d) l.step j l.table l.state l.shown;
-  given : length l.given ≡ length l.fn.given;
   table : length l.table ≡ length l.fn.table;
   state : length l.state ≡ length l.fn.state;
   same : SameRoom l.fn.shown l.shown;
