@@ -36,7 +36,7 @@ kind_eq = (KindPartialEq.TheImpl.eq-value).it
 abbrev reset_eq : Reset → Reset → Bool
 reset_eq = (ResetPartialEq.TheImpl.eq-value).it
 
-abbrev symbol_eq : Symbol → Symbol → Bool
+abbrev pub symbol_eq : Symbol → Symbol → Bool
 symbol_eq = (SymbolPartialEq.TheImpl.eq-value).it
 
 -- two lists of numbers are the same

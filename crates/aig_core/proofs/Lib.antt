@@ -4,3 +4,4 @@ pub mod Checking
 pub mod Alike
 pub mod Numbered
 pub mod Makers
+pub mod NameRows

@@ -4,6 +4,7 @@ pub mod Wellformed
 pub mod Justice
 pub mod Form
 pub mod Names
+pub mod Symbols
 pub mod VarMap
 pub mod Order
 pub mod Cycle

@@ -1,6 +1,7 @@
 //! Circuits as AIGER files hold them (AIGER report; the largest index is this project's profile).
 use crate::listing::Listing;
 use crate::literal::{Lit, Var};
+use crate::symbols::Symbols;
 
 /// The largest variable index, and the largest count of anything that a circuit lists: 2^31 - 1, so that each literal
 /// fits into 32 bits.
@@ -58,7 +59,8 @@ pub enum Kind {
     Fairness,
 }
 
-/// The name of what stands at a position among its kind, counted from 0.
+/// The name of what stands at a position among its kind, counted from 0. To contracts a circuit's symbols are a list of
+/// these; the circuit itself keeps all names in one list of bytes (`Symbols`).
 #[derive(Clone, PartialEq, Drop)]
 pub struct Symbol {
     /// What it names.
@@ -101,7 +103,7 @@ pub struct Circuit {
     /// The AND gates; one may stand before those that it uses.
     pub gates: Listing<Gate>,
     /// The names of inputs, latches, outputs and the rest.
-    pub symbols: Listing<Symbol>,
+    pub symbols: Symbols,
     /// The bytes of the comment section, perhaps none; `None` where there is no such section.
     pub comment: Option<Listing<u8>>,
 }

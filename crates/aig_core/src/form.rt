@@ -1,16 +1,18 @@
 //! What can be checked of a circuit part by part, before its definitions and its uses are compared.
 ghost use Rattle.std.specs.Prelude.{◌≡◌, ◌↔◌, ◌^◌, ◌<◌, ◌≤◌, ℕ, List, length, map, IsTrue};
 ghost use Rattle.std.specs.List.{All, AllByRecursion, sum};
+ghost use Rattle.aig_core.specs.declared.circuit.Symbol.{Symbol};
 ghost use Rattle.aig_core.specs.Wellformed.{IsWithinLimits, IsVariableUpTo, count_of};
 ghost use Rattle.aig_core.specs.Wellformed.{HasGoodSymbols, NameApart, NameTheSame, IsAmong, line_feed};
 ghost use Rattle.aig_core.specs.Wellformed.{literal_lists};
 ghost use Rattle.aig_core.specs.Form.{IsInForm, HasEntriesInRange, AreInRange, IsLiteralUpTo};
 ghost use Rattle.aig_core.specs.Parts.SymbolOrder.{place_of, IsRisingFrom};
 
-use crate::circuit::{Circuit, Kind, LARGEST, Symbol};
+use crate::circuit::{Circuit, Kind, LARGEST};
 use crate::entry::Entry;
 use crate::listing::Listing;
 use crate::literal::{Lit, Var};
+use crate::symbols::{BorrowedSymbol, EachSymbol, Symbols};
 
 /// Whether a section is short enough for a file.
 fn is_short_enough<T>(items: &Listing<T>) -> bool
@@ -113,7 +115,7 @@ fn is_one_line(name: &[u8]) -> bool
 }
 
 /// A number that rises along the symbols of a file as they usually stand: by kind, then by position.
-fn place_of(symbol: &Symbol) -> u64
+fn place_of(symbol: &BorrowedSymbol) -> u64
     ensures place { result ≡ place_of symbol.now }
     ensures below { result < 2 ^ 35 }
 {
@@ -130,13 +132,13 @@ fn place_of(symbol: &Symbol) -> u64
 }
 
 /// Whether the symbols stand in the usual order: by kind, then by rising position.
-fn are_in_order(symbols: &[Symbol]) -> bool
+fn are_in_order(symbols: &Symbols) -> bool
     ensures exact { IsTrue result ↔ IsRisingFrom 0 (map place_of symbols.now) }
     ensures apart { IsTrue result → NameApart symbols.now }
 {
     let mut least = 0;
-    for symbol in symbols {
-        let place = place_of(symbol);
+    for symbol in symbols.iter() {
+        let place = place_of(&symbol);
         if place < least {
             return false;
         }
@@ -146,36 +148,35 @@ fn are_in_order(symbols: &[Symbol]) -> bool
 }
 
 /// Whether two symbols name the same thing.
-fn name_the_same(first: &Symbol, second: &Symbol) -> bool
+fn name_the_same(first: &BorrowedSymbol, second: &BorrowedSymbol) -> bool
     ensures { IsTrue result ↔ NameTheSame first.now second.now }
 {
     first.kind == second.kind && first.position == second.position
 }
 
 /// Whether no other symbol names what the first does.
-fn is_named_once(first: &Symbol, others: &[Symbol]) -> bool
-    ensures { IsTrue result ↔ All (λ other. ¬ NameTheSame first.now other) others.now }
+fn is_named_once(first: &BorrowedSymbol, mut others: EachSymbol) -> bool
+    ensures { IsTrue result ↔ All (λ other. ¬ NameTheSame first.now other) others.entry }
 {
-    others.iter().all(|other| !name_the_same(first, other))
+    others.all(|other| !name_the_same(first, &other))
 }
 
 /// Whether nothing is named twice. It compares all pairs.
-fn are_pairs_apart(symbols: &[Symbol]) -> bool
+fn are_pairs_apart(symbols: &Symbols) -> bool
     ensures { IsTrue result ↔ NameApart symbols.now }
 {
-    let mut left = symbols;
-    while let Some((first, others)) = left.split_first() {
-        if !is_named_once(first, others) {
+    let mut left = symbols.iter();
+    while let Some(first) = left.next() {
+        if !is_named_once(&first, left.again()) {
             return false;
         }
-        left = others;
     }
     true
 }
 
 /// Whether nothing is named twice. Symbols in the usual order are checked in one pass; in any other order all pairs are
 /// compared, since no memory may be taken.
-fn are_apart(symbols: &[Symbol]) -> bool
+fn are_apart(symbols: &Symbols) -> bool
     ensures { IsTrue result ↔ NameApart symbols.now }
 {
     are_in_order(symbols) || are_pairs_apart(symbols)
@@ -243,7 +244,7 @@ impl Circuit {
     }
 
     /// Whether the symbol names something that is there.
-    fn has_place(&self, symbol: &Symbol) -> bool
+    fn has_place(&self, symbol: &BorrowedSymbol) -> bool
         ensures { IsTrue result ↔ (symbol.now.position < count_of self.now symbol.now.kind) }
     {
         let count = match symbol.kind {
@@ -262,27 +263,21 @@ impl Circuit {
     fn has_places(&self) -> bool
         ensures { IsTrue result ↔ All (λ (s : Symbol). s.position < count_of self.now s.kind) self.now.symbols }
     {
-        self.symbols
-            .as_slice()
-            .iter()
-            .all(|symbol| self.has_place(symbol))
+        self.symbols.iter().all(|symbol| self.has_place(&symbol))
     }
 
     /// Whether each symbol's name stands in one line.
     fn has_lines(&self) -> bool
         ensures { IsTrue result ↔ All (λ (s : Symbol). ¬ IsAmong line_feed s.name) self.now.symbols }
     {
-        self.symbols
-            .as_slice()
-            .iter()
-            .all(|symbol| is_one_line(symbol.name.as_slice()))
+        self.symbols.iter().all(|symbol| is_one_line(symbol.name))
     }
 
     /// Whether each symbol names something that is there, in one line, and nothing is named twice.
     fn has_good_symbols(&self) -> bool
         ensures { IsTrue result ↔ HasGoodSymbols self.now }
     {
-        self.has_places() && self.has_lines() && are_apart(self.symbols.as_slice())
+        self.has_places() && self.has_lines() && are_apart(&self.symbols)
     }
 
     /// Whether the circuit is in form: the limits hold, variables and literals are in range, and symbols are good.

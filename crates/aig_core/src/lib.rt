@@ -16,6 +16,7 @@ mod operands;
 mod order;
 mod ordered;
 mod placed;
+mod symbols;
 mod value;
 mod var_map;
 mod var_set;
@@ -33,6 +34,7 @@ pub use crate::names::{NamedCounts, Names};
 pub use crate::order::Order;
 pub use crate::ordered::{Ordered, is_in_binary_order, is_numbered_in_order};
 pub use crate::placed::Placed;
+pub use crate::symbols::{BorrowedSymbol, EachSymbol, Symbols};
 pub use crate::value::Val;
 pub use crate::var_map::VarMap;
 pub use aig_io::{

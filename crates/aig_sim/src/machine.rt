@@ -13,7 +13,7 @@ use crate::cells::{Code, Table};
 use crate::evaluate::{Pair, pairs_of, place};
 use crate::lanes::{evaluate_lanes, place_lanes};
 use crate::planes::Plane;
-use aig_core::{Checked, Circuit, Justice, Listing, Ordered, OutOfMemory, Val};
+use aig_core::{Checked, Circuit, Justice, Listing, Ordered, OutOfMemory, Symbols, Val};
 use aig_image::to_binary;
 use std::alloc::Global;
 use std::marker::Model;
@@ -49,7 +49,7 @@ fn into_parts(alloc: Global, circuit: Circuit) -> Circuit
         },
         fairness: Listing::new(alloc),
         gates: Listing::new(alloc),
-        symbols: Listing::new(alloc),
+        symbols: Symbols::new(alloc),
         comment: None,
         ..circuit
     }

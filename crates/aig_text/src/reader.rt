@@ -14,7 +14,7 @@ use crate::limits::Limits;
 use crate::line::Cursor;
 use crate::parts::{header, tail};
 use crate::section::read_sections;
-use aig_core::{CheckFault, Checked, Circuit, Justice, Keep, Listing, check_keeping};
+use aig_core::{CheckFault, Checked, Circuit, Justice, Keep, Listing, Symbols, check_keeping};
 use std::alloc::Global;
 
 /// A circuit that has nothing in it.
@@ -34,7 +34,7 @@ pub fn empty_circuit(alloc: Global, max_var: u32) -> Circuit
         },
         fairness: Listing::new(alloc),
         gates: Listing::new(alloc),
-        symbols: Listing::new(alloc),
+        symbols: Symbols::new(alloc),
         comment: None,
     }
 }

@@ -12,7 +12,7 @@ use crate::fault::{Place, ReadFault, ReadKind};
 use crate::header_line::Header;
 use crate::line::{Cursor, Line, split_line};
 use crate::number::{ends_line, number};
-use aig_core::{Circuit, Kind, Listing, NamedCounts, Names, Symbol};
+use aig_core::{BorrowedSymbol, Circuit, Kind, Listing, NamedCounts, Names};
 use std::alloc::Global;
 
 /// What a symbol line holds.
@@ -85,13 +85,12 @@ fn count_named(header: &Header, kind: Kind) -> u32
 }
 
 /// The symbol of a line, whose number this is.
-fn read_symbol(
-    alloc: Global,
+fn read_symbol<'a>(
     header: &Header,
     names: &mut Names,
-    line: Line,
+    line: Line<'a>,
     number: u64,
-) -> Result<Symbol, ReadFault>
+) -> Result<BorrowedSymbol<'a>, ReadFault>
     ensures symbol { GivesOrMemory (λ s. s) result
         (at_line number (checked_symbol header.now names.old (symbol_at line.entry.text.now))) }
     ensures named { IfOk result (λ s. names.new ≡ with_name names.old s.kind s.position) }
@@ -116,10 +115,10 @@ fn read_symbol(
             kind: ReadKind::SymbolTwice,
         });
     }
-    Ok(Symbol {
+    Ok(BorrowedSymbol {
         kind: found.kind,
         position,
-        name: Listing::from_vec(Vec::from_slice(alloc, found.name)?),
+        name: found.name,
     })
 }
 
@@ -133,8 +132,8 @@ fn put_comment(alloc: Global, circuit: &mut Circuit, bytes: &[u8]) -> Result<(),
 }
 
 /// Adds the symbol to those of the circuit.
-fn put_symbol(circuit: &mut Circuit, symbol: Symbol) -> Result<(), ReadFault>
-    ensures ok { OnOk result (circuit.new ≡ with_symbol circuit.old symbol) }
+fn put_symbol(circuit: &mut Circuit, symbol: &BorrowedSymbol) -> Result<(), ReadFault>
+    ensures ok { OnOk result (circuit.new ≡ with_symbol circuit.old symbol.now) }
     ensures err { IfErr result (λ e. e ≡ want_of_memory) }
 {
     circuit.symbols.push(symbol)?;
@@ -158,8 +157,8 @@ fn read_tail_lines(
         if is_comment_line(line) {
             return put_comment(alloc, circuit, after);
         }
-        let symbol = read_symbol(alloc, header, names, line, number)?;
-        put_symbol(circuit, symbol)?;
+        let symbol = read_symbol(header, names, line, number)?;
+        put_symbol(circuit, &symbol)?;
         rest = after;
         number += 1;
     }

@@ -16,8 +16,8 @@ ghost use Rattle.aig_text.specs.declared.writer.WriteFault.TheVariants.{Device};
 
 use crate::header_line::{ASCII_WORD, HEADER_LEAST, HEADER_NUMBERS};
 use aig_core::{
-    Checked, Circuit, DeviceFault, Gate, Kind, Latch, Listing, Lit, Output, Reset, Sink, Symbol,
-    Var,
+    BorrowedSymbol, Checked, Circuit, DeviceFault, Gate, Kind, Latch, Listing, Lit, Output, Reset,
+    Sink, Symbols, Var,
 };
 use thiserror::Error;
 
@@ -208,20 +208,20 @@ fn put_name<W: Sink>(output: &mut Output<W>, name: &[u8])
 }
 
 /// A symbol line.
-fn put_symbol<W: Sink>(output: &mut Output<W>, symbol: &Symbol)
+fn put_symbol<W: Sink>(output: &mut Output<W>, symbol: &BorrowedSymbol)
     ensures { Put output.old output.new (symbol_text symbol.now) }
 {
     output.put(letter(symbol.kind));
     output.put_number(u64::from(symbol.position));
-    put_name(output, symbol.name.as_slice());
+    put_name(output, symbol.name);
 }
 
 /// The symbol lines.
-fn put_symbols<W: Sink>(output: &mut Output<W>, symbols: &[Symbol])
+fn put_symbols<W: Sink>(output: &mut Output<W>, symbols: &Symbols)
     ensures { Put output.old output.new (flat_map symbol_text symbols.now) }
 {
-    for symbol in symbols {
-        put_symbol(output, symbol);
+    for symbol in symbols.iter() {
+        put_symbol(output, &symbol);
     }
 }
 
@@ -239,7 +239,7 @@ fn put_comment<W: Sink>(output: &mut Output<W>, comment: &Option<Listing<u8>>)
 pub fn put_tail<W: Sink>(output: &mut Output<W>, circuit: &Circuit)
     ensures { Put output.old output.new (tail_text circuit.now) }
 {
-    put_symbols(output, circuit.symbols.as_slice());
+    put_symbols(output, &circuit.symbols);
     put_comment(output, &circuit.comment);
 }
 

@@ -14,7 +14,7 @@ use crate::fault::ToolFault;
 use crate::file::read_circuit;
 use aig_binary::{Ordered, write_binary};
 use aig_command::ToAig;
-use aig_core::{Checked, Circuit, Keep, Listing, OutOfMemory, Sink, Source};
+use aig_core::{Checked, Circuit, Keep, OutOfMemory, Sink, Source, Symbols};
 use aig_order::{MapFault, into_binary, into_binary_with_map, undo};
 use aig_text::write_ascii;
 use std::alloc::Global;
@@ -38,7 +38,7 @@ fn changed(alloc: Global, request: &ToAig, circuit: Checked) -> Checked
     }
     let found = circuit.into_circuit();
     Checked::from_well_formed(Circuit {
-        symbols: Listing::new(alloc),
+        symbols: Symbols::new(alloc),
         comment: None,
         ..found
     })

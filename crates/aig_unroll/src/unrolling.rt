@@ -9,7 +9,9 @@ ghost use Rattle.aig_unroll.specs.Parts.Frames.{IsPutAt, circuit_with};
 
 use crate::fault::UnrollFault;
 use crate::frames::{Frames, count_uninitialised};
-use aig_core::{Checked, Circuit, Gate, Justice, LARGEST, Listing, Lit, Ordered, OutOfMemory, Var};
+use aig_core::{
+    Checked, Circuit, Gate, Justice, LARGEST, Listing, Lit, Ordered, OutOfMemory, Symbols, Var,
+};
 use aig_image::to_binary;
 use std::alloc::{AllocError, Global};
 
@@ -125,7 +127,7 @@ fn circuit_of(
         },
         fairness: Listing::new(alloc),
         gates: Listing::from_vec(gates),
-        symbols: Listing::new(alloc),
+        symbols: Symbols::new(alloc),
         comment: None,
     }
 }

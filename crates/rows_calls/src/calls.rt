@@ -84,11 +84,19 @@ fn listings_are_copied(rt: HostRuntime) -> Result<(), Fail> {
 }
 
 #[test]
+fn symbols_are_copied(rt: HostRuntime) -> Result<(), Fail> {
+    let symbols = symbols_of(rt.alloc(), NAMED)?;
+    let copy = symbols.copy(rt.alloc())?;
+    assert!(rt; copy == symbols && copy.len() == NAMED.split(',').count());
+    Ok(())
+}
+
+#[test]
 fn names(rt: HostRuntime) -> Result<(), Fail> {
     let mut names = Names::new(rt.alloc(), ONE_OF_EACH)?;
-    for symbol in symbols_of(rt.alloc(), NAMED)?.as_slice() {
+    for symbol in symbols_of(rt.alloc(), NAMED)?.iter() {
         let is_new = names.insert(symbol.kind, symbol.position)?;
-        assert!(rt; is_new == (symbol.name.as_slice() == b"new".as_slice()));
+        assert!(rt; is_new == (symbol.name == b"new".as_slice()));
     }
     Ok(())
 }

@@ -1,6 +1,6 @@
 //! Which circuits are in form.
 use crate::calls::circuit_of;
-use aig_core::{Circuit, Gate, Kind, Latch, Listing, Lit, Reset, Symbol, Var};
+use aig_core::{BorrowedSymbol, Circuit, Gate, Kind, Latch, Listing, Lit, Reset, Symbols, Var};
 use aig_text::empty_circuit;
 use std::alloc::Global;
 use std::test::Fail;
@@ -139,22 +139,23 @@ fn kind_of(letter: u8) -> Kind {
 }
 
 /// The symbol of a text as `i0 name`.
-fn symbol_of(alloc: Global, text: &[u8]) -> Result<Symbol, Fail> {
+fn symbol_of(text: &[u8]) -> Option<BorrowedSymbol> {
     let [letter, digit, _, name @ ..] = text else {
-        return Err("a symbol has a letter, a digit and a name")?;
+        return None;
     };
-    Ok(Symbol {
+    Some(BorrowedSymbol {
         kind: kind_of(*letter),
         position: u32::from(*digit).saturating_sub(48),
-        name: Listing::from_vec(Vec::from_slice(alloc, name)?),
+        name,
     })
 }
 
 /// The symbols of a text, with commas between them.
-pub(crate) fn symbols_of(alloc: Global, text: &str) -> Result<Listing<Symbol>, Fail> {
-    let mut symbols = Listing::new(alloc);
-    for symbol in text.split(',') {
-        symbols.push(symbol_of(alloc, symbol.as_bytes())?)?;
+pub(crate) fn symbols_of(alloc: Global, text: &str) -> Result<Symbols, Fail> {
+    let mut symbols = Symbols::new(alloc);
+    for line in text.split(',') {
+        let symbol = symbol_of(line.as_bytes()).ok_or("a symbol has a letter, a digit and a name")?;
+        symbols.push(&symbol)?;
     }
     Ok(symbols)
 }

@@ -1,27 +1,17 @@
 //! Copies of circuits.
 ghost use Rattle.std.specs.Prelude.{◌≡◌, IfOk};
 
-use crate::circuit::{Circuit, Justice, Symbol};
+use crate::circuit::{Circuit, Justice};
 use crate::fault::OutOfMemory;
 use crate::listing::Listing;
+use crate::symbols::Symbols;
 use std::alloc::Global;
 
 /// The same symbols in memory of their own.
-pub fn copy_symbols(
-    alloc: Global,
-    symbols: &Listing<Symbol>,
-) -> Result<Listing<Symbol>, OutOfMemory>
+pub fn copy_symbols(alloc: Global, symbols: &Symbols) -> Result<Symbols, OutOfMemory>
     ensures { IfOk result (λ copies. copies ≡ symbols.now) }
 {
-    let mut copies = Listing::new(alloc);
-    for symbol in symbols.as_slice() {
-        copies.push(Symbol {
-            kind: symbol.kind,
-            position: symbol.position,
-            name: symbol.name.copy(alloc)?,
-        })?;
-    }
-    Ok(copies)
+    Ok(symbols.copy(alloc)?)
 }
 
 /// The same comment in memory of its own, if there is one.

@@ -1,7 +1,7 @@
-use Rattle.std.proofs.Common.{◌↔◌, drop, map}
+use Rattle.std.proofs.Common.{◌↔◌, map}
 use Rattle.aig_core.specs.Parts.SymbolOrder.{IsRisingFrom, place_of}
 use Rattle.aig_core.proofs.form.are_in_order.Given as goal
 
 abbrev pub invariant-loop-symbol : goal.invariant-loop-symbol
-invariant-loop-symbol l = IsRisingFrom l.least (map place_of (drop l.symbol-index l.symbols))
-    ↔ IsRisingFrom 0 (map place_of l.fn.symbols)
+invariant-loop-symbol l =
+    IsRisingFrom l.least (map place_of l.symbol-iterator) ↔ IsRisingFrom 0 (map place_of l.fn.symbols)

@@ -43,10 +43,9 @@ returns-clause-symbol c =
     ∙ c.count_named.ensures in
     let low : c.from.result < 2 ^ 33 = omega (arith, c.from.ensures) in
     let near : c.in-Some.found.position < c.from.result = c.if-from-found.false in
-    rw (c.from_vec.ensures, c.in_ok-from_slice.ensures.items)
-    (ap (at_line c.args.number)
+    ap (at_line c.args.number)
     (symbol_right c.args.header.now c.args.names.now
     (symbol_at c.args.line.text.now) c.in-Some.found.kind c.in-Some.found.position c.in-Some.found.name.now
     c.in-Some.ensures
     (subst (λ n. n < 2 ^ 33) count low) (subst (λ n. c.in-Some.found.position < n) count near)
-    (not_true _ (sym c.in_ok-insert.ensures.added ∙ c.if-not-branch.false))))
+    (not_true _ (sym c.in_ok-insert.ensures.added ∙ c.if-not-branch.false)))
