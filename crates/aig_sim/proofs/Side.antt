@@ -10,5 +10,6 @@ pub mod InputBits
 pub mod Squares
 pub mod Sheets
 pub mod Rooms
+pub mod Eights
 pub mod Vectors
 pub mod GoodLines

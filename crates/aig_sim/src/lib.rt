@@ -35,6 +35,7 @@ mod stream;
 mod text_group;
 mod trace;
 mod tracer;
+mod turned;
 mod vectors;
 mod verdict;
 mod witness;

@@ -1,7 +1,7 @@
 //! Octets: what literals are in eight lanes.
-ghost use Rattle.std.specs.Prelude.{◌≡◌, ◌+◌, ◌++◌, ◌<◌, ◌≤◌, ◌^◌, ℕ, IfOk, drop, length, slice_set, take};
+ghost use Rattle.std.specs.Prelude.{◌≡◌, ◌+◌, ◌++◌, ◌<◌, ◌≤◌, ◌^◌, ℕ, IfOk, drop, length, take};
 ghost use Rattle.std.specs.Int.{bit_at};
-ghost use Rattle.aig_sim.specs.Parts.Sheets.{character_by, octet_text};
+ghost use Rattle.aig_sim.specs.Parts.Sheets.{character_by, octet_text, overwritten};
 
 use aig_core::OutOfMemory;
 use std::alloc::Global;
@@ -55,6 +55,15 @@ fn write_bits(line: &mut [u8], at: usize, ones: &[u8], zeros: &[u8], place: usiz
     }
 }
 
+/// Puts bytes over others, from a place on.
+#[inline(always)]
+fn overwrite(bytes: &mut [u8], at: usize, part: &[u8])
+    requires { at + length part.now ≤ length bytes.old }
+    ensures { bytes.new ≡ overwritten at part.now bytes.old }
+{
+    bytes[at..at + part.len()].copy_from_slice(part);
+}
+
 impl Octet {
     /// Of so many literals.
     pub(crate) fn new(alloc: Global, count: usize) -> Result<Self, OutOfMemory>
@@ -66,15 +75,36 @@ impl Octet {
         })
     }
 
-    /// Puts the bytes of a literal, where it has a place.
-    #[inline(always)]
-    pub(crate) fn put(&mut self, at: usize, ones: u8, zeros: u8)
+    /// Puts the bytes of literals, from a place on, where there are not places for all of them: those of the first ones.
+    #[inline(never)]
+    fn put_first(&mut self, at: usize, ones: &[u8], zeros: &[u8])
+        requires same { length ones.now ≡ length zeros.now }
+        requires few { (place : ℕ) → length (octet_text place self.old) ≤ at + length ones.now }
         ensures { (place : ℕ) → octet_text place self.new
-            ≡ slice_set (octet_text place self.old) at (character_by (bit_at ones place) (bit_at zeros place)) }
+            ≡ overwritten at (octet_text place (record { ones = ones.now; zeros = zeros.now }))
+            (octet_text place self.old) }
     {
-        if at < self.ones.len() {
-            self.ones[at] = ones;
-            self.zeros[at] = zeros;
+        let count = self.ones.len();
+        if at < count {
+            overwrite(&mut self.ones, at, &ones[..count - at]);
+            overwrite(&mut self.zeros, at, &zeros[..count - at]);
+        }
+    }
+
+    /// Puts the bytes of literals, from a place on, as far as there are places.
+    #[inline(always)]
+    pub(crate) fn put(&mut self, at: usize, ones: &[u8], zeros: &[u8])
+        requires { length ones.now ≡ length zeros.now }
+        ensures { (place : ℕ) → octet_text place self.new
+            ≡ overwritten at (octet_text place (record { ones = ones.now; zeros = zeros.now }))
+            (octet_text place self.old) }
+    {
+        let count = self.ones.len();
+        if at < count && at + ones.len() <= count {
+            overwrite(&mut self.ones, at, ones);
+            overwrite(&mut self.zeros, at, zeros);
+        } else {
+            self.put_first(at, ones, zeros);
         }
     }
 

@@ -41,7 +41,7 @@ fn rows_at(bits: &BlockBits, step: usize, lane: usize) -> ([u64; 8], [u64; 8])
 
 /// The eight bytes of eight rows by columns: the first byte of each row, then the second of each, and so on.
 #[inline(always)]
-fn turned(rows: &[u64; 8]) -> [u8; 64]
+fn columns_of(rows: &[u64; 8]) -> [u8; 64]
     requires { All (λ (row : ℕ). row < 2 ^ 64) rows.now }
     ensures { (r k : ℕ) → r < 8 → k < 8
         → slice_index_or result (8 * k + r) 0 ≡ slice_index_or rows.now r 0 / 256 ^ k % 256 }
@@ -66,7 +66,7 @@ fn put_square(rows: &[u64; 8], eights: &mut [Eight], lane: usize)
     ensures lanes { (k l : ℕ) → l < lane → byte_in k l eights.new ≡ byte_in k l eights.old }
     ensures size { length eights.new ≡ 8 }
 {
-    let columns = turned(rows);
+    let columns = columns_of(rows);
     for k in 0..8 {
         eights[k][lane..lane + 8].copy_from_slice(&columns[8 * k..8 * k + 8]);
     }

@@ -1,18 +1,17 @@
 //! Sheets: what literals are in all lanes, step by step.
-ghost use Rattle.std.specs.Prelude.{◌≡◌, ◌+◌, ◌*◌, ◌/◌, ◌++◌, ◌<◌, ◌≤◌, ◌^◌, ℕ, List, IfOk, codes, length};
+ghost use Rattle.std.specs.Prelude.{◌≡◌, ◌+◌, ◌*◌, ◌/◌, ◌++◌, ◌<◌, ◌≤◌, ◌^◌, ℕ, List, [], IfOk, codes, length};
 ghost use Rattle.std.specs.Prelude.{slice_index_or};
-ghost use Rattle.std.specs.Prelude.{slice_set, take};
-ghost use Rattle.std.specs.Int.{bit_at};
+ghost use Rattle.std.specs.Prelude.{take};
 ghost use Rattle.std.specs.List.{All};
 ghost use Rattle.aig_sim.specs.declared.run.Run.{Run as RunRecord};
 ghost use Rattle.aig_sim.specs.Parts.Lanes.{bit_in};
-ghost use Rattle.aig_sim.specs.Parts.Sheets.{HasStep, HoldsSteps, IsSheet, OctetText, character_by, lane_text};
-ghost use Rattle.aig_sim.specs.Parts.Sheets.{octet_text};
-ghost use Rattle.aig_sim.specs.Parts.Sheets.{step_in, text_in};
+ghost use Rattle.aig_sim.specs.Parts.Sheets.{HasStep, HoldsSteps, IsSheet, OctetText, character_by, eight_at};
+ghost use Rattle.aig_sim.specs.Parts.Sheets.{octet_text, overwritten, step_in, text_in};
 
 use crate::octets::Octet;
 use crate::planes::Plane;
 use crate::runs_read::RunGroup;
+use crate::turned::turned;
 use crate::vectors::Vectors;
 use aig_core::OutOfMemory;
 use std::alloc::Global;
@@ -71,42 +70,20 @@ fn new_octets(
     Ok(octets)
 }
 
-/// Puts a literal into the octets of 64 lanes, by a word of each plane, from this octet on.
+/// Puts the bytes of eight literals for each octet, from a place on, as far as there are places.
 #[inline(always)]
-fn put_word(octets: &mut [Octet], first: usize, at: usize, one: u64, zero: u64)
-    requires { first + 8 ≤ length octets.old }
-    ensures own { (place j : ℕ) (d : OctetText) → place < 8 → j < 8
-        → octet_text j (slice_index_or octets.new (first + place) d)
-        ≡ slice_set (octet_text j (slice_index_or octets.old (first + place) d)) at
-        (character_by (bit_at one (8 * place + j)) (bit_at zero (8 * place + j))) }
-    ensures before { (k : ℕ) (d : OctetText) → k < first
-        → slice_index_or octets.new k d ≡ slice_index_or octets.old k d }
-    ensures behind { (k : ℕ) (d : OctetText) → first + 8 ≤ k
-        → slice_index_or octets.new k d ≡ slice_index_or octets.old k d }
-    ensures size { (k j : ℕ) (d : OctetText) → length (octet_text j (slice_index_or octets.new k d))
-        ≡ length (octet_text j (slice_index_or octets.old k d)) }
-{
-    for place in 0..8 {
-        let shift = 8 * place;
-        let ones = (one >> shift) & 255;
-        let zeros = (zero >> shift) & 255;
-        octets[first + place].put(at, ones as u8, zeros as u8);
-    }
-}
-
-/// Puts a literal with this plane, and that plane of its negation.
-#[inline(always)]
-fn put_planes(octets: &mut [Octet], at: usize, one: Plane, zero: Plane)
+fn put_bytes(octets: &mut [Octet], at: usize, ones: &[u8; 256], zeros: &[u8; 256])
     requires { length octets.old ≡ 32 }
-    ensures text { (l : ℕ) → l < 256 → lane_text l octets.new
-        ≡ slice_set (lane_text l octets.old) at (character_by (bit_in l one) (bit_in l zero)) }
-    ensures size { (k j : ℕ) (d : OctetText) → length (octet_text j (slice_index_or octets.new k d))
-        ≡ length (octet_text j (slice_index_or octets.old k d)) }
+    ensures text { (k j : ℕ) (d : OctetText) → k < 32 → octet_text j (slice_index_or octets.new k d)
+        ≡ overwritten at (octet_text j (eight_at k ones.now zeros.now))
+        (octet_text j (slice_index_or octets.old k d)) }
+    ensures size { length octets.new ≡ 32 }
+    ensures ones { length ones.now ≡ 256 }
+    ensures zeros { length zeros.now ≡ 256 }
 {
-    let ones = one.to_array();
-    let zeros = zero.to_array();
-    for word in 0..4 {
-        put_word(octets, 8 * word, at, ones[word], zeros[word]);
+    for k in 0..32 {
+        let from = 8 * k;
+        octets[k].put(at, &ones[from..from + 8], &zeros[from..from + 8]);
     }
 }
 
@@ -153,15 +130,19 @@ impl Sheet {
         step * self.width
     }
 
-    /// Puts a literal with this plane, and that plane of its negation, in the lanes that have a place for it.
+    /// Puts eight literals, from a place on, in each lane as far as it has places. Behind the plane of each stands that
+    /// of its negation.
     #[inline(always)]
-    pub(crate) fn put(&mut self, at: usize, one: Plane, zero: Plane)
+    pub(crate) fn put(&mut self, at: usize, planes: &[Plane; 16])
         ensures width { self.new.width ≡ self.old.width }
-        ensures text { (l : ℕ) → l < 256 → text_in l self.new
-            ≡ slice_set (text_in l self.old) at (character_by (bit_in l one) (bit_in l zero)) }
+        ensures text { (l k : ℕ) → l < 256 → k < 8 → at + k < length (text_in l self.old)
+            → slice_index_or (text_in l self.new) (at + k) 0
+            ≡ character_by (bit_in l (slice_index_or planes.now (2 * k) []))
+            (bit_in l (slice_index_or planes.now (2 * k + 1) [])) }
+        ensures front { (l : ℕ) → l < 256 → take at (text_in l self.new) ≡ take at (text_in l self.old) }
         ensures long { (l : ℕ) → length (text_in l self.new) ≡ length (text_in l self.old) }
     {
-        put_planes(&mut self.octets, at, one, zero);
+        put_bytes(&mut self.octets, at, &turned(planes, 0), &turned(planes, 1));
     }
 
     /// Writes the characters of a step in a lane from a place on, and answers where they end.

@@ -1,18 +1,19 @@
 //! What steps show, in all lanes.
-ghost use Rattle.std.specs.Prelude.{◌≡◌, ◌+◌, ◌*◌, ◌/◌, ◌++◌, ◌<◌, ◌≤◌, ◌^◌, ℕ, List, IfOk, length, map, take};
+ghost use Rattle.std.specs.Prelude.{◌≡◌, ◌+◌, ◌*◌, ◌/◌, ◌++◌, ◌<◌, ◌≤◌, ◌^◌, ℕ, List, [], IfOk, length, map};
+ghost use Rattle.std.specs.Prelude.{slice_index_or, take};
 ghost use Rattle.std.specs.List.{All};
 ghost use Rattle.aig_core.specs.declared.value.Val.{Val as Value};
 ghost use Rattle.aig_meaning.specs.Meaning.{literal_value};
 ghost use Rattle.aig_sim.specs.Parts.LaneTexts.{AreShown, HasSheets, HasShown, HoldsRuns, PutBehind, PutsShown};
 ghost use Rattle.aig_sim.specs.Parts.LaneTexts.{shown_properties, shown_size, shown_text};
-ghost use Rattle.aig_sim.specs.Parts.Lanes.{IsLane};
+ghost use Rattle.aig_sim.specs.Parts.Lanes.{IsLane, IsPair};
 ghost use Rattle.aig_sim.specs.Parts.Machines.{ShowsBelow};
 ghost use Rattle.aig_sim.specs.Parts.Sheets.{HasStep, step_in};
 ghost use Rattle.aig_sim.specs.Parts.Tables.{IsLiteralBelow, read_from};
 ghost use Rattle.aig_sim.specs.TraceText.{values_text};
 
 use crate::lanes::planes_of;
-use crate::planes::Plane;
+use crate::planes::{Plane, plane_of};
 use crate::runs_read::RunGroup;
 use crate::sheets::Sheet;
 use crate::trace::{Columns, write_text};
@@ -28,7 +29,46 @@ pub(crate) struct Shown {
     constraints: Sheet,
 }
 
-/// Puts literals for a step, behind those of the steps before it.
+/// The planes of eight literals from one on, each with that of its negation behind it. Where there are fewer, the last
+/// one stands for those that are not there.
+#[inline(always)]
+fn planes_of_literals(planes: &[Plane], literals: &[Lit], first: usize) -> [Plane; 16]
+    requires some { first < length literals.now }
+    requires below { All (IsLiteralBelow (length planes.now / 2)) literals.now }
+    ensures { (l k : ℕ) (values : List Value) → k < 8 → first + k < length literals.now → IsLane l planes.now values
+        → IsPair l (slice_index_or result (2 * k) []) (slice_index_or result (2 * k + 1) [])
+        (literal_value (read_from values) (slice_index_or literals.now (first + k) 0)) }
+{
+    let last = literals.len() - 1;
+    let mut eight = [plane_of(false); 16];
+    for k in 0..8 {
+        let (one, zero) = planes_of(planes, literals[(first + k).min(last)]);
+        eight[2 * k] = one;
+        eight[2 * k + 1] = zero;
+    }
+    eight
+}
+
+/// The planes of eight variables of a table from one on, in the same way.
+#[inline(always)]
+fn planes_of_variables(planes: &[Plane], first: usize) -> [Plane; 16]
+    requires { first < length planes.now / 2 }
+    ensures { (l k : ℕ) (values : List Value) → k < 8 → first + k < length values → IsLane l planes.now values
+        → IsPair l (slice_index_or result (2 * k) []) (slice_index_or result (2 * k + 1) [])
+        (read_from values (first + k)) }
+{
+    let last = planes.len() / 2 - 1;
+    let mut eight = [plane_of(false); 16];
+    for k in 0..8 {
+        let variable = (first + k).min(last);
+        eight[2 * k] = planes[2 * variable];
+        eight[2 * k + 1] = planes[2 * variable + 1];
+    }
+    eight
+}
+
+/// Puts literals for a step, behind those of the steps before it. Eight are put at once; what stands behind the last
+/// one then is no matter, for the next step is put over it.
 fn show_literals(literals: &[Lit], planes: &[Plane], sheet: &mut Sheet, step: usize)
     requires count { sheet.old.width ≡ length literals.now }
     requires fits { step * sheet.old.width + sheet.old.width < 2 ^ 64 }
@@ -38,13 +78,13 @@ fn show_literals(literals: &[Lit], planes: &[Plane], sheet: &mut Sheet, step: us
         → step_in step l sheet.new ≡ values_text (map (literal_value (read_from values)) literals.now) }
 {
     let start = sheet.start(step);
-    for i in 0..literals.len() {
-        let (one, zero) = planes_of(planes, literals[i]);
-        sheet.put(start + i, one, zero);
+    for eight in 0..literals.len().div_ceil(8) {
+        let first = 8 * eight;
+        sheet.put(start + first, &planes_of_literals(planes, literals, first));
     }
 }
 
-/// Puts all variables of a table for a step, behind those of the steps before it.
+/// Puts all variables of a table for a step, behind those of the steps before it, in the same way.
 fn show_table(planes: &[Plane], sheet: &mut Sheet, step: usize)
     requires count { length planes.now ≡ 2 * sheet.old.width }
     requires fits { step * sheet.old.width + sheet.old.width < 2 ^ 64 }
@@ -53,8 +93,10 @@ fn show_table(planes: &[Plane], sheet: &mut Sheet, step: usize)
         → step_in step l sheet.new ≡ values_text values }
 {
     let start = sheet.start(step);
-    for i in 0..planes.len() / 2 {
-        sheet.put(start + i, planes[2 * i], planes[2 * i + 1]);
+    let count = planes.len() / 2;
+    for eight in 0..count.div_ceil(8) {
+        let first = 8 * eight;
+        sheet.put(start + first, &planes_of_variables(planes, first));
     }
 }
 

@@ -18,10 +18,10 @@ by_columns =
     ∷ 45 ∷ 53 ∷ 61 ∷ 6 ∷ 14 ∷ 22 ∷ 30 ∷ 38 ∷ 46 ∷ 54 ∷ 62 ∷ 7 ∷ 15 ∷ 23 ∷ 31 ∷ 39 ∷ 47 ∷ 55 ∷ 63 ∷ []
 
 -- the bytes of eight words, read by columns
-pub turned_at : (rows : List ℕ) (r k : ℕ) → length rows ≡ 8 → Each1 (λ (x : ℕ). x < 2 ^ 64) rows → r < 8 → k < 8
+pub column_at : (rows : List ℕ) (r k : ℕ) → length rows ≡ 8 → Each1 (λ (x : ℕ). x < 2 ^ 64) rows → r < 8 → k < 8
     → (bytes : List ℕ) → bytes ≡ digits_l 256 64 (number_l (2 ^ 64) rows)
     → get_or (pick_l 0 (bytes ++ bytes) by_columns) (8 * k + r) 0 ≡ get_or rows r 0 / 256 ^ k % 256
-turned_at rows r k long fit in_row in_column bytes are =
+column_at rows r k long fit in_row in_column bytes are =
     let place : 8 * k + r < 64 = omega arith in
     let all : length bytes ≡ 64 = ap length are in
     ap (λ (xs : List ℕ). get_or xs (8 * k + r) 0) (pick_l_left 0 bytes bytes 64 by_columns all tt)

@@ -1,6 +1,6 @@
 -- The characters of literals in all lanes. Only private functions cite this.
-use Rattle.std.specs.Prelude.{◌≡◌, ◌+◌, ◌*◌, ◌/◌, ◌%◌, ◌<◌, ◌≤◌, ◌==◌, ℕ, List, [], if◌then◌else◌, drop, length}
-use Rattle.std.specs.Prelude.{slice_index_or, take}
+use Rattle.std.specs.Prelude.{◌≡◌, ◌+◌, ◌-◌, ◌*◌, ◌/◌, ◌%◌, ◌<◌, ◌≤◌, ◌==◌, ◌++◌, ℕ, List, [], if◌then◌else◌}
+use Rattle.std.specs.Prelude.{drop, length, slice_index_or, take}
 use Rattle.std.specs.Int.{bit_at}
 use Rattle.std.specs.Simd.Lanes.{zip2}
 use Rattle.aig_sim.specs.declared.run.Run.{Run}
@@ -17,6 +17,19 @@ pub record OctetText : Type 0 where
 -- the characters of literals in one of eight lanes
 abbrev pub octet_text : ℕ → OctetText → List ℕ
 octet_text place o = zip2 (λ (high low : ℕ). character_by (bit_at high place) (bit_at low place)) o.ones o.zeros
+
+-- a text with these characters from a place on, as far as it has places
+abbrev pub overwritten : ℕ → (characters text : List ℕ) → List ℕ
+overwritten at characters text =
+    take at text ++ (take (length text - at) characters ++ drop (at + length characters) text)
+
+-- the byte at a place of rows of 32 bytes, where one row stands behind the other
+abbrev pub byte_at : ℕ → List (List ℕ) → ℕ
+byte_at place rows = slice_index_or (slice_index_or rows (place / 32) []) (place % 32) 0
+
+-- the bytes of one octet, where there are eight for each
+abbrev pub eight_at : ℕ → (ones zeros : List ℕ) → OctetText
+eight_at octet ones zeros = record { ones = take 8 (drop (8 * octet) ones); zeros = take 8 (drop (8 * octet) zeros) }
 
 -- octets for all lanes, with so many literals for each step
 pub record SheetText : Type 0 where

@@ -22,7 +22,7 @@ loop-k-preserved c =
     let lane = c.args.lane in
     let n = lane + 8 - lane in
     let eights = c.loop-k.eights in
-    let columns = c.turned-columns.result in
+    let columns = c.columns_of-columns.result in
     let bytes = c.copy_from_slice.new.self in
     let old = get_or eights column [] in
     let below : column < length eights = omega (arith, c.loop-k-test.true, c.loop-k.invariant.size) in
@@ -46,7 +46,7 @@ loop-k-preserved c =
             ∙ ap (λ (bs : List ℕ). get_or bs r 0) c.copy_from_slice.ensures.after
             ∙ get_or-take (8 * column + 8 - 8 * column) (drop (8 * column) columns) r 0 (omega (arith, row))
             ∙ get_or-drop (8 * column) columns r 0
-            ∙ c.turned-columns.ensures r column row c.loop-k-test.true)
+            ∙ c.columns_of-columns.ensures r column row c.loop-k-test.true)
       ];
       lanes = λ k i before.
           lane_stays k i column eights after below (before_part lane n old bytes i before inside)

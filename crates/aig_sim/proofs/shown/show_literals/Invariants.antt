@@ -1,19 +1,19 @@
-use Rattle.std.specs.Prelude.{◌≡◌, ◌*◌, ◌<◌, ℕ, List, drop, length, map, take}
+use Rattle.std.specs.Prelude.{◌≡◌, ◌+◌, ◌*◌, ◌<◌, ℕ, List, length, slice_index_or, take}
 use Rattle.aig_core.specs.declared.value.Val.{Val}
 use Rattle.aig_meaning.specs.Meaning.{literal_value}
 use Rattle.aig_sim.specs.Parts.Lanes.{IsLane}
 use Rattle.aig_sim.specs.Parts.Sheets.{HasStep, text_in}
 use Rattle.aig_sim.specs.Parts.Tables.{read_from}
-use Rattle.aig_sim.specs.TraceText.{values_text}
+use Rattle.aig_sim.specs.TraceText.{character_of}
 use Rattle.aig_sim.proofs.shown.show_literals.Given as goal
 
-abbrev pub invariant-loop-i : goal.invariant-loop-i
-invariant-loop-i l = record {
+abbrev pub invariant-loop-eight : goal.invariant-loop-eight
+invariant-loop-eight l = record {
   start : l.start ≡ l.step * l.fn.sheet.width;
   front : (k : ℕ) → k < 256 → take l.start (text_in k l.sheet) ≡ take l.start (text_in k l.fn.sheet);
-  shown : (k : ℕ) (values : List Val) → k < 256 → HasStep l.step k l.fn.sheet → IsLane k l.planes values
-      → take l.i (drop l.start (text_in k l.sheet)) ≡ values_text (take l.i (map (literal_value
-      (read_from values)) l.literals));
+  shown : (k j : ℕ) (values : List Val) → k < 256 → HasStep l.step k l.fn.sheet → IsLane k l.planes values
+      → j < 8 * l.eight → j < length l.literals → slice_index_or (text_in k l.sheet) (l.start + j) 0
+      ≡ character_of (literal_value (read_from values) (slice_index_or l.literals j 0));
   width : l.sheet.width ≡ l.fn.sheet.width;
   long : (k : ℕ) → length (text_in k l.sheet) ≡ length (text_in k l.fn.sheet);
 }

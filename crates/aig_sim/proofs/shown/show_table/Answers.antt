@@ -1,57 +1,65 @@
-use Rattle.std.proofs.Common.{◌≡◌, ◌+◌, ◌*◌, ◌<◌, ◌∙◌, [], ap, arith, drop, length, refl, sym, take, ℕ, List}
-use Rattle.std.proofs.lemmas.List.{drop-set-add, length-drop, take-set-le, take_all}
+use Rattle.std.proofs.Common.{◌≡◌, ◌+◌, ◌-◌, ◌*◌, ◌<◌, ◌≤◌, ◌∙◌, ℕ, ap, arith, drop, get_or, inl, inr, length}
+use Rattle.std.proofs.Common.{sym, take}
+use Rattle.std.proofs.lemmas.Bool.{cases_lt}
+use Rattle.std.proofs.lemmas.List.{take-take}
 use Rattle.aig_sim.specs.Parts.Sheets.{text_in}
 use Rattle.aig_sim.specs.Parts.Tables.{read_from}
-use Rattle.aig_sim.specs.TraceText.{values_text}
-use Rattle.aig_sim.proofs.Side.Sheets.{pair_character, shown_more}
-use Rattle.aig_sim.proofs.Side.Tables.{lane_length, pair_of_variable}
+use Rattle.aig_sim.specs.TraceText.{character_of}
+use Rattle.aig_sim.proofs.Side.Eights.{front_same, step_shown}
+use Rattle.aig_sim.proofs.Side.Sheets.{pair_character}
+use Rattle.aig_sim.proofs.Side.Tables.{lane_length}
 use Rattle.aig_sim.proofs.shown.show_table.Goals as goal
 
-pub loop-i-preserved : goal.loop-i-preserved
-loop-i-preserved c =
-    let i = c.loop-i.i in
+pub loop-eight-preserved : goal.loop-eight-preserved
+loop-eight-preserved c =
+    let first = 8 * c.loop-eight.eight in
     let start = c.start-start.result in
-    let planes = c.args.planes.now in
-    let inv = c.loop-i.invariant in
-    let sheet = c.loop-i.sheet in
+    let at = start + first in
+    let inv = c.loop-eight.invariant in
+    let old = c.loop-eight.sheet in
+    let new = c.put.new.self in
     record {
       start = inv.start;
       front = λ k below.
-          ap (take start) (c.put.ensures.text k below)
-          ∙ take-set-le start (text_in k sheet) (start + i) _ (omega arith)
+          sym (take-take start at (text_in k new) (omega arith))
+          ∙ ap (take start) (c.put.ensures.front k below)
+          ∙ take-take start at (text_in k old) (omega arith)
           ∙ inv.front k below;
-      shown = λ k values below has is.
-          let value = read_from values i in
-          let there : i < length values =
-          omega (arith, c.loop-i-test.true, c.requires.count, lane_length k planes values is) in
-          ap (λ (t : List ℕ). take (i + 1) (drop start t)) (c.put.ensures.text k below)
-          ∙ ap (take (i + 1)) (drop-set-add start (text_in k sheet) i _)
-          ∙ shown_more i (drop start (text_in k sheet)) values _ value
-          (omega (
-            arith,
-            c.loop-i-test.true,
-            inv.long k,
-            inv.start,
-            has,
-            c.requires.count,
-            length-drop start (text_in k sheet),
-          ))
-          there (inv.shown k values below has is)
-          (pair_character k _ _ value (pair_of_variable k planes values is i [] [] there)) refl;
+      shown = λ k j values below has is inside there. elim (cases_lt j first) [
+        | inl earlier ↦
+            front_same at (start + j) (text_in k new) (text_in k old) (omega (arith, earlier))
+            (c.put.ensures.front k below)
+            ∙ inv.shown k j values below has is earlier there
+        | inr later ↦
+            let i = j - first in
+            let all = lane_length k c.args.planes.now values is in
+            let in_eight : i < 8 = omega (arith, later, inside) in
+            let here : first + i ≡ j = omega (arith, later) in
+            let place : at + i ≡ start + j = omega (arith, later) in
+            let room : at + i < length (text_in k old) =
+            omega (arith, place, has, there, inv.start, inv.long k, c.requires.count, all) in
+            ap (λ (n : ℕ). get_or (text_in k new) n 0) (sym place)
+            ∙ c.put.ensures.text k i below in_eight room
+            ∙ pair_character k _ _ (read_from values (first + i))
+            (c.planes_of_variables.ensures k i values in_eight (omega (arith, here, there)) is)
+            ∙ ap (λ (n : ℕ). character_of (read_from values (n))) here
+      ];
       width = c.put.ensures.width ∙ inv.width;
       long = λ k. c.put.ensures.long k ∙ inv.long k;
     }
 
 pub returns-clause-text : goal.returns-clause-text
 returns-clause-text c = λ l values below has is.
-    let inv = c.loop-i.invariant in
-    let text = text_in l c.loop-i.sheet in
-    let long : c.args.sheet.now.width ≡ c.loop-i.i =
-    omega (arith, c.requires.count, c.loop-i-test.false, c.loop-i.auto.i-end) in
-    let start : c.args.step * c.loop-i.i ≡ c.args.step * c.args.sheet.now.width =
-    ap (λ (n : ℕ). c.args.step * n) (sym long) in
-    ap (λ (n : ℕ). take n (drop (c.args.step * n) text)) (inv.width ∙ long)
-    ∙ ap (λ (n : ℕ). take c.loop-i.i (drop n text)) (start ∙ sym inv.start)
-    ∙ inv.shown l values below has is
-    ∙ ap values_text (take_all c.loop-i.i (values) (omega
-    (arith, long, c.requires.count, lane_length l c.args.planes.now values is)))
+    let inv = c.loop-eight.invariant in
+    let text = text_in l c.loop-eight.sheet in
+    let start = c.start-start.result in
+    let width = c.args.sheet.now.width in
+    let long : length values ≡ width =
+    omega (arith, c.requires.count, lane_length l c.args.planes.now values is) in
+    let end : width ≤ 8 * c.loop-eight.eight =
+    omega (arith, c.div_ceil-eight-end.ensures, c.loop-eight-test.false, c.requires.count) in
+    ap (λ (n : ℕ). take n (drop (c.args.step * n) text)) inv.width
+    ∙ ap (λ (n : ℕ). take width (drop n text)) (sym inv.start)
+    ∙ step_shown start width text values long (omega (arith, has, inv.start, inv.long l))
+    (λ j inside.
+    inv.shown l j values below has is (omega (arith, inside, end)) (omega (arith, inside, long)))
