@@ -28,6 +28,17 @@ fn read_file(alloc: Global, bytes: &[u8], limits: Limits, keep: Keep) -> Result<
     }
 }
 
+/// Lets go of the room that bytes do not fill, and answers whether no memory was refused. Where a block of up to 32 MB is
+/// let go, the C library of Linux keeps blocks of that size from then on, and what is made of the circuit takes them
+/// again: without this the system would give and clear new pages for it. Room grows by doubling, so it may be twice what
+/// is filled.
+fn fit(bytes: &mut Vec<u8>) -> bool
+    ensures { bytes.new.items ≡ bytes.old.items }
+{
+    bytes.shrink_to_fit();
+    bytes.capacity() == bytes.len()
+}
+
 /// Reads the source to its end, as a file of either kind within this limit, and keeps what is wanted of the check later.
 pub(crate) fn read_circuit<R: Source>(
     alloc: Global,
@@ -40,7 +51,10 @@ pub(crate) fn read_circuit<R: Source>(
     ensures err { IfErr result (λ error. NotRead max_var error
         (source_use R.coming R.failed source.old source.new)) }
 {
-    let bytes = read_all(alloc, source)?;
+    let mut bytes = read_all(alloc, source)?;
+    if !fit(&mut bytes) {
+        return Err(ToolFault::OutOfMemory);
+    }
     // The text ends here: it is not needed from here on, and may be larger than the circuit.
     let found = read_file(alloc, bytes.as_slice(), Limits { max_var }, keep)?;
     Ok(found)
