@@ -1,6 +1,6 @@
 //! The undone circuit: what a circuit was before its conversion, by a map block.
-ghost use Rattle.std.specs.Prelude.{◌≡◌, ◌<◌, ◌⊎◌, ◌↔◌, true, Some, None, List, length, map, IfOk, IfErr, IsTrue, OnOk};
-ghost use Rattle.std.specs.Prelude.{if◌then◌else◌};
+ghost use Rattle.std.specs.Prelude.{◌≡◌, ◌<◌, ◌≤◌, ◌⊎◌, ◌↔◌, ◌++◌, true, ℕ, Some, None, List, length, map, take, drop};
+ghost use Rattle.std.specs.Prelude.{replicate, if◌then◌else◌, IfOk, IfErr, IsTrue, OnOk};
 ghost use Rattle.std.specs.Bool.{OnTrue, OnFalse};
 ghost use Rattle.std.specs.List.{AllByRecursion};
 ghost use Rattle.aig_core.specs.declared.circuit.Gate.{Gate as GateRecord};
@@ -43,18 +43,18 @@ fn fill_places(placed: &mut [Var], gates: &[MappedGate]) -> bool
     true
 }
 
-/// The variables of the gates by their places. No two gates may have one place.
-fn place_gates(alloc: Global, gates: &[MappedGate]) -> Result<Vec<Var>, MapFault>
-    requires { AllByRecursion (λ (g : MappedGateRecord). g.place < length gates.now) gates.now }
-    ensures ok { IfOk result (λ r. table_of gates.now ≡ Some r.items) }
-    ensures err { IfErr result (λ e. (e ≡ IsOutOfMemory) ⊎ ((e ≡ IsForged) × (table_of gates.now ≡ None))) }
+/// Puts the variable of each gate at its place, behind the first variables, so many. Returns whether no two gates have
+/// one place.
+fn place_gates(variables: &mut [Var], first: usize, gates: &[MappedGate]) -> bool
+    requires within { first ≤ length variables.old }
+    requires none { drop first variables.old ≡ replicate (length gates.now) 0 }
+    requires there { AllByRecursion (λ (g : MappedGateRecord). g.place < length gates.now) gates.now }
+    ensures all { OnTrue result ((table : List ℕ) × (table_of gates.now ≡ Some table)
+        × (variables.new ≡ take first variables.old ++ table)) }
+    ensures twice { OnFalse result (table_of gates.now ≡ None) }
 {
-    let mut placed = vec![in alloc; Var(0); gates.len()]?;
-    if fill_places(placed.as_mut_slice(), gates) {
-        Ok(placed)
-    } else {
-        Err(MapFault::Forged)
-    }
+    let (_, placed) = variables.split_at_mut(first);
+    fill_places(placed, gates)
 }
 
 /// The variables of the source in their new order: inputs, latches, and gates by their places.
@@ -87,13 +87,17 @@ pub(crate) fn source_variables(alloc: Global, block: &MapBlock) -> Result<Source
     ensures err { IfErr result (λ e. (e ≡ IsOutOfMemory)
         ⊎ ((e ≡ IsForged) × (¬ AreDistinct (map (λ (g : MappedGateRecord). g.place) block.now.gates)))) }
 {
-    let placed = place_gates(alloc, block.gates.as_slice())?;
-    let count = block.inputs.len() + block.latches.len() + placed.len();
+    let first = block.inputs.len() + block.latches.len();
+    let count = first + block.gates.len();
     let mut variables = Vec::with_capacity(alloc, count)?;
     variables.extend_from_slice(block.inputs.as_slice())?;
     variables.extend_from_slice(block.latches.as_slice())?;
-    variables.extend_from_slice(placed.as_slice())?;
-    Ok(SourceVariables { variables })
+    variables.resize(count, Var(0))?;
+    if place_gates(variables.as_mut_slice(), first, block.gates.as_slice()) {
+        Ok(SourceVariables { variables })
+    } else {
+        Err(MapFault::Forged)
+    }
 }
 
 /// Puts each gate of the image, by the variables of the source, at its position there. It goes in the order of the

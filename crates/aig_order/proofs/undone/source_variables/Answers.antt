@@ -1,33 +1,67 @@
-use Rattle.std.proofs.Common.{◌≡◌, ◌∙◌, ◌++◌, Some, None, ap₂, inl, inr, ⊎_elim}
-use Rattle.std.proofs.lemmas.Result.{err_from_is_err_and}
-use Rattle.aig_order.specs.declared.fault.MapFault.TheVariants.{Forged, OutOfMemory}
-use Rattle.aig_order.specs.Parts.Placed.{table_of}
+use Rattle.std.proofs.Common.{◌≡◌, ◌∙◌, ◌++◌, ◌+◌, ◌-◌, ◌≤◌, ℕ, List, take, drop, length}
+use Rattle.std.proofs.Common.{map, replicate, ap, ap₂, arith, inr, refl}
+use Rattle.std.specs.List.{range_with_len}
+use Rattle.std.proofs.lemmas.List.{length-append, take_all}
+use Rattle.std.proofs.lemmas.List.FromFn.{length-map-range_with_len}
+use Rattle.std.proofs.Math.Seq.{take-append_seam}
+use Rattle.aig_order.specs.Undone.{source_variables, variable_at_place}
 use Rattle.aig_order.proofs.Sources.Placed.{places_once, place_twice, table_is}
 use Rattle.aig_order.proofs.undone.source_variables.Goals as goal
 
-pub returns-in_err-placed-clause-err : goal.returns-in_err-placed-clause-err
-returns-in_err-placed-clause-err c =
-    let h = err_from_is_err_and c.from_residual.result c.from_residual.ensures.1 in
-    let block = c.args.block.now in
-    let fault = c.in_err-placed.field-0.0 in
-    rw (h.1, h.2) (⊎_elim (λ (memory : fault ≡ OutOfMemory). inl memory)
-    (λ (forged : (fault ≡ Forged) × (table_of c.as_slice.result.now ≡ None)).
-    inr (forged.0, place_twice block.max_var block.gates c.requires.bounds.gates (rw c.as_slice.ensures at forged.1)))
-    c.in_err-placed.ensures.err)
+-- what stands before the places of gates, of a list that was made longer
+front_stays : (front rest all : List ℕ) (first count : ℕ) → first ≡ length front → first ≤ count
+    → all ≡ take count front ++ rest → take first all ≡ front
+front_stays front rest all first count is most whole =
+    let same : take count front ≡ front = take_all count front (omega (arith, is, most)) in
+    ap (take first) (whole ∙ ap (λ (xs : List ℕ). xs ++ rest) same) ∙ ap (λ k. take k (front ++ rest)) is
+    ∙ take-append_seam front rest
 
-pub returns-clause-ok : goal.returns-clause-ok
-returns-clause-ok c =
-    let block = c.args.block.now in
-    let placed = c.in_ok-placed.placed.items in
-    let table : table_of block.gates ≡ Some placed = rw c.as_slice.ensures at c.in_ok-placed.ensures.ok in
-    let gates = c.as_slice-4.ensures.value ∙ table_is block.max_var block.gates c.requires.bounds.gates placed table in
-    let first = ap₂ (λ s t. s ++ t) c.in_ok-variables.ensures.items c.as_slice-2.ensures in
-    c.in_ok-extend_from_slice-3.ensures.items ∙ ap₂ (λ s t. s ++ t)
-    (c.in_ok-extend_from_slice-2.ensures.items
-    ∙ ap₂ (λ s t. s ++ t) (c.in_ok-extend_from_slice.ensures.items ∙ first) c.as_slice-3.ensures) gates
+-- so many of a list and others, where these are all of the list
+all_taken : (all rest : List ℕ) (count : ℕ) → count ≡ length all → take count (all ++ rest) ≡ all
+all_taken all rest count is = ap (λ k. take k (all ++ rest)) is ∙ take-append_seam all rest
 
-pub returns-clause-places : goal.returns-clause-places
-returns-clause-places c =
+pub returns-then-place_gates-clause-ok : goal.returns-then-place_gates-clause-ok
+returns-then-place_gates-clause-ok c =
     let block = c.args.block.now in
-    places_once block.max_var block.gates c.requires.bounds.gates c.in_ok-placed.placed.items
-    (rw c.as_slice.ensures at c.in_ok-placed.ensures.ok)
+    let all = c.if-place_gates.ensures.all in
+    let front : List ℕ = block.inputs ++ block.latches in
+    let behind : List ℕ = map (variable_at_place block.gates) (range_with_len 0 (length block.gates)) in
+    let gates : all.0 ≡ behind =
+    table_is block.max_var block.gates c.requires.bounds.gates all.0 (rw c.as_slice-3.ensures at all.1) in
+    let many : length front ≡ length block.inputs + length block.latches = length-append block.inputs block.latches in
+    let before : c.extend_from_slice-2.new.self.items ≡ front =
+    c.in_ok-extend_from_slice-2.ensures.items
+    ∙ ap₂ (λ s t. s ++ t)
+    (c.in_ok-extend_from_slice.ensures.items
+    ∙ ap₂ (λ s t. s ++ t) c.in_ok-variables.ensures.items c.as_slice.ensures) c.as_slice-2.ensures in
+    let count : ℕ = c.len.result + c.len-2.result + c.len-3.result in
+    let zeros : List ℕ = replicate (count - c.extend_from_slice-2.new.self.len) 0 in
+    let longer : c.resize.new.self.items ≡ take count c.extend_from_slice-2.new.self.items ++ zeros =
+    c.in_ok-resize.ensures.items in
+    let first : take (c.len.result + c.len-2.result) c.as_mut_slice.result.now ≡ front =
+    front_stays front zeros c.as_mut_slice.result.now (c.len.result + c.len-2.result) count
+    (omega (arith, many, c.len.ensures, c.len-2.ensures)) (omega arith)
+    (c.as_mut_slice.ensures.value ∙ longer ∙ ap (λ (xs : List ℕ). take count xs ++ zeros) before) in
+    let new : c.place_gates.new.variables ≡ source_variables block =
+    all.2 ∙ ap₂ (λ s t. s ++ t) first gates in
+    let long : length c.place_gates.new.variables ≡ length front + length block.gates =
+    ap length new ∙ length-append front behind
+    ∙ ap (λ n. length front + n) (length-map-range_with_len (variable_at_place block.gates) 0 (length block.gates)) in
+    all_taken c.place_gates.new.variables (drop (length c.place_gates.new.variables) c.resize.new.self.items)
+    c.resize.new.self.len
+    (omega (arith, c.in_ok-resize.ensures.len, long, many, c.len.ensures, c.len-2.ensures, c.len-3.ensures)) ∙ new
+
+pub returns-then-place_gates-clause-places : goal.returns-then-place_gates-clause-places
+returns-then-place_gates-clause-places c =
+    let block = c.args.block.now in
+    let all = c.if-place_gates.ensures.all in
+    places_once block.max_var block.gates c.requires.bounds.gates all.0 (rw c.as_slice-3.ensures at all.1)
+
+pub returns-else-place_gates-clause-err : goal.returns-else-place_gates-clause-err
+returns-else-place_gates-clause-err c =
+    let block = c.args.block.now in
+    inr (
+      refl,
+      place_twice block.max_var block.gates c.requires.bounds.gates
+          (rw c.as_slice-3.ensures at c.if-place_gates.ensures.twice),
+    )
