@@ -1,4 +1,4 @@
-use Rattle.std.proofs.Common.{List, subst, sym, ℕ}
+use Rattle.std.proofs.Common.{List, subst, sym, ℕ, arith}
 use Rattle.std.proofs.lemmas.Result.{IfErr-weaker, on_ok_weaker}
 use Rattle.aig_sim.specs.Batched.{AllGood}
 use Rattle.aig_sim.proofs.Batching.{batched, not_batched}
@@ -19,3 +19,13 @@ returns-clause-err g c =
     IfErr-weaker c.trace_collected.result _ _
     (λ e said. not_batched c.args.checked.now c.args.columns _ _ _ _ c.deref.result.now good e said)
     c.trace_collected.ensures.err
+
+pub returns-clause-ok_counts : goal.returns-clause-ok_counts
+returns-clause-ok_counts g c =
+    on_ok_weaker c.trace_collected.result (λ same. (c.in_ok-bytes.ensures.ok_count, same))
+    c.trace_collected.ensures.ok_count
+
+pub returns-clause-source_count : goal.returns-clause-source_count
+returns-clause-source_count g c =
+    IfErr-weaker c.trace_collected.result _ _
+    (λ e none. let same = c.in_ok-bytes.ensures.ok_count in omega (arith, same, none)) c.trace_collected.ensures.kind
