@@ -75,7 +75,7 @@ impl Octet {
         })
     }
 
-    /// Puts the bytes of literals, from a place on, where there are not places for all of them: those of the first ones.
+    /// Puts the bytes of the first of these literals, from a place on, where there are not places for all.
     #[inline(never)]
     fn put_first(&mut self, at: usize, ones: &[u8], zeros: &[u8])
         requires same { length ones.now ≡ length zeros.now }

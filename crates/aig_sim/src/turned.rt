@@ -69,8 +69,8 @@ fn flat(rows: [u8x32; 8]) -> [u8; 256]
 }
 
 /// The bytes of every other plane from this one on: eight for the first eight lanes, one of each plane, then eight for
-/// the next eight lanes, and so on. Each weaving moves the last bit of a byte's place to the front of the place, so that
-/// three of them bring the number of the plane from before the number of the byte in it to behind that.
+/// the next eight lanes, and so on. A weaving moves the last bit of a byte's place to the front of the place. So three
+/// of them bring the number of the plane, which was before the number of the byte in it, behind that.
 #[inline(always)]
 pub(crate) fn turned(planes: &[Plane; 16], first: usize) -> [u8; 256]
     requires { first < 2 }
