@@ -28,10 +28,10 @@ fn read_file(alloc: Global, bytes: &[u8], limits: Limits, keep: Keep) -> Result<
     }
 }
 
-/// Lets go of the room that bytes do not fill, and answers whether no memory was refused. Where a block of up to 32 MB is
-/// let go, the C library of Linux keeps blocks of that size from then on, and what is made of the circuit takes them
-/// again: without this the system would give and clear new pages for it. Room grows by doubling, so it may be twice what
-/// is filled.
+/// Lets go of the room that bytes do not fill, and answers whether no memory was refused. Room grows by doubling, so it
+/// may be twice what is filled. Where a block of up to 32 MB is let go, the C library of Linux keeps blocks of that size
+/// from then on, and what is made of the circuit takes them again: without this the system would give and clear new
+/// pages for it.
 fn fit(bytes: &mut Vec<u8>) -> bool
     ensures { bytes.new.items ≡ bytes.old.items }
 {
