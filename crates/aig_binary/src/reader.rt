@@ -14,7 +14,7 @@ ghost use Rattle.aig_binary.specs.BinaryReading.{filled, with_definitions, binar
 ghost use Rattle.aig_binary.specs.Parts.NextStates.{latches_by};
 
 use crate::gates::read_gates;
-use aig_core::{Checked, Circuit, Gate, Latch, Listing, Var};
+use aig_core::{Checked, Circuit, Gate, Latch, Listing, Ordered, Var};
 use aig_text::{
     Cursor, Header, Limits, NextState, Place, ReadFault, ReadKind, SECTIONS, Section,
     empty_circuit, header, next_states, read_section, tail,
@@ -185,7 +185,8 @@ pub fn read_binary(alloc: Global, bytes: &[u8], limits: Limits) -> Result<Checke
         → MatchResult result (λ d. d ≡ c) (λ e. e ≡ want_of_memory) }
     ensures fault { IfErr result (λ e. IsFirstFault e (first_binary_fault limits.max_var bytes.now)) }
 {
-    // What is read of a binary file is well formed already: its gates are in order, and define all that is used.
+    // What is read of a binary file is well formed already: its gates are in order, and define all that is used. That it
+    // is in binary order stays known, so nobody need look at its gates again.
     let circuit = read_circuit(alloc, bytes, limits)?;
-    Ok(Checked::from_well_formed(circuit))
+    Ok(Ordered::from_well_ordered(circuit).into_checked())
 }

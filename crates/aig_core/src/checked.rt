@@ -1,8 +1,9 @@
 //! Circuits that are well formed, and the check for it.
-ghost use Rattle.std.specs.Prelude.{◌≡◌, ◌≢◌, ◌↔◌, IsTrue, IfOk, IfErr, OnOk, None};
+ghost use Rattle.std.specs.Prelude.{◌≡◌, ◌≢◌, ◌↔◌, IsTrue, IfOk, IfErr, OnOk, None, true};
 ghost use Rattle.std.specs.Option.{IfSome};
 ghost use Rattle.aig_core.specs.declared.fault.CheckFault.TheVariants.{OutOfMemory as WantOfMemory};
 ghost use Rattle.aig_core.specs.Wellformed.{AreDistinct, IsWellFormed, defined_variables};
+ghost use Rattle.aig_core.specs.BinaryOrder.{IsInBinaryOrder};
 ghost use Rattle.aig_core.specs.Form.{IsInForm};
 ghost use Rattle.aig_core.specs.Order.{IsLeastReadyOrder};
 ghost use Rattle.aig_core.specs.Fault.{first_structural_fault, IsFault};
@@ -30,6 +31,8 @@ pub struct Checked {
     circuit: Circuit,
     /// The least ready order of its gates, where the check had to make it and was to keep it.
     order: Option<Placed>,
+    /// Whether it is known to be in binary order, as what a binary file holds: then nobody need look again.
+    in_binary_order: bool,
 }
 
 impl Model for Checked {
@@ -37,12 +40,15 @@ impl Model for Checked {
     ghost use Rattle.std.specs.Option.{IfSome};
     ghost use Rattle.aig_core.specs.Wellformed.{IsWellFormed as IsGood};
     ghost use Rattle.aig_core.specs.Order.{IsLeastReadyOrder as IsLeast};
+    ghost use Rattle.aig_core.specs.BinaryOrder.{IsInBinaryOrder as IsInOrder};
+    ghost use Rattle.std.specs.Prelude.{◌≡◌, true};
 
     ghost Value = { CircuitRecord };
 
     ghost view = { λ a. a.circuit };
 
-    ghost invariant = { λ a. IsGood a.circuit × IfSome a.order (λ order. IsLeast a.circuit order.list) };
+    ghost invariant = { λ a. IsGood a.circuit × IfSome a.order (λ order. IsLeast a.circuit order.list)
+        × (a.in_binary_order ≡ true → IsInOrder a.circuit) };
 }
 
 impl Checked {
@@ -54,7 +60,28 @@ impl Checked {
         Checked {
             circuit,
             order: None,
+            in_binary_order: false,
         }
+    }
+
+    /// A circuit that its maker knows to be well formed and in binary order: that it is in order stays known.
+    pub(crate) fn from_well_ordered(circuit: Circuit) -> Checked
+        requires well_formed { IsWellFormed circuit }
+        requires in_order { IsInBinaryOrder circuit }
+        ensures { result ≡ circuit }
+    {
+        Checked {
+            circuit,
+            order: None,
+            in_binary_order: true,
+        }
+    }
+
+    /// Whether the circuit is known to be in binary order. One that is need not be known to be.
+    pub(crate) fn is_known_in_order(&self) -> bool
+        ensures { result ≡ true → IsInBinaryOrder self.now }
+    {
+        self.in_binary_order
     }
 
     /// The least ready order of the gates, if the check had to make it and was to keep it (`check_keeping`): of gates
@@ -89,6 +116,7 @@ impl Checked {
         Ok(Checked {
             circuit: copy_circuit(alloc, &self.circuit)?,
             order: None,
+            in_binary_order: self.in_binary_order,
         })
     }
 }
@@ -132,7 +160,11 @@ pub fn check_keeping(
     ensures refused { IfErr result (λ e. e.1 ≢ WantOfMemory → ¬ IsWellFormed circuit) }
 {
     match find_fault(alloc, &circuit, keep) {
-        Ok(order) => Ok(Checked { circuit, order }),
+        Ok(order) => Ok(Checked {
+            circuit,
+            order,
+            in_binary_order: false,
+        }),
         Err(fault) => Err((circuit, fault)),
     }
 }

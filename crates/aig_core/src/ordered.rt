@@ -143,12 +143,12 @@ fn are_sections_numbered(circuit: &Circuit) -> bool
     are_first_in_order(circuit) && are_gates_numbered(first_gate(circuit), circuit.gates.as_slice())
 }
 
-/// Whether a circuit is in binary order. It is gone over once, and no memory is taken.
+/// Whether a circuit is in binary order. It is gone over once, where that is not known yet, and no memory is taken.
 #[tactic(auto, using(crate::proofs::Numbered::Sections::by_sections, crate::proofs::Numbered::Sections::all_sections))]
 pub fn is_in_binary_order(checked: &Checked) -> bool
     ensures { IsTrue result ↔ IsInBinaryOrder checked.now }
 {
-    are_sections_in_order(checked.circuit())
+    checked.is_known_in_order() || are_sections_in_order(checked.circuit())
 }
 
 /// Whether a circuit is in binary order, but for gates whose larger operand comes second, as many files are. It is gone
@@ -169,11 +169,12 @@ impl Ordered {
         ensures { result ≡ circuit }
     {
         Ordered {
-            checked: Checked::from_well_formed(circuit),
+            checked: Checked::from_well_ordered(circuit),
         }
     }
 
-    /// The circuit as one in binary order, or else as it came. It is gone over once, and no memory is taken.
+    /// The circuit as one in binary order, or else as it came. It is gone over once, where its order is not known yet, and
+    /// no memory is taken.
     pub fn try_from_checked(checked: Checked) -> Result<Ordered, Checked>
         ensures ordered { IsOk result ↔ IsInBinaryOrder checked }
         ensures ok { IfOk result (λ ordered. ordered ≡ checked) }
@@ -195,7 +196,8 @@ impl Ordered {
         &self.checked
     }
 
-    /// The circuit, of which the type no longer says that it is in binary order.
+    /// The circuit, of which the type no longer says that it is in binary order. `is_in_binary_order` need not look again
+    /// at one that `from_well_ordered` made.
     pub fn into_checked(self) -> Checked
         ensures value { result ≡ self }
         ensures ordered { IsInBinaryOrder self }

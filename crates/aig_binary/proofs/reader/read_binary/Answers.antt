@@ -11,22 +11,24 @@ returns-in_err-circuit-clause-only c = let h = err_from_is_err_and c.from_residu
     (λ net is. memory_only c.args.limits.max_var c.args.bytes.now net c.in_err-circuit.field-0.0
     (line_fault c.args.limits.max_var c.args.bytes.now c.in_err-circuit.field-0.0 c.in_err-circuit.ensures) is)
 
-pub from_well_formed-requires : goal.from_well_formed-requires
-from_well_formed-requires c =
+pub from_well_ordered-requires-clause-well_formed : goal.from_well_ordered-requires-clause-well_formed
+from_well_ordered-requires-clause-well_formed c =
     read_is_well_formed c.args.limits.max_var
     (lines_of c.args.bytes.now) c.in_ok-circuit.circuit c.in_ok-circuit.ensures
 
+pub from_well_ordered-requires-clause-in_order : goal.from_well_ordered-requires-clause-in_order
+from_well_ordered-requires-clause-in_order c =
+    read_is_ordered c.args.limits.max_var (lines_of c.args.bytes.now) c.in_ok-circuit.circuit c.in_ok-circuit.ensures
+
 pub returns-clause-ok : goal.returns-clause-ok
 returns-clause-ok c =
-    rw c.from_well_formed.ensures
+    rw (c.into_checked.ensures.value, c.from_well_ordered.ensures)
     (reading_is_accepted c.args.limits.max_var c.args.bytes.now c.in_ok-circuit.circuit c.in_ok-circuit.ensures)
 
 pub returns-clause-ordered : goal.returns-clause-ordered
-returns-clause-ordered c =
-    rw c.from_well_formed.ensures
-    (read_is_ordered c.args.limits.max_var (lines_of c.args.bytes.now) c.in_ok-circuit.circuit c.in_ok-circuit.ensures)
+returns-clause-ordered c = rw c.into_checked.ensures.value c.into_checked.ensures.ordered
 
 pub returns-clause-only : goal.returns-clause-only
 returns-clause-only c = λ net is.
-    c.from_well_formed.ensures
+    c.into_checked.ensures.value ∙ c.from_well_ordered.ensures
     ∙ one_circuit c.args.limits.max_var c.args.bytes.now net c.in_ok-circuit.circuit c.in_ok-circuit.ensures is
