@@ -1,12 +1,12 @@
 -- What the binary writer has put, part by part.
-use Rattle.std.proofs.Common.{◌≡◌, ◌+◌, ◌-◌, ◌≤◌, ℕ, suc, List, [], ◌∷◌, ◌++◌, map, length, ap, ap₂, ◌∙◌}
-use Rattle.std.proofs.Common.{append_assoc, arith, sym}
+use Rattle.std.proofs.Common.{◌≡◌, ◌+◌, ◌≤◌, ℕ, suc, List, [], ◌∷◌, ◌++◌, map, length, take, drop, take-add, ap, subst, ◌∙◌}
+use Rattle.std.proofs.Common.{arith, sym}
 use Rattle.std.specs.List.{All, AllByRecursion, flat_map}
 use Rattle.std.proofs.lemmas.List.Concat.{flat_map-append}
 use Rattle.std.proofs.lemmas.List.Folds.{flat_map-map}
 use Rattle.std.proofs.lemmas.List.Elements.{All-from_recursion}
-use Rattle.aig_core.specs.Literal.{literal_of}
-use Rattle.aig_io.specs.Output.{Out}
+use Rattle.aig_io.specs.Output.{Out, Put}
+use Rattle.aig_io.proofs.Puts.{put_twice}
 use Rattle.aig_core.specs.Wellformed.{IsWithinLimits}
 use Rattle.aig_core.specs.declared.circuit.TheConstants.{LARGEST}
 use Rattle.aig_core.specs.declared.circuit.Latch.{Latch}
@@ -17,24 +17,17 @@ use Rattle.aig_text.specs.Rows.{row, next_form, next_row, literal_rows_of}
 use Rattle.aig_binary.specs.BinaryGrammar.{binary_rows_of}
 use Rattle.aig_core.specs.BinaryOrder.{AreOrderedGates, IsInBinaryOrder}
 use Rattle.aig_binary.specs.BinaryText.{HasDeltas, gate_text}
-use Rattle.aig_binary.specs.Delta.{shortest_delta}
 
-module _ {W : Type 0} where
-  -- two texts, one behind the other, put into the block alone
-  filled_twice : (a b c : Out W) (t u : List ℕ) → b ≡ record a { held = a.held ++ t }
-      → c ≡ record b { held = b.held ++ u } → c ≡ record a { held = a.held ++ (t ++ u) }
-  filled_twice a b c t u p q =
-      q ∙ ap (λ (o : Out W). record o { held = o.held ++ u }) p
-      ∙ ap (λ (bytes : List ℕ). record a { held = bytes }) (append_assoc a.held t u)
-
-  -- the deltas of a gate, put into the block alone
-  pub filled_gate : (a b c : Out W) (t u : List ℕ) (g h : Gate) → g ≡ h → t ≡ shortest_delta (literal_of g.var - g.left)
-      → u ≡ shortest_delta (g.left - g.right) → b ≡ record a { held = a.held ++ t }
-      → c ≡ record b { held = b.held ++ u } → c ≡ record a { held = a.held ++ gate_text h }
-  filled_gate a b c t u g h e first second p q =
-      filled_twice a b c t u p q
-      ∙ ap (λ (text : List ℕ). record a { held = a.held ++ text })
-      (ap₂ (λ (x y : List ℕ). x ++ y) first second ∙ ap gate_text e)
+-- the gates of one piece more were put
+pub pieces_put : {W : Type 0} (a b c : Out W) (gs : List Gate) (at count : ℕ) (text : List ℕ)
+    → Put a b (flat_map gate_text (take at gs)) → text ≡ flat_map gate_text (take count (drop at gs)) → Put b c text
+    → Put a c (flat_map gate_text (take (at + count) gs))
+pieces_put a b c gs at count text before is put =
+    subst (λ t. Put a c t)
+    (ap (λ (t : List ℕ). flat_map gate_text (take at gs) ++ t) is
+    ∙ sym (ap (flat_map gate_text) (take-add at count gs)
+    ∙ flat_map-append gate_text (take at gs) (take count (drop at gs))))
+    (put_twice a b c (flat_map gate_text (take at gs)) text before put)
 
 -- the lines of latches, and those of the sections that ASCII files list alike
 pub lines_text : (c : Circuit)

@@ -1,12 +1,10 @@
 //! Deltas: the numbers of gates in a binary file, in groups of seven bits, the lowest group first.
-ghost use Rattle.std.specs.Prelude.{◌≡◌, ◌+◌, ◌*◌, ◌%◌, ◌++◌, ◌^◌, ◌<◌, ◌≤◌, ◌↔◌, ℕ, length, drop, min, None, Some};
+ghost use Rattle.std.specs.Prelude.{◌≡◌, ◌+◌, ◌*◌, ◌%◌, ◌++◌, ◌^◌, ◌<◌, ◌≤◌, ◌↔◌, ℕ, length, drop, take, None, Some};
 ghost use Rattle.std.specs.Prelude.{IfSome};
-ghost use Rattle.aig_io.specs.declared.block.TheConstants.{ROOM};
 ghost use Rattle.aig_text.specs.Outcomes.{Gives};
 ghost use Rattle.aig_binary.specs.Delta.{BeginsWithDelta, delta_at, shortest_delta};
 ghost use Rattle.aig_binary.specs.declared.delta.TheConstants.{LONGEST};
 
-use aig_core::{Output, Sink};
 use std::marker::Model;
 
 /// How many bytes spell a number at most.
@@ -40,61 +38,67 @@ impl Delta {
     {
         &self.bytes[..self.len]
     }
-
-    /// Adds the bytes to an output that has room for the longest spelling.
-    #[inline(always)]
-    pub(crate) fn fill<W: Sink>(&self, output: &mut Output<W>)
-        requires { length output.old.held + LONGEST ≤ ROOM }
-        ensures { output.new ≡ record output.old { held = output.old.held ++ self.now } }
-    {
-        output.fill_first(&self.bytes, self.len);
-    }
 }
 
-/// The byte of a group: its lowest seven bits, and the top bit where a number is left for other groups.
-#[inline(always)]
-fn byte_of(group: u32, left: u32) -> u8
-    ensures { result ≡ group % 128 + 128 * min left 1 }
-{
-    (group % 128 + 128 * left.min(1)) as u8
-}
-
-/// The shortest spelling of a number of any size, by the same steps for each.
-#[inline(always)]
-fn put_long(value: u32) -> Delta
-    ensures { result ≡ shortest_delta value }
-{
-    let second = value / 128;
-    let third = second / 128;
-    let fourth = third / 128;
-    let fifth = fourth / 128;
-    let more = second.min(1) + third.min(1) + fourth.min(1) + fifth.min(1);
-    Delta {
-        bytes: [
-            byte_of(value, second),
-            byte_of(second, third),
-            byte_of(third, fourth),
-            byte_of(fourth, fifth),
-            byte_of(fifth, 0),
-        ],
-        len: 1 + more as usize,
-    }
-}
-
-/// The shortest spelling of a number. One and two bytes, which most gates have, are distinguished without a branch: in
+/// Writes a number below 2^14, as `write_delta` writes a number. One and two bytes are distinguished without a branch: in
 /// a file they follow one another without a rule, so a branch would often be predicted wrongly.
 #[inline(always)]
+fn write_short_delta(bytes: &mut [u8], at: usize, value: u32) -> usize
+    requires low { value < 2 ^ 14 }
+    requires room { at + 2 ≤ length bytes.old }
+    ensures within { result ≤ at + 2 }
+    ensures len { length bytes.new ≡ length bytes.old }
+    ensures text { take result bytes.new ≡ take at bytes.old ++ shortest_delta value }
+{
+    let second = value / 128;
+    let more = second.min(1);
+    bytes[at] = (value % 128 + 128 * more) as u8;
+    bytes[at + 1] = second as u8;
+    at + 1 + more as usize
+}
+
+/// Writes a number of any size, as `write_delta` writes a number.
+#[inline(always)]
+fn write_long_delta(bytes: &mut [u8], at: usize, value: u32) -> usize
+    requires { at + LONGEST ≤ length bytes.old }
+    ensures within { result ≤ at + LONGEST }
+    ensures len { length bytes.new ≡ length bytes.old }
+    ensures text { take result bytes.new ≡ take at bytes.old ++ shortest_delta value }
+{
+    let mut end = at;
+    let mut left = value;
+    while left >= 128 {
+        bytes[end] = (128 + left % 128) as u8;
+        end += 1;
+        left /= 128;
+    }
+    bytes[end] = left as u8;
+    end + 1
+}
+
+/// Writes the shortest spelling of a number from a place on, and answers where it ends. Most gates have deltas below
+/// 2^14.
+#[inline(always)]
+pub(crate) fn write_delta(bytes: &mut [u8], at: usize, value: u32) -> usize
+    requires { at + LONGEST ≤ length bytes.old }
+    ensures within { result ≤ at + LONGEST }
+    ensures len { length bytes.new ≡ length bytes.old }
+    ensures text { take result bytes.new ≡ take at bytes.old ++ shortest_delta value }
+{
+    if value < 1 << 14 {
+        write_short_delta(bytes, at, value)
+    } else {
+        write_long_delta(bytes, at, value)
+    }
+}
+
+/// The shortest spelling of a number.
 pub fn put_delta(value: u32) -> Delta
     ensures { result ≡ shortest_delta value }
 {
-    let second = value / 128;
-    if second < 128 {
-        return Delta {
-            bytes: [byte_of(value, second), second as u8, 0, 0, 0],
-            len: 1 + second.min(1) as usize,
-        };
-    }
-    put_long(value)
+    let mut bytes = [0; LONGEST];
+    let len = write_delta(&mut bytes, 0, value);
+    Delta { bytes, len }
 }
 
 /// A number below 2^32 alone, and how many bytes spell it.

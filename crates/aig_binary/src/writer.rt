@@ -1,7 +1,7 @@
 //! The canonical binary text of a circuit in binary order, written to a sink in blocks.
 ghost use Rattle.std.specs.Io.KnownBytes.{Appends};
 ghost use Rattle.std.specs.List.{All, flat_map};
-ghost use Rattle.std.specs.Prelude.{◌≡◌, ◌+◌, ◌-◌, ◌^◌, ◌<◌, ◌≤◌, max, is_ok, OnErr, OnOk};
+ghost use Rattle.std.specs.Prelude.{◌≡◌, ◌+◌, ◌-◌, ◌*◌, ◌^◌, ◌<◌, ◌≤◌, length, max, take, is_ok, OnErr, OnOk};
 ghost use Rattle.std.specs.Prelude.{if◌then◌else◌};
 ghost use Rattle.aig_io.specs.Output.{Put};
 ghost use Rattle.aig_io.specs.Transfer.{TookBeginning};
@@ -13,8 +13,9 @@ ghost use Rattle.aig_text.specs.Rows.{next_row};
 ghost use Rattle.aig_binary.specs.BinaryGrammar.{binary_rows_of};
 ghost use Rattle.aig_core.specs.BinaryOrder.{IsInBinaryOrder};
 ghost use Rattle.aig_binary.specs.BinaryText.{HasDeltas, binary_text, gate_text};
+ghost use Rattle.aig_binary.specs.declared.delta.TheConstants.{LONGEST};
 
-use crate::delta::{LONGEST, put_delta};
+use crate::delta::{LONGEST, write_delta};
 use crate::reader::BINARY_WORD;
 use aig_core::{Circuit, Gate, Latch, Ordered, Output, Sink};
 use aig_text::{
@@ -51,25 +52,39 @@ fn put_lines<W: Sink>(output: &mut Output<W>, circuit: &Circuit)
     put_literal_sections(output, circuit);
 }
 
-/// A gate: room is made for the longest deltas, and then both are filled in.
-#[inline(always)]
-fn put_gate<W: Sink>(output: &mut Output<W>, gate: Gate)
-    requires { HasDeltas gate }
-    ensures { Put output.old output.new (gate_text gate) }
+/// How many gates are written to one piece of the text at most.
+const PIECE: usize = 256;
+
+/// Writes gates by their deltas from the first byte on, and answers where they end.
+#[inline(never)]
+fn write_gates(bytes: &mut [u8], gates: &[Gate]) -> usize
+    requires deltas { All HasDeltas gates.now }
+    requires room { length gates.now * (2 * LONGEST) ≤ length bytes.old }
+    ensures within { result ≤ length bytes.old }
+    ensures len { length bytes.new ≡ length bytes.old }
+    ensures text { take result bytes.new ≡ flat_map gate_text gates.now }
 {
-    output.make_room(2 * LONGEST);
-    put_delta(2 * gate.var.0 - gate.left.0).fill(output);
-    put_delta(gate.left.0 - gate.right.0).fill(output);
+    let mut end = 0;
+    for gate in gates {
+        end = write_delta(bytes, end, 2 * gate.var.0 - gate.left.0);
+        end = write_delta(bytes, end, gate.left.0 - gate.right.0);
+    }
+    end
 }
 
-/// Puts gates by their deltas: those of a binary file, or a piece of them.
-#[inline(never)]
+/// Puts gates by their deltas: those of a binary file, or some of them. They are written piece by piece, where how far a
+/// piece goes need not be looked up at each gate.
 pub fn put_gates<W: Sink>(output: &mut Output<W>, gates: &[Gate])
     requires { All HasDeltas gates.now }
     ensures { Put output.old output.new (flat_map gate_text gates.now) }
 {
-    for gate in gates {
-        put_gate(output, *gate);
+    let mut bytes = [0; PIECE * 2 * LONGEST];
+    let mut at = 0;
+    while at < gates.len() {
+        let count = PIECE.min(gates.len() - at);
+        let end = write_gates(&mut bytes, &gates[at..at + count]);
+        output.put(&bytes[..end]);
+        at += count;
     }
 }
 

@@ -76,18 +76,6 @@ impl Block {
         count
     }
 
-    /// Takes the first of some bytes, so many, where there is room for all of them. All are copied, so that the length
-    /// of the copy may be known before it runs.
-    #[inline(always)]
-    pub(crate) fn fill_first(&mut self, bytes: &[u8], count: usize)
-        requires room { length self.old + length bytes.now ≤ ROOM }
-        requires within { count ≤ length bytes.now }
-        ensures { self.new ≡ self.old ++ take count bytes.now }
-    {
-        self.bytes[self.len..self.len + bytes.len()].copy_from_slice(bytes);
-        self.len += count;
-    }
-
     /// Takes a number, where there is room for it.
     #[inline]
     pub(crate) fn fill_number(&mut self, number: u64)

@@ -94,7 +94,7 @@ impl<'a, W: Sink> Output<'a, W> {
 
     /// Sends what is held where fewer bytes than these fit, and nothing where they fit.
     #[inline(always)]
-    pub fn make_room(&mut self, room: usize)
+    fn make_room(&mut self, room: usize)
         requires { room ≤ ROOM }
         ensures put { Put self.old self.new [] }
         ensures short { length self.old.held ≤ ROOM }
@@ -105,16 +105,6 @@ impl<'a, W: Sink> Output<'a, W> {
         if !self.block.has_room(room) {
             self.send_held();
         }
-    }
-
-    /// Takes the first of some bytes, so many, where there is room for all of them.
-    #[inline(always)]
-    pub fn fill_first(&mut self, bytes: &[u8], count: usize)
-        requires room { length self.old.held + length bytes.now ≤ ROOM }
-        requires within { count ≤ length bytes.now }
-        ensures { self.new ≡ record self.old { held = self.old.held ++ take count bytes.now } }
-    {
-        self.block.fill_first(bytes, count);
     }
 
     /// Sends a text from where it stands, unless the sink failed before. Nothing is held.

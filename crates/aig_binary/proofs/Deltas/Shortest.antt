@@ -1,6 +1,6 @@
 -- The shortest spelling of a number: it is one, and there is no other.
-use Rattle.std.proofs.Common.{◌≡◌, ◌+◌, ◌*◌, ◌/◌, ◌%◌, ◌^◌, ◌<◌, ◌≤◌, ℕ, zero, suc, List, [], ◌∷◌, length, take, min}
-use Rattle.std.proofs.Common.{refl, sym, ap, ap₂, subst, ◌∙◌, arith, inl, inr}
+use Rattle.std.proofs.Common.{◌≡◌, ◌+◌, ◌*◌, ◌/◌, ◌%◌, ◌^◌, ◌<◌, ◌≤◌, ℕ, zero, suc, List, [], ◌∷◌, length}
+use Rattle.std.proofs.Common.{refl, sym, ap, subst, ◌∙◌, arith, inl, inr}
 use Rattle.std.proofs.lemmas.Bool.{lt-ltb, le-ltb, cases_lt}
 use Rattle.std.proofs.Math.Nat.{div-lt_iff_lt-mul, pow-suc}
 use Rattle.aig_binary.specs.Delta.{value_of_groups, AreGroups, IsDelta, IsShortest, last_byte, shortest_groups}
@@ -71,6 +71,9 @@ pub shortest_is_delta : (value : ℕ) → value < 2 ^ 32 → IsDelta (shortest_d
 shortest_is_delta value h =
     let s = spell_shortest value h in record { groups = s.groups; short = s.short; spells = s.spells; fits = h }
 
+pub shortest_some : (value : ℕ) → value < 2 ^ 32 → 0 < length (shortest_delta value)
+shortest_some value h = (spell_shortest value h).some
+
 one_byte : (value : ℕ) → value < 128 → length (shortest_delta value) ≡ 1
 unfolding shortest_delta
 one_byte value h = ap length (shortest_last 4 value h)
@@ -115,90 +118,3 @@ pub shortest_is_one : (bytes : List ℕ) (value : ℕ) → IsDelta bytes value �
     → bytes ≡ shortest_delta value
 unfolding shortest_delta
 shortest_is_one bytes value h none = shortest_is 4 bytes h.groups none h.short ∙ ap (shortest_groups 4) h.spells
-
--- the byte of a group, with the top bit where a number is left
-abbrev pub byte_of : ℕ → ℕ → ℕ
-byte_of group left = group % 128 + 128 * min left 1
-
--- all five groups of a number
-abbrev pub all_groups : ℕ → List ℕ
-all_groups v =
-    byte_of v (v / 128) ∷ byte_of (v / 128) (v / 128 / 128) ∷ byte_of (v / 128 / 128) (v / 128 / 128 / 128)
-    ∷ byte_of (v / 128 / 128 / 128) (v / 128 / 128 / 128 / 128) ∷ byte_of (v / 128 / 128 / 128 / 128) 0 ∷ []
-
--- how many groups follow the first
-abbrev pub more_groups : ℕ → ℕ
-more_groups v =
-    min (v / 128) 1 + min (v / 128 / 128) 1 + min (v / 128 / 128 / 128) 1 + min (v / 128 / 128 / 128 / 128) 1
-
-last_stored : (more v : ℕ) → v < 128 → shortest_groups more v ≡ byte_of v (v / 128) ∷ []
-last_stored more v h =
-    let byte : v ≡ byte_of v (v / 128) = omega arith in
-    shortest_last more v h ∙ ap (λ (b : ℕ). b ∷ []) byte
-
-more_stored : (more v : ℕ) (rest : List ℕ) → 128 ≤ v → shortest_groups more (v / 128) ≡ rest
-    → shortest_groups (suc more) v ≡ byte_of v (v / 128) ∷ rest
-more_stored more v rest h e =
-    let byte : 128 + v % 128 ≡ byte_of v (v / 128) = omega arith in
-    shortest_more more v h ∙ ap₂ (λ (b : ℕ) (bs : List ℕ). b ∷ bs) byte e
-
-final_stored : (v : ℕ) → v < 128 → shortest_groups 0 v ≡ byte_of v 0 ∷ []
-final_stored v h =
-    let byte : v ≡ byte_of v 0 = omega arith in
-    shortest_final v ∙ ap (λ (b : ℕ). b ∷ []) byte
-
--- as many of the groups as the number wants
-pub groups_stored : (v : ℕ) → v < 2 ^ 32 → take (1 + more_groups v) (all_groups v) ≡ shortest_delta v
-unfolding shortest_delta
-groups_stored v fits = elim (cases_lt v 128) [
-  | inl low ↦
-      let none : more_groups v ≡ 0 = omega arith in
-      ap (λ n. take (1 + n) (all_groups v)) none ∙ sym (last_stored 4 v low)
-  | inr first ↦
-      elim (cases_lt (v / 128) 128) [
-        | inl low ↦
-            let one : more_groups v ≡ 1 = omega arith in
-            ap (λ n. take (1 + n) (all_groups v)) one ∙ sym (more_stored 3 v _ first (last_stored 3 (v / 128) low))
-        | inr second ↦
-            elim (cases_lt (v / 128 / 128) 128) [
-              | inl low ↦
-                  let two : more_groups v ≡ 2 = omega arith in
-                  ap (λ n. take (1 + n) (all_groups v)) two
-                  ∙ sym (more_stored 3 v _ first (more_stored 2 (v / 128) _ second (last_stored 2 (v / 128 / 128) low)))
-              | inr third ↦
-                  elim (cases_lt (v / 128 / 128 / 128) 128) [
-                    | inl low ↦
-                        let three : more_groups v ≡ 3 = omega arith in
-                        ap (λ n. take (1 + n) (all_groups v)) three
-                        ∙ sym
-                        (more_stored 3 v _ first
-                        (more_stored 2 (v / 128) _ second
-                        (more_stored 1 (v / 128 / 128) _ third (last_stored 1 (v / 128 / 128 / 128) low))))
-                    | inr fourth ↦
-                        let four : more_groups v ≡ 4 = omega arith in
-                        let fifth : v / 128 / 128 / 128 / 128 < 128 = omega arith in
-                        ap (λ n. take (1 + n) (all_groups v)) four
-                        ∙ sym
-                        (more_stored 3 v _ first
-                        (more_stored 2 (v / 128) _ second
-                        (more_stored 1 (v / 128 / 128) _ third
-                        (more_stored 0 (v / 128 / 128 / 128) _ fourth
-                        (final_stored (v / 128 / 128 / 128 / 128) fifth)))))
-                  ]
-            ]
-      ]
-]
-
--- the same of one or two groups
-pub two_stored : (v : ℕ) → v / 128 < 128
-    → take (1 + min (v / 128) 1) (byte_of v (v / 128) ∷ v / 128 ∷ 0 ∷ 0 ∷ 0 ∷ []) ≡ shortest_delta v
-unfolding shortest_delta
-two_stored v few = elim (cases_lt v 128) [
-  | inl low ↦
-      let none : min (v / 128) 1 ≡ 0 = omega arith in
-      ap (λ n. take (1 + n) (byte_of v (v / 128) ∷ v / 128 ∷ 0 ∷ 0 ∷ 0 ∷ [])) none ∙ sym (last_stored 4 v low)
-  | inr high ↦
-      let one : min (v / 128) 1 ≡ 1 = omega arith in
-      ap (λ n. take (1 + n) (byte_of v (v / 128) ∷ v / 128 ∷ 0 ∷ 0 ∷ 0 ∷ [])) one
-      ∙ sym (more_stored 3 v _ high (shortest_last 3 (v / 128) few))
-]

@@ -1,5 +1,9 @@
-use Rattle.aig_binary.proofs.Deltas.Shortest.{two_stored}
+use Rattle.aig_binary.proofs.Deltas.Stored.{some_stored}
 use Rattle.aig_binary.proofs.delta.put_delta.Goals as goal
 
-pub returns-then-second-lt128 : goal.returns-then-second-lt128
-returns-then-second-lt128 c = rw (c.min.ensures, c.byte_of.ensures) (two_stored c.args.value c.if-second-lt128.true)
+pub invariant_of-result : goal.invariant_of-result
+invariant_of-result c = (
+  some_stored c.write_delta-len.new.bytes c.write_delta-len.result c.args.value c.ranges.value.fits
+      c.write_delta-len.ensures.text,
+  c.write_delta-len.ensures.within,
+)

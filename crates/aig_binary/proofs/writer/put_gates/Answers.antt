@@ -1,8 +1,10 @@
-use Rattle.std.proofs.Common.{arith}
-use Rattle.aig_io.proofs.Puts.{put_more}
-use Rattle.aig_binary.specs.BinaryText.{gate_text}
+use Rattle.std.proofs.Common.{rules}
+use Rattle.aig_binary.proofs.Written.{pieces_put}
 use Rattle.aig_binary.proofs.writer.put_gates.Goals as goal
 
-pub loop-gate-preserved : goal.loop-gate-preserved
-loop-gate-preserved g c =
-    put_more gate_text _ _ _ _ _ _ _ c.gate-item.is c.loop-gate.invariant c.put_gate.ensures (omega arith)
+pub loop-at-preserved : goal.loop-at-preserved
+loop-at-preserved g c = record {
+  within = search rules;
+  put = pieces_put _ _ _ c.args.gates.now c.loop-at.at c.min-count.result _ c.loop-at.invariant.put
+      (search rules) c.put.ensures.put;
+}

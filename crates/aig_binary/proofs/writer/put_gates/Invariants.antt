@@ -1,8 +1,14 @@
-use Rattle.std.proofs.Common.{take}
+use Rattle.std.proofs.Common.{◌≤◌, ◌-◌, length, take}
 use Rattle.std.specs.List.{flat_map}
 use Rattle.aig_io.specs.Output.{Put}
 use Rattle.aig_binary.specs.BinaryText.{gate_text}
 use Rattle.aig_binary.proofs.writer.put_gates.Given as goal
 
-abbrev pub invariant-loop-gate : goal.invariant-loop-gate
-invariant-loop-gate g l = Put l.fn.output l.output (flat_map gate_text (take l.gate-index l.gates))
+abbrev pub invariant-loop-at : goal.invariant-loop-at
+invariant-loop-at g l = record {
+  within : l.at ≤ length l.gates;
+  put : Put l.fn.output l.output (flat_map gate_text (take l.at l.gates));
+}
+
+abbrev pub decreases-loop-at : goal.decreases-loop-at
+decreases-loop-at g l = length l.gates - l.at
