@@ -39,19 +39,67 @@ fn no_positions(alloc: Global, count: u32) -> Result<VarSet, AllocError>
     VarSet::new(alloc, count as usize, count)
 }
 
+/// What has a name among inputs, latches and outputs.
+#[derive(Drop)]
+struct NamedEnds {
+    inputs: VarSet,
+    latches: VarSet,
+    outputs: VarSet,
+}
+
+/// What has a name among the properties.
+#[derive(Drop)]
+struct NamedProperties {
+    bad: VarSet,
+    constraints: VarSet,
+    justice: VarSet,
+    fairness: VarSet,
+}
+
+/// No input, latch or output yet.
+fn no_ends(alloc: Global, counts: &NamedCounts) -> Result<NamedEnds, AllocError>
+    ensures inputs { IfOk result (λ ends. ends.inputs ≡ set.empty) }
+    ensures latches { IfOk result (λ ends. ends.latches ≡ set.empty) }
+    ensures outputs { IfOk result (λ ends. ends.outputs ≡ set.empty) }
+{
+    Ok(NamedEnds {
+        inputs: no_positions(alloc, counts.inputs)?,
+        latches: no_positions(alloc, counts.latches)?,
+        outputs: no_positions(alloc, counts.outputs)?,
+    })
+}
+
+/// No property yet.
+fn no_properties(alloc: Global, counts: &NamedCounts) -> Result<NamedProperties, AllocError>
+    ensures bad { IfOk result (λ properties. properties.bad ≡ set.empty) }
+    ensures constraints { IfOk result (λ properties. properties.constraints ≡ set.empty) }
+    ensures justice { IfOk result (λ properties. properties.justice ≡ set.empty) }
+    ensures fairness { IfOk result (λ properties. properties.fairness ≡ set.empty) }
+{
+    Ok(NamedProperties {
+        bad: no_positions(alloc, counts.bad)?,
+        constraints: no_positions(alloc, counts.constraints)?,
+        justice: no_positions(alloc, counts.justice)?,
+        fairness: no_positions(alloc, counts.fairness)?,
+    })
+}
+
 impl Names {
     /// None yet, for a circuit with so many things of each kind. It takes a bit for each of them.
     pub fn new(alloc: Global, counts: NamedCounts) -> Result<Self, AllocError>
         ensures { IfOk result (λ names. names ≡ nothing_named) }
     {
+        // Seven sets made here, each of which may fail beside all before it, took two minutes to prove.
+        let ends = no_ends(alloc, &counts)?;
+        let properties = no_properties(alloc, &counts)?;
         Ok(Names {
-            inputs: no_positions(alloc, counts.inputs)?,
-            latches: no_positions(alloc, counts.latches)?,
-            outputs: no_positions(alloc, counts.outputs)?,
-            bad: no_positions(alloc, counts.bad)?,
-            constraints: no_positions(alloc, counts.constraints)?,
-            justice: no_positions(alloc, counts.justice)?,
-            fairness: no_positions(alloc, counts.fairness)?,
+            inputs: ends.inputs,
+            latches: ends.latches,
+            outputs: ends.outputs,
+            bad: properties.bad,
+            constraints: properties.constraints,
+            justice: properties.justice,
+            fairness: properties.fairness,
         })
     }
 
