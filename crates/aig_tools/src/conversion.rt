@@ -67,7 +67,8 @@ fn image(alloc: Global, request: &ToAig, circuit: Checked) -> Result<Ordered, Ou
     }
 }
 
-/// Writes the circuit in the form that the request asks for. Nothing is sent before its whole image was made.
+/// Writes the circuit in the form that the request asks for. Nothing is sent before its whole image was made. What was
+/// written is dropped by name, since a proof goes through all that goes out of scope by itself, wherever that is.
 fn write<W: Sink>(
     alloc: Global,
     request: &ToAig,
@@ -82,12 +83,14 @@ fn write<W: Sink>(
     ensures short { W.longest sink.new ≤ max (W.longest sink.old) ROOM }
 {
     if request.ascii {
-        write_ascii(&circuit, sink)?;
-        return Ok(());
+        let written = write_ascii(&circuit, sink);
+        drop(circuit);
+        return Ok(written?);
     }
     let image = image(alloc, request, circuit)?;
-    write_binary(&image, sink)?;
-    Ok(())
+    let written = write_binary(&image, sink);
+    drop(image);
+    Ok(written?)
 }
 
 /// Reads the source to its end, and writes what the request asks for. Nothing is sent before the whole source was read

@@ -73,7 +73,9 @@ pub fn run_witness<M: Source, R: Source, W: Sink>(
     ensures short { W.longest output.new ≤ max (W.longest output.old) ROOM }
 {
     let found = read_circuit(alloc, model, request.max_var, Keep::Order)?;
-    let verdict = confirm(alloc, &found, witness)?;
+    let judged = confirm(alloc, &found, witness);
+    drop(found);
+    let verdict = judged?;
     send_answer(verdict, output)?;
     Ok(verdict)
 }
