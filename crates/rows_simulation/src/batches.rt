@@ -41,13 +41,32 @@ fn all_fit(circuit: &Checked, runs: &[Run]) -> bool
     runs.iter().all(|run| run.fits(circuit))
 }
 
+/// Whether so many runs are simulated.
+fn are_simulated(alloc: Global, circuit: &Checked, count: usize) -> Result<bool, Fail> {
+    let runs = runs_of(alloc, count)?;
+    Ok(all_fit(circuit, &runs) && simulate_batch(alloc, circuit, &runs).is_ok())
+}
+
+/// The first of these counts of runs that is not simulated, if there is one.
+fn first_refused(
+    alloc: Global,
+    circuit: &Checked,
+    counts: &[usize],
+) -> Result<Option<usize>, Fail> {
+    for count in counts {
+        if !are_simulated(alloc, circuit, *count)? {
+            return Ok(Some(*count));
+        }
+    }
+    Ok(None)
+}
+
 #[test]
 fn batches(rt: HostRuntime) -> Result<(), Fail> {
     let circuit = read_ascii(rt.alloc(), REGISTER.as_bytes(), Limits::default())?;
-    for count in [0, 1, 255, 256, 257, 600] {
-        let runs = runs_of(rt.alloc(), count)?;
-        let done = all_fit(&circuit, &runs) && simulate_batch(rt.alloc(), &circuit, &runs).is_ok();
-        assert!(rt; done, "{count} runs");
-    }
+    let refused = first_refused(rt.alloc(), &circuit, &[0, 1, 255, 256, 257, 600]);
+    drop(circuit);
+    let refused = refused?;
+    assert!(rt; refused.is_none(), "{} runs", refused.unwrap_or(0));
     Ok(())
 }

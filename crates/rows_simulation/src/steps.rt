@@ -86,7 +86,9 @@ fn shows(simulator: &Simulator, row: &str) -> bool {
 /// A simulator of the circuit of a text, before its first step.
 fn simulator_of(alloc: Global, text: &str) -> Result<Simulator, Fail> {
     let circuit = read_ascii(alloc, text.as_bytes(), Limits::default())?;
-    Ok(Simulator::new(alloc, &circuit)?)
+    let made = Simulator::new(alloc, &circuit);
+    drop(circuit);
+    Ok(made?)
 }
 
 /// Takes a step, or goes back to the reset state, and answers whether the row is shown then.
@@ -103,15 +105,32 @@ fn takes(alloc: Global, simulator: &mut Simulator, row: &str) -> Result<bool, Fa
     Ok(shows(simulator, row))
 }
 
+/// The first row that is not shown after its step, if there is one.
+fn first_wrong_row<'t>(
+    alloc: Global,
+    simulator: &mut Simulator,
+    rows: &'t str,
+) -> Result<Option<&'t str>, Fail> {
+    if simulator.row().is_some() {
+        return Ok(Some("a row before the first step"));
+    }
+    for row in rows.lines() {
+        if !takes(alloc, simulator, row)? {
+            return Ok(Some(row));
+        }
+    }
+    Ok(None)
+}
+
 #[test]
 fn steps(rt: HostRuntime) -> Result<(), Fail> {
     for table in STEPS.split('#') {
         let (text, rows) = table.split_once('=').ok_or("a table has rows")?;
         let mut simulator = simulator_of(rt.alloc(), text)?;
-        assert!(rt; simulator.row().is_none(), "{text}");
-        for row in rows.lines() {
-            assert!(rt; takes(rt.alloc(), &mut simulator, row)?, "{row}");
-        }
+        let wrong = first_wrong_row(rt.alloc(), &mut simulator, rows);
+        drop(simulator);
+        let wrong = wrong?;
+        assert!(rt; wrong.is_none(), "{text}: {}", wrong.unwrap_or(""));
     }
     Ok(())
 }
