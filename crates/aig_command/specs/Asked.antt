@@ -8,7 +8,6 @@ use Rattle.std.specs.Char.{digit_value}
 use Rattle.std.specs.Str.{bytes_eq}
 use Rattle.std.specs.Str.Parse.{digits_value, without_leading_plus}
 use Rattle.clap.specs.Words.{Kinds, Row, Text, fault_of, first_of, one_of, subcommand_of}
-use Rattle.aig_core.specs.declared.circuit.TheConstants.{LARGEST}
 use Rattle.aig_command.specs.Aiger.{aiger}
 use Rattle.aig_command.specs.declared.usage.Usage.{Usage}
 use Rattle.aig_command.specs.declared.usage.Usage.TheVariants as usage
@@ -29,9 +28,9 @@ number_in text =
 abbrev pub number : Text → ℕ → List Row → ℕ
 number name otherwise rows = unwrap_or (option_and_then number_in (one_of name rows)) otherwise
 
--- the limit that `--max-var` sets
+-- the limit that `--max-var` sets, or else the largest index that the format has
 abbrev pub limit : List Row → ℕ
-limit = number (codes "max-var") LARGEST
+limit = number (codes "max-var") 2147483647
 
 -- the number of frames that `--frames` sets; `clap` takes no number that is not among these
 abbrev pub frames : List Row → ℕ

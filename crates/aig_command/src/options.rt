@@ -4,9 +4,11 @@ ghost use Rattle.clap.specs.Words.{found_of, rows_of};
 ghost use Rattle.aig_command.specs.Answer.{name_of};
 ghost use Rattle.aig_command.specs.Asked.{file, is_set, limit, number};
 
-use aig_core::LARGEST;
 use clap::ArgMatches;
 use std::alloc::{AllocError, Global};
+
+/// The largest index that the format has, and so the limit where none is set.
+const LARGEST: u32 = 2_147_483_647;
 
 /// Whether the option is given.
 pub(crate) fn is_set(matches: &ArgMatches<'_>, name: &str) -> bool
