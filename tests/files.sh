@@ -458,10 +458,6 @@ helps() {
     fi
 }
 helps 'help' --help
-cp "$work/out" "$work/help"
-wants '' '' 0
-cp "$work/help" "$work/want_out"
-check 'the stored help text is that of the program' cat "$top/docs/help.txt"
 helps 'the short option for help' -h
 helps 'help of aigtoaig' aigtoaig --help
 # its examples run as they stand, one after the other
@@ -501,3 +497,4 @@ check 'the manual page has the options of help' cat "$work/man_options"
 wants '' 'aiger: -: cannot write\n' 1
 check 'help into a full standard output' output_full "$program" --help
 check 'help into a closed standard output' output_closed "$program" aigtoaig --help
+check 'the version into a full standard output' output_full "$program" --version

@@ -34,7 +34,7 @@ shown() {
 
 need_program() {
     [ -x "$program" ] && return
-    fail 'the linked program is there' "wanted an executable file $program" "came   none: run rt ci, or ./aiger"
+    fail 'the linked program is there' "wanted an executable file $program" "came   none: run ./prove, or ./test --quick"
     finish
 }
 
@@ -992,6 +992,22 @@ rows_forged() {
         'aig 5 2 0 0 3\n\x02\x02\x02\x04\x06\x02c\naigmap 1 5 2 0 3 0\n1\n2\n3 2 0\n4 0 0\n5 1 0\naigmap end\n' "$forged"
 }
 
+# what `aiger --help` prints
+help='Tools for circuits in the AIGER format
+
+Usage: aiger <COMMAND>
+
+Commands:
+  aigtoaig   Convert an AIGER file to binary or to ASCII
+  aigsim     Simulate a circuit, step by step
+  aigunroll  Unroll a circuit over time frames, as one circuit without latches
+
+Options:
+  -h, --help     Print help
+  -V, --version  Print version
+
+What each command does, and examples: aiger COMMAND --help, and man aiger\n'
+
 rows_words() {
     local usage='\n\nUsage: aiger <COMMAND>' one='\n\nUsage: aiger aigtoaig'
     local every="$one [OPTIONS] [source] [destination]" small='aag 3 1 1 2 0\n6\n2 7\n2\n0\n'
@@ -1013,7 +1029,12 @@ rows_words() {
     misused 'capital letters in a word' "unexpected argument '--ASCII' found\n\n  tip: to pass '--ASCII' as a value, use '-- --ASCII'$every" aigtoaig --ASCII
     misused 'one word of two' \
         "unrecognized subcommand 'aigtoaig --ascii'\n\n  tip: a similar subcommand exists: 'aigtoaig'$usage" 'aigtoaig --ascii'
-    row 'help' 'aag 0 0 0 0 0\n' "$(cat "$top/docs/help.txt")\n" '' 0 --help
+    row 'help' 'aag 0 0 0 0 0\n' "$help" '' 0 --help
+    for option in --version -V -Vx; do row "the version: $option" 'aag 0 0 0 0 0\n' 'aiger 1.0.0\n' '' 0 "$option"; done
+    row 'the version behind a subcommand' 'aag 0 0 0 0 0\n' 'aiger-aigtoaig 1.0.0\n' '' 0 aigtoaig --version
+    row 'the version where a model is wanted' '' 'aiger-aigsim 1.0.0\n' '' 0 aigsim -V
+    row 'the version where frames are wanted' '' 'aiger-aigunroll 1.0.0\n' '' 0 aigunroll --version x
+    misused 'no option for the version' "unexpected argument '-v' found$usage" -v
     misused 'another subcommand' "unrecognized subcommand 'convert'$usage" convert --ascii
     misused 'a subcommand that is close to all of them' \
         "unrecognized subcommand 'aigsom'\n\n  tip: some similar subcommands exist: 'aigunroll', 'aigtoaig', 'aigsim'$usage" aigsom x

@@ -6,7 +6,8 @@ use Rattle.std.specs.Prelude.{String, ◌-◌, option_and_then, string_bytes, ta
 use Rattle.std.specs.Global.{Global}
 use Rattle.std.specs.List.{list_any}
 use Rattle.std.proofs.lemmas.List.{take_all}
-use Rattle.clap.specs.Words.{HasMatchesOf, IsAmong, Kinds, Text, is_simple, subcommand_of, subcommand_rows_of, takes}
+use Rattle.clap.specs.Words.{HasMatchesOf, IsAmong, Kinds, Text, is_simple, is_simple_and_free, subcommand_of, subcommand_rows_of}
+use Rattle.clap.specs.Words.{takes}
 use Rattle.clap.specs.declared.error.kind.ErrorKind.{ErrorKind}
 use Rattle.clap.specs.declared.error.kind.ErrorKind.TheVariants as kinds
 use Rattle.clap.specs.declared.parser.matches.ArgMatches.{ArgMatches}
@@ -15,7 +16,7 @@ use Rattle.clap.proofs.WalkLemmas.{list_any-map}
 use Rattle.aig_command.specs.Aiger.{aiger}
 use Rattle.aig_command.specs.Asked.{Asked, asked_by, command_of, faults}
 use Rattle.aig_command.specs.Answer.{IsAnswer, IsCommand, IsErrorAnswer, IsUsage, IsWrong}
-use Rattle.aig_command.specs.Answer.{asks_for_help, is_help, texts}
+use Rattle.aig_command.specs.Answer.{asks_for, is_option, texts}
 use Rattle.aig_command.specs.declared.request.Command.{Command}
 use Rattle.aig_command.specs.declared.request.Command.TheVariants as commands
 use Rattle.aig_command.specs.declared.usage.Usage.{Usage}
@@ -28,6 +29,10 @@ simple : is_simple aiger ≡ true
 unfolding clap_on_literals
 simple = refl
 
+pub free : is_simple_and_free aiger ≡ true
+unfolding clap_on_literals
+free = refl
+
 abbrev Answers : Option Asked → Result Command Usage → Type 0
 Answers o r = IfSome o (λ asked. IsAnswer asked r)
 
@@ -38,6 +43,7 @@ is_command words (Some asked) (Ok (commands.ToAig request)) is some h = is ∙ a
 is_command words (Some asked) (Ok (commands.Sim request)) is some h = is ∙ ap Some h
 is_command words (Some asked) (Ok (commands.Unroll request)) is some h = is ∙ ap Some h
 is_command words (Some asked) (Ok (commands.Help text)) is some h = absurd h
+is_command words (Some asked) (Ok (commands.Version text)) is some h = absurd h
 is_command words (Some asked) (Err reason) is some h = tt
 
 is_usage : (words : List Text) (o : Option Asked) (r : Result Command Usage) → command_of words ≡ o
@@ -76,8 +82,8 @@ abbrev is_memory : ErrorKind → Bool
 is_memory kinds.OutOfMemory = true
 is_memory kind = false
 
-help_is_no_memory : (kind : ErrorKind) → kind ≡ kinds.DisplayHelp → kind ≢ kinds.OutOfMemory
-help_is_no_memory kind e m = true≢false (ap is_memory (sym m ∙ e))
+no_memory : (kind shown : ErrorKind) → is_memory shown ≡ false → kind ≡ shown → kind ≢ kinds.OutOfMemory
+no_memory kind shown other e m = true≢false (ap is_memory (sym m ∙ e) ∙ other)
 
 untaken : (b : Bool) (P : Type 0) → (P → ⊥) → (b ≡ true → P) → b ≡ false
 untaken true P never h = absurd (never (h refl))
@@ -97,7 +103,9 @@ module _ (words : List Text) (kind : ErrorKind) (passes : takes aiger words ≡ 
 
   pub refused_command : (r : Result Command Usage) → IsErrorAnswer kind words r → IfOk r (IsCommand words)
   refused_command (Ok (commands.Help text)) h =
-      (subst (IsWrong words) h.0 (is_wrong (help_is_no_memory kind h.0)), h.1)
+      (subst (IsWrong words) h.0 (is_wrong (no_memory kind kinds.DisplayHelp refl h.0)), h.1)
+  refused_command (Ok (commands.Version text)) h =
+      (subst (IsWrong words) h.0 (is_wrong (no_memory kind kinds.DisplayVersion refl h.0)), h.1)
   refused_command (Ok (commands.ToAig request)) h = absurd h
   refused_command (Ok (commands.Sim request)) h = absurd h
   refused_command (Ok (commands.Unroll request)) h = absurd h
@@ -106,7 +114,7 @@ module _ (words : List Text) (kind : ErrorKind) (passes : takes aiger words ≡ 
   pub refused_usage : (r : Result Command Usage) → IsErrorAnswer kind words r → IfErr r (IsUsage words)
   refused_usage (Ok command) h = tt
   refused_usage (Err usage.OutOfMemory) h = tt
-  refused_usage (Err (usage.Words text)) h = (kind, is_wrong h.0, h.1)
+  refused_usage (Err (usage.Words text)) h = (kind, is_wrong h.0, h.1, h.2)
   refused_usage (Err usage.KeepMapNeedsBinary) h = absurd h
   refused_usage (Err usage.KeepMapExcludesStrip) h = absurd h
   refused_usage (Err usage.KeepMapExcludesUndoMap) h = absurd h
@@ -114,13 +122,15 @@ module _ (words : List Text) (kind : ErrorKind) (passes : takes aiger words ≡ 
   refused_usage (Err usage.CompressedOutput) h = absurd h
   refused_usage (Err usage.WitnessAlone) h = absurd h
 
--- ---- an argument that asks for help
+-- ---- an argument that asks for a text
 
-abbrev asks : List (String Global) → Bool
-asks = list_any (λ word. is_help (string_bytes word))
+module _ (long short : Text) where
+  abbrev asks : List (String Global) → Bool
+  asks = list_any (λ word. is_option long short (string_bytes word))
 
-pub after_name : (words : List (String Global))
-    → asks (take (length words - 1) (drop 1 words)) ≡ asks_for_help (texts words)
-after_name [] = refl
-after_name (word ∷ words) =
-    ap asks (take_all (length (word ∷ words) - 1) words (omega arith)) ∙ list_any-map is_help string_bytes words
+  pub after_name : (words : List (String Global))
+      → asks (take (length words - 1) (drop 1 words)) ≡ asks_for long short (texts words)
+  after_name [] = refl
+  after_name (word ∷ words) =
+      ap asks (take_all (length (word ∷ words) - 1) words (omega arith))
+      ∙ list_any-map (is_option long short) string_bytes words

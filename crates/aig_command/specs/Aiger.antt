@@ -52,9 +52,16 @@ abbrev pub aigunroll : App
 aigunroll = with_rules (new_app (codes "aigunroll"))
     (frames ∷ flag (codes "ascii") ∷ max_var ∷ new_rule (codes "source") ∷ new_rule (codes "destination") ∷ [])
 
--- a command that has to be given a subcommand, and has none for help
+-- a command that has to be given a subcommand, has none for help, and has a version, as its subcommands have
 abbrev pub above : App → App
-above a = record a { top = record a.top { subcommand_required = true; disable_help_subcommand = true } }
+above a = record a {
+  top = record a.top {
+    has_version = true;
+    propagate_version = true;
+    subcommand_required = true;
+    disable_help_subcommand = true;
+  };
+}
 
 -- the program, with its subcommands
 abbrev pub aiger : App

@@ -6,7 +6,7 @@ use Rattle.std.specs.List.{list_any, starts_with}
 use Rattle.std.specs.Str.{bytes_eq}
 use Rattle.clap.specs.Words.{IsAmong, Text, takes}
 use Rattle.clap.specs.declared.error.kind.ErrorKind.{ErrorKind}
-use Rattle.clap.specs.declared.error.kind.ErrorKind.TheVariants.{DisplayHelp, OutOfMemory}
+use Rattle.clap.specs.declared.error.kind.ErrorKind.TheVariants.{DisplayHelp, DisplayVersion, OutOfMemory}
 use Rattle.aig_command.specs.Aiger.{aiger}
 use Rattle.aig_command.specs.Asked.{Asked, Conversion, Simulation, Unrolling, command_of, faults}
 use Rattle.aig_command.specs.Asked.{converts, refused, simulates, unrolls}
@@ -59,13 +59,19 @@ unrolling_of request = record {
   destination = name_of request.destination;
 }
 
--- the argument asks for help
-abbrev pub is_help : Text → Bool
-is_help word = bytes_eq word (codes "--help") || starts_with nat_eq word (codes "-h")
+-- the argument is the option's long name, or begins with its short one
+abbrev pub is_option : Text → Text → Text → Bool
+is_option long short word = bytes_eq word long || starts_with nat_eq word short
 
--- one of the arguments after the program's name asks for help
+-- one of the arguments after the program's name is this option
+abbrev pub asks_for : Text → Text → List Text → Bool
+asks_for long short words = list_any (is_option long short) (drop 1 words)
+
 abbrev pub asks_for_help : List Text → Bool
-asks_for_help words = list_any is_help (drop 1 words)
+asks_for_help = asks_for (codes "--help") (codes "-h")
+
+abbrev pub asks_for_version : List Text → Bool
+asks_for_version = asks_for (codes "--version") (codes "-V")
 
 -- `clap` does not take the arguments, and this is what it finds wrong with them
 abbrev pub IsWrong : List Text → ErrorKind → Type 0
@@ -77,12 +83,14 @@ IsCommand words (commands.ToAig request) = command_of words ≡ Some (converts (
 IsCommand words (commands.Sim request) = command_of words ≡ Some (simulates (simulation_of request))
 IsCommand words (commands.Unroll request) = command_of words ≡ Some (unrolls (unrolling_of request))
 IsCommand words (commands.Help text) = IsWrong words DisplayHelp × (asks_for_help words ≡ true)
+IsCommand words (commands.Version text) = IsWrong words DisplayVersion × (asks_for_version words ≡ true)
 
 -- the arguments are refused for this reason
 abbrev pub IsUsage : List Text → Usage → Type 0
 IsUsage words usage.OutOfMemory = ⊤
 IsUsage words (usage.Words text) =
     (kind : ErrorKind) × IsWrong words kind × (kind ≡ DisplayHelp → asks_for_help words ≡ false)
+    × (kind ≡ DisplayVersion → asks_for_version words ≡ false)
 IsUsage words reason = command_of words ≡ Some (refused reason)
 
 -- A map is kept in binary, of the whole circuit that was read, or not at all.
@@ -108,13 +116,16 @@ CanDo (commands.ToAig request) = IsKeptAlone request
 CanDo (commands.Sim request) = HasOneStandardInput request × IsWitnessAlone request
 CanDo (commands.Unroll request) = HasFrames request
 CanDo (commands.Help text) = ⊤
+CanDo (commands.Version text) = ⊤
 
 -- What is answered where `clap` answers with an error of this kind. Only private functions cite it.
 abbrev pub IsErrorAnswer : ErrorKind → List Text → Result Command Usage → Type 0
 IsErrorAnswer kind words (Ok (commands.Help text)) = (kind ≡ DisplayHelp) × (asks_for_help words ≡ true)
+IsErrorAnswer kind words (Ok (commands.Version text)) = (kind ≡ DisplayVersion) × (asks_for_version words ≡ true)
 IsErrorAnswer kind words (Err usage.OutOfMemory) = ⊤
 IsErrorAnswer kind words (Err (usage.Words text)) =
     (kind ≢ OutOfMemory) × (kind ≡ DisplayHelp → asks_for_help words ≡ false)
+    × (kind ≡ DisplayVersion → asks_for_version words ≡ false)
 IsErrorAnswer kind words answer = ⊥
 
 -- What is answered to arguments that ask for this. Only private functions cite it.

@@ -7,6 +7,9 @@ ghost use Rattle.aig_command.specs.Aiger.{aiger, aigsim, aigunroll, flag, frames
 use clap::{Arg, ArgAction, Command, value_parser};
 use std::alloc::{AllocError, Global};
 
+/// The program's version, the one place in the sources that has it.
+const VERSION: &str = "1.0.0";
+
 const ABOUT: &str = "Tools for circuits in the AIGER format";
 
 const AFTER: &str = "\
@@ -250,6 +253,8 @@ pub(crate) fn aiger<'a>(alloc: Global) -> Result<Command<'a>, AllocError>
 {
     let command = command(alloc, "aiger", ABOUT, AFTER)
         .bin_name("aiger")?
+        .version(VERSION)
+        .propagate_version(true)
         .subcommand_required(true)
         .disable_help_subcommand(true)
         .subcommand(to_aig(alloc)?)?

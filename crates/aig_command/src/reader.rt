@@ -4,7 +4,7 @@ ghost use Rattle.std.specs.List.{list_any};
 ghost use Rattle.clap.specs.Words.{FailsBy, HasMatchesOf, kind_of, subcommand_rows_of, takes};
 ghost use Rattle.clap.specs.declared.error.kind.ErrorKind.TheVariants.{OutOfMemory};
 ghost use Rattle.aig_command.specs.Aiger.{aiger};
-ghost use Rattle.aig_command.specs.Answer.{asks_for_help, CanDo, is_help, texts};
+ghost use Rattle.aig_command.specs.Answer.{asks_for, CanDo, is_option, texts};
 ghost use Rattle.aig_command.specs.Answer.{IsAnswer, IsCommand, IsErrorAnswer, IsUsage};
 ghost use Rattle.aig_command.specs.Asked.{asked_by, faults};
 
@@ -45,31 +45,31 @@ fn asked(alloc: Global, matches: &ArgMatches<'_>) -> Result<Command, Usage>
     }
 }
 
-/// Whether the argument asks for help.
-fn is_help(word: &str) -> bool
-    ensures { result ≡ is_help word.now }
+/// Whether the argument is the option's long name, or begins with its short one.
+fn is_option(word: &str, long: &str, short: &str) -> bool
+    ensures { result ≡ is_option long.now short.now word.now }
 {
-    word == "--help" || word.starts_with("-h")
+    word == long || word.starts_with(short)
 }
 
-/// Whether one of the arguments asks for help.
-fn any_help(words: &[String]) -> bool
-    ensures { result ≡ list_any (λ word. is_help (string_bytes word)) words.now }
+/// Whether one of the arguments is this option.
+fn any_option(words: &[String], long: &str, short: &str) -> bool
+    ensures { result ≡ list_any (λ word. is_option long.now short.now (string_bytes word)) words.now }
 {
     for word in words {
-        if is_help(word.as_str()) {
+        if is_option(word.as_str(), long, short) {
             return true;
         }
     }
     false
 }
 
-/// Whether one of the arguments after the program's name asks for help.
-fn asks_for_help(words: &[String]) -> bool
-    ensures { result ≡ asks_for_help (texts words.now) }
+/// Whether one of the arguments after the program's name is this option.
+fn asks_for(words: &[String], long: &str, short: &str) -> bool
+    ensures { result ≡ asks_for long.now short.now (texts words.now) }
 {
     match words {
-        [_, rest @ ..] => any_help(rest),
+        [_, rest @ ..] => any_option(rest, long, short),
         [] => false,
     }
 }
@@ -86,9 +86,12 @@ fn not_taken(alloc: Global, words: &[String], error: &Error) -> Result<Command, 
 {
     match error.kind() {
         ErrorKind::OutOfMemory => Err(Usage::OutOfMemory),
-        // No contract of `clap` says that only such an argument makes it answer with help.
-        ErrorKind::DisplayHelp if asks_for_help(words) => {
+        // No contract of `clap` says that only such an argument makes it answer with help, or with its version.
+        ErrorKind::DisplayHelp if asks_for(words, "--help", "-h") => {
             Ok(Command::Help(text_of(alloc, error)?))
+        }
+        ErrorKind::DisplayVersion if asks_for(words, "--version", "-V") => {
+            Ok(Command::Version(text_of(alloc, error)?))
         }
         _ => Err(Usage::Words(text_of(alloc, error)?)),
     }

@@ -65,4 +65,6 @@ pub enum Command {
     Unroll(Unroll),
     /// Help; this is its text.
     Help(String),
+    /// The program's version; this is its text.
+    Version(String),
 }

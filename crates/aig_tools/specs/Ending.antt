@@ -69,9 +69,9 @@ SimulationEnds request files input output errors status =
     ⊎ ((status ≡ 1) × ((error : ToolFault)
     × SimulationNotDone request error files input output × IsReported errors (simulation_error_line request error))))
 
--- Help was asked for: the output took the text, or it failed and that is reported.
-abbrev pub HelpEnds : {W E : Type 0} → List ℕ → SinkUse W → SinkUse E → ℕ → Type 0
-HelpEnds text output errors status =
+-- Help or the version was asked for: the output took the text, or it failed and that is reported.
+abbrev pub TextEnds : {W E : Type 0} → List ℕ → SinkUse W → SinkUse E → ℕ → Type 0
+TextEnds text output errors status =
     ((status ≡ 0) × (errors.after ≡ errors.before)
     × Appends (output.taken output.before) (output.taken output.after) text
     × (output.failures output.after ≡ output.failures output.before))
@@ -95,7 +95,9 @@ EndsAs (Ok (commands.Sim request)) files input output errors status =
 EndsAs (Ok (commands.Unroll request)) files input output errors status =
     UnrollingEnds request files input output errors status
 EndsAs (Ok (commands.Help text)) files input output errors status =
-    (input.after ≡ input.before) × HelpEnds (string_bytes text) output errors status
+    (input.after ≡ input.before) × TextEnds (string_bytes text) output errors status
+EndsAs (Ok (commands.Version text)) files input output errors status =
+    (input.after ≡ input.before) × TextEnds (string_bytes text) output errors status
 EndsAs (Err usage) files input output errors status = RefusalEnds usage input output errors status
 
 -- the program answers the words, and ends so

@@ -2,7 +2,7 @@
 ghost use Rattle.std.specs.Prelude.{◌≡◌, ◌-◌, ◌^◌, ◌<◌, ◌≤◌, None, max};
 ghost use Rattle.aig_io.specs.declared.block.TheConstants.{ROOM};
 ghost use Rattle.aig_command.specs.Answer.{texts};
-ghost use Rattle.aig_tools.specs.Ending.{done_status, Ends, EndsBetween, HelpEnds, SimulationEnds, status_of};
+ghost use Rattle.aig_tools.specs.Ending.{done_status, Ends, EndsBetween, SimulationEnds, status_of, TextEnds};
 ghost use Rattle.aig_tools.specs.Devices.{DoneBetween, files_by_name, NotDoneBetween, sink_use, source_use};
 ghost use Rattle.aig_tools.specs.Messages.{memory_line, IsReported, usage_text, words_line};
 ghost use Rattle.aig_command.specs.Answer.{HasOneStandardInput, IsWitnessAlone};
@@ -106,11 +106,11 @@ fn run_simulation<A: FileAccess, R: Source, W: Sink, E: Sink>(
     }
 }
 
-/// Writes a help text, and answers the status.
-fn help<W: Sink, E: Sink>(text: &str, output: &mut W, errors: &mut E) -> u8
+/// Writes a text that was asked for, and answers the status.
+fn print_text<W: Sink, E: Sink>(text: &str, output: &mut W, errors: &mut E) -> u8
     requires output { W.failed output.old < 2 ^ 64 - 1 }
     requires errors { E.failed errors.old < 2 ^ 64 - 1 }
-    ensures ends { HelpEnds text.now (sink_use W.taken W.longest W.failed output.old output.new)
+    ensures ends { TextEnds text.now (sink_use W.taken W.longest W.failed output.old output.new)
         (sink_use E.taken E.longest E.failed errors.old errors.new) result }
     ensures short { W.longest output.new ≤ max (W.longest output.old) ROOM }
     ensures reported_short { E.longest errors.new ≤ max (E.longest errors.old) ROOM }
@@ -172,7 +172,8 @@ pub fn serve<A: FileAccess, R: Source, W: Sink, E: Sink>(
         Ok(Command::Sim(request)) => {
             run_simulation(alloc, access, &request, input, output, errors)
         }
-        Ok(Command::Help(text)) => help(text.as_str(), output, errors),
+        Ok(Command::Help(text)) => print_text(text.as_str(), output, errors),
+        Ok(Command::Version(text)) => print_text(text.as_str(), output, errors),
         Err(usage) => refuse(errors, &usage),
     }
 }

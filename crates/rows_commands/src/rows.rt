@@ -139,7 +139,19 @@ aigtoaig --ascii=yes => words;\
 aigtoaig --batch => words;\
 aigtoaig --Help => words;\
 aigtoaig -x => words;\
-aigtoaig --version => words;\
+--version => version;\
+-V => version;\
+aigtoaig --version => version;\
+aigtoaig -V => version;\
+aigtoaig -Vx a => version;\
+aigtoaig --versio => words;\
+aigtoaig -v => words;\
+aigtoaig --ascii a.aag b.aag c --version => words;\
+aigtoaig -- --version => 2147483647 --version -;\
+aigtoaig --help --version => help;\
+aigtoaig --version --help => version;\
+aigsim --version => version;\
+aigunroll -V => version;\
 aigtoaig --properties => words;\
 aigtoaig --witness => words;\
 aigtoaig --frames 2 => words;\
@@ -292,6 +304,7 @@ fn answer(alloc: Global, words: &[String]) -> Result<String, AllocError> {
         Ok(Command::Sim(request)) => shown_simulation(alloc, &request),
         Ok(Command::Unroll(request)) => shown_unrolling(alloc, &request),
         Ok(Command::Help(_)) => String::from_str(alloc, "help"),
+        Ok(Command::Version(_)) => String::from_str(alloc, "version"),
         Err(Usage::Words(_)) => String::from_str(alloc, "words"),
         Err(usage) => format!(in alloc; "{usage}"),
     }

@@ -1,6 +1,6 @@
 use Rattle.std.proofs.Common.{inr, refl, rules, sym}
 use Rattle.aig_tools.proofs.Lines.{begun_by, is_error}
-use Rattle.aig_tools.proofs.program.help.Goals as goal
+use Rattle.aig_tools.proofs.program.print_text.Goals as goal
 
 pub returns-clause-ends : goal.returns-clause-ends
 returns-clause-ends g c =
