@@ -1,4 +1,24 @@
 //! The devices that bytes come from and go to, and output in blocks.
+//!
+//! Others call `read_all`, which reads a source to its end; `Output`, which sends a text to a sink
+//! in blocks; and the devices: `MemorySource` and `MemorySink` in memory, `ReadSource` and
+//! `WriteSink` over std's readers and writers. All of them are a `Source` or a `Sink`.
+//!
+//! Modules:
+//! - `device`: what a source and a sink are, and `DeviceFault`.
+//! - `memory`: devices in memory.
+//! - `streams`: devices over std's readers and writers.
+//! - `transfer`: all bytes of a source, and all bytes to a sink.
+//! - `block`: bytes on their way to a sink, in a block of fixed size.
+//! - `output`: a sink with the block before it.
+//! - `digits`: numbers in decimal, written where they are to stand.
+//!
+//! Definitions (`specs/`); those that matter most are `GaveAll`, `TookBeginning` and `Put`:
+//! - `Transfer`: what a call tells of the bytes that came from a source or went to a sink.
+//! - `Output`: a text on its way to a sink through a block.
+//! - `Digits`: the last digits of a number.
+//! - `Failures`: how many failures of a device an outcome tells.
+//! - `Memory`, `Streams`: the devices of these two modules, as their callers see them.
 #![tactic(auto)]
 
 mod block;

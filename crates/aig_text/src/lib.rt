@@ -1,4 +1,41 @@
 //! ASCII AIGER files: their lines and numbers, the reader and the writer.
+//!
+//! Others call `read_ascii` and `read_ascii_keeping` (which keeps the order of the gates, where the
+//! check made one), `write_ascii`, and the parts that binary files have in common with ASCII files.
+//!
+//! Modules:
+//! - `line`: lines of a text, and the `Cursor` that goes over them.
+//! - `number`: numbers of any length, and lines of numbers.
+//! - `word`: digits, eight bytes at a time.
+//! - `header_line`: the header.
+//! - `row`: lines of numbers, and what they mean.
+//! - `section`: rows of one kind, and the list of sections.
+//! - `tail_lines`: symbols and comment.
+//! - `parts`: what ASCII and binary files have in common.
+//! - `reader`: a whole text.
+//! - `writer`: the canonical text of a circuit, written to a sink in blocks.
+//! - `limits`: what a reader accepts at most.
+//! - `fault`: why a text is refused, and where.
+//! - `message`: what messages are made of.
+//! - `laws`: facts about the definitions alone, each the contract of a function with an empty body.
+//!
+//! Definitions (`specs/`), in the order of a reader's questions; those that matter most are
+//! `IsAsciiText`, `first_ascii_fault` and `ascii_text`:
+//! - `Lines`: the lines of a text. `Spelling`: how numbers are spelled in a line.
+//! - `Rows`: roles of numbers, forms of lines, and the list of sections.
+//! - `Tail`: symbols and comment.
+//! - `AsciiGrammar`: which texts are files of which circuits.
+//! - `AsciiText`: the canonical text of a circuit.
+//! - `Scanning`: what stands at the front of bytes. `CanonicalNumber`: numbers without leading
+//!   zeros.
+//! - `Reading`: what a text is read as, or its first fault.
+//! - `Outcomes`: how a function's result is compared with what is read.
+//! - `Messages`: the words of a fault. `Laws`: what the definitions say of one another.
+//! - `Parts`: what only private functions cite.
+//!
+//! Lemmas (`proofs/`), beside the folders that are named after modules: `Grammar` (grammar and
+//! reading say the same), `Kept` (what a machine word keeps of a number), `Loops` (the reader's
+//! loops) and `Canonical` (the canonical text).
 #![tactic(auto)]
 
 mod fault;

@@ -1,4 +1,12 @@
 //! The program: the arguments and the streams of the process, and the status that `start` answers.
+//!
+//! `main` lends `start` of `aig_tools` the arguments and the three standard streams, and ends with
+//! the status that it answers. Nothing else is done here. The program's own name is not looked at,
+//! since it may be no text. Arguments that are no text are refused, and so is a start without
+//! memory for them.
+//!
+//! The files `args` and `stdin` beside `src` are the run that `rt ci` makes, and `stdout` is what
+//! it must write. This crate has no modules and no definitions of its own.
 #![tactic(auto)]
 
 use aig_core::{ReadSource, WriteSink};
