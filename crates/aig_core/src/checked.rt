@@ -109,12 +109,12 @@ impl Checked {
     }
 
     /// The same circuit in memory of its own, unless an allocation fails.
-    pub fn copy(&self, alloc: Global) -> Result<Checked, OutOfMemory>
+    pub fn copy(&self, _alloc: Global) -> Result<Checked, OutOfMemory>
         ensures value { IfOk result (λ copy. copy ≡ self.now) }
         ensures well_formed { OnOk result (IsWellFormed self.now) }
     {
         Ok(Checked {
-            circuit: copy_circuit(alloc, &self.circuit)?,
+            circuit: copy_circuit(&self.circuit)?,
             order: None,
             in_binary_order: self.in_binary_order,
         })

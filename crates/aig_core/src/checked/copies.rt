@@ -38,20 +38,8 @@ pub fn copy_justice(alloc: Global, justice: &Justice) -> Result<Justice, OutOfMe
 }
 
 /// The same circuit in memory of its own.
-pub(crate) fn copy_circuit(alloc: Global, circuit: &Circuit) -> Result<Circuit, OutOfMemory>
+pub(crate) fn copy_circuit(circuit: &Circuit) -> Result<Circuit, OutOfMemory>
     ensures { IfOk result (λ copy. copy ≡ circuit.now) }
 {
-    Ok(Circuit {
-        max_var: circuit.max_var,
-        inputs: circuit.inputs.copy(alloc)?,
-        latches: circuit.latches.copy(alloc)?,
-        outputs: circuit.outputs.copy(alloc)?,
-        bad: circuit.bad.copy(alloc)?,
-        constraints: circuit.constraints.copy(alloc)?,
-        justice: copy_justice(alloc, &circuit.justice)?,
-        fairness: circuit.fairness.copy(alloc)?,
-        gates: circuit.gates.copy(alloc)?,
-        symbols: copy_symbols(alloc, &circuit.symbols)?,
-        comment: copy_comment(alloc, &circuit.comment)?,
-    })
+    Ok(circuit.clone()?)
 }
