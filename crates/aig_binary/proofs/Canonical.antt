@@ -1,6 +1,8 @@
 -- The canonical binary text of a well-formed circuit in binary order is its file.
-use Rattle.std.proofs.Common.{◌≡◌, ◌+◌, ◌-◌, ◌*◌, ◌<◌, ◌≤◌, ◌^◌, ℕ, List, [], ◌∷◌, ◌++◌, map, true, refl, sym, ap}
-use Rattle.std.proofs.Common.{◌∙◌, inr, append_assoc, append-nil, arith}
+use Rattle.std.proofs.lemmas.Grind.{common_steps}
+use Rattle.std.proofs.Common.{rules}
+use Rattle.std.proofs.Common.{◌≡◌, ◌-◌, ◌<◌, ◌≤◌, ◌^◌, ℕ, List, [], ◌∷◌, ◌++◌, true, refl, sym, ap}
+use Rattle.std.proofs.Common.{◌∙◌, inr, append-nil, arith}
 use Rattle.std.specs.List.{AllByRecursion, flat_map}
 use Rattle.aig_core.specs.declared.circuit.TheConstants.{LARGEST}
 use Rattle.aig_core.specs.declared.circuit.Gate.{Gate}
@@ -11,14 +13,14 @@ use Rattle.aig_core.specs.Wellformed.{IsWellFormed}
 use Rattle.aig_core.specs.Form.{IsInForm}
 use Rattle.aig_text.specs.Lines.{Line, lines_of}
 use Rattle.aig_text.specs.AsciiText.{header_text, line_text, tail_text}
-use Rattle.aig_text.specs.Rows.{Row, row, next_form, next_row, literal_rows_of, header_row}
+use Rattle.aig_text.specs.Rows.{Row, row, next_form, next_row, header_row}
 use Rattle.aig_text.proofs.Canonical.Lines.{IsFullRow, header_line, row_lines, header_is_first, header_line_is_good}
 use Rattle.aig_text.proofs.Canonical.Lines.{rows_are_first, rows_are_good}
 use Rattle.aig_text.proofs.Kept.Plain.{all_joined}
 use Rattle.aig_text.proofs.Grammar.Entries.{IsLatchUpTo}
 use Rattle.aig_text.proofs.Grammar.Headers.{header_limited}
 use Rattle.aig_text.proofs.Grammar.Sections.{latches_up_to}
-use Rattle.aig_text.proofs.Canonical.Text.{entries_full, small_reset, literal_rows_full, sizes_are_small}
+use Rattle.aig_text.proofs.Canonical.Text.{entries_full, literal_rows_full, sizes_are_small}
 use Rattle.aig_text.proofs.Canonical.Text.{header_is_small, tail_is_good}
 use Rattle.aig_core.specs.BinaryOrder.{IsInBinaryOrder}
 use Rattle.aig_binary.specs.BinaryGrammar.{IsBinaryText, SpellsGates, binary_word, binary_rows_of}
@@ -42,20 +44,10 @@ all_ended [] = tt
 all_ended (r ∷ rows) = (refl, all_ended rows)
 
 full_next : (m : ℕ) → m ≤ LARGEST → (l : Latch) → IsLatchUpTo m l → IsFullRow (row next_form (next_row l))
-full_next m top l h =
-    let high : l.var ≤ m = h.0.1 in
-    let next : l.next ≤ 2 * m + 1 = h.1 in
-    record {
-      some = omega arith;
-      small = (omega arith, (small_reset (literal_of l.var) l.reset (omega arith), tt));
-    }
+full_next m top l h = search rules
 
 rows_full : (c : Circuit) → IsInForm c → AllByRecursion IsFullRow (binary_rows_of c)
-rows_full c form =
-    all_joined IsFullRow (map (row next_form) (map next_row c.latches)) (literal_rows_of c)
-    (entries_full (IsLatchUpTo c.max_var) next_form next_row (full_next c.max_var form.limits.max_var) c.latches
-    (latches_up_to c form))
-    (literal_rows_full c form)
+rows_full c form = search (rules, all_joined, entries_full, full_next, latches_up_to, literal_rows_full)
 
 gates_spelled : (gs : List Gate) → AllByRecursion HasDeltas gs → SpellsGates (flat_map gate_text gs) gs
 gates_spelled [] h = refl
@@ -81,10 +73,7 @@ parts : (c : Circuit)
     ≡ (header_text binary_word (header_row c) ++ flat_map line_text
     (binary_rows_of c)) ++ (flat_map gate_text c.gates ++ tail_text c)
 unfolding binary_text
-parts c =
-    sym
-    (append_assoc (header_text binary_word (header_row c)) (flat_map line_text (binary_rows_of c))
-    (flat_map gate_text c.gates ++ tail_text c))
+parts c = grind (arith, common_steps)
 
 pub canonical_binary : (c : Circuit) → IsWellFormed c → IsInForm c → IsInBinaryOrder c
     → IsBinaryText (binary_text c) LARGEST c

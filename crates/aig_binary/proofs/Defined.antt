@@ -1,5 +1,7 @@
 -- Latches by their places, and by the rows of their next states.
-use Rattle.std.proofs.Common.{◌≡◌, ◌+◌, ◌<◌, ℕ, suc, List, [], ◌∷◌, ◌++◌, map, take, length, get_or, refl, ap, ◌∙◌}
+use Rattle.std.proofs.lemmas.Grind.{common_steps}
+use Rattle.std.proofs.Common.{rules}
+use Rattle.std.proofs.Common.{◌≡◌, ◌+◌, ◌<◌, ℕ, suc, List, [], ◌∷◌, ◌++◌, map, take, length, get_or, refl, ap}
 use Rattle.std.proofs.Common.{arith}
 use Rattle.std.proofs.lemmas.List.{take_more, length-take-le}
 use Rattle.aig_core.specs.declared.circuit.Latch.{Latch}
@@ -20,15 +22,11 @@ latches_behind : (v : ℕ) (n : NextState) (ns : List NextState)
     → latches_by v (ns ++ n ∷ []) ≡ latches_by v ns ++ with_next (v + length ns) n ∷ []
 unfolding latches_by
 latches_behind v n [] = let e : v + 0 ≡ v = omega arith in rw e refl
-latches_behind v n (m ∷ ns) =
-    let place : suc v + length ns ≡ v + length (m ∷ ns) = omega arith in
-    ap (λ (ls : List Latch). with_next v m ∷ ls) (rw place at (latches_behind (suc v) n ns))
+latches_behind v n (m ∷ ns) = search (rules, latches_behind (suc v) n ns)
 
 pub latches_more : (v i : ℕ) (d : NextState) (ns : List NextState) → i < length ns
     → latches_by v (take (i + 1) ns) ≡ latches_by v (take i ns) ++ with_next (v + i) (get_or ns i d) ∷ []
-latches_more v i d ns h =
-    let long : length (take i ns) ≡ i = length-take-le i ns (omega arith) in
-    ap (latches_by v) (take_more ns i d h) ∙ rw long at (latches_behind v (get_or ns i d) (take i ns))
+latches_more v i d ns h = grind (arith, common_steps, length-take-le, take_more, latches_behind)
 
 -- what rows tell of next states tells the latches of the rows
 pub latches_of_rows : (v : ℕ) (rows : List (List ℕ)) → latches_by v (map next_of rows) ≡ latches_from v rows

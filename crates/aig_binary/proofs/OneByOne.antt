@@ -1,4 +1,5 @@
 -- Reading gates one after another.
+use Rattle.std.proofs.Common.{rules}
 use Rattle.std.proofs.Common.{◌≡◌, ◌+◌, ◌-◌, ◌<◌, ◌≤◌, ℕ, suc, List, [], ◌∷◌, ◌++◌, Result, Ok, Err, refl, sym, ap}
 use Rattle.std.proofs.Common.{◌∙◌, append_assoc, append-nil, arith}
 use Rattle.aig_core.specs.declared.circuit.Gate.{Gate}
@@ -62,9 +63,4 @@ gates_wrong v i count bytes found kind whole l h w =
 pub gates_done : (v i count : ℕ) (bytes : List ℕ) (found : List Gate) (whole : Result (List Gate × List ℕ) ReadFault)
     → count ≤ i
     → gates_found found (gates_at (v + i) (i + 1) (count - i) bytes) ≡ whole → whole ≡ Ok (found, bytes)
-gates_done v i count bytes found whole l w =
-    let none : count - i ≡ 0 = omega arith in
-    sym w
-    ∙ rw none
-    (ap (gates_found found) (none_left (v + i) (i + 1) bytes)
-    ∙ ap (λ (gs : List Gate). Ok (gs, bytes)) (append-nil found))
+gates_done v i count bytes found whole l w = search (rules, none_left, append-nil)

@@ -1,4 +1,5 @@
 -- The steps of reading a binary file, one after another.
+use Rattle.std.proofs.Common.{rules}
 use Rattle.std.proofs.lemmas.List.{length-map}
 use Rattle.std.proofs.Common.{◌≡◌, ◌+◌, ℕ, zero, suc, List, [], ◌∷◌, map, length, Ok, Err, refl, sym, ap, ◌∙◌, ◌⊎◌}
 use Rattle.std.specs.Prelude.{slice_index}
@@ -29,10 +30,7 @@ module _ (h : Header) (c : Circuit) where
   pub nexts_make_latches : (r : Found (List (List ℕ))) (nexts : List NextState) (after : Ahead)
       → rows_meant next_of [] r ≡ Ok (nexts, after)
       → (r >>= with_nexts) ≡ Ok (record c { latches = latches_by (1 + h.inputs) nexts }, after)
-  nexts_make_latches (Ok x) nexts after found =
-      let p : (map next_of x.0, x.1) ≡ (nexts, after) = cc in
-      ap (λ ls. Ok (record c { latches = ls }, x.1)) (sym (latches_of_rows (1 + h.inputs) x.0))
-      ∙ ap (λ (q : List NextState × Ahead). Ok (record c { latches = latches_by (1 + h.inputs) q.0 }, q.1)) p
+  nexts_make_latches (Ok x) nexts after found = search (rules, latches_of_rows)
   nexts_make_latches (Err e) nexts after found = cc
 
   no_nexts : (r : Found (List (List ℕ))) (e : ReadFault) → rows_meant next_of [] r ≡ Err e
@@ -90,9 +88,7 @@ rows_count : (form : Form) (bound carried count : ℕ) (at after : Ahead) (rows 
     → rows_at form bound carried count at ≡ Ok (rows, after)
     → length rows ≡ count
 unfolding rows_at
-rows_count form bound carried zero at after rows h =
-    let p : ◌≡◌ {A = List (List ℕ) × Ahead} ([], at) (rows, after) = cc in
-    ap (λ (q : List (List ℕ) × Ahead). length q.0) (sym p)
+rows_count form bound carried zero at after rows h = search rules
 rows_count form bound carried (suc count) at after rows h =
     let one = both_ok (row_at form bound carried at) _ (rows, after) h in
     let next : ℕ = carried_on form.first carried (slice_index one.0.0 0) in
@@ -104,17 +100,10 @@ rows_count form bound carried (suc count) at after rows h =
 found_rows : (r : Found (List (List ℕ))) (ns : List NextState) (after : Ahead)
     → rows_meant next_of [] r ≡ Ok (ns, after)
     → (rows : List (List ℕ)) × (r ≡ Ok (rows, after)) × (ns ≡ map next_of rows)
-found_rows (Ok x) ns after h =
-    let p : (map next_of x.0, x.1) ≡ (ns, after) = cc in (
-      x.0,
-      ap (λ (q : List NextState × Ahead). Ok (x.0, q.1)) p,
-      sym (ap (λ (q : List NextState × Ahead). q.0) p),
-    )
+found_rows (Ok x) ns after h = search rules
 found_rows (Err e) ns after h = cc
 
 pub found_count : (bound start count : ℕ) (at after : Ahead) (ns : List NextState)
     → rows_meant next_of [] (rows_at next_form bound start count at) ≡ Ok (ns, after)
     → length ns ≡ count
-found_count bound start count at after ns h =
-    let a = found_rows (rows_at next_form bound start count at) ns after h in
-    ap length a.2 ∙ length-map a.0 next_of ∙ rows_count next_form bound start count at after a.0 a.1
+found_count bound start count at after ns h = search (rules, found_rows, length-map, rows_count)

@@ -1,5 +1,6 @@
 -- What the binary writer has put, part by part.
-use Rattle.std.proofs.Common.{◌≡◌, ◌+◌, ◌≤◌, ℕ, suc, List, [], ◌∷◌, ◌++◌, map, length, take, drop, take-add, ap, subst, ◌∙◌}
+use Rattle.std.proofs.Common.{rules}
+use Rattle.std.proofs.Common.{◌≡◌, ◌+◌, ◌≤◌, ℕ, suc, List, [], ◌∷◌, ◌++◌, length, take, drop, take-add, ap, subst, ◌∙◌}
 use Rattle.std.proofs.Common.{arith, sym}
 use Rattle.std.specs.List.{All, AllByRecursion, flat_map}
 use Rattle.std.proofs.lemmas.List.Concat.{flat_map-append}
@@ -13,7 +14,7 @@ use Rattle.aig_core.specs.declared.circuit.Latch.{Latch}
 use Rattle.aig_core.specs.declared.circuit.Gate.{Gate}
 use Rattle.aig_core.specs.declared.circuit.Circuit.{Circuit}
 use Rattle.aig_text.specs.AsciiText.{line_text, row_text}
-use Rattle.aig_text.specs.Rows.{row, next_form, next_row, literal_rows_of}
+use Rattle.aig_text.specs.Rows.{next_row, literal_rows_of}
 use Rattle.aig_binary.specs.BinaryGrammar.{binary_rows_of}
 use Rattle.aig_core.specs.BinaryOrder.{AreOrderedGates, IsInBinaryOrder}
 use Rattle.aig_binary.specs.BinaryText.{HasDeltas, gate_text}
@@ -33,10 +34,7 @@ pieces_put a b c gs at count text before is put =
 pub lines_text : (c : Circuit)
     → flat_map (λ (l : Latch). row_text 0 (next_row l)) c.latches ++ flat_map line_text (literal_rows_of c)
     ≡ flat_map line_text (binary_rows_of c)
-lines_text c =
-    sym
-    (flat_map-append line_text (map (row next_form) (map next_row c.latches)) (literal_rows_of c)
-    ∙ ap (λ (t : List ℕ). t ++ flat_map line_text (literal_rows_of c)) (simp flat_map-map))
+lines_text c = search (rules, flat_map-append, flat_map-map)
 
 deltas_from : (n : ℕ) (gs : List Gate) → AreOrderedGates n gs → n + length gs ≤ LARGEST + 1
     → AllByRecursion HasDeltas gs
@@ -47,10 +45,7 @@ deltas_from n (g ∷ gs) h top =
 
 -- in binary order each gate has its deltas
 pub gates_have_deltas : (c : Circuit) → IsWithinLimits c → IsInBinaryOrder c → AllByRecursion HasDeltas c.gates
-gates_have_deltas c limits ordered =
-    let top : c.max_var ≤ LARGEST = limits.max_var in
-    let all = ordered.all in
-    deltas_from (1 + length c.inputs + length c.latches) c.gates ordered.gates (omega arith)
+gates_have_deltas c limits ordered = search (rules, deltas_from)
 
 pub has_deltas : (c : Circuit) → IsWithinLimits c → IsInBinaryOrder c → All HasDeltas c.gates
 has_deltas c limits ordered = All-from_recursion HasDeltas c.gates (gates_have_deltas c limits ordered)

@@ -1,4 +1,5 @@
 -- How many digits a number has.
+use Rattle.std.proofs.Common.{rules}
 use Rattle.std.proofs.Common.{◌≡◌, ◌+◌, ◌/◌, ◌%◌, ◌<◌, ◌≤◌, ◌^◌, ℕ, [], ◌∷◌, length, arith, ap, ◌∙◌, length-append}
 use Rattle.std.specs.Fmt.{decimal}
 use Rattle.std.proofs.lemmas.Fmt.{decimal_digit, decimal_step}
@@ -41,19 +42,8 @@ length_10 n high low = longer n 9 (omega arith) (omega arith) (length_9 (n / 10)
 
 -- without its last five digits
 five_less : (n : ℕ) → 100000 ≤ n → n < 2 ^ 64 → length (decimal n) ≡ length (decimal (n / 100000)) + 5
-five_less n high small =
-    let last : n / 10 / 10 / 10 / 10 / 10 ≡ n / 100000 = omega arith in
-    rw (← last) (omega (
-      arith,
-      length_step n (omega arith) small,
-      length_step (n / 10) (omega arith) (omega arith),
-      length_step (n / 10 / 10) (omega arith) (omega arith),
-      length_step (n / 10 / 10 / 10) (omega arith) (omega arith),
-      length_step (n / 10 / 10 / 10 / 10) (omega arith) (omega arith),
-    ))
+five_less n high small = search (rules, length_step)
 
 -- without its last ten digits
 pub ten_less : (n : ℕ) → 10000000000 ≤ n → n < 2 ^ 64 → length (decimal n) ≡ length (decimal (n / 10000000000)) + 10
-ten_less n high small =
-    let last : n / 100000 / 100000 ≡ n / 10000000000 = omega arith in
-    rw (← last) (omega (arith, five_less n (omega arith) small, five_less (n / 100000) (omega arith) (omega arith)))
+ten_less n high small = search (rules, five_less)

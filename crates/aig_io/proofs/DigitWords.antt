@@ -1,4 +1,5 @@
 -- The digits of a number in the bytes of a word.
+use Rattle.std.proofs.Common.{rules}
 use Rattle.std.proofs.Common.{◌≡◌, ◌+◌, ◌-◌, ◌*◌, ◌/◌, ◌%◌, ◌^◌, ◌<◌, ℕ, arith, refl, ap, ◌∙◌}
 use Rattle.std.specs.Int.Bits.{bit_and}
 use Rattle.std.proofs.lemmas.Nat.{and_block, and_mask}
@@ -34,14 +35,7 @@ fours x =
 -- a hundredth of each half
 hundreds : (a b : ℕ) → a < 10000 → b < 10000
     → bit_and ((a + 4294967296 * b) * 10486 % 2 ^ 64 / 1048576) 0x0000_007f_0000_007f ≡ b / 100 * 2 ^ 32 + a / 100
-hundreds a b low high =
-    let x = (a + 4294967296 * b) * 10486 % 2 ^ 64 / 1048576 in
-    let whole : x ≡ (a * 10486 + b * 10486 * 4294967296) / 1048576 = omega arith in
-    let first : a * 10486 / 1048576 ≡ a / 100 = omega arith in
-    let second : b * 10486 / 1048576 ≡ b / 100 = omega arith in
-    let up : x / 2 ^ 32 % 128 ≡ b / 100 = omega arith in
-    let down : x % 2 ^ 32 % 128 ≡ a / 100 = omega arith in
-    sevens x ∙ (λ i. up i * 2 ^ 32 + down i)
+hundreds a b low high = search (rules, sevens)
 
 pub quarters_are : (a b word : ℕ) → a < 10000 → b < 10000 → word ≡ a + 4294967296 * b
     → (word * 65536 % 2 ^ 64 + (2 ^ 64 - bit_and (word * 10486 % 2 ^ 64 / 1048576) 545460846719 * 6553599 % 2 ^ 64))
@@ -53,19 +47,11 @@ quarters_are a b word low high e = rw (e, hundreds a b low high) (omega arith)
 tens : (a b c d : ℕ) → a < 100 → b < 100 → c < 100 → d < 100
     → bit_and ((a + 65536 * (b + 65536 * (c + 65536 * d))) * 103 % 2 ^ 64 / 1024) 0x000f_000f_000f_000f
     ≡ (d / 10 * 2 ^ 16 + c / 10) * 2 ^ 32 + (b / 10 * 2 ^ 16 + a / 10)
-tens a b c d A B C D =
-    let x = (a + 65536 * (b + 65536 * (c + 65536 * d))) * 103 % 2 ^ 64 / 1024 in
-    let first : x % 2 ^ 16 % 16 ≡ a / 10 = omega arith in
-    let second : x / 2 ^ 16 % 2 ^ 16 % 16 ≡ b / 10 = omega arith in
-    let third : x / 2 ^ 32 % 2 ^ 16 % 16 ≡ c / 10 = omega arith in
-    let fourth : x / 2 ^ 48 % 16 ≡ d / 10 = omega arith in
-    fours x ∙ (λ i. (fourth i * 2 ^ 16 + third i) * 2 ^ 32 + (second i * 2 ^ 16 + first i))
+tens a b c d A B C D = search (rules, fours)
 
 pub eighths_are : (a b c d word : ℕ) → a < 100 → b < 100 → c < 100 → d < 100
     → word ≡ a + 65536 * (b + 65536 * (c + 65536 * (d + 0)))
     → (word * 256 % 2 ^ 64 + (2 ^ 64 - bit_and (word * 103 % 2 ^ 64 / 1024) 4222189076152335 * 2559 % 2 ^ 64)) % 2 ^ 64
     ≡ a / 10 + 256 * (a % 10 + 256 * (b / 10
     + 256 * (b % 10 + 256 * (c / 10 + 256 * (c % 10 + 256 * (d / 10 + 256 * (d % 10 + 0)))))))
-eighths_are a b c d word A B C D e =
-    let plain : word ≡ a + 65536 * (b + 65536 * (c + 65536 * d)) = omega arith in
-    rw (plain, tens a b c d A B C D) (omega arith)
+eighths_are a b c d word A B C D e = search (rules, tens)

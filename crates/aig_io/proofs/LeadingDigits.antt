@@ -1,6 +1,7 @@
 -- The zeros before a number in its eight digits.
+use Rattle.std.proofs.Common.{rules}
 use Rattle.std.proofs.Common.{◌≡◌, ◌+◌, ◌-◌, ◌*◌, ◌/◌, ◌%◌, ◌^◌, ◌<◌, ◌≤◌, ℕ, zero, suc, List, [], ◌∷◌, ◌++◌, length}
-use Rattle.std.proofs.Common.{map, take, get_or, arith, refl, sym, ap, ◌∙◌, append_assoc, append-nil, length-append, eq-zero-or-pos}
+use Rattle.std.proofs.Common.{map, take, get_or, arith, refl, sym, ap, ◌∙◌, append_assoc, length-append, eq-zero-or-pos}
 use Rattle.std.proofs.Common.{inl, inr}
 use Rattle.std.proofs.lemmas.Nat.{mod-pow-add, shr-shr, le_bytes_8}
 use Rattle.std.proofs.Math.Nat.{div-div-eq-div-mul, pow-suc}
@@ -21,10 +22,7 @@ use Rattle.aig_io.specs.Digits.{last_digits}
 
 double : (k x : ℕ) → count_trailing_zeros (suc k) (2 * x) ≡ suc (count_trailing_zeros k x)
 unfolding count_trailing_zeros
-double k x =
-    let even : 2 * x % 2 ≡ 0 = omega arith in
-    let half : 2 * x / 2 ≡ x = omega arith in
-    rw (even, half) refl
+double k x = search rules
 
 -- a byte that is 0 has eight zeros
 zero_byte : (k x : ℕ) → count_trailing_zeros (8 + k) (256 * x) ≡ 8 + count_trailing_zeros k x
@@ -263,10 +261,7 @@ eight_fit n (suc (suc (suc (suc (suc (suc (suc (suc i)))))))) = omega arith
 -- the bytes of the word, as characters
 pub eight_bytes : (n digits : ℕ) → digits ≡ number_l 256 (last_digits 8 n)
     → to_le_bytes w64 (digits + 0x3030_3030_3030_3030) ≡ map (λ d. 48 + d) (last_digits 8 n)
-eight_bytes n digits e =
-    let glyphs : digits + 0x3030_3030_3030_3030 ≡ number_l 256 (map (λ d. 48 + d) (last_digits 8 n)) = omega arith in
-    le_bytes_8 (map (λ d. 48 + d) (last_digits 8 n)) _ refl (eight_fit n)
-    (glyphs ∙ word_is (map (λ d. 48 + d) (last_digits 8 n)) refl)
+eight_bytes n digits e = search rules
 
 some_power : (count : ℕ) → 0 < 10 ^ count
 some_power zero = omega arith
@@ -275,9 +270,7 @@ some_power (suc count) = omega (arith, pow-suc 10 count, some_power count)
 -- the last digits of a number come behind those of what is left without them
 last_of : (count n : ℕ) → 10 ^ count ≤ n → n < 2 ^ 64
     → decimal n ≡ decimal (n / 10 ^ count) ++ map (λ d. 48 + d) (last_digits count n)
-last_of zero n some fits =
-    let whole : n / 10 ^ 0 ≡ n = omega arith in
-    rw whole (sym (append-nil (decimal n)))
+last_of zero n some fits = search rules
 last_of (suc count) n some fits =
     let power : 10 ^ suc count ≡ 10 * 10 ^ count = omega (arith, pow-suc 10 count) in
     let before : n / 10 / 10 ^ count ≡ n / 10 ^ suc count = div-div-eq-div-mul n 10 (10 ^ count) ∙ ap (λ k. n / k) (sym power) in
@@ -290,18 +283,7 @@ last_of (suc count) n some fits =
 
 -- the last eight digits, of the number or of what eight digits leave
 same_last : (n : ℕ) → last_digits 8 (n % 100_000_000) ≡ last_digits 8 n
-same_last n =
-    let e0 : n % 100_000_000 % 10 ≡ n % 10 = omega arith in
-    let e1 : n % 100_000_000 / 10 % 10 ≡ n / 10 % 10 = omega arith in
-    let e2 : n % 100_000_000 / 10 / 10 % 10 ≡ n / 10 / 10 % 10 = omega arith in
-    let e3 : n % 100_000_000 / 10 / 10 / 10 % 10 ≡ n / 10 / 10 / 10 % 10 = omega arith in
-    let e4 : n % 100_000_000 / 10 / 10 / 10 / 10 % 10 ≡ n / 10 / 10 / 10 / 10 % 10 = omega arith in
-    let e5 : n % 100_000_000 / 10 / 10 / 10 / 10 / 10 % 10 ≡ n / 10 / 10 / 10 / 10 / 10 % 10 = omega arith in
-    let e6 : n % 100_000_000 / 10 / 10 / 10 / 10 / 10 / 10 % 10 ≡ n / 10 / 10 / 10 / 10 / 10 / 10 % 10 =
-    omega arith in
-    let e7 : n % 100_000_000 / 10 / 10 / 10 / 10 / 10 / 10 / 10 % 10 ≡ n / 10 / 10 / 10 / 10 / 10 / 10 / 10 % 10 =
-    omega arith in
-    λ i. e7 i ∷ e6 i ∷ e5 i ∷ e4 i ∷ e3 i ∷ e2 i ∷ e1 i ∷ e0 i ∷ []
+same_last n = search rules
 
 -- a number of more than eight digits: what is left without the last eight, and these
 pub double_text : (n : ℕ) → 10 ^ 8 ≤ n → n < 2 ^ 64
@@ -312,9 +294,4 @@ double_text n some fits = last_of 8 n some fits
 -- a text behind a beginning, and what follows it
 pub text_stands : (at m : ℕ) (front text behind after : List ℕ) → length front ≡ at → m ≡ at + length text
     → take m (front ++ ((text ++ behind) ++ after)) ≡ front ++ text
-text_stands at m front text behind after long end =
-    let place : m ≡ length front + length text = omega arith in
-    ap (λ k. take k (front ++ ((text ++ behind) ++ after))) place
-    ∙ take-append-add front ((text ++ behind) ++ after) (length text)
-    ∙ ap (λ (xs : List ℕ). front ++ xs) (ap (take (length text)) (append_assoc text behind after)
-    ∙ take-append_seam text (behind ++ after))
+text_stands at m front text behind after long end = search (rules, take-append-add, append_assoc, take-append_seam)

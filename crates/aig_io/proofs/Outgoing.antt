@@ -1,6 +1,9 @@
 -- Texts that go out through a block, one after another. A writer of several texts joins their contracts by these.
+use Rattle.std.proofs.lemmas.Grind.{common_steps}
+use Rattle.std.proofs.Common.{arith}
+use Rattle.std.proofs.Common.{rules}
 use Rattle.std.proofs.Common.{◌≡◌, ℕ, ◌+◌, List, [], ◌++◌, Option, None, Some, Result, Ok, Err, OnErr, take, min}
-use Rattle.std.proofs.Common.{length, refl, sym, ap, subst, ◌∙◌, append_assoc}
+use Rattle.std.proofs.Common.{length, refl, sym, subst, ◌∙◌, append_assoc}
 use Rattle.std.proofs.lemmas.List.{append-nil, take_min, take-append-le}
 use Rattle.std.proofs.Math.Seq.{take-append-add}
 use Rattle.std.proofs.Math.Nat.{min-le_right}
@@ -11,17 +14,11 @@ use Rattle.aig_io.proofs.KnownBytes.{appends_twice}
 -- what was sent, then what is left, are what was held and both texts
 joined : (h0 h1 h2 s1 s2 xs ys : List ℕ) → h0 ++ xs ≡ s1 ++ h1 → h1 ++ ys ≡ s2 ++ h2
     → h0 ++ (xs ++ ys) ≡ (s1 ++ s2) ++ h2
-joined h0 h1 h2 s1 s2 xs ys p q =
-    sym (append_assoc h0 xs ys) ∙ ap (λ (zs : List ℕ). zs ++ ys) p ∙ append_assoc s1 h1 ys
-    ∙ ap (λ (zs : List ℕ). s1 ++ zs) q ∙ sym (append_assoc s1 s2 h2)
+joined h0 h1 h2 s1 s2 xs ys p q = grind (arith, common_steps)
 
 pub went_out_twice : (a b c : Option (List ℕ)) (h0 h1 h2 xs ys : List ℕ) → WentOut a b h0 h1 xs → WentOut b c h1 h2 ys
     → WentOut a c h0 h2 (xs ++ ys)
-went_out_twice a b c h0 h1 h2 xs ys p q = record {
-  sent = p.sent ++ q.sent;
-  took = appends_twice a b c p.sent q.sent p.took q.took;
-  order = joined h0 h1 h2 p.sent q.sent xs ys p.order q.order;
-}
+went_out_twice a b c h0 h1 h2 xs ys p q = search (rules, appends_twice, joined)
 
 -- what the sink took before, and then the first n bytes of a text
 took_before : (a b c : Option (List ℕ)) (sent h : List ℕ) (n : ℕ) → Appends a b sent → Appends b c (take n h)
@@ -30,14 +27,7 @@ took_before a b c sent h n p q = rw take-append-add (appends_twice a b c sent (t
 
 pub beginning_after : (a b c : Option (List ℕ)) (h0 h1 xs ys : List ℕ) → WentOut a b h0 h1 xs
     → TookBeginning b c (h1 ++ ys) → TookBeginning a c (h0 ++ (xs ++ ys))
-beginning_after a b c h0 h1 xs ys p q =
-    let all : p.sent ++ (h1 ++ ys) ≡ h0 ++ (xs ++ ys) =
-    sym (sym (append_assoc h0 xs ys) ∙ ap (λ (zs : List ℕ). zs ++ ys) p.order ∙ append_assoc p.sent h1 ys) in
-    record {
-      count = length p.sent + q.count;
-      took = subst (λ (zs : List ℕ). Appends a c (take (length p.sent + q.count) zs)) all
-          (took_before a b c p.sent (h1 ++ ys) q.count p.took q.took);
-    }
+beginning_after a b c h0 h1 xs ys p q = search (rules, append_assoc, took_before)
 
 -- a beginning of a text is one of each longer text
 beginning_of_more : (a b : Option (List ℕ)) (xs ys : List ℕ) → TookBeginning a b xs → TookBeginning a b (xs ++ ys)
@@ -48,8 +38,7 @@ beginning_of_more a b xs ys p =
 
 pub beginning_longer : (a b : Option (List ℕ)) (h xs ys : List ℕ) → TookBeginning a b (h ++ xs)
     → TookBeginning a b (h ++ (xs ++ ys))
-beginning_longer a b h xs ys p =
-    subst (λ (zs : List ℕ). TookBeginning a b zs) (append_assoc h xs ys) (beginning_of_more a b (h ++ xs) ys p)
+beginning_longer a b h xs ys p = search (rules, append_assoc, beginning_of_more)
 
 appends_none : (a : Option (List ℕ)) → Appends a a []
 appends_none None = tt

@@ -1,73 +1,35 @@
 -- Texts that are put one after another.
-use Rattle.std.proofs.Common.{◌≡◌, ◌+◌, ◌<◌, ◌++◌, ◌∷◌, ℕ, List, [], Bool, true, false, length, take, drop, get_or}
-use Rattle.std.proofs.Common.{take-add, arith, refl, sym, ap, subst, ◌∙◌}
+use Rattle.std.proofs.lemmas.Grind.{common_steps}
+use Rattle.std.proofs.Common.{rules}
+use Rattle.std.proofs.Common.{◌≡◌, ◌+◌, ◌<◌, ◌++◌, ℕ, List, [], Bool, true, false, length, take, drop, get_or}
+use Rattle.std.proofs.Common.{take-add, arith, sym, ap, subst, ◌∙◌}
 use Rattle.std.specs.List.{flat_map}
-use Rattle.std.proofs.lemmas.List.{append-nil, take-append-drop, take_more}
-use Rattle.std.proofs.lemmas.List.Concat.{flat_map-append}
-use Rattle.std.proofs.lemmas.Bool.{false≢true}
+use Rattle.std.proofs.lemmas.List.{append-nil, take-append-drop}
 use Rattle.aig_io.specs.Output.{IsLeftAlone, Out, Put}
 use Rattle.aig_io.specs.Transfer.{TookBeginning}
-use Rattle.aig_io.proofs.Outgoing.{beginning_after, beginning_longer, kept, went_out_twice}
+use Rattle.aig_io.proofs.Outgoing.{beginning_after, beginning_longer, went_out_twice}
 
 -- the texts of one item more
 text_of_more : {X : Type 0} (f : X → List ℕ) (xs : List X) (i : ℕ) (d : X) → i < length xs
     → flat_map f (take i xs) ++ f (get_or xs i d) ≡ flat_map f (take (i + 1) xs)
-text_of_more f xs i d low =
-    sym (ap (flat_map f) (take_more xs i d low) ∙ flat_map-append f (take i xs) (get_or xs i d ∷ [])
-    ∙ ap (λ (ys : List ℕ). flat_map f (take i xs) ++ ys) (append-nil (f (get_or xs i d))))
+text_of_more f xs i d low = grind (arith, common_steps)
 
 module _ {W : Type 0} where
   begun_twice : (a b c : Out W) (t u : List ℕ) (failed : Bool) → b.failed ≡ failed → Put a b t → Put b c u
       → a.failed ≡ false → c.failed ≡ true
       → (c.failures ≡ a.failures + 1) × TookBeginning a.taken c.taken (a.held ++ (t ++ u))
-  begun_twice a b c t u true e p q start end =
-      let began = p.begun start e in
-      let still = (q.stopped e).1 in (
-        still.failures ∙ began.0,
-        subst (λ taken. TookBeginning a.taken taken (a.held ++ (t ++ u))) (sym still.taken)
-            (beginning_longer a.taken b.taken a.held t u began.1),
-      )
-  begun_twice a b c t u false e p q start end =
-      let went = p.went e in
-      let began = q.begun e end in (
-        began.0 ∙ ap (λ n. n + 1) went.1,
-        beginning_after a.taken b.taken c.taken a.held b.held t u went.2 began.1,
-      )
+  begun_twice a b c t u true e p q start end = search (rules, beginning_longer)
+  begun_twice a b c t u false e p q start end = search (rules, beginning_after)
 
   left_alone_twice : (a b c : Out W) → IsLeftAlone a b → IsLeftAlone b c → IsLeftAlone a c
-  left_alone_twice a b c p q = record {
-    taken = q.taken ∙ p.taken;
-    longest = q.longest ∙ p.longest;
-    failures = q.failures ∙ p.failures;
-  }
+  left_alone_twice a b c p q = search rules
 
   pub put_twice : (a b c : Out W) (t u : List ℕ) → Put a b t → Put b c u → Put a c (t ++ u)
-  put_twice a b c t u p q = record {
-    same = q.same ∙ p.same;
-    went = λ e.
-        let second = q.went e in
-        let first = p.went second.0 in (
-          first.0,
-          second.1 ∙ first.1,
-          went_out_twice a.taken b.taken c.taken a.held b.held c.held t u first.2 second.2,
-        );
-    begun = begun_twice a b c t u b.failed refl p q;
-    stopped = λ e.
-        let first = p.stopped e in
-        let second = q.stopped first.0 in
-        (second.0, left_alone_twice a b c first.1 second.1);
-    short = omega (arith, p.short, q.short);
-  }
+  put_twice a b c t u p q = search (rules, went_out_twice, begun_twice, left_alone_twice)
 
   -- a text is put into the block alone
   held : (a b : Out W) (text : List ℕ) → b ≡ record a { held = a.held ++ text } → Put a b text
-  held a b text e = rw e record {
-    same = refl;
-    went = λ f. (f, refl, kept a.taken a.held text);
-    begun = λ f g. absurd (false≢true (sym f ∙ g));
-    stopped = λ f. (f, record { taken = refl; longest = refl; failures = refl });
-    short = omega arith;
-  }
+  held a b text e = search rules
 
   -- nothing is put, and nothing is sent
   pub put_nothing : (a : Out W) → Put a a []

@@ -1,8 +1,9 @@
 -- Lines that are taken by a reader, one after the other.
+use Rattle.std.proofs.Common.{rules}
 use Rattle.std.proofs.Common.{◌≡◌, ◌≢◌, ◌==◌, ◌+◌, ℕ, zero, suc, List, [], ◌∷◌, ◌++◌, Bool, true, false, Option, Some}
 use Rattle.std.proofs.Common.{None}
 use Rattle.std.proofs.Common.{length, map, take, codes, refl, sym, ap, ap₂, subst, ◌∙◌, append_assoc, append-nil, arith}
-use Rattle.std.proofs.Common.{◌<◌, drop, get_or, inl, inr}
+use Rattle.std.proofs.Common.{◌<◌, drop, get_or}
 use Rattle.std.proofs.lemmas.Bool.{cases_lt, eqb-false, eqb-true}
 use Rattle.std.proofs.lemmas.List.{take_all, length-take-le}
 use Rattle.std.proofs.lemmas.Simd.{map-map}
@@ -73,13 +74,7 @@ nothing_kept n (b ∷ bs) none = cc
 -- a line that is too long is as bad as what is kept of it
 kept_says : (inputs : ℕ) (text : List ℕ) (ended : Bool)
     → entry_of inputs (line (take (inputs + 3) text) ended) ≡ entry_of inputs (line text ended)
-kept_says inputs text ended =
-    elim (cases_lt (inputs + 2) (length text)) [
-      | inl long ↦ too_long inputs (take (inputs + 3) text) ended
-          (omega (arith, length-take-le (inputs + 3) text (omega arith)))
-          ∙ sym (too_long inputs text ended long)
-      | inr short ↦ ap (λ (t : List ℕ). entry_of inputs (line t ended)) (take_all (inputs + 3) text (omega arith))
-    ]
+kept_says inputs text ended = search (rules, cases_lt, too_long, length-take-le, take_all)
 
 -- behind a bad line nothing closes a run
 closing_bad : (ended : Bool) (number : ℕ) (has_step : Bool) → closing ended (Some number) has_step ≡ []
@@ -256,18 +251,7 @@ module _ (c : Circuit) (columns : Columns) (bytes text : List ℕ) (at : Reading
   -- bytes without a line feed came
   pub took_rest : (piece : List ℕ) (new : Reading) → HasNoLineFeed piece → at.kept.room ≡ length c.inputs + 3
       → new ≡ record at { kept = keeping_more at.kept piece } → IsAt c columns (bytes ++ piece) text new
-  took_rest piece new none room is = rw is record {
-    means = stands.means;
-    same_columns = stands.same_columns;
-    lines = stands.lines;
-    rest = stands.rest ++ piece;
-    entries = stands.entries;
-    heard = heard_more (length c.inputs) bytes stands.lines stands.rest stands.entries stands.heard piece none;
-    number = stands.number;
-    kept = ap₂ (λ (n : ℕ) (t : List ℕ). take n (t ++ piece)) room stands.kept
-        ∙ kept_twice (length c.inputs + 3) stands.rest piece;
-    goes = stands.goes;
-  }
+  took_rest piece new none room is = search (rules, heard_more, kept_twice)
 
   -- the last line has ended before
   pub last_none : {W : Type 0} (a b : Out W) (after : Tracing) → at.kept.bytes ≡ [] → after ≡ at.tracing → b ≡ a
@@ -404,17 +388,7 @@ module _ {W : Type 0} (c : Circuit) (columns : Columns) (bytes text chunk rest :
   pub passed_rest : (new : Reading) → HasNoLineFeed rest
       → at.kept.room ≡ length at.tracing.circuit.inputs + 3
       → new ≡ record at { kept = keeping_more at.kept rest } → Advanced c columns (bytes ++ chunk) text new a b
-  passed_rest new none room is =
-      let stands = p.advanced.stands in
-      let all : (bytes ++ p.passed) ++ rest ≡ bytes ++ chunk =
-      append_assoc bytes p.passed rest ∙ ap (λ (t : List ℕ). bytes ++ t) (sym p.parted) in
-      record {
-        more = p.advanced.more;
-        stands = subst (λ (bs : List ℕ). IsAt c columns bs (text ++ p.advanced.more) new) all
-            (took_rest c columns (bytes ++ p.passed) (text ++ p.advanced.more) at stands rest new none
-            (room ∙ ap (λ (n : ℕ). n + 3) stands.means.inputs) is);
-        put = p.advanced.put;
-      }
+  passed_rest new none room is = search (rules, append_assoc, took_rest)
 
 -- the first line of some bytes was a step
 pub passed_step : {W : Type 0} (c : Circuit) (columns : Columns) (bytes text rest : List ℕ) (at new : Reading)

@@ -1,5 +1,6 @@
 -- What comes of the bytes of a witness file.
-use Rattle.std.proofs.Common.{◌≡◌, ◌∙◌, ◌++◌, ℕ, List, [], Bool, true, false, Option, Some, length}
+use Rattle.std.proofs.Common.{rules}
+use Rattle.std.proofs.Common.{◌≡◌, ◌∙◌, ◌++◌, ℕ, List, [], Bool, false, Option, Some, length}
 use Rattle.std.proofs.Common.{refl, sym, ap, subst, append-nil}
 use Rattle.std.proofs.lemmas.Bool.{false≢true}
 use Rattle.std.specs.Io.KnownBytes.{Consumes, IsAtEnd, Keeps}
@@ -20,16 +21,7 @@ use Rattle.aig_sim.proofs.WitnessReading.{none_wrong_so_far}
 -- a claim that was followed to its end has its verdict
 pub concluded : (c : Circuit) (bytes : List ℕ) (w : Witnessing) (v : Verdict) → HasFollowed c bytes w
     → v ≡ verdict_of w.search.found → Concluded c bytes v
-concluded c bytes w v followed is = record {
-  claim = followed.claim;
-  says = followed.says;
-  none_bad = followed.none_bad;
-  is_verdict = rw is (record {
-    rows = followed.follows.rows;
-    trace = rw (sym followed.same) followed.follows.trace;
-    is_verdict = followed.follows.tells.found;
-  });
-}
+concluded c bytes w v followed is = search rules
 
 -- before the first byte
 pub reached_first : (c : Circuit) (at : WitnessReading) (coming : Option (List ℕ)) → IsAtLine c [] at
@@ -50,15 +42,7 @@ module _ (c : Circuit) (at : WitnessReading) (coming now left : Option (List ℕ
   pub wrong_among : (chunk : List ℕ) (n : ℕ) → Consumes now left chunk
       → first_bad_witness_line c (r.bytes ++ chunk) false ≡ Some n
       → NotJudged c (faults.BadWitness n) coming left
-  wrong_among chunk n gave wrong = record {
-    bytes = r.bytes ++ chunk;
-    ended = false;
-    came = record {
-      gave = consumes_twice coming now left r.bytes chunk r.gave gave;
-      end = λ never. absurd (false≢true never);
-    };
-    bad = wrong;
-  }
+  wrong_among chunk n gave wrong = search (rules, consumes_twice, false≢true)
 
   -- the source failed
   pub cut_off : Keeps now left → NotJudged c faults.ReadFailed coming left
@@ -74,25 +58,13 @@ module _ (c : Circuit) (at : WitnessReading) (coming now left : Option (List ℕ
 
   -- the bytes have ended
   pub judged : (v : Verdict) → Consumes now left [] → IsAtEnd left → Concluded c r.bytes v → Judged c v coming left
-  judged v gave end done = record {
-    bytes = r.bytes;
-    claim = done.claim;
-    gave = record { gave = no_more gave; end = end };
-    none_bad = done.none_bad;
-    says = done.says;
-    is_verdict = done.is_verdict;
-  }
+  judged v gave end done = search (rules, no_more)
 
   pub wrong_at_last : (e : SimFault) → Consumes now left [] → IsAtEnd left → NamesWrongLine c r.bytes e
       → NotJudged c e coming left
   wrong_at_last faults.OutOfMemory gave end wrong = absurd wrong
   wrong_at_last (faults.BadStimulus n) gave end wrong = absurd wrong
-  wrong_at_last (faults.BadWitness n) gave end wrong = record {
-    bytes = r.bytes;
-    ended = true;
-    came = record { gave = no_more gave; end = λ _. end };
-    bad = wrong;
-  }
+  wrong_at_last (faults.BadWitness n) gave end wrong = search (rules, no_more)
   wrong_at_last faults.ReadFailed gave end wrong = absurd wrong
   wrong_at_last faults.WriteFailed gave end wrong = absurd wrong
 
@@ -108,29 +80,13 @@ module _ (c d : Circuit) (means : MeansTheSame c d) (bad : length d.bad ≡ leng
       (sym same_shape)
 
   pub judged_too : (v : Verdict) (coming left : Option (List ℕ)) → Judged d v coming left → Judged c v coming left
-  judged_too v coming left j = record {
-    bytes = j.bytes;
-    claim = j.claim;
-    gave = j.gave;
-    none_bad = same_wrong j.bytes true ∙ j.none_bad;
-    says = ap (λ (s : Shape). witness_of s j.bytes true) (sym same_shape) ∙ j.says;
-    is_verdict = record {
-      rows = j.is_verdict.rows;
-      trace = (same_meaning_same_traces c d means j.claim.first j.claim.steps j.is_verdict.rows).1 j.is_verdict.trace;
-      is_verdict = j.is_verdict.is_verdict;
-    };
-  }
+  judged_too v coming left j = search (rules, same_wrong, same_shape, same_meaning_same_traces)
 
   pub not_judged_too : (e : SimFault) (coming left : Option (List ℕ)) → NotJudged d e coming left
       → NotJudged c e coming left
   not_judged_too faults.OutOfMemory coming left same = same
   not_judged_too (faults.BadStimulus n) coming left never = never
-  not_judged_too (faults.BadWitness n) coming left came = record {
-    bytes = came.bytes;
-    ended = came.ended;
-    came = came.came;
-    bad = same_wrong came.bytes came.ended ∙ came.bad;
-  }
+  not_judged_too (faults.BadWitness n) coming left came = search (rules, same_wrong)
   not_judged_too faults.ReadFailed coming left came = record {
     bytes = came.bytes;
     gave = came.gave;

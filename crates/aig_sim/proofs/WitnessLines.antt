@@ -1,4 +1,5 @@
 -- What the lines of a witness file say, line behind line, as its bytes come.
+use Rattle.std.proofs.Common.{rules}
 use Rattle.std.proofs.Common.{◌≡◌, ◌≢◌, ◌+◌, ℕ, suc, List, [], ◌∷◌, ◌++◌, Bool, true, false, length, Option, Some, None}
 use Rattle.std.proofs.Common.{Result, Ok, Err, refl, sym, ap, ◌∙◌, append_assoc, append-nil, arith}
 use Rattle.std.proofs.lemmas.List.{length_push}
@@ -63,12 +64,7 @@ module _ (shape : Shape) (bytes : List ℕ) (count : ℕ) (rest : List ℕ) (sai
     (heard : IsHeardAs shape bytes count rest said) where
   -- a piece without a line feed came
   pub said_more : (piece : List ℕ) → HasNoLineFeed piece → IsHeardAs shape (bytes ++ piece) count (rest ++ piece) said
-  said_more piece none = record {
-    whole = heard.whole;
-    seen = seen_more bytes heard.whole rest heard.seen piece none;
-    counted = heard.counted;
-    led = heard.led;
-  }
+  said_more piece none = search (rules, seen_more)
 
   -- a piece and a line feed came, which end a line that is due
   pub said_line : (piece : List ℕ) (next : Said) → HasNoLineFeed piece

@@ -1,4 +1,5 @@
 -- Bytes of a witness file that are taken by a reader, line by line.
+use Rattle.std.proofs.Common.{rules}
 use Rattle.std.proofs.Common.{◌≡◌, ◌≢◌, ◌+◌, ◌≤◌, ℕ, suc, List, [], ◌∷◌, ◌++◌, Bool, true, false, Some, None, Ok}
 use Rattle.std.proofs.Common.{length, take, max, Option, refl, sym, ap, ap₂, subst, ◌∙◌, append_assoc, append-nil, arith}
 use Rattle.aig_core.specs.declared.circuit.Circuit.{Circuit}
@@ -46,13 +47,7 @@ whole_followed c bytes lines w Nothing same stands none says wrong = let other =
 whole_followed c bytes lines w Version same stands none says wrong = let other = stands.0 in cc
 whole_followed c bytes lines w (Property p) same stands none says wrong = let other = stands.0 in cc
 whole_followed c bytes lines w (Steps claim) same stands none says wrong = let other = stands.0 in cc
-whole_followed c bytes lines w (Whole claim) same stands none says wrong = record {
-  claim = claim;
-  says = says;
-  none_bad = wrong;
-  same = same;
-  follows = stands.1;
-}
+whole_followed c bytes lines w (Whole claim) same stands none says wrong = search rules
 
 one_missing : (lines : ℕ) (w : Witnessing) (said : Said) → Stands w said → w.due ≢ due.Nothing
     → missing_line lines true said ≡ Some (lines + 1)
@@ -131,18 +126,7 @@ module _ (c : Circuit) (bytes : List ℕ) (at : WitnessReading) (stands : IsAtLi
   pub line_begun : (piece : List ℕ) (new : WitnessReading) → HasNoLineFeed piece
       → at.kept.room ≡ witness_room (shape_of c) → new ≡ record at { kept = keeping_more at.kept piece }
       → IsAtLine c (bytes ++ piece) new
-  line_begun piece new none room is = rw is (record {
-    same = stands.same;
-    few = stands.few;
-    lines = stands.lines;
-    rest = stands.rest ++ piece;
-    said = stands.said;
-    heard = said_more (shape_of c) bytes stands.lines stands.rest stands.said stands.heard piece none;
-    number = stands.number;
-    kept = ap₂ (λ (m : ℕ) (t : List ℕ). take m (t ++ piece)) room stands.kept
-        ∙ kept_twice (witness_room (shape_of c)) stands.rest piece;
-    stands = stands.stands;
-  })
+  line_begun piece new none room is = search (rules, said_more, kept_twice)
 
   -- the bytes have ended behind a line feed, or there are none
   pub ended_whole : (w : Witnessing) → at.kept.bytes ≡ [] → w ≡ at.checking → w.due ≡ due.Nothing
@@ -199,13 +183,7 @@ passed_nothing c bytes chunk at stands = record {
 module _ (c : Circuit) (bytes chunk rest : List ℕ) (at : WitnessReading) (p : PassedLines c bytes chunk rest at) where
   pub passed_one : (piece following : List ℕ) (new : WitnessReading) → rest ≡ piece ++ 10 ∷ following
       → IsAtLine c ((bytes ++ p.passed) ++ (piece ++ 10 ∷ [])) new → PassedLines c bytes chunk following new
-  passed_one piece following new is stands = record {
-    passed = p.passed ++ (piece ++ 10 ∷ []);
-    parted = p.parted ∙ ap (λ (t : List ℕ). p.passed ++ t)
-        (is ∙ sym (append_assoc piece (10 ∷ []) following))
-        ∙ sym (append_assoc p.passed (piece ++ 10 ∷ []) following);
-    stands = subst (λ (bs : List ℕ). IsAtLine c bs new) (append_assoc bytes p.passed (piece ++ 10 ∷ [])) stands;
-  }
+  passed_one piece following new is stands = search (rules, append_assoc)
 
   whole_chunk : (text : List ℕ) → rest ≡ text → (bytes ++ p.passed) ++ text ≡ bytes ++ chunk
   whole_chunk text is =

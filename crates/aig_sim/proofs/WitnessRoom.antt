@@ -1,4 +1,5 @@
 -- A line that is too long for a witness file is as wrong as what is kept of it.
+use Rattle.std.proofs.Common.{rules}
 use Rattle.std.proofs.Common.{◌≡◌, ◌≢◌, ◌+◌, ◌-◌, ◌*◌, ◌<◌, ◌≤◌, ◌==◌, ◌&&◌, ℕ, zero, suc, List, [], ◌∷◌, Bool}
 use Rattle.std.proofs.Common.{true, false, length, Option, Some, None, refl, sym, ap, ◌∙◌, arith, take, drop, max}
 use Rattle.std.proofs.Common.{codes, bytes_eq, fold, inl, inr, not, nat_le, nat_lt, if◌then◌else◌, option_map}
@@ -8,7 +9,6 @@ use Rattle.std.proofs.lemmas.Slice.Eq.{bytes_eq-Decides}
 use Rattle.std.proofs.lemmas.List.{length-take-le, take_all, take-append-drop}
 use Rattle.std.proofs.lemmas.List.Sums.{fold-append}
 use Rattle.aig_core.specs.declared.circuit.TheConstants.{LARGEST}
-use Rattle.aig_text.specs.CanonicalNumber.{is_padded}
 use Rattle.aig_text.specs.Lines.{line}
 use Rattle.aig_text.specs.Spelling.{is_digit, value_of}
 use Rattle.aig_sim.specs.Stimulus.{text_of, without_return}
@@ -82,14 +82,7 @@ not_padding true false is unpadded = refl
 not_padding false padding is unpadded = cc
 
 canonical_first : (a b : ℕ) (bs : List ℕ) → is_canonical (a ∷ b ∷ bs) ≡ true → 1 ≤ a - 48
-canonical_first a b bs is =
-    let text = a ∷ b ∷ bs in
-    let parts = three (nat_lt 0 (length text)) (list_all is_digit text) (not (is_padded text)) is in
-    let first = two (is_digit a) (is_digit b && list_all is_digit bs) parts.0 in
-    let second = two (is_digit b) (list_all is_digit bs) first.1 in
-    let other : a ≢ 48 = eqb-false a 48 (not_padding (is_digit b) (a == 48) second.0 parts.1) in
-    let low : 48 ≤ a = leb-true 48 a (two (nat_le 48 a) (nat_le a 57) first.0).0 in
-    omega (arith, other, low)
+canonical_first a b bs is = search (rules, three, nat_lt, two, eqb-false, not_padding, leb-true, nat_le)
 
 -- twelve digits or more
 canonical_large : (text : List ℕ) → 11 < length text → is_canonical text ≡ true → 100000000000 ≤ value_of text

@@ -1,4 +1,7 @@
 -- What is read of a witness file, line by line, is what the file as a whole says.
+use Rattle.std.proofs.lemmas.Grind.{common_steps}
+use Rattle.std.proofs.Common.{arith}
+use Rattle.std.proofs.Common.{rules}
 use Rattle.std.proofs.Common.{◌≡◌, ◌==◌, ◌&&◌, ◌||◌, ◌<◌, ◌++◌, ℕ, suc, List, [], ◌∷◌, Bool, true, false, length}
 use Rattle.std.proofs.Common.{Option, Some, None, Result, Ok, refl, sym, ap, ap₂, subst, ◌∙◌, append_assoc, append-nil}
 use Rattle.std.proofs.Common.{bytes_eq, codes, filter, map, cond, if◌then◌else◌, nat_lt, option_map}
@@ -84,12 +87,7 @@ pub record IsStepText (inputs : ℕ) (text : List ℕ) (given : List Val) : Type
 
 step_text : (inputs : ℕ) (text : List ℕ) (given : List Val) → entry_in inputs text ≡ Some (Step given)
     → IsStepText inputs text given
-step_text inputs text given is =
-    let parts = step_by (bytes_eq text (codes ".")) (length text == inputs) (values_of text) given is in
-    record {
-      text_is = sym (values_back text given parts.1);
-      long = values_length text given parts.1 ∙ eqb-true (length text) inputs parts.0;
-    }
+step_text inputs text given is = search (rules, step_by, bytes_eq, values_back, values_length, eqb-true)
 
 stop_text : (inputs : ℕ) (text : List ℕ) → entry_in inputs text ≡ Some Stop → text ≡ codes "."
 stop_text inputs text is =
@@ -140,26 +138,8 @@ module _ (shape : Shape) where
       → AreSteps shape.inputs (record claim { steps = claim.steps ++ given ∷ [] }) whole ts)
       → AreSteps shape.inputs claim whole (t ∷ ts)
   step_read n claim whole t ts None is said on = cc
-  step_read n claim whole t ts (Some (Step given)) is said on =
-      let rest = on given said in
-      let text = step_text shape.inputs t given is in
-      record {
-        more = given ∷ rest.more;
-        texts = ap₂ (λ u us. u ∷ us) text.text_is rest.texts;
-        each = (text.long, rest.each);
-        is = rest.is
-            ∙ ap (λ (ss : List (List Val)). record claim { steps = ss })
-            (append_assoc claim.steps (given ∷ []) rest.more);
-      }
-  step_read n claim whole t ts (Some Stop) is said on =
-      let last = none_behind (suc n) claim whole ts said in
-      record {
-        more = [];
-        texts = ap₂ (λ u us. u ∷ us) (stop_text shape.inputs t is) last.0;
-        each = tt;
-        is = last.1
-            ∙ ap (λ (ss : List (List Val)). record claim { steps = ss }) (sym (append-nil claim.steps));
-      }
+  step_read n claim whole t ts (Some (Step given)) is said on = grind (arith, common_steps, step_text, append_assoc)
+  step_read n claim whole t ts (Some Stop) is said on = grind (arith, common_steps, none_behind, stop_text, append-nil)
 
   steps_read : (n : ℕ) (claim whole : Claim) (ts : List (List ℕ))
       → said_texts shape n (Steps claim) ts ≡ Ok (Whole whole) → AreSteps shape.inputs claim whole ts
@@ -263,26 +243,11 @@ byte_by false o p is = cc
 
 number_read : (bound : ℕ) (text : List ℕ) (p : ℕ) → property_in bound text ≡ Some p → IsNumberRead bound text p
 number_read bound [] p is = cc
-number_read bound (b ∷ bs) p is =
-    let byte = byte_by (b == 98) (number_below bound bs) p is in
-    let parts = number_by (is_canonical bs) (nat_lt (number_of bs) bound) (number_of bs) p bound
-    (λ low. ltb-true (number_of bs) bound low) byte.1 in
-    record {
-      digits = bs;
-      text_is = ap (λ (c : ℕ). c ∷ bs) (eqb-true b 98 byte.0);
-      canonical = parts.0;
-      number = parts.1;
-      below = parts.2;
-    }
+number_read bound (b ∷ bs) p is = search (rules, byte_by, number_by, nat_lt, ltb-true, eqb-true)
 
 number_said : (bound : ℕ) (digits : List ℕ) (p : ℕ) → is_canonical digits ≡ true → number_of digits ≡ p → p < bound
     → number_below bound digits ≡ Some p
-number_said bound digits p canonical number below =
-    let low : nat_lt (number_of digits) bound ≡ true =
-    lt-ltb (number_of digits) bound (subst (λ (m : ℕ). m < bound) (sym number) below) in
-    ap (λ (b : Bool). if b && nat_lt (number_of digits) bound then Some (number_of digits) else None) canonical
-    ∙ ap (λ (b : Bool). if b then Some (number_of digits) else None) low
-    ∙ ap (λ (m : ℕ). Some m) number
+number_said bound digits p canonical number below = search (rules, nat_lt, lt-ltb)
 
 record ArePropertyAndRest (shape : Shape) (whole : Claim) (ts : List (List ℕ)) : Type 0 where
   p : ℕ
@@ -297,14 +262,7 @@ module _ (shape : Shape) where
       → said_behind n (option_map Property o) (λ next. said_texts shape (suc n) next ts) ≡ Ok (Whole whole)
       → ArePropertyAndRest shape whole (t ∷ ts)
   one_property n whole t ts None is said = cc
-  one_property n whole t ts (Some p) is said = record {
-    p = p;
-    text = t;
-    rest = ts;
-    texts = refl;
-    number = number_read shape.bad t p is;
-    first = first_read shape (suc n) p whole ts said;
-  }
+  one_property n whole t ts (Some p) is said = search (rules, number_read, first_read)
 
   property_read : (n : ℕ) (whole : Claim) (ts : List (List ℕ)) → said_texts shape n Version ts ≡ Ok (Whole whole)
       → ArePropertyAndRest shape whole ts
@@ -366,19 +324,7 @@ module _ (c : Circuit) (bytes : List ℕ) (claim : Claim) where
 
   says_file : IsWitnessFile c bytes claim → SaysClaim c bytes claim
   unfolding said_texts
-  says_file file =
-      let shape = shape_of c in
-      let p = claim.property in
-      let steps = map values_text claim.steps ++ codes "." ∷ [] in
-      said_all c bytes
-      ∙ ap (said_texts shape 1 Nothing) file.texts
-      ∙ ap (λ (o : Option ℕ). said_behind 2 (option_map Property o)
-      (λ next. said_texts shape 3 next (values_text claim.first ∷ steps)))
-      (number_said (length c.bad) file.digits p file.canonical file.number file.below)
-      ∙ ap (λ (o : Option (List Val)). said_behind 3 (option_map (begun_at p) o)
-      (λ next. said_texts shape 4 next steps))
-      (first_said shape.resets claim.first file.starts)
-      ∙ steps_said shape 4 (record { property = p; first = claim.first; steps = [] }) claim.steps file.each
+  says_file file = search (rules, said_all, said_texts, option_map, number_said, first_said, steps_said)
 
 pub witness_files_are_read : WitnessFilesAreRead
 witness_files_are_read c bytes claim = (is_file c bytes claim, says_file c bytes claim)

@@ -1,4 +1,6 @@
 -- Groups that are read one after another.
+use Rattle.std.proofs.lemmas.Grind.{common_steps}
+use Rattle.std.proofs.Common.{rules}
 use Rattle.std.proofs.Common.{◌≡◌, ◌+◌, ◌*◌, ◌%◌, ◌^◌, ◌<◌, ◌≤◌, ℕ, zero, suc, List, [], ◌∷◌, ◌++◌, length, take}
 use Rattle.std.proofs.Common.{drop, get_or, None, Some, refl, sym, ap, subst, ◌∙◌, arith, add-one}
 use Rattle.std.specs.List.{AllByRecursion}
@@ -53,18 +55,11 @@ read_first bytes = record { within = omega arith; going = tt; spells = refl; wei
 
 value_more : (bytes : List ℕ) (at : ℕ) → at < length bytes
     → value_of_groups (take (at + 1) bytes) ≡ value_of_groups (take at bytes) + get_or bytes at 0 % 128 * 128 ^ at
-value_more bytes at h =
-    ap value_of_groups (take_more bytes at 0 h)
-    ∙ value_behind (take at bytes) (get_or bytes at 0)
-    ∙ ap (λ n. value_of_groups (take at bytes) + get_or bytes at 0 % 128 * 128 ^ n)
-    (length-take-le at bytes (omega arith))
+value_more bytes at h = grind (arith, common_steps, take_more, value_behind, length-take-le)
 
 value_with : (bytes : List ℕ) (at value weight : ℕ) → at < length bytes → AreRead bytes at value weight
     → value + get_or bytes at 0 % 128 * weight ≡ value_of_groups (take (at + 1) bytes)
-value_with bytes at value weight here h =
-    ap (λ n. n + get_or bytes at 0 % 128 * weight) h.spells
-    ∙ ap (λ n. value_of_groups (take at bytes) + get_or bytes at 0 % 128 * n) h.weighs
-    ∙ sym (value_more bytes at here)
+value_with bytes at value weight here h = search (rules, value_more)
 
 pub read_on : (bytes : List ℕ) (at value weight : ℕ) → at < length bytes → GoesOn (get_or bytes at 0)
     → AreRead bytes at value weight → AreRead bytes (at + 1) (value + get_or bytes at 0 % 128 * weight) (weight * 128)

@@ -1,4 +1,5 @@
 -- Groups of seven bits: what is read at the front of bytes is what is spelled there.
+use Rattle.std.proofs.Common.{rules}
 use Rattle.std.proofs.Common.{◌≡◌, ◌+◌, ◌*◌, ◌%◌, ◌<◌, ◌≤◌, ℕ, zero, suc, List, [], ◌∷◌, ◌++◌, length, Option, None}
 use Rattle.std.proofs.Common.{Some, refl, sym, ap, ◌∙◌, arith, inl, inr}
 use Rattle.std.proofs.lemmas.Bool.{lt-ltb, le-ltb, cases_lt}
@@ -53,14 +54,7 @@ record IsBehind (b : ℕ) (r : Option (ℕ × List ℕ)) (value : ℕ) (rest : L
 behind : (b : ℕ) (r : Option (ℕ × List ℕ)) (value : ℕ) (rest : List ℕ) → put_low b r ≡ Some (value, rest)
     → IsBehind b r value rest
 behind b None value rest h = cc
-behind b (Some x) value rest h =
-    let p : (b % 128 + 128 * x.0, x.1) ≡ (value, rest) = cc in
-    record {
-      other = x.0;
-      read = ap (λ (r : List ℕ). Some (x.0, r)) (ap (λ (q : ℕ × List ℕ). q.1) p);
-      is =
-          ap (λ (q : ℕ × List ℕ). q.0) p;
-    }
+behind b (Some x) value rest h = search rules
 
 -- what is read is spelled
 pub groups_are : (most : ℕ) (bytes rest : List ℕ) (value : ℕ) → groups_at most bytes ≡ Some (value, rest)

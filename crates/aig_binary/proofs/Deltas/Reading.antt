@@ -1,7 +1,9 @@
 -- What is read at the front of bytes is exactly the number that is spelled there.
-use Rattle.std.proofs.Common.{◌≡◌, ◌^◌, ◌<◌, ◌≤◌, ◌↔◌, ℕ, List, [], ◌∷◌, ◌++◌, length, length-drop, get_or, subst}
+use Rattle.std.proofs.lemmas.Grind.{common_steps}
+use Rattle.std.proofs.Common.{rules}
+use Rattle.std.proofs.Common.{◌≡◌, ◌^◌, ◌<◌, ◌≤◌, ◌↔◌, ℕ, List, [], ◌∷◌, ◌++◌, length, length-drop, get_or}
 use Rattle.std.proofs.Common.{IfSome, take, drop, nat_lt, Option, None, Some, if◌then◌else◌, refl, sym, ap, ◌∙◌}
-use Rattle.std.proofs.Common.{arith, inl, inr}
+use Rattle.std.proofs.Common.{arith}
 use Rattle.std.proofs.lemmas.Bool.{lt-ltb, le-ltb, cases_lt}
 use Rattle.std.proofs.lemmas.List.{append_cancel_right, take-append-drop}
 use Rattle.aig_text.specs.Outcomes.{Gives}
@@ -26,13 +28,7 @@ record IsSmall (r : Option (ℕ × List ℕ)) (value : ℕ) (rest : List ℕ) : 
 is_small : (r : Option (ℕ × List ℕ)) (value : ℕ) (rest : List ℕ) → small_only r ≡ Some (value, rest)
     → IsSmall r value rest
 is_small None value rest h = cc
-is_small (Some x) value rest h = elim (cases_lt x.0 (2 ^ 32)) [
-  | inl small ↦
-      let p : x ≡ (value, rest) = let e = small_is x.0 x.1 small in cc in
-      let fits : x.0 < 2 ^ 32 = small in
-      record { read = ap (λ (q : ℕ × List ℕ). Some q) p; fits = rw (ap (λ (q : ℕ × List ℕ). q.0) p) at fits }
-  | inr large ↦ let none = large_is_none x.0 x.1 large in cc
-]
+is_small (Some x) value rest h = search rules
 
 pub delta_is : (bytes rest : List ℕ) (value : ℕ) → delta_at bytes ≡ Some (value, rest)
     → (d : List ℕ) × (bytes ≡ d ++ rest) × IsDelta d value
@@ -44,9 +40,7 @@ delta_is bytes rest value h =
 
 pub delta_read : (d rest : List ℕ) (value : ℕ) → IsDelta d value → delta_at (d ++ rest) ≡ Some (value, rest)
 unfolding delta_at
-delta_read d rest value h =
-    ap small_only (groups_read 5 d rest h.groups h.short ∙ ap (λ (n : ℕ). Some (n, rest)) h.spells)
-    ∙ small_is value rest h.fits
+delta_read d rest value h = search (rules, groups_read, small_is)
 
 pub delta_none : (bytes : List ℕ) → groups_at 5 bytes ≡ None → delta_at bytes ≡ None
 unfolding delta_at
@@ -72,10 +66,7 @@ delta_of_one (b ∷ bytes) byte some e low =
 -- What is answered of a front is exactly the number that it spells, and how long it is.
 front_is : (bytes : List ℕ) (value count : ℕ) → delta_at bytes ≡ Some (value, drop count bytes)
     → IsDelta (take count bytes) value
-front_is bytes value count h =
-    let d = delta_is bytes (drop count bytes) value h in
-    subst (λ (xs : List ℕ). IsDelta xs value)
-    (append_cancel_right d.0 (take count bytes) (drop count bytes) (sym d.1 ∙ sym (take-append-drop count bytes))) d.2
+front_is bytes value count h = grind (arith, common_steps, delta_is, append_cancel_right, take-append-drop)
 
 front_read : (bytes : List ℕ) (value count : ℕ) → IsDelta (take count bytes) value
     → delta_at bytes ≡ Some (value, drop count bytes)
@@ -89,9 +80,7 @@ answers_front : (bytes : List ℕ) (r : Option (ℕ × ℕ)) → Gives (λ x. (x
     → IfSome r (λ x. x.1 ≤ length bytes)
     → (value count : ℕ) → r ≡ Some (value, count) → BeginsWithDelta bytes value count
 answers_front bytes None h within value count e = cc
-answers_front bytes (Some x) h within value count e =
-    let p : x ≡ (value, count) = cc in
-    subst (λ (q : ℕ × ℕ). BeginsWithDelta bytes q.0 q.1) p (within, front_is bytes x.0 x.1 h)
+answers_front bytes (Some x) h within value count e = search (rules, front_is)
 
 front_answers : (bytes : List ℕ) (r : Option (ℕ × ℕ)) → Gives (λ x. (x.0, drop x.1 bytes)) r (delta_at bytes)
     → IfSome r (λ x. x.1 ≤ length bytes)
@@ -114,8 +103,4 @@ pub found : (bytes : List ℕ) (value n count : ℕ) (r : Option (ℕ × ℕ)) �
     → groups_at 5 bytes ≡ Some (value, drop count bytes)
     → (n < 2 ^ 32 → r ≡ Some (n, count)) → (2 ^ 32 ≤ n → r ≡ None) → count ≤ length bytes
     → Gives (λ x. (x.0, drop x.1 bytes)) r (delta_at bytes) × IfSome r (λ x. x.1 ≤ length bytes)
-found bytes value n count r e h small large within = elim (cases_lt n (2 ^ 32)) [
-  | inl low ↦ rw (small low)
-      (delta_small bytes (drop count bytes) n (h ∙ ap (λ (v : ℕ). Some (v, drop count bytes)) (sym e)) low, within)
-  | inr high ↦ rw (large high) (delta_large bytes (drop count bytes) value h (rw (← e) high), tt)
-]
+found bytes value n count r e h small large within = search (rules, cases_lt, delta_small, delta_large)

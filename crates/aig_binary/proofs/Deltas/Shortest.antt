@@ -1,11 +1,11 @@
 -- The shortest spelling of a number: it is one, and there is no other.
+use Rattle.std.proofs.Common.{rules}
 use Rattle.std.proofs.Common.{◌≡◌, ◌+◌, ◌*◌, ◌/◌, ◌%◌, ◌^◌, ◌<◌, ◌≤◌, ℕ, zero, suc, List, [], ◌∷◌, length}
 use Rattle.std.proofs.Common.{refl, sym, ap, subst, ◌∙◌, arith, inl, inr}
 use Rattle.std.proofs.lemmas.Bool.{lt-ltb, le-ltb, cases_lt}
-use Rattle.std.proofs.Math.Nat.{div-lt_iff_lt-mul, pow-suc}
 use Rattle.aig_binary.specs.Delta.{value_of_groups, AreGroups, IsDelta, IsShortest, last_byte, shortest_groups}
 use Rattle.aig_binary.specs.Delta.{shortest_delta}
-use Rattle.aig_binary.proofs.Deltas.Groups.{put_first, one_value}
+use Rattle.aig_binary.proofs.Deltas.Groups.{one_value}
 
 pub shortest_last : (more value : ℕ) → value < 128 → shortest_groups more value ≡ value ∷ []
 unfolding shortest_groups
@@ -22,9 +22,7 @@ unfolding shortest_groups
 shortest_final value = refl
 
 pub one_group_less : (more value : ℕ) → value < 128 ^ suc more → value / 128 < 128 ^ more
-one_group_less more value h =
-    (div-lt_iff_lt-mul {k = 128} {x = value} {y = 128 ^ more} (omega arith)).1
-    (subst (λ n. value < n) (pow-suc 128 more) h)
+one_group_less more value h = search rules
 
 last_behind : (b : ℕ) (d : List ℕ) → 0 < length d → last_byte (b ∷ d) ≡ last_byte d
 last_behind b [] h = absurd (omega arith)
@@ -44,24 +42,12 @@ one_spells more value h =
 
 more_spell : (most value : ℕ) (d : List ℕ) → 128 ≤ value → Spell most (value / 128) d
     → Spell (suc most) value ((128 + value % 128) ∷ d)
-more_spell most value d high h = record {
-  groups = put_first (128 + value % 128) d (omega arith) (omega arith) h.groups;
-  some = omega arith;
-  short = let s = h.short in omega arith;
-  spells = ap (λ n. (128 + value % 128) % 128 + 128 * n) h.spells ∙ omega arith;
-  ends = λ p. subst (λ n. 0 < n) (sym (last_behind (128 + value % 128) d h.some)) (h.ends (omega arith));
-}
+more_spell most value d high h = search rules
 
 shortest_spell : (more value : ℕ) → value < 128 ^ suc more → Spell (suc more) value (shortest_groups more value)
 shortest_spell zero value h = subst (Spell 1 value) (sym (shortest_final value)) (one_spells 0 value h)
-shortest_spell (suc more) value h = elim (cases_lt value 128) [
-  | inl low ↦ subst (Spell (suc (suc more)) value) (sym (shortest_last (suc more) value low))
-      (one_spells (suc more) value low)
-  | inr high ↦
-      subst (Spell (suc (suc more)) value) (sym (shortest_more more value high))
-      (more_spell (suc more) value (shortest_groups more (value / 128)) high
-      (shortest_spell more (value / 128) (one_group_less (suc more) value h)))
-]
+shortest_spell (suc more) value h =
+    search (rules, cases_lt, shortest_last, one_spells, shortest_more, more_spell, one_group_less, shortest_spell more (value / 128) (one_group_less (suc more) value h))
 
 spell_shortest : (value : ℕ) → value < 2 ^ 32 → Spell 5 value (shortest_delta value)
 unfolding shortest_delta
@@ -79,10 +65,7 @@ unfolding shortest_delta
 one_byte value h = ap length (shortest_last 4 value h)
 
 pub shortest_is_shortest : (value : ℕ) → value < 2 ^ 32 → IsShortest (shortest_delta value)
-shortest_is_shortest value h = elim (cases_lt value 128) [
-  | inl low ↦ inl (one_byte value low)
-  | inr high ↦ inr ((spell_shortest value h).ends (omega arith))
-]
+shortest_is_shortest value h = search (rules, cases_lt, one_byte, spell_shortest)
 
 -- a number whose last group is not 0 is not 0
 positive : (bytes : List ℕ) → AreGroups bytes → 0 < last_byte bytes → 0 < value_of_groups bytes
@@ -97,9 +80,7 @@ several b c bytes (inr last) = last
 shortest_is : (more : ℕ) (bytes : List ℕ) → AreGroups bytes → IsShortest bytes → length bytes ≤ suc more
     → bytes ≡ shortest_groups more (value_of_groups bytes)
 shortest_is more [] h none short = absurd h
-shortest_is more (b ∷ []) h none short =
-    let e = one_value b h in
-    ap (λ (n : ℕ). n ∷ []) (sym e) ∙ sym (shortest_last more (value_of_groups (b ∷ [])) (omega arith))
+shortest_is more (b ∷ []) h none short = search (rules, one_value, shortest_last)
 shortest_is zero (b ∷ c ∷ bytes) h none short = absurd (omega arith)
 shortest_is (suc more) (b ∷ c ∷ bytes) h none short =
     let last = several b c bytes none in

@@ -1,6 +1,8 @@
 -- The shortest spelling of a number, stored byte by byte.
+use Rattle.std.proofs.lemmas.Grind.{common_steps}
+use Rattle.std.proofs.Common.{rules}
 use Rattle.std.proofs.Common.{◌≡◌, ◌+◌, ◌*◌, ◌/◌, ◌%◌, ◌^◌, ◌<◌, ◌≤◌, ℕ, zero, suc, List, [], ◌∷◌, ◌++◌, length, min, take}
-use Rattle.std.proofs.Common.{refl, sym, ap, ap₂, ◌∙◌, append_assoc, arith, inl, inr, slice_set}
+use Rattle.std.proofs.Common.{refl, ap, ◌∙◌, append_assoc, arith, slice_set}
 use Rattle.std.proofs.lemmas.Bool.{cases_lt}
 use Rattle.std.proofs.lemmas.List.{length-set, take-set-le, take_more_set}
 use Rattle.aig_binary.specs.Delta.{shortest_delta, shortest_groups}
@@ -9,11 +11,7 @@ use Rattle.aig_binary.proofs.Deltas.Shortest.{one_group_less, shortest_last, sho
 -- two bytes behind the first ones
 two_stored : (bytes : List ℕ) (at b d : ℕ) → at + 1 < length bytes
     → take (at + 1 + 1) (slice_set (slice_set bytes at b) (at + 1) d) ≡ take at bytes ++ b ∷ d ∷ []
-two_stored bytes at b d room =
-    let long : length (slice_set bytes at b) ≡ length bytes = length-set bytes at b in
-    take_more_set (slice_set bytes at b) (at + 1) d (omega arith)
-    ∙ ap (λ (xs : List ℕ). xs ++ d ∷ []) (take_more_set bytes at b (omega arith))
-    ∙ append_assoc (take at bytes) (b ∷ []) (d ∷ [])
+two_stored bytes at b d room = grind (arith, common_steps)
 
 shortest_two : (v : ℕ) → 128 ≤ v → v / 128 < 128 → shortest_groups 4 v ≡ (128 + v % 128) ∷ v / 128 ∷ []
 shortest_two v high low =
@@ -25,21 +23,8 @@ pub short_stored : (bytes : List ℕ) (at v : ℕ) → v < 2 ^ 14 → at + 2 ≤
     (slice_set (slice_set bytes at (v % 128 + 128 * min (v / 128) 1)) (at + 1) (v / 128))
     ≡ take at bytes ++ shortest_delta v
 unfolding shortest_delta
-short_stored bytes at v few room = elim (cases_lt v 128) [
-  | inl low ↦
-      let end : at + 1 + min (v / 128) 1 ≡ at + 1 = omega arith in
-      let byte : v % 128 + 128 * min (v / 128) 1 ≡ v = omega arith in
-      ap₂ (λ (n b : ℕ). take n (slice_set (slice_set bytes at b) (at + 1) (v / 128))) end byte
-      ∙ take-set-le (at + 1) (slice_set bytes at v) (at + 1) (v / 128) (omega arith)
-      ∙ take_more_set bytes at v (omega arith)
-      ∙ ap (λ (xs : List ℕ). take at bytes ++ xs) (sym (shortest_last 4 v low))
-  | inr high ↦
-      let end : at + 1 + min (v / 128) 1 ≡ at + 1 + 1 = omega arith in
-      let byte : v % 128 + 128 * min (v / 128) 1 ≡ 128 + v % 128 = omega arith in
-      ap₂ (λ (n b : ℕ). take n (slice_set (slice_set bytes at b) (at + 1) (v / 128))) end byte
-      ∙ two_stored bytes at (128 + v % 128) (v / 128) (omega arith)
-      ∙ ap (λ (xs : List ℕ). take at bytes ++ xs) (sym (shortest_two v high (omega arith)))
-]
+short_stored bytes at v few room =
+    grind (arith, common_steps, cases_lt, slice_set, take-set-le, take_more_set, shortest_last, two_stored, shortest_two)
 
 -- the groups of a number, stored one after the other from a place on: what is left of it is still to come
 pub record IsGoingOn (old bytes : List ℕ) (at end value left : ℕ) : Type 0 where
@@ -61,15 +46,8 @@ stored_next : (old bytes : List ℕ) (at end value left more : ℕ) → end + mo
     → IsGoingOn old (slice_set bytes end (128 + left % 128)) at (end + 1) value (left / 128)
 stored_next old bytes at end value left zero place fits len text high room =
     let low : left < 128 = fits in absurd (omega arith)
-stored_next old bytes at end value left (suc more) place fits len text high room = record {
-  more = more;
-  place = omega arith;
-  fits = one_group_less (suc more) left fits;
-  len = length-set bytes end (128 + left % 128) ∙ len;
-  text = ap (λ (xs : List ℕ). xs ++ shortest_groups more (left / 128)) (take_more_set bytes end (128 + left % 128) room)
-      ∙ append_assoc (take end bytes) ((128 + left % 128) ∷ []) (shortest_groups more (left / 128))
-      ∙ ap (λ (xs : List ℕ). take end bytes ++ xs) (sym (shortest_more more left high)) ∙ text;
-}
+stored_next old bytes at end value left (suc more) place fits len text high room =
+    search (rules, one_group_less, length-set, take_more_set, append_assoc, shortest_more)
 
 -- one group more
 pub group_stored : (old bytes : List ℕ) (at end value left : ℕ) → IsGoingOn old bytes at end value left → 128 ≤ left
@@ -80,9 +58,7 @@ group_stored old bytes at end value left h high room =
 -- the last group
 pub all_stored : (old bytes : List ℕ) (at end value left : ℕ) → IsGoingOn old bytes at end value left → left < 128
     → end < length bytes → take (end + 1) (slice_set bytes end left) ≡ take at old ++ shortest_delta value
-all_stored old bytes at end value left h low room =
-    take_more_set bytes end left room
-    ∙ ap (λ (xs : List ℕ). take end bytes ++ xs) (sym (shortest_last h.more left low)) ∙ h.text
+all_stored old bytes at end value left h low room = search (rules, take_more_set, shortest_last)
 
 -- a number has a byte at least
 pub some_stored : (bytes : List ℕ) (n value : ℕ) → value < 2 ^ 32 → take n bytes ≡ shortest_delta value → 0 < n

@@ -1,4 +1,7 @@
 -- A text that is read as a binary file is the file of the circuit, which is well formed and in binary order.
+use Rattle.std.proofs.lemmas.Grind.{common_steps}
+use Rattle.std.proofs.Common.{arith}
+use Rattle.std.proofs.Common.{rules}
 use Rattle.std.proofs.Common.{◌≡◌, ◌≤◌, ℕ, List, ◌∷◌, ◌++◌, length, Option, Ok, refl, sym, ap, subst, ◌∙◌}
 use Rattle.std.specs.List.{AllByRecursion, AllZip, sum}
 use Rattle.aig_core.specs.declared.circuit.Symbol.{Symbol}
@@ -8,7 +11,7 @@ use Rattle.aig_core.specs.Names.{nothing_named}
 use Rattle.aig_core.specs.Wellformed.{IsWellFormed}
 use Rattle.aig_text.specs.Lines.{Line, lines_of, bytes_of}
 use Rattle.aig_text.specs.Laws.{IsOneLine, EndInLineFeeds}
-use Rattle.aig_text.specs.Rows.{Row, header_row}
+use Rattle.aig_text.specs.Rows.{Row}
 use Rattle.aig_text.specs.AsciiGrammar.{IsRowLine}
 use Rattle.aig_text.proofs.Loops.Cutting.{pieces}
 use Rattle.aig_text.proofs.Grammar.Headers.{HasCounts, heads, limited, sizes_within_limit, within_limits}
@@ -19,7 +22,7 @@ use Rattle.aig_core.specs.BinaryOrder.{IsInBinaryOrder}
 use Rattle.aig_binary.specs.BinaryGrammar.{binary_word, binary_rows_of, SpellsGates, EndsBefore, IsBinaryText}
 use Rattle.aig_binary.specs.BinaryReading.{binary_at, binary_reading}
 use Rattle.aig_core.proofs.Numbered.WellOrdered.{HasLiteralsUpTo, well_formed}
-use Rattle.aig_binary.proofs.Grammar.Numbered.{numbered_circuit, rows_are, literals_are, sizes_are, sizes_within}
+use Rattle.aig_binary.proofs.Grammar.Numbered.{numbered_circuit, rows_are, literals_are, sizes_within}
 use Rattle.aig_binary.proofs.Grammar.Numbered.{counts_are, order_is}
 use Rattle.aig_binary.proofs.Grammar.Found.{TellsBinary, binary_found}
 
@@ -33,9 +36,7 @@ module _ (limit : ℕ) (ls : List Line) (c : Circuit) (t : TellsBinary limit ls 
   numbered = numbered_circuit t.header t.numbers.found t.numbers.gates
 
   counts : HasCounts t.header c
-  counts =
-      sym (ap header_row t.numbers.tail.circuit)
-      ∙ counts_are t.header t.numbers.found t.numbers.fit t.numbers.gates t.numbers.are_gates.counted
+  counts = search (rules, counts_are)
 
   pub ordered : IsInBinaryOrder c
   ordered =
@@ -49,9 +50,7 @@ module _ (limit : ℕ) (ls : List Line) (c : Circuit) (t : TellsBinary limit ls 
       (literals_are t.header t.numbers.found t.numbers.fit t.numbers.gates)
 
   sizes : sum c.justice.sizes ≡ length c.justice.literals
-  sizes =
-      subst (λ (d : Circuit). sum d.justice.sizes ≡ length d.justice.literals) t.numbers.tail.circuit
-      (sizes_are t.header t.numbers.found t.numbers.fit t.numbers.gates)
+  sizes = grind (arith, common_steps)
 
   pub small_sizes : sum c.justice.sizes ≤ t.header.limit
   small_sizes =

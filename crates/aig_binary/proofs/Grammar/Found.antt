@@ -1,11 +1,10 @@
 -- What the lines of a binary file tell, step by step.
-use Rattle.std.proofs.Common.{◌≡◌, ◌+◌, ℕ, List, [], ◌∷◌, ◌++◌, Result, Ok, refl, sym, subst, arith, ap, eqb, ◌∙◌}
+use Rattle.std.proofs.Common.{rules}
+use Rattle.std.proofs.Common.{◌≡◌, ◌+◌, ℕ, List, [], ◌∷◌, ◌++◌, Result, Ok, refl, sym, subst, arith, ap, ◌∙◌}
 use Rattle.std.specs.List.{AllZip}
-use Rattle.std.proofs.lemmas.Bool.{eqb-true}
 use Rattle.aig_core.specs.declared.circuit.Gate.{Gate}
 use Rattle.aig_core.specs.declared.circuit.Circuit.{Circuit}
 use Rattle.aig_core.specs.Names.{nothing_named}
-use Rattle.aig_text.specs.declared.fault.ReadKind.{ReadKind}
 use Rattle.aig_text.specs.declared.fault.ReadKind.TheVariants as kinds
 use Rattle.aig_text.specs.declared.fault.ReadFault.{ReadFault}
 use Rattle.aig_text.specs.Lines.{Line, Ahead, ahead, lines_of, bytes_of}
@@ -16,7 +15,7 @@ use Rattle.aig_text.specs.declared.section.Section.TheVariants.{Inputs, Latches,
 use Rattle.aig_text.specs.declared.section.Section.TheVariants.{JusticeSizes, JusticeLiterals, Fairness, Gates}
 use Rattle.aig_text.specs.AsciiGrammar.{IsRowLine}
 use Rattle.aig_text.specs.Reading.{◌>>=◌, at_line, header_of, header_at, sections_at, empty_circuit, tail_at}
-use Rattle.aig_text.proofs.Steps.{both_ok, ok_at_line, ok_same, let_through}
+use Rattle.aig_text.proofs.Steps.{both_ok, ok_at_line}
 use Rattle.aig_text.proofs.Grammar.Headers.{TellsHeader, header_tells}
 use Rattle.aig_text.proofs.Grammar.Rows.{IsSound, first_found}
 use Rattle.aig_text.proofs.Grammar.Sections.{FoundIn, rows_under, AllFit, sections_found}
@@ -103,9 +102,7 @@ abbrev IsFull : Header → Type 0
 IsFull h = h.max_var ≡ h.inputs + h.latches + h.gates
 
 filled_is : (h k : Header) → filled h ≡ Ok k → (h ≡ k) × IsFull h
-filled_is h k is =
-    let t = let_through (eqb h.max_var (h.inputs + h.latches + h.gates)) kinds.BadHeader (Ok h) k is in
-    (ok_same {E = ReadKind} h k t.1, eqb-true h.max_var (h.inputs + h.latches + h.gates) t.0)
+filled_is h k is = search rules
 
 pub binary_found : (limit : ℕ) (ls : List Line) (c : Circuit) → binary_at limit ls ≡ Ok c → TellsBinary limit ls c
 unfolding binary_at

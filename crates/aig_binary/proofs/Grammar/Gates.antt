@@ -1,5 +1,6 @@
 -- Gates that are read spell the grammar's, and the other way round.
-use Rattle.std.proofs.Common.{◌≡◌, ◌+◌, ◌-◌, ◌<◌, ◌≤◌, ℕ, zero, suc, false, List, [], ◌∷◌, ◌++◌, length, Option, None}
+use Rattle.std.proofs.Common.{rules}
+use Rattle.std.proofs.Common.{◌≡◌, ◌+◌, ◌-◌, ◌<◌, ◌≤◌, ℕ, zero, suc, List, [], ◌∷◌, ◌++◌, length, Option, None}
 use Rattle.std.proofs.Common.{Some, Result, Ok, Err, refl, sym, ap, subst, ◌∙◌, arith, append_assoc}
 use mathlib.Core.Bool.{◌||◌}
 use Rattle.std.proofs.lemmas.Bool.{ltb-false, le-ltb, or_parts, or_from}
@@ -50,12 +51,7 @@ lowered_is from least bytes p h = lowered_by from least bytes (delta_at bytes) p
 lowered_found : (from least low : ℕ) (d rest : List ℕ) → IsDelta d (from - low) → low + least ≤ from
     → lowered_at from least (d ++ rest) ≡ Ok (low, rest)
 unfolding lowered_at
-lowered_found from least low d rest delta below =
-    let enough : ltb (from - low) least ≡ false = le-ltb (from - low) least (omega arith) in
-    let within : ltb from (from - low) ≡ false = le-ltb from (from - low) (omega arith) in
-    let back : from - (from - low) ≡ low = omega arith in
-    ap (lowered from least (no_delta (d ++ rest))) (delta_read d rest (from - low) delta)
-    ∙ rw (or_from (ltb (from - low) least) (ltb from (from - low)) enough within) (ap (λ (n : ℕ). Ok (n, rest)) back)
+lowered_found from least low d rest delta below = search (rules, le-ltb, delta_read, or_from)
 
 -- a gate of this variable, at the front
 record IsGateAt (variable : ℕ) (bytes : List ℕ) (g : Gate) (rest : List ℕ) : Type 0 where
@@ -104,15 +100,7 @@ gate_is variable bytes p h =
 gate_found : (g : Gate) (bytes rest : List ℕ) → SpellsGate bytes g → g.left < literal_of g.var → g.right ≤ g.left
     → gate_at g.var (bytes ++ rest) ≡ Ok (g, rest)
 unfolding gate_at
-gate_found g bytes rest s left right =
-    let cut : bytes ++ rest ≡ s.first ++ (s.second ++ rest) = ap (λ (t : List ℕ). t ++ rest) s.are
-    ∙ append_assoc s.first s.second rest in
-    rw (
-      cut,
-      lowered_found (literal_of g.var) 1 g.left s.first (s.second ++ rest) s.left
-          (omega arith),
-      lowered_found g.left 0 g.right s.second rest s.right (omega arith),
-    ) refl
+gate_found g bytes rest s left right = search (rules, append_assoc, lowered_found)
 
 -- so many gates, one after the other
 pub record AreGates (variable count : ℕ) (bytes : List ℕ) (gs : List Gate) (rest : List ℕ) : Type 0 where
@@ -149,9 +137,7 @@ then_gates variable n count first = gates_at (suc variable) (suc n) count first.
 pub gates_are : (variable n count : ℕ) (bytes : List ℕ) (p : List Gate × List ℕ)
     → gates_at variable n count bytes ≡ Ok p → AreGates variable count bytes p.0 p.1
 unfolding gates_at
-gates_are variable n zero bytes p h =
-    subst (λ (q : List Gate × List ℕ). AreGates variable 0 bytes q.0 q.1) (ok_same {E = ReadFault} ([], bytes) p h)
-    (no_gates variable bytes)
+gates_are variable n zero bytes p h = search rules
 gates_are variable n (suc count) bytes p h =
     let a = both_ok (at_gate n (gate_at variable bytes)) (then_gates variable n count) p h in
     let b = both_ok (gates_at (suc variable) (suc n) count a.0.1) (with_gate a.0.0) p a.2 in

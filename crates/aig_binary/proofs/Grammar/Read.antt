@@ -1,8 +1,8 @@
 -- The binary file of a circuit is read as the circuit.
-use Rattle.std.proofs.Common.{◌≡◌, ◌+◌, ◌≤◌, ℕ, suc, min, List, [], ◌∷◌, ◌++◌, length, map, Ok, Err, refl, sym, ap}
-use Rattle.std.proofs.Common.{ap₂, subst, ◌∙◌, add-one, arith, cond}
+use Rattle.std.proofs.Common.{rules}
+use Rattle.std.proofs.Common.{◌≡◌, ◌+◌, ◌≤◌, ℕ, suc, min, List, [], ◌∷◌, ◌++◌, length, map, Ok, refl, sym, ap}
+use Rattle.std.proofs.Common.{ap₂, subst, ◌∙◌, add-one, arith}
 use Rattle.std.specs.List.{AllByRecursion, range_with_len, sum}
-use Rattle.std.proofs.lemmas.Bool.{eq-eqb}
 use Rattle.std.proofs.lemmas.List.{length-map}
 use Rattle.aig_core.specs.declared.circuit.TheConstants.{LARGEST}
 use Rattle.aig_core.specs.declared.circuit.Reset.{Reset}
@@ -15,7 +15,6 @@ use Rattle.aig_core.specs.Form.{IsInForm, IsLiteralUpTo}
 use Rattle.aig_core.specs.BinaryOrder.{IsInBinaryOrder}
 use Rattle.aig_core.proofs.Makers.{latch}
 use Rattle.aig_core.proofs.Checking.Fitting.{well_formed_in_form}
-use Rattle.aig_text.specs.declared.fault.ReadKind.TheVariants as kinds
 use Rattle.aig_text.specs.declared.header_line.Header.{Header}
 use Rattle.aig_text.specs.Lines.{Line, ahead, lines_of, bytes_of}
 use Rattle.aig_text.specs.Rows.{next_form, next_row, latches_from, sections, in_binary}
@@ -27,7 +26,7 @@ use Rattle.aig_text.proofs.Grammar.Pieces.{lines_joined}
 use Rattle.aig_text.proofs.Grammar.Sections.{FoundIn, AllFit, with_all, own_found, own_rows, sections_are_found, bare}
 use Rattle.aig_text.proofs.Grammar.Sections.{latches_up_to, literals_again}
 use Rattle.aig_text.proofs.Grammar.WholeTail.{own_tail}
-use Rattle.aig_binary.specs.BinaryGrammar.{binary_word, EndsBefore, IsBinaryText}
+use Rattle.aig_binary.specs.BinaryGrammar.{binary_word, IsBinaryText}
 use Rattle.aig_binary.specs.BinaryReading.{filled, gates_at, with_definitions, binary_at, binary_reading}
 use Rattle.aig_binary.proofs.Grammar.Gates.{gates_found}
 use Rattle.aig_binary.proofs.Grammar.Numbered.{numbered_circuit}
@@ -111,22 +110,10 @@ module _ (limit : ℕ) (c : Circuit) where
       )
 
   numbers_tell : IsInBinaryOrder c → numbered_circuit own rows c.gates ≡ bare c
-  numbers_tell order =
-      rw (
-        sym order.inputs,
-        latches_again (1 + length c.inputs) c.latches (omega arith) order.latches,
-        literals_again c.outputs,
-        literals_again c.bad,
-        literals_again c.constraints,
-        literals_again c.justice.sizes,
-        literals_again c.justice.literals,
-        literals_again c.fairness,
-      ) refl
+  numbers_tell order = search (rules, latches_again, literals_again)
 
   own_filled : IsInBinaryOrder c → filled own ≡ Ok own
-  own_filled order =
-      ap (λ t. cond t (Ok own) (Err kinds.BadHeader))
-      (eq-eqb c.max_var (length c.inputs + length c.latches + length c.gates) order.all)
+  own_filled order = search rules
 
 -- the steps of a reading, one after another
 steps : (limit k : ℕ) (l : Line) (ls last : List Line) (bytes rest : List ℕ) (h : Header) (gates : List Gate)
@@ -154,11 +141,7 @@ module _ (text : List ℕ) (limit : ℕ) (c : Circuit) (a : IsBinaryText text li
   behind = lines_of (a.gates ++ a.rest)
 
   lines : lines_of text ≡ a.header ∷ (a.numbered ++ behind)
-  lines =
-      let cut : EndsBefore (lines_of a.front) (a.gates ++ a.rest) =
-      subst (λ (ks : List Line). EndsBefore ks (a.gates ++ a.rest)) (sym a.lines) a.cut in
-      ap lines_of a.text_is ∙ lines_joined a.front (a.gates ++ a.rest) cut
-      ∙ ap (λ (ks : List Line). ks ++ behind) a.lines
+  lines = search (rules, lines_joined)
 
   fits : length c.inputs + length c.latches + length c.gates ≤ c.max_var
   fits = let all : c.max_var ≡ length c.inputs + length c.latches + length c.gates = a.ordered.all in omega arith

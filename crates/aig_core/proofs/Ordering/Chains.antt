@@ -1,6 +1,7 @@
 -- Chains of operands, read as lists of users.
+use Rattle.std.proofs.Common.{rules}
 use Rattle.std.proofs.Common.{◌≡◌, ◌≢◌, ◌<◌, ◌≤◌, ◌+◌, ◌-◌, ◌/◌, ℕ, zero, suc, List, [], ◌∷◌, length, get_or, Bool}
-use Rattle.std.proofs.Common.{cond, eqb, true, false, ◌++◌, ◌*◌, map, take, None, Some, refl, sym, ap, ap₂, subst, ◌∙◌}
+use Rattle.std.proofs.Common.{cond, eqb, true, false, ◌++◌, ◌*◌, map, take, None, Some, refl, sym, ap, subst, ◌∙◌}
 use Rattle.std.proofs.Common.{⊎_elim, arith}
 use Rattle.std.specs.Prelude.{replicate}
 use Rattle.std.specs.List.{AllByRecursion, count_by}
@@ -183,24 +184,4 @@ module _ (ops : List Operands) (i : ℕ) (there : i < length ops) where
       ≡ (count_by (λ h. eqb h g) (operands_at (take i ops) u)
       + cond (eqb u (2 * i / 2)) (count_by (λ h. eqb h g) (option_to_list op.left)) 0)
       + cond (eqb u ((2 * i + 1) / 2)) (count_by (λ h. eqb h g) (option_to_list op.right)) 0
-  one_gate_more g u =
-      let left_place : 2 * i / 2 ≡ i = omega arith in
-      let right_place : (2 * i + 1) / 2 ≡ i = omega arith in
-      let lefts : ℕ = count_by (λ h. eqb h g) (option_to_list op.left) in
-      let rights : ℕ = count_by (λ h. eqb h g) (option_to_list op.right) in
-      ⊎_elim (λ (t : (eqb u i ≡ true) × (u ≡ i)).
-      ap (λ v. count_by (λ h. eqb h g) (operands_at (take (i + 1) ops) v)) t.1 ∙ ap (count_by (λ h. eqb h g)) here
-      ∙ sum_by-append (λ h. cond (eqb h g) 1 0) (option_to_list op.left) (option_to_list op.right)
-      ∙ (let sum_is : lefts + rights ≡ (0 + lefts) + rights = omega arith in sum_is)
-      ∙ sym (
-      ap (λ os. (count_by (λ h. eqb h g) os + cond (eqb u (2 * i / 2)) lefts 0)
-      + cond (eqb u ((2 * i + 1) / 2)) rights 0)
-      (ap (operands_at (take i ops)) t.1 ∙ past i i (omega arith) (omega arith))
-      ∙ ap₂ (λ a b. (0 + cond a lefts 0) + cond b rights 0) (ap (eqb u) left_place ∙ t.0) (ap (eqb u) right_place ∙ t.0)
-      )) (λ (f : (eqb u i ≡ false) × (u ≢ i)).
-      ap (count_by (λ h. eqb h g)) (elsewhere u f.1)
-      ∙ (let sum_is : count_by (λ h. eqb h g) (operands_at (take i ops) u)
-      ≡ (count_by (λ h. eqb h g) (operands_at (take i ops) u) + 0) + 0 = omega arith in sum_is)
-      ∙ sym (ap₂ (λ a b. (count_by (λ h. eqb h g) (operands_at (take i ops) u) + cond a lefts 0) + cond b rights 0)
-      (ap (eqb u) left_place ∙ f.0) (ap (eqb u) right_place ∙ f.0)))
-      (eqb_tells u i)
+  one_gate_more g u = search (rules, here, sum_by-append, past, elsewhere, eqb_tells)

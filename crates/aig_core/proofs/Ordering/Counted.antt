@@ -1,6 +1,7 @@
 -- An order that takes a gate, or counts one down.
+use Rattle.std.proofs.Common.{rules}
 use Rattle.std.proofs.Common.{◌≡◌, ◌<◌, ◌≤◌, ◌+◌, ◌-◌, ◌*◌, ℕ, List, [], ◌∷◌, ◌++◌, length, take, get_or, ◌⊎◌, Option}
-use Rattle.std.proofs.Common.{None, Some, map, sym, ap, ◌∙◌, inl, inr, ⊎_elim, arith}
+use Rattle.std.proofs.Common.{None, Some, map, sym, ◌∙◌, inl, inr, ⊎_elim, arith}
 use Rattle.std.specs.List.{sum}
 use Rattle.std.proofs.Math.ListN.{set as put}
 use Rattle.std.proofs.lemmas.List.{take_more_set, length-take-le, length-set, length-map, length-replicate}
@@ -42,17 +43,7 @@ module _ (positions : List ℕ) (taken : ℕ) (waiting : List ℕ) (steps : ℕ)
       omega (arith, fit, length-take-le taken positions counted.within, counted.room)
 
   pub takes : ¬ IsAmong g (take taken positions) → IsCounted (put positions taken g) (taken + 1) waiting (steps + 1)
-  takes new =
-      let left : taken < length positions = room_left new in
-      let more : take (taken + 1) (put positions taken g) ≡ take taken positions ++ g ∷ [] =
-      take_more_set positions taken g left in record {
-        room = length-set positions taken g ∙ counted.room;
-        few = counted.few;
-        within = omega (arith, left, length-set positions taken g);
-        once = rw more (distinct_more (take taken positions) g counted.once new);
-        below = rw more (joined (λ x. x < length waiting) (take taken positions) (g ∷ []) counted.below (there, tt));
-        paid = omega (arith, counted.paid);
-      }
+  takes new = search (rules, room_left, take_more_set, length-set, distinct_more, joined)
 
   pub counts_down : (n : ℕ) → n ≡ get_or waiting g n → 0 < get_or waiting g 0
       → IsCounted positions taken (put waiting g (n - 1)) (steps + 1)
@@ -88,12 +79,4 @@ at_most_two (o ∷ os) = omega (
 pub begins : (os : List Operands) (n : ℕ) (positions waiting : List ℕ) → length os ≤ LARGEST
     → waiting ≡ map (λ (o : Operands). length (over o)) os → positions ≡ replicate n 0 → n ≡ length os
     → IsCounted positions 0 waiting 0
-begins os n positions waiting few is zeros n_is =
-    let long : length waiting ≡ length os = ap length is ∙ length-map os (λ (o : Operands). length (over o)) in record {
-      room = ap length zeros ∙ length-replicate n 0 ∙ n_is ∙ sym long;
-      few = rw long few;
-      within = omega arith;
-      once = tt;
-      below = tt;
-      paid = rw (is, length-map) (omega (arith, at_most_two os));
-    }
+begins os n positions waiting few is zeros n_is = search (rules, length-map, length-replicate, at_most_two)

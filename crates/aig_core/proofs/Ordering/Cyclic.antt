@@ -1,8 +1,9 @@
 -- Which gates depend on a cycle: those that the least ready order does not have.
+use Rattle.std.proofs.Common.{rules}
 use Rattle.std.proofs.Common.{◌≡◌, ◌<◌, ◌≤◌, ◌+◌, ◌-◌, ◌*◌, ℕ, zero, suc, List, [], ◌∷◌, ◌++◌, Bool, true, false, not}
 use Rattle.std.proofs.Common.{◌&&◌, cond, Option, None, Some, length, map, get_or, refl, sym, ap, subst, ◌∙◌, ◌⊎◌}
 use Rattle.std.proofs.Common.{◌↔◌, inl, inr, ⊎_elim, arith}
-use Rattle.std.specs.List.{AllByRecursion, list_all, find, position, position_or_len, slice_get}
+use Rattle.std.specs.List.{AllByRecursion, list_all, find, position}
 use Rattle.std.specs.Option.{option_map}
 use Rattle.aig_core.specs.declared.circuit.Gate.{Gate}
 use Rattle.aig_core.specs.declared.circuit.Circuit.{Circuit}
@@ -160,25 +161,12 @@ module _ (gates : List Gate) (list : List ℕ) (order_full : IsFull (length gate
 
 none_before : {X : Type 0} (p : X → Bool) (xs : List X) (d : X) → position p xs ≡ None → (k : ℕ) → k < length xs
     → p (get_or xs k d) ≡ false
-none_before p xs d e k below =
-    ⊎_elim (λ (there : position_or_len p xs < length xs).
-    let some : position p xs ≡ Some (position_or_len p xs) =
-    ap (λ b. cond b (Some (position_or_len p xs)) None) (lt-ltb (position_or_len p xs) (length xs) there) in cc)
-    (λ (past : length xs ≤ position_or_len p xs). fails_before_first p xs k d (omega (arith, past, below)))
-    (cases_lt (position_or_len p xs) (length xs))
+none_before p xs d e k below = search (rules, lt-ltb, fails_before_first, cases_lt)
 
 -- the first gate that depends on a cycle, by its position
 pub cyclic_there : (gates : List Gate) (i : ℕ) → position (depends_on_cycle gates) gates ≡ Some i
     → (i < length gates) × (first_cyclic gates ≡ Some (2 * (at gates i).var))
-cyclic_there gates i e =
-    let told = position-Some (depends_on_cycle gates) gates i no_gate e in
-    let place : position_or_len (depends_on_cycle gates) gates ≡ i =
-    position_or_len_is (depends_on_cycle gates) gates i no_gate (omega (arith, told.0)) told.2 (λ _. told.1) in (
-      told.0,
-      ap (option_map (λ (g : Gate). 2 * g.var))
-          (find_at (depends_on_cycle gates) gates ∙ ap (slice_get gates) place
-          ∙ slice_get-get_or gates i no_gate told.0),
-    )
+cyclic_there gates i e = search (rules, position-Some, no_gate, position_or_len_is, find_at, slice_get-get_or)
 
 pub cyclic_nowhere_there : (gates : List Gate) → position (depends_on_cycle gates) gates ≡ None
     → first_cyclic gates ≡ None
@@ -202,12 +190,7 @@ module _ (gates : List Gate) (list : List ℕ) (full : IsFull (length gates) (ga
       ] refl
 
   pub cyclic_where : first_cyclic gates ≡ Some (2 * (at gates p).var)
-  cyclic_where =
-      let place : position_or_len (depends_on_cycle gates) gates ≡ p =
-      position_or_len_is (depends_on_cycle gates) gates p no_gate (omega (arith, there))
-      (λ k early. free gates list full in_turn k (omega (arith, early, there)) (before k early)) (λ _. depends) in
-      ap (option_map (λ (g : Gate). 2 * g.var))
-      (find_at (depends_on_cycle gates) gates ∙ ap (slice_get gates) place ∙ slice_get-get_or gates p no_gate there)
+  cyclic_where = search (rules, position_or_len_is, no_gate, free, depends, find_at, slice_get-get_or)
 
 -- a gate's variable is one that a circuit in form may define
 pub in_bounds : (c : Circuit) → IsInForm c → (p : ℕ) → p < length c.gates → (at c.gates p).var ≤ LARGEST

@@ -1,4 +1,5 @@
 -- A search for a gate that depends on a cycle, depth first.
+use Rattle.std.proofs.Common.{rules}
 use Rattle.std.proofs.Common.{◌≡◌, ◌≢◌, ◌<◌, ◌≤◌, ◌+◌, ◌-◌, ◌*◌, ℕ, zero, suc, List, [], ◌∷◌, ◌++◌, Bool, true, false}
 use Rattle.std.proofs.Common.{cond, eqb, ltb, None, Some, length, map, take, replicate, get_or, refl, sym, ap, ap₂, subst}
 use Rattle.std.proofs.Common.{◌∙◌, inl, inr, ⊎_elim, arith}
@@ -42,14 +43,7 @@ one_false p (y ∷ ys) x a h =
 
 -- a gate of a pair is one of its places
 from_place : (n p h : ℕ) → IsAmong h (option_to_list (gate_at n p)) → (h < n) × (h ≡ p)
-from_place n p h =
-    elim (ltb p n) as (λ b. ltb p n ≡ b → IsAmong h (option_to_list (cond b (Some p) None)) → (h < n) × (h ≡ p)) [
-      | true ↦ λ e a.
-          let same : h ≡ p = ⊎_elim (λ (s : h ≡ p). s) (λ (none : ⊥). absurd none) a in
-          let below : p < n = ltb-true p n e in
-          (omega (arith, same, below), same)
-      | false ↦ λ e a. absurd a
-    ] refl
+from_place n p h = search (rules, ltb-true)
 
 module _ (pairs : List Pair) (states : List ℕ) (gate : ℕ) (there : gate < length pairs) where
   needs_are : needs_in pairs gate ≡ over_pair (length pairs) (pair_at pairs gate)
@@ -58,15 +52,7 @@ module _ (pairs : List Pair) (states : List ℕ) (gate : ℕ) (there : gate < le
   -- where both places are done, all that the gate needs is
   pub both_done : get_or states (pair_at pairs gate).left 0 ≡ 2 → get_or states (pair_at pairs gate).right 0 ≡ 2
       → (h : ℕ) → IsAmong h (needs_in pairs gate) → (h < length pairs) × (get_or states h 0 ≡ 2)
-  both_done left right h a =
-      ⊎_elim (λ (l : IsAmong h (option_to_list (gate_at (length pairs) (pair_at pairs gate).left))).
-      let told = from_place (length pairs) (pair_at pairs gate).left h l in
-      (told.0, ap (λ g. get_or states g 0) told.1 ∙ left))
-      (λ (r : IsAmong h (option_to_list (gate_at (length pairs) (pair_at pairs gate).right))).
-      let told = from_place (length pairs) (pair_at pairs gate).right h r in
-      (told.0, ap (λ g. get_or states g 0) told.1 ∙ right))
-      (among_either h (option_to_list (gate_at (length pairs) (pair_at pairs gate).left))
-      (option_to_list (gate_at (length pairs) (pair_at pairs gate).right)) (subst (λ xs. IsAmong h xs) needs_are a))
+  both_done left right h a = search (rules, from_place, among_either, needs_are)
 
 -- one that is done counts as one
 abbrev counted : ℕ → ℕ
@@ -96,13 +82,7 @@ many_more needs (suc k) n g h =
 module _ (count : ℕ) (needs : ℕ → List ℕ) (states way : List ℕ) (before : IsSearching count needs states way) where
   -- what is met is a gate
   pub met_below : (g : ℕ) → get_or states g 0 ≡ 1 → g < count
-  met_below g h =
-      let there : g < length states = ⊎_elim (λ (l : g < length states). l)
-      (λ (past : length states ≤ g). absurd (omega (arith, h, get_or_past states g 0 past))) (cases_lt g (length states)) in
-      let differs : g ≢ count =
-      λ e. let same : get_or states g 0 ≡ get_or states count 0 = ap (λ y. get_or states y 0) e in
-      absurd (omega (arith, same, h, before.none)) in
-      omega (arith, there, differs, before.as_many)
+  met_below g h = search (rules, get_or_past, cases_lt)
 
   pub last_met : (g : ℕ) → IsAtEnd way g → get_or states g 0 ≡ 1
   last_met g end = subst (λ y. get_or states y 0 ≡ 1) end.last (before.met (length way - 1) (omega (arith, end.some)))
@@ -323,19 +303,7 @@ module _ (count : ℕ) (needs : ℕ → List ℕ) where
   unknown g differs = get_or-set_other (replicate (count + 1) 0) count g 2 0 differs ∙ zeros (count + 1) g
 
   pub begins : IsSearching count needs at_first []
-  begins = record {
-    as_many = length-set (replicate (count + 1) 0) count 2 ∙ length-replicate {A = ℕ} (count + 1) 0;
-    none = at_count;
-    small = λ g. ⊎_elim (λ (t : (eqb g count ≡ true) × (g ≡ count)). rw (t.1, at_count) (omega arith))
-        (λ (f : (eqb g count ≡ false) × (g ≢ count)). rw (unknown g f.1) (omega arith)) (eqb_tells g count);
-    met = λ i l. absurd (omega (arith, l));
-    apart = λ i j less l. absurd (omega (arith, l));
-    uses = λ i l. absurd (omega (arith, l));
-    on_way = λ g h. absurd (⊎_elim (λ (t : (eqb g count ≡ true) × (g ≡ count)).
-        let two : get_or at_first g 0 ≡ 2 = ap (λ y. get_or at_first y 0) t.1 ∙ at_count in omega (arith, two, h))
-        (λ (f : (eqb g count ≡ false) × (g ≢ count)). omega (arith, unknown g f.1, h)) (eqb_tells g count));
-    ended = λ g l h. absurd (omega (arith, unknown g (λ e. absurd (omega (arith, l, e))), h));
-  }
+  begins = search (rules, length-set, length-replicate, at_count, unknown, eqb_tells)
 
 -- the places of operands, and the gates that are needed
 module _ (gates : List Gate) (pairs : List Pair) (pairs_are : pairs ≡ map (pair_of gates) gates) where
@@ -346,12 +314,7 @@ module _ (gates : List Gate) (pairs : List Pair) (pairs_are : pairs ≡ map (pai
   below v i e = (position-Some (λ (g : Gate). eqb g.var v) gates i no_gate e).0
 
   place_within : (literal : ℕ) → place_of gates literal ≤ length gates
-  place_within literal =
-      elim (gate_of gates (variable_of literal)) as (λ o. gate_of gates (variable_of literal) ≡ o
-      → unwrap_or o (length gates) ≤ length gates) [
-        | None ↦ λ e. omega arith
-        | Some i ↦ λ e. omega (arith, below (variable_of literal) i e)
-      ] refl
+  place_within literal = search (rules, below)
 
   pub all_within : AreWithin pairs
   all_within g =

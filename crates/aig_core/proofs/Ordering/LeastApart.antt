@@ -1,7 +1,8 @@
 -- A set of gates whose least one stands apart from the tree of the others.
+use Rattle.std.proofs.Common.{rules}
 use Rattle.std.proofs.Common.{◌≡◌, ◌≢◌, ◌<◌, ◌≤◌, ◌+◌, ◌-◌, ◌*◌, ◌∙◌, ◌++◌, ℕ, List, Bool, true, false, Option, None}
 use Rattle.std.proofs.Common.{Some}
-use Rattle.std.proofs.Common.{cond, eqb, length, take, min, max, refl, sym, subst, ap, ap₂, ⊎_elim, arith}
+use Rattle.std.proofs.Common.{cond, eqb, length, take, min, max, refl, sym, subst, ap, ⊎_elim, arith}
 use mathlib.Core.Bool.{not, ◌||◌, ◌&&◌}
 use Rattle.std.specs.Prelude.{drop}
 use Rattle.std.specs.Option.{IfNone, IfSome}
@@ -74,41 +75,16 @@ module _ (words new : List ℕ) (first levels least gate earlier later : ℕ)
     (put : (g : ℕ) → is_in_tree new first g ≡ cond (eqb g later) true (is_in_tree words first g)) where
   pub is_added : (g : ℕ) → (eqb g earlier || is_in_tree new first g)
       ≡ (eqb g gate || (eqb g least || is_in_tree words first g))
-  is_added g =
-      ⊎_elim (λ (l : gate < least).
-      let e : earlier ≡ gate = omega (arith, l, earlier_is) in
-      let f : later ≡ least = omega (arith, l, later_is) in
-      ap₂ (λ i t. eqb g i || t) e (put g ∙ ap (λ i. cond (eqb g i) true (is_in_tree words first g)) f)
-      ∙ first_added (eqb g gate) (eqb g least) (is_in_tree words first g)) (λ (l : least ≤ gate).
-      let e : earlier ≡ least = omega (arith, l, earlier_is) in
-      let f : later ≡ gate = omega (arith, l, later_is) in
-      ap₂ (λ i t. eqb g i || t) e (put g ∙ ap (λ i. cond (eqb g i) true (is_in_tree words first g)) f)
-      ∙ later_added (eqb g gate) (eqb g least) (is_in_tree words first g)) (cases_lt gate least)
+  is_added g = search (rules, first_added, later_added, cases_lt)
 
   pub stays_ready : IsTree new first levels → length new ≡ length words → gate < 64 * length words - first
       → IsReady (Some earlier) new first levels
-  stays_ready tree as_many fits = record {
-    tree = tree;
-    before = (
-      omega (arith, as_many, fits, earlier_is, ready.before.0),
-      λ g set.
-          ⊎_elim (λ (t : (eqb g later ≡ true) × (g ≡ later)). omega (arith, t.1, earlier_is, later_is, other))
-          (λ (f : (eqb g later ≡ false) × (g ≢ later)).
-          let was : is_in_tree words first g ≡ true =
-          sym (put g ∙ ap (λ c. cond c true (is_in_tree words first g)) f.0) ∙ set in
-          omega (arith, earlier_is, ready.before.1 g was)) (eqb_tells g later),
-    );
-  }
+  stays_ready tree as_many fits = search (rules, eqb_tells)
 
 -- the gate that stands apart is taken, and the tree's least one comes to stand there
 module _ (words new : List ℕ) (first levels least : ℕ) (ready : IsReady (Some least) words first levels) where
   was_later : (g : ℕ) → (not (eqb g least) && (eqb g least || is_in_tree words first g)) ≡ is_in_tree words first g
-  was_later g =
-      ⊎_elim (λ (t : (eqb g least ≡ true) × (g ≡ least)).
-      ap (λ c. not c && (c || is_in_tree words first g)) t.0
-      ∙ sym (ap (is_in_tree words first) t.1 ∙ not_twice words first levels least ready))
-      (λ (f : (eqb g least ≡ false) × (g ≢ least)). ap (λ c. not c && (c || is_in_tree words first g)) f.0)
-      (eqb_tells g least)
+  was_later g = search (rules, not_twice, eqb_tells)
 
   pub others_stay : (next : Option ℕ) → IfNone next ((g : ℕ) → is_in_tree words first g ≡ false)
       → IfNone next (new ≡ words) → IfSome next (λ gate. is_in_tree words first gate ≡ true)
@@ -116,13 +92,7 @@ module _ (words new : List ℕ) (first levels least : ℕ) (ready : IsReady (Som
       → (g : ℕ) → (is_least next g || is_in_tree new first g)
       ≡ (not (eqb g least) && (eqb g least || is_in_tree words first g))
   others_stay None none same there rest g = ap (λ ws. is_in_tree ws first g) same ∙ sym (was_later g)
-  others_stay (Some next) none same there rest g =
-      ⊎_elim (λ (t : (eqb g next ≡ true) × (g ≡ next)).
-      ap (λ c. c || is_in_tree new first g) t.0
-      ∙ sym (ap (is_in_tree words first) t.1 ∙ there))
-      (λ (f : (eqb g next ≡ false) × (g ≢ next)). ap₂ (λ c t. c || t) f.0 (rest g)
-      ∙ ap (λ c. not c && is_in_tree words first g) f.0) (eqb_tells g next)
-      ∙ sym (was_later g)
+  others_stay (Some next) none same there rest g = search (rules, eqb_tells, was_later)
 
   pub next_ready : (next : Option ℕ) → IfNone next ((g : ℕ) → is_in_tree words first g ≡ false)
       → IfNone next (new ≡ words) → IfSome next (λ gate. is_in_tree words first gate ≡ true)
@@ -133,18 +103,4 @@ module _ (words new : List ℕ) (first levels least : ℕ) (ready : IsReady (Som
     tree = tree;
     before = λ g. ap (λ ws. is_in_tree ws first g) same ∙ none g;
   }
-  next_ready (Some next) none same there least_one rest as_many tree = record {
-    tree = tree;
-    before = (
-      omega (arith, as_many, within_words words (first + next) there),
-      λ g set.
-          ⊎_elim (λ (t : (eqb g next ≡ true) × (g ≡ next)).
-          let off : is_in_tree new first g ≡ false = rest g ∙ ap (λ c. not c && is_in_tree words first g) t.0 in
-          let both : true ≡ false = sym set ∙ off in
-          cc)
-          (λ (f : (eqb g next ≡ false) × (g ≢ next)).
-          let was : is_in_tree words first g ≡ true =
-          sym (rest g ∙ ap (λ c. not c && is_in_tree words first g) f.0) ∙ set in
-          omega (arith, f.1, least_one g was)) (eqb_tells g next),
-    );
-  }
+  next_ready (Some next) none same there least_one rest as_many tree = search (rules, within_words, eqb_tells)

@@ -1,4 +1,5 @@
 -- The least ready order: there is one, and there is no other.
+use Rattle.std.proofs.Common.{rules}
 use Rattle.std.proofs.Common.{◌≡◌, ◌≢◌, ◌<◌, ◌≤◌, ◌+◌, ℕ, zero, suc, List, [], ◌∷◌, length, eqb, true, false, refl, sym}
 use Rattle.std.proofs.Common.{ap₂, subst, ◌⊎◌, inl, inr, ⊎_elim, arith}
 use Rattle.std.specs.List.{AllByRecursion}
@@ -69,13 +70,7 @@ module _ (count : ℕ) (needs : ℕ → List ℕ) where
 
   full_where_it_ends : (list taken xs : List ℕ) → ((h : ℕ) → IsAmong h xs → IsAmong h list) → Has list taken xs
       → Ends taken xs → IsFull count needs list
-  full_where_it_ends list taken [] rest has ends = λ g there served.
-      ⊎_elim (λ (a : IsAmong g list). a) (λ (left : ¬ IsAmong g list).
-      absurd (ends g (record {
-        there = there;
-        left = λ a. left (has.0 g a);
-        served = all_weaker (λ h. IsAmong h list) (λ h. IsAmong h taken) (only_taken list taken has) (needs g) served;
-      }))) (among_or_not g list)
+  full_where_it_ends list taken [] rest has ends = search (rules, all_weaker, only_taken, among_or_not)
   full_where_it_ends list taken (x ∷ xs) rest has ends =
       full_where_it_ends list (x ∷ taken) xs (λ h a. rest h (inr a)) (moved list taken xs x (rest x (inl refl)) has)
       ends
@@ -90,12 +85,7 @@ module _ (count : ℕ) (needs : ℕ → List ℕ) where
       (ends_where_full ys [] ys (λ h a. a) (whole ys) full_too)
 
   ready_or_not : (taken : List ℕ) (g : ℕ) → g < count → IsReady count needs taken g ⊎ (¬ IsReady count needs taken g)
-  ready_or_not taken g there =
-      ⊎_elim (λ (a : IsAmong g taken). inr (λ ready. ready.left a)) (λ (left : ¬ IsAmong g taken).
-      ⊎_elim (λ served. inl (record { there = there; left = left; served = served }))
-      (λ (o : ¬ AllByRecursion (λ h. IsAmong h taken) (needs g)). inr (λ ready. o ready.served))
-      (all_or_not taken (needs g))
-      ) (among_or_not g taken)
+  ready_or_not taken g there = search (rules, all_or_not, among_or_not)
 
   abbrev IsLeast : List ℕ → ℕ → Type 0
   IsLeast taken g = IsReady count needs taken g × ((h : ℕ) → h < g → ¬ IsReady count needs taken h)

@@ -1,11 +1,12 @@
 -- Gates are placed, the least ready one each time, where each that is left waits for one that it needs.
+use Rattle.std.proofs.Common.{rules}
 use Rattle.std.proofs.Common.{◌≡◌, ◌≢◌, ◌<◌, ◌≤◌, ◌+◌, ℕ, List, [], ◌∷◌, ◌++◌, eqb, Bool, cond}
 use Rattle.std.proofs.Common.{true, false, Option, None, Some, refl, sym, ap, subst, ◌∙◌, ◌⊎◌, inl, inr, ⊎_elim, arith}
 use Rattle.std.proofs.Common.{true≢false}
 use mathlib.Core.Bool.{◌||◌, ◌&&◌, not}
 use Rattle.std.specs.List.{AllByRecursion}
 use Rattle.std.proofs.lemmas.Bool.{cases_lt}
-use Rattle.std.proofs.lemmas.Bool.Decides.{Decides-eqb, eqb_tells}
+use Rattle.std.proofs.lemmas.Bool.Decides.{eqb_tells}
 use Rattle.aig_core.specs.Wellformed.{IsAmong, AreDistinct}
 use Rattle.aig_core.specs.Order.{IsReady, TakesLeast, IsFull}
 use Rattle.aig_core.specs.Placed.{has_gate}
@@ -165,32 +166,7 @@ module _ (needs : ℕ → List ℕ) (list : List ℕ) where
       → first_missing list (needs gate) ≡ None → ((u : ℕ) → now u ≡ (eqb u gate || has u)) → (seen : ℕ)
       → (served : Option ℕ) → Waits needs list links has seen served (Some gate)
       → Waits needs list links now seen served None
-  waits_no_more links has now gate is told seen served waits =
-      let had : (u : ℕ) → has u ≡ true → now u ≡ true = λ u h. grind (arith, told u, h) in
-      let here : now gate ≡ true = told gate ∙ ap (λ b. b || has gate) ((Decides-eqb gate gate).1 refl) in
-      record {
-        before = waits.before;
-        looked = waits.looked;
-        left = waits.left;
-        lacks = waits.lacks;
-        ready = λ u h. ⊎_elim
-            (λ (t : (eqb u gate ≡ true) × (u ≡ gate)).
-            let out = waits.taken_out gate refl in (
-              subst (λ z. z < seen) (sym t.1) out.0,
-              subst (λ z. ¬ IsAmong z list) (sym t.1) out.1,
-              ap (λ z. first_missing list (needs z)) t.1 ∙ is,
-            ))
-            (λ (f : (eqb u gate ≡ false) × (u ≢ gate)).
-            let old : now u ≡ has u = told u ∙ ap (λ b. b || has u) f.0 in
-            waits.ready u (sym old ∙ h))
-            (eqb_tells u gate);
-        each = λ u l. ⊎_elim (λ (a : IsAmong u list). inl a)
-            (λ rest. ⊎_elim (λ (h : has u ≡ true). inr (inl (had u h)))
-            (λ late. ⊎_elim (λ (w : (k : ℕ) × IsAmong u (list_of links k)). inr (inr (inl w)))
-            (λ (o : Some gate ≡ Some u). let e : gate ≡ u = cc in
-            inr (inl (subst (λ z. now z ≡ true) e here))) late) rest) (waits.each u l);
-        taken_out = λ u o. cc;
-      }
+  waits_no_more links has now gate is told seen served waits = search (rules, eqb_tells)
 
   -- the first gate is taken out of a list
   module _ (links more : List Link) (list_at u : ℕ) (lists : AreLists links)
@@ -243,19 +219,7 @@ module _ (needs : ℕ → List ℕ) (list : List ℕ) where
   -- a gate's list is empty
   pub is_served : (links : List Link) (has : ℕ → Bool) (seen g : ℕ) → list_of links g ≡ []
       → Waits needs list links has seen (Some g) None → Waits needs list links has seen None None
-  is_served links has seen g none waits = record {
-    before = waits.before;
-    looked = waits.looked;
-    left = waits.left;
-    lacks = λ k u s a. ⊎_elim
-        (λ (t : (eqb k g ≡ true) × (k ≡ g)).
-        absurd (subst (IsAmong u) none (subst (λ z. IsAmong u (list_of links z)) t.1 a)))
-        (λ (f : (eqb k g ≡ false) × (k ≢ g)).
-        waits.lacks k u (λ (e : Some g ≡ Some k). let same : g ≡ k = cc in f.1 (sym same)) a) (eqb_tells k g);
-    ready = waits.ready;
-    each = waits.each;
-    taken_out = waits.taken_out;
-  }
+  is_served links has seen g none waits = search (rules, eqb_tells)
 
   -- one more gate is looked at
   pub is_looked_at : (links : List Link) (has : ℕ → Bool) (seen : ℕ) → Waits needs list links has seen None None
@@ -358,15 +322,7 @@ module _ (needs : ℕ → List ℕ) (list : List ℕ) where
 -- at first no gate was looked at
 pub nothing_yet : (needs : ℕ → List ℕ) (links : List Link) (has : ℕ → Bool)
     → ((k : ℕ) → list_of links k ≡ []) → ((g : ℕ) → has g ≡ false) → Waits needs [] links has 0 None None
-nothing_yet needs links has empty none = record {
-  before = λ u a. absurd a;
-  looked = λ k u a. absurd (subst (IsAmong u) (empty k) a);
-  left = λ k u a. absurd (subst (IsAmong u) (empty k) a);
-  lacks = λ k u s a. absurd (subst (IsAmong u) (empty k) a);
-  ready = λ u h. absurd (true≢false (sym h ∙ none u));
-  each = λ u l. absurd (omega (arith, l));
-  taken_out = λ u o. cc;
-}
+nothing_yet needs links has empty none = search rules
 
 pub all_apart : (links : List Link) → ((k : ℕ) → list_of links k ≡ []) → AreApart links
 all_apart links empty m n u a b = absurd (subst (IsAmong u) (empty m) a)

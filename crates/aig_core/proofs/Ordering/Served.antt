@@ -1,4 +1,5 @@
 -- A user of a gate is counted down.
+use Rattle.std.proofs.Common.{rules}
 use Rattle.std.proofs.Common.{◌≡◌, ◌≢◌, ◌<◌, ◌≤◌, ◌+◌, ◌-◌, ◌/◌, ℕ, List, length, get_or, Bool, cond, eqb, ltb, true}
 use Rattle.std.proofs.Common.{false, Option, None, Some, refl, sym, ap, ap₂, ◌∙◌, ⊎_elim, arith}
 use mathlib.Core.Bool.{◌||◌, ◌&&◌}
@@ -49,15 +50,7 @@ module _ (links : List ℕ) (link user next : ℕ) (is : found user next ≡ fol
 -- at the end nothing is left
 pub no_use : (links : List ℕ) (link : ℕ) → None ≡ followed links link → (u : ℕ)
     → count_by (λ x. eqb x u) (users_from links link) ≡ 0
-no_use links link is u =
-    ⊎_elim (λ (t : (eqb link 0 ≡ true) × (link ≡ 0)). ap (λ l. count_by (λ x. eqb x u) (users_from links l)) t.1
-    ∙ ap (count_by (λ x. eqb x u)) (ended 0 links))
-    (λ (f : (eqb link 0 ≡ false) × (link ≢ 0)).
-    let some : followed links link ≡ found ((link - 1) / 2) (get_or links (link - 1) 0) =
-    ap (λ b. cond b None (found ((link - 1) / 2) (get_or links (link - 1) 0))) f.0 in
-    let both : None ≡ found ((link - 1) / 2) (get_or links (link - 1) 0) = is ∙ some in
-    cc)
-    (eqb_tells link 0)
+no_use links link is u = search (rules, ended, eqb_tells)
 
 -- a gate with a use left still waits
 pub waits : (now used first rest u : ℕ) → used ≤ first → now + used ≡ first + (cond (eqb u u) 1 0 + rest) → 0 < now
@@ -88,21 +81,7 @@ module _ (first now : List ℕ) (user : ℕ) (some : 0 < get_or now user 0) wher
   pub still_waits : (used rest : ℕ → ℕ)
       → ((u : ℕ) → get_or now u 0 + used u ≡ get_or first u 0 + (cond (eqb user u) 1 0 + rest u)) → (u : ℕ)
       → get_or less u 0 + used u ≡ get_or first u 0 + rest u
-  still_waits used rest before u =
-      ⊎_elim (λ (t : (eqb u user ≡ true) × (u ≡ user)).
-      let same : eqb user u ≡ true = (Decides-eqb user u).1 (sym t.1) in
-      let was : get_or now u 0 + used u ≡ get_or first u 0 + (1 + rest u) = before u
-      ∙ ap (λ b. get_or first u 0 + (cond b 1 0 + rest u)) same in
-      let is : get_or less u 0 ≡ get_or now u 0 - 1 = ap (λ v. get_or less v 0) t.1 ∙ at_user
-      ∙ ap (λ v. get_or now v 0 - 1) (sym t.1) in
-      let more : 0 < get_or now u 0 = rw t.1 some in
-      omega (arith, was, is, more))
-      (λ (f : (eqb u user ≡ false) × (u ≢ user)).
-      let other : eqb user u ≡ false = ne_eqb user u (λ e. f.1 (sym e)) in
-      let was : get_or now u 0 + used u ≡ get_or first u 0 + (0 + rest u) = before u
-      ∙ ap (λ b. get_or first u 0 + (cond b 1 0 + rest u)) other in
-      omega (arith, was, at_other u f.1))
-      (eqb_tells u user)
+  still_waits used rest before u = search (rules, at_user, ne_eqb, at_other, eqb_tells)
 
   pub one_step : sum less + 1 ≡ sum now
   one_step = let change : sum less + get_or now user 0 ≡ sum now + (get_or now user 0 - 1) =

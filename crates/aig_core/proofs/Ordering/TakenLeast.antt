@@ -1,4 +1,5 @@
 -- Gates are taken, the least ready one each time, by counts of what they wait for.
+use Rattle.std.proofs.Common.{rules}
 use Rattle.std.proofs.Common.{◌≡◌, ◌≢◌, ◌<◌, ◌≤◌, ◌+◌, ℕ, List, [], ◌∷◌, ◌++◌, length, length-append, get_or, Bool}
 use Rattle.std.proofs.Common.{cond, eqb, ltb, true, false, refl, sym, ap, ap₂, subst, ◌∙◌, ◌⊎◌, inl, inr, ⊎_elim, arith}
 use Rattle.std.proofs.Common.{true≢false}
@@ -133,23 +134,7 @@ module _ (count : ℕ) (needs : ℕ → List ℕ) where
       → ((h : ℕ) → IsAmong h list → IsAmong h taken ⊎ IsAmong h xs) → TakesLeast count needs taken xs
       → IsReady count needs list g → ((h : ℕ) → IsReady count needs list h → g ≤ h)
       → TakesLeast count needs taken (xs ++ g ∷ [])
-  at_the_end taken [] list g to from in_turn ready least =
-      let back : (h : ℕ) → IsAmong h list → IsAmong h taken =
-      λ h a. ⊎_elim (λ (b : IsAmong h taken). b) (λ (n : ⊥). absurd n) (from h a) in (
-        record {
-          there = ready.there;
-          left = λ a. ready.left (to g (inl a));
-          served =
-              all_weaker (λ h. IsAmong h list) (λ h. IsAmong h taken) back (needs g) ready.served;
-        },
-        λ h h_ready. least h (record {
-          there = h_ready.there;
-          left = λ a. h_ready.left (back h a);
-          served = all_weaker (λ i. IsAmong i taken) (λ i. IsAmong i list) (λ i a. to i (inl a)) (needs h)
-              h_ready.served;
-        }),
-        tt,
-      )
+  at_the_end taken [] list g to from in_turn ready least = search (rules, all_weaker)
   at_the_end taken (x ∷ xs) list g to from in_turn ready least = (
     in_turn.0,
     in_turn.1,

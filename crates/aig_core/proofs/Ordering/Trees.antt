@@ -1,4 +1,5 @@
 -- Trees of words, where below bit b stands word b + 1.
+use Rattle.std.proofs.Common.{rules}
 use Rattle.std.proofs.Common.{◌≡◌, ◌≢◌, ◌<◌, ◌≤◌, ◌+◌, ◌-◌, ◌*◌, ◌/◌, ◌%◌, ◌^◌, ℕ, zero, suc, List, Bool, true, false}
 use Rattle.std.proofs.Common.{cond, eqb, ltb, length, get_or, refl, sym, subst, ap, ap₂, ◌∙◌, ⊎_elim, arith}
 use mathlib.Core.Bool.{not, beq, ◌||◌, ◌&&◌}
@@ -6,7 +7,7 @@ use Rattle.std.specs.Int.{w64, bit_at}
 use Rattle.std.specs.Int.Bits.{bit_and, bit_or}
 use Rattle.std.proofs.Math.ListN.{set as put}
 use Rattle.std.proofs.lemmas.Bool.{ne_eqb, cases_lt, lt-ltb, ltb-true}
-use Rattle.std.proofs.lemmas.Bool.Decides.{Decides-eqb, eqb_tells}
+use Rattle.std.proofs.lemmas.Bool.Decides.{eqb_tells}
 use Rattle.std.proofs.lemmas.List.{get_or-set_same, get_or-set_other, get_or_past, length-set, length-replicate}
 use Rattle.std.specs.Prelude.{replicate}
 use Rattle.std.specs.Int.{trailing_zeros}
@@ -64,24 +65,7 @@ module _ (words : List ℕ) (k : ℕ) (on : Bool) (after : ℕ) (there : k / 64 
   more = put words (k / 64) after
 
   pub marked_put : (b : ℕ) → is_marked more b ≡ cond (eqb b k) on (is_marked words b)
-  marked_put b =
-      ⊎_elim (λ (t : (eqb (b / 64) (k / 64) ≡ true) × (b / 64 ≡ k / 64)).
-      let new_word : get_or more (b / 64) 0 ≡ after = ap (λ j. get_or more j 0) t.1
-      ∙ get_or-set_same words (k / 64) after 0 there in
-      ⊎_elim (λ (u : (eqb (b % 64) (k % 64) ≡ true) × (b % 64 ≡ k % 64)).
-      ap (λ w. eqb (bit_at w (b % 64)) 1) new_word ∙ bits (b % 64) (omega arith)
-      ∙ ap (λ c. cond c on (eqb (bit_at (get_or words (k / 64) 0) (b % 64)) 1)) u.0
-      ∙ ap (λ c. cond c on (is_marked words b)) (sym ((Decides-eqb b k).1 (one_place b k t.1 u.1)))
-      ) (λ (u : (eqb (b % 64) (k % 64) ≡ false) × (b % 64 ≢ k % 64)).
-      ap (λ w. eqb (bit_at w (b % 64)) 1) new_word ∙ bits (b % 64) (omega arith)
-      ∙ ap (λ c. cond c on (eqb (bit_at (get_or words (k / 64) 0) (b % 64)) 1)) u.0
-      ∙ ap (λ j. eqb (bit_at (get_or words j 0) (b % 64)) 1) (sym t.1)
-      ∙ ap (λ c. cond c on (is_marked words b)) (sym (ne_eqb b k (λ e. u.1 (ap (λ n. n % 64) e))))
-      ) (eqb_tells (b % 64) (k % 64))
-      ) (λ (f : (eqb (b / 64) (k / 64) ≡ false) × (b / 64 ≢ k / 64)).
-      ap (λ w. eqb (bit_at w (b % 64)) 1) (get_or-set_other words (k / 64) (b / 64) after 0 f.1)
-      ∙ ap (λ c. cond c on (is_marked words b)) (sym (ne_eqb b k (λ e. f.1 (ap (λ n. n / 64) e))))
-      ) (eqb_tells (b / 64) (k / 64))
+  marked_put b = search (rules, get_or-set_same, one_place, ne_eqb, eqb_tells, get_or-set_other)
 
   module _ (told : (b : ℕ) → b + 1 < length words → b ≢ k → Tells words b)
       (below : k + 1 < length words → on ≡ ltb 0 (get_or words (k + 1) 0)) where
@@ -134,13 +118,7 @@ not_set false fails = refl
 
 -- a set bit is in a word that is there and has a bit
 word_of : (words : List ℕ) (b : ℕ) → is_marked words b ≡ true → 0 < get_or words (b / 64) 0
-word_of words b set =
-    ⊎_elim (λ (l : get_or words (b / 64) 0 < 1).
-    let none : get_or words (b / 64) 0 ≡ 0 = omega (arith, l) in
-    let off : is_marked words b ≡ false = ap (λ w. eqb (bit_at w (b % 64)) 1) none
-    ∙ ap (λ n. eqb n 1) (bit_at-zero (b % 64)) in
-    let both : true ≡ false = sym set ∙ off in
-    cc) (λ (l : 1 ≤ get_or words (b / 64) 0). omega (arith, l)) (cases_lt (get_or words (b / 64) 0) 1)
+word_of words b set = search (rules, bit_at-zero, cases_lt)
 
 there_where_some : (words : List ℕ) (i : ℕ) → 0 < get_or words i 0 → i < length words
 there_where_some words i some =
@@ -206,13 +184,7 @@ module _ (words : List ℕ) (first levels : ℕ) (tree : IsTree words first leve
   pub climbs : (n level : ℕ) → n + level ≡ levels → (b : ℕ) → first ≤ b → is_marked words b ≡ true
       → IsAt words level (up n b)
   unfolding up first_bit
-  climbs zero level is b low set =
-      let e : level ≡ levels = omega (arith, is) in
-      let here : up zero b ≡ b = refl in record {
-        from = omega (arith, low, tree.first_is, ap first_bit e, here);
-        below = omega (arith, within_words words b set, tree.within, tree.first_is, ap first_bit e, here);
-        set = set;
-      }
+  climbs zero level is b low set = search (rules, within_words)
   climbs (suc n) level is b low set =
       let later : IsAt words (suc level) (up n b) = climbs n (suc level) (omega (arith, is)) b low set in
       let x : ℕ = up n b in
@@ -316,19 +288,7 @@ pub still_tree : (words new : List ℕ) (first levels bit : ℕ) (on : Bool) →
     → length new ≡ length words → ((b : ℕ) → b + 1 < length words → Tells new b)
     → ((b : ℕ) → length words ≤ b + 1 → is_marked new b ≡ cond (eqb b bit) on (is_marked words b))
     → IsTree new first levels
-still_tree words new first levels bit on tree low same tells lowest = record {
-  first_is = tree.first_is;
-  some = rw same tree.some;
-  within = rw same tree.within;
-  few = rw same tree.few;
-  fit = rw same tree.fit;
-  told = λ b above.
-      ⊎_elim (λ (l : b + 1 < length words). tells b l) (λ (l : length words ≤ b + 1).
-      lowest b l ∙ ap (λ c. cond c on (is_marked words b)) (ne_eqb b bit (λ e. absurd (omega (arith, e, above, low))))
-      ∙ tree.told b above
-      ∙ ap (ltb 0) (get_or_past words (b + 1) 0 l) ∙ ap (ltb 0) (sym (get_or_past new (b + 1) 0 (rw same l))))
-      (cases_lt (b + 1) (length words));
-}
+still_tree words new first levels bit on tree low same tells lowest = search (rules, ne_eqb, get_or_past, cases_lt)
 
 -- a tree without gates
 pub empty_words : (n b : ℕ) → is_marked (replicate n 0) b ≡ false
@@ -337,16 +297,7 @@ empty_words n b = ap (λ w. eqb (bit_at w (b % 64)) 1) (zeros n (b / 64)) ∙ ap
 pub empty_tree : (words : List ℕ) (n first levels gates : ℕ) → words ≡ replicate n 0 → n ≡ (first + gates) / 64 + 1
     → first ≡ first_bit levels → first ≤ 2 * gates → gates < 63 * first + 64 → gates < 2147483648
     → IsTree words first levels
-empty_tree words n first levels gates is n_is first_is few all many =
-    let long : length words ≡ n = ap length is ∙ length-replicate n 0 in record {
-      first_is = first_is;
-      some = omega (arith, long, n_is);
-      within = omega (arith, long, n_is, all);
-      few = omega (arith, long, n_is, few, many);
-      fit = omega (arith, long, n_is, many);
-      told = λ b above. ap (λ ws. is_marked ws b) is ∙ empty_words n b ∙ ap (ltb 0) (sym (zeros n (b + 1)))
-          ∙ ap (λ ws. ltb 0 (get_or ws (b + 1) 0)) (sym is);
-    }
+empty_tree words n first levels gates is n_is first_is few all many = search (rules, length-replicate, empty_words, zeros)
 
 -- the gates that wait for nothing, and one gate more
 module _ (waiting : List ℕ) (gate : ℕ) (had : ℕ → Bool)
@@ -362,18 +313,7 @@ module _ (waiting : List ℕ) (gate : ℕ) (had : ℕ → Bool)
 
   pub one_more_ready : get_or waiting gate 0 ≡ 0 → (now : ℕ → Bool) → ((g : ℕ) → now g ≡ (eqb g gate || had g))
       → (g : ℕ) → now g ≡ (ltb g (gate + 1) && eqb (get_or waiting g 0) 0)
-  one_more_ready none now more g =
-      ⊎_elim (λ (t : (eqb g gate ≡ true) × (g ≡ gate)).
-      more g ∙ ap (λ b. b || had g) t.0
-      ∙ sym (ap₂ (λ a b. a && b) (within_now g t.1) (ap (λ n. eqb n 0) (ap (λ j. get_or waiting j 0) t.1 ∙ none))))
-      (λ (f : (eqb g gate ≡ false) × (g ≢ gate)). more g ∙ ap (λ b. b || had g) f.0 ∙ before g
-      ∙ ap (λ b. b && eqb (get_or waiting g 0) 0) (other_gate g f.1)) (eqb_tells g gate)
+  one_more_ready none now more g = search (rules, within_now, other_gate, eqb_tells)
 
   pub none_more_ready : get_or waiting gate 0 ≢ 0 → (g : ℕ) → had g ≡ (ltb g (gate + 1) && eqb (get_or waiting g 0) 0)
-  none_more_ready some g =
-      ⊎_elim (λ (t : (eqb g gate ≡ true) × (g ≡ gate)).
-      before g ∙ ap (λ b. b && eqb (get_or waiting g 0) 0) (last_gate g t.1)
-      ∙ sym (ap₂ (λ a b. a && b) (within_now g t.1)
-      (ne_eqb (get_or waiting g 0) 0 (λ e. some (ap (λ j. get_or waiting j 0) (sym t.1) ∙ e)))))
-      (λ (f : (eqb g gate ≡ false) × (g ≢ gate)). before g
-      ∙ ap (λ b. b && eqb (get_or waiting g 0) 0) (other_gate g f.1)) (eqb_tells g gate)
+  none_more_ready some g = search (rules, last_gate, within_now, ne_eqb, other_gate, eqb_tells)

@@ -1,4 +1,5 @@
 -- Who waits for whom, by a table of rows: what else a gate needs beside the one that it waits for.
+use Rattle.std.proofs.Common.{rules}
 use Rattle.std.proofs.Common.{◌≡◌, ◌≢◌, ◌<◌, ◌≤◌, ◌+◌, ◌-◌, ℕ, zero, suc, List, [], ◌∷◌, ◌++◌, eqb, cond, Bool, true}
 use Rattle.std.proofs.Common.{false, length}
 use Rattle.std.proofs.Common.{Option, None, Some, get_or, refl, sym, ap, subst, ◌∙◌, inl, ⊎_elim, arith}
@@ -106,12 +107,7 @@ module _ (needs : ℕ → List ℕ) (list : List ℕ) (rows : List Row) where
       → ((u : ℕ) → now u ≡ (eqb u gate || has u)) → (seen : ℕ) → (served : Option ℕ)
       → Suffices list (needs gate) asked → RowsWait needs rows list has seen served (Some gate)
       → RowsWait needs rows list now seen served None
-  rows_wait_no_more has now gate asked missing told seen served enough wait = record {
-    waits = waits_no_more needs list (links_in rows) has now gate (enough list (λ g a. a) ∙ missing) told seen served
-        wait.waits;
-    behind = wait.behind;
-    unasked = wait.unasked;
-  }
+  rows_wait_no_more has now gate asked missing told seen served enough wait = search (rules, waits_no_more)
 
   -- the first gate is taken out of the list of one that is listed
   module _ (new : List Row) (list_at u : ℕ) (lists : AreLists (links_in rows))
@@ -161,13 +157,7 @@ module _ (needs : ℕ → List ℕ) (list : List ℕ) (rows : List Row) where
       → seen ≤ count → has g ≡ true → ((h : ℕ) → has h ≡ true → g ≤ h) → (popped : ℕ → Bool)
       → ((u : ℕ) → popped u ≡ (not (eqb u g) && has u))
       → RowsWait needs rows (list ++ g ∷ []) popped seen (Some g) None
-  rows_placed has seen wait count g few ready least popped rest = record {
-    waits = is_placed needs list (links_in rows) has seen wait.waits count g few ready least popped rest;
-    behind = λ k u a more has_all. wait.behind k u a more
-        (has_one_more list more k (has_all k (at_end (list ++ g ∷ []) k))
-        (λ h b. has_all h (among_first h (list ++ g ∷ []) (k ∷ []) (among_first h list (g ∷ []) b))));
-    unasked = wait.unasked;
-  }
+  rows_placed has seen wait count g few ready least popped rest = search (rules, is_placed, has_one_more, at_end, among_first)
 
 -- at first no gate was looked at
 pub rows_at_first : (rows : List Row) (has : ℕ → Bool) → ((k : ℕ) → list_in rows k ≡ [])

@@ -1,7 +1,7 @@
 -- Gates that are taken in turn have their new numbers in turn, each over lower ones.
+use Rattle.std.proofs.Common.{rules}
 use Rattle.std.proofs.Common.{◌≡◌, ◌+◌, ◌*◌, ◌%◌, ◌<◌, ◌≤◌, ℕ, suc, List, [], ◌∷◌, ◌++◌, length, length-append, map}
 use Rattle.std.proofs.Common.{max, min, refl, sym, ap, subst, ◌∙◌, ◌⊎◌, inl, inr, ⊎_elim, append_assoc, arith}
-use Rattle.std.proofs.Math.Nat.{max-le, min-le_left, le-max_left}
 use Rattle.aig_core.specs.declared.circuit.Gate.{Gate}
 use Rattle.aig_core.specs.Literal.{variable_of}
 use Rattle.aig_core.specs.Wellformed.{IsAmong, AreDistinct, IsKnown, operands}
@@ -27,11 +27,7 @@ renumbered_gate vs g = operands_sorted (relabelled_gate (renumbered vs) g)
 lower : (n var left right s t : ℕ) → var ≡ 1 + n → left ≤ n → right ≤ n
     → (max (2 * left + s % 2) (2 * right + t % 2) < 2 * var)
     × (min (2 * left + s % 2) (2 * right + t % 2) ≤ max (2 * left + s % 2) (2 * right + t % 2))
-lower n var left right s t is l r =
-    let a : ℕ = 2 * left + s % 2 in
-    let b : ℕ = 2 * right + t % 2 in
-    let top : max a b ≤ 2 * n + 1 = max-le (omega (arith, l)) (omega (arith, r)) in
-    (omega (arith, top, is), omega (arith, min-le_left a b, le-max_left a b))
+lower n var left right s t is l r = search rules
 
 among_mapped : (l : ℕ) (ls : List ℕ) → IsAmong l ls → IsAmong (variable_of l) (map variable_of ls)
 among_mapped l [] a = absurd a

@@ -1,10 +1,10 @@
 -- The least ready order of a well-formed circuit has each gate once, so its new order has each variable once.
+use Rattle.std.proofs.Common.{rules}
 use Rattle.std.proofs.Common.{◌≡◌, ◌<◌, ◌≤◌, ℕ, List, [], ◌++◌, length, map, sym, subst, ⊎_elim}
-use Rattle.std.proofs.Common.{arith}
 use Rattle.std.specs.List.{AllByRecursion}
 use Rattle.aig_core.specs.declared.circuit.Latch.{Latch}
 use Rattle.aig_core.specs.declared.circuit.Circuit.{Circuit}
-use Rattle.aig_core.specs.Wellformed.{IsAmong, AreDistinct, IsVariableUpTo, IsWellFormed, defined_variables}
+use Rattle.aig_core.specs.Wellformed.{IsAmong, AreDistinct, IsWellFormed, defined_variables}
 use Rattle.aig_core.specs.Order.{IsLeastReadyOrder, gate_operands}
 use Rattle.aig_core.proofs.Ordering.Counted.{among_either}
 use Rattle.aig_core.proofs.Ordering.Cyclic.{among_last}
@@ -46,9 +46,7 @@ module _ (c : Circuit) (order : List ℕ) (good : IsWellFormed c) (least : IsLea
 
   -- every gate is taken
   pub all_taken : length order ≡ length c.gates
-  all_taken =
-      let many : length c.gates ≤ length order = at_least_below (length c.gates) order listed in
-      omega (arith, many, not_more)
+  all_taken = search (rules, at_least_below, listed, not_more)
 
   -- so each gate has a place in the order, and each place of it a gate
   pub order_is_places : ArePlaces (positions_of order) order (length c.gates)
@@ -90,7 +88,4 @@ module _ (c : Circuit) (order : List ℕ) (good : IsWellFormed c) (least : IsLea
       (λ (i : IsAmong v last). among_last first (variables c.gates) v (of_gates v i)) (among_either v first last a)
 
   pub new_fits : length new ≤ c.max_var
-  new_fits =
-      at_most c.max_var new new_once
-      (all_of (IsVariableUpTo c.max_var) new
-      (λ v a. each (IsVariableUpTo c.max_var) (defined_variables c) good.in_range v (is_defined v a)))
+  new_fits = search (rules, at_most, new_once, all_of, each, is_defined)

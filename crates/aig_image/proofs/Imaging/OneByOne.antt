@@ -1,5 +1,6 @@
 -- A circuit in binary order: the order of its gates is 0, 1, 2 and so on.
-use Rattle.std.proofs.Common.{◌≡◌, ◌+◌, ◌*◌, ◌/◌, ◌<◌, ◌≤◌, ℕ, zero, suc, List, [], ◌∷◌, length, map, inl, inr}
+use Rattle.std.proofs.Common.{rules}
+use Rattle.std.proofs.Common.{◌≡◌, ◌+◌, ◌*◌, ◌<◌, ◌≤◌, ℕ, zero, suc, List, [], ◌∷◌, length, map}
 use Rattle.std.proofs.Common.{⊎_elim, arith}
 use Rattle.std.specs.List.{range_with_len}
 use Rattle.std.proofs.lemmas.Bool.{cases_lt}
@@ -19,11 +20,7 @@ module _ (count : ℕ) (needs : ℕ → List ℕ) (falls : (g h : ℕ) → g < c
   AreBelow k seen = ((h : ℕ) → h < k → IsAmong h seen) × ((h : ℕ) → IsAmong h seen → h < k)
 
   one_more : (k : ℕ) (seen : List ℕ) → AreBelow k seen → AreBelow (k + 1) (k ∷ seen)
-  one_more k seen below = (
-    λ h l. ⊎_elim (λ (b : h < k). inr (below.0 h b)) (λ (b : k ≤ h). inl (omega (arith, b, l))) (cases_lt h k),
-    λ h a. ⊎_elim (λ (e : h ≡ k). omega (arith, e))
-        (λ (i : IsAmong h seen). let b : h < k = below.1 h i in omega (arith, b)) a,
-  )
+  one_more k seen below = search rules
 
   next_ready : (k : ℕ) (seen : List ℕ) → k < count → AreBelow k seen → IsReady count needs seen k
   next_ready k seen there below = record {
@@ -70,32 +67,16 @@ numbered_at v (g ∷ gs) numbered (suc i) there =
 
 lower_variable : (x var left right : ℕ) → left < 2 * var → right < 2 * var
     → IsAmong x (map variable_of (left ∷ right ∷ [])) → x < var
-lower_variable x var left right l r a =
-    ⊎_elim (λ (e : x ≡ left / 2). omega (arith, l, e))
-    (λ (i : IsAmong x (right / 2 ∷ [])). ⊎_elim (λ (e : x ≡ right / 2). omega (arith, r, e))
-    (λ (n : ⊥). absurd n) i) a
+lower_variable x var left right l r a = search rules
 
 needs_fall : (v : ℕ) (gates : List Gate) → AreNumberedGates v gates → (g h : ℕ) → g < length gates
     → IsAmong h (gate_operands gates g) → h < g
-needs_fall v gates numbered g h there used =
-    let over = over_one gates g h there used in
-    let here = numbered_at v gates numbered g there in
-    let under = numbered_at v gates numbered h over.0 in
-    let number : (at gates g).var ≡ v + g = here.0 in
-    let number_under : (at gates h).var ≡ v + h = under.0 in
-    let low : (at gates h).var < (at gates g).var =
-    lower_variable (at gates h).var (at gates g).var (at gates g).left (at gates g).right here.1 here.2 over.1 in
-    omega (arith, number, number_under, low)
+needs_fall v gates numbered g h there used = search (rules, over_one, numbered_at, at, lower_variable)
 
 -- so they are taken as they stand
 pub numbered_in_order : (c : Circuit) → IsNumberedInOrder c
     → IsLeastReadyOrder c (range_with_len 0 (length c.gates))
-numbered_in_order c numbered =
-    let falls = needs_fall (1 + length c.inputs + length c.latches) c.gates numbered.gates in
-    record {
-      in_turn = one_by_one (length c.gates) (gate_operands c.gates) falls;
-      full = all_of_them (length c.gates) (gate_operands c.gates) falls;
-    }
+numbered_in_order c numbered = search (rules, needs_fall, one_by_one, all_of_them)
 
 pub in_order : (c : Circuit) → IsInBinaryOrder c → IsLeastReadyOrder c (range_with_len 0 (length c.gates))
 in_order c ordered = numbered_in_order c (is_numbered c ordered)

@@ -1,4 +1,5 @@
 -- The image of a well-formed circuit is well formed, since each step to it keeps a circuit well formed.
+use Rattle.std.proofs.Common.{rules}
 use Rattle.std.proofs.Common.{◌≡◌, ◌+◌, ℕ, List, length, map, refl, sym, subst, arith}
 use Rattle.std.proofs.lemmas.List.{length-map}
 use Rattle.aig_core.specs.declared.circuit.Gate.{Gate}
@@ -27,9 +28,7 @@ module _ (c : Circuit) (order : List ℕ) (good : IsWellFormed c) (least : IsLea
 
   -- each new number goes back to its variable
   names_go_back : NamesOnly (λ v. source_variable vs (renumbered vs v) ≡ v) c
-  names_go_back =
-      let Back : ℕ → Type 0 = λ v. source_variable vs (renumbered vs v) ≡ v in
-      names_only Back c refl (all_of Back (defined_variables c) (back c order good least)) good
+  names_go_back = search (rules, names_only, all_of, back)
 
   abbrev new : Circuit
   new = record (relabelled (renumbered vs) c) { max_var = length vs }
@@ -59,6 +58,4 @@ module _ (c : Circuit) (order : List ℕ) (good : IsWellFormed c) (least : IsLea
 
 pub image_is_ordered : (c image : Circuit) → IsWellFormed c → IsBinaryImage c image
     → IsWellFormed image × IsInBinaryOrder image
-image_is_ordered c image good is =
-    subst (λ (d : Circuit). IsWellFormed d × IsInBinaryOrder d) (sym is.2)
-    (image_is_well_formed c is.0 good is.1, in_binary_order c is.0 good is.1)
+image_is_ordered c image good is = search (rules, image_is_well_formed, in_binary_order)

@@ -1,10 +1,10 @@
 -- A well-formed circuit in binary order is its own image; one whose variables are numbered in order is, once its
 -- operands are sorted.
-use Rattle.std.proofs.Common.{◌≡◌, ◌+◌, ℕ, List, ◌++◌, length, map, refl, sym, subst, ap, ap₂, ◌∙◌}
+use Rattle.std.proofs.Common.{rules}
+use Rattle.std.proofs.Common.{◌≡◌, ℕ, List, length, map, refl, sym, ap, ap₂, ◌∙◌}
 use Rattle.std.specs.List.{range_with_len}
 use Rattle.std.proofs.lemmas.List.FromFn.{length-range_with_len}
 use Rattle.std.proofs.lemmas.Simd.{pick_l_whole}
-use Rattle.aig_core.specs.declared.circuit.Latch.{Latch}
 use Rattle.aig_core.specs.declared.circuit.Gate.{Gate}
 use Rattle.aig_core.specs.declared.circuit.Circuit.{Circuit}
 use Rattle.aig_core.specs.BinaryOrder.{IsInBinaryOrder, IsNumberedInOrder}
@@ -32,9 +32,7 @@ module _ (c : Circuit) (good : IsWellFormed c) (numbered : IsNumberedInOrder c) 
   all_taken = pick_l_whole no_gate c.gates (length c.gates) refl
 
   new_is : in_new_order c order ≡ all
-  new_is =
-      ap (λ gates. (c.inputs ++ map (λ (l : Latch). l.var) c.latches) ++ variables gates) all_taken
-      ∙ numbered_variables_are c numbered
+  new_is = search (rules, variables, all_taken, numbered_variables_are)
 
   same_names : relabelled (renumbered all) c ≡ c
   same_names =
@@ -57,8 +55,4 @@ module _ (c : Circuit) (good : IsWellFormed c) (numbered : IsNumberedInOrder c) 
       (order, numbered_in_order c numbered, sym made)
 
 pub own_image : (c : Circuit) → IsWellFormed c → IsInBinaryOrder c → IsBinaryImage c c
-own_image c good ordered =
-    subst (IsBinaryImage c)
-    (ap (λ (gs : List Gate). with_gates gs c)
-    (sorted_already (1 + length c.inputs + length c.latches) c.gates ordered.gates))
-    (sorted_image c good (is_numbered c ordered))
+own_image c good ordered = search (rules, with_gates, sorted_already, sorted_image, is_numbered)

@@ -1,4 +1,5 @@
 -- The circuit by the numbers that were noted is the image.
+use Rattle.std.proofs.Common.{rules}
 use Rattle.std.proofs.Common.{◌≡◌, ◌≢◌, ◌+◌, ◌≤◌, ℕ, List, [], length, sym, ap, ap₂, ◌∙◌, inr}
 use Rattle.std.proofs.Common.{append-nil, arith}
 use Rattle.std.specs.Option.{unwrap_or}
@@ -66,9 +67,7 @@ module _ (c : Circuit) (order : List ℕ) (good : IsWellFormed c) (least : IsLea
 pub fits : (c : Circuit) (order : List ℕ) → IsWellFormed c → IsLeastReadyOrder c order → (gates : List Gate)
     → gates ≡ taken c.gates order
     → length c.inputs + length c.latches + length gates ≤ LARGEST
-fits c order good least gates are =
-    let many : length gates ≡ length order = ap length are ∙ length-map order _ in
-    omega (arith, many, not_more c order good least, definitions_fit c good, good.limits.max_var)
+fits c order good least gates are = search (rules, length-map, not_more, definitions_fit)
 
 -- the circuit with these gates, by these numbers, of which there are so many
 abbrev made_by : (ℕ → ℕ) → ℕ → List Gate → Circuit → Circuit
@@ -87,8 +86,4 @@ pub made_is_image : (c : Circuit) (r : Renumbering) (made : Circuit) (gates : Li
     → IsRenumberingOf c r
     → made ≡ made_by (number_of r.numbers) r.numbers.noted gates c → gates ≡ unwrap_or r.taken c.gates
     → IsBinaryImage c made
-made_is_image c r made gates good of_it made_is gates_are = (
-  of_it.order,
-  of_it.least,
-  made_is ∙ ap (λ gs. made_by (number_of r.numbers) r.numbers.noted gs c) gates_are ∙ is_image c r good of_it,
-)
+made_is_image c r made gates good of_it made_is gates_are = search (rules, is_image)

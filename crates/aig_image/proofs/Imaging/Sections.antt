@@ -1,4 +1,6 @@
 -- The image of a well-formed circuit is in binary order.
+use Rattle.std.proofs.lemmas.Grind.{common_steps}
+use Rattle.std.proofs.Common.{rules}
 use Rattle.std.proofs.Common.{◌≡◌, ◌+◌, ◌<◌, ◌≤◌, ℕ, zero, suc, List, [], ◌∷◌, ◌++◌, length, length-append, map, refl}
 use Rattle.std.proofs.Common.{sym, ap, ap₂, subst, ◌∙◌, append_assoc, arith}
 use Rattle.std.specs.List.{AllByRecursion, concat, range_with_len, flat_map}
@@ -31,9 +33,7 @@ use Rattle.aig_image.proofs.Imaging.Taken.{taken_variables}
 image_gates : (vs : List ℕ) (gates : List Gate) (order : List ℕ)
     → map operands_sorted (taken (map (relabelled_gate (renumbered vs)) gates) order)
     ≡ map (renumbered_gate vs) (taken gates order)
-image_gates vs gates order =
-    ap (map operands_sorted) (sym (taken_mapped (relabelled_gate (renumbered vs)) refl gates order))
-    ∙ map-map operands_sorted (relabelled_gate (renumbered vs)) (taken gates order)
+image_gates vs gates order = search (rules, taken_mapped, map-map)
 
 -- what holds of all operands holds of those of each gate
 of_gate : (P : ℕ → Type 0) (gates : List Gate) → AllByRecursion P (flat_map operands gates) → (i l : ℕ)
@@ -77,19 +77,13 @@ module _ (c : Circuit) (order : List ℕ) (good : IsWellFormed c) (least : IsLea
       (flat_map operands c.gates) good.known) g l there a
 
   many : length (c.inputs ++ latches) ≡ length (map number c.inputs) + length (map (relabelled_latch number) c.latches)
-  many =
-      length-append c.inputs latches
-      ∙ ap₂ (λ a b. a + b) (sym (length-map c.inputs number))
-      (length-map c.latches (λ (l : Latch). l.var) ∙ sym (length-map c.latches (relabelled_latch number)))
+  many = grind (arith, common_steps)
 
   abbrev new_gates : List Gate
   new_gates = map operands_sorted (taken (map (relabelled_gate number) c.gates) order)
 
   gates_many : length last ≡ length new_gates
-  gates_many =
-      length-map (taken c.gates order) (λ (g : Gate). g.var)
-      ∙ sym (length-map (taken c.gates order) (renumbered_gate vs))
-      ∙ ap length (sym (image_gates vs c.gates order))
+  gates_many = grind (arith, common_steps)
 
   pub in_binary_order : IsInBinaryOrder (image_by order c)
   in_binary_order =

@@ -1,8 +1,8 @@
 -- Where gates stand in order, their least ready order is 0, 1, 2 and so on.
-use Rattle.std.proofs.Common.{◌≡◌, ◌<◌, ◌≤◌, ◌+◌, ℕ, zero, suc, List, [], ◌∷◌, ◌++◌, length, map, take, Option, None}
-use Rattle.std.proofs.Common.{refl, sym, ap, subst, ◌∙◌, ⊎_elim, arith}
+use Rattle.std.proofs.Common.{rules}
+use Rattle.std.proofs.Common.{◌≡◌, ◌<◌, ◌≤◌, ◌+◌, ℕ, zero, suc, List, [], ◌∷◌, ◌++◌, length, map, take, None}
+use Rattle.std.proofs.Common.{refl, sym, subst, ⊎_elim, arith}
 use Rattle.std.specs.List.{range_with_len}
-use Rattle.std.specs.Option.{unwrap_or}
 use Rattle.std.proofs.lemmas.Simd.{pick_l_whole}
 use Rattle.aig_core.specs.declared.circuit.Gate.{Gate}
 use Rattle.aig_core.specs.declared.circuit.Latch.{Latch}
@@ -58,17 +58,7 @@ module _ (first : List ℕ) (gates : List Gate) (once : AreDistinct (first ++ va
       omega (arith, below, same)) (among_either (at gates h).var first (variables (take g gates)) among)) known
 
   falls : (g h : ℕ) → g < length gates → IsAmong h (gate_operands gates g) → h < g
-  falls g h there used =
-      let over = over_one gates g h there used in
-      let known = stand g there in
-      ⊎_elim
-      (λ (e : (at gates h).var ≡ variable_of (at gates g).left). known_falls g h
-      (at gates g).left over.0 there known.0 e)
-      (λ (later : IsAmong (at gates h).var (variable_of (at gates g).right ∷ [])).
-      ⊎_elim
-      (λ (e : (at gates h).var ≡ variable_of (at gates g).right). known_falls g h
-      (at gates g).right over.0 there known.1.0 e) (λ (n : ⊥). absurd n) later)
-      over.1
+  falls g h there used = search (rules, over_one, known_falls)
 
 module _ (c : Circuit) (good : IsWellFormed c) where
   abbrev pub first : List ℕ
@@ -83,13 +73,7 @@ module _ (c : Circuit) (good : IsWellFormed c) where
       (among_last first (variables c.gates) (at c.gates h).var (stands_there c.gates h there))).0
 
   least_as_they_stand : StandInOrder first c.gates → IsLeastReadyOrder c as_they_stand
-  least_as_they_stand stand =
-      let fall = falls first c.gates good.once no_constant stand in
-      record {
-        in_turn = one_by_one (length c.gates) (gate_operands c.gates) fall;
-        full =
-            all_of_them (length c.gates) (gate_operands c.gates) fall;
-      }
+  least_as_they_stand stand = search (rules, falls, no_constant, one_by_one, all_of_them)
 
   taken_as_they_stand : taken c.gates as_they_stand ≡ c.gates
   taken_as_they_stand = pick_l_whole no_gate c.gates (length c.gates) refl
@@ -101,10 +85,4 @@ module _ (c : Circuit) (good : IsWellFormed c) where
   pub in_place : (r : Renumbering) → r.taken ≡ None → StandInOrder first c.gates
       → AreNumbered r.numbers (defined_variables c)
       → FitIntoLiterals (number_of r.numbers) → IsRenumberingOf c r
-  in_place r none stand numbered small = record {
-    order = as_they_stand;
-    least = least_as_they_stand stand;
-    gates = ap (λ (t : Option (List Gate)). unwrap_or t c.gates) none ∙ sym taken_as_they_stand;
-    numbers = subst (λ gs. AreNumbered r.numbers (first ++ variables gs)) (sym taken_as_they_stand) numbered;
-    small = small;
-  }
+  in_place r none stand numbered small = search (rules, least_as_they_stand, taken_as_they_stand, variables)

@@ -1,9 +1,9 @@
 -- The binary image of a circuit is the circuit by other variables.
-use Rattle.std.proofs.Common.{◌≡◌, ◌<◌, ◌≤◌, ℕ, zero, suc, List, [], ◌∷◌, Option, length, map, get_or, refl, sym}
-use Rattle.std.proofs.Common.{ap, subst, ◌∙◌, ◌⊎◌, inl, inr, ⊎_elim, arith}
+use Rattle.std.proofs.Common.{rules}
+use Rattle.std.proofs.Common.{◌≡◌, ◌<◌, ℕ, zero, suc, List, [], ◌∷◌, Option, length, map, get_or, refl, sym}
+use Rattle.std.proofs.Common.{ap, subst, ◌∙◌, ◌⊎◌, ⊎_elim, arith}
 use Rattle.std.specs.Prelude.{max, min}
 use Rattle.std.specs.List.{Contains}
-use Rattle.std.proofs.lemmas.Bool.{cases_lt}
 use Rattle.std.proofs.lemmas.List.{get_or_default, get_or-map}
 use Rattle.aig_core.specs.declared.circuit.Gate.{Gate}
 use Rattle.aig_core.specs.declared.circuit.Circuit.{Circuit}
@@ -22,9 +22,7 @@ use Rattle.aig_image.proofs.Imaging.Ordered.{image_is_ordered}
 use Rattle.aig_image.proofs.Meaning.Renamed.{renamed_assignment, renamed_means_the_same}
 
 pub larger_first : (x y : ℕ) → ((max x y ≡ x) × (min x y ≡ y)) ⊎ ((max x y ≡ y) × (min x y ≡ x))
-larger_first x y =
-    ⊎_elim (λ (l : x < y). inr (omega arith, omega arith)) (λ (l : y ≤ x). inl (omega arith, omega arith))
-    (cases_lt x y)
+larger_first x y = search rules
 
 -- a gate that is taken stands among those that are, its operands sorted
 taken_stands : (gates : List Gate) (p : ℕ) (order : List ℕ) → IsAmong p order
@@ -40,10 +38,7 @@ module _ (f : ℕ → ℕ) (gates : List Gate) where
   image_gate g = operands_sorted (relabelled_gate f g)
 
   gate_renamed : (g : Gate) → IsRenamedGate f g (image_gate g)
-  gate_renamed g = record {
-    variable = refl;
-    operands = larger_first (relabelled_gate f g).left (relabelled_gate f g).right;
-  }
+  gate_renamed g = search rules
 
   image_stands : (order : List ℕ) → ((p : ℕ) → p < length gates → IsAmong p order) → (g : Gate) → Contains gates g
       → Contains (map operands_sorted (taken (map (relabelled_gate f) gates) order)) (image_gate g)
@@ -75,15 +70,7 @@ image_is_renamed c order good least = let f : ℕ → ℕ = renumbered (in_new_o
 -- whatever is written beside the circuit
 pub renamed_with_comment : (f : ℕ → ℕ) (c d : Circuit) (comment : Option (List ℕ)) → IsRenamed f c d
     → IsRenamed f c (record d { comment = comment })
-renamed_with_comment f c d comment is = record {
-  constant = is.constant;
-  inputs = is.inputs;
-  latches = is.latches;
-  outputs = is.outputs;
-  bad = is.bad;
-  constraints = is.constraints;
-  gates = is.gates;
-}
+renamed_with_comment f c d comment is = search rules
 
 pub image_assigns_the_same : ImageAssignsTheSame
 image_assigns_the_same c order state given a good least =

@@ -1,7 +1,8 @@
 -- A circuit by other variables means the same: values of its variables, read through the names, are values of those of
 -- the circuit.
-use Rattle.std.proofs.Common.{◌≡◌, ◌+◌, ◌*◌, ◌/◌, ◌%◌, ℕ, List, [], ◌∷◌, length, map, refl, sym, ap, ap₂}
-use Rattle.std.proofs.Common.{◌∙◌, ⊎_elim, arith}
+use Rattle.std.proofs.Common.{rules}
+use Rattle.std.proofs.Common.{◌≡◌, ℕ, List, [], ◌∷◌, length, map, refl, sym, ap, ap₂}
+use Rattle.std.proofs.Common.{◌∙◌}
 use Rattle.std.proofs.lemmas.List.{length-map}
 use Rattle.aig_core.specs.declared.circuit.Latch.{Latch}
 use Rattle.aig_core.specs.declared.circuit.Gate.{Gate}
@@ -33,10 +34,7 @@ module _ (f : ℕ → ℕ) (a : ℕ → Val) where
   read_back v = a (f v)
 
   same_value : (l : ℕ) → literal_value a (relabelled_literal f l) ≡ literal_value read_back l
-  same_value l =
-      let sign : (2 * f (l / 2) + l % 2) % 2 ≡ l % 2 = omega arith in
-      let variable : (2 * f (l / 2) + l % 2) / 2 ≡ f (l / 2) = omega arith in
-      rw (sign, variable) refl
+  same_value l = search rules
 
   same_values : (ls : List ℕ)
       → map (literal_value a) (map (relabelled_literal f) ls) ≡ map (literal_value read_back) ls
@@ -56,14 +54,7 @@ module _ (f : ℕ → ℕ) (a : ℕ → Val) where
   either_order : (g h : Gate) → HasOperands h (relabelled_literal f g.left) (relabelled_literal f g.right)
       → value_and (literal_value a h.left) (literal_value a h.right)
       ≡ value_and (literal_value read_back g.left) (literal_value read_back g.right)
-  either_order g h has =
-      let at_place : (k l : ℕ) → k ≡ relabelled_literal f l → literal_value a k ≡ literal_value read_back l =
-      λ k l e. ap (literal_value a) e ∙ same_value l in
-      ⊎_elim (λ (e : (h.left ≡ relabelled_literal f g.left) × (h.right ≡ relabelled_literal f g.right)).
-      ap₂ value_and (at_place h.left g.left e.0) (at_place h.right g.right e.1))
-      (λ (e : (h.left ≡ relabelled_literal f g.right) × (h.right ≡ relabelled_literal f g.left)).
-      and_exchanged (literal_value a h.left) (literal_value a h.right)
-      ∙ ap₂ value_and (at_place h.right g.left e.1) (at_place h.left g.right e.0)) has
+  either_order g h has = search (rules, same_value, and_exchanged)
 
   gate_holds : (g h : Gate) → IsRenamedGate f g h → Holds a h → Holds read_back g
   gate_holds g h is holds = ap a (sym is.variable) ∙ holds ∙ either_order g h is.operands

@@ -1,9 +1,9 @@
 -- A new number, carried back to the variable that has it, and a variable's number, found again.
-use Rattle.std.proofs.Common.{◌≡◌, ◌≢◌, ◌+◌, ◌-◌, ◌<◌, ◌≤◌, ℕ, zero, suc, List, [], ◌∷◌, length, true, false, eqb}
+use Rattle.std.proofs.Common.{rules}
+use Rattle.std.proofs.Common.{◌≡◌, ◌≢◌, ◌+◌, ◌<◌, ◌≤◌, ℕ, zero, suc, List, [], ◌∷◌, length, true, false, eqb}
 use Rattle.std.proofs.Common.{get_or}
 use Rattle.std.proofs.Common.{refl, subst, sym, ap, ◌∙◌, ◌⊎◌, ⊎_elim, arith}
 use Rattle.std.specs.List.{position_or_len}
-use Rattle.std.proofs.lemmas.Bool.{ne_eqb}
 use Rattle.std.proofs.lemmas.Bool.Decides.{eqb_tells}
 use Rattle.aig_core.specs.Wellformed.{IsAmong, AreDistinct}
 use Rattle.aig_image.specs.Renumbering.{renumbered, source_variable}
@@ -26,18 +26,11 @@ found_there v (w ∷ vs) a =
 
 -- the number that a place gives, carried back
 pub by_place : (vs : List ℕ) (n : ℕ) → source_variable vs (1 + n) ≡ get_or vs n 0
-by_place vs n =
-    let less : 1 + n - 1 ≡ n = omega arith in
-    rw (ne_eqb (1 + n) 0 (λ e. absurd (omega (arith, e)))) (ap (λ k. get_or vs k 0) less)
+by_place vs n = search rules
 
 module _ (vs : List ℕ) where
   pub back_variable : (v : ℕ) → (v ≡ 0) ⊎ IsAmong v vs → source_variable vs (renumbered vs v) ≡ v
-  back_variable v known =
-      ⊎_elim (λ (t : (eqb v 0 ≡ true) × (v ≡ 0)). rw t.0 (sym t.1))
-      (λ (f : (eqb v 0 ≡ false) × (v ≢ 0)).
-      let among : IsAmong v vs = ⊎_elim (λ (e : v ≡ 0). absurd (f.1 e)) (λ (i : IsAmong v vs). i) known in
-      rw f.0 (by_place vs (position_or_len (λ w. eqb w v) vs) ∙ found_there v vs among))
-      (eqb_tells v 0)
+  back_variable v known = search (rules, by_place, found_there, eqb_tells)
 
 module _ (vs : List ℕ) (once : AreDistinct vs) (some : (v : ℕ) → IsAmong v vs → 1 ≤ v) where
   pub back_again : (n : ℕ) → n ≤ length vs → renumbered vs (source_variable vs n) ≡ n

@@ -1,5 +1,6 @@
 -- Gates whose operands have numbers when they are noted.
-use Rattle.std.proofs.Common.{◌≡◌, ◌<◌, ◌+◌, ℕ, List, ◌++◌, length, take, get_or, subst, ◌∙◌, ◌⊎◌, inl, inr, ⊎_elim}
+use Rattle.std.proofs.Common.{rules}
+use Rattle.std.proofs.Common.{◌≡◌, ◌<◌, ◌+◌, ℕ, List, ◌++◌, length, take, get_or, ◌⊎◌}
 use Rattle.std.proofs.Common.{below_more}
 use Rattle.std.specs.List.{AllByRecursion}
 use Rattle.std.proofs.lemmas.List.{get_or_default}
@@ -16,9 +17,7 @@ abbrev HasNumber : Numbers → ℕ → Type 0
 HasNumber n l = (variable_of l ≡ 0) ⊎ (0 < number_of n (variable_of l))
 
 known : (n : Numbers) (vars : List ℕ) → AreNumbered n vars → (l : ℕ) → HasNumber n l → IsKnown vars l
-known n vars numbered l has =
-    ⊎_elim (λ (z : variable_of l ≡ 0). inl z)
-    (λ (s : 0 < number_of n (variable_of l)). inr (was_noted n vars numbered (variable_of l) s)) has
+known n vars numbered l has = search (rules, was_noted)
 
 module _ (before : List ℕ) (gates : List Gate) where
   -- the operands of a gate are known by the gates before it
@@ -31,9 +30,4 @@ module _ (before : List ℕ) (gates : List Gate) where
       → g ≡ get_or gates i g → HasNumber n g.left → HasNumber n g.right
       → ((k : ℕ) → k < i → IsOverKnown k) → (k : ℕ) → k < i + 1 → IsOverKnown k
   next_over_known n i g numbered there is left right sofar =
-      let vars : List ℕ = before ++ variables (take i gates) in
-      let here : AllByRecursion (IsKnown vars) (operands g) =
-      (known n vars numbered g.left left, (known n vars numbered g.right right, tt)) in
-      below_more _ _ sofar
-      (subst (λ (x : Gate). AllByRecursion (IsKnown vars) (operands x))
-      (is ∙ get_or_default gates i g no_gate there) here)
+      search (rules, variables, known, below_more, get_or_default, no_gate)

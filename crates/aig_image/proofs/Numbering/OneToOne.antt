@@ -1,16 +1,14 @@
 -- Renumbering is one to one from the defined variables onto the numbers from 1 on.
-use Rattle.std.proofs.Common.{◌≡◌, ◌+◌, ◌<◌, ◌≤◌, ℕ, zero, suc, List, ◌++◌, length, get_or, map}
-use Rattle.std.proofs.Common.{sym, ap, ap₂, ◌∙◌, inr, length-append, arith}
+use Rattle.std.proofs.Common.{rules}
+use Rattle.std.proofs.Common.{◌≡◌, ◌+◌, ◌<◌, ◌≤◌, ℕ, zero, suc, List, length, get_or}
+use Rattle.std.proofs.Common.{sym, ap, ◌∙◌, inr, length-append, arith}
 use Rattle.std.proofs.lemmas.List.{length-map}
-use Rattle.aig_core.specs.declared.circuit.Latch.{Latch}
-use Rattle.aig_core.specs.declared.circuit.Gate.{Gate}
 use Rattle.aig_core.specs.declared.circuit.Circuit.{Circuit}
 use Rattle.aig_core.specs.Wellformed.{IsAmong, IsVariableUpTo, IsWellFormed, defined_variables}
 use Rattle.aig_core.specs.Order.{IsLeastReadyOrder}
 use Rattle.aig_core.proofs.Checking.Fitting.{each}
 use Rattle.aig_core.proofs.Ordering.Ranked.{at}
 use Rattle.aig_image.specs.Laws.{IsOneToOneOnto}
-use Rattle.aig_image.specs.Reordered.{taken}
 use Rattle.aig_image.specs.Renumbering.{in_new_order, renumbered, source_variable}
 use Rattle.aig_image.proofs.Numbering.Back.{back_variable}
 use Rattle.aig_image.proofs.Numbering.Places.{number_at}
@@ -26,21 +24,10 @@ module _ (c : Circuit) (order : List ℕ) (good : IsWellFormed c) (least : IsLea
   count = length c.inputs + length c.latches + length c.gates
 
   pub many : length vs ≡ count
-  many =
-      let latches : List ℕ = map (λ (l : Latch). l.var) c.latches in
-      let gates : List ℕ = taken_variables c.gates order in
-      let as_many : length latches ≡ length c.latches = length-map c.latches (λ (l : Latch). l.var) in
-      let all : length gates ≡ length c.gates =
-      length-map (taken c.gates order) (λ (g : Gate). g.var) ∙ length-map order (at c.gates)
-      ∙ all_taken c order good least in
-      length-append (c.inputs ++ latches) gates ∙ ap₂ (λ m n. m + n) (length-append c.inputs latches) all
-      ∙ ap (λ n. length c.inputs + n + length c.gates) as_many
+  many = search (rules, taken_variables, length-map, at, all_taken, length-append)
 
   some : (v : ℕ) → IsAmong v vs → 1 ≤ v
-  some v among =
-      let range : IsVariableUpTo c.max_var v =
-      each (IsVariableUpTo c.max_var) (defined_variables c) good.in_range v (is_defined c order good least v among) in
-      range.0
+  some v among = search (rules, each, is_defined)
 
   -- the variable at a place has the number that is one more
   number_there : (j : ℕ) → j < length vs → renumbered vs (get_or vs j 0) ≡ 1 + j
@@ -67,8 +54,4 @@ module _ (c : Circuit) (order : List ℕ) (good : IsWellFormed c) (least : IsLea
       (v, is_defined c order good least v (here vs j below), omega (arith, number))
 
   pub one_to_one : IsOneToOneOnto (renumbered vs) (defined_variables c) count
-  one_to_one = record {
-    within = within;
-    apart = λ v w first second same. sym (back v first) ∙ ap (source_variable vs) same ∙ back w second;
-    reached = reached;
-  }
+  one_to_one = search (rules, within, back, reached)

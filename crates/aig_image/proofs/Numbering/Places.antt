@@ -1,7 +1,8 @@
 -- New numbers of variables: places in a list without repeats.
+use Rattle.std.proofs.Common.{rules}
 use Rattle.std.proofs.Common.{◌≡◌, ◌≢◌, ◌+◌, ◌<◌, ◌≤◌, ℕ, List, [], ◌∷◌, ◌++◌, true, false, eqb, not, length}
 use Rattle.std.proofs.Common.{length-append, get_or, map, refl, sym, ap, ap₂, subst, ◌∙◌, ◌⊎◌, ⊎_elim, append_assoc}
-use Rattle.std.proofs.Common.{arith, true≢false}
+use Rattle.std.proofs.Common.{arith}
 use Rattle.std.specs.List.{AllByRecursion, position_or_len, range_with_len}
 use Rattle.std.proofs.Math.ListN.{get_or-append}
 use Rattle.std.proofs.Math.Seq.{get_or-append_seam}
@@ -18,11 +19,7 @@ place xs v = position_or_len (λ w. eqb w v) xs
 
 -- what has a place in a list stands there
 pub has_place : (xs : List ℕ) (v : ℕ) → place xs v < length xs → get_or xs (place xs v) 0 ≡ v
-has_place xs v within =
-    ⊎_elim (λ (t : (eqb (get_or xs (place xs v) 0) v ≡ true) × (get_or xs (place xs v) 0 ≡ v)). t.1)
-    (λ (f : (eqb (get_or xs (place xs v) 0) v ≡ false) × (get_or xs (place xs v) 0 ≢ v)).
-    absurd (true≢false (ap not (sym f.0) ∙ prefix_len_stops (λ w. not (eqb w v)) xs 0 within)))
-    (eqb_tells (get_or xs (place xs v) 0) v)
+has_place xs v within = search (rules, prefix_len_stops, eqb_tells)
 
 -- and what is not in the list has none
 pub no_place : (v : ℕ) (xs : List ℕ) → ¬ IsAmong v xs → place xs v ≡ length xs

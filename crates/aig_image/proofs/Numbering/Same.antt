@@ -1,5 +1,6 @@
 -- Where the variables are 1, 2, 3 and so on, new numbers are the old ones.
-use Rattle.std.proofs.Common.{◌≡◌, ◌+◌, ◌≤◌, ℕ, zero, suc, List, [], ◌∷◌, eqb, map, refl, ap, ap₂, ◌∙◌, arith}
+use Rattle.std.proofs.Common.{rules}
+use Rattle.std.proofs.Common.{◌≡◌, ◌+◌, ◌≤◌, ℕ, zero, suc, List, [], ◌∷◌, eqb, map, refl, ap, ◌∙◌, arith}
 use Rattle.std.specs.List.{position_or_len, range_with_len}
 use Rattle.std.proofs.Math.Nat.{max-eq_left, min-eq_right}
 use Rattle.std.proofs.lemmas.Bool.{ne_eqb}
@@ -30,6 +31,4 @@ module _ (m : ℕ) where
 -- operands with the larger one first stay as they are
 pub sorted_already : (v : ℕ) (gs : List Gate) → AreOrderedGates v gs → map operands_sorted gs ≡ gs
 sorted_already v [] ordered = refl
-sorted_already v (g ∷ gs) ordered =
-    ap₂ (λ (h : Gate) (hs : List Gate). h ∷ hs) (ap₂ (gate g.var) (max-eq_left ordered.2) (min-eq_right ordered.2))
-    (sorted_already (suc v) gs ordered.3)
+sorted_already v (g ∷ gs) ordered = search (rules, gate, max-eq_left, min-eq_right, sorted_already (suc v) gs ordered.3)

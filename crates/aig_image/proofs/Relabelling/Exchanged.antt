@@ -1,6 +1,7 @@
 -- A well-formed circuit stays well formed with operands exchanged, and sorting is such an exchange.
+use Rattle.std.proofs.Common.{rules}
 use Rattle.std.proofs.Common.{◌≡◌, ◌<◌, ℕ, zero, suc, List, [], ◌∷◌, ◌++◌, Bool, true, false, length, map}
-use Rattle.std.proofs.Common.{refl, sym, ap, ap₂, subst, ◌∙◌, inl, inr, ⊎_elim, arith}
+use Rattle.std.proofs.Common.{refl, sym, ap, subst, inl, inr, ⊎_elim, arith}
 use Rattle.std.specs.List.{AllByRecursion, concat, flat_map, Contains}
 use Rattle.aig_core.specs.declared.circuit.Latch.{Latch}
 use Rattle.aig_core.specs.declared.circuit.Gate.{Gate}
@@ -101,6 +102,4 @@ twice_exchanged false g = refl
 
 pub sorted_by_flags : (gs : List Gate) → map operands_sorted gs ≡ exchanged_by (map has_smaller_first gs) gs
 sorted_by_flags [] = refl
-sorted_by_flags (g ∷ gs) = ap₂ (λ (h : Gate) (hs : List Gate). h ∷ hs)
-    (sym (twice_exchanged (has_smaller_first g) (operands_sorted g))
-    ∙ ap (exchanged_if (has_smaller_first g)) (sorted_operands_go_back g)) (sorted_by_flags gs)
+sorted_by_flags (g ∷ gs) = search (rules, twice_exchanged, sorted_operands_go_back, sorted_by_flags gs)

@@ -1,6 +1,7 @@
 -- A well-formed circuit stays well formed by other variables from which there is a way back.
+use Rattle.std.proofs.Common.{rules}
 use Rattle.std.proofs.Common.{◌≡◌, ◌+◌, ◌*◌, ◌/◌, ◌%◌, ◌<◌, ◌≤◌, ℕ, zero, suc, List, [], ◌∷◌, ◌++◌, length, map, Option}
-use Rattle.std.proofs.Common.{refl, sym, ap, ap₂, subst, ◌∙◌, inl, inr, ⊎_elim, arith}
+use Rattle.std.proofs.Common.{refl, sym, ap, subst, ◌∙◌, inl, inr, ⊎_elim, arith}
 use Rattle.std.specs.List.{AllByRecursion, concat, flat_map, Contains}
 use Rattle.std.proofs.lemmas.List.{map-append, length-map}
 use Rattle.std.proofs.lemmas.Simd.{map-map}
@@ -13,8 +14,8 @@ use Rattle.aig_core.specs.declared.circuit.Circuit.{Circuit}
 use Rattle.aig_core.specs.declared.circuit.TheConstants.{LARGEST}
 use Rattle.aig_core.specs.Literal.{variable_of}
 use Rattle.aig_core.specs.Wellformed.{IsAmong, AreDistinct, IsKnown, IsRank, IsVariableUpTo}
-use Rattle.aig_core.specs.Wellformed.{HasGoodSymbols, NameApart, IsWellFormed}
-use Rattle.aig_core.specs.Wellformed.{count_of, defined_variables, line_feed, literal_lists, operands, used_literals}
+use Rattle.aig_core.specs.Wellformed.{HasGoodSymbols, IsWellFormed}
+use Rattle.aig_core.specs.Wellformed.{count_of, defined_variables, literal_lists, operands, used_literals}
 use Rattle.aig_core.proofs.Checking.InForm.{joined}
 use Rattle.aig_core.proofs.Ordering.Ranked.{variables}
 use Rattle.aig_image.specs.Relabelled.{relabelled_literal, relabelled_latch, relabelled_gate, relabelled}
@@ -29,13 +30,7 @@ module _ (c d : Circuit) (same : (k : Kind) → count_of c k ≡ count_of d k) w
   positions_there (s ∷ ss) all = (subst (λ n. s.position < n) (same s.kind) all.0, positions_there ss all.1)
 
   pub symbols_kept : c.symbols ≡ d.symbols → HasGoodSymbols c → HasGoodSymbols d
-  symbols_kept are good = record {
-    positions =
-        subst (AllByRecursion (λ (s : Symbol). s.position < count_of d s.kind)) are
-        (positions_there c.symbols good.positions);
-    apart = subst NameApart are good.apart;
-    lines = subst (AllByRecursion (λ (s : Symbol). ¬ IsAmong line_feed s.name)) are good.lines;
-  }
+  symbols_kept are good = search (rules, positions_there)
 
 -- no symbol names a gate
 pub gates_uncounted : (gates : List Gate) (c : Circuit) (k : Kind) → count_of c k ≡ count_of (with_gates gates c) k
@@ -91,9 +86,7 @@ module _ (f : ℕ → ℕ) where
   gates_there gs = map-map (λ (g : Gate). g.var) (relabelled_gate f) gs ∙ sym (map-map f (λ (g : Gate). g.var) gs)
 
   pub defined_relabelled : (c : Circuit) → defined_variables (relabelled f c) ≡ map f (defined_variables c)
-  defined_relabelled c =
-      ap₂ (λ ls gs. map f c.inputs ++ ls ++ gs) (latches_there c.latches) (gates_there c.gates)
-      ∙ sym (map_three f c.inputs (latch_variables c.latches) (variables c.gates))
+  defined_relabelled c = search (rules, latches_there, gates_there, map_three, variables)
 
   operands_relabelled : (gs : List Gate)
       → flat_map operands (map (relabelled_gate f) gs) ≡ map (relabelled_literal f) (flat_map operands gs)
@@ -105,35 +98,21 @@ module _ (f : ℕ → ℕ) where
   joined_either_way : (lists : List (List ℕ))
       → concat (map (map (relabelled_literal f)) lists) ≡ map (relabelled_literal f) (concat lists)
   joined_either_way [] = refl
-  joined_either_way (ls ∷ lists) =
-      ap (λ rest. map (relabelled_literal f) ls ++ rest) (joined_either_way lists)
-      ∙ sym (map-append (relabelled_literal f) ls (concat lists))
+  joined_either_way (ls ∷ lists) = search (rules, map-append, joined_either_way lists)
 
   listed_relabelled : (c : Circuit)
       → concat (literal_lists (relabelled f c)) ≡ map (relabelled_literal f) (concat (literal_lists c))
   listed_relabelled c = ap concat (lists_there f c) ∙ joined_either_way (literal_lists c)
 
   used_relabelled : (c : Circuit) → used_literals (relabelled f c) ≡ map (relabelled_literal f) (used_literals c)
-  used_relabelled c =
-      let nexts =
-      map-map (λ (l : Latch). l.next) (relabelled_latch f) c.latches
-      ∙ sym (map-map (relabelled_literal f) (λ (l : Latch). l.next) c.latches) in
-      ap₂ (λ ls os. ls ++ concat (literal_lists (relabelled f c)) ++ os) nexts (operands_relabelled c.gates)
-      ∙ ap (λ ls. map (relabelled_literal f) (map (λ (l : Latch). l.next) c.latches) ++ ls
-      ++ map (relabelled_literal f) (flat_map operands c.gates)) (listed_relabelled c)
-      ∙ sym (map_three (relabelled_literal f) (map (λ (l : Latch). l.next) c.latches) (concat (literal_lists c))
-      (flat_map operands c.gates))
+  used_relabelled c = search (rules, map-map, operands_relabelled, listed_relabelled, map_three)
 
   among_there : (v : ℕ) (xs : List ℕ) → IsAmong v xs → IsAmong (f v) (map f xs)
   among_there v [] a = absurd a
   among_there v (x ∷ xs) a = ⊎_elim (λ (e : v ≡ x). inl (ap f e)) (λ (i : IsAmong v xs). inr (among_there v xs i)) a
 
   known_there : f 0 ≡ 0 → (vs : List ℕ) (l : ℕ) → IsKnown vs l → IsKnown (map f vs) (relabelled_literal f l)
-  known_there constant vs l known =
-      ⊎_elim (λ (e : variable_of l ≡ 0). inl (variable_there l ∙ ap f e ∙ constant))
-      (λ (i : IsAmong (variable_of l) vs).
-      inr (subst (λ v. IsAmong v (map f vs)) (sym (variable_there l)) (among_there (variable_of l) vs i)))
-      known
+  known_there constant vs l known = search (rules, variable_there, among_there)
 
 module _ (f g : ℕ → ℕ) where
   abbrev Back : ℕ → Type 0
@@ -156,13 +135,7 @@ module _ (f g : ℕ → ℕ) where
   ranked_pair : (rank : ℕ → ℕ) (a b : Gate) → GateNames Back a → GateNames Back b
       → (IsAmong b.var (map variable_of (operands a)) → rank b.var < rank a.var)
       → IsAmong (f b.var) (map variable_of (operands (relabelled_gate f a))) → rank (g (f b.var)) < rank (g (f a.var))
-  ranked_pair rank a b a_back b_back below among =
-      let same : map variable_of (operands (relabelled_gate f a)) ≡ map f (map variable_of (operands a)) =
-      ap₂ (λ (l r : ℕ). l ∷ r ∷ []) (variable_there f a.left) (variable_there f a.right) in
-      let low : rank b.var < rank a.var =
-      below (among_back b.var (map variable_of (operands a)) b_back.0 (a_back.1, (a_back.2, tt))
-      (subst (IsAmong (f b.var)) same among)) in
-      omega (arith, low, ap rank a_back.0, ap rank b_back.0)
+  ranked_pair rank a b a_back b_back below among = search rules
 
   ranked_there : (rank : ℕ → ℕ) (gates : List Gate) → AllByRecursion (GateNames Back) gates
       → IsRank rank gates → IsRank (λ v. rank (g v)) (map (relabelled_gate f) gates)

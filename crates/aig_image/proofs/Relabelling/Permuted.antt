@@ -1,7 +1,8 @@
 -- A well-formed circuit stays well formed with its gates in another order.
+use Rattle.std.proofs.Common.{rules}
 use Rattle.std.proofs.Common.{◌≡◌, ◌<◌, ℕ, List, ◌∷◌, [], ◌++◌, length, get_or, map, refl, sym, ap, subst, ◌∙◌}
 use Rattle.std.proofs.Common.{inl, inr, ⊎_elim, arith}
-use Rattle.std.specs.List.{AllByRecursion, concat, flat_map, Contains}
+use Rattle.std.specs.List.{AllByRecursion, flat_map, Contains}
 use Rattle.std.proofs.lemmas.List.{length-map, get_or-map, get_or_default}
 use Rattle.std.proofs.lemmas.List.Elements.{Contains-get_or}
 use Rattle.aig_core.specs.declared.circuit.Latch.{Latch}
@@ -9,7 +10,7 @@ use Rattle.aig_core.specs.declared.circuit.Gate.{Gate}
 use Rattle.aig_core.specs.declared.circuit.Circuit.{Circuit}
 use Rattle.aig_core.specs.Literal.{variable_of}
 use Rattle.aig_core.specs.Wellformed.{IsAmong, AreDistinct, IsKnown, IsVariableUpTo, IsWellFormed, operands}
-use Rattle.aig_core.specs.Wellformed.{defined_variables, literal_lists, used_literals}
+use Rattle.aig_core.specs.Wellformed.{defined_variables, used_literals}
 use Rattle.aig_core.proofs.Ordering.Counted.{among_either}
 use Rattle.aig_core.proofs.Ordering.Cyclic.{among_last}
 use Rattle.aig_core.proofs.Checking.Fitting.{each, all_weaker}
@@ -57,9 +58,7 @@ module _ (gates : List Gate) (order places : List ℕ) (are : ArePlaces order pl
 
   -- the variable of the gate that is taken at a place
   seen : (p : ℕ) → p < length gates → get_or (variables now) p 0 ≡ get_or (variables gates) (position p) 0
-  seen p below =
-      variable_at now p (omega (arith, below, long)) ∙ ap (λ (g : Gate). g.var) (taken_at p below)
-      ∙ sym (variable_at gates (position p) (position_in p below))
+  seen p below = search (rules, variable_at, long, taken_at, position_in)
 
   -- a gate that is taken is one of the gates, and each gate is taken
   among_then : (v : ℕ) → IsAmong v (variables now) → IsAmong v (variables gates)
@@ -84,15 +83,7 @@ module _ (gates : List Gate) (order places : List ℕ) (are : ArePlaces order pl
       (stands_there now p there)
 
   once_now : AreDistinct (variables gates) → AreDistinct (variables now)
-  once_now once = distinct_by_places (variables now) (λ i k i_in k_in e.
-      let many = length-map now (λ (g : Gate). g.var) in
-      let as_many = length-map gates (λ (g : Gate). g.var) in
-      let i_low : i < length gates = omega (arith, i_in, many, long) in
-      let k_low : k < length gates = omega (arith, k_in, many, long) in
-      let same : position i ≡ position k =
-      same_place (variables gates) once (position i) (position k) (omega (arith, position_in i i_low, as_many))
-      (omega (arith, position_in k k_low, as_many)) (sym (seen i i_low) ∙ e ∙ seen k k_low) in
-      sym (too.1 i i_low).1 ∙ ap (λ q. get_or places q 0) same ∙ (too.1 k k_low).1)
+  once_now once = search (rules, distinct_by_places, variables, length-map, long, same_place, position_in, seen)
 
   each_now : (P : Gate → Type 0) → AllByRecursion P gates → AllByRecursion P now
   each_now P all = by_places P no_gate now (λ p below.
@@ -112,10 +103,7 @@ module _ (order places : List ℕ) (c : Circuit) (are : ArePlaces order places (
   front_variables = c.inputs ++ map (λ (l : Latch). l.var) c.latches
 
   pub order_keeps_once : AreDistinct (defined_variables c) → AreDistinct (defined_variables (reordered order c))
-  order_keeps_once once =
-      swapped_last front_variables (variables c.gates) (variables (taken c.gates order)) once
-      (once_now c.gates order places are too (distinct_back front_variables (variables c.gates) once))
-      (among_then c.gates order places are too)
+  order_keeps_once once = search (rules, swapped_last, variables, once_now, distinct_back, among_then)
 
   pub order_keeps_defined : (v : ℕ) → IsAmong v (defined_variables c)
       → IsAmong v (defined_variables (reordered order c))
@@ -149,13 +137,7 @@ module _ (order places : List ℕ) (c : Circuit) (are : ArePlaces order places (
       known
 
   all_known : AllByRecursion Now (used_literals (reordered order c))
-  all_known =
-      let ends : List ℕ = map (λ (l : Latch). l.next) c.latches ++ concat (literal_lists c) in
-      joined Now ends (flat_map operands current)
-      (all_weaker Then Now known_now ends (front Then ends (flat_map operands c.gates) good.known))
-      (all_weaker Then Now known_now (flat_map operands current)
-      (end_to_end Then current (each_now c.gates order places are too (OperandsHave Then)
-      (gate_by_gate Then c.gates (back Then ends (flat_map operands c.gates) good.known)))))
+  all_known = search (rules, joined, all_weaker, known_now, front, end_to_end, each_now, gate_by_gate, back)
 
   formed : IsWellFormed (reordered order c)
   formed =

@@ -1,4 +1,5 @@
 -- Distinct places below their count are each that of one position.
+use Rattle.std.proofs.Common.{rules}
 use Rattle.std.proofs.Common.{◌≡◌, ◌<◌, ◌≤◌, ℕ, List, ◌∷◌, eqb, length, get_or, refl, sym, ap, ◌∙◌, ⊎_elim, arith}
 use Rattle.std.specs.List.{AllByRecursion, position_or_len}
 use Rattle.std.proofs.lemmas.Bool.{ne_eqb, eq-eqb}
@@ -63,9 +64,7 @@ module _ (places : List ℕ) (once : AreDistinct places) (all : AllByRecursion (
 
 -- what has places has distinct ones
 pub places_apart : (order places : List ℕ) (count : ℕ) → ArePlaces order places count → AreDistinct places
-places_apart order places count are = distinct_by_places places (λ i k i_in k_in e.
-    sym (are.1 i (omega (arith, i_in, are.0))).1 ∙ ap (λ p. get_or order p 0) e
-    ∙ (are.1 k (omega (arith, k_in, are.0))).1)
+places_apart order places count are = search (rules, distinct_by_places)
 
 -- where places are those of an order, and the other way about, their positions are the order
 pub positions_are : (order places : List ℕ) (count : ℕ) → ArePlaces order places count → ArePlaces places order count

@@ -1,8 +1,8 @@
 -- Gates are changed one by one and taken in an order in either turn; sorted operands are exchanged back.
-use Rattle.std.proofs.Common.{◌≡◌, ◌+◌, ◌*◌, ◌<◌, ◌≤◌, ℕ, List, [], ◌∷◌, Bool, true, false, cond, ltb, length, get_or}
-use Rattle.std.proofs.Common.{map, max, min, refl, sym, ap, ap₂, ◌∙◌, ⊎_elim, arith}
-use Rattle.std.proofs.Math.Nat.{max_comm, min_comm, max-eq_left, max-eq_right, min-eq_left, min-eq_right}
-use Rattle.std.proofs.lemmas.Bool.{cases_lt, lt-ltb, le-ltb}
+use Rattle.std.proofs.Common.{rules}
+use Rattle.std.proofs.Common.{◌≡◌, ◌+◌, ◌*◌, ◌<◌, ℕ, List, [], ◌∷◌, Bool, true, false, cond, ltb, length, get_or}
+use Rattle.std.proofs.Common.{map, max, min, refl, ap, ap₂, ◌∙◌, arith}
+use Rattle.std.proofs.Math.Nat.{max_comm, min_comm}
 use Rattle.std.proofs.lemmas.List.{length-map, get_or-map, ext_get_or}
 use Rattle.std.proofs.lemmas.Simd.{map-map}
 use Rattle.aig_core.specs.declared.circuit.Gate.{Gate}
@@ -17,10 +17,7 @@ use Rattle.aig_image.proofs.Relabelling.Relabelled.{with_gates}
 -- what keeps the gate that stands nowhere is done to gates before or after they are taken
 pub taken_mapped : (h : Gate → Gate) → h no_gate ≡ no_gate → (gates : List Gate) (order : List ℕ)
     → map h (taken gates order) ≡ taken (map h gates) order
-taken_mapped h kept gates order =
-    map-map h (λ at. get_or gates at no_gate) order
-    ∙ map_each (λ at. h (get_or gates at no_gate)) (λ at. get_or (map h gates) at no_gate)
-    (λ at. sym (read_mapped h no_gate no_gate kept gates at)) order
+taken_mapped h kept gates order = search (rules, map-map, map_each, read_mapped)
 
 pub order_commutes : (f : ℕ → ℕ) (order : List ℕ) (c : Circuit) → f 0 ≡ 0
     → relabelled f (reordered order c) ≡ reordered order (relabelled f c)
@@ -40,14 +37,10 @@ taken_back gates order places are =
 
 -- the larger and the smaller of two numbers, in the order that they had
 left_kept : (a b : ℕ) → cond (ltb a b) (min a b) (max a b) ≡ a
-left_kept a b =
-    ⊎_elim (λ (l : a < b). rw (lt-ltb a b l) (min-eq_left (omega (arith, l))))
-    (λ (l : b ≤ a). rw (le-ltb a b l) (max-eq_left l)) (cases_lt a b)
+left_kept a b = search rules
 
 right_kept : (a b : ℕ) → cond (ltb a b) (max a b) (min a b) ≡ b
-right_kept a b =
-    ⊎_elim (λ (l : a < b). rw (lt-ltb a b l) (max-eq_right (omega (arith, l))))
-    (λ (l : b ≤ a). rw (le-ltb a b l) (min-eq_right l)) (cases_lt a b)
+right_kept a b = search rules
 
 pub sorted_operands_go_back : (g : Gate) → exchanged_if (has_smaller_first g) (operands_sorted g) ≡ g
 sorted_operands_go_back g = ap₂ (gate g.var) (left_kept g.left g.right) (right_kept g.left g.right)

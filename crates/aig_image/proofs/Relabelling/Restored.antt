@@ -1,4 +1,5 @@
 -- What was converted is restored, and what was restored is converted to what it was restored from.
+use Rattle.std.proofs.Common.{rules}
 use Rattle.std.proofs.Common.{Bool, ◌≡◌, ℕ, List, ◌++◌, get_or, length, map, refl, sym, ap, ap₂, subst, ◌∙◌}
 use Rattle.std.proofs.lemmas.List.{length-map}
 use Rattle.std.proofs.lemmas.Simd.{map-map}
@@ -8,7 +9,7 @@ use Rattle.aig_image.specs.Relabelled.{relabelled, relabelled_gate, NamesOnly}
 use Rattle.aig_core.specs.declared.circuit.Latch.{Latch}
 use Rattle.aig_core.specs.Wellformed.{defined_variables}
 use Rattle.aig_core.proofs.Ordering.Ranked.{variables}
-use Rattle.aig_image.specs.Reordered.{no_gate, taken, reordered, operands_sorted, has_smaller_first, exchanged_by}
+use Rattle.aig_image.specs.Reordered.{taken, reordered, operands_sorted, has_smaller_first, exchanged_by}
 use Rattle.aig_image.specs.Reordered.{with_operands_exchanged}
 use Rattle.aig_image.proofs.Relabelling.Exchanged.{same_variables}
 use Rattle.aig_image.proofs.Relabelling.Formed.{defined_relabelled}
@@ -69,10 +70,7 @@ restored_is_converted f g order places flags x constant there are larger_first =
 -- the variables of gates that are taken
 pub variables_taken : (gs : List Gate) (order : List ℕ)
     → variables (taken gs order) ≡ map (λ at. get_or (variables gs) at 0) order
-variables_taken gs order =
-    map-map (λ (g : Gate). g.var) (λ at. get_or gs at no_gate) order
-    ∙ map_each (λ at. (get_or gs at no_gate).var) (λ at. get_or (variables gs) at 0)
-    (λ at. sym (read_mapped (λ (g : Gate). g.var) no_gate 0 refl gs at)) order
+variables_taken gs order = search (rules, map-map, map_each, variables, read_mapped)
 
 -- in the order that it had, a restored circuit defines what the circuit does, by other variables
 pub defined_in_order : (g : ℕ → ℕ) (order places : List ℕ) (flags : List Bool) (x : Circuit) → g 0 ≡ 0

@@ -1,4 +1,5 @@
 -- So many lines of a map block: their text is read as what they tell, and what is read is their text.
+use Rattle.std.proofs.Common.{rules}
 use Rattle.std.proofs.Common.{◌≡◌, ◌+◌, ℕ, zero, suc, List, [], ◌∷◌, ◌++◌, length, map, Option, Some, None, Ok}
 use Rattle.std.proofs.Common.{refl, sym, ap, subst, ◌∙◌, append_assoc}
 use Rattle.std.specs.List.{AllByRecursion, flat_map}
@@ -41,9 +42,7 @@ module _ {T : Type 0} {entry : List ℕ → Option (T × List ℕ)} {row : T →
   pub entries_read : (count number : ℕ) (bytes : List ℕ) (r : List T × List ℕ)
       → entries_at entry number count bytes ≡ Ok r → AreLinesOf row Good count bytes r
   unfolding entries_at
-  entries_read zero number bytes r h =
-      let is : ([], bytes) ≡ r = cc in
-      subst (AreLinesOf row Good 0 bytes) is (record { long = refl; good = tt; text = refl })
+  entries_read zero number bytes r h = search rules
   entries_read (suc count) number bytes r h =
       let a = both_ok _ _ _ h in
       let b = both_ok _ _ _ a.2 in

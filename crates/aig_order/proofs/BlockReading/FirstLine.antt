@@ -1,12 +1,11 @@
 -- The first line of a map block: where it stands at the front of the comment, and counts what the circuit has, it is
 -- read; and what is read is such a line.
-use Rattle.std.proofs.Common.{◌≡◌, ◌≤◌, ◌+◌, ◌&&◌, ℕ, true, List, [], ◌∷◌, ◌++◌, length, take, drop, Some}
+use Rattle.std.proofs.Common.{rules}
+use Rattle.std.proofs.Common.{◌≡◌, ◌≤◌, ◌+◌, ◌&&◌, ℕ, List, [], ◌∷◌, ◌++◌, length, Some}
 use Rattle.std.proofs.Common.{Ok, refl, sym, ap, subst, ◌∙◌, arith}
 use Rattle.std.specs.Prelude.{◌==◌, nat_le, codes}
 use Rattle.std.specs.Option.{unwrap_or}
-use Rattle.std.specs.Str.{bytes_eq}
 use Rattle.std.specs.Bool.{Decides}
-use Rattle.std.proofs.lemmas.Bool.Decides.{Decides-and, Decides-eqb}
 use Rattle.std.proofs.lemmas.List.{take-append-drop}
 use Rattle.std.proofs.lemmas.Option.{cond_some}
 use Rattle.std.proofs.lemmas.Slice.Eq.{bytes_eq-Decides}
@@ -29,12 +28,7 @@ text_is_read text rest =
     rw (take-append_seam text rest, drop-append_seam text rest, (bytes_eq-Decides text text).1 refl) refl
 
 pub text_reads : (text bytes rest : List ℕ) → after_text text bytes ≡ Some rest → bytes ≡ text ++ rest
-text_reads text bytes rest h =
-    let front : List ℕ = take (length text) bytes in
-    let behind : List ℕ = drop (length text) bytes in
-    let t : (bytes_eq front text ≡ true) × (behind ≡ rest) = cond_some (bytes_eq front text) behind rest h in
-    let same : front ≡ text = (bytes_eq-Decides front text).0 t.0 in
-    sym (take-append-drop (length text) bytes) ∙ (λ j. same j ++ t.1 j)
+text_reads text bytes rest h = search (rules, cond_some, bytes_eq-Decides, take-append-drop)
 
 -- the numbers of a first line
 abbrev pub row_of : FirstLine → List ℕ
@@ -43,9 +37,7 @@ row_of f = 1 ∷ f.max_var ∷ f.inputs ∷ f.latches ∷ f.gates ∷ one_if f.h
 -- the test of its numbers
 line_test : (version m flag : ℕ)
     → Decides ((version == 1) && (nat_le m LARGEST && nat_le flag 1)) ((version ≡ 1) × ((m ≤ LARGEST) × (flag ≤ 1)))
-line_test version m flag =
-    Decides-and (version == 1) (nat_le m LARGEST && nat_le flag 1) (Decides-eqb version 1)
-    (Decides-and (nat_le m LARGEST) (nat_le flag 1) (at_most m LARGEST) (at_most flag 1))
+line_test version m flag = search (rules, at_most)
 
 -- no more inputs, latches and gates than indices
 abbrev Fits : FirstLine → Type 0
@@ -120,27 +112,12 @@ pub record IsFront (x : Circuit) (r : FirstLine × List ℕ) : Type 0 where
 counts_test : (x : Circuit) (f : FirstLine) → Decides (counts_match x f) ((f.inputs ≡ length x.inputs)
     × ((f.latches ≡ length x.latches) × ((f.gates ≡ length x.gates)
     × (length x.inputs + length x.latches + length x.gates ≤ f.max_var))))
-counts_test x f =
-    Decides-and _ _ (Decides-eqb f.inputs (length x.inputs))
-    (Decides-and _ _ (Decides-eqb f.latches (length x.latches))
-    (Decides-and _ _ (Decides-eqb f.gates (length x.gates))
-    (at_most (length x.inputs + length x.latches + length x.gates) f.max_var)))
+counts_test x f = search (rules, at_most)
 
 -- such a line is read, and what is read is such a line
 pub front_is_read : (x : Circuit) (r : FirstLine × List ℕ) → IsFront x r → counted_line x ≡ Ok r
 unfolding counted_line
-front_is_read x r is =
-    let word : List ℕ = codes "aigmap " in
-    let behind : List ℕ = line (row_of r.0) r.1 in
-    let begins : after_text word (unwrap_or x.comment []) ≡ Some behind =
-    ap (after_text word) is.text ∙ text_is_read word behind in
-    let low : length x.inputs + length x.latches + length x.gates ≤ r.0.max_var =
-    omega (arith, is.inputs, is.latches, is.gates, is.fits) in
-    rw (
-      begins,
-      first_is_read r.0 r.1 is.few is.fits,
-      (counts_test x r.0).1 (is.inputs, (is.latches, (is.gates, low))),
-    ) refl
+front_is_read x r is = search (rules, line, text_is_read, first_is_read, counts_test)
 
 pub front_reads : (x : Circuit) (r : FirstLine × List ℕ) → counted_line x ≡ Ok r → IsFront x r
 unfolding counted_line

@@ -1,16 +1,17 @@
 -- The lines of a map block: the text of one is read as what it tells, and what is read is the text of what it tells.
+use Rattle.std.proofs.Common.{rules}
 use Rattle.std.proofs.Common.{◌≡◌, ◌<◌, ◌≤◌, ◌^◌, ◌+◌, ◌-◌, ◌&&◌, ℕ, zero, suc, Bool, true, false, eqb, arith}
 use Rattle.std.proofs.Common.{append_assoc, List, [], ◌∷◌, ◌++◌, length, get_or, drop, Option, Some, refl, sym, ap, subst}
 use Rattle.std.proofs.Common.{◌∙◌}
 use Rattle.std.specs.Prelude.{◌==◌, decimal, nat_lt, nat_le}
 use Rattle.std.specs.Bool.{Decides}
 use Rattle.std.proofs.lemmas.Bool.{leb-true, le-leb}
-use Rattle.std.proofs.lemmas.Bool.Decides.{Decides-and, Decides-ltb}
+use Rattle.std.proofs.lemmas.Bool.Decides.{Decides-and}
 use Rattle.std.proofs.lemmas.Fmt.{decimal_digit}
 use Rattle.std.proofs.lemmas.Option.{cond_some}
 use Rattle.aig_core.specs.declared.circuit.TheConstants.{LARGEST}
 use Rattle.aig_core.specs.Wellformed.{IsVariableUpTo}
-use Rattle.aig_text.specs.AsciiText.{more_numbers_text, numbers_text}
+use Rattle.aig_text.specs.AsciiText.{numbers_text}
 use Rattle.aig_text.specs.CanonicalNumber.{canonical_before}
 use Rattle.aig_text.proofs.Canonical.Numbers.{canonical_is_read, canonical_reads}
 use Rattle.aig_text.proofs.Grammar.NumberLines.{some_then}
@@ -29,9 +30,7 @@ IsSmall n = n < 2 ^ 33
 -- a number with others behind it in its line, and the last one of a line, are read
 pub number_is_read : (n m : ℕ) (ns rest : List ℕ) → IsSmall n
     → number_at (line (n ∷ m ∷ ns) rest) ≡ Some (n, line (m ∷ ns) rest)
-number_is_read n m ns rest small =
-    ap (canonical_before 32) (append_assoc (decimal n) (more_numbers_text (m ∷ ns)) rest)
-    ∙ canonical_is_read n 32 (line (m ∷ ns) rest) small refl
+number_is_read n m ns rest small = search (rules, append_assoc, canonical_is_read)
 
 pub last_is_read : (n : ℕ) (rest : List ℕ) → IsSmall n → last_number_at (line (n ∷ []) rest) ≡ Some (n, rest)
 last_is_read n rest small =
@@ -53,9 +52,7 @@ flag_is_read (a ∷ b ∷ rest) long ends low high =
 -- and where they are read, they stand there
 pub number_reads : (n m : ℕ) (ns bytes after rest : List ℕ) → IsSmall n → number_at bytes ≡ Some (n, after)
     → after ≡ line (m ∷ ns) rest → bytes ≡ line (n ∷ m ∷ ns) rest
-number_reads n m ns bytes after rest small h others =
-    canonical_reads n 32 bytes after small h ∙ ap (λ (t : List ℕ). decimal n ++ 32 ∷ t) others
-    ∙ sym (append_assoc (decimal n) (more_numbers_text (m ∷ ns)) rest)
+number_reads n m ns bytes after rest small h others = search (rules, canonical_reads, append_assoc)
 
 pub last_reads : (n : ℕ) (bytes rest : List ℕ) → IsSmall n → last_number_at bytes ≡ Some (n, rest)
     → bytes ≡ line (n ∷ []) rest
@@ -96,9 +93,7 @@ variable_test m v = Decides-and (nat_le 1 v) (nat_le v m) (at_most 1 v) (at_most
 gate_test : (m count v place flag : ℕ)
     → Decides (is_variable m v && (nat_lt place count && nat_le flag 1))
     (IsVariableUpTo m v × ((place < count) × (flag ≤ 1)))
-gate_test m count v place flag =
-    Decides-and (is_variable m v) (nat_lt place count && nat_le flag 1) (variable_test m v)
-    (Decides-and (nat_lt place count) (nat_le flag 1) (Decides-ltb place count) (at_most flag 1))
+gate_test m count v place flag = search (rules, variable_test, at_most)
 
 module _ (m : ℕ) (few : m ≤ LARGEST) where
   variable_is_read : (v : ℕ) (rest : List ℕ) → IsVariableUpTo m v
@@ -109,12 +104,7 @@ module _ (m : ℕ) (few : m ≤ LARGEST) where
   variable_reads : (bytes : List ℕ) (x : ℕ × List ℕ) → variable_at m bytes ≡ Some x
       → IsLineOf variable_row (IsVariableUpTo m) bytes x
   unfolding variable_at
-  variable_reads bytes x h =
-      let a = some_then (last_number_at bytes) _ _ h in
-      let t = cond_some (is_variable m a.0.0) a.0 x a.2 in
-      let good : IsVariableUpTo m a.0.0 = (variable_test m a.0.0).0 t.0 in
-      subst (IsLineOf variable_row (IsVariableUpTo m) bytes) t.1
-      (good, last_reads a.0.0 bytes a.0.1 (omega (arith, good.1, few)) a.1)
+  variable_reads bytes x h = search (rules, some_then, cond_some, variable_test, last_reads)
 
   -- the lines of inputs and latches
   pub variables_are_exact : IsExact (variable_at m) variable_row (IsVariableUpTo m)

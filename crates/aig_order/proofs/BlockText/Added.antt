@@ -1,8 +1,8 @@
 -- The text of a map block, part by part as it is put.
-use Rattle.std.proofs.Common.{◌≡◌, ◌+◌, ℕ, List, [], ◌∷◌, ◌++◌, length, map}
-use Rattle.std.proofs.Common.{sym, ap, ap₂, ◌∙◌, append_assoc, subst}
+use Rattle.std.proofs.Common.{rules}
+use Rattle.std.proofs.Common.{◌≡◌, ◌+◌, ℕ, List, ◌++◌, length, map}
+use Rattle.std.proofs.Common.{ap₂, append_assoc, subst}
 use Rattle.std.specs.List.{flat_map}
-use Rattle.std.specs.Option.{is_some}
 use Rattle.std.proofs.lemmas.List.{length-map}
 use Rattle.std.proofs.lemmas.List.Concat.{flat_map-append}
 use Rattle.std.proofs.lemmas.List.Folds.{flat_map-map}
@@ -13,7 +13,7 @@ use Rattle.aig_core.specs.declared.circuit.Gate.{Gate}
 use Rattle.aig_core.specs.declared.circuit.Circuit.{Circuit}
 use Rattle.aig_text.specs.AsciiText.{numbers_text}
 use Rattle.aig_order.specs.declared.map_block.MappedGate.{MappedGate}
-use Rattle.aig_order.specs.MapBlock.{one_if, first_row, variable_row, gate_row, rows_of, first_line_text, last_line}
+use Rattle.aig_order.specs.MapBlock.{first_row, variable_row, gate_row, rows_of, first_line_text, last_line}
 use Rattle.aig_order.specs.MapBlock.{block_by, block_text, mapped_gate}
 use Rattle.aig_order.specs.Parts.Recorded.{counted_row}
 
@@ -42,44 +42,28 @@ module _ (number : ℕ → ℕ) (c : Circuit) where
 
   -- the numbers of the first line
   first_is : counted_row c ≡ first_row (block_by number c)
-  first_is =
-      ap₂ (λ latches gates. 1 ∷ c.max_var ∷ length c.inputs ∷ latches ∷ gates ∷ one_if (is_some c.comment) ∷ [])
-      (sym (length-map c.latches (λ (l : Latch). l.var))) (sym (length-map c.gates (mapped_gate number first_gate)))
+  first_is = search (rules, length-map)
 
   -- the lines of inputs, of latches and of gates
   inputs_text : flat_map numbers_text (map variable_row c.inputs) ≡ flat_map of_variable c.inputs
   inputs_text = flat_map-map numbers_text variable_row c.inputs
 
   latches_text : flat_map numbers_text (map variable_row latch_variables) ≡ flat_map of_latch c.latches
-  latches_text =
-      flat_map-map numbers_text variable_row latch_variables
-      ∙ flat_map-map of_variable (λ (l : Latch). l.var) c.latches
+  latches_text = search (rules, flat_map-map)
 
   gates_text : flat_map numbers_text (map gate_row recorded_gates) ≡ flat_map (of_gate first_gate) c.gates
-  gates_text =
-      flat_map-map numbers_text gate_row recorded_gates
-      ∙ flat_map-map (λ x. numbers_text (gate_row x)) (mapped_gate number first_gate) c.gates
+  gates_text = search (rules, flat_map-map)
 
   -- the lines between the first and the last
   rows_text : (flat_map of_variable c.inputs ++ flat_map of_latch c.latches) ++ flat_map (of_gate first_gate) c.gates
       ≡ flat_map numbers_text (rows_of (block_by number c))
-  rows_text =
-      let inputs : List (List ℕ) = map variable_row c.inputs in
-      let latches : List (List ℕ) = map variable_row latch_variables in
-      sym (flat_map-append numbers_text (inputs ++ latches) (map gate_row recorded_gates)
-      ∙ ap₂ (λ (a b : List ℕ). a ++ b)
-      (flat_map-append numbers_text inputs latches ∙ ap₂ (λ (a b : List ℕ). a ++ b) inputs_text latches_text)
-      gates_text)
+  rows_text = search (rules, flat_map-append, inputs_text, latches_text, gates_text)
 
   parts_text : first_line_text (counted_row c)
       ++ (flat_map of_variable c.inputs ++ (flat_map of_latch c.latches
       ++ (flat_map (of_gate first_gate) c.gates ++ last_line))) ≡ block_text (block_by number c)
   unfolding block_text
-  parts_text =
-      ap (λ (rows : List ℕ). first_line_text (counted_row c) ++ rows)
-      (in_turn (flat_map of_variable c.inputs) (flat_map of_latch c.latches) (flat_map (of_gate first_gate) c.gates)
-      last_line)
-      ∙ ap₂ (λ row (rows : List ℕ). first_line_text row ++ (rows ++ last_line)) first_is rows_text
+  parts_text = search (rules, in_turn, first_is, rows_text)
 
   module _ {W : Type 0} where
     -- the lines of a block, one section after the other

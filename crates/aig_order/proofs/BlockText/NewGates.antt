@@ -1,5 +1,6 @@
 -- The text of a map block, put of variables that were kept and of the circuit by other ones.
-use Rattle.std.proofs.Common.{◌≡◌, ◌<◌, ℕ, List, [], ◌∷◌, length, get_or, map, ap, ap₂, ◌∙◌, arith}
+use Rattle.std.proofs.Common.{rules}
+use Rattle.std.proofs.Common.{◌≡◌, ◌<◌, ℕ, List, [], ◌∷◌, length, get_or, ap, ◌∙◌}
 use Rattle.std.specs.Option.{is_some}
 use Rattle.std.proofs.lemmas.List.{get_or_default, get_or-map, length-map}
 use Rattle.aig_core.specs.declared.circuit.Gate.{Gate}
@@ -21,13 +22,7 @@ pub recorded_is : (f : ℕ → ℕ) (first : ℕ) (old : List Gate) (variables :
     → var ≡ get_or variables k var → new ≡ get_or gates k new
     → recorded_by first var new ≡ mapped_gate f first (at old k)
 recorded_is f first old variables gates k var new are low var_is new_is =
-    let many = as_many_old f old variables gates are in
-    let as_many : length variables ≡ length old = ap length are.0 ∙ length-map old (λ (g : Gate). g.var) in
-    ap₂ (recorded_by first)
-    (var_is ∙ get_or_default variables k var 0 (omega (arith, low, many, as_many)) ∙ ap (λ vs. get_or vs k 0) are.0
-    ∙ get_or-map (λ (g : Gate). g.var) old k no_gate 0 (omega (arith, low, many)))
-    (new_is ∙ get_or_default gates k new no_gate low ∙ ap (λ (gs : List Gate). at gs k) are.1
-    ∙ get_or-map (relabelled_gate f) old k no_gate no_gate (omega (arith, low, many)))
+    search (rules, as_many_old, length-map, get_or_default, get_or-map, no_gate, at)
 
 module _ (f : ℕ → ℕ) (c new : Circuit) (is : new ≡ relabelled f c) where
   -- there are as many of each
@@ -45,8 +40,4 @@ module _ (f : ℕ → ℕ) (c new : Circuit) (is : new ≡ relabelled f c) where
 
   -- and the first line is the same
   pub same_counts : counted_row new ≡ counted_row c
-  same_counts =
-      ap counted_row is
-      ∙ ap₂ (λ inputs latches. row inputs latches (length (map (relabelled_gate f) c.gates))) (length-map c.inputs f)
-      (length-map c.latches (relabelled_latch f))
-      ∙ ap (row (length c.inputs) (length c.latches)) (length-map c.gates (relabelled_gate f))
+  same_counts = search (rules, length-map)

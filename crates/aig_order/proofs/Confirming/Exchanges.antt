@@ -1,5 +1,6 @@
 -- Operands that are recorded as exchanged differ in the source exactly where they differ in the image.
-use Rattle.std.proofs.Common.{◌≡◌, ◌↔◌, ◌<◌, ℕ, List, Bool, true, false, length, get_or, sym, ap, subst, ◌∙◌, arith}
+use Rattle.std.proofs.Common.{rules}
+use Rattle.std.proofs.Common.{◌≡◌, ◌↔◌, ◌<◌, ℕ, List, Bool, true, false, length, get_or, sym, ap, ◌∙◌, arith}
 use Rattle.std.proofs.lemmas.List.{get_or-map, length-map}
 use Rattle.aig_core.specs.declared.circuit.Gate.{Gate}
 use Rattle.aig_core.specs.declared.circuit.Circuit.{Circuit}
@@ -23,11 +24,7 @@ use Rattle.aig_order.proofs.Sources.RecordedAt.{none_recorded, recorded_at}
 pub exchanges_of_same : (b : MapBlock) (x : Circuit) (found : List Gate) (flags : List Bool)
     → found ≡ gates_there (source_variable (source_variables b)) x.gates b.gates → flags ≡ exchanges_recorded b.gates
     → DifferWhereExchanged found flags ↔ ExchangesDiffer b x
-exchanges_of_same b x found flags found_are flags_are =
-    let All : Type 0 = ExchangesDiffer b x in
-    subst (λ gs. DifferWhereExchanged gs flags ↔ All) (sym found_are)
-    (subst (λ es. DifferWhereExchanged (gates_there (source_variable (source_variables b)) x.gates b.gates) es ↔ All)
-    (sym flags_are) (λ d. d, λ d. d))
+exchanges_of_same b x found flags found_are flags_are = search rules
 
 module _ (b : MapBlock) (x : Circuit) where
   abbrev g : ℕ → ℕ

@@ -1,7 +1,8 @@
 -- Gates at places: they are in the least ready order exactly where at each place the least of those stands that may
 -- have it.
+use Rattle.std.proofs.Common.{rules}
 use Rattle.std.proofs.Common.{◌≡◌, ◌+◌, ◌<◌, ◌≤◌, ℕ, zero, suc, List, [], ◌∷◌, map}
-use Rattle.std.proofs.Common.{refl, sym, ap, subst, ◌∙◌, inl, inr, ⊎_elim, arith}
+use Rattle.std.proofs.Common.{refl, sym, ap, subst, inl, inr, ⊎_elim, arith}
 use Rattle.std.specs.List.{range_with_len}
 use Rattle.std.proofs.lemmas.Bool.{cases_lt}
 use Rattle.aig_core.specs.Wellformed.{IsAmong}
@@ -35,27 +36,12 @@ module _ (count : ℕ) (needs : ℕ → List ℕ) (place at ready : ℕ → ℕ)
   none_before = (λ h there low. absurd (omega (arith, low)), λ h a. absurd a)
 
   one_more : (p : ℕ) (seen : List ℕ) → p < count → AreBefore p seen → AreBefore (p + 1) (at p ∷ seen)
-  one_more p seen there before = (
-    λ h h_there low. ⊎_elim (λ (l : place h < p). inr (before.0 h h_there l))
-        (λ (l : p ≤ place h).
-        let same : place h ≡ p = omega (arith, l, low) in
-        inl (sym (by_gate h h_there).1 ∙ ap at same))
-        (cases_lt (place h) p),
-    λ h a. ⊎_elim (λ (e : h ≡ at p). let same : place h ≡ p = ap place e ∙ (by_place p there).1 in omega (arith, same))
-        (λ (i : IsAmong h seen). let l : place h < p = before.1 h i in omega (arith, l)) a,
-  )
+  one_more p seen there before = search (rules, cases_lt)
 
   -- a gate at a later place is ready once its place may be this one
   ready_there : (p q : ℕ) (seen : List ℕ) → q < count → p ≤ q → ready q ≤ p → AreBefore p seen
       → IsReady count needs seen (at q)
-  ready_there p q seen there behind free before = record {
-    there = (by_place q there).0;
-    left = λ a. let l : place (at q) < p = before.1 (at q) a in omega (arith, l, (by_place q there).1, behind);
-    served = all_served count needs seen (needs (at q)) (λ h used.
-        let e = enough q h there used in
-        let l : place h < ready q = e.1 in
-        before.0 h e.0 (omega (arith, l, free)));
-  }
+  ready_there p q seen there behind free before = search (rules, all_served)
 
   -- and a gate that is ready has a later place, and may have this one
   place_there : (p q : ℕ) (seen : List ℕ) → q < count → AreBefore p seen → IsReady count needs seen (at q)

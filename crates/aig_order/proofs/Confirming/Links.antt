@@ -1,4 +1,5 @@
 -- A further link, and what is clear from a place on is clear from a later one on.
+use Rattle.std.proofs.Common.{rules}
 use Rattle.std.proofs.Common.{◌≡◌, ◌+◌, ◌<◌, ◌≤◌, ℕ, List, [], ◌∷◌, ◌++◌, length}
 use Rattle.std.proofs.Common.{length-append, get_or, sym, ap, subst, ◌∙◌, ⊎_elim, arith}
 use Rattle.std.proofs.lemmas.Bool.{cases_lt}
@@ -28,11 +29,4 @@ pub one_more_clear : (first : ℕ) (gates : List Gate) (places : List ℕ) (k at
     → ((q : ℕ) → q < k → IsClear places (ready_at first gates q) q)
     → (q : ℕ) → q < k + 1 → IsClear places (ready_at first gates q) q
 one_more_clear first gates places k at ready g there is ready_is before clear all q low =
-    ⊎_elim (λ (l : q < k). all q l)
-    (λ (l : k ≤ q).
-    let same : k ≡ q = omega (arith, l, low) in
-    let gate : g ≡ get_or gates k no_gate = is ∙ get_or_default gates k g no_gate there in
-    let free : ready ≡ ready_at first gates k = ready_is ∙ ap (ready_from first) gate in
-    subst (λ i. IsClear places (ready_at first gates i) i) same
-    (λ p from below. clear p (omega (arith, from, free, before)) below))
-    (cases_lt q k)
+    search (rules, no_gate, get_or_default, cases_lt)

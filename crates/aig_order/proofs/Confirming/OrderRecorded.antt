@@ -1,11 +1,11 @@
 -- The places that the block of a mapped image tells are the order in which the gates of its source were taken.
-use Rattle.std.proofs.Common.{◌≡◌, ℕ, List, [], Ok, sym, ap, subst, ◌∙◌}
-use Rattle.std.specs.Option.{unwrap_or}
+use Rattle.std.proofs.Common.{rules}
+use Rattle.std.proofs.Common.{◌≡◌, ℕ, List, Ok}
 use Rattle.aig_core.specs.declared.circuit.Circuit.{Circuit}
 use Rattle.aig_core.specs.Order.{IsLeastReadyOrder}
 use Rattle.aig_core.specs.Wellformed.{IsWellFormed}
 use Rattle.aig_order.specs.declared.map_block.MapBlock.{MapBlock}
-use Rattle.aig_order.specs.MapBlock.{map_block, IsMappedImage}
+use Rattle.aig_order.specs.MapBlock.{IsMappedImage}
 use Rattle.aig_order.specs.MapReading.{block_reading}
 use Rattle.aig_order.specs.Parts.Turns.{positions}
 use Rattle.aig_order.proofs.Sources.OneSource.{mapped_reading, one_reading}
@@ -14,10 +14,4 @@ use Rattle.aig_order.proofs.Restoring.Recovered.{order_is}
 -- what is read of a mapped image tells the order of its source's gates
 pub order_recorded : (g x : Circuit) (b : MapBlock) (rest : List ℕ) → IsWellFormed g → IsMappedImage g x
     → block_reading x ≡ Ok (b, rest) → IsLeastReadyOrder g (positions b.gates)
-order_recorded g x b rest good (order, least, is) read =
-    let made : MapBlock × List ℕ = (map_block order g, unwrap_or g.comment []) in
-    let first : block_reading x ≡ Ok made = ap block_reading is ∙ mapped_reading g order good least in
-    let same : made ≡ (b, rest) = one_reading (block_reading x) made (b, rest) first read in
-    let turn : IsLeastReadyOrder g (positions (map_block order g).gates) =
-    subst (IsLeastReadyOrder g) (sym (order_is g order good least)) least in
-    subst (λ (recorded : MapBlock × List ℕ). IsLeastReadyOrder g (positions recorded.0.gates)) same turn
+order_recorded g x b rest good (order, least, is) read = search (rules, mapped_reading, one_reading, order_is)

@@ -1,7 +1,8 @@
 -- The block of a mapped image tells no exchange of equal operands, and of a comment section where a comment follows.
+use Rattle.std.proofs.Common.{rules}
 use Rattle.std.proofs.Common.{◌≡◌, ◌≢◌, ◌+◌, ◌<◌, ℕ, List, [], true, ltb, Option, None, Some, Ok, length, get_or, map}
 use Rattle.std.proofs.Common.{max, min}
-use Rattle.std.proofs.Common.{refl, sym, ap, subst, ◌∙◌, ◌⊎◌, inl, inr, arith}
+use Rattle.std.proofs.Common.{refl, sym, ap, ◌∙◌, ◌⊎◌, inl, inr, arith}
 use Rattle.std.specs.Prelude.{is_some}
 use Rattle.std.specs.Option.{unwrap_or}
 use Rattle.std.proofs.Math.Nat.{max-eq_right, min-eq_left}
@@ -27,11 +28,7 @@ use Rattle.aig_order.proofs.Sources.OneSource.{mapped_reading, one_reading}
 
 -- of two numbers in rising order, the larger is not the smaller
 apart : (a b : ℕ) → ltb a b ≡ true → max a b ≢ min a b
-apart a b rising same =
-    let less : a < b = ltb-true a b rising in
-    let more : max a b ≡ b = max-eq_right (omega (arith, less)) in
-    let fewer : min a b ≡ a = min-eq_left (omega (arith, less)) in
-    absurd (omega (arith, less, more, fewer, same))
+apart a b rising same = search (rules, ltb-true, max-eq_right, min-eq_left)
 
 -- a comment that is not there is empty
 none_empty : (comment : Option (List ℕ)) → (is_some comment ≡ true) ⊎ (unwrap_or comment [] ≡ [])
@@ -89,9 +86,4 @@ module _ (c : Circuit) (order : List ℕ) (good : IsWellFormed c) (least : IsLea
 pub recorded_right : (g x : Circuit) (b : MapBlock) (rest : List ℕ) → IsWellFormed g → IsMappedImage g x
     → block_reading x ≡ Ok (b, rest)
     → TellsExchanges x.gates b.gates × TellsComment b.has_comment rest
-recorded_right g x b rest good (order, least, is) read =
-    let made : MapBlock × List ℕ = (map_block order g, unwrap_or g.comment []) in
-    let first : block_reading x ≡ Ok made = ap block_reading is ∙ mapped_reading g order good least in
-    let same : made ≡ (b, rest) = one_reading (block_reading x) made (b, rest) first read in
-    let right : IsRight x made = subst (λ (y : Circuit). IsRight y made) (sym is) (mapped_right g order good least) in
-    subst (IsRight x) same right
+recorded_right g x b rest good (order, least, is) read = search (rules, mapped_reading, one_reading, mapped_right)

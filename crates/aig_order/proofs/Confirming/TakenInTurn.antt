@@ -1,5 +1,6 @@
 -- Where the gates of an image are taken in turn, the places that a block tells are the least ready order of its source,
 -- and the other way round.
+use Rattle.std.proofs.Common.{rules}
 use Rattle.std.proofs.Common.{◌≡◌, ◌+◌, ◌<◌, ◌≤◌, ◌↔◌, ℕ, suc, List, [], Bool, IsTrue, Option, length, get_or}
 use Rattle.std.proofs.Common.{map, sym, ap, subst, ◌∙◌, ⊎_elim, arith}
 use Rattle.aig_core.specs.declared.circuit.Gate.{Gate}
@@ -138,8 +139,4 @@ module _ (b : MapBlock) (x : Circuit) (comment : Option (List ℕ)) (fit : IsFit
   pub tells_order : (n : ℕ) (gates : List Gate) (places : List ℕ) (recorded : Bool)
       → n ≡ start → gates ≡ x.gates → places ≡ positions b.gates → IsTrue recorded ↔ AreTakenInTurn n gates places
       → IsTrue recorded ↔ IsLeastReadyOrder (undone b comment x) (positions b.gates)
-  tells_order n gates places recorded n_is gates_are places_are is =
-      let first = subst (λ m. IsTrue recorded ↔ AreTakenInTurn m gates places) n_is is in
-      let second = subst (λ gs. IsTrue recorded ↔ AreTakenInTurn start gs places) gates_are first in
-      let third = subst (λ ps. IsTrue recorded ↔ AreTakenInTurn start x.gates ps) places_are second in
-      (λ t. in_turn (third.0 t), λ order. third.1 (in_turn_where_least order))
+  tells_order n gates places recorded n_is gates_are places_are is = search (rules, in_turn, in_turn_where_least)

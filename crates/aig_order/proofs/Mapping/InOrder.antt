@@ -1,9 +1,8 @@
 -- The mapped image of a circuit whose gates stand in order, made of the circuit by its new numbers.
-use Rattle.std.proofs.Common.{◌≡◌, ◌+◌, ℕ, List, ◌++◌, None, Some, length, map, sym, ap, ◌∙◌, length-append, arith}
+use Rattle.std.proofs.Common.{rules}
+use Rattle.std.proofs.Common.{◌≡◌, ◌+◌, ℕ, List, None, Some, length, sym, ap, length-append}
 use Rattle.std.specs.Option.{unwrap_or}
 use Rattle.std.proofs.lemmas.List.{length-map}
-use Rattle.aig_core.specs.declared.circuit.Latch.{Latch}
-use Rattle.aig_core.specs.declared.circuit.Gate.{Gate}
 use Rattle.aig_core.specs.declared.circuit.Circuit.{Circuit}
 use Rattle.aig_core.specs.BinaryOrder.{IsInBinaryOrder}
 use Rattle.aig_core.specs.Wellformed.{IsWellFormed}
@@ -11,7 +10,7 @@ use Rattle.aig_core.proofs.Ordering.Ranked.{variables}
 use Rattle.aig_image.specs.declared.image.Renumbering.{Renumbering}
 use Rattle.aig_image.specs.Image.{IsBinaryImage}
 use Rattle.aig_image.specs.Parts.Numbers.{number_of, IsRenumberingOf}
-use Rattle.aig_image.specs.Relabelled.{relabelled, relabelled_gate, relabelled_latch}
+use Rattle.aig_image.specs.Relabelled.{relabelled}
 use Rattle.aig_image.specs.Reordered.{with_operands_sorted}
 use Rattle.aig_image.proofs.Imaging.Ordered.{image_is_ordered}
 use Rattle.aig_image.proofs.Imaging.Renewed.{made_is_image}
@@ -41,22 +40,7 @@ module _ (c : Circuit) (r : Renumbering) (good : IsWellFormed c) (of_it : IsRenu
   gates_are = ap (λ t. unwrap_or t c.gates) (sym in_order)
 
   count_is : made.max_var ≡ r.numbers.noted
-  count_is =
-      let vs : List ℕ = map (λ (l : Latch). l.var) c.latches in
-      let all : length ((c.inputs ++ vs) ++ variables c.gates) ≡ r.numbers.noted =
-      ap (λ (gates : List Gate). length ((c.inputs ++ vs) ++ variables gates)) (gates_are ∙ of_it.gates)
-      ∙ sym of_it.numbers.count in
-      omega (
-        arith,
-        all,
-        length-append (c.inputs ++ vs) (variables c.gates),
-        length-append c.inputs vs,
-        length-map c.latches (λ (l : Latch). l.var),
-        length-map c.gates (λ (g : Gate). g.var),
-        length-map c.inputs f,
-        length-map c.latches (relabelled_latch f),
-        length-map c.gates (relabelled_gate f),
-      )
+  count_is = search (rules, variables, gates_are, length-append, length-map)
 
   made_is : IsBinaryImage commented made
   made_is =

@@ -1,4 +1,5 @@
 -- The mapped image of a well-formed circuit is well formed and in binary order, and there is exactly one.
+use Rattle.std.proofs.Common.{rules}
 use Rattle.std.proofs.Common.{◌≡◌, ℕ, List, refl, sym, ap, subst, ◌∙◌}
 use Rattle.std.specs.Prelude.{Option}
 use Rattle.aig_core.specs.declared.circuit.Kind.{Kind}
@@ -29,22 +30,7 @@ module _ (c : Circuit) (comment : Option (List ℕ)) where
 
   -- it is well formed too
   pub comment_is_free : IsWellFormed c → IsWellFormed commented
-  comment_is_free good = record {
-    limits = record {
-      max_var = good.limits.max_var;
-      inputs = good.limits.inputs;
-      latches = good.limits.latches;
-      literals = good.limits.literals;
-      justice = good.limits.justice;
-      sizes = good.limits.sizes;
-      gates = good.limits.gates;
-    };
-    in_range = good.in_range;
-    once = good.once;
-    known = good.known;
-    symbols = symbols_kept c commented same_counts refl good.symbols;
-    ranked = good.ranked;
-  }
+  comment_is_free good = search (rules, symbols_kept, same_counts)
 
   -- and in binary order
   pub comment_keeps_order : IsInBinaryOrder c → IsInBinaryOrder commented

@@ -1,5 +1,6 @@
 -- What is recorded of a circuit by the numbers that were found is its map block, so that its binary image with this
 -- comment is its mapped image.
+use Rattle.std.proofs.Common.{rules}
 use Rattle.std.proofs.Common.{◌≡◌, ◌+◌, ◌-◌, ◌≤◌, ℕ, List, length, ap, ◌∙◌, Some, arith}
 use Rattle.aig_core.specs.declared.circuit.Gate.{Gate}
 use Rattle.aig_core.specs.declared.circuit.Circuit.{Circuit}
@@ -11,7 +12,7 @@ use Rattle.aig_core.proofs.Ordering.LeastReady.{one_least_ready_order}
 use Rattle.aig_image.specs.declared.image.Renumbering.{Renumbering}
 use Rattle.aig_image.specs.Image.{image_by, IsBinaryImage}
 use Rattle.aig_image.specs.Parts.Numbers.{number_of, IsRenumberingOf}
-use Rattle.aig_image.specs.Relabelled.{GateNames, NamesOnly}
+use Rattle.aig_image.specs.Relabelled.{NamesOnly}
 use Rattle.aig_image.specs.Renumbering.{in_new_order, renumbered}
 use Rattle.aig_image.specs.Reordered.{has_smaller_first}
 use Rattle.aig_image.proofs.Relabelling.Lists.{map_where}
@@ -19,7 +20,7 @@ use Rattle.aig_image.proofs.Relabelling.Relabelled.{same_gate}
 use Rattle.aig_image.proofs.Imaging.Renewed.{same_names}
 use Rattle.aig_order.specs.declared.map_block.MappedGate.{MappedGate}
 use Rattle.aig_order.specs.declared.map_block.MapBlock.{MapBlock}
-use Rattle.aig_order.specs.MapBlock.{block_by, map_block, mapped_comment, mapped_gate, IsMappedImage}
+use Rattle.aig_order.specs.MapBlock.{block_by, map_block, mapped_comment, IsMappedImage}
 
 -- what is recorded of a gate, by the gate that it becomes
 abbrev of_new : ℕ → Gate → Gate → MappedGate
@@ -35,10 +36,7 @@ module _ (c : Circuit) (order : List ℕ) (number : ℕ → ℕ)
 
   -- what is recorded is the map block, where what the circuit names has its new number
   pub block_is : block_by number c ≡ map_block order c
-  block_is =
-      ap (λ (gates : List MappedGate). record (map_block order c) { gates = gates })
-      (map_where (GateNames (λ v. number v ≡ f v)) (mapped_gate number first) (mapped_gate f first)
-      (λ g named. ap (of_new first g) (same_gate number f g named)) c.gates same.gates)
+  block_is = search (rules, map_where, same_gate)
 
 -- the first gate's number is small
 pub few_before_gates : (c : Circuit) → IsWellFormed c → length c.inputs + length c.latches ≤ LARGEST
@@ -53,13 +51,7 @@ module _ (c : Circuit) (comment : List ℕ) where
   order_stays order least = record { in_turn = least.in_turn; full = least.full }
 
   pub renumbering_stays : (r : Renumbering) → IsRenumberingOf c r → IsRenumberingOf commented r
-  renumbering_stays r of_it = record {
-    order = of_it.order;
-    least = order_stays of_it.order of_it.least;
-    gates = of_it.gates;
-    numbers = of_it.numbers;
-    small = of_it.small;
-  }
+  renumbering_stays r of_it = search (rules, order_stays)
 
   -- the binary image with the comment that tells the block
   pub is_mapped_image : (r : Renumbering) (image : Circuit) → IsWellFormed c → IsRenumberingOf c r

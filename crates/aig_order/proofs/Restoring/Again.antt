@@ -1,6 +1,7 @@
 -- Where the places that a block tells are the least ready order of the undone circuit, its mapped image is the circuit
 -- that it was undone from.
-use Rattle.std.proofs.Common.{◌≡◌, ◌≢◌, ◌+◌, ◌-◌, ◌<◌, ◌≤◌, ℕ, suc, List, [], ◌∷◌, ◌++◌, Bool, true, false}
+use Rattle.std.proofs.Common.{rules}
+use Rattle.std.proofs.Common.{◌≡◌, ◌≢◌, ◌+◌, ◌<◌, ◌≤◌, ℕ, suc, List, [], ◌∷◌, ◌++◌, Bool, true, false}
 use Rattle.std.proofs.Common.{Option, None, Some, length, map, refl, sym, ap, ap₂, ◌∙◌}
 use Rattle.std.proofs.Common.{◌⊎◌, ⊎_elim, arith}
 use Rattle.std.specs.Prelude.{is_some, if◌then◌else◌}
@@ -51,9 +52,7 @@ was_this false rest recorded =
 -- gates in binary order have sorted operands
 sorted : (v : ℕ) (gates : List Gate) → AreOrderedGates v gates → map operands_sorted gates ≡ gates
 sorted v [] ordered = refl
-sorted v (g ∷ gs) ordered =
-    ap₂ (λ (h : Gate) (hs : List Gate). h ∷ hs)
-    (gates_alike refl (max-eq_left ordered.2) (min-eq_right ordered.2)) (sorted (suc v) gs ordered.3)
+sorted v (g ∷ gs) ordered = search (rules, gates_alike, max-eq_left, min-eq_right, sorted (suc v) gs ordered.3)
 
 -- of sorted operands, two different ones are exchanged where the smaller one is first
 exchanged_back : (e : Bool) (g : Gate) → g.right ≤ g.left → (e ≡ true → g.left ≢ g.right)
@@ -112,12 +111,7 @@ module _ (b : MapBlock) (x : Circuit) (rest : List ℕ) (fit : IsFit b x) (good 
   recorded_again : (m : MappedGate) → m.place < length x.gates → g (start b x comment fit + m.place) ≡ m.var
       → (m.exchanged ≡ true → (at x.gates m.place).left ≢ (at x.gates m.place).right)
       → mapped_gate f first (relabelled_gate g (had m)) ≡ m
-  recorded_again m low variable two =
-      let here = ordered_at (start b x comment fit) x.gates fit.ordered.gates m.place low in
-      let again = had_again m low in
-      let place : (at x.gates m.place).var - first ≡ m.place = omega (arith, here.0, first_is) in
-      ap₂ (λ var (h : Gate). recorded var (h.var - first) (has_smaller_first h)) (ap g here.0 ∙ variable) again
-      ∙ ap₂ (recorded m.var) place (exchanged_back m.exchanged (at x.gates m.place) here.2 two)
+  recorded_again m low variable two = search (rules, ordered_at, start, had_again, at, first_is, exchanged_back)
 
   gates_again : TellsExchanges x.gates b.gates → map (mapped_gate f first) from.gates ≡ b.gates
   gates_again exchanges =

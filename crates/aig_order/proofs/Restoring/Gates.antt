@@ -1,6 +1,7 @@
 -- The gates of the source, by their positions and their places, and which of them operands of the image are over.
+use Rattle.std.proofs.Common.{rules}
 use Rattle.std.proofs.Common.{◌≡◌, ◌+◌, ◌*◌, ◌<◌, ◌≤◌, ℕ, List, ◌++◌, Bool, true, false, Option, length, get_or, map}
-use Rattle.std.proofs.Common.{sym, ap, ◌∙◌, ◌⊎◌, inl, inr, ⊎_elim, arith}
+use Rattle.std.proofs.Common.{sym, ap, ◌∙◌, ◌⊎◌, inl, inr, arith}
 use Rattle.std.proofs.lemmas.List.{length-map, get_or-map}
 use Rattle.std.proofs.lemmas.List.FromFn.{get_or-map-range_with_len}
 use Rattle.aig_core.specs.declared.circuit.Latch.{Latch}
@@ -28,12 +29,8 @@ module _ (g : ℕ → ℕ) (h : Gate) (v : ℕ) where
 
   pub from_either : (e : Bool) → Uses (relabelled_gate g (exchanged_if e h))
       → (v ≡ g (variable_of h.left)) ⊎ (v ≡ g (variable_of h.right))
-  from_either true a =
-      ⊎_elim (λ e. inr (e ∙ carried_variable g h.right))
-      (λ i. ⊎_elim (λ e. inl (e ∙ carried_variable g h.left)) (λ n. absurd n) i) a
-  from_either false a =
-      ⊎_elim (λ e. inl (e ∙ carried_variable g h.left))
-      (λ i. ⊎_elim (λ e. inr (e ∙ carried_variable g h.right)) (λ n. absurd n) i) a
+  from_either true a = search (rules, carried_variable)
+  from_either false a = search (rules, carried_variable)
 
   pub by_left : (e : Bool) → v ≡ g (variable_of h.left) → Uses (relabelled_gate g (exchanged_if e h))
   by_left true e = inr (inl (e ∙ sym (carried_variable g h.left)))

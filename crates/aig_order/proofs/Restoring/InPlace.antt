@@ -1,7 +1,8 @@
 -- Gates that are put at positions one by one, and exchanged where they stand.
-use Rattle.std.proofs.Common.{◌≡◌, ◌+◌, ◌<◌, ◌≤◌, ℕ, zero, suc, List, [], ◌∷◌, ◌++◌, Bool, true, false, length}
+use Rattle.std.proofs.Common.{rules}
+use Rattle.std.proofs.Common.{◌≡◌, ◌+◌, ◌<◌, ℕ, zero, suc, List, [], ◌∷◌, ◌++◌, Bool, true, false, length}
 use Rattle.std.proofs.Common.{get_or, map, set, take}
-use Rattle.std.proofs.Common.{refl, sym, ap, ap₂, subst, ◌∙◌, inl, inr, ⊎_elim, arith}
+use Rattle.std.proofs.Common.{refl, sym, ap, ap₂, subst, ◌∙◌, inl, inr, arith}
 use Rattle.std.proofs.Common.{get_or-set_same, get_or-set_other}
 use Rattle.std.proofs.lemmas.Bool.{cases_lt}
 use Rattle.std.proofs.lemmas.List.{get_or-take, get_or_default, length-take-le, map-append, take_more}
@@ -23,14 +24,7 @@ not_taken found new at_new (p ∷ positions) out =
 -- distinct positions: the next one is none of those before
 next_is_new : (positions : List ℕ) (k : ℕ) → AreDistinct positions → k < length positions
     → ¬ IsAmong (get_or positions k 0) (take k positions)
-next_is_new positions k once there among =
-    let stands = somewhere (get_or positions k 0) (take k positions) among in
-    let low : stands.0 < length (take k positions) = stands.1 in
-    let before : stands.0 < k = omega (arith, low, length-take-le k positions (omega (arith, there))) in
-    let same : stands.0 ≡ k =
-    same_place positions once stands.0 k (omega (arith, before, there)) there
-    (sym (get_or-take k positions stands.0 0 before) ∙ stands.2) in
-    omega (arith, same, before)
+next_is_new positions k once there among = search (rules, somewhere, length-take-le, same_place, get_or-take)
 
 -- one gate more is put at its position
 pub one_more_put : (h : Gate → Gate) (gates found : List Gate) (positions : List ℕ) (k : ℕ) (g new : Gate)
@@ -59,8 +53,7 @@ next_exchanged k [] gs low low_too = absurd (omega (arith, low))
 next_exchanged k (e ∷ es) [] low low_too = absurd (omega (arith, low_too))
 next_exchanged zero (e ∷ es) (g ∷ gs) low low_too = refl
 next_exchanged (suc k) (e ∷ es) (g ∷ gs) low low_too =
-    ap (λ (hs : List Gate). exchanged_if e g ∷ hs)
-    (next_exchanged k es gs (omega (arith, low)) (omega (arith, low_too)))
+    search (rules, next_exchanged k es gs (omega (arith, low)) (omega (arith, low_too)))
 
 -- what is not exchanged yet stands as it stood
 still_there : (k : ℕ) (es : List Bool) (gs : List Gate) → at (exchanged_by (take k es) gs) k ≡ at gs k
@@ -82,19 +75,11 @@ module _ (flags : List Bool) (gs found : List Gate) (k : ℕ) (g : Gate) (low : 
   AreEqual = (get_or flags k false ≡ true) × (g.left ≡ g.right)
 
   gate_is : g ≡ at gs k
-  gate_is =
-      let long = ap length before ∙ as_many_exchanged (take k flags) gs in
-      here ∙ get_or_default found k g no_gate (omega (arith, low, many, long))
-      ∙ ap (λ (hs : List Gate). at hs k) before ∙ still_there k flags gs
+  gate_is = search (rules, as_many_exchanged, get_or_default, no_gate, at, still_there)
 
   pub one_more_exchanged : (new : Gate) → new ≡ exchanged_if (get_or flags k false) g
       → set found k new ≡ exchanged_by (take (k + 1) flags) gs
-  one_more_exchanged new made =
-      let next : k + 1 ≡ suc k = omega arith in
-      ap₂ (λ (hs : List Gate) (h : Gate). set hs k h) before
-      (made ∙ ap (exchanged_if (get_or flags k false)) gate_is)
-      ∙ sym (next_exchanged k flags gs low (omega (arith, low, many)))
-      ∙ ap (λ n. exchanged_by (take n flags) gs) (sym next)
+  one_more_exchanged new made = search (rules, gate_is, next_exchanged)
 
   pub not_all_differ : AreEqual → ¬ DifferWhereExchanged gs flags
   not_all_differ equal differ =
@@ -103,13 +88,4 @@ module _ (flags : List Bool) (gs found : List Gate) (k : ℕ) (g : Gate) (low : 
   pub one_more_differs : ¬ AreEqual
       → ((i : ℕ) → i < k → get_or flags i false ≡ true → HasTwoOperands (gate_in_place gs i))
       → (i : ℕ) → i < k + 1 → get_or flags i false ≡ true → HasTwoOperands (gate_in_place gs i)
-  one_more_differs two differ i below exchanged =
-      ⊎_elim (λ (l : i < k). differ i l exchanged)
-      (λ (l : k ≤ i).
-      let same : k ≡ i = omega (arith, l, below) in
-      λ equal. two (
-        subst (λ j. get_or flags j false ≡ true) (sym same) exchanged,
-        subst (λ (h : Gate). h.left ≡ h.right) (sym gate_is)
-            (subst (λ j. (at gs j).left ≡ (at gs j).right) (sym same) equal),
-      ))
-      (cases_lt i k)
+  one_more_differs two differ i below exchanged = search (rules, gate_is, at, cases_lt)

@@ -1,5 +1,6 @@
 -- What a map block tells of gates, where their places are distinct: each place is that of one gate, and has its
 -- variable.
+use Rattle.std.proofs.Common.{rules}
 use Rattle.std.proofs.Common.{◌≡◌, ◌≢◌, ◌+◌, ◌<◌, ℕ, suc, List, [], ◌∷◌, true, false, eqb, length, get_or, map}
 use Rattle.std.proofs.Common.{refl, sym, ap, subst, ◌∙◌, ⊎_elim, arith}
 use Rattle.std.specs.List.{AllByRecursion, position_or_len, range_with_len}
@@ -49,13 +50,7 @@ variable_by_position (g ∷ gates) p =
 -- so by their places the variables of gates are theirs in the order of the positions
 pub by_position : (gates : List MappedGate) → map (variable_at_place gates) (range_with_len 0 (length gates))
     ≡ map (λ at. get_or (variables_recorded gates) at 0) (positions_of (places_recorded gates))
-by_position gates =
-    let variable : ℕ → ℕ = λ at. get_or (variables_recorded gates) at 0 in
-    map_each (variable_at_place gates) (λ p. variable (position_at gates p)) (variable_by_position gates)
-    (range_with_len 0 (length gates))
-    ∙ ap (λ n. map (λ p. variable (position_at gates p)) (range_with_len 0 n))
-    (sym (length-map gates (λ (g : MappedGate). g.place)))
-    ∙ sym (map-map variable (position_at gates) (range_with_len 0 (length (places_recorded gates))))
+by_position gates = search (rules, map_each, variable_by_position, length-map, map-map)
 
 module _ (b : MapBlock) (x : Circuit) (fit : IsFit b x) where
   abbrev pub places : List ℕ

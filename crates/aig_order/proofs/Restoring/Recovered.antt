@@ -1,4 +1,5 @@
 -- What is undone of a circuit's mapped image, by the block of that image, is the circuit.
+use Rattle.std.proofs.Common.{rules}
 use Rattle.std.proofs.Common.{◌≡◌, ◌+◌, ◌-◌, ◌<◌, ◌≤◌, ℕ, List, [], ◌++◌, Bool, length, length-append, get_or, map}
 use Rattle.std.proofs.Common.{Option, None, Some, refl, sym, ap, ap₂, subst, ◌∙◌, inr, arith}
 use Rattle.std.specs.Prelude.{is_some}
@@ -9,7 +10,7 @@ use Rattle.aig_core.specs.declared.circuit.Latch.{Latch}
 use Rattle.aig_core.specs.declared.circuit.Gate.{Gate}
 use Rattle.aig_core.specs.declared.circuit.Circuit.{Circuit}
 use Rattle.aig_core.specs.Order.{IsLeastReadyOrder}
-use Rattle.aig_core.specs.Wellformed.{IsAmong, IsVariableUpTo, IsWellFormed, defined_variables}
+use Rattle.aig_core.specs.Wellformed.{IsAmong, IsWellFormed, defined_variables}
 use Rattle.aig_core.proofs.Checking.Fitting.{each}
 use Rattle.aig_core.proofs.Ordering.Ranked.{at, no_gate, variables}
 use Rattle.aig_core.proofs.Ordering.Steps.{all_of}
@@ -62,9 +63,7 @@ module _ (c : Circuit) (order : List ℕ) (good : IsWellFormed c) (least : IsLea
   many = all_taken c order good least
 
   some : (v : ℕ) → IsAmong v vs → 1 ≤ v
-  some v a =
-      let InRange : ℕ → Type 0 = IsVariableUpTo c.max_var in
-      (each InRange (defined_variables c) good.in_range v (is_defined c order good least v a)).0
+  some v a = search (rules, each, is_defined)
 
   -- the gate that is taken at a place has the number of this place
   number_taken : (j : ℕ) → j < length order → f (at c.gates (get_or order j 0)).var ≡ start + j
@@ -88,9 +87,7 @@ module _ (c : Circuit) (order : List ℕ) (good : IsWellFormed c) (least : IsLea
 
   -- the place that is recorded of a gate
   pub place_at : (i : ℕ) → i < length c.gates → get_or places i 0 ≡ (tell (at c.gates i)).place
-  place_at i low =
-      ap (λ xs. get_or xs i 0) (map-map (λ (m : MappedGate). m.place) tell c.gates)
-      ∙ get_or-map (λ h. (tell h).place) c.gates i no_gate 0 low
+  place_at i low = search (rules, map-map, get_or-map, no_gate)
 
   -- so the places that are recorded are the positions in the order
   places_are : places ≡ positions_of order

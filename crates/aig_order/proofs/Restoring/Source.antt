@@ -1,5 +1,6 @@
 -- The circuit that is undone by a block that fits: in the order of its places it defines the variables that the block
 -- tells of, and its gates are those at the places.
+use Rattle.std.proofs.Common.{rules}
 use Rattle.std.proofs.Common.{◌≡◌, ◌+◌, ◌<◌, ◌≤◌, ℕ, zero, suc, List, [], ◌∷◌, ◌++◌, Option, length, length-append}
 use Rattle.std.proofs.Common.{get_or, map}
 use Rattle.std.proofs.Common.{refl, sym, ap, subst, ◌∙◌, arith}
@@ -54,19 +55,14 @@ parts (x ∷ xs) (y ∷ ys) s t long e =
 pub gates_had : (gates : List Gate) (recorded : List MappedGate)
     → exchanged_by (exchanges_recorded recorded) (taken gates (places_recorded recorded))
     ≡ map (gate_had gates) recorded
-gates_had gates recorded =
-    ap (exchanged_by (exchanges_recorded recorded)) (map-map (at gates) (λ (m : MappedGate). m.place) recorded)
-    ∙ exchanged_each (λ (m : MappedGate). m.exchanged) (λ (m : MappedGate). at gates m.place) recorded
+gates_had gates recorded = search (rules, map-map, at, exchanged_each)
 
 -- these gates and what there is beside gates, by the variables of the source, are undone
 pub undone_is : (b : MapBlock) (comment : Option (List ℕ)) (x : Circuit)
     → record (relabelled (source_variable (source_variables b)) (without_gates b.max_var comment x)) {
       gates = map (relabelled_gate (source_variable (source_variables b))) (map (gate_had x.gates) b.gates);
     } ≡ undone b comment x
-undone_is b comment x =
-    let by : Gate → Gate = relabelled_gate (source_variable (source_variables b)) in
-    ap (λ (gs : List Gate). record (undone b comment x) { gates = map by gs })
-    (sym (gates_had x.gates b.gates))
+undone_is b comment x = search (rules, gates_had)
 
 module _ (b : MapBlock) (x : Circuit) (comment : Option (List ℕ)) (fit : IsFit b x) where
   abbrev pub vs : List ℕ
@@ -144,26 +140,18 @@ module _ (b : MapBlock) (x : Circuit) (comment : Option (List ℕ)) (fit : IsFit
 
   -- the gates of the source, one by one
   pub gates_are : source.gates ≡ map (λ m. relabelled_gate (source_variable vs) (gate_had x.gates m)) b.gates
-  gates_are =
-      ap (map (relabelled_gate (source_variable vs))) (gates_had x.gates b.gates)
-      ∙ map-map (relabelled_gate (source_variable vs)) (gate_had x.gates) b.gates
+  gates_are = search (rules, gates_had, map-map, gate_had)
 
   pub gates_many : length source.gates ≡ length b.gates
   gates_many = ap length gates_are ∙ length-map b.gates (λ m. relabelled_gate (source_variable vs) (gate_had x.gates m))
 
   -- its variables are in range
   vs_in_range : AllByRecursion (IsVariableUpTo b.max_var) vs
-  vs_in_range =
-      let InRange : ℕ → Type 0 = IsVariableUpTo b.max_var in
-      joined InRange first row (joined InRange b.inputs b.latches fit.bounds.inputs fit.bounds.latches)
-      (row_in_range b x fit)
+  vs_in_range = search (rules, joined, row_in_range)
 
   pub in_range : (v : ℕ) → IsVariableUpTo x.max_var v → IsVariableUpTo b.max_var (source_variable vs v)
   in_range zero range = absurd (omega (arith, range.0))
-  in_range (suc k) range =
-      let one : 1 + k ≡ suc k = omega arith in
-      subst (IsVariableUpTo b.max_var) (sym (ap (source_variable vs) (sym one) ∙ by_place vs k))
-      (at_place (IsVariableUpTo b.max_var) 0 vs vs_in_range k (omega (arith, range.1, as_many)))
+  in_range (suc k) range = search (rules, by_place, at_place, vs_in_range, as_many)
 
   module _ (once : AreDistinct (defined_variables source)) where
     vs_once : AreDistinct vs

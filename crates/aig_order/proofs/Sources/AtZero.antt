@@ -1,6 +1,7 @@
 -- Which branch is taken where a number is 0, and where it is not.
-use Rattle.std.proofs.Common.{◌≡◌, ◌≢◌, ◌≤◌, ℕ, List, Option, Some, None, Bool, true, false}
-use Rattle.std.proofs.Common.{eqb, eqb-true, refl, sym, subst, arith}
+use Rattle.std.proofs.Common.{rules}
+use Rattle.std.proofs.Common.{◌≡◌, ◌≢◌, ◌≤◌, ℕ, List, Option, Some, None}
+use Rattle.std.proofs.Common.{eqb-true, refl, sym, subst, arith}
 use Rattle.std.specs.Prelude.{◌==◌, if◌then◌else◌}
 use Rattle.std.proofs.lemmas.Bool.{ne_eqb}
 use Rattle.std.proofs.lemmas.Grind.{common_steps}
@@ -8,12 +9,7 @@ use Rattle.std.proofs.lemmas.Grind.{common_steps}
 -- what goes on only where a number is 0, and gives something, went on
 pub only_at_zero : (v : ℕ) (next : Option (List ℕ)) (table : List ℕ)
     → (if v == 0 then next else None) ≡ Some table → (v ≡ 0) × (next ≡ Some table)
-only_at_zero v next table is =
-    let b = chosen (eqb v 0) is in (eqb-true v 0 b.0, b.1)
-  where
-    chosen : (b : Bool) → (if b then next else None) ≡ Some table → (b ≡ true) × (next ≡ Some table)
-    chosen true is = (refl, is)
-    chosen false is = cc
+only_at_zero v next table is = search (rules, eqb-true)
 
 pub at_zero : {X : Type 0} (v : ℕ) (x y : X) → v ≡ 0 → (if v == 0 then x else y) ≡ x
 at_zero v x y free = subst (λ w. (if w == 0 then x else y) ≡ x) (sym free) refl

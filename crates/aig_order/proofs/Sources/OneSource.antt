@@ -1,4 +1,5 @@
 -- A mapped image is that of one circuit, which is undone from it.
+use Rattle.std.proofs.Common.{rules}
 use Rattle.std.proofs.Common.{◌≡◌, ◌+◌, ◌<◌, ℕ, List, [], ◌++◌, length, map, Result, Ok, refl, sym, ap, subst, ◌∙◌}
 use Rattle.std.proofs.Common.{arith}
 use Rattle.std.specs.List.{AllByRecursion}
@@ -12,9 +13,7 @@ use Rattle.aig_core.specs.Order.{IsLeastReadyOrder}
 use Rattle.aig_core.proofs.Checking.Fitting.{definitions_fit}
 use Rattle.aig_core.proofs.Checking.InForm.{front, back}
 use Rattle.aig_core.proofs.Ordering.Ranked.{at, no_gate, variables}
-use Rattle.aig_image.specs.Relabelled.{relabelled_gate, relabelled_latch}
 use Rattle.aig_image.specs.Renumbering.{in_new_order, renumbered}
-use Rattle.aig_image.specs.Reordered.{operands_sorted, taken}
 use Rattle.aig_image.proofs.Imaging.Members.{all_taken}
 use Rattle.aig_image.proofs.Relabelling.Formed.{all_through}
 use Rattle.aig_image.proofs.Relabelling.Positions.{places_apart}
@@ -57,15 +56,7 @@ module _ (c : Circuit) (order : List ℕ) (good : IsWellFormed c) (least : IsLea
 
   -- the block tells of as many inputs, latches and gates as the image has
   counts : HasCountsOf (map_block order c) (mapped_by order c)
-  counts =
-      let new : List Gate = taken (map (relabelled_gate f) c.gates) order in
-      let many : length (map operands_sorted new) ≡ length order =
-      length-map new operands_sorted ∙ length-map order (at (map (relabelled_gate f) c.gates)) in
-      record {
-        inputs = sym (length-map c.inputs f);
-        latches = length-map c.latches (λ (l : Latch). l.var) ∙ sym (length-map c.latches (relabelled_latch f));
-        gates = omega (arith, recorded_many, many, all_taken c order good least);
-      }
+  counts = search (rules, length-map, at, recorded_many, all_taken)
 
   -- what the block tells is within bounds
   within : IsWithinBounds (map_block order c)

@@ -1,6 +1,7 @@
 -- Variables of gates that were placed one by one stand where their gates' places say.
+use Rattle.std.proofs.Common.{rules}
 use Rattle.std.proofs.Common.{◌≡◌, ◌≢◌, ◌<◌, ℕ, zero, suc, List, [], ◌∷◌, Some, None, true, false}
-use Rattle.std.proofs.Common.{length, map, get_or, set, replicate, refl, sym, ap, subst, ◌∙◌, inl, inr, ⊎_elim, arith}
+use Rattle.std.proofs.Common.{length, map, get_or, set, replicate, refl, sym, subst, ◌∙◌, inl, inr, ⊎_elim, arith}
 use Rattle.std.proofs.Common.{eqb, zero-add, get_or-set_same, get_or-set_other}
 use Rattle.std.specs.Prelude.{◌==◌, if◌then◌else◌}
 use Rattle.std.specs.List.{AllByRecursion, range_with_len}
@@ -78,26 +79,13 @@ module _ (most count : ℕ) where
       → length placed ≡ count → IsGood g → get_or placed g.place 0 ≡ 0
       → (p : ℕ) → expected (put placed g) gates p ≡ expected placed (g ∷ gates) p
   expected_next placed g gates many good free p =
-      let old : ℕ = get_or placed p 0 in
-      let new : ℕ = get_or (put placed g) p 0 in
-      ⊎_elim (λ (t : (eqb g.place p ≡ true) × (g.place ≡ p)).
-      let there : g.place < length placed = omega (arith, many, good.1) in
-      let is : new ≡ g.var = subst (λ q. get_or (put placed g) q 0 ≡ g.var) t.1 (put_here placed g there) in
-      let was : old ≡ 0 = subst (λ q. get_or placed q 0 ≡ 0) t.1 free in
-      elsewhere new (variable_at_place gates p) new (omega (arith, is, good.0.0)) ∙ is
-      ∙ sym (at_zero old (variable_at_place (g ∷ gates) p) old was ∙ variable_here g gates p t.0))
-      (λ (f : (eqb g.place p ≡ false) × (g.place ≢ p)).
-      ap (λ v. if v == 0 then variable_at_place gates p else v) (put_elsewhere placed g p (λ e. f.1 (sym e)))
-      ∙ ap (λ v. if old == 0 then v else old) (sym (variable_later g gates p f.0)))
-      (eqb_tells g.place p)
+      search (rules, put_here, elsewhere, at_zero, variable_here, put_elsewhere, variable_later, eqb_tells)
 
   -- at the end each place has the variable that was expected
   table_has : (placed : List ℕ) (gates : List MappedGate) (table : List ℕ)
       → length placed ≡ count → AllByRecursion IsGood gates → with_gates placed gates ≡ Some table
       → (length table ≡ count) × ((p : ℕ) → get_or table p 0 ≡ expected placed gates p)
-  table_has placed [] table many good is =
-      let same : table ≡ placed = cc in
-      (ap length same ∙ many, λ p. ap (λ t. get_or t p 0) same ∙ or_zero (get_or placed p 0))
+  table_has placed [] table many good is = search (rules, or_zero)
   table_has placed (g ∷ gates) table many good is =
       let here = only_at_zero (get_or placed g.place 0) (with_gates (put placed g) gates) table is in
       let long : length (put placed g) ≡ count = length-set placed g.place g.var ∙ many in
@@ -121,13 +109,7 @@ module _ (most : ℕ) (gates : List MappedGate) (good : AllByRecursion (IsGood m
   pub table_is : (table : List ℕ) → table_of gates ≡ Some table
       → table ≡ map (variable_at_place gates) (range_with_len 0 (length gates))
   table_is table is =
-      let n : ℕ = length gates in
-      let all : List ℕ = map (variable_at_place gates) (range_with_len 0 n) in
-      let has = table_has most n none gates table long good is in
-      let many : length all ≡ n = length-map-range_with_len (variable_at_place gates) 0 n in
-      same_number_lists table all (has.0 ∙ sym many) (λ p low.
-      has.1 p ∙ at_zero (get_or none p 0) (variable_at_place gates p) (get_or none p 0) (zeros n p)
-      ∙ sym (get_or-map-range_with_len (variable_at_place gates) 0 n p p 0 (omega (arith, low, has.0)) (zero-add p)))
+      search (rules, table_has, long, length-map-range_with_len, same_number_lists, at_zero, zeros, get_or-map-range_with_len, zero-add)
 
   -- where there is a table, the places are distinct
   pub places_once : (table : List ℕ) → table_of gates ≡ Some table → AreDistinct (places_recorded gates)

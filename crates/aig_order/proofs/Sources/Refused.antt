@@ -1,4 +1,5 @@
 -- Why undoing refuses.
+use Rattle.std.proofs.Common.{rules}
 use Rattle.std.proofs.Common.{◌≡◌, ◌↔◌, ap, ◌∙◌, sym, subst, refl, ◌⊎◌, inl, inr, ⊎_elim, ℕ, zero, suc, ◌+◌, cond, IsOk}
 use Rattle.std.proofs.Common.{IfOk, IfErr, OnOk, MatchResult, List, Bool, true, false, true≢false, IsTrue, Result, Ok}
 use Rattle.std.proofs.Common.{Err, Option, None, Some}
@@ -14,8 +15,8 @@ use Rattle.aig_order.specs.declared.fault.MapFault.TheVariants.{NotOrdered}
 use Rattle.aig_order.specs.declared.map_block.MapBlock.{MapBlock}
 use Rattle.aig_order.specs.MapBlock.{IsMappedImage, mapped_by, last_line}
 use Rattle.aig_order.specs.declared.map_block.FirstLine.{FirstLine}
-use Rattle.aig_order.specs.MapSpelling.{after_text, first_line_at, variable_at, gate_at}
-use Rattle.aig_order.specs.MapReading.{◌>>=◌, or_else, entries_at, counts_match, counted_line, rest_of_block}
+use Rattle.aig_order.specs.MapSpelling.{after_text, variable_at, gate_at}
+use Rattle.aig_order.specs.MapReading.{◌>>=◌, or_else, entries_at, counted_line, rest_of_block}
 use Rattle.aig_order.specs.MapReading.{block_reading}
 use Rattle.aig_order.specs.Parts.Confirmed.{ExchangesDiffer}
 use Rattle.aig_order.specs.Undone.{IsMapFault, IsUndoneFrom, comment_behind, places_recorded, undone}
@@ -71,12 +72,7 @@ of_counts first false e failed = let same : Mismatch ≡ e = cc in subst IsReadF
 
 of_counted : (x : Circuit) (e : MapFault) → counted_line x ≡ Err e → IsReadFault e
 unfolding counted_line
-of_counted x e failed =
-    of_either (or_else Missing _) _ e (of_or_else Missing _ tt)
-    (λ front f failed_then.
-    of_either (or_else (Malformed 1) (first_line_at front)) _ f (of_or_else (Malformed 1) (first_line_at front) tt)
-    (λ first g failed_last. of_counts first (counts_match x first.0) g failed_last) failed_then)
-    failed
+of_counted x e failed = search (rules, of_either, of_or_else, of_counts)
 
 of_rest : (first : FirstLine) (bytes : List ℕ) (e : MapFault) → rest_of_block first bytes ≡ Err e → IsReadFault e
 unfolding rest_of_block
@@ -98,9 +94,7 @@ of_rest first bytes e failed =
 
 of_reading : (x : Circuit) (e : MapFault) → block_reading x ≡ Err e → IsReadFault e
 unfolding block_reading
-of_reading x e failed =
-    of_either (counted_line x) _ e (of_counted x)
-    (λ first f failed_then. of_rest first.0 first.1 f failed_then) failed
+of_reading x e failed = search (rules, of_either, of_counted, of_rest)
 
 -- a block that is not read
 pub unread : (x : Circuit) (e : MapFault) → IsInBinaryOrder x
@@ -125,9 +119,7 @@ module _ (x : Circuit) (b : MapBlock) (rest : List ℕ) (in_order : IsInBinaryOr
   was_read = rw read refl
 
   forged : (e : MapFault) → ((c : Circuit) → ¬ IsUndoneFrom x c) → (e ≡ OutOfMemory) ⊎ (e ≡ Forged) → IsMapFault x e
-  forged e never recorded =
-      ⊎_elim (λ (memory : e ≡ OutOfMemory). subst (IsMapFault x) (sym memory) tt)
-      (λ (is : e ≡ Forged). subst (IsMapFault x) (sym is) (in_order, was_read, never)) recorded
+  forged e never recorded = search (rules, was_read)
 
   -- the circuit that is undone from x is undone by this block
   by_block : (c : Circuit) → IsUndoneFrom x c

@@ -1,7 +1,7 @@
 -- The variables that a block tells of fit into literals, and its places are there.
-use Rattle.std.proofs.Common.{◌≡◌, ◌≢◌, ◌+◌, ◌-◌, ◌<◌, ◌≤◌, ℕ, zero, suc, List, [], ◌∷◌, ◌++◌, Bool, true, false}
+use Rattle.std.proofs.Common.{rules}
+use Rattle.std.proofs.Common.{◌≡◌, ◌≢◌, ◌+◌, ◌<◌, ◌≤◌, ℕ, zero, suc, List, [], ◌∷◌, ◌++◌, true, false}
 use Rattle.std.proofs.Common.{eqb, length, map, get_or, ⊎_elim, arith}
-use Rattle.std.specs.Prelude.{if◌then◌else◌}
 use Rattle.std.specs.List.{AllByRecursion, range_with_len}
 use Rattle.std.proofs.lemmas.Bool.Decides.{eqb_tells}
 use Rattle.aig_core.specs.Wellformed.{IsVariableUpTo}
@@ -47,12 +47,7 @@ at_most_at most (v ∷ vs) all (suc i) = at_most_at most vs all.1 i
 -- and the variable that had a number
 variable_fits : (most : ℕ) (vs : List ℕ) → AllByRecursion (λ v. v ≤ most) vs
     → (number : ℕ) → source_variable vs number ≤ most
-variable_fits most vs all number =
-    zero_or_less (eqb number 0) (get_or vs (number - 1) 0) (at_most_at most vs all (number - 1))
-  where
-    zero_or_less : (b : Bool) (v : ℕ) → v ≤ most → (if b then 0 else v) ≤ most
-    zero_or_less true v less = omega arith
-    zero_or_less false v less = less
+variable_fits most vs all number = search (rules, at_most_at)
 
 pub they_fit : (b : MapBlock) → IsWithinBounds b → FitIntoLiterals (source_variable (source_variables b))
 they_fit b bounds number =

@@ -1,6 +1,7 @@
 -- Bits of planes.
+use Rattle.std.proofs.Common.{rules}
 use Rattle.std.proofs.Common.{◌≡◌, ◌≢◌, ◌+◌, ◌*◌, ◌/◌, ◌%◌, ◌^◌, ◌<◌, ℕ, zero, suc, List, [], ◌∷◌, length, get_or}
-use Rattle.std.proofs.Common.{set, refl, sym, ap, ◌∙◌, arith, min, max, inl, inr}
+use Rattle.std.proofs.Common.{set, refl, sym, ap, ◌∙◌, arith, min, max}
 use Rattle.std.proofs.lemmas.Bool.{cases_lt}
 use Rattle.std.specs.Int.{bit_at}
 use Rattle.std.specs.Int.Bits.{bit_and, bit_or, bit_xor}
@@ -93,10 +94,4 @@ module _ (lane : ℕ) (in_plane : lane < 256) where
       ∙ bit_at-zero (l % 64)
 
   pub other_bit : (l : ℕ) → l ≢ lane → bit_in l (set (four 0) (lane / 64) (2 ^ (lane % 64))) ≡ 0
-  other_bit l other = elim (cases_lt (l / 64) (lane / 64)) [
-    | inl less ↦ other_word l (λ e. omega (arith, less, e))
-    | inr more ↦ elim (cases_lt (lane / 64) (l / 64)) [
-      | inl less ↦ other_word l (λ e. omega (arith, less, e))
-      | inr more_too ↦ same_word l other (omega (arith, more, more_too))
-    ]
-  ]
+  other_bit l other = search (rules, cases_lt, other_word, same_word)

@@ -1,7 +1,8 @@
 -- Eight literals put at once.
+use Rattle.std.proofs.Common.{rules}
 use Rattle.std.proofs.Common.{◌≡◌, ◌+◌, ◌-◌, ◌*◌, ◌/◌, ◌%◌, ◌^◌, ◌<◌, ◌≤◌, ◌==◌, ◌++◌, ℕ, zero, suc, List, [], ◌∷◌}
 use Rattle.std.proofs.Common.{if◌then◌else◌, length, get_or, set, take, drop, refl, subst, sym, ap, ap₂, ◌∙◌, arith}
-use Rattle.std.proofs.Common.{inl, inr, min}
+use Rattle.std.proofs.Common.{inl, inr}
 use Rattle.std.specs.Int.{bit_at}
 use Rattle.std.specs.Simd.Lanes.{digits_l, number_l, pick_l, zip2, Each1}
 use Rattle.std.proofs.Math.Nat.{pow-suc}
@@ -34,56 +35,25 @@ zip_append f (x ∷ xs) (y ∷ ys) highs lows same =
 
 -- a text has no places there
 pub overwritten_past : (at : ℕ) (cs text : List ℕ) → length text ≤ at → overwritten at cs text ≡ text
-overwritten_past at cs text past =
-    let none : length text - at ≡ 0 = omega (arith, past) in
-    ap₂ (λ (front back : List ℕ). front ++ back) (take_all at text past)
-    (ap₂ (λ (xs ys : List ℕ). xs ++ ys) (ap (λ (n : ℕ). take n cs) none)
-    (drop_all (at + length cs) text (omega (arith, past))))
-    ∙ append-nil text
+overwritten_past at cs text past = search (rules, take_all, drop_all, append-nil)
 
 pub overwritten_size : (at : ℕ) (cs text : List ℕ) → length (overwritten at cs text) ≡ length text
-overwritten_size at cs text =
-    let rest = length text - at in
-    length-append (take at text) (take rest cs ++ drop (at + length cs) text)
-    ∙ omega (
-      arith,
-      length-append (take rest cs) (drop (at + length cs) text),
-      length-take at text,
-      length-take rest cs,
-      length-drop (at + length cs) text,
-    )
+overwritten_size at cs text = search (rules, length-append, length-take, length-drop)
 
 -- what stands before is as it was
 pub overwritten_front : (at m : ℕ) (cs text : List ℕ) → m ≤ at → take m (overwritten at cs text) ≡ take m text
-overwritten_front at m cs text within = elim (cases_lt (length text) at) [
-  | inl past ↦ ap (take m) (overwritten_past at cs text (omega (arith, past)))
-  | inr inside ↦
-      take-append-le m (take at text) (take (length text - at) cs ++ drop (at + length cs) text)
-      (omega (arith, within, length-take-le at text inside))
-      ∙ take-take m at text within
-]
+overwritten_front at m cs text within = search (rules, cases_lt, overwritten_past, take-append-le, length-take-le, take-take)
 
 -- and there the characters stand
 pub overwritten_at : (at k : ℕ) (cs text : List ℕ) → k < length cs → at + k < length text
     → get_or (overwritten at cs text) (at + k) 0 ≡ get_or cs k 0
 overwritten_at at k cs text below inside =
-    let rest = length text - at in
-    let back = drop (at + length cs) text in
-    ap (λ (n : ℕ). get_or (overwritten at cs text) (n + k) 0)
-    (sym (length-take-le at text (omega (arith, inside))))
-    ∙ get_or-append-add (take at text) (take rest cs ++ back) k 0
-    ∙ get_or_append_left (take rest cs) back 0 k (omega (arith, length-take rest cs, below, inside))
-    ∙ get_or-take rest cs k 0 (omega (arith, inside))
+    search (rules, length-take-le, get_or-append-add, get_or_append_left, length-take, get_or-take)
 
 -- as many of the characters as there are places are as good as all
 pub overwritten_part : (at n : ℕ) (cs text : List ℕ) → n ≡ length text - at → at ≤ length text
     → length text ≤ at + length cs → overwritten at (take n cs) text ≡ overwritten at cs text
-overwritten_part at n cs text is inside few =
-    let rest = length text - at in
-    let long : length (take n cs) ≡ n = length-take-le n cs (omega (arith, is, few)) in
-    ap₂ (λ (xs ys : List ℕ). take at text ++ (xs ++ ys)) (take-take rest n cs (omega (arith, is)))
-    (drop_all (at + length (take n cs)) text (omega (arith, long, is))
-    ∙ sym (drop_all (at + length cs) text few))
+overwritten_part at n cs text is inside few = search (rules, length-take-le, take-take, drop_all)
 
 -- where there are places for all characters
 pub overwritten_whole : (at n : ℕ) (cs text : List ℕ) → n ≡ length cs → at + n ≤ length text
@@ -98,25 +68,7 @@ pub texts_overwritten : (place at : ℕ) (ones zeros highs lows : List ℕ) → 
     → length highs ≡ length lows → octet_text place (octet_of (overwritten at highs ones) (overwritten at lows zeros))
     ≡ overwritten at (octet_text place (octet_of highs lows)) (octet_text place (octet_of ones zeros))
 texts_overwritten place at ones zeros highs lows same same_too =
-    let by = λ (high low : ℕ). character_by (bit_at high place) (bit_at low place) in
-    let n = length highs in
-    let rest = length ones - at in
-    let cs = zip2 by highs lows in
-    let text = zip2 by ones zeros in
-    let front : length (take at ones) ≡ length (take at zeros) =
-    length-take at ones ∙ ap (min at) same ∙ sym (length-take at zeros) in
-    let part : length (take rest highs) ≡ length (take rest lows) =
-    length-take rest highs ∙ ap (min rest) same_too ∙ sym (length-take rest lows) in
-    ap₂ (λ (r k : ℕ). octet_text place
-    (octet_of (overwritten at highs ones) (take at zeros ++ (take r lows ++ drop (at + k) zeros))))
-    (ap (λ (k : ℕ). k - at) (sym same)) (sym same_too)
-    ∙ zip_append by (take at ones) (take at zeros) (take rest highs ++ drop (at + n) ones)
-    (take rest lows ++ drop (at + n) zeros) front
-    ∙ ap₂ (λ (xs ys : List ℕ). xs ++ ys) (zip_take by at ones zeros)
-    (zip_append by (take rest highs) (take rest lows) (drop (at + n) ones) (drop (at + n) zeros) part
-    ∙ ap₂ (λ (xs ys : List ℕ). xs ++ ys) (zip_take by rest highs lows) (zip_drop by (at + n) ones zeros))
-    ∙ ap₂ (λ (r k : ℕ). take at text ++ (take r cs ++ drop (at + k) text))
-    (ap (λ (k : ℕ). k - at) (sym (length-zip2 by ones zeros same))) (sym (length-zip2 by highs lows same_too))
+    search (rules, length-take, octet_of, zip_append, zip_take, zip_drop, length-zip2)
 
 -- there is a character for each literal of what an octet holds
 pub text_size : (place : ℕ) (o now : OctetText) → o ≡ now → length o.ones ≡ length o.zeros
@@ -188,21 +140,7 @@ taken_in_turn : (start m : ℕ) (a b places : List ℕ) → length a ≡ 32 → 
     → (out : List ℕ) → out ≡ pick_l 0 (a ++ b) places
     → get_or out m 0 ≡ get_or (if m % 2 == 0 then a else b) (start + m / 2) 0
 taken_in_turn start m a b places long below inside all at out picked =
-    ap (λ (xs : List ℕ). get_or xs m 0) picked
-    ∙ get_or-map (λ (n : ℕ). get_or (a ++ b) n 0) places m 0 0 (omega (arith, below, all))
-    ∙ ap (λ (n : ℕ). get_or (a ++ b) n 0) at
-    ∙ elim (cases_lt 0 (m % 2)) [
-      | inl odd ↦
-          let one : m % 2 ≡ 1 = omega (arith, odd) in
-          ap (λ (n : ℕ). get_or (a ++ b) n 0) (omega (arith, one, long))
-          ∙ get_or-append-add a b (start + m / 2) 0
-          ∙ sym (ap (λ (n : ℕ). get_or (if n == 0 then a else b) (start + m / 2) 0) one)
-      | inr even ↦
-          let none : m % 2 ≡ 0 = omega (arith, even) in
-          ap (λ (n : ℕ). get_or (a ++ b) n 0) (omega (arith, none))
-          ∙ get_or_append_left a b 0 (start + m / 2) (omega (arith, inside, long))
-          ∙ sym (ap (λ (n : ℕ). get_or (if n == 0 then a else b) (start + m / 2) 0) none)
-    ]
+    search (rules, get_or-map, cases_lt, get_or-append-add, get_or_append_left)
 
 pub first_half : (m : ℕ) (a b : List ℕ) → length a ≡ 32 → m < 32
     → (out : List ℕ) → out ≡ pick_l 0 (a ++ b) first_places
@@ -223,15 +161,7 @@ second_half m a b long below =
 pub one_of_two : (u k i : ℕ) (rows : List (List ℕ))
     → get_or (if u % 2 == 0 then get_or rows k [] else get_or rows (k + 4) []) i 0
     ≡ get_or (get_or rows (k + 4 * (u % 2)) []) i 0
-one_of_two u k i rows = elim (cases_lt 0 (u % 2)) [
-  | inl odd ↦
-      let one : u % 2 ≡ 1 = omega (arith, odd) in
-      rw one refl
-  | inr even ↦
-      let none : u % 2 ≡ 0 = omega (arith, even) in
-      let here : k + 4 * 0 ≡ k = omega arith in
-      rw (none, here) refl
-]
+one_of_two u k i rows = search (rules, cases_lt)
 
 -- two more rows are woven
 pub woven_more : (k : ℕ) (rows between : List (List ℕ)) (low high : List ℕ) → length between ≡ 8 → k < 4
@@ -285,15 +215,7 @@ woven_within m below = omega (arith, below)
 -- three weavings bring the number of a row behind the number of a byte in it
 pub woven_thrice : (octet r : ℕ) → octet < 32 → r < 8
     → woven_from (woven_from (woven_from (8 * octet + r))) ≡ 32 * r + octet
-woven_thrice octet r in_row in_rows =
-    let a = r % 2 in
-    let b = r / 2 % 2 in
-    let c = r / 2 / 2 in
-    let first : woven_from (8 * octet + r) ≡ 4 * octet + r / 2 + 128 * a = omega arith in
-    let second : woven_from (4 * octet + r / 2 + 128 * a) ≡ 2 * octet + c + 64 * a + 128 * b = omega arith in
-    let third : woven_from (2 * octet + c + 64 * a + 128 * b) ≡ octet + 32 * a + 64 * b + 128 * c =
-    omega (arith, in_rows) in
-    ap (λ (n : ℕ). woven_from (woven_from n)) first ∙ ap woven_from second ∙ third ∙ omega arith
+woven_thrice octet r in_row in_rows = search rules
 
 -- the byte of a row
 pub byte_in_row : (octet r : ℕ) (rows : List (List ℕ)) → octet < 32
@@ -312,14 +234,7 @@ pub step_shown : (start width : ℕ) (text : List ℕ) (shown : List Val) → le
     → ((j : ℕ) → j < width → get_or text (start + j) 0 ≡ character_of (get_or shown j Zero))
     → take width (drop start text) ≡ values_text shown
 step_shown start width text shown long room each =
-    let part = take width (drop start text) in
-    let wide : length part ≡ width =
-    length-take-le width (drop start text) (omega (arith, length-drop start text, room)) in
-    same_number_lists part (values_text shown) (wide ∙ sym long ∙ sym (length-map shown character_of))
-    (λ j below.
-    let inside : j < width = omega (arith, below, wide) in
-    get_or-take width (drop start text) j 0 inside ∙ get_or-drop start text j 0 ∙ each j inside
-    ∙ sym (get_or-map character_of shown j Zero 0 (omega (arith, inside, long))))
+    search (rules, length-take-le, length-drop, same_number_lists, length-map, get_or-take, get_or-drop, get_or-map)
 
 -- two more planes are put: those before are what they were, and there these stand
 module _ (eight : List (List ℕ)) (at : ℕ) (one other : List ℕ) (long : length eight ≡ 16) (below : at < 8) where
@@ -344,14 +259,4 @@ module _ (eight : List (List ℕ)) (at : ℕ) (one other : List ℕ) (long : len
 
   pub pair_stands : (t k : ℕ) (x : Val) → k ≡ at → IsPair t one other x
       → IsPair t (get_or put_two (2 * k) []) (get_or put_two (2 * k + 1) []) x
-  pair_stands t k x is pair =
-      let first : get_or put_two (2 * k) [] ≡ one =
-      ap (λ (n : ℕ). get_or put_two (2 * n) []) is
-      ∙ get_or-set_other (set eight (2 * at) one) (2 * at + 1) (2 * at) other [] (λ e. omega (arith, e))
-      ∙ get_or-set_same eight (2 * at) one [] (omega (arith, long, below)) in
-      let second : get_or put_two (2 * k + 1) [] ≡ other =
-      ap (λ (n : ℕ). get_or put_two (2 * n + 1) []) is
-      ∙ get_or-set_same (set eight (2 * at) one) (2 * at + 1) other []
-      (omega (arith, long, below, length-set eight (2 * at) one)) in
-      subst (λ (p : List ℕ). IsPair t p (get_or put_two (2 * k + 1) []) x) (sym first)
-      (subst (λ (p : List ℕ). IsPair t one p x) (sym second) pair)
+  pair_stands t k x is pair = search (rules, get_or-set_other, eight, get_or-set_same, length-set)

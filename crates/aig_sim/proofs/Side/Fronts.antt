@@ -1,4 +1,5 @@
 -- The front of a stimulus, group by group.
+use Rattle.std.proofs.Common.{rules}
 use Rattle.std.proofs.Common.{◌≡◌, ◌++◌, ◌∷◌, ◌∙◌, ℕ, List, [], ap, append-nil, codes, length, map, refl, sym, subst}
 use Rattle.std.proofs.Common.{true}
 use Rattle.std.specs.List.{AllZip, flat_map}
@@ -105,10 +106,4 @@ pub front_of : (c d : Circuit) (columns : Columns) (bytes : List ℕ) (groups : 
     (rest text : List ℕ) → MeansTheSame c d → Says (length c.inputs) bytes lines (entries_of_groups groups) rest
     → Goes d columns (begin_of d) (entries_of_groups groups) (begin_of d) text
     → IsFront c columns bytes text lines rest
-front_of c d columns bytes groups lines rest text means says goes = record {
-  entries = entries_of_groups groups;
-  says = says;
-  goes =
-      subst (λ (p : Point). Goes c columns p (entries_of_groups groups) p text) (begin_same c d means)
-      (goes_same c d columns (begin_of d) (begin_of d) (entries_of_groups groups) text means goes);
-}
+front_of c d columns bytes groups lines rest text means says goes = search (rules, begin_same, goes_same)

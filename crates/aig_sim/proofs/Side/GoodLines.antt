@@ -1,4 +1,6 @@
 -- Lines of a stimulus that has no bad one.
+use Rattle.std.proofs.lemmas.Grind.{common_steps}
+use Rattle.std.proofs.Common.{rules}
 use Rattle.std.proofs.Common.{◌≡◌, ◌≢◌, ◌+◌, ◌<◌, ◌≤◌, ◌==◌, ◌++◌, ℕ, zero, suc, List, [], ◌∷◌, Bool, true, false}
 use Rattle.std.proofs.Common.{Option, None, Some, if◌then◌else◌, option_map, length, take, drop, bytes_eq, codes, refl}
 use Rattle.std.proofs.Common.{sym}
@@ -10,8 +12,7 @@ use Rattle.std.proofs.lemmas.List.{length-take-le}
 use Rattle.memchr.specs.Find.{IsFirstByte, is_byte}
 use Rattle.aig_core.specs.declared.value.Val.{Val}
 use Rattle.aig_text.specs.Lines.{Line, line, bytes_of}
-use Rattle.aig_sim.specs.Stimulus.{Entry, Step, Stop, Stimulus, before_rest, entry_in, entry_of, judged_lines}
-use Rattle.aig_sim.specs.Stimulus.{lines_say}
+use Rattle.aig_sim.specs.Stimulus.{Entry, Step, Stop, Stimulus, before_rest, entry_in, judged_lines}
 use Rattle.aig_sim.specs.Stimulus.{values_of, without_return}
 use Rattle.aig_sim.specs.Parts.Lines.{vector_in}
 use Rattle.aig_sim.specs.Parts.RunsRead.{HasNoBadLine}
@@ -44,13 +45,7 @@ pub good_line : (inputs : ℕ) (bytes : List ℕ) (next : ℕ) → IsFirstByte (
     → HasNoBadLine inputs bytes
     → ((e : Entry) × (entry_in inputs (without_return (take next bytes)) ≡ Some e))
     × HasNoBadLine inputs (drop 1 (drop next bytes))
-good_line inputs bytes next found good =
-    let l : Line = line (take next bytes) true in
-    let later : List Line = judged_lines (drop 1 (drop next bytes)) true in
-    let said : (lines_say inputs good.0 (l ∷ later)).bad ≡ None =
-    subst (λ (ls : List Line). (lines_say inputs good.0 ls).bad ≡ None) (judged_first bytes next found) good.1 in
-    let w = before_good good.0 (entry_of inputs l) (lines_say inputs (suc good.0) later) said in
-    (w.0, (suc good.0, w.1))
+good_line inputs bytes next found good = grind (arith, common_steps, judged_first, before_good)
 
 no_stop : (stop long : Bool) (o : Option (List Val)) (e : Entry) → stop ≡ false
     → (if stop then Some Stop else if long then option_map Step o else None) ≡ Some e
@@ -142,22 +137,7 @@ module _ (inputs : ℕ) (bytes : List ℕ) (there : inputs < length bytes) (at :
   back = values_back text given values
 
   pub values_end : IsFirstByte (is_byte 10) bytes (Some inputs)
-  values_end =
-      let none : HasNoLineFeed text = subst HasNoLineFeed back (none_feeds given) in (
-        record {
-          low = omega arith;
-          high = there;
-          before = λ j _ below passes.
-              no_feed_at bytes inputs j none below (omega (arith, below, there))
-              (eqb-true (slice_index bytes j) 10 passes);
-        },
-        ap (is_byte 10) at,
-      )
+  values_end = search (rules, back, none_feeds, no_feed_at, eqb-true)
 
   pub values_say : is_some (entry_in inputs (without_return text)) ≡ true
-  values_say =
-      let kept : without_return text ≡ text =
-      subst (λ (t : List ℕ). without_return t ≡ t) back (none_returns given) in
-      let long : length text ≡ inputs = length-take-le inputs bytes (omega (arith, there)) in
-      ap (λ (t : List ℕ). is_some (entry_in inputs t)) kept
-      ∙ ap is_some (vector_says inputs text given (vector_is inputs text long ∙ values))
+  values_say = search (rules, back, none_returns, length-take-le, is_some, vector_says, vector_is)

@@ -1,4 +1,5 @@
 -- Runs of a group, step by step.
+use Rattle.std.proofs.Common.{rules}
 use Rattle.std.proofs.Common.{◌≡◌, ◌+◌, ◌*◌, ◌<◌, ◌≤◌, ◌++◌, ℕ, zero, suc, List, [], ◌∷◌, length, map, get_or, set, take}
 use Rattle.std.proofs.Common.{replicate, refl, sym, ap, subst, ◌∙◌, arith, inl, inr}
 use Rattle.std.specs.List.{AllZip}
@@ -164,19 +165,7 @@ module _ (c parts : Circuit) (run : Run) (step lane : ℕ) (table begun table_no
 pub stands_first : (c : Circuit) (run : Run) (lane : ℕ) (table state : List (List ℕ)) (trace : Trace)
     → trace.rows ≡ [] → IsLane lane table (replicate (1 + c.max_var) X) → IsLane lane state (reset_state c)
     → Stands c run 0 lane table state trace
-stands_first c run lane table state trace empty is from =
-    let rows : map row_of trace.rows ≡ [] = ap (map row_of) empty in
-    record {
-      traced =
-          subst (λ (rs : List Row). IsTrace c (reset_state c) (take 0 run.steps) rs) (sym rows)
-          (reset_state_is_first c, tt);
-      table_stands = λ _. record {
-        values = replicate (1 + c.max_var) X;
-        stand = is;
-        size_is = length-replicate (1 + c.max_var) X;
-      };
-      state_stands = λ _. subst (λ (rs : List Row). IsLane lane state (state_after (reset_state c) rs)) (sym rows) from;
-    }
+stands_first c run lane table state trace empty is from = search (rules, reset_state_is_first, length-replicate)
 
 -- traces of circuits that mean the same
 pub same_trace_of : (c d : Circuit) (run : Run) (trace : Trace) → MeansTheSame c d → IsTraceOf d run trace

@@ -1,4 +1,5 @@
 -- The inputs of runs as bits.
+use Rattle.std.proofs.Common.{rules}
 use Rattle.std.proofs.Common.{◌≡◌, ◌+◌, ◌-◌, ◌*◌, ◌/◌, ◌%◌, ◌^◌, ◌<◌, ◌≤◌, ◌==◌, ℕ, zero, suc, List, [], ◌∷◌}
 use Rattle.std.proofs.Common.{Bool, true, false, not, cond, eqb, if◌then◌else◌, length, map, get_or, take, drop}
 use Rattle.std.proofs.Common.{replicate, refl, sym, ap, ap₂, ◌∙◌, arith, w8, inl, inr}
@@ -64,27 +65,7 @@ pub words_in : (f : ℕ → ℕ) (a b c d : ℕ) → ((k : ℕ) → k < 64 → b
     → ((k : ℕ) → k < 64 → bit_at b k ≡ f (64 + k)) → ((k : ℕ) → k < 64 → bit_at c k ≡ f (128 + k))
     → ((k : ℕ) → k < 64 → bit_at d k ≡ f (192 + k)) → (l : ℕ) → l < 256
     → bit_in l (a ∷ b ∷ c ∷ d ∷ []) ≡ f l
-words_in f a b c d in_a in_b in_c in_d l below =
-    let word = λ (w : ℕ). bit_at (get_or (a ∷ b ∷ c ∷ d ∷ []) w 0) (l % 64) in
-    let inside : l % 64 < 64 = omega arith in
-    elim (cases_lt l 64) [
-      | inl first ↦
-          let at : l / 64 ≡ 0 = omega (arith, first) in
-          ap word at ∙ in_a (l % 64) inside ∙ ap f (omega (arith, first))
-      | inr above ↦ elim (cases_lt l 128) [
-        | inl second ↦
-            let at : l / 64 ≡ 1 = omega (arith, above, second) in
-            ap word at ∙ in_b (l % 64) inside ∙ ap f (omega (arith, above, second))
-        | inr more ↦ elim (cases_lt l 192) [
-          | inl third ↦
-              let at : l / 64 ≡ 2 = omega (arith, more, third) in
-              ap word at ∙ in_c (l % 64) inside ∙ ap f (omega (arith, more, third))
-          | inr last ↦
-              let at : l / 64 ≡ 3 = omega (arith, last, below) in
-              ap word at ∙ in_d (l % 64) inside ∙ ap f (omega (arith, last, below))
-        ]
-      ]
-    ]
+words_in f a b c d in_a in_b in_c in_d l below = search (rules, cases_lt)
 
 -- where the character of a value is another one, so is the value
 pub may_be_one_where : (x : Val) → (if character_of x == 48 then 0 else 1) ≡ may_be_one x

@@ -1,4 +1,5 @@
 -- Runs that are read at the front of a stimulus.
+use Rattle.std.proofs.Common.{rules}
 use Rattle.std.proofs.Common.{◌≡◌, ◌+◌, ◌*◌, ◌≤◌, ◌==◌, ◌&&◌, ◌++◌, ◌∷◌, Bool, false, ℕ, List, [], Option, Some}
 use Rattle.std.proofs.Common.{if◌then◌else◌, is_some, length, take, drop, refl, sym, ap}
 use Rattle.std.proofs.Common.{subst, ◌∙◌, append_assoc, append-nil, arith}
@@ -23,16 +24,7 @@ use Rattle.aig_sim.proofs.WholeLines.{first_line}
 
 -- no line
 pub says_none : (inputs : ℕ) (bytes : List ℕ) → Says inputs bytes 0 [] bytes
-says_none inputs bytes = record {
-  passed = [];
-  parted = refl;
-  few = omega arith;
-  heard = λ front count before is.
-      let same : count ≡ count + 0 = omega arith in
-      subst (λ (n : ℕ). IsHeard inputs (front ++ []) n [] (before ++ [])) same
-      (subst (λ (es : List Entry). IsHeard inputs (front ++ []) count [] es) (sym (append-nil before))
-      (subst (λ (bs : List ℕ). IsHeard inputs bs count [] before) (sym (append-nil front)) is));
-}
+says_none inputs bytes = search (rules, append-nil)
 
 -- lines behind lines
 pub says_then : (inputs : ℕ) (bytes mid rest : List ℕ) (m n : ℕ) (es fs : List Entry) → Says inputs bytes m es mid
@@ -94,12 +86,7 @@ module _ (inputs : ℕ) (bytes : List ℕ) (steps : List (List Val)) (before res
   pub one_step : (given : List Val) (now : List (List Val)) → now ≡ steps ++ given ∷ []
       → vector_in inputs (without_return (take next before)) ≡ Some given
       → Says inputs bytes (length now) (map Step now) rest
-  one_step given now is said =
-      let long : length steps + 1 ≡ length now = omega (arith, ap length is, length-append steps (given ∷ [])) in
-      subst (λ (es : List Entry). Says inputs bytes (length now) es rest)
-      (sym (ap (map Step) is ∙ map-append Step steps (given ∷ [])))
-      (subst (λ (n : ℕ). Says inputs bytes n (map Step steps ++ Step given ∷ []) rest) long
-      (one_more (Step given) (vector_says inputs (without_return (take next before)) given said)))
+  one_step given now is said = search (rules, length-append, map-append, one_more, vector_says)
 
 -- a vector has a value for each input
 pub vector_fits : (inputs : ℕ) (text : List ℕ) (given : List Val) → vector_in inputs text ≡ Some given
@@ -113,14 +100,7 @@ pub one_run : (inputs : ℕ) (bytes before rest : List ℕ) (lines : ℕ) (runs 
     → now ≡ runs ++ run ∷ [] → Says inputs bytes lines (flat_map entries_of_run runs) before
     → Says inputs before (length run.steps + 1) (entries_of_run run) rest
     → Says inputs bytes (lines + (length run.steps + 1)) (flat_map entries_of_run now) rest
-one_run inputs bytes before rest lines runs now run is front next =
-    let last : flat_map entries_of_run (run ∷ []) ≡ entries_of_run run = append-nil (entries_of_run run) in
-    let all : flat_map entries_of_run now ≡ flat_map entries_of_run runs ++ entries_of_run run =
-    ap (flat_map entries_of_run) is ∙ flat_map-append entries_of_run runs (run ∷ [])
-    ∙ ap (λ (es : List Entry). flat_map entries_of_run runs ++ es) last in
-    subst (λ (es : List Entry). Says inputs bytes (lines + (length run.steps + 1)) es rest) (sym all)
-    (says_then inputs bytes before rest lines (length run.steps + 1) (flat_map entries_of_run runs) (entries_of_run run)
-    front next)
+one_run inputs bytes before rest lines runs now run is front next = search (rules, append-nil, flat_map-append, says_then)
 
 last_cut : (p : Bool) (b : ℕ) → (if p then [] else b ∷ []) ≡ take (length (if p then [] else b ∷ [])) (b ∷ [])
 last_cut true b = refl
@@ -174,16 +154,7 @@ module _ (inputs stride steps next : ℕ) (bytes rest : List ℕ) (vector : List
   values_there = ap values_of text_there ∙ sym (vector_is inputs text fits) ∙ says
 
   pub vectors_more : AreVectors inputs stride (steps + 1) bytes
-  vectors_more =
-      more_vectors inputs stride steps bytes are
-      (omega (
-        arith,
-        enough,
-        ap length cut,
-        length-append (take next rest) (10 ∷ drop 1 (drop next rest)),
-        ap length rest_is,
-        length-drop (steps * stride) bytes,
-      )) (ap is_some values_there)
+  vectors_more = search (rules, more_vectors, enough, cut, length-append, length-drop, is_some, values_there)
 
   pub vectors_are : vectors_in inputs stride (steps + 1) bytes ≡ vectors_in inputs stride steps bytes ++ vector ∷ []
   vectors_are =

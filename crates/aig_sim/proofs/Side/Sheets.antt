@@ -1,6 +1,7 @@
 -- The characters of literals in all lanes.
+use Rattle.std.proofs.Common.{rules}
 use Rattle.std.proofs.Common.{◌≡◌, ◌≢◌, ◌+◌, ◌*◌, ◌/◌, ◌%◌, ◌^◌, ◌<◌, ◌≤◌, ◌++◌, ℕ, zero, suc, List, [], ◌∷◌}
-use Rattle.std.proofs.Common.{drop, length, get_or, set, take, refl, sym, ap, ap₂, ◌∙◌, arith, inl, inr, subst}
+use Rattle.std.proofs.Common.{drop, length, get_or, set, take, refl, sym, ap, ap₂, ◌∙◌, arith}
 use Rattle.std.proofs.lemmas.Bool.{cases_lt}
 use Rattle.std.proofs.Math.Nat.{add-mul, mul-le-mul_right, one-mul}
 use Rattle.std.proofs.lemmas.List.{drop-take, get_or-set_other, get_or-set_same, map-append, take-take, take_all}
@@ -131,19 +132,4 @@ steps_within step end width below =
 pub long_after : (octets : List OctetText) (here k j : ℕ) (now d : OctetText) → here < length octets
     → length (octet_text j now) ≡ length (octet_text j (get_or octets here d))
     → length (octet_text j (get_or (set octets here now) k d)) ≡ length (octet_text j (get_or octets k d))
-long_after octets here k j now d room same = elim (cases_lt k here) [
-  | inl less ↦
-      ap (λ (o : OctetText). length (octet_text j o))
-      (get_or-set_other octets here k now d (λ e. omega (arith, less, e)))
-  | inr high ↦ elim (cases_lt here k) [
-    | inl more ↦
-        ap (λ (o : OctetText). length (octet_text j o))
-        (get_or-set_other octets here k now d (λ e. omega (arith, more, e)))
-    | inr low ↦
-        let is : here ≡ k = omega (arith, high, low) in
-        subst
-        (λ (n : ℕ). length (octet_text j (get_or (set octets here now) n d))
-        ≡ length (octet_text j (get_or octets n d)))
-        is (ap (λ (o : OctetText). length (octet_text j o)) (get_or-set_same octets here now d room) ∙ same)
-  ]
-]
+long_after octets here k j now d room same = search (rules, cases_lt, get_or-set_other, get_or-set_same)

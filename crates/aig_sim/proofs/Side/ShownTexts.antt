@@ -1,4 +1,5 @@
 -- What is kept of the steps of a run, by what is shown in its lane.
+use Rattle.std.proofs.Common.{rules}
 use Rattle.std.proofs.Common.{◌≡◌, ◌+◌, ◌*◌, ◌<◌, ◌≤◌, ◌++◌, ℕ, zero, suc, List, [], ap, ap₂, arith, codes, drop}
 use Rattle.std.proofs.Common.{get_or}
 use Rattle.std.proofs.Common.{◌∙◌, length, map, refl, subst, sym, take}
@@ -38,21 +39,11 @@ line_shown columns c lane values before given step shown state next are =
     rw (state, are.outputs, next, properties) refl
 
 pub sheets_same : (a b : Circuit) (shown : Shown) → ShowsTheSame a b → HasSheets b shown → HasSheets a shown
-sheets_same a b shown same has = record {
-  state = has.state ∙ ap length (sym same.latches);
-  outputs = has.outputs ∙ ap length (sym same.outputs);
-  bad = has.bad ∙ ap length (sym same.bad);
-  constraints = has.constraints ∙ ap length (sym same.constraints);
-}
+sheets_same a b shown same has = search rules
 
 -- sheets that have the places that they had are sheets of the circuit still
 pub sheets_stay : (c : Circuit) (before after : Shown) → SameRoom before after → HasSheets c before → HasSheets c after
-sheets_stay c before after same has = record {
-  state = same.state.width ∙ has.state;
-  outputs = same.outputs.width ∙ has.outputs;
-  bad = same.bad.width ∙ has.bad;
-  constraints = same.constraints.width ∙ has.constraints;
-}
+sheets_stay c before after same has = search rules
 
 -- a step was put: what sheets held of the steps before it is as it was
 pub record Kept (step : ℕ) (before after : Shown) : Type 0 where
@@ -97,23 +88,7 @@ module _ (step lane : ℕ) (before after : Shown) (low : lane < 256) (kept : Kep
 -- where there are places for all steps of a run, there are for each
 pub holds_step : (lane step : ℕ) (run : Run) (shown : Shown) → step < length run.steps → HoldsRun lane run shown
     → HasShown step lane shown
-holds_step lane step run shown less holds =
-    let steps = length run.steps in
-    record {
-      state = omega (arith, holds.state, steps_within step (steps + 1) shown.state.width (omega (arith, less)));
-      next = omega (
-        arith,
-        holds.state,
-        steps_within (step + 1) (steps + 1) shown.state.width (omega (arith, less)),
-      );
-      outputs = omega (arith, holds.outputs, steps_within step (steps + 0) shown.outputs.width (omega (arith, less)));
-      bad = omega (arith, holds.bad, steps_within step (steps + 0) shown.bad.width (omega (arith, less)));
-      constraints = omega (
-        arith,
-        holds.constraints,
-        steps_within step (steps + 0) shown.constraints.width (omega (arith, less)),
-      );
-    }
+holds_step lane step run shown less holds = search (rules, steps_within)
 
 same_sheet : (before after : SheetText) → after ≡ before → SameSheet before after
 same_sheet before after is = record {
@@ -124,34 +99,16 @@ same_sheet before after is = record {
 -- the state alone was put
 pub state_put : (step : ℕ) (before after : Shown) → after ≡ record before { state = after.state }
     → PutBehind step before.state after.state → SameRoom before after
-state_put step before after is put = record {
-  state = put.same;
-  outputs = same_sheet before.outputs after.outputs (ap (λ (s : Shown). s.outputs) is);
-  bad = same_sheet before.bad after.bad (ap (λ (s : Shown). s.bad) is);
-  constraints = same_sheet before.constraints after.constraints (ap (λ (s : Shown). s.constraints) is);
-}
+state_put step before after is put = search (rules, same_sheet)
 
 -- what a step shows was put, and then the state behind it
 pub kept_by : (step : ℕ) (before between after : Shown) → PutsShown step before between
     → after ≡ record between { state = after.state } → PutBehind (step + 1) between.state after.state
     → Kept step before after
-kept_by step before between after puts is put = record {
-  state = subst (λ (s : SheetText). PutBehind (step + 1) s after.state) puts.state put;
-  outputs = subst (λ (s : SheetText). PutBehind step before.outputs s) (sym (ap (λ (s : Shown). s.outputs) is))
-      puts.outputs;
-  bad = subst (λ (s : SheetText). PutBehind step before.bad s) (sym (ap (λ (s : Shown). s.bad) is)) puts.bad;
-  constraints =
-      subst (λ (s : SheetText). PutBehind step before.constraints s) (sym (ap (λ (s : Shown). s.constraints) is))
-      puts.constraints;
-}
+kept_by step before between after puts is put = search rules
 
 pub room_kept : (step : ℕ) (before after : Shown) → Kept step before after → SameRoom before after
-room_kept step before after kept = record {
-  state = kept.state.same;
-  outputs = kept.outputs.same;
-  bad = kept.bad.same;
-  constraints = kept.constraints.same;
-}
+room_kept step before after kept = search rules
 
 -- what is shown beside states stays where the state is put
 pub shown_still : (columns : Columns) (c : Circuit) (lane : ℕ) (values : List Val) (step : ℕ) (between after : Shown)
@@ -168,20 +125,10 @@ same_room_twice a b c one more = record {
 }
 
 pub rooms_twice : (a b c : Shown) → SameRoom a b → SameRoom b c → SameRoom a c
-rooms_twice a b c one more = record {
-  state = same_room_twice a.state b.state c.state one.state more.state;
-  outputs = same_room_twice a.outputs b.outputs c.outputs one.outputs more.outputs;
-  bad = same_room_twice a.bad b.bad c.bad one.bad more.bad;
-  constraints = same_room_twice a.constraints b.constraints c.constraints one.constraints more.constraints;
-}
+rooms_twice a b c one more = search (rules, same_room_twice)
 
 pub room_same : (a : Shown) → SameRoom a a
-room_same a = record {
-  state = same_sheet a.state a.state refl;
-  outputs = same_sheet a.outputs a.outputs refl;
-  bad = same_sheet a.bad a.bad refl;
-  constraints = same_sheet a.constraints a.constraints refl;
-}
+room_same a = search (rules, same_sheet)
 
 pub size_stays : (before after : Shown) → SameRoom before after → shown_size after ≡ shown_size before
 size_stays before after same =
@@ -194,15 +141,7 @@ places_stay steps lane before after same there =
 
 pub holds_still : (lane : ℕ) (run : Run) (before after : Shown) → SameRoom before after → HoldsRun lane run before
     → HoldsRun lane run after
-holds_still lane run before after same holds =
-    let steps = length run.steps in
-    record {
-      state = places_stay (steps + 1) lane before.state after.state same.state holds.state;
-      outputs = places_stay (steps + 0) lane before.outputs after.outputs same.outputs holds.outputs;
-      bad = places_stay (steps + 0) lane before.bad after.bad same.bad holds.bad;
-      constraints = places_stay (steps + 0) lane before.constraints after.constraints same.constraints
-          holds.constraints;
-    }
+holds_still lane run before after same holds = search (rules, places_stay)
 
 two_of : (n : ℕ) → 2 * n ≡ n + n
 two_of n = omega arith
@@ -210,9 +149,4 @@ two_of n = omega arith
 -- the places of the state behind a step can be counted where two states for each line can
 pub fits_behind : (step width size bound : ℕ) → 2 * width ≤ size → (step + 1) * size < bound
     → (step + 1) * width + width < bound
-fits_behind step width size bound two fits =
-    let twice = mul-le-mul_left {m = 2 * width} {n = size} (step + 1) two in
-    let parts : (step + 1) * (2 * width) ≡ (step + 1) * width + (step + 1) * width =
-    ap (λ (n : ℕ). (step + 1) * n) (two_of width) ∙ mul-add (step + 1) width width in
-    let one = steps_within 0 (step + 1) width (omega arith) in
-    omega (arith, twice, parts, one, fits)
+fits_behind step width size bound two fits = search (rules, mul-le-mul_left, two_of, mul-add, steps_within)

@@ -1,6 +1,7 @@
 -- Bits of inputs, put by squares of eight lanes and eight bytes.
+use Rattle.std.proofs.Common.{rules}
 use Rattle.std.proofs.Common.{◌≡◌, ◌≢◌, ◌+◌, ◌-◌, ◌*◌, ◌/◌, ◌%◌, ◌^◌, ◌<◌, ◌≤◌, ◌++◌, ℕ, List, [], ◌∷◌, length, get_or}
-use Rattle.std.proofs.Common.{set, take, drop, refl, sym, ap, ◌∙◌, arith, inl, inr}
+use Rattle.std.proofs.Common.{set, take, drop, refl, sym, ap, ◌∙◌, arith}
 use Rattle.std.specs.Simd.Lanes.{digits_l, number_l, pick_l, Each1}
 use Rattle.std.proofs.lemmas.Bool.{cases_eq}
 use Rattle.std.proofs.lemmas.List.{get_or-append-add, get_or-map, get_or-set_other, get_or-set_same, get_or-take}
@@ -61,12 +62,7 @@ eight_is_put l at eights eight below = ap (λ (s : List ℕ). get_or s l 0) (get
 pub lane_stays : (k l at : ℕ) (eights : List (List ℕ)) (eight : List ℕ) → at < length eights
     → get_or eight l 0 ≡ get_or (get_or eights at []) l 0
     → byte_in k l (set eights at eight) ≡ byte_in k l eights
-lane_stays k l at eights eight below same = elim (cases_eq k at) [
-  | inl is ↦
-      ap (λ (n : ℕ). byte_in n l (set eights at eight)) is ∙ eight_is_put l at eights eight below ∙ same
-      ∙ sym (ap (λ (n : ℕ). byte_in n l eights) is)
-  | inr other ↦ others_stay k l at eights eight other
-]
+lane_stays k l at eights eight below same = search (rules, cases_eq, eight_is_put, others_stay)
 
 -- eight inputs are put in eight lanes
 pub eight_are_put : (at lane l n : ℕ) (eights : List (List ℕ)) (bytes : List ℕ) → at < length eights

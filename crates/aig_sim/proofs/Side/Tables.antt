@@ -1,5 +1,6 @@
 -- Tables of planes: what stands in a lane.
-use Rattle.std.proofs.Common.{◌≡◌, ◌+◌, ◌-◌, ◌*◌, ◌/◌, ◌%◌, ◌<◌, ◌≤◌, ◌==◌, ℕ, zero, suc, List, [], ◌∷◌}
+use Rattle.std.proofs.Common.{rules}
+use Rattle.std.proofs.Common.{◌≡◌, ◌+◌, ◌*◌, ◌/◌, ◌%◌, ◌<◌, ◌≤◌, ◌==◌, ℕ, zero, suc, List, [], ◌∷◌}
 use Rattle.std.proofs.Common.{length, map, get_or, set, take, drop, refl, sym, ap, ap₂, ◌∙◌, arith, min, max}
 use Rattle.std.proofs.Common.{◌++◌, if◌then◌else◌, inl, inr, drop-cons}
 use Rattle.std.specs.Int.Bits.{bit_and, bit_or}
@@ -43,18 +44,7 @@ not_twice One = refl
 not_twice X = refl
 
 negation_value : (a : ℕ → Val) (l : ℕ) → literal_value a (negation_of l) ≡ value_not (literal_value a l)
-negation_value a l = elim (cases_lt 0 (l % 2)) [
-  | inl odd ↦
-      let sign : l % 2 ≡ 1 = omega arith in
-      let sign_too : (l - 1) % 2 ≡ 0 = omega arith in
-      let variable : (l - 1) / 2 ≡ l / 2 = omega arith in
-      rw (sign, sign_too, variable) (sym (not_twice (a (l / 2))))
-  | inr even ↦
-      let sign : l % 2 ≡ 0 = omega arith in
-      let sign_too : (l + 1) % 2 ≡ 1 = omega arith in
-      let variable : (l + 1) / 2 ≡ l / 2 = omega arith in
-      rw (sign, sign_too, variable) refl
-]
+negation_value a l = search (rules, cases_lt, not_twice)
 
 pub negation_variable : (l : ℕ) → variable_of (negation_of l) ≡ variable_of l
 negation_variable l = elim (cases_lt 0 (l % 2)) [
@@ -75,41 +65,11 @@ module _ (l : ℕ) (planes : List (List ℕ)) (values : List Val) (is : IsLane l
   pub pair_at : (literal : ℕ) (d e : List ℕ) → variable_of literal < length values
       → IsPair l (get_or planes literal d) (get_or planes (negation_of literal) e)
       (literal_value (read_from values) literal)
-  pair_at literal d e below =
-      let below_too : variable_of (negation_of literal) < length values =
-      omega (arith, below, negation_variable literal) in
-      let here : literal < length planes = omega (arith, below, lane_length) in
-      let there : negation_of literal < length planes = omega (arith, below_too, lane_length) in
-      record {
-        one_plane = is.whole literal d here;
-        zero_plane = is.whole (negation_of literal) e there;
-        one_bit = plane_bit literal d here ∙ literal_bit values literal 0 below;
-        zero_bit =
-            plane_bit (negation_of literal) e there ∙ literal_bit values (negation_of literal) 0 below_too
-            ∙ ap may_be_one (negation_value (read_from values) literal);
-      }
+  pair_at literal d e below = search (rules, negation_variable, lane_length, plane_bit, literal_bit, negation_value)
 
   pub pair_of_variable : (v : ℕ) (d e : List ℕ) → v < length values
       → IsPair l (get_or planes (2 * v) d) (get_or planes (2 * v + 1) e) (read_from values v)
-  pair_of_variable v d e below =
-      let even : 2 * v % 2 ≡ 0 = omega arith in
-      let odd : (2 * v + 1) % 2 ≡ 1 = omega arith in
-      let variable : 2 * v / 2 ≡ v = omega arith in
-      let variable_too : (2 * v + 1) / 2 ≡ v = omega arith in
-      let here : 2 * v < length planes = omega (arith, below, lane_length) in
-      let there : 2 * v + 1 < length planes = omega (arith, below, lane_length) in
-      let one : literal_value (read_from values) (2 * v) ≡ read_from values v = rw (even, variable) refl in
-      let zero : literal_value (read_from values) (2 * v + 1) ≡ value_not (read_from values v) =
-      rw (odd, variable_too) refl in
-      record {
-        one_plane = is.whole (2 * v) d here;
-        zero_plane = is.whole (2 * v + 1) e there;
-        one_bit =
-            plane_bit (2 * v) d here ∙ literal_bit values (2 * v) 0 (omega (arith, below)) ∙ ap may_be_one one;
-        zero_bit =
-            plane_bit (2 * v + 1) e there ∙ literal_bit values (2 * v + 1) 0 (omega (arith, below))
-            ∙ ap may_be_one zero;
-      }
+  pair_of_variable v d e below = search (rules, lane_length, plane_bit, literal_bit)
 
 written_bits : (vs : List Val) (v : ℕ) (x : Val) → v < length vs
     → set (set (bits_of_values vs) (2 * v) (may_be_one x)) (2 * v + 1) (may_be_one (value_not x))
@@ -164,26 +124,13 @@ most_may X X = refl
 -- the planes of an `and`
 pub and_pair : (l : ℕ) (high low high_too low_too : List ℕ) (x y : Val) → IsPair l high low x
     → IsPair l high_too low_too y → IsPair l (zip2 bit_and high high_too) (zip2 bit_or low low_too) (value_and x y)
-and_pair l high low high_too low_too x y p q =
-    let ones : length high ≡ length high_too = p.one_plane ∙ sym q.one_plane in
-    let zeros : length low ≡ length low_too = p.zero_plane ∙ sym q.zero_plane in
-    record {
-      one_plane = length-zip2 bit_and high high_too ones ∙ p.one_plane;
-      zero_plane = length-zip2 bit_or low low_too zeros ∙ p.zero_plane;
-      one_bit = and_in l high high_too ones ∙ ap₂ min p.one_bit q.one_bit ∙ least_may x y;
-      zero_bit = or_in l low low_too zeros ∙ ap₂ max p.zero_bit q.zero_bit ∙ most_may x y;
-    }
+and_pair l high low high_too low_too x y p q = search (rules, length-zip2, and_in, least_may, or_in, most_may)
 
 -- the planes that are in other lanes what they were
 pub kept_pair : (l : ℕ) (high low new_high new_low : List ℕ) (x : Val) → IsPair l high low x
     → IsPlane new_high → IsPlane new_low → bit_in l new_high ≡ bit_in l high → bit_in l new_low ≡ bit_in l low
     → IsPair l new_high new_low x
-kept_pair l high low new_high new_low x pair one_plane zero_plane one_bit zero_bit = record {
-  one_plane = one_plane;
-  zero_plane = zero_plane;
-  one_bit = one_bit ∙ pair.one_bit;
-  zero_bit = zero_bit ∙ pair.zero_bit;
-}
+kept_pair l high low new_high new_low x pair one_plane zero_plane one_bit zero_bit = search rules
 
 -- one more value is put behind those before it
 pub placed_more : (at i : ℕ) (given : List Val) (d x : Val) (values : List Val) → i < length given

@@ -1,4 +1,5 @@
 -- The texts of a group of runs, step by step.
+use Rattle.std.proofs.Common.{rules}
 use Rattle.std.proofs.Common.{◌≡◌, ◌+◌, ◌<◌, ◌≤◌, ◌++◌, ap₂, ℕ, zero, suc, List, [], ◌∷◌, length, map, get_or, take}
 use Rattle.std.proofs.Common.{replicate, refl, sym, ap, subst, ◌∙◌, arith, inl, inr}
 use Rattle.std.specs.List.{AllZip}
@@ -156,20 +157,7 @@ pub text_stands_first : (columns : Columns) (c : Circuit) (run : Run) (lane : �
     (shown : Shown) → IsLane lane table (replicate (1 + c.max_var) X) → IsLane lane state (reset_state c)
     → step_in 0 lane shown.state ≡ values_text (reset_state c)
     → TextStands columns c run 0 lane table state shown
-text_stands_first columns c run lane table state shown is from kept = record {
-  rows = [];
-  traced = (reset_state_is_first c, tt);
-  count = λ _. refl;
-  ended = λ none. omega (arith, none);
-  is = refl;
-  table_stands = λ _. record {
-    values = replicate (1 + c.max_var) X;
-    stand = is;
-    size_is = length-replicate (1 + c.max_var) X;
-  };
-  state_stands = λ _. from;
-  state_kept = λ _. kept;
-}
+text_stands_first columns c run lane table state shown is from kept = search (rules, reset_state_is_first, length-replicate)
 
 -- one more run and one more text
 zip_more : (R : Run → List ℕ → Type 0) (runs : List Run) (texts : List (List ℕ)) (run : Run) (text : List ℕ)

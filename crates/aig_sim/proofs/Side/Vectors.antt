@@ -1,6 +1,7 @@
 -- The steps of a run, where they stand.
+use Rattle.std.proofs.Common.{rules}
 use Rattle.std.proofs.Common.{◌≡◌, ◌+◌, ◌*◌, ◌++◌, ◌<◌, ◌≤◌, ◌∷◌, ℕ, zero, suc, List, [], Option, None, Some}
-use Rattle.std.proofs.Common.{arith, ap, drop, get_or, inl, inr, is_some, length, refl, subst, sym, take, true, ◌∙◌}
+use Rattle.std.proofs.Common.{arith, ap, drop, get_or, is_some, length, refl, sym, take, true, ◌∙◌}
 use Rattle.std.specs.List.{All}
 use Rattle.std.proofs.lemmas.Bool.{cases_lt}
 use Rattle.std.proofs.lemmas.List.{drop-drop, length-drop, length-take-le}
@@ -53,20 +54,7 @@ pub more_vectors : (inputs stride steps : ℕ) (lines : List ℕ) → AreVectors
     → steps * stride + inputs ≤ length lines
     → is_some (values_of (take inputs (drop (steps * stride) lines))) ≡ true
     → AreVectors inputs stride (steps + 1) lines
-more_vectors inputs stride steps lines are within good = record {
-  within = λ k below. elim (cases_lt k steps) [
-    | inl before ↦ are.within k before
-    | inr last ↦
-        let same : steps ≡ k = omega (arith, below, last) in
-        subst (λ n. n * stride + inputs ≤ length lines) same within
-  ];
-  good = λ k below. elim (cases_lt k steps) [
-    | inl before ↦ are.good k before
-    | inr last ↦
-        let same : steps ≡ k = omega (arith, below, last) in
-        subst (λ n. is_some (values_of (take inputs (drop (n * stride) lines))) ≡ true) same good
-  ];
-}
+more_vectors inputs stride steps lines are within good = search (rules, cases_lt, is_some)
 
 pub said_is : (o : Option (List Val)) → is_some o ≡ true → o ≡ Some (said o)
 said_is None is = cc

@@ -1,18 +1,14 @@
+use Rattle.std.proofs.Common.{rules}
 use Rattle.std.proofs.Common.{◌≡◌, ◌+◌, ◌*◌, ◌%◌, get_or, arith, ap, sym, subst}
 use Rattle.aig_binary.proofs.Deltas.Going.{AreRead, read_on, read_end, read_without_end, read_too_far}
 use Rattle.aig_binary.proofs.Deltas.Reading.{delta_none, found}
 use Rattle.aig_binary.proofs.delta.get_groups.Goals as goal
 
 pub returns-clause-delta : goal.returns-clause-delta
-returns-clause-delta c =
-    delta_none c.args.bytes.now
-    (read_too_far c.args.bytes.now c.loop-at.at c.loop-at.value c.loop-at.weight (omega arith) c.loop-at.invariant)
+returns-clause-delta c = search (rules, delta_none, read_too_far)
 
 pub returns-then-at-bytes-clause-delta : goal.returns-then-at-bytes-clause-delta
-returns-then-at-bytes-clause-delta c =
-    delta_none c.args.bytes.now
-    (read_without_end c.args.bytes.now c.loop-at.at c.loop-at.value c.loop-at.weight c.if-at-bytes.true
-    c.loop-at.invariant)
+returns-then-at-bytes-clause-delta c = search (rules, delta_none, read_without_end)
 
 pub returns-then-byte-lt128-clause-delta : goal.returns-then-byte-lt128-clause-delta
 returns-then-byte-lt128-clause-delta c =

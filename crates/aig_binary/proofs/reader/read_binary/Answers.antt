@@ -1,3 +1,4 @@
+use Rattle.std.proofs.Common.{rules}
 use Rattle.std.proofs.Common.{◌∙◌}
 use Rattle.std.proofs.lemmas.Result.{err_from_is_err_and}
 use Rattle.aig_text.specs.Lines.{lines_of}
@@ -12,18 +13,14 @@ returns-in_err-circuit-clause-only c = let h = err_from_is_err_and c.from_residu
     (line_fault c.args.limits.max_var c.args.bytes.now c.in_err-circuit.field-0.0 c.in_err-circuit.ensures) is)
 
 pub from_well_ordered-requires-clause-well_formed : goal.from_well_ordered-requires-clause-well_formed
-from_well_ordered-requires-clause-well_formed c =
-    read_is_well_formed c.args.limits.max_var
-    (lines_of c.args.bytes.now) c.in_ok-circuit.circuit c.in_ok-circuit.ensures
+from_well_ordered-requires-clause-well_formed c = search (rules, read_is_well_formed)
 
 pub from_well_ordered-requires-clause-in_order : goal.from_well_ordered-requires-clause-in_order
 from_well_ordered-requires-clause-in_order c =
     read_is_ordered c.args.limits.max_var (lines_of c.args.bytes.now) c.in_ok-circuit.circuit c.in_ok-circuit.ensures
 
 pub returns-clause-ok : goal.returns-clause-ok
-returns-clause-ok c =
-    rw (c.into_checked.ensures.value, c.from_well_ordered.ensures)
-    (reading_is_accepted c.args.limits.max_var c.args.bytes.now c.in_ok-circuit.circuit c.in_ok-circuit.ensures)
+returns-clause-ok c = search (rules, reading_is_accepted)
 
 pub returns-clause-ordered : goal.returns-clause-ordered
 returns-clause-ordered c = rw c.into_checked.ensures.value c.into_checked.ensures.ordered

@@ -1,23 +1,15 @@
-use Rattle.std.proofs.Common.{inr, sym}
+use Rattle.std.proofs.Common.{rules}
+use Rattle.std.proofs.Common.{sym}
 use Rattle.std.proofs.lemmas.Result.{err_from_is_err_and}
 use Rattle.aig_text.specs.Lines.{lines_of}
 use Rattle.aig_binary.proofs.Stages.{no_header, not_filled, no_sections, no_gates, then_tail}
 use Rattle.aig_binary.proofs.reader.read_circuit.Goals as goal
 
 pub returns-in_err-promised : goal.returns-in_err-promised
-returns-in_err-promised c =
-    let h = err_from_is_err_and c.from_residual.result c.from_residual.ensures.1 in
-    rw (h.1, h.2) (inr (
-    no_header c.args.limits.max_var (lines_of c.args.bytes.now) c.in_err-promised.field-0.0
-    (rw c.new-at.ensures at c.in_err-promised.ensures.header)))
+returns-in_err-promised c = search (rules, err_from_is_err_and, no_header)
 
 pub returns-in_err-header : goal.returns-in_err-header
-returns-in_err-header c =
-    let h = err_from_is_err_and c.from_residual-in_err-header.result c.from_residual-in_err-header.ensures.1 in
-    rw (h.1, h.2) (inr (
-    not_filled c.args.limits.max_var (lines_of c.args.bytes.now) c.in_ok-promised.promised c.header.new.at
-    (rw c.new-at.ensures at c.in_ok-promised.ensures.header) c.in_err-header.field-0.0
-    (sym c.in_err-header.ensures.value)))
+returns-in_err-header c = search (rules, err_from_is_err_and, not_filled)
 
 pub returns-in_err-read_sections : goal.returns-in_err-read_sections
 returns-in_err-read_sections c =
@@ -39,10 +31,4 @@ returns-in_err-gates c =
     c.in_err-gates.field-0.0 c.in_err-gates.ensures.gates)
 
 pub returns : goal.returns
-returns c =
-    let same = then_tail c.args.limits.max_var (lines_of c.args.bytes.now) c.in_ok-promised.promised c.header.new.at
-    (rw c.new-at.ensures at c.in_ok-promised.ensures.header) c.in_ok-header.header (sym c.in_ok-header.ensures.value)
-    c.read_sections.new.circuit c.at.inside.number c.at.inside.rest.now
-    (rw (c.empty_circuit-circuit.ensures, ← c.at.view_is) at c.in_ok-read_sections.ensures)
-    c.in_ok-gates.gates c.in_ok-gates.rest.now c.in_ok-gates.ensures.gates in
-    rw same (rw (c.at_line.ensures, c.in_ok-define.ensures.ok) at c.tail.ensures)
+returns c = search (rules, then_tail)

@@ -1,4 +1,5 @@
-use Rattle.std.proofs.Common.{◌+◌, arith}
+use Rattle.std.proofs.Common.{rules}
+use Rattle.std.proofs.Common.{◌+◌}
 use Rattle.aig_core.specs.Literal.{literal_of}
 use Rattle.aig_text.specs.Rows.{next_form}
 use Rattle.aig_text.specs.Reading.{rows_at}
@@ -6,12 +7,7 @@ use Rattle.aig_binary.proofs.Stages.{nexts_make_latches, found_count}
 use Rattle.aig_binary.proofs.reader.read_latches.Goals as goal
 
 pub latches-requires : goal.latches-requires
-latches-requires c =
-    let h = c.args.header.now in
-    let count =
-    found_count h.max_var (literal_of (1 + h.inputs)) h.latches c.args.at.now c.next_states.new.at c.in_ok-nexts.nexts
-    (rw c.from.ensures at c.in_ok-nexts.ensures.states) in
-    omega (arith, count, c.requires.max_var, c.requires.definitions)
+latches-requires c = search (rules, found_count)
 
 pub returns : goal.returns
 returns c =

@@ -1,3 +1,4 @@
+use Rattle.std.proofs.Common.{rules}
 use Rattle.std.proofs.Common.{◌∙◌}
 use Rattle.aig_text.specs.Rows.{in_binary}
 use Rattle.aig_text.proofs.Loops.Rows.{sections_more, sections_wrong, sections_done}
@@ -19,6 +20,4 @@ loop-section-preserved c = (
 )
 
 pub returns : goal.returns
-returns c =
-    sections_done in_binary c.args.header.now c.loop-section.section-index c.loop-section.circuit c.loop-section.at _
-    c.loop-section-test.false c.loop-section.invariant.0
+returns c = search (rules, sections_done)

@@ -1,3 +1,4 @@
+use Rattle.std.proofs.Common.{rules}
 use Rattle.std.proofs.Common.{◌≡◌, List, map, sym, subst}
 use Rattle.aig_core.specs.BinaryOrder.{IsInBinaryOrder, IsNumberedInOrder}
 use Rattle.aig_core.specs.Wellformed.{IsWellFormed}
@@ -13,9 +14,7 @@ use Rattle.aig_image.proofs.image.sorted_image.Goals as goal
 -- the circuit with the gates that were sorted
 is_image : (circuit : Circuit) (gates : List Gate) → IsWellFormed circuit → IsNumberedInOrder circuit
     → gates ≡ map operands_sorted circuit.gates → IsBinaryImage circuit (with_gates gates circuit)
-is_image circuit gates good numbered sorted =
-    subst (λ (gs : List Gate). IsBinaryImage circuit (with_gates gs circuit)) (sym sorted)
-    (sorted_image circuit good numbered)
+is_image circuit gates good numbered sorted = search (rules, with_gates, sorted_image)
 
 is_good : (circuit : Circuit) (gates : List Gate) → IsWellFormed circuit → IsNumberedInOrder circuit
     → gates ≡ map operands_sorted circuit.gates

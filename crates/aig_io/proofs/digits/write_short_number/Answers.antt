@@ -1,3 +1,4 @@
+use Rattle.std.proofs.Common.{rules}
 use Rattle.std.proofs.Common.{◌≡◌, ◌+◌, ◌-◌, ◌++◌, arith, take, ◌∙◌, ap}
 use Rattle.std.specs.Fmt.{decimal}
 use Rattle.std.proofs.Math.ListN.{replicate}
@@ -8,12 +9,7 @@ use Rattle.aig_io.proofs.LeadingDigits.{text_bytes, text_stands}
 use Rattle.aig_io.proofs.digits.write_short_number.Goals as goal
 
 pub overflow_shr-text : goal.overflow_shr-text
-overflow_shr-text c =
-    omega (
-      arith,
-      c.zeros_before-zeros.ensures c.args.number c.requires.low c.eight_digits-digits.ensures,
-      decimal_nonempty c.args.number (omega arith),
-    )
+overflow_shr-text c = search (rules, decimal_nonempty)
 
 pub returns-clause-text : goal.returns-clause-text
 returns-clause-text c =

@@ -1,8 +1,7 @@
+use Rattle.std.proofs.Common.{rules}
 use Rattle.aig_io.proofs.KnownBytes.{gave_more}
 use Rattle.aig_io.proofs.Outgoing.{failed_by}
 use Rattle.aig_io.proofs.transfer.read_all.Goals as goal
 
 pub returns-in_err-extend_from_slice-clause-err_gave : goal.returns-in_err-extend_from_slice-clause-err_gave
-returns-in_err-extend_from_slice-clause-err_gave g c =
-    failed_by c.from_residual-in_err-extend_from_slice.result
-    (gave_more _ _ _ _ _ c.loop-all.invariant.bytes c.in_ok-count.ensures.bytes.0)
+returns-in_err-extend_from_slice-clause-err_gave g c = search (rules, failed_by, gave_more)

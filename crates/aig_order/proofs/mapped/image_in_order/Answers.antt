@@ -1,4 +1,5 @@
-use Rattle.std.proofs.Common.{◌≡◌, ◌∙◌, ℕ, ap, arith, subst, sym}
+use Rattle.std.proofs.Common.{rules}
+use Rattle.std.proofs.Common.{◌≡◌, ◌∙◌, ℕ, ap, subst, sym}
 use Rattle.aig_core.specs.declared.circuit.Circuit.{Circuit}
 use Rattle.aig_core.specs.BinaryOrder.{IsInBinaryOrder}
 use Rattle.aig_core.specs.Wellformed.{IsWellFormed}
@@ -11,30 +12,10 @@ use Rattle.aig_order.proofs.Mapping.Recorded.{few_before_gates}
 use Rattle.aig_order.proofs.mapped.image_in_order.Goals as goal
 
 pub new_map_comment-requires-clause-fits : goal.new_map_comment-requires-clause-fits
-new_map_comment-requires-clause-fits c =
-    let f : ℕ → ℕ = number_of c.args.renumbering.numbers in
-    let old = c.args.circuit in
-    let new = c.by_numbers-new.result in
-    omega (
-      arith,
-      few_before_gates old c.requires.good,
-      as_many_inputs f old new c.by_numbers-new.ensures,
-      as_many_latches f old new c.by_numbers-new.ensures,
-    )
+new_map_comment-requires-clause-fits c = search (rules, few_before_gates, as_many_inputs, as_many_latches)
 
 pub sorted_with-requires : goal.sorted_with-requires
-sorted_with-requires c =
-    let f : ℕ → ℕ = number_of c.args.renumbering.numbers in
-    let old = c.args.circuit in
-    let new = c.by_numbers-new.result in
-    omega (
-      arith,
-      definitions_fit old c.requires.good,
-      c.requires.good.limits.max_var,
-      as_many_inputs f old new c.by_numbers-new.ensures,
-      as_many_latches f old new c.by_numbers-new.ensures,
-      as_many_gates f old new c.by_numbers-new.ensures,
-    )
+sorted_with-requires c = search (rules, definitions_fit, as_many_inputs, as_many_latches, as_many_gates)
 
 abbrev made_here : goal.After-sorted_with → Circuit
 made_here c =

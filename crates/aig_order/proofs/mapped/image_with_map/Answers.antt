@@ -1,8 +1,8 @@
+use Rattle.std.proofs.Common.{rules}
 use Rattle.std.proofs.Common.{subst, sym, Some}
 use Rattle.aig_core.specs.declared.circuit.Circuit.{Circuit}
 use Rattle.aig_core.specs.Wellformed.{IsWellFormed}
 use Rattle.aig_image.specs.Image.{IsBinaryImage}
-use Rattle.aig_image.specs.Parts.Numbers.{IsRenumberingOf}
 use Rattle.aig_order.proofs.Mapping.MappedOrder.{comment_is_free}
 use Rattle.aig_order.proofs.Mapping.Recorded.{is_mapped_image, renumbering_stays}
 use Rattle.aig_order.proofs.mapped.image_with_map.Goals as goal
@@ -13,9 +13,7 @@ image-requires-clause-good c =
     (comment_is_free c.args.circuit (Some c.args.comment) c.requires.good)
 
 pub image-requires-clause-of_it : goal.image-requires-clause-of_it
-image-requires-clause-of_it c =
-    subst (λ (d : Circuit). IsRenumberingOf d c.args.renumbering) (sym c.with_comment.ensures)
-    (renumbering_stays c.args.circuit c.args.comment c.args.renumbering c.requires.of_it)
+image-requires-clause-of_it c = search (rules, renumbering_stays)
 
 pub returns : goal.returns
 returns c =

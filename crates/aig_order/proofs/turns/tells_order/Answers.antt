@@ -1,4 +1,5 @@
-use Rattle.std.proofs.Common.{◌≡◌, ◌+◌, ◌↔◌, length, IsTrue, ap, sym, ◌∙◌, arith}
+use Rattle.std.proofs.Common.{rules}
+use Rattle.std.proofs.Common.{◌≡◌, ◌+◌, ◌↔◌, length, IsTrue, arith}
 use Rattle.std.proofs.lemmas.Result.{IfOk-weaker}
 use Rattle.aig_core.specs.Order.{IsLeastReadyOrder}
 use Rattle.aig_order.specs.Parts.Tables.{block_read}
@@ -9,15 +10,10 @@ use Rattle.aig_order.proofs.Confirming.TakenInTurn.{tells_order}
 use Rattle.aig_order.proofs.turns.tells_order.Goals as goal
 
 pub are_taken_in_turn-requires-clause-few : goal.are_taken_in_turn-requires-clause-few
-are_taken_in_turn-requires-clause-few c =
-    let gates = (block_read c.args.image.now).gates in
-    let many : length c.args.places.now ≡ length gates = ap length c.requires.are ∙ positions_many gates in
-    omega (arith, many, c.requires.bounds.counts, c.requires.bounds.max_var)
+are_taken_in_turn-requires-clause-few c = search (rules, positions_many)
 
 pub are_taken_in_turn-requires-clause-many : goal.are_taken_in_turn-requires-clause-many
-are_taken_in_turn-requires-clause-many c =
-    ap length c.requires.are ∙ positions_many (block_read c.args.image.now).gates
-    ∙ c.requires.counts.gates ∙ ap length (sym c.as_slice.ensures)
+are_taken_in_turn-requires-clause-many c = search (rules, positions_many)
 
 pub returns : goal.returns
 returns c = λ comment once.

@@ -1,48 +1,33 @@
-use Rattle.std.proofs.Common.{◌≡◌, ◌↔◌, sym, subst, ℕ, List, Bool, Option, IsTrue, IfOk}
+use Rattle.std.proofs.Common.{rules}
+use Rattle.std.proofs.Common.{◌↔◌, subst, ℕ, List, Bool, Option, IsTrue, IfOk}
 use Rattle.std.proofs.lemmas.Result.{IfOk-weaker}
 use Rattle.aig_core.specs.declared.circuit.Circuit.{Circuit}
 use Rattle.aig_core.specs.Order.{IsLeastReadyOrder}
 use Rattle.aig_core.specs.Wellformed.{AreDistinct, defined_variables}
 use Rattle.aig_order.specs.MapBlock.{IsMappedImage}
-use Rattle.aig_order.specs.MapReading.{HasCountsOf, IsWithinBounds}
 use Rattle.aig_order.specs.Parts.Confirmed.{TellsComment}
 use Rattle.aig_order.specs.Parts.Tables.{block_read, source_read}
 use Rattle.aig_order.specs.Parts.Turns.{positions}
-use Rattle.aig_order.specs.Undone.{comment_behind, places_recorded, undone}
+use Rattle.aig_order.specs.Undone.{comment_behind, undone}
 use Rattle.aig_order.proofs.BlockReading.Block.{read_is_within}
 use Rattle.aig_order.proofs.Confirming.Exchanges.{image_differs}
 use Rattle.aig_order.proofs.Confirming.Judged.{by_comment, by_order}
 use Rattle.aig_order.proofs.undoing.has_image.Goals as goal
 
 pub returns-then-not-tells_comment : goal.returns-then-not-tells_comment
-returns-then-not-tells_comment c = λ formed.
-    let rest = c.args.comment.now in
-    by_comment c.args.image.now (block_read c.args.image.now) rest c.circuit-circuit.ensures.well_formed
-    c.requires.ordered c.requires.read c.requires.once formed c.tells_comment.result
-    (subst (λ (has : Bool). IsTrue c.tells_comment.result ↔ TellsComment has rest) c.requires.taken.has_comment
-    c.tells_comment.ensures) c.if-not-tells_comment.true
+returns-then-not-tells_comment c = search (rules, by_comment)
 
 pub tells_order-requires-clause-counts : goal.tells_order-requires-clause-counts
-tells_order-requires-clause-counts c =
-    let image = c.args.image.now in
-    subst (λ (x : Circuit). HasCountsOf (block_read x) x) (sym c.circuit-circuit.ensures.value)
-    (read_is_within image (block_read image) c.args.comment.now c.requires.read).0
+tells_order-requires-clause-counts c = search (rules, read_is_within)
 
 pub tells_order-requires-clause-bounds : goal.tells_order-requires-clause-bounds
-tells_order-requires-clause-bounds c =
-    let image = c.args.image.now in
-    subst (λ (x : Circuit). IsWithinBounds (block_read x)) (sym c.circuit-circuit.ensures.value)
-    (read_is_within image (block_read image) c.args.comment.now c.requires.read).1
+tells_order-requires-clause-bounds c = search (rules, read_is_within)
 
 pub tells_order-requires-clause-once : goal.tells_order-requires-clause-once
-tells_order-requires-clause-once c =
-    subst (λ (x : Circuit). AreDistinct (places_recorded (block_read x).gates)) (sym c.circuit-circuit.ensures.value)
-    c.requires.once
+tells_order-requires-clause-once c = search rules
 
 pub tells_order-requires-clause-are : goal.tells_order-requires-clause-are
-tells_order-requires-clause-are c =
-    subst (λ (x : Circuit). c.args.places.now ≡ positions (block_read x).gates) (sym c.circuit-circuit.ensures.value)
-    c.requires.are
+tells_order-requires-clause-are c = search rules
 
 pub returns : goal.returns
 returns c = λ formed.

@@ -1,34 +1,26 @@
+use Rattle.std.proofs.Common.{rules}
 use Rattle.std.proofs.Common.{◌≡◌, ◌⊎◌, ◌∙◌, ap, subst, sym}
 use Rattle.std.proofs.lemmas.Result.{IfOk-weaker}
 use Rattle.aig_core.specs.declared.circuit.Circuit.{Circuit}
 use Rattle.aig_core.specs.Wellformed.{AreDistinct, IsWellFormed, defined_variables}
-use Rattle.aig_order.specs.MapReading.{HasCountsOf, IsWithinBounds}
 use Rattle.aig_order.specs.declared.fault.MapFault.TheVariants.{Forged, OutOfMemory}
 use Rattle.aig_order.specs.Parts.Confirmed.{ExchangesDiffer}
-use Rattle.aig_order.specs.Parts.Tables.{block_read, source_read, IsTakenOutOf}
+use Rattle.aig_order.specs.Parts.Tables.{block_read, source_read}
 use Rattle.aig_order.specs.Parts.Turns.{positions}
-use Rattle.aig_order.specs.Undone.{comment_behind, places_recorded, source_variables}
+use Rattle.aig_order.specs.Undone.{comment_behind, source_variables}
 use Rattle.aig_order.proofs.BlockReading.Block.{read_is_within}
 use Rattle.aig_order.proofs.Restoring.Formed.{well_formed_again}
 use Rattle.aig_order.proofs.Sources.Refused.{of_exchanges, of_confirmed}
 use Rattle.aig_order.proofs.undoing.source_by_places.Goals as goal
 
 pub make_undone-requires-clause-counts : goal.make_undone-requires-clause-counts
-make_undone-requires-clause-counts c =
-    let image = c.args.image.now in
-    subst (λ (x : Circuit). HasCountsOf (block_read x) x) (sym c.circuit.ensures.value)
-    (read_is_within image (block_read image) c.args.comment.now c.requires.read).0
+make_undone-requires-clause-counts c = search (rules, read_is_within)
 
 pub make_undone-requires-clause-bounds : goal.make_undone-requires-clause-bounds
-make_undone-requires-clause-bounds c =
-    let image = c.args.image.now in
-    subst (λ (x : Circuit). IsWithinBounds (block_read x)) (sym c.circuit.ensures.value)
-    (read_is_within image (block_read image) c.args.comment.now c.requires.read).1
+make_undone-requires-clause-bounds c = search (rules, read_is_within)
 
 pub make_undone-requires-clause-once : goal.make_undone-requires-clause-once
-make_undone-requires-clause-once c =
-    subst (λ (x : Circuit). AreDistinct (places_recorded (block_read x).gates)) (sym c.circuit.ensures.value)
-    c.requires.once
+make_undone-requires-clause-once c = search rules
 
 pub make_undone-requires-clause-variables : goal.make_undone-requires-clause-variables
 make_undone-requires-clause-variables c =
@@ -39,9 +31,7 @@ make_undone-requires-clause-are c =
     c.requires.are ∙ ap (λ (x : Circuit). positions (block_read x).gates) (sym c.circuit.ensures.value)
 
 pub make_undone-requires-clause-taken : goal.make_undone-requires-clause-taken
-make_undone-requires-clause-taken c =
-    subst (λ (x : Circuit). IsTakenOutOf (block_read x) c.args.recorded.now) (sym c.circuit.ensures.value)
-    c.requires.taken
+make_undone-requires-clause-taken c = search rules
 
 pub returns-in-Err-clause-fault : goal.returns-in-Err-clause-fault
 returns-in-Err-clause-fault c =

@@ -1,15 +1,14 @@
-use Rattle.std.proofs.Common.{◌≡◌, ◌<◌, ◌∙◌, ℕ, List, Bool, Some, None, length, map, ap, ap₂, inl, inr, ⊎_elim, subst}
+use Rattle.std.proofs.Common.{rules}
+use Rattle.std.proofs.Common.{◌≡◌, ◌<◌, ◌∙◌, ℕ, List, Bool, Some, None, length, map, ap₂, subst}
 use Rattle.std.proofs.Common.{sym}
 use Rattle.std.specs.Prelude.{if◌then◌else◌}
 use Rattle.std.specs.List.{AllByRecursion}
 use Rattle.std.proofs.lemmas.Result.{err_from_is_err_and}
 use Rattle.aig_core.specs.declared.circuit.Circuit.{Circuit}
 use Rattle.aig_core.specs.declared.circuit.Gate.{Gate}
-use Rattle.aig_core.specs.Wellformed.{AreDistinct}
-use Rattle.aig_image.specs.Relabelled.{FitIntoLiterals, relabelled, relabelled_gate}
+use Rattle.aig_image.specs.Relabelled.{relabelled, relabelled_gate}
 use Rattle.aig_image.specs.Renumbering.{source_variable}
 use Rattle.aig_image.specs.Reordered.{exchanged_by}
-use Rattle.aig_order.specs.declared.fault.MapFault.TheVariants.{OutOfMemory}
 use Rattle.aig_order.specs.Parts.Had.{without_gates}
 use Rattle.aig_order.specs.Parts.Tables.{block_read}
 use Rattle.aig_order.specs.Undone.{comment_behind, source_variables}
@@ -21,15 +20,10 @@ use Rattle.aig_order.proofs.Sources.SourceVariables.{they_fit}
 use Rattle.aig_order.proofs.undone.make_undone.Goals as goal
 
 pub source_gates-requires-clause-fit : goal.source_gates-requires-clause-fit
-source_gates-requires-clause-fit c =
-    subst (λ vs. FitIntoLiterals (source_variable vs)) (sym c.requires.variables)
-    (they_fit (block_read c.args.image.now) c.requires.bounds)
+source_gates-requires-clause-fit c = search (rules, they_fit)
 
 pub source_gates-requires-clause-many : goal.source_gates-requires-clause-many
-source_gates-requires-clause-many c =
-    let image = c.args.image.now in
-    let fit = positions_fit (block_read image) image c.requires.counts c.requires.bounds c.requires.once in
-    ap length c.requires.are ∙ fit.0 ∙ ap length (sym c.as_slice.ensures)
+source_gates-requires-clause-many c = search (rules, positions_fit)
 
 pub source_gates-requires-clause-there : goal.source_gates-requires-clause-there
 source_gates-requires-clause-there c =
@@ -39,35 +33,16 @@ source_gates-requires-clause-there c =
     (subst (AllByRecursion (λ p. p < length image.gates)) (sym c.requires.are) fit.1)
 
 pub source_gates-requires-clause-once : goal.source_gates-requires-clause-once
-source_gates-requires-clause-once c =
-    let image = c.args.image.now in
-    let fit = positions_fit (block_read image) image c.requires.counts c.requires.bounds c.requires.once in
-    subst AreDistinct (sym c.requires.are) fit.2
+source_gates-requires-clause-once c = search (rules, positions_fit)
 
 pub source_gates-requires-clause-flags : goal.source_gates-requires-clause-flags
-source_gates-requires-clause-flags c =
-    let image = c.args.image.now in
-    ap length (c.as_slice-2.ensures.value ∙ c.requires.taken.exchanged)
-    ∙ flags_fit (block_read image) image c.requires.counts c.requires.bounds c.requires.once
-    ∙ ap length (sym c.as_slice.ensures)
+source_gates-requires-clause-flags c = search (rules, flags_fit)
 
 pub returns-in_err-gates-clause-err : goal.returns-in_err-gates-clause-err
-returns-in_err-gates-clause-err c =
-    let image = c.args.image.now in
-    let h = err_from_is_err_and c.from_residual.result c.from_residual.ensures.1 in
-    let fault = c.in_err-gates.field-0.0 in
-    rw (h.1, h.2) (⊎_elim (λ (memory : fault ≡ OutOfMemory). inl memory)
-    (λ forged.
-    let there = put_as_recorded (block_read image) image c.requires.counts c.requires.bounds c.requires.once _ _ _
-    forged.1.0 c.requires.variables c.requires.are c.as_slice.ensures forged.1.1 in
-    let same = exchanges_of_same (block_read image) image forged.1.0 _ there
-    (c.as_slice-2.ensures.value ∙ c.requires.taken.exchanged) in
-    inr (forged.0, λ differ. forged.1.2 (same.1 differ))) c.in_err-gates.ensures.err)
+returns-in_err-gates-clause-err c = search (rules, err_from_is_err_and, put_as_recorded, exchanges_of_same)
 
 pub relabel-requires : goal.relabel-requires
-relabel-requires c =
-    subst (λ vs. FitIntoLiterals (source_variable vs)) (sym c.requires.variables)
-    (they_fit (block_read c.args.image.now) c.requires.bounds)
+relabel-requires c = search (rules, they_fit)
 
 pub returns-clause-ok : goal.returns-clause-ok
 returns-clause-ok c =
@@ -96,11 +71,4 @@ returns-clause-ok c =
     ∙ undone_is block comment image
 
 pub returns-clause-differ : goal.returns-clause-differ
-returns-clause-differ c =
-    let image = c.args.image.now in
-    let found = c.in_ok-gates.ensures.ok.0 in
-    let there = put_as_recorded (block_read image) image c.requires.counts c.requires.bounds c.requires.once _ _ _
-    found c.requires.variables c.requires.are c.as_slice.ensures c.in_ok-gates.ensures.ok.1 in
-    let same = exchanges_of_same (block_read image) image found _ there
-    (c.as_slice-2.ensures.value ∙ c.requires.taken.exchanged) in
-    same.0 c.in_ok-gates.ensures.ok.2
+returns-clause-differ c = search (rules, put_as_recorded, exchanges_of_same)

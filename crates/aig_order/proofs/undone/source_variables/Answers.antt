@@ -1,3 +1,4 @@
+use Rattle.std.proofs.Common.{rules}
 use Rattle.std.proofs.Common.{◌≡◌, ◌∙◌, ◌++◌, ◌+◌, ◌-◌, ◌≤◌, ℕ, List, take, drop, length}
 use Rattle.std.proofs.Common.{map, replicate, ap, ap₂, arith, inr, refl}
 use Rattle.std.specs.List.{range_with_len}
@@ -11,10 +12,7 @@ use Rattle.aig_order.proofs.undone.source_variables.Goals as goal
 -- what stands before the places of gates, of a list that was made longer
 front_stays : (front rest all : List ℕ) (first count : ℕ) → first ≡ length front → first ≤ count
     → all ≡ take count front ++ rest → take first all ≡ front
-front_stays front rest all first count is most whole =
-    let same : take count front ≡ front = take_all count front (omega (arith, is, most)) in
-    ap (take first) (whole ∙ ap (λ (xs : List ℕ). xs ++ rest) same) ∙ ap (λ k. take k (front ++ rest)) is
-    ∙ take-append_seam front rest
+front_stays front rest all first count is most whole = search (rules, take_all, take-append_seam)
 
 -- so many of a list and others, where these are all of the list
 all_taken : (all rest : List ℕ) (count : ℕ) → count ≡ length all → take count (all ++ rest) ≡ all

@@ -1,6 +1,6 @@
-use Rattle.std.proofs.Common.{◌≡◌, ◌+◌, ◌<◌, ◌∙◌, ℕ, List, ap, arith, below_more, get_or, length, set}
+use Rattle.std.proofs.Common.{rules}
+use Rattle.std.proofs.Common.{◌≡◌, ◌+◌, ◌<◌, ◌∙◌, ℕ, List, arith, below_more, get_or, length, set}
 use Rattle.std.proofs.lemmas.List.{get_or-set_other, get_or-set_same, length-set}
-use Rattle.aig_sim.specs.Parts.InputBits.{word_at}
 use Rattle.aig_sim.proofs.put_vectors.rows_at.Goals as goal
 
 -- one more row is put
@@ -12,19 +12,4 @@ one_more f rows at row inside is before r below =
     (get_or-set_same rows at row 0 inside ∙ is) r below
 
 pub loop-r-preserved : goal.loop-r-preserved
-loop-r-preserved c =
-    let at = c.loop-r.r in
-    let word = c.word-word.result in
-    let word_of = λ (r : ℕ). word_at (c.args.lane + r) c.args.step c.args.bits.now in
-    record {
-      ones =
-          one_more (λ r. (word_of r).one) c.loop-r.ones at word.one
-          (omega (arith, c.loop-r-test.true, c.loop-r.invariant.ones_size)) (ap (λ w. w.one) c.word-word.ensures)
-          c.loop-r.invariant.ones;
-      zeros =
-          one_more (λ r. (word_of r).zero) c.loop-r.zeros at word.zero
-          (omega (arith, c.loop-r-test.true, c.loop-r.invariant.zeros_size)) (ap (λ w. w.zero) c.word-word.ensures)
-          c.loop-r.invariant.zeros;
-      ones_size = length-set c.loop-r.ones at word.one ∙ c.loop-r.invariant.ones_size;
-      zeros_size = length-set c.loop-r.zeros at word.zero ∙ c.loop-r.invariant.zeros_size;
-    }
+loop-r-preserved c = search (rules, one_more, length-set)

@@ -1,5 +1,5 @@
-use Rattle.std.proofs.Common.{◌≡◌, ◌+◌, ◌*◌, ◌/◌, ◌%◌, ◌≤◌, ◌++◌, ◌∷◌, ◌∙◌, ℕ, List, [], ap, arith, get_or, inl}
-use Rattle.std.proofs.Common.{inr, length, rules, sym}
+use Rattle.std.proofs.Common.{◌≡◌, ◌+◌, ◌/◌, ◌%◌, ◌++◌, ◌∷◌, ◌∙◌, ℕ, List, [], ap, arith, get_or}
+use Rattle.std.proofs.Common.{length, rules}
 use Rattle.std.proofs.Math.Nat.{mul-le-mul_right}
 use Rattle.std.proofs.lemmas.Bool.{cases_lt}
 use Rattle.std.proofs.lemmas.List.{get_or-append-add, get_or_append_left, length-append}
@@ -19,33 +19,4 @@ last_octet octets octet k is =
     ∙ ap (octet_text (k % 8)) (get_or-append-add octets (octet ∷ []) 0 (octet_of [] []))
 
 pub loop-octet-preserved : goal.loop-octet-preserved
-loop-octet-preserved c =
-    let octets = c.loop-octet.octets.items in
-    let octet = c.in_ok-new.field-0 in
-    let inv = c.loop-octet.invariant in
-    let groups = c.args.groups.now in
-    let now = c.in_ok-push.ensures.items in
-    let steps_is : c.in-Some.steps ≡ c.longest_in.result + c.args.more = search rules in
-    let count_is : c.in-Some-checked_mul.count ≡ c.in-Some.steps * c.args.width = search rules in
-    record {
-      size = ap length now ∙ length-append octets (octet ∷ []) ∙ omega (arith, inv.size);
-      room = λ j runs k d below eight there. elim (cases_lt (k / 8) c.loop-octet.octet) [
-        | inl less ↦
-            let same = ap (octet_text (k % 8))
-            (get_or_append_left octets (octet ∷ []) (octet_of [] []) (k / 8) (omega (arith, less, inv.size))) in
-            omega (arith, inv.room j runs k d below less there, ap length (ap (lane_text k) now ∙ same))
-        | inr more ↦
-            let is : k / 8 ≡ c.loop-octet.octet = omega (arith, more, eight) in
-            let steps = length (get_or (get_or groups j runs) k d).steps in
-            let enough : steps + c.args.more ≤ c.in-Some.steps =
-            omega (arith, steps_is, c.longest_in.ensures j runs below k d is there) in
-            let last = last_octet octets octet k (is ∙ sym inv.size) in
-            omega (
-              arith,
-              mul-le-mul_right {m = steps + c.args.more} {n = c.in-Some.steps} c.args.width enough,
-              count_is,
-              ap length (ap (lane_text k) now ∙ last),
-              c.in_ok-new.ensures (k % 8),
-            )
-      ];
-    }
+loop-octet-preserved c = search (rules, length-append, cases_lt, get_or_append_left, octet_of, last_octet, mul-le-mul_right)

@@ -1,17 +1,11 @@
 use Rattle.std.proofs.Common.{◌≡◌, ◌∙◌, rules, arith, ap, length}
 use Rattle.aig_io.specs.Output.{Out}
-use Rattle.aig_io.proofs.Puts.{put_next, put_nothing}
+use Rattle.aig_io.proofs.Puts.{put_next}
 use Rattle.aig_io.proofs.Filled.{left_more, room_still}
 use Rattle.aig_io.proofs.output.Output.put.Goals as goal
 
 pub loop-at-init : goal.loop-at-init
-loop-at-init g c = record {
-  within = search rules;
-  put = put_nothing _;
-  kept = search rules;
-  first = search rules;
-  left = search rules;
-}
+loop-at-init g c = search rules
 
 pub loop-at-preserved : goal.loop-at-preserved
 loop-at-preserved g c =

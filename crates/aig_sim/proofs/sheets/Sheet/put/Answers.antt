@@ -1,5 +1,6 @@
-use Rattle.std.proofs.Common.{◌≡◌, ◌+◌, ◌*◌, ◌/◌, ◌%◌, ◌<◌, ◌∙◌, ℕ, List, [], ap, ap₂, arith, get_or, inl, inr}
-use Rattle.std.proofs.Common.{length, sym, take}
+use Rattle.std.proofs.Common.{rules}
+use Rattle.std.proofs.Common.{◌≡◌, ◌+◌, ◌*◌, ◌/◌, ◌%◌, ◌<◌, ◌∙◌, ℕ, List, [], ap, ap₂, arith, get_or}
+use Rattle.std.proofs.Common.{length, sym}
 use Rattle.std.proofs.lemmas.Bool.{cases_lt}
 use Rattle.std.proofs.lemmas.List.{get_or_past, with_items_is}
 use Rattle.aig_sim.specs.Parts.Lanes.{bit_in}
@@ -43,42 +44,7 @@ returns-clause-text c = λ l k below in_eight room.
     ∙ ap (λ (m : ℕ). bit_in m (get_or planes (2 * k + 1) [])) lane)
 
 pub returns-clause-front : goal.returns-clause-front
-returns-clause-front c = λ l below.
-    let at = c.args.at in
-    let inside = c.self.inside in
-    let new = c.put_bytes.new.octets in
-    let old = c.deref_mut.result.now in
-    let cs = octet_text (l % 8) (eight_at (l / 8) c.turned.result c.turned-2.result) in
-    let size : length old ≡ 32 = ap length c.deref_mut.ensures.value ∙ c.self.invariant in
-    let items = with_items_is inside.octets new (c.put_bytes.ensures.size ∙ sym size ∙ c.deref_mut.ensures.len) in
-    let before : lane_text l old ≡ text_in l c.args.self.now =
-    ap (lane_text l) c.deref_mut.ensures.value ∙ ap (text_in l) c.self.view_is in
-    let put = c.put_bytes.ensures.text (l / 8) (l % 8) (octet_of [] []) (omega (arith, below)) in
-    ap (λ (os : List OctetText). take at (lane_text l os)) items
-    ∙ ap (take at) put
-    ∙ overwritten_front at at cs (lane_text l old) (omega arith)
-    ∙ ap (take at) before
+returns-clause-front c = search (rules, with_items_is, octet_of, overwritten_front)
 
 pub returns-clause-long : goal.returns-clause-long
-returns-clause-long c = λ l.
-    let at = c.args.at in
-    let inside = c.self.inside in
-    let new = c.put_bytes.new.octets in
-    let old = c.deref_mut.result.now in
-    let cs = octet_text (l % 8) (eight_at (l / 8) c.turned.result c.turned-2.result) in
-    let size : length old ≡ 32 = ap length c.deref_mut.ensures.value ∙ c.self.invariant in
-    let items = with_items_is inside.octets new (c.put_bytes.ensures.size ∙ sym size ∙ c.deref_mut.ensures.len) in
-    let before : lane_text l old ≡ text_in l c.args.self.now =
-    ap (lane_text l) c.deref_mut.ensures.value ∙ ap (text_in l) c.self.view_is in
-    ap (λ (os : List OctetText). length (lane_text l os)) items
-    ∙ elim (cases_lt (l / 8) 32) [
-      | inl below ↦
-          ap (λ (t : List ℕ). length t)
-          (c.put_bytes.ensures.text (l / 8) (l % 8) (octet_of [] []) below)
-          ∙ overwritten_size at cs (lane_text l old)
-      | inr above ↦
-          ap (λ (o : OctetText). length (octet_text (l % 8) o))
-          (get_or_past new (l / 8) (octet_of [] []) (omega (arith, above, c.put_bytes.ensures.size))
-          ∙ sym (get_or_past old (l / 8) (octet_of [] []) (omega (arith, above, size))))
-    ]
-    ∙ ap (λ (t : List ℕ). length t) before
+returns-clause-long c = search (rules, with_items_is, cases_lt, octet_of, overwritten_size, get_or_past)

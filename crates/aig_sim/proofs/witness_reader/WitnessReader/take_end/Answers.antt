@@ -1,5 +1,5 @@
+use Rattle.std.proofs.Common.{rules}
 use Rattle.std.proofs.Common.{◌∙◌, ap, sym, subst}
-use Rattle.aig_sim.specs.Witness.{said_with, shape_of}
 use Rattle.aig_sim.specs.Parts.Witnessing.{IsAtLine, TookDue, WitnessReading}
 use Rattle.aig_sim.proofs.Taking.{no_bytes, some_bytes}
 use Rattle.aig_sim.proofs.WitnessReading.{ended_early, ended_whole, last_bad, last_early, last_whole}
@@ -8,12 +8,7 @@ use Rattle.aig_sim.proofs.witness_reader.WitnessReader.take_end.Goals.{then-not-
 use Rattle.aig_sim.proofs.witness_reader.WitnessReader.take_end.Goals as goal
 
 pub returns-then-not-take_line-clause-bad : goal.returns-then-not-take_line-clause-bad
-returns-then-not-take_line-clause-bad c = λ _ circuit bytes stands.
-    let here = subst (λ (r : WitnessReading). IsAtLine circuit bytes r) (sym c.self.view_is) stands in
-    let some = some_bytes c.self.inside.kept.bytes (sym c.is_empty.ensures ∙ c.if-not-is_empty.true) in
-    last_bad circuit bytes _ here some
-    (ap (said_with (shape_of c.self.inside.checker.circuit) here.said) (sym c.as_slice.ensures)
-    ∙ c.take_line.ensures.bad c.if-not-take_line.true here.said here.stands)
+returns-then-not-take_line-clause-bad c = search (rules, some_bytes, last_bad)
 
 pub returns-clause-good : goal.returns-clause-good
 returns-clause-good c = λ whole circuit bytes stands.

@@ -1,6 +1,6 @@
+use Rattle.std.proofs.Common.{rules}
 use Rattle.std.proofs.Common.{◌∙◌, [], ap, sym, subst, arith, refl}
 use Rattle.aig_core.specs.declared.circuit.Circuit.{Circuit}
-use Rattle.aig_sim.specs.declared.search.Search.{Search}
 use Rattle.aig_sim.specs.Stimulus.{without_return}
 use Rattle.aig_sim.specs.Witness.{said_with, shape_of}
 use Rattle.aig_sim.specs.Parts.Lines.{Keeping}
@@ -16,15 +16,7 @@ invariant_of-self c = (
 )
 
 pub invariant_of-self-else-good : goal.invariant_of-self-else-good
-invariant_of-self-else-good c = (
-  ap (λ (k : Keeping). k.room) (c.clear.ensures ∙ ap (λ (k : Keeping). record k { bytes = [] }) c.keep.ensures)
-      ∙ c.self.invariant.0 ∙ ap (λ (d : Circuit). witness_room (shape_of d)) (sym c.take_line-good.ensures.circuit),
-  omega (
-    arith,
-    ap (λ (s : Search). s.steps) (c.take_line-good.ensures.none c.if-good.false),
-    c.self.invariant.1,
-  ),
-)
+invariant_of-self-else-good c = search rules
 
 pub returns-then-good-clause-good : goal.returns-then-good-clause-good
 returns-then-good-clause-good c = λ good circuit bytes none stands.
