@@ -413,7 +413,7 @@ def asked():
     given = words.parse_args()
     for path in [given.program, *[given.peer] * (given.peer is not None)]:
         if not (os.path.isfile(path) and os.access(path, os.X_OK)):
-            sys.exit(f"bench/run.py: no executable file: {path}" + " (./aiger links it)" * (path == LINKED))
+            sys.exit(f"bench/run.py: no executable file: {path}" + " (./prove links it)" * (path == LINKED))
     for file in given.files:
         if not os.path.isfile(file):
             sys.exit(f"bench/run.py: no such file: {file}")

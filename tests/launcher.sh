@@ -1,12 +1,11 @@
-# The launcher, for end_to_end.sh: in a folder of the repository's shape, with a command in the place of rt that proves
-# nothing and says what rt says, so that a launch takes no time.
+# The launcher, prove and release/, for end_to_end.sh: in a folder of the repository's shape, with a command in the place of
+# rt that proves nothing and says what rt says, so that a proof takes no time.
 
 tree=$work/tree
-launched=$tree/crates/aiger/out/aiger
-mkdir -p "$tree"/crates/{low,aiger,beside}/{src,specs}
-cp "$top/aiger" "$tree/aiger"
-mkdir "$tree/docs"
-cp "$top/docs/help.txt" "$tree/docs"
+out=$tree/crates/aiger/out
+mkdir -p "$tree"/crates/{low,aiger,beside}/{src,specs} "$tree/release"
+cp "$top"/{aiger,prove} "$tree"
+cp "$top"/release/{state.sh,make,deb} "$tree/release"
 printf '# crates\naiger: low std\nbeside: low\nlow: thiserror\n' > "$tree/crates.txt"
 printf '// one\n' | tee "$tree"/crates/{low,aiger,beside}/src/lib.rt > "$tree/crates/low/specs/More.antt"
 
@@ -15,6 +14,7 @@ cat > "$work/rt" << 'RT'
 #!/usr/bin/env bash
 here=$(dirname "$0")
 name=${PWD##*/}
+[ "$1" != version ] || { echo 'a kit'; exit; }
 is_named() { [ "$(cat "$here/$1" 2> /dev/null)" = "$name" ]; }
 echo "$*" >> "$here/calls"
 echo "rt: chose --jobs 4 for $name"
@@ -40,53 +40,163 @@ chmod +x "$work/rt"
 cp "$program" "$work/program"
 
 # look_again: the next launch looks at the sources, even in the same second as the one before it
-look_again() { rm -f "$tree/crates/aiger/out/launch.seen"; }
+look_again() { rm -f "$out/launch.seen"; }
 launch() { look_again && RT=$work/rt "$tree/aiger" "$@"; }
 edit() { echo '// more' >> "$tree/crates/low/src/lib.rt" && look_again; }
-begins='aiger: proving and linking the program, about ten minutes the first time ..
+on_the_path() { ( unset RT; export PATH=$1:/usr/bin:/bin && shift && exec "$@" ); }
+without_kit() { look_again && on_the_path "$work/none" "$tree/aiger" "$@"; }
+begins='aiger: proving and linking the program from its sources: half an hour on four cores the first time ..
 aiger: proving 1 of 2: low ..
 aiger:   0 of 2 functions checked
 '
-proves="${begins}aiger: low is proved
+proves_it="${begins}aiger: low is proved
 aiger: proving 2 of 2: aiger ..
 aiger:   0 of 2 functions checked
 aiger: aiger is proved
-aiger: the program is linked
+aiger: the program is linked: $out/aiger
 "
+proves="${proves_it}aiger: the released program is of other sources\n"
+needs_kit='aiger: cannot prove and link the program: rt of the Rattle kit is not on the PATH\n'
 
-# --- help, while there is no program that could answer ---
+# --- no program, no kit ---
 : > "$work/calls"
-stored="$(cat "$top/docs/help.txt")\n"
-unlinked='aiger: the program is not linked yet from the sources as they stand; the next command proves and links it first,
-aiger: with rt of the Rattle kit: about ten minutes on four cores the first time, less after a change
-'
-# helps NAME WORD..: a launch with these words prints the stored text and what is to come, and starts nothing
-helps() {
-    local name=$1
-    shift
-    wants "$stored" "$unlinked" 0
-    check "$name before the program is linked" launch "$@"
-}
-for word in -h --help -V --version; do helps "$word" "$word"; done
-helps 'help for a command' aigtoaig --help
-wants '' '' 0
-check 'nothing is started for help' cat "$work/calls"
-wants "$stored" '' 0
-check 'help with a closed standard error' errors_closed launch --help
-wants '' "aiger: cannot print $tree/docs/help.txt\n" 125
-check 'help that cannot be written' output_full launch --help
+wants '' "$needs_kit" 125
+check 'no program and no kit' without_kit --help
 
-# --- what it proves, and when ---
+# --- the program that is released for these sources, without the kit ---
+first_launch() { rm -rf "$out" && without_kit "$@"; }
+make_release() {
+    rm -rf "$out" && RT=$work/rt "$tree/prove" 2> "$work/prove.err" && RT=$work/rt "$tree/release/make" > "$work/made" &&
+        rm -rf "$out"
+}
+make_release
+wants 'version 1.0.0\nkit a kit\n' '' 0
+check 'what the manifest says of version and kit' head -n 2 "$tree/release/MANIFEST"
+: > "$work/calls"
+wants "$small" '' 0
+begun=${EPOCHREALTIME/./}
+check 'the first launch of a fresh clone' first_launch aigtoaig --ascii < "$work/small"
+took=$((${EPOCHREALTIME/./} - begun))
+if [ "$took" -le 2000000 ]; then pass; else fail 'the first launch answers in 2 s' 'wanted 2000000 us' "came   $took us"; fi
+check 'the second launch' without_kit aigtoaig --ascii < "$work/small"
+check 'the third launch' without_kit aigtoaig --ascii < "$work/small"
+wants '' 'aiger: -: line 1: not an AIGER file\n' 1
+check 'a refusal by the launcher' without_kit aigtoaig --ascii < /dev/null
+wants 'aiger 1.0.0\n' '' 0
+check 'the version by the launcher' without_kit --version
+wants '' '' 0
+check 'nothing is started of the kit' cat "$work/calls"
+
+# the repository itself, where its released program is of its sources
+real=$work/real
+mkdir "$real"
+( cd "$top" && tar -cf - aiger prove crates.txt release crates/*/{src,specs,proofs} 2> /dev/null ) | tar -xf - -C "$real"
+if ( top=$real && . "$real/release/state.sh" && read_places && [ "$(sources_sum)" = "$(manifest sources)" ] ); then
+    begun=${EPOCHREALTIME/./}
+    wants 'aiger 1.0.0\n' '' 0
+    check 'the first launch of this repository, without the kit' on_the_path "$work/none" "$real/aiger" --version
+    took=$((${EPOCHREALTIME/./} - begun))
+    if [ "$took" -le 2000000 ]; then pass; else fail 'it answers in 2 s' 'wanted 2000000 us' "came   $took us"; fi
+else
+    skip 2 'the released program is of other sources'
+fi
+
+# a Debian package of it
+if command -v dpkg-deb > /dev/null; then
+    mkdir "$tree/man" "$work/deb"
+    cp "$top/man/aiger.1" "$tree/man"
+    cp "$top"/{LICENSE,CHANGELOG.md} "$tree"
+    package() { "$tree/release/deb" "$work/deb" > "$work/deb.out" 2>&1 && dpkg-deb -f "$work"/deb/*.deb Package Version Depends; }
+    wants 'Package: aiger\nVersion: 1.0.0\nDepends: libc6 (>= 2.34)\n' '' 0
+    check 'a Debian package' package
+    dpkg-deb -x "$work/deb/aiger_1.0.0_amd64.deb" "$work/deb"
+    wants "$small" '' 0
+    check 'the program of the package' "$work/deb/usr/bin/aiger" aigtoaig --ascii < "$work/small"
+    wants './usr/bin/aiger\n./usr/share/doc/aiger/changelog.gz\n./usr/share/doc/aiger/copyright\n./usr/share/man/man1/aiger.1.gz\n' '' 0
+    contents() { dpkg-deb -c "$work/deb/aiger_1.0.0_amd64.deb" | awk '/^-/ { print $6 }' | sort; }
+    check 'the files of the package' contents
+else
+    skip 3 'no dpkg-deb'
+fi
+
+# at once: eight first launches
+at_once() {
+    local number
+    rm -rf "$out"
+    for number in {1..8}; do without_kit aigtoaig --ascii < "$work/small" > "$work/at_once.$number" 2>&1 & done
+    wait
+    cat "$work"/at_once.* | sort -u | wc -l
+    ls "$out"
+}
+wants "$(printf '%b' "$small" | sort -u | wc -l)\nlaunch.seen\nlaunch.stamp\nreleased\n" '' 0
+check 'eight first launches at once' at_once
+
+# a folder that cannot be written, as in a read-only checkout
+unwritable() {
+    rm -rf "$out"
+    : > "$out"
+    on_the_path "$work/none" "$@"
+    local status=$?
+    rm -f "$out"
+    return "$status"
+}
+wants "$small" '' 0
+check 'a checkout that cannot be written' unwritable "$tree/aiger" aigtoaig --ascii < "$work/small"
+no_place() { unwritable env TMPDIR="$work/none" "$tree/aiger" "$@"; }
+wants '' 'aiger: cannot write a temporary file\n' 125
+check 'a checkout that cannot be written, and no temporary folder' no_place aigtoaig --ascii < "$work/small"
+
+# a release that is broken: what makes it so, and mends it
+broken_release() {
+    local name=$1 file=$2
+    shift 2
+    cp "$tree/release/$file" "$work/kept"
+    "$@" "$tree/release/$file"
+    wants '' "${says}$needs_kit" 125
+    check "$name" first_launch aigtoaig --ascii < "$work/small"
+    cp "$work/kept" "$tree/release/$file"
+}
+says='aiger: the released program in release/ is missing or broken\n'
+broken_release 'a released program that is cut' aiger-linux-x86_64.gz truncate -s 1000
+broken_release 'a released program of no bytes' aiger-linux-x86_64.gz truncate -s 0
+broken_release 'another released program' aiger-linux-x86_64.gz sh -c 'gzip -c /bin/sh > "$0"'
+broken_release 'no released program' aiger-linux-x86_64.gz rm
+broken_release 'another sum of the program' MANIFEST sed -i '/^program/s/.$/x/'
+says=
+broken_release 'another sum of the sources' MANIFEST sed -i '/^sources/s/.$/x/'
+broken_release 'no manifest' MANIFEST rm
+broken_release 'an empty manifest' MANIFEST truncate -s 0
+wants "$small" '' 0
+check 'and once it is mended' first_launch aigtoaig --ascii < "$work/small"
+wants "$small" '' 0
+other_program() { printf x >> "$out/released"; without_kit "$@"; }
+check 'another program in its place' other_program aigtoaig --ascii < "$work/small"
+
+# one byte of a source
+: > "$work/calls"
+sed -i 's/one/two/' "$tree/crates/low/src/lib.rt"
+wants '' "$needs_kit" 125
+check 'a source changed by one byte needs the kit' without_kit aigtoaig --ascii < "$work/small"
+sed -i 's/two/one/' "$tree/crates/low/src/lib.rt"
+wants "$small" '' 0
+check 'and no more, once it is back' without_kit aigtoaig --ascii < "$work/small"
+touch "$tree/crates/beside/src/lib.rt" "$tree/crates.txt" "$tree/crates/low/src/lib.rt"
+check 'a source that is only touched' without_kit aigtoaig --ascii < "$work/small"
+echo '// more' >> "$tree/crates/beside/src/lib.rt"
+: > "$tree/crates/low/src/lib.rt~"
+check 'a crate that the program does not stand on, and no source' without_kit aigtoaig --ascii < "$work/small"
+wants '' '' 0
+check 'nothing was started of the kit' cat "$work/calls"
+
+# --- what it proves, and when, where the released program is another one ---
+sed -i 's/^program ./program x/' "$tree/release/MANIFEST"
+edit
 wants "$small" "$proves" 0
-check 'the first launch' launch aigtoaig --ascii < "$work/small"
+check 'a changed source is proved' launch aigtoaig --ascii < "$work/small"
 wants 'lib\nrun -- aigtoaig --ascii\n' '' 0
 check 'what it asks of rt' cat "$work/calls"
 wants "$small" '' 0
-check 'the second launch' launch aigtoaig --ascii < "$work/small"
-wants '' 'aiger: -: line 1: not an AIGER file\n' 1
-check 'a refusal by the launcher' launch aigtoaig --ascii < /dev/null
-wants "$stored" '' 0
-check 'help by the launcher, once the program is linked' launch --help
+check 'the launch after it' launch aigtoaig --ascii < "$work/small"
 again="\n\nUsage: aiger <COMMAND>\n\nFor more information, try '--help'.\n"
 wants '' "error: 'aiger' requires a subcommand but one was not provided\n  [subcommands: aigtoaig, aigsim, aigunroll]$again" 2
 check 'no words to the launcher' launch
@@ -130,39 +240,42 @@ same_date() {
     sed -i 's/more/less/' "$tree/crates/low/src/lib.rt"
     touch -r "$work/date" "$tree/crates/low/src/lib.rt"
 }
-newer_kit() { cp "$work/rt" "$work/rt2" && mv "$work/rt2" "$work/rt"; }
-other_program() { cp "$program" "$work/program2" && mv "$work/program2" "$launched"; }
-seen 'a changed source' edit
-seen 'a source of the future' touch -d 2100-01-01 "$tree/crates/low/src/lib.rt"
+other_linked() { cp "$program" "$work/program2" && printf x >> "$work/program2" && mv "$work/program2" "$out/aiger"; }
 seen 'an older source' older
 seen 'a source of the same size and date' same_date
 seen 'a new source' cp "$tree/crates/low/src/lib.rt" "$tree/crates/low/src/new.rt"
 seen 'a source that has gone' rm "$tree/crates/low/src/new.rt"
 in_folder() { mkdir "$tree/crates/low/src/$1" && cp "$tree/crates/low/src/lib.rt" "$tree/crates/low/src/$1/new.rt"; }
 seen 'a new source in a folder named out' in_folder out
-seen 'a new source in a folder named must-fail' in_folder must-fail
-seen 'a changed definition' touch "$tree/crates/low/specs/More.antt"
-seen 'a changed crates.txt' touch "$tree/crates.txt"
-seen 'another rt' newer_kit
-seen 'a program that has gone' rm "$launched"
-seen 'another program' other_program
-: > "$work/calls"
-touch "$tree/crates/beside/src/lib.rt"
-wants "$small" '' 0
-check 'a crate that the program does not stand on' launch aigtoaig --ascii < "$work/small"
+seen 'a changed definition' sed -i 's/one/two/' "$tree/crates/low/specs/More.antt"
+seen 'a changed crates.txt' sed -i 's/# crates/# the crates/' "$tree/crates.txt"
+seen 'a program that has gone' rm "$out/aiger"
+seen 'another program' other_linked
 mkdir "$tree/crates/low/out" "$tree/crates/low/must-fail"
 touch "$tree/crates/low/out/kept" "$tree/crates/low/must-fail/wrong.edit"
 check 'what rt keeps beside the sources, and edits that must fail' launch aigtoaig --ascii < "$work/small"
+# what find -cnewer of another system does: it fails, and the sums are taken at each look
+mkdir "$work/old"
+printf '#!/bin/sh\ncase "$*" in *-cnewer*) exit 1;; esac\nexec /usr/bin/find "$@"\n' > "$work/old/find"
+chmod +x "$work/old/find"
+with_old_find() { look_again && PATH=$work/old:$PATH RT=$work/none "$tree/aiger" "$@"; }
+check 'another find' with_old_find aigtoaig --ascii < "$work/small"
+edit
+wants '' "aiger: cannot prove and link the program: there is no command $work/none\n" 125
+check 'a changed source is seen with another find' with_old_find aigtoaig --ascii < "$work/small"
+wants "$small" "$proves" 0
+check 'and proved' launch aigtoaig --ascii < "$work/small"
 
 # --- within one second ---
-# twice: two launches in one second, between which the stamp goes; what the second one gives. Where a second ends between
+# twice: two launches in one second, between which a source changes; what the second one gives. Where a second ends between
 # them it starts over.
 twice() {
     local status moment
     for _ in {1..50}; do
+        launch aigtoaig --ascii < "$work/small" > /dev/null 2>&1
         moment=$EPOCHSECONDS
         launch aigtoaig --ascii < "$work/small" > /dev/null 2>&1
-        rm -f "$tree/crates/aiger/out/launch.stamp"
+        echo '// more' >> "$tree/crates/low/src/lib.rt"
         : > "$work/calls"
         RT=$work/rt "$tree/aiger" aigtoaig --ascii < "$work/small" > "$work/second" 2>&1
         status=$?
@@ -177,37 +290,44 @@ wants '' '' 0
 check 'so nothing is proved then' cat "$work/calls"
 wants "$small" "$proves" 0
 check 'but in the next second' launch aigtoaig --ascii < "$work/small"
-# old_mark SECONDS RT: as a launch so many seconds ago left it
-old_mark() { echo "$((EPOCHSECONDS - $1)) $2" > "$tree/crates/aiger/out/launch.seen"; }
-for mark in "1 $work/rt" "0 $work/none" "-60 $work/rt"; do
-    edit
-    read -r ago known <<< "$mark"
-    old_mark "$ago" "$known"
+edit
+for ago in 1 -60; do
+    echo "$((EPOCHSECONDS - ago)) aiger" > "$out/launch.seen"
     check "a mark of $ago seconds ago" env RT="$work/rt" "$tree/aiger" aigtoaig --ascii < "$work/small"
+    edit
 done
 
 # --- no rt ---
-with_rt() { ( export RT=$1 && shift && exec "$@" ); }
-on_the_path() { ( unset RT; export PATH=$1:/usr/bin:/bin && shift && exec "$@" ); }
-wants "$small" '' 0
-check 'a linked program needs no rt' with_rt "$work/none" "$tree/aiger" aigtoaig --ascii < "$work/small"
-edit
 wants '' "aiger: cannot prove and link the program: there is no command $work/none\n" 125
+with_rt() { ( export RT=$1 && shift && exec "$@" ); }
 check 'a changed source needs an rt' with_rt "$work/none" "$tree/aiger" aigtoaig --ascii < "$work/small"
 wants '' '' 125
 check 'and with a closed standard error' \
     errors_closed with_rt "$work/none" "$tree/aiger" aigtoaig --ascii < "$work/small"
 wants "$small" "$proves" 0
 check 'rt on the PATH' on_the_path "$work" "$tree/aiger" aigtoaig --ascii < "$work/small"
-rm "$tree/crates/aiger/out/launch.stamp"
-wants '' 'aiger: cannot prove and link the program: rt of the Rattle kit is not on the PATH\n' 125
-check 'no rt on the PATH' on_the_path "$work/none" "$tree/aiger" aigtoaig --ascii < "$work/small"
+look_again
+wants "$small" '' 0
+check 'a linked program needs no rt' with_rt "$work/none" "$tree/aiger" aigtoaig --ascii < "$work/small"
+
+# --- prove, called by itself ---
+wants '' "$proves" 0
+check 'prove proves whatever is linked' with_rt "$work/rt" "$tree/prove"
+make_release
+wants '' "${proves_it}aiger: it is the released program, byte for byte\n" 0
+check 'prove finds the released program' with_rt "$work/rt" "$tree/prove"
+printf x >> "$work/program"
+wants '' "${proves_it}aiger: it is not the released program, which is of these sources too: that was linked by a kit\n" 0
+check 'prove links another program of the same sources' with_rt "$work/rt" "$tree/prove"
+cp "$program" "$work/program"
+sed -i 's/^program ./program x/' "$tree/release/MANIFEST"
+edit
 
 # --- a proof that fails ---
 echo low > "$work/broken"
 wants '' "${begins}aiger:   src/lib.rt:64:5: it is not proved that what the function ensures holds
 aiger:   fn low::first: no proof: expected answers in ./proofs/first/Answers.antt
-aiger: low is not proved; the output of rt is in $tree/crates/aiger/out/launch.log
+aiger: low is not proved; the output of rt is in $out/prove.log
 " 125
 check 'a crate without a proof' launch aigtoaig --ascii < "$work/small"
 check 'and once more' launch aigtoaig --ascii < "$work/small"
@@ -237,7 +357,7 @@ hold() {
     edit
     echo low > "$work/slow"
     : | tee "$work/held" "$work/calls" > "$work/pid"
-    env --default-signal=INT,TERM,HUP RT="$work/rt" "$tree/aiger" aigtoaig --ascii \
+    env --default-signal=INT,TERM,HUP RT="$work/rt" "$@" \
         < "$work/small" > "$work/out" 2> "$work/err" &   # whoever runs this may ignore them, as nohup does
     held=$!
     wait_for test -s "$work/pid"
@@ -245,22 +365,25 @@ hold() {
 let_go() { rm -f "$work/slow" "$work/held"; }
 is_gone() { ! kill -0 "$(cat "$work/pid")" 2> /dev/null; }
 
+# a terminal sends a signal to all of a job: to the launcher, and to prove, which it waits for
 set -m   # without it what is in the background ignores SIGINT
 for signal in INT TERM HUP; do
-    hold
-    kill -s "$signal" "$held"
-    wait_for is_gone
-    left=
-    is_gone || left=', and left a process'
-    let_go   # so that what goes on proving ends too
-    wait "$held" 2> /dev/null
-    ended=$?$left
-    wants '' "$begins" $((128 + $(kill -l "$signal")))
-    judge "SIG$signal while it proves" "$ended"
+    for way in prove aiger; do
+        hold "$tree/$way"
+        kill -s "$signal" -- "-$held"
+        wait_for is_gone
+        left=
+        is_gone || left=', and left a process'
+        let_go   # so that what goes on proving ends too
+        wait "$held" 2> /dev/null
+        ended=$?$left
+        wants '' "$begins" $((128 + $(kill -l "$signal")))
+        judge "SIG$signal to $way while it proves" "$ended"
+    done
 done
 set +m
 
-hold
+hold "$tree/aiger" aigtoaig --ascii
 with_rt "$work/rt" "$tree/aiger" aigtoaig --ascii < "$work/small" > "$work/out2" 2> "$work/err2" &
 second=$!
 wait_for test -s "$work/err2"
@@ -268,7 +391,7 @@ let_go
 wants "$small" "$proves" 0
 wait "$held"
 judge 'the first of two launches' $?
-wants "$small" 'aiger: waiting for another launch that is proving the program ..\n' 0
+wants "$small" 'aiger: waiting for another call that is proving the program ..\n' 0
 wait "$second"
 ended=$?
 mv "$work/out2" "$work/out"
@@ -277,10 +400,10 @@ judge 'the second waits, and then runs' "$ended"
 wants 'lib\nrun -- aigtoaig --ascii\n' '' 0
 check 'two launches prove once' cat "$work/calls"
 
-hold
+hold "$tree/aiger" aigtoaig --ascii
 edit
 let_go
-wants '' "${proves%the program is linked?}the sources changed while they were being proved: run this again\n" 125
+wants '' "${proves_it%the program is linked*}the sources changed while they were being proved: run this again\n" 125
 wait "$held"
 judge 'an edit while it proves' $?
 wants "$small" "$proves" 0
@@ -297,26 +420,9 @@ check 'large pages are asked for' unasked launch
 wants 'glibc.malloc.check=0\n' '' 0
 check 'unless something else is' asked launch
 cp "$program" "$work/program"
-edit
-wants "$small" "$proves" 0
-check 'and the program again' launch aigtoaig --ascii < "$work/small"
-
-# a program that still reads holds up no other launch
-mkfifo "$work/pipe"
-edit
-rm "$tree/crates/aiger/out/launch.stamp"
-with_rt "$work/rt" "$tree/aiger" aigtoaig --ascii < "$work/pipe" > /dev/null 2>&1 &
-exec {pipe}> "$work/pipe"
-wait_for test -s "$tree/crates/aiger/out/launch.stamp"
-edit
-wants "$small" "$proves" 0
-check 'a launch beside a program that still runs' \
-    with_rt "$work/rt" timeout 10 "$tree/aiger" aigtoaig --ascii < "$work/small"
-exec {pipe}>&-
-wait
 
 # --- a folder that cannot be written ---
-mv "$tree/crates/aiger/out" "$tree/kept"
-: > "$tree/crates/aiger/out"
-wants '' "aiger: cannot create the folder $tree/crates/aiger/out\n" 125
-check 'a file in the place of out' launch aigtoaig --ascii < "$work/small"
+rm -rf "$out"
+: > "$out"
+wants '' "aiger: cannot create the folder $out\n" 125
+check 'a file in the place of out, where the program has to be proved' launch aigtoaig --ascii < "$work/small"
