@@ -1,5 +1,6 @@
 #!/usr/bin/env python3
-"""Runs the commands of examples/README.md, one after the other, and sees that each prints what stands there.
+"""Runs the commands of README.md and of examples/README.md, one after the other, and sees that each prints what stands
+there.
 
     tests/readme.py PROGRAM
 
@@ -17,7 +18,8 @@ COMMAND = re.compile(r"^    \$ (.*)\n((?:    (?!\$ ).*\n)*)", re.M)
 
 
 def main(program):
-    found = COMMAND.findall((EXAMPLES / "README.md").read_text(encoding="utf-8"))
+    pages = (EXAMPLES.parent / "README.md", EXAMPLES / "README.md")
+    found = [it for page in pages for it in COMMAND.findall(page.read_text(encoding="utf-8"))]
     with tempfile.TemporaryDirectory() as room:
         shutil.copytree(EXAMPLES, Path(room) / "examples")
         (Path(room) / "aiger").symlink_to(Path(program).resolve())
@@ -29,7 +31,7 @@ def main(program):
             if said.rstrip("\n") != wanted.rstrip("\n"):
                 sys.exit(f"{command} prints\n{said}and not\n{wanted}")
     if not found:
-        sys.exit("examples/README.md has no command")
+        sys.exit("the pages have no command")
 
 
 if __name__ == "__main__":
