@@ -1,6 +1,6 @@
 # The rows of aigsim --witness, for the table of rows.sh. The witness comes by standard input, unless a row names
 # another; the model is the file that was made last. What is wanted was worked out by hand from docs/FORMAT.md,
-# "Witness files".
+# "Witness".
 
 # confirms NAME WITNESS STEP, denies NAME WITNESS: the answer to a witness of the right form
 confirms() { row "$1" "$2" "confirmed $3\n" '' 0 aigsim --witness "$model"; }
