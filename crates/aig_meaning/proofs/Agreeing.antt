@@ -1,11 +1,11 @@
 -- Two step assignments of the same state and inputs agree on all that the circuit defines.
-use Rattle.std.proofs.Common.{◌≡◌, ℕ, List, [], ◌∷◌, map, refl, ap, ap₂, ⊎_elim, eqb, cond, sym, subst, ◌%◌}
-use Rattle.std.specs.List.{AllByRecursion}
+use Rattle.std.proofs.Common.{rules}
+use Rattle.std.proofs.Common.{◌≡◌, ℕ, List, map, refl, ap, ap₂, eqb, cond, ◌%◌}
 use Rattle.aig_core.specs.declared.circuit.Circuit.{Circuit}
 use Rattle.aig_core.specs.declared.value.Val.{Val}
 use Rattle.aig_core.specs.Literal.{variable_of}
 use Rattle.aig_core.specs.Values.{value_and, value_not}
-use Rattle.aig_core.specs.Wellformed.{IsAmong, IsKnown, IsWellFormed, defined_variables}
+use Rattle.aig_core.specs.Wellformed.{IsAmong, IsWellFormed, defined_variables}
 use Rattle.aig_meaning.specs.Meaning.{IsStepAssignment, literal_value}
 use Rattle.aig_meaning.proofs.Lists.{each_equal, equal_each}
 use Rattle.aig_meaning.proofs.Known.{AreDefined}
@@ -15,17 +15,6 @@ use Rattle.aig_meaning.proofs.Related.{IsKept, everywhere, of_literals}
 pub same_literal : (a b : ℕ → Val) (literal : ℕ) → a (variable_of literal) ≡ b (variable_of literal)
     → literal_value a literal ≡ literal_value b literal
 same_literal a b literal e = ap (λ v. cond (eqb (literal % 2) 0) v (value_not v)) e
-
--- those that agree on some variables, and on the constant, agree on the literals over them
-pub same_known_literals : (variables : List ℕ) (a b : ℕ → Val) → a 0 ≡ b 0
-    → ((v : ℕ) → IsAmong v variables → a v ≡ b v) → (literals : List ℕ) → AllByRecursion (IsKnown variables) literals
-    → map (literal_value a) literals ≡ map (literal_value b) literals
-same_known_literals variables a b constant same [] known = refl
-same_known_literals variables a b constant same (l ∷ ls) known =
-    ap₂ (λ x xs. x ∷ xs)
-    (same_literal a b l (⊎_elim (λ (e : variable_of l ≡ 0). subst (λ v. a v ≡ b v) (sym e) constant)
-    (λ (among : IsAmong (variable_of l) variables). same (variable_of l) among) known.0))
-    (same_known_literals variables a b constant same ls known.1)
 
 equal_is_kept : IsKept (λ x y. x ≡ y)
 equal_is_kept = record { at_zero = refl; by_not = λ x y e. ap value_not e; by_and = λ x y z w e d. ap₂ value_and e d }
@@ -39,6 +28,4 @@ module _ (c : Circuit) (state given : List Val) (a b : ℕ → Val) (formed : Is
 
   pub literals_agree : (literals : List ℕ) → AreDefined c literals
       → map (literal_value a) literals ≡ map (literal_value b) literals
-  literals_agree literals known =
-      each_equal _ _ (of_literals (λ x y. x ≡ y) equal_is_kept a b c formed state state given given (equal_each state)
-      (equal_each given) is_a is_b literals known)
+  literals_agree literals known = search (rules, each_equal, of_literals, equal_is_kept, equal_each)

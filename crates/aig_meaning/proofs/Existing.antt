@@ -1,5 +1,6 @@
 -- A well-formed circuit has a step assignment: the inputs and latches have what is given, the gates what follows from
 -- it, by recursion on the rank. With that no other agrees on all variables, this is the law of one step assignment.
+use Rattle.std.proofs.Common.{rules}
 use Rattle.std.proofs.Common.{◌≡◌, ◌<◌, ℕ, zero, suc, List, [], ◌∷◌, ◌++◌, length, map, get_or, cond, eqb, refl, sym}
 use Rattle.std.proofs.Common.{ap, ap₂, subst, ◌∙◌, inl, inr, ⊎_elim, arith}
 use Rattle.std.specs.List.{Contains}
@@ -13,7 +14,7 @@ use Rattle.aig_core.specs.declared.value.Val.{Val}
 use Rattle.aig_core.specs.declared.value.Val.TheVariants.{Zero}
 use Rattle.aig_core.specs.Literal.{variable_of}
 use Rattle.aig_core.specs.Values.{value_and}
-use Rattle.aig_core.specs.Wellformed.{IsAmong, AreDistinct, IsVariableUpTo, IsWellFormed, defined_variables, operands}
+use Rattle.aig_core.specs.Wellformed.{IsAmong, AreDistinct, IsWellFormed, defined_variables, operands}
 use Rattle.aig_core.proofs.Checking.Fitting.{each}
 use Rattle.aig_core.proofs.Ordering.Cyclic.{among_last}
 use Rattle.aig_core.proofs.Ordering.LeastReady.{among_or_not}
@@ -70,10 +71,7 @@ stands_there (x ∷ xs) (suc i) g below is = inr (stands_there xs i g (omega ari
 by_gate_here : (gates : List Gate) (a : ℕ → Val) (other : Val) → AreDistinct (variables_of gates) → (i : ℕ) (g : Gate)
     → i < length gates → get_or gates i g ≡ g → by_gate gates a g.var other ≡ value_of_gate a g
 by_gate_here [] a other once i g below is = absurd (omega arith)
-by_gate_here (x ∷ xs) a other once zero g below is =
-    ap (λ t. cond t (value_of_gate a x) (by_gate xs a g.var other))
-    ((Decides-eqb g.var x.var).1 (ap (λ (z : Gate). z.var) (sym is)))
-    ∙ ap (value_of_gate a) is
+by_gate_here (x ∷ xs) a other once zero g below is = search rules
 by_gate_here (x ∷ xs) a other once (suc i) g below is =
     ap (λ t. cond t (value_of_gate a x) (by_gate xs a g.var other))
     (ne_eqb g.var x.var
@@ -106,23 +104,16 @@ module _ (c : Circuit) (formed : IsWellFormed c) (state given : List Val) where
   at_source (suc bound) w out = by_gate_other c.gates (value bound) w (of_sources w) out
 
   at_gate : (bound : ℕ) (g : Gate) → Contains c.gates g → value (suc bound) g.var ≡ value_of_gate (value bound) g
-  at_gate bound g g_in =
-      by_gate_here c.gates (value bound) (of_sources g.var)
-      (distinct_back sources (variables_of c.gates) formed.once) g_in.0 g g_in.1 g_in.2
+  at_gate bound g g_in = search (rules, by_gate_here, distinct_back, variables_of)
 
   same_at_gate : (a b : ℕ → Val) (g : Gate) → ((v : ℕ) → IsAmong v (map variable_of (operands g)) → a v ≡ b v)
       → value_of_gate a g ≡ value_of_gate b g
-  same_at_gate a b g same =
-      ap₂ value_and (same_literal a b g.left (same (variable_of g.left) (inl refl)))
-      (same_literal a b g.right (same (variable_of g.right) (inr (inl refl))))
+  same_at_gate a b g same = search (rules, same_literal)
 
   -- an operand of a gate that is a gate's too has a lower rank
   lower : (g : Gate) → Contains c.gates g → (w : ℕ) → IsAmong w (map variable_of (operands g))
       → IsAmong w (variables_of c.gates) → rank w < rank g.var
-  lower g g_in w used among =
-      let under = gate_named w c.gates among in
-      subst (λ u. rank u < rank g.var) (sym under.2)
-      (formed.ranked.1 g under.0 g_in under.1 (subst (λ u. IsAmong u (map variable_of (operands g))) under.2 used))
+  lower g g_in w used among = search (rules, gate_named)
 
   -- any bound above the rank gives the same value
   settled : (m n v : ℕ) → rank v < m → rank v < n → value m v ≡ value n v
@@ -165,9 +156,7 @@ module _ (c : Circuit) (formed : IsWellFormed c) (state given : List Val) where
 
   -- the constant is no defined variable
   no_constant : ¬ IsAmong 0 (defined_variables c)
-  no_constant among =
-      let in_range : IsVariableUpTo c.max_var 0 =
-      each (IsVariableUpTo c.max_var) (defined_variables c) formed.in_range 0 among in omega (arith, in_range.0)
+  no_constant among = search (rules, each)
 
   at_constant : assigned 0 ≡ Zero
   at_constant =
@@ -194,15 +183,7 @@ module _ (c : Circuit) (formed : IsWellFormed c) (state given : List Val) where
 
   pub an_assignment : length state ≡ length c.latches → length given ≡ length c.inputs
       → (a : ℕ → Val) × IsStepAssignment c state given a
-  an_assignment as_long as_long_too = (
-    assigned,
-    record {
-      constant = at_constant;
-      inputs = at_inputs as_long_too;
-      latches = at_latches as_long;
-      gates = gates_hold;
-    },
-  )
+  an_assignment as_long as_long_too = search (rules, at_constant, at_inputs, at_latches, gates_hold)
 
 pub one_step_assignment : OneStepAssignment
 one_step_assignment c state given formed as_long as_long_too =

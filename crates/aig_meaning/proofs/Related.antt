@@ -1,7 +1,8 @@
 -- What holds between the values that two assignments give to inputs and latches holds between all their values, where
 -- `not` and `and` keep it.
-use Rattle.std.proofs.Common.{◌≡◌, ◌<◌, ◌+◌, ◌%◌, ℕ, zero, suc, List, [], ◌∷◌, ◌++◌, map, cond, eqb}
-use Rattle.std.proofs.Common.{true, false, refl, sym, subst, inl, inr, ⊎_elim, arith}
+use Rattle.std.proofs.Common.{rules}
+use Rattle.std.proofs.Common.{◌≡◌, ◌<◌, ◌+◌, ℕ, zero, suc, List, [], ◌∷◌, ◌++◌, map}
+use Rattle.std.proofs.Common.{refl, sym, subst, inl, inr, ⊎_elim, arith}
 use Rattle.std.specs.List.{AllZip, Contains}
 use Rattle.aig_core.specs.declared.circuit.Gate.{Gate}
 use Rattle.aig_core.specs.declared.circuit.Circuit.{Circuit}
@@ -31,12 +32,7 @@ module _ (R : Val → Val → Type 0) (kept : IsKept R) (a b : ℕ → Val) wher
 
   of_literal : (literal : ℕ) → R (a (variable_of literal)) (b (variable_of literal))
       → R (literal_value a literal) (literal_value b literal)
-  of_literal literal r =
-      elim (eqb (literal % 2) 0) as (λ t. R (cond t (a (variable_of literal)) (value_not (a (variable_of literal))))
-      (cond t (b (variable_of literal)) (value_not (b (variable_of literal))))) [
-        | true ↦ r
-        | false ↦ kept.by_not _ _ r
-      ]
+  of_literal literal r = search rules
 
   module _ (c : Circuit) (formed : IsWellFormed c) (state state_too given given_too : List Val)
       (of_state : AllZip R state state_too) (of_given : AllZip R given given_too)

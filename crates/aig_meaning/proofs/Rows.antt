@@ -1,15 +1,15 @@
 -- Rows: how long their lists are, that there is one, and that known values stay in it.
-use Rattle.std.proofs.Common.{◌≡◌, ℕ, List, length, map, refl, sym, ap, subst, ◌∙◌}
+use Rattle.std.proofs.Common.{rules}
+use Rattle.std.proofs.Common.{◌≡◌, ℕ, List, length, map, sym, ap, ◌∙◌}
 use Rattle.std.specs.List.{AllZip}
 use Rattle.std.proofs.lemmas.List.{length-map}
-use Rattle.aig_core.specs.declared.circuit.Latch.{Latch}
 use Rattle.aig_core.specs.declared.circuit.Circuit.{Circuit}
 use Rattle.aig_core.specs.declared.value.Val.{Val}
 use Rattle.aig_core.specs.Wellformed.{IsWellFormed}
 use Rattle.aig_meaning.specs.Meaning.{IsRow, IsStepAssignment, Row, latch_variables, literal_value, next_literals}
 use Rattle.aig_meaning.specs.Completion.{RowStays, Stays}
 use Rattle.aig_meaning.specs.Laws.{OneRow}
-use Rattle.aig_meaning.proofs.Known.{AreDefined, known_next, known_outputs, known_bad, known_constraints}
+use Rattle.aig_meaning.proofs.Known.{known_next, known_outputs, known_bad, known_constraints}
 use Rattle.aig_meaning.proofs.Related.{of_literals}
 use Rattle.aig_meaning.proofs.Agreeing.{literals_agree}
 use Rattle.aig_meaning.proofs.Staying.{staying_is_kept}
@@ -28,9 +28,7 @@ row_of state inputs outputs next bad constraints = record {
 -- rows that are the same list by list
 pub same_row : (r s : Row) → r.state ≡ s.state → r.inputs ≡ s.inputs → r.outputs ≡ s.outputs → r.next ≡ s.next
     → r.bad ≡ s.bad → r.constraints ≡ s.constraints → r ≡ s
-same_row r s of_state of_inputs of_outputs of_next of_bad of_constraints =
-    let t : row_of r.state r.inputs r.outputs r.next r.bad r.constraints
-    ≡ row_of s.state s.inputs s.outputs s.next s.bad s.constraints = cc in t
+same_row r s of_state of_inputs of_outputs of_next of_bad of_constraints = search rules
 
 -- the row that an assignment shows
 abbrev pub row_shown : Circuit → (ℕ → Val) → Row
@@ -40,34 +38,18 @@ row_shown c a =
 
 pub shown_is_row : (c : Circuit) (state given : List Val) (a : ℕ → Val) → IsStepAssignment c state given a
     → IsRow c (row_shown c a)
-shown_is_row c state given a is = (
-  a,
-  record {
-    assigned = record { constant = is.constant; inputs = refl; latches = refl; gates = is.gates };
-    outputs_shown = refl;
-    next_shown = refl;
-    bad_shown = refl;
-    constraints_shown = refl;
-  },
-)
+shown_is_row c state given a is = search rules
 
 -- the lists of a row are as long as the circuit's
 module _ (c : Circuit) (row : Row) (is : IsRow c row) where
   pub state_length : length row.state ≡ length c.latches
-  state_length =
-      ap length (sym is.1.assigned.latches) ∙ length-map (latch_variables c) is.0
-      ∙ length-map c.latches (λ (l : Latch). l.var)
+  state_length = search (rules, length-map)
 
   pub inputs_length : length row.inputs ≡ length c.inputs
   inputs_length = ap length (sym is.1.assigned.inputs) ∙ length-map c.inputs is.0
 
-  pub outputs_length : length row.outputs ≡ length c.outputs
-  outputs_length = ap length is.1.outputs_shown ∙ length-map c.outputs (literal_value is.0)
-
   pub next_length : length row.next ≡ length c.latches
-  next_length =
-      ap length is.1.next_shown ∙ length-map (next_literals c) (literal_value is.0)
-      ∙ length-map c.latches (λ (l : Latch). l.next)
+  next_length = search (rules, length-map)
 
   pub bad_length : length row.bad ≡ length c.bad
   bad_length = ap length is.1.bad_shown ∙ length-map c.bad (literal_value is.0)
@@ -79,35 +61,13 @@ module _ (c : Circuit) (formed : IsWellFormed c) where
   -- two rows of the same state and inputs are the same
   pub rows_agree : (r s : Row) → r.state ≡ s.state → r.inputs ≡ s.inputs → IsRow c r → IsRow c s → r ≡ s
   rows_agree r s of_state of_inputs is_r is_s =
-      let moved : IsStepAssignment c r.state r.inputs is_s.0 =
-      subst (λ v. IsStepAssignment c r.state v is_s.0) (sym of_inputs)
-      (subst (λ v. IsStepAssignment c v s.inputs is_s.0) (sym of_state) is_s.1.assigned) in
-      let agree : (literals : List ℕ) → AreDefined c literals
-      → map (literal_value is_r.0) literals ≡ map (literal_value is_s.0) literals =
-      literals_agree c r.state r.inputs is_r.0 is_s.0 formed is_r.1.assigned moved in
-      same_row r s of_state of_inputs
-      (is_r.1.outputs_shown ∙ agree c.outputs (known_outputs c formed) ∙ sym is_s.1.outputs_shown)
-      (is_r.1.next_shown ∙ agree (next_literals c) (known_next c formed) ∙ sym is_s.1.next_shown)
-      (is_r.1.bad_shown ∙ agree c.bad (known_bad c formed) ∙ sym is_s.1.bad_shown)
-      (is_r.1.constraints_shown ∙ agree c.constraints (known_constraints c formed) ∙ sym is_s.1.constraints_shown)
+      search (rules, literals_agree, same_row, known_outputs, known_next, known_bad, known_constraints)
 
   -- where more is known of the state and the inputs, all that was known of the row stays
   pub row_stays : (r s : Row) → AllZip Stays r.state s.state → AllZip Stays r.inputs s.inputs → IsRow c r → IsRow c s
       → RowStays r s
   row_stays r s of_state of_inputs is_r is_s =
-      let stay : (literals : List ℕ) → AreDefined c literals
-      → AllZip Stays (map (literal_value is_r.0) literals) (map (literal_value is_s.0) literals) =
-      of_literals Stays staying_is_kept is_r.0 is_s.0 c formed r.state s.state r.inputs s.inputs of_state of_inputs
-      is_r.1.assigned is_s.1.assigned in
-      record {
-        state = of_state;
-        inputs = of_inputs;
-        outputs = rw (is_r.1.outputs_shown, is_s.1.outputs_shown) (stay c.outputs (known_outputs c formed));
-        next = rw (is_r.1.next_shown, is_s.1.next_shown) (stay (next_literals c) (known_next c formed));
-        bad = rw (is_r.1.bad_shown, is_s.1.bad_shown) (stay c.bad (known_bad c formed));
-        constraints =
-            rw (is_r.1.constraints_shown, is_s.1.constraints_shown) (stay c.constraints (known_constraints c formed));
-      }
+      search (rules, of_literals, staying_is_kept, known_outputs, known_next, known_bad, known_constraints)
 
 pub one_row : OneRow
 one_row c state given formed as_long as_long_too =

@@ -1,5 +1,6 @@
 -- Circuits that mean the same: each circuit does with itself, both ways and over a third; and rows one way suffice.
-use Rattle.std.proofs.Common.{◌≡◌, length, map, refl, sym, ap, subst, ◌∙◌}
+use Rattle.std.proofs.Common.{rules}
+use Rattle.std.proofs.Common.{◌≡◌, length, map, refl, sym, subst, ◌∙◌}
 use Rattle.std.proofs.lemmas.List.{length-map}
 use Rattle.aig_core.specs.declared.circuit.Latch.{Latch}
 use Rattle.aig_core.specs.declared.circuit.Circuit.{Circuit}
@@ -31,9 +32,7 @@ same_through c d e same same_too = record {
 pub latches_length : (c d : Circuit)
     → map (λ (l : Latch). l.reset) d.latches ≡ map (λ (l : Latch). l.reset) c.latches
     → length d.latches ≡ length c.latches
-latches_length c d resets =
-    sym (length-map d.latches (λ (l : Latch). l.reset)) ∙ ap length resets
-    ∙ length-map c.latches (λ (l : Latch). l.reset)
+latches_length c d resets = search (rules, length-map)
 
 -- Where each row of d is a row of c, each row of c is one of d too: d has a row of the same state and inputs, that one
 -- is a row of c, and c has no second one.

@@ -1,4 +1,5 @@
 -- Traces: there is one, they go on row by row, circuits that mean the same have the same, and known values stay.
+use Rattle.std.proofs.Common.{rules}
 use Rattle.std.proofs.Common.{◌≡◌, List, [], ◌∷◌, ◌++◌, length, map, refl, sym, ap₂, subst, ◌∙◌}
 use Rattle.std.specs.List.{AllZip, AllByRecursion}
 use Rattle.std.proofs.lemmas.List.{length-map}
@@ -11,7 +12,7 @@ use Rattle.aig_core.specs.declared.value.Val.{Val}
 use Rattle.aig_core.specs.Wellformed.{IsWellFormed}
 use Rattle.aig_meaning.specs.Meaning.{IsRow, Row}
 use Rattle.aig_meaning.specs.Trace.{Follow, IsFirstState, MayStartAt, reset_value, state_after}
-use Rattle.aig_meaning.specs.Completion.{IsCompleted, RowStays, Stays}
+use Rattle.aig_meaning.specs.Completion.{RowStays, Stays}
 use Rattle.aig_meaning.specs.Laws.{CompletionsKeepKnownValues, KnownValuesStay, OneTrace, ResetStateIsFirst}
 use Rattle.aig_meaning.specs.Laws.{SameMeaningSameTraces, TraceGoesOn}
 use Rattle.aig_meaning.proofs.Lists.{all_zip_weaker}
@@ -81,11 +82,7 @@ known_values_stay c first known_first vectors known rows others formed of_first 
 
 pub completions_keep_known_values : CompletionsKeepKnownValues
 completions_keep_known_values c first completed_first vectors completed rows others formed completion is is_too =
-    known_values_stay c first completed_first vectors completed rows others formed
-    (all_zip_weaker IsCompleted Stays completed_stays first completed_first completion.first_completed)
-    (all_zip_weaker (AllZip IsCompleted) (AllZip Stays) (all_zip_weaker IsCompleted Stays completed_stays) vectors
-    completed completion.vectors_completed)
-    is is_too
+    search (rules, known_values_stay, all_zip_weaker, completed_stays)
 
 may_start_at_reset : (r : Reset) → MayStartAt r (reset_value r)
 may_start_at_reset resets.Zero = refl

@@ -61,12 +61,6 @@ first_ended (l ∷ []) [] e = e
 first_ended (l ∷ []) (m ∷ rest) e = λ f. let t : l.ended ≡ true = e.0 in cc
 first_ended (l ∷ m ∷ front) rest e = (e.0, first_ended (m ∷ front) rest e.1)
 
-pub others_ended : (front rest : List Line) → EndInLineFeeds (front ++ rest) → EndInLineFeeds rest
-others_ended [] rest e = e
-others_ended (l ∷ []) [] e = tt
-others_ended (l ∷ []) (m ∷ rest) e = e.1
-others_ended (l ∷ m ∷ front) rest e = others_ended (m ∷ front) rest e.1
-
 all_ended : (front : List Line) (l : Line) (rest : List Line) → EndInLineFeeds (front ++ l ∷ rest) → AreEnded front
 all_ended [] l rest e = tt
 all_ended (k ∷ []) l rest e = (e.0, tt)

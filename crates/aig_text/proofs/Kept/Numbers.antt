@@ -1,12 +1,11 @@
 -- What is kept of a number answers each question that is asked of it.
-use Rattle.std.proofs.Common.{◌≡◌, ◌<◌, ◌≤◌, ◌+◌, ◌-◌, ◌*◌, ◌%◌, ◌^◌, ℕ, List, Bool, true, false, eqb, ◌&&◌, zero}
-use Rattle.std.proofs.Common.{map, take, drop, length, get_or, refl, sym, ap, ◌∙◌, arith, inl, inr, Option, Some}
-use Rattle.std.proofs.Common.{None, ◌++◌, [], ◌∷◌, suc, append-nil, append_assoc}
+use Rattle.std.proofs.Common.{◌≡◌, ◌<◌, ◌≤◌, ◌+◌, ◌-◌, ◌%◌, ◌^◌, ℕ, List, Bool, true, false, eqb, ◌&&◌, zero}
+use Rattle.std.proofs.Common.{map, take, drop, length, get_or, refl, sym, ap, ◌∙◌, arith, Option, Some}
+use Rattle.std.proofs.Common.{None, ◌++◌, [], ◌∷◌, suc, append_assoc}
 use Rattle.std.specs.List.{prefix_len}
-use Rattle.std.proofs.lemmas.Bool.{lt-ltb, le-ltb, cases_lt, and_parts, eqb-true}
-use Rattle.std.proofs.lemmas.List.Sums.{prefix_len_is, fold_more}
-use Rattle.std.proofs.lemmas.List.{take_all, take_more_set, take-append-drop, drop-set-lt, drop-replicate, drop-drop}
-use Rattle.std.proofs.lemmas.List.{length-replicate}
+use Rattle.std.proofs.lemmas.Bool.{lt-ltb, le-ltb, and_parts, eqb-true}
+use Rattle.std.proofs.lemmas.List.Sums.{prefix_len_is}
+use Rattle.std.proofs.lemmas.List.{take_more_set, take-append-drop, drop-set-lt, drop-replicate, drop-drop}
 use Rattle.std.proofs.Math.ListN.{set, length-set}
 use Rattle.aig_text.specs.Spelling.{is_digit, value_of, zeros}
 use Rattle.aig_text.specs.Scanning.{after_gap, number_at, more_numbers_at, is_line_end, ◌>>=◌}
@@ -17,29 +16,6 @@ kept_small n h = rw (lt-ltb n (2 ^ 36) h) refl
 
 pub kept_large : (n : ℕ) → 2 ^ 36 ≤ n → kept n ≡ 2 ^ 36 + n % 2
 kept_large n h = rw (le-ltb n (2 ^ 36) h) refl
-
-pub kept_bound : (n : ℕ) → kept n ≤ 2 ^ 36 + 1
-kept_bound n = elim (cases_lt n (2 ^ 36)) [
-  | inl h ↦ rw (kept_small n h) (omega arith)
-  | inr h ↦ rw (kept_large n h) (omega arith)
-]
-
--- one more digit
-pub kept_digit : (n d : ℕ) → kept (10 * kept n + d) ≡ kept (10 * n + d)
-kept_digit n d = elim (cases_lt n (2 ^ 36)) [
-  | inl h ↦ rw (kept_small n h) refl
-  | inr h ↦
-      let large : 2 ^ 36 ≤ 10 * n + d = omega arith in
-      let larger : 2 ^ 36 ≤ 10 * (2 ^ 36 + n % 2) + d = omega arith in
-      let same : (10 * (2 ^ 36 + n % 2) + d) % 2 ≡ (10 * n + d) % 2 = omega arith in
-      rw (kept_large n h, kept_large (10 * n + d) large, kept_large (10 * (2 ^ 36 + n % 2) + d) larger)
-      (ap (λ r. 2 ^ 36 + r) same)
-]
-
--- the number that the digits at the front spell, with one more
-pub value_more : (bytes : List ℕ) (i : ℕ) → i < length bytes
-    → value_of (take (i + 1) bytes) ≡ 10 * value_of (take i bytes) + (get_or bytes i 0 - 48)
-value_more bytes i h = fold_more (λ n b. 10 * n + (b - 48)) 0 bytes i 0 h
 
 -- as many digits stand at the front as come before the first byte that is none
 pub digits_end : (bytes : List ℕ) (i : ℕ) → i ≤ length bytes → ((k : ℕ) → k < i → is_digit (get_or bytes k 0) ≡ true)
@@ -54,10 +30,6 @@ value_ends bytes i value e h = h ∙ ap (λ n. kept (value_of (take n bytes))) e
 abbrev pub put_before : List ℕ → Option (List ℕ) → Option (List ℕ)
 put_before front None = None
 put_before front (Some ns) = Some (front ++ ns)
-
-pub put_none : (r : Option (List ℕ)) → put_before [] r ≡ r
-put_none None = refl
-put_none (Some ns) = refl
 
 put_one : (front : List ℕ) (n : ℕ) (r : Option (List ℕ))
     → put_before (front ++ n ∷ []) r ≡ put_before front (put_before (n ∷ []) r)
@@ -74,10 +46,6 @@ behind None value after h = cc
 behind (Some x) value after h =
     let p : (kept x.0, x.1) ≡ (value, after) = cc in
     (x.0, ap (λ (r : List ℕ). Some (x.0, r)) (ap (λ (q : ℕ × List ℕ). q.1) p), ap (λ (q : ℕ × List ℕ). q.0) p)
-
-pub none_behind : (read : Option (ℕ × List ℕ)) → kept_first read ≡ None → read ≡ None
-none_behind None h = refl
-none_behind (Some x) h = cc
 
 kept_more : (n : ℕ) (r : Option (List ℕ))
     → kept_numbers (r >>= λ others. Some (n ∷ others)) ≡ put_before (kept n ∷ []) (kept_numbers r)
@@ -109,18 +77,6 @@ module _ (ended : Bool) (least : ℕ) where
       ∙ numbers_one k j bytes digits after b.0 e goes gap b.1
       )
 
-  -- no number where one is due
-  pub numbers_no_gap : (k j : ℕ) (front bytes : List ℕ) → k ≡ suc j → may_end bytes ≡ false → after_gap bytes ≡ None
-      → put_before front (kept_numbers (more_numbers_at ended least k bytes)) ≡ None
-  unfolding more_numbers_at
-  numbers_no_gap k j front bytes e goes gap = rw (e, goes, gap) refl
-
-  pub numbers_no_digit : (k j : ℕ) (front bytes digits : List ℕ) → k ≡ suc j → may_end bytes ≡ false
-      → after_gap bytes ≡ Some digits → kept_first (number_at digits) ≡ None
-      → put_before front (kept_numbers (more_numbers_at ended least k bytes)) ≡ None
-  unfolding more_numbers_at
-  numbers_no_digit k j front bytes digits e goes gap h = rw (e, goes, gap, none_behind _ h) refl
-
 kept-zeros : (count : ℕ) → map kept (zeros count) ≡ zeros count
 kept-zeros zero = refl
 kept-zeros (suc count) = ap (λ (ns : List ℕ). 0 ∷ ns) (kept-zeros count)
@@ -137,37 +93,11 @@ pub numbers_end : (ended : Bool) (least count : ℕ) (front bytes : List ℕ) �
 numbers_end ended least count front bytes none h =
     rw (none, left_out_at ended count bytes h) (ap (λ (ns : List ℕ). Some (front ++ ns)) (kept-zeros count))
 
--- all numbers are there
-pub numbers_full : (ended : Bool) (least : ℕ) (front bytes : List ℕ) → is_line_end ended bytes ≡ true
-    → put_before front (kept_numbers (more_numbers_at ended least 0 bytes)) ≡ Some front
-unfolding more_numbers_at
-numbers_full ended least front bytes h = rw h (ap (λ (ns : List ℕ). Some ns) (append-nil front))
-
-pub numbers_no_end : (ended : Bool) (least : ℕ) (front bytes : List ℕ) → is_line_end ended bytes ≡ false
-    → put_before front (kept_numbers (more_numbers_at ended least 0 bytes)) ≡ None
-unfolding more_numbers_at
-numbers_no_end ended least front bytes h = rw h refl
-
-pub put_front : (ended : Bool) (least n : ℕ) (items text : List ℕ)
-    → put_before (take 0 items) (kept_numbers (more_numbers_at ended (least - 0) (n - 0) text))
-    ≡ kept_numbers (more_numbers_at ended least n text)
-put_front ended least n items text =
-    let e : n - 0 ≡ n = omega arith in
-    let l : least - 0 ≡ least = omega arith in rw (e, l) (put_none (kept_numbers (more_numbers_at ended least n text)))
-
 -- the numbers that are stored, and zeros at the places of the others
 pub record AreStored (ended : Bool) (least n i : ℕ) (items bytes : List ℕ) (whole : Option (List ℕ)) : Type 0 where
   pub long : length items ≡ n
   pub empty : drop i items ≡ zeros (n - i)
   pub are : put_before (take i items) (kept_numbers (more_numbers_at ended (least - i) (n - i) bytes)) ≡ whole
-
-pub stored_at_first : (ended : Bool) (least n : ℕ) (text : List ℕ)
-    → AreStored ended least n 0 (zeros n) text (kept_numbers (more_numbers_at ended least n text))
-stored_at_first ended least n text = record {
-  long = length-replicate n 0;
-  empty = let all : n - 0 ≡ n = omega arith in ap zeros (sym all);
-  are = put_front ended least n (zeros n) text;
-}
 
 pub still_empty : (n i : ℕ) (items : List ℕ) (value : ℕ) → drop i items ≡ zeros (n - i)
     → drop (i + 1) (set items i value) ≡ zeros (n - (i + 1))
@@ -207,33 +137,3 @@ stored_all ended least n i items bytes whole s ends =
     sym s.are ∙ numbers_end ended (least - i) (n - i) (take i items) bytes (eqb-true (least - i) 0 both.0) both.1
     ∙ ap (λ (rest : List ℕ). Some (take i items ++ rest)) (sym s.empty)
     ∙ ap (λ (ns : List ℕ). Some ns) (take-append-drop i items)
-
--- no number stands where one is due
-pub stored_no_gap : (ended : Bool) (least n i : ℕ) (items bytes : List ℕ) (whole : Option (List ℕ)) → i < n
-    → AreStored ended least n i items bytes whole
-    → (eqb (least - i) 0 && is_line_end ended bytes) ≡ false → after_gap bytes ≡ None → whole ≡ None
-stored_no_gap ended least n i items bytes whole l s goes gap =
-    sym s.are ∙ numbers_no_gap ended (least - i) (n - i) (n - (i + 1)) (take i items) bytes (omega arith) goes gap
-
-pub stored_no_digit : (ended : Bool) (least n i : ℕ) (items bytes digits : List ℕ) (whole : Option (List ℕ)) → i < n
-    → AreStored ended least n i items bytes whole
-    → (eqb (least - i) 0 && is_line_end ended bytes) ≡ false → after_gap bytes ≡ Some digits
-    → kept_first (number_at digits) ≡ None → whole ≡ None
-stored_no_digit ended least n i items bytes digits whole l s goes gap h =
-    sym s.are
-    ∙ numbers_no_digit ended (least - i) (n - i) (n - (i + 1)) (take i items) bytes digits (omega arith) goes gap h
-
--- the line ends behind all numbers
-pub stored_full : (ended : Bool) (least n i : ℕ) (items bytes : List ℕ) (whole : Option (List ℕ)) → n ≤ i
-    → AreStored ended least n i items bytes whole → is_line_end ended bytes ≡ true → whole ≡ Some items
-stored_full ended least n i items bytes whole l s ends =
-    let none : n - i ≡ 0 = omega arith in
-    let all : take i items ≡ items = let e : length items ≡ n = s.long in take_all i items (omega arith) in
-    sym s.are ∙ rw (none, all) (numbers_full ended (least - i) items bytes ends)
-
--- the line goes on behind all numbers
-pub stored_no_end : (ended : Bool) (least n i : ℕ) (items bytes : List ℕ) (whole : Option (List ℕ)) → n ≤ i
-    → AreStored ended least n i items bytes whole → is_line_end ended bytes ≡ false → whole ≡ None
-stored_no_end ended least n i items bytes whole l s ends =
-    let none : n - i ≡ 0 = omega arith in
-    sym s.are ∙ rw none (numbers_no_end ended (least - i) (take i items) bytes ends)

@@ -8,7 +8,7 @@ use Rattle.std.specs.Float.Numeral.{digits_len}
 use Rattle.std.specs.Str.Parse.{digits_value}
 use Rattle.std.proofs.lemmas.Str.Parse.{IsNumeralModel, numerals_by_fold, digits_value_short}
 use Rattle.std.proofs.lemmas.List.{take-append-drop, drop_more}
-use Rattle.std.proofs.lemmas.List.{length-append, length-take-le, length-replicate, take_all, take_more_set, take-take}
+use Rattle.std.proofs.lemmas.List.{length-append, length-take-le, take_more_set, take-take}
 use Rattle.std.proofs.Math.ListN.{set, length-set}
 use Rattle.std.proofs.Common.{inl, None}
 use Rattle.aig_text.specs.Lines.{ahead, line, lines_of}
@@ -146,13 +146,6 @@ pub record ArePlain (n i : ℕ) (items bytes rest : List ℕ) : Type 0 where
   pub empty : drop i items ≡ zeros (n - i)
   pub begins : BeginsWithMore bytes (take i items) rest
 
-pub plain_at_first : (n : ℕ) (bytes : List ℕ) → ArePlain n 0 (zeros n) bytes bytes
-plain_at_first n bytes = record {
-  long = length-replicate n 0;
-  empty = let all : n - 0 ≡ n = omega arith in ap zeros (sym all);
-  begins = record { text = []; are = refl; spelled = refl; one_line = tt };
-}
-
 -- one more number is stored at its place
 pub plain_more : (n i : ℕ) (items bytes rest after : List ℕ) (behind value : ℕ) → i < n → behind ≡ 32
     → ArePlain n i items bytes (behind ∷ rest) → BeginsWithNumber rest value after
@@ -178,22 +171,6 @@ plain_end least n i items bytes rest behind l enough feed p = record {
   enough = let e : length items ≡ n = p.long in omega (arith, length-take-le i items (omega arith));
   begins = subst (λ (b : ℕ). BeginsWithMore bytes (take i items) (b ∷ rest)) feed p.begins;
 }
-
--- the line ends behind all numbers
-pub plain_full : (least n i : ℕ) (items bytes rest : List ℕ) (behind : ℕ) → n ≤ i → least ≤ n → behind ≡ 10
-    → ArePlain n i items bytes (behind ∷ rest) → EndsPlainly least bytes items rest
-plain_full least n i items bytes rest behind l enough feed p =
-    let e : length items ≡ n = p.long in
-    let all : take i items ≡ items = take_all i items (omega arith) in
-    record {
-      written = items;
-      left_out = 0;
-      are = sym (append-nil items);
-      enough = omega arith;
-      begins =
-          subst (λ (b : ℕ). BeginsWithMore bytes items (b ∷ rest)) feed
-          (subst (λ (ns : List ℕ). BeginsWithMore bytes ns (behind ∷ rest)) all p.begins);
-    }
 
 -- a number and one that is left out, two numbers, where the first may not be left out
 with_one : (bytes rest : List ℕ) (n : ℕ) → BeginsWithNumber bytes n rest → BeginsWithMore (32 ∷ bytes) (n ∷ []) rest
