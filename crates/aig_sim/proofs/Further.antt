@@ -8,16 +8,16 @@ use Rattle.aig_meaning.specs.Meaning.{literal_value, next_literals, IsRow, Row}
 use Rattle.aig_meaning.specs.Trace.{reset_state, reset_value}
 use Rattle.aig_meaning.proofs.Rows.{one_row}
 use Rattle.aig_meaning.proofs.Traces.{reset_state_is_first}
-use Rattle.aig_sim.specs.declared.trace.Columns.{Columns}
-use Rattle.aig_sim.specs.Stimulus.{Entry, Step, Stop, Stimulus, judged_lines, lines_say, stimulus}
-use Rattle.aig_sim.specs.TraceText.{IsTraceText, row_text}
-use Rattle.aig_sim.specs.Parts.Progress.{Point, begin_of, Goes}
-use Rattle.aig_sim.specs.Parts.Seen.{IsHeard}
-use Rattle.aig_sim.proofs.Going.{goes_over}
-use Rattle.aig_sim.proofs.LinesSay.{behind, say_more}
+use Rattle.aig_step.specs.declared.trace.Columns.{Columns}
+use Rattle.aig_step.specs.Stimulus.{Entry, Step, Stop, Stimulus, judged_lines, lines_say, stimulus}
+use Rattle.aig_step.specs.TraceText.{IsTraceText, row_text}
+use Rattle.aig_trace.specs.Parts.Progress.{Point, begin_of, Goes}
+use Rattle.aig_step.specs.Parts.Seen.{IsHeard}
+use Rattle.aig_trace.proofs.Going.{goes_over}
+use Rattle.aig_trace.proofs.LinesSay.{behind, say_more}
 use Rattle.aig_sim.proofs.LongEnough.{AreAsLong, lines_long}
-use Rattle.aig_sim.proofs.RunTexts.{closing, goes_is_text}
-use Rattle.aig_sim.proofs.WholeLines.{judged_before}
+use Rattle.aig_trace.proofs.RunTexts.{closing, goes_is_text}
+use Rattle.aig_step.proofs.WholeLines.{judged_before}
 use Rattle.aig_text.specs.Lines.{bytes_of}
 
 next_length : (c : Circuit) (row : Row) → IsRow c row → length row.next ≡ length c.latches

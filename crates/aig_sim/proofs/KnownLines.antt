@@ -12,9 +12,9 @@ use Rattle.aig_core.specs.declared.value.Val.TheVariants.{Zero, One, X}
 use Rattle.aig_meaning.specs.Completion.{Stays}
 use Rattle.aig_text.specs.Lines.{Line, line, begun_by, lines_of}
 use Rattle.aig_sim.specs.Laws.{IsAsKnown}
-use Rattle.aig_sim.specs.Stimulus.{Entry, Step, Stop, Stimulus, before_rest, entry_in, entry_of, judged_lines}
-use Rattle.aig_sim.specs.Stimulus.{lines_say, runs_of}
-use Rattle.aig_sim.specs.Stimulus.{stimulus, text_of, value_of, values_of, with_step, without_return}
+use Rattle.aig_step.specs.Stimulus.{Entry, Step, Stop, Stimulus, before_rest, entry_in, entry_of, judged_lines}
+use Rattle.aig_step.specs.Stimulus.{lines_say, runs_of}
+use Rattle.aig_step.specs.Stimulus.{stimulus, text_of, value_of, values_of, with_step, without_return}
 
 pub stays_itself : (v : Val) → Stays v v
 stays_itself Zero = refl

@@ -12,12 +12,12 @@ use Rattle.aig_meaning.specs.Completion.{RowStays, Stays}
 use Rattle.aig_meaning.specs.Meaning.{Row}
 use Rattle.aig_meaning.specs.Trace.{IsTrace, reset_state}
 use Rattle.aig_meaning.proofs.Traces.{known_values_stay}
-use Rattle.aig_sim.specs.declared.trace.Columns.{Columns}
-use Rattle.aig_sim.specs.declared.trace.Columns.TheVariants.{Plain, Properties}
+use Rattle.aig_step.specs.declared.trace.Columns.{Columns}
+use Rattle.aig_step.specs.declared.trace.Columns.TheVariants.{Plain, Properties}
 use Rattle.aig_sim.specs.Laws.{KnownCharactersStay}
-use Rattle.aig_sim.specs.Stimulus.{runs_of, stimulus}
-use Rattle.aig_sim.specs.TraceText.{character_of, last_stop, properties_text, row_text, rows_text, run_text}
-use Rattle.aig_sim.specs.TraceText.{values_text}
+use Rattle.aig_step.specs.Stimulus.{runs_of, stimulus}
+use Rattle.aig_step.specs.TraceText.{character_of, last_stop, properties_text, row_text, rows_text, run_text}
+use Rattle.aig_step.specs.TraceText.{values_text}
 use Rattle.aig_sim.proofs.KnownLines.{runs_known, stays_itself, stimulus_known}
 
 -- a character that is not x stays

@@ -5,10 +5,9 @@ use Rattle.std.proofs.Common.{subst, ◌∙◌, option_map, if◌then◌else◌,
 use Rattle.std.specs.List.{AllByRecursion}
 use Rattle.aig_core.specs.declared.value.Val.{Val}
 use Rattle.aig_text.specs.Lines.{Line}
-use Rattle.aig_sim.specs.Stimulus.{Entry, Step, Stop, Stimulus, before_rest, entry_in, entry_of, lines_say}
-use Rattle.aig_sim.specs.Stimulus.{runs_of, text_of}
-use Rattle.aig_sim.specs.Stimulus.{values_of, with_step}
-use Rattle.aig_sim.proofs.EntryTexts.{values_length}
+use Rattle.aig_step.specs.Stimulus.{Entry, Step, Stop, Stimulus, before_rest, entry_in, entry_of, lines_say}
+use Rattle.aig_step.specs.Stimulus.{runs_of, text_of, values_of, with_step}
+use Rattle.aig_step.proofs.EntryTexts.{values_length}
 
 -- the entry is a step of so many values, or ends a run
 abbrev pub IsAsLong : ℕ → Entry → Type 0

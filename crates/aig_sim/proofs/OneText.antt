@@ -8,8 +8,8 @@ use Rattle.aig_meaning.specs.Meaning.{Row}
 use Rattle.aig_meaning.specs.Trace.{IsTrace, reset_state}
 use Rattle.aig_meaning.proofs.Traces.{one_trace, reset_state_is_first}
 use Rattle.aig_sim.specs.Laws.{OneTraceText}
-use Rattle.aig_sim.specs.Stimulus.{judged_lines, runs_of, stimulus}
-use Rattle.aig_sim.specs.TraceText.{last_stop, rows_text, run_text}
+use Rattle.aig_step.specs.Stimulus.{judged_lines, runs_of, stimulus}
+use Rattle.aig_step.specs.TraceText.{last_stop, rows_text, run_text}
 use Rattle.aig_sim.proofs.LongEnough.{HaveLength, lines_long, runs_long}
 
 -- each run has exactly one trace

@@ -1,22 +1,16 @@
 -- Circuits that mean the same have the same trace texts.
-use Rattle.std.proofs.Common.{◌≡◌, ◌++◌, ℕ, List, [], ◌∷◌, Bool, length, map, sym, ap, subst, ◌∙◌}
+use Rattle.std.proofs.Common.{◌≡◌, ◌++◌, ℕ, List, [], ◌∷◌, Bool, length, sym, ap, subst}
 use Rattle.std.specs.List.{AllZip, flat_map}
-use Rattle.std.proofs.lemmas.Simd.{map-map}
 use Rattle.aig_core.specs.declared.circuit.Circuit.{Circuit}
-use Rattle.aig_core.specs.declared.circuit.Latch.{Latch}
 use Rattle.aig_core.specs.declared.value.Val.{Val}
-use Rattle.aig_meaning.specs.Meaning.{MeansTheSame, Row}
-use Rattle.aig_meaning.specs.Trace.{IsTrace, reset_state, reset_value}
+use Rattle.aig_meaning.specs.Meaning.{Row}
+use Rattle.aig_meaning.specs.Trace.{IsTrace, reset_state}
 use Rattle.aig_meaning.proofs.Traces.{same_meaning_same_traces}
-use Rattle.aig_sim.specs.declared.trace.Columns.{Columns}
+use Rattle.aig_step.specs.declared.trace.Columns.{Columns}
 use Rattle.aig_sim.specs.Laws.{SameMeaningSameText}
-use Rattle.aig_sim.specs.Stimulus.{Stimulus, runs_of, stimulus}
-use Rattle.aig_sim.specs.TraceText.{IsTraceText, last_stop, rows_text, run_text}
-
-pub same_reset_state : (c d : Circuit) → MeansTheSame c d → reset_state d ≡ reset_state c
-same_reset_state c d same = by_resets d ∙ ap (map reset_value) same.resets ∙ sym (by_resets c) where
-  by_resets : (e : Circuit) → reset_state e ≡ map reset_value (map (λ (l : Latch). l.reset) e.latches)
-  by_resets e = sym (map-map reset_value (λ (l : Latch). l.reset) e.latches)
+use Rattle.aig_step.specs.Stimulus.{Stimulus, runs_of, stimulus}
+use Rattle.aig_step.specs.TraceText.{IsTraceText, last_stop, rows_text, run_text}
+use Rattle.aig_step.proofs.States.{same_reset_state}
 
 -- the text of what a stimulus says, over a circuit that has the traces of the other
 module _ (c d : Circuit) (columns : Columns)

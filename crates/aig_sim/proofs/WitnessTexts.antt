@@ -17,15 +17,15 @@ use Rattle.aig_meaning.specs.Trace.{MayStartAt}
 use Rattle.aig_text.specs.Lines.{Line, lines_of}
 use Rattle.aig_text.specs.Spelling.{value_of as number_of}
 use Rattle.aig_sim.specs.Laws.{WitnessFilesAreRead}
-use Rattle.aig_sim.specs.Stimulus.{Entry, Step, Stop, entry_in, judged_lines, text_of, values_of}
-use Rattle.aig_sim.specs.TraceText.{character_of, values_text}
-use Rattle.aig_sim.specs.Witness.{Claim, Nothing, Property, Said, SaysClaim, Shape, Steps, Version, Whole, begun_at}
-use Rattle.aig_sim.specs.Witness.{first_state_in, if_may_start, is_canonical, may_start_at, may_start_in, number_below}
-use Rattle.aig_sim.specs.Witness.{property_in, said_behind, said_by, said_with, shape_of, with_entry}
+use Rattle.aig_step.specs.Stimulus.{Entry, Step, Stop, entry_in, judged_lines, text_of, values_of}
+use Rattle.aig_step.specs.TraceText.{character_of, values_text}
+use Rattle.aig_witness.specs.Witness.{Claim, Nothing, Property, Said, SaysClaim, Shape, Steps, Version, Whole, begun_at}
+use Rattle.aig_witness.specs.Witness.{first_state_in, if_may_start, is_canonical, may_start_at, may_start_in, number_below}
+use Rattle.aig_witness.specs.Witness.{property_in, said_behind, said_by, said_with, shape_of, with_entry}
 use Rattle.aig_sim.specs.WitnessText.{IsWitnessFile}
-use Rattle.aig_sim.proofs.EntryTexts.{values_length}
-use Rattle.aig_sim.proofs.LineValues.{values_back, vector_says}
-use Rattle.aig_sim.proofs.Witnessing.{may_start}
+use Rattle.aig_step.proofs.EntryTexts.{values_length}
+use Rattle.aig_step.proofs.LineValues.{values_back, vector_says}
+use Rattle.aig_witness.proofs.Witnessing.{may_start}
 
 -- what texts of lines say
 said_texts : Shape → ℕ → Said → List (List ℕ) → Result Said ℕ

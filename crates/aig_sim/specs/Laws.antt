@@ -4,10 +4,10 @@ use Rattle.std.specs.List.{AllZip}
 use Rattle.aig_core.specs.declared.circuit.Circuit.{Circuit}
 use Rattle.aig_core.specs.Wellformed.{IsWellFormed}
 use Rattle.aig_meaning.specs.Meaning.{MeansTheSame}
-use Rattle.aig_sim.specs.declared.trace.Columns.{Columns}
-use Rattle.aig_sim.specs.Outcome.{first_bad_line}
-use Rattle.aig_sim.specs.TraceText.{IsTraceText}
-use Rattle.aig_sim.specs.Witness.{Claim, SaysClaim}
+use Rattle.aig_step.specs.declared.trace.Columns.{Columns}
+use Rattle.aig_step.specs.Outcome.{first_bad_line}
+use Rattle.aig_step.specs.TraceText.{IsTraceText}
+use Rattle.aig_witness.specs.Witness.{Claim, SaysClaim}
 use Rattle.aig_sim.specs.WitnessText.{IsWitnessFile}
 
 -- a stimulus has exactly one trace text over a well-formed circuit, whatever its bytes are

@@ -6,9 +6,9 @@ use Rattle.aig_core.specs.declared.value.Val.{Val}
 use Rattle.aig_meaning.specs.Trace.{IsFirstState}
 use Rattle.aig_text.specs.Lines.{lines_of}
 use Rattle.aig_text.specs.Spelling.{value_of as number_of}
-use Rattle.aig_sim.specs.Stimulus.{text_of}
-use Rattle.aig_sim.specs.TraceText.{values_text}
-use Rattle.aig_sim.specs.Witness.{Claim, is_canonical}
+use Rattle.aig_step.specs.Stimulus.{text_of}
+use Rattle.aig_step.specs.TraceText.{values_text}
+use Rattle.aig_witness.specs.Witness.{Claim, is_canonical}
 
 -- the texts of its lines, where these digits are the number of the bad state
 abbrev pub witness_texts : List ℕ → Claim → List (List ℕ)

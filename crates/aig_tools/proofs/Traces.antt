@@ -6,10 +6,10 @@ use Rattle.aig_core.specs.Wellformed.{IsWellFormed}
 use Rattle.aig_meaning.specs.Meaning.{MeansTheSame}
 use Rattle.aig_meaning.proofs.Same.{same_back}
 use Rattle.aig_command.specs.declared.request.Sim.{Sim}
-use Rattle.aig_sim.specs.declared.trace.Columns.{Columns}
-use Rattle.aig_sim.specs.declared.trace.Columns.TheVariants.{Plain, Properties}
-use Rattle.aig_sim.specs.Outcome.{first_bad_line}
-use Rattle.aig_sim.specs.TraceText.{IsTraceText}
+use Rattle.aig_step.specs.declared.trace.Columns.{Columns}
+use Rattle.aig_step.specs.declared.trace.Columns.TheVariants.{Plain, Properties}
+use Rattle.aig_step.specs.Outcome.{first_bad_line}
+use Rattle.aig_step.specs.TraceText.{IsTraceText}
 use Rattle.aig_sim.proofs.OneText.{one_trace_text}
 use Rattle.aig_sim.proofs.SameTexts.{same_meaning_same_text}
 use Rattle.aig_tools.specs.File.{IsFileOf}

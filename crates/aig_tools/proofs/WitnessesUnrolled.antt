@@ -10,7 +10,7 @@ use Rattle.aig_core.specs.declared.value.Val.TheVariants.{Zero, One}
 use Rattle.aig_core.specs.Values.{value_and}
 use Rattle.aig_meaning.specs.Meaning.{IsRow, Row, literal_value}
 use Rattle.aig_meaning.specs.Trace.{Follow, IsTrace}
-use Rattle.aig_sim.specs.Witness.{Holds, IsBad, IsConfirmedAt}
+use Rattle.aig_witness.specs.Witness.{Holds, IsBad, IsConfirmedAt}
 use Rattle.aig_tools.specs.Laws.{ConfirmedWitnessesSetUnrolledCircuits}
 use Rattle.aig_unroll.specs.Unrolled.{IsUnrolled}
 use Rattle.aig_unroll.specs.SideBySide.{and_all, bad_side_by_side, side_by_side}

@@ -10,8 +10,8 @@ use Rattle.aig_command.specs.declared.request.ToAig.{ToAig}
 use Rattle.aig_command.specs.declared.request.Unroll.{Unroll}
 use Rattle.aig_command.specs.declared.usage.Usage.{Usage}
 use Rattle.aig_command.specs.declared.usage.Usage.TheVariants as usages
-use Rattle.aig_sim.specs.declared.verdict.Verdict.{Verdict}
-use Rattle.aig_sim.specs.declared.verdict.Verdict.TheVariants.{Confirmed, NotConfirmed}
+use Rattle.aig_witness.specs.declared.verdict.Verdict.{Verdict}
+use Rattle.aig_witness.specs.declared.verdict.Verdict.TheVariants.{Confirmed, NotConfirmed}
 use Rattle.aig_tools.specs.declared.fault.ToolFault.{ToolFault}
 use Rattle.aig_tools.specs.Devices.{FilesByName, SinkUse, SourceUse}
 use Rattle.aig_tools.specs.Messages.{error_line, line_of, IsReported, simulation_error_line, usage_text}

@@ -17,9 +17,9 @@ use Rattle.aig_command.specs.declared.request.Unroll.{Unroll}
 use Rattle.aig_meaning.specs.Meaning.{Row}
 use Rattle.aig_meaning.specs.Trace.{IsTrace}
 use Rattle.aig_core.specs.declared.value.Val.TheVariants.{Zero, One}
-use Rattle.aig_sim.specs.declared.verdict.Verdict.TheVariants.{Confirmed}
-use Rattle.aig_sim.specs.Outcome.{first_bad_line}
-use Rattle.aig_sim.specs.Witness.{Claim, IsVerdict}
+use Rattle.aig_witness.specs.declared.verdict.Verdict.TheVariants.{Confirmed}
+use Rattle.aig_step.specs.Outcome.{first_bad_line}
+use Rattle.aig_witness.specs.Witness.{Claim, IsVerdict}
 use Rattle.aig_unroll.specs.SideBySide.{inputs_side_by_side}
 use Rattle.aig_unroll.specs.Unrolled.{IsTooLarge, IsUnrolled, IsUnsupported}
 use Rattle.aig_tools.specs.File.{IsFileOf, file_reading, first_fault}

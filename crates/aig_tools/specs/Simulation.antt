@@ -3,10 +3,10 @@
 use Rattle.std.specs.Prelude.{◌≡◌, ℕ, List, true, None, if◌then◌else◌}
 use Rattle.aig_core.specs.declared.circuit.Circuit.{Circuit}
 use Rattle.aig_command.specs.declared.request.Sim.{Sim}
-use Rattle.aig_sim.specs.declared.trace.Columns.{Columns}
-use Rattle.aig_sim.specs.declared.trace.Columns.TheVariants.{Plain, Properties}
-use Rattle.aig_sim.specs.Outcome.{first_bad_line}
-use Rattle.aig_sim.specs.TraceText.{IsTraceText}
+use Rattle.aig_step.specs.declared.trace.Columns.{Columns}
+use Rattle.aig_step.specs.declared.trace.Columns.TheVariants.{Plain, Properties}
+use Rattle.aig_step.specs.Outcome.{first_bad_line}
+use Rattle.aig_step.specs.TraceText.{IsTraceText}
 use Rattle.aig_tools.specs.File.{IsFileOf}
 
 -- which columns the lines of the trace have

@@ -6,11 +6,11 @@ use Rattle.aig_io.specs.Transfer.{GaveAll}
 use Rattle.aig_core.specs.declared.circuit.Circuit.{Circuit}
 use Rattle.aig_command.specs.Answer.{name_of}
 use Rattle.aig_command.specs.declared.request.Sim.{Sim}
-use Rattle.aig_sim.specs.declared.fault.SimFault.{SimFault}
-use Rattle.aig_sim.specs.declared.fault.SimFault.TheVariants as sim_faults
-use Rattle.aig_sim.specs.Batched.{NotBatched}
-use Rattle.aig_sim.specs.Outcome.{NotSimulated, sink_failures, source_failures}
-use Rattle.aig_sim.specs.declared.verdict.Verdict.{Verdict}
+use Rattle.aig_step.specs.declared.fault.SimFault.{SimFault}
+use Rattle.aig_step.specs.declared.fault.SimFault.TheVariants as sim_faults
+use Rattle.aig_batch.specs.Batched.{NotBatched}
+use Rattle.aig_step.specs.Outcome.{NotSimulated, sink_failures, source_failures}
+use Rattle.aig_witness.specs.declared.verdict.Verdict.{Verdict}
 use Rattle.aig_tools.specs.declared.fault.ToolFault.{ToolFault}
 use Rattle.aig_tools.specs.declared.fault.ToolFault.TheVariants as faults
 use Rattle.aig_tools.specs.Devices.{FilesByName, IsSentInBlocks, OfSource, SinkUse, SourceUse}

@@ -3,9 +3,9 @@
 use Rattle.std.specs.Prelude.{◌≡◌, ◌++◌, ℕ, List, None, codes, decimal, true}
 use Rattle.aig_core.specs.declared.circuit.Circuit.{Circuit}
 use Rattle.aig_command.specs.declared.request.Sim.{Sim}
-use Rattle.aig_sim.specs.declared.verdict.Verdict.{Verdict}
-use Rattle.aig_sim.specs.declared.verdict.Verdict.TheVariants.{Confirmed, NotConfirmed}
-use Rattle.aig_sim.specs.Witness.{Claim, IsVerdict, SaysClaim, first_bad_witness_line}
+use Rattle.aig_witness.specs.declared.verdict.Verdict.{Verdict}
+use Rattle.aig_witness.specs.declared.verdict.Verdict.TheVariants.{Confirmed, NotConfirmed}
+use Rattle.aig_witness.specs.Witness.{Claim, IsVerdict, SaysClaim, first_bad_witness_line}
 use Rattle.aig_tools.specs.File.{IsFileOf}
 
 -- the line of a verdict

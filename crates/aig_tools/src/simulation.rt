@@ -1,9 +1,9 @@
 //! `aigsim`: simulation of AIGER files.
 ghost use Rattle.std.specs.Prelude.{◌≡◌, ◌≢◌, ◌+◌, ◌-◌, ◌^◌, ◌<◌, ◌≤◌, max, IfErr, OnOk, true, false};
 ghost use Rattle.aig_io.specs.declared.block.TheConstants.{ROOM};
-ghost use Rattle.aig_sim.specs.declared.fault.SimFault.TheVariants.{OutOfMemory, WriteFailed};
-ghost use Rattle.aig_sim.specs.Batched.{NotBatched};
-ghost use Rattle.aig_sim.specs.Outcome.{NotSimulated, Simulated, sink_failures, source_failures};
+ghost use Rattle.aig_step.specs.declared.fault.SimFault.TheVariants.{OutOfMemory, WriteFailed};
+ghost use Rattle.aig_batch.specs.Batched.{NotBatched};
+ghost use Rattle.aig_step.specs.Outcome.{NotSimulated, Simulated, sink_failures, source_failures};
 ghost use Rattle.aig_tools.specs.Devices.{sink_use, source_use};
 ghost use Rattle.aig_tools.specs.Simulation.{columns_of};
 ghost use Rattle.aig_tools.specs.SimulationOutcome.{NotTraced, Traced};

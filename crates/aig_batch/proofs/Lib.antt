@@ -1,0 +1,4 @@
+pub mod Batching
+pub mod Collecting
+pub mod Judging
+pub mod Side

@@ -1,0 +1,109 @@
+-- The front of a stimulus, group by group.
+use Rattle.std.proofs.Common.{rules}
+use Rattle.std.proofs.Common.{◌≡◌, ◌++◌, ◌∷◌, ◌∙◌, ℕ, List, [], ap, append-nil, codes, length, map, refl, sym, subst}
+use Rattle.std.proofs.Common.{true}
+use Rattle.std.specs.List.{AllZip, flat_map}
+use Rattle.aig_core.specs.declared.circuit.Circuit.{Circuit}
+use Rattle.aig_core.specs.declared.value.Val.{Val}
+use Rattle.aig_meaning.specs.Meaning.{MeansTheSame, Row}
+use Rattle.aig_meaning.specs.Trace.{Follow}
+use Rattle.aig_lanes.specs.declared.run.Run.{Run}
+use Rattle.aig_step.specs.declared.trace.Columns.{Columns}
+use Rattle.aig_step.specs.Stimulus.{Entry, Step, Stop}
+use Rattle.aig_step.specs.TraceText.{row_text, rows_text}
+use Rattle.aig_lanes.specs.Parts.LaneTexts.{IsTextOf}
+use Rattle.aig_trace.specs.Parts.Progress.{Goes, Point, begin_of}
+use Rattle.aig_batch.specs.Parts.RunsRead.{IsFront, PutRuns, Says, entries_of_group, entries_of_groups}
+use Rattle.aig_batch.specs.Parts.RunsRead.{entries_of_run, text_of_group}
+use Rattle.aig_io.specs.Output.{Out, Put}
+use Rattle.aig_io.proofs.Puts.{put_twice}
+use Rattle.std.proofs.lemmas.List.Concat.{flat_map-append}
+use Rattle.aig_trace.proofs.Going.{goes_on, goes_over}
+use Rattle.aig_trace.proofs.Taking.{begin_same, does_same}
+
+-- a trace is a way
+goes_rows : (c : Circuit) (columns : Columns) (p : Point) (vectors : List (List Val)) (rows : List Row)
+    → Follow c p.state vectors rows → (q : Point) × Goes c columns p (map Step vectors) q (rows_text columns rows)
+goes_rows c columns p [] [] follow = (p, (refl, refl))
+goes_rows c columns p [] (row ∷ rows) follow = absurd follow
+goes_rows c columns p (vector ∷ vectors) [] follow = absurd follow
+goes_rows c columns p (vector ∷ vectors) (row ∷ rows) follow =
+    let next : Point = record { state = row.next; has_step = true } in
+    let later = goes_rows c columns next vectors rows follow.3 in (
+      later.0,
+      (
+        next,
+        row_text columns row,
+        rows_text columns rows,
+        record {
+          row = row;
+          is_row = follow.2;
+          from = follow.0;
+          inputs = follow.1;
+          leads = refl;
+          is = refl;
+        },
+        later.1,
+        refl,
+      ),
+    )
+
+-- the way of a run and its end
+goes_run : (c : Circuit) (columns : Columns) (run : Run) (text : List ℕ) → IsTextOf columns c run text
+    → Goes c columns (begin_of c) (entries_of_run run) (begin_of c) (text ++ codes ".\n")
+goes_run c columns run text is =
+    let way = goes_rows c columns (begin_of c) run.steps is.rows is.traced.1 in
+    goes_on c columns (begin_of c) way.0 (begin_of c) (map Step run.steps) Stop text (codes ".\n")
+    (subst (λ (t : List ℕ). Goes c columns (begin_of c) (map Step run.steps) way.0 t) (sym is.is) way.1)
+    (refl, refl)
+
+-- and of runs
+goes_runs : (c : Circuit) (columns : Columns) (runs : List Run) (texts : List (List ℕ))
+    → AllZip (IsTextOf columns c) runs texts
+    → Goes c columns (begin_of c) (flat_map entries_of_run runs) (begin_of c)
+    (flat_map (λ (text : List ℕ). text ++ codes ".\n") texts)
+goes_runs c columns [] [] each = (refl, refl)
+goes_runs c columns [] (text ∷ texts) each = absurd each
+goes_runs c columns (run ∷ runs) [] each = absurd each
+goes_runs c columns (run ∷ runs) (text ∷ texts) each =
+    goes_over c columns (begin_of c) (begin_of c) (begin_of c) (entries_of_run run) (flat_map entries_of_run runs)
+    (text ++ codes ".\n") (flat_map (λ (t : List ℕ). t ++ codes ".\n") texts) (goes_run c columns run text each.0)
+    (goes_runs c columns runs texts each.1)
+
+-- the text for one more group
+pub put_more : {W : Type 0} (c : Circuit) (columns : Columns) (groups : List (List Run)) (runs : List Run)
+    (texts : List (List ℕ)) (before between after : Out W) → PutRuns c columns groups before between
+    → AllZip (IsTextOf columns c) runs texts → Put between after (text_of_group texts)
+    → PutRuns c columns (groups ++ runs ∷ []) before after
+put_more c columns groups runs texts before between after so_far each put = record {
+  text = so_far.text ++ text_of_group texts;
+  put = put_twice before between after so_far.text (text_of_group texts) so_far.put put;
+  goes =
+      let entries : entries_of_groups (groups ++ runs ∷ []) ≡ entries_of_groups groups ++ entries_of_group runs =
+      flat_map-append entries_of_group groups (runs ∷ [])
+      ∙ ap (λ (es : List Entry). entries_of_groups groups ++ es) (append-nil (entries_of_group runs)) in
+      subst (λ (es : List Entry). Goes c columns (begin_of c) es (begin_of c) (so_far.text ++ text_of_group texts))
+      (sym entries)
+      (goes_over c columns (begin_of c) (begin_of c) (begin_of c) (entries_of_groups groups) (entries_of_group runs)
+      so_far.text (text_of_group texts) so_far.goes (goes_runs c columns runs texts each));
+}
+
+-- of circuits that mean the same
+goes_same : (c d : Circuit) (columns : Columns) (p q : Point) (es : List Entry) (text : List ℕ) → MeansTheSame c d
+    → Goes d columns p es q text → Goes c columns p es q text
+goes_same c d columns p q [] text means goes = goes
+goes_same c d columns p q (e ∷ es) text means (between, front, rest, does, goes, joined) = (
+  between,
+  front,
+  rest,
+  does_same c d columns p between e front means does,
+  goes_same c d columns between q es rest means goes,
+  joined,
+)
+
+-- what was read and the text for it
+pub front_of : (c d : Circuit) (columns : Columns) (bytes : List ℕ) (groups : List (List Run)) (lines : ℕ)
+    (rest text : List ℕ) → MeansTheSame c d → Says (length c.inputs) bytes lines (entries_of_groups groups) rest
+    → Goes d columns (begin_of d) (entries_of_groups groups) (begin_of d) text
+    → IsFront c columns bytes text lines rest
+front_of c d columns bytes groups lines rest text means says goes = search (rules, begin_same, goes_same)

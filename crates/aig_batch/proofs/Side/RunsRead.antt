@@ -1,0 +1,168 @@
+-- Runs that are read at the front of a stimulus.
+use Rattle.std.proofs.Common.{rules}
+use Rattle.std.proofs.Common.{◌≡◌, ◌+◌, ◌*◌, ◌≤◌, ◌==◌, ◌&&◌, ◌++◌, ◌∷◌, Bool, false, ℕ, List, [], Option, Some}
+use Rattle.std.proofs.Common.{if◌then◌else◌, is_some, length, take, drop, refl, sym, ap}
+use Rattle.std.proofs.Common.{subst, ◌∙◌, append_assoc, append-nil, arith}
+use Rattle.std.proofs.Common.{bytes_eq, codes, map, true}
+use Rattle.std.proofs.lemmas.Bool.{eq-eqb}
+use Rattle.std.specs.List.{flat_map}
+use Rattle.std.proofs.lemmas.List.{drop-drop, length-append, length-drop, map-append, take-append-le}
+use Rattle.std.proofs.lemmas.List.Concat.{flat_map-append}
+use Rattle.memchr.specs.Find.{IsFirstByte, is_byte}
+use Rattle.aig_core.specs.declared.value.Val.{Val}
+use Rattle.aig_lanes.specs.declared.run.Run.{Run}
+use Rattle.aig_step.specs.Stimulus.{Entry, Step, Stop, entry_in, values_of, without_return}
+use Rattle.aig_step.specs.Parts.Lines.{vector_in}
+use Rattle.aig_batch.specs.Parts.RunsRead.{Says, entries_of_run}
+use Rattle.aig_step.specs.Parts.Seen.{IsHeard}
+use Rattle.aig_lanes.specs.Parts.Vectors.{AreVectors, said, vectors_in}
+use Rattle.aig_step.proofs.EntryTexts.{kept_first, values_length}
+use Rattle.aig_trace.proofs.Heard.{heard_line}
+use Rattle.aig_step.proofs.LineValues.{vector_long, vector_says}
+use Rattle.aig_lanes.proofs.Side.Vectors.{more_vectors, vectors_push}
+use Rattle.aig_step.proofs.WholeLines.{first_line}
+
+-- no line
+pub says_none : (inputs : ℕ) (bytes : List ℕ) → Says inputs bytes 0 [] bytes
+says_none inputs bytes = search (rules, append-nil)
+
+-- lines behind lines
+pub says_then : (inputs : ℕ) (bytes mid rest : List ℕ) (m n : ℕ) (es fs : List Entry) → Says inputs bytes m es mid
+    → Says inputs mid n fs rest → Says inputs bytes (m + n) (es ++ fs) rest
+says_then inputs bytes mid rest m n es fs p q = record {
+  passed = p.passed ++ q.passed;
+  parted = p.parted ∙ ap (λ (t : List ℕ). p.passed ++ t) q.parted ∙ sym (append_assoc p.passed q.passed rest);
+  few = omega (arith, p.few, q.few);
+  heard = λ front count before is.
+      let sum : count + m + n ≡ count + (m + n) = omega arith in
+      let both = q.heard (front ++ p.passed) (count + m) (before ++ es) (p.heard front count before is) in
+      subst (λ (k : ℕ). IsHeard inputs (front ++ (p.passed ++ q.passed)) k [] (before ++ (es ++ fs))) sum
+      (subst (λ (gs : List Entry). IsHeard inputs (front ++ (p.passed ++ q.passed)) (count + m + n) [] gs)
+      (append_assoc before es fs)
+      (subst (λ (bs : List ℕ). IsHeard inputs bs (count + m + n) [] ((before ++ es) ++ fs))
+      (append_assoc front p.passed q.passed) both));
+}
+
+-- one line
+pub says_line : (inputs : ℕ) (bytes : List ℕ) (next : ℕ) (e : Entry)
+    → IsFirstByte (is_byte 10) bytes (Some next)
+    → entry_in inputs (without_return (take next bytes)) ≡ Some e
+    → Says inputs bytes 1 (e ∷ []) (drop 1 (drop next bytes))
+says_line inputs bytes next e found is =
+    let cut = first_line bytes next found in
+    let piece = take next bytes in
+    let rest = drop 1 (drop next bytes) in
+    record {
+      passed = piece ++ 10 ∷ [];
+      parted = cut.1 ∙ sym (append_assoc piece (10 ∷ []) rest);
+      few = omega (arith, ap length cut.1, length-append piece (10 ∷ rest));
+      heard = λ front count before heard. heard_line inputs front count [] before heard piece e cut.0 is;
+    }
+
+-- a line that ends a run
+stop_says : (inputs : ℕ) (text : List ℕ) → bytes_eq text (codes ".") ≡ true → entry_in inputs text ≡ Some Stop
+stop_says inputs text is = rw is refl
+
+-- as many characters as inputs
+pub vector_is : (inputs : ℕ) (text : List ℕ) → length text ≡ inputs → vector_in inputs text ≡ values_of text
+vector_is inputs text long = rw (eq-eqb (length text) inputs long) refl
+
+module _ (inputs : ℕ) (bytes : List ℕ) (steps : List (List Val)) (before rest : List ℕ) (next : ℕ)
+    (says : Says inputs bytes (length steps) (map Step steps) before)
+    (found : IsFirstByte (is_byte 10) before (Some next)) (same : rest ≡ drop 1 (drop next before)) where
+  one_more : (e : Entry) → entry_in inputs (without_return (take next before)) ≡ Some e
+      → Says inputs bytes (length steps + 1) (map Step steps ++ e ∷ []) rest
+  one_more e is =
+      subst (λ (r : List ℕ). Says inputs bytes (length steps + 1) (map Step steps ++ e ∷ []) r) (sym same)
+      (says_then inputs bytes before (drop 1 (drop next before)) (length steps) 1 (map Step steps) (e ∷ []) says
+      (says_line inputs before next e found is))
+
+  -- the run ends
+  pub run_ends : bytes_eq (without_return (take next before)) (codes ".") ≡ true
+      → Says inputs bytes (length steps + 1) (map Step steps ++ Stop ∷ []) rest
+  run_ends is = one_more Stop (stop_says inputs (without_return (take next before)) is)
+
+  -- it has one more step
+  pub one_step : (given : List Val) (now : List (List Val)) → now ≡ steps ++ given ∷ []
+      → vector_in inputs (without_return (take next before)) ≡ Some given
+      → Says inputs bytes (length now) (map Step now) rest
+  one_step given now is said = search (rules, length-append, map-append, one_more, vector_says)
+
+-- a vector has a value for each input
+pub vector_fits : (inputs : ℕ) (text : List ℕ) (given : List Val) → vector_in inputs text ≡ Some given
+    → length given ≡ inputs
+vector_fits inputs text given said =
+    let long = vector_long inputs text given said in
+    values_length text given (sym (vector_is inputs text long) ∙ said) ∙ long
+
+-- one more run
+pub one_run : (inputs : ℕ) (bytes before rest : List ℕ) (lines : ℕ) (runs now : List Run) (run : Run)
+    → now ≡ runs ++ run ∷ [] → Says inputs bytes lines (flat_map entries_of_run runs) before
+    → Says inputs before (length run.steps + 1) (entries_of_run run) rest
+    → Says inputs bytes (lines + (length run.steps + 1)) (flat_map entries_of_run now) rest
+one_run inputs bytes before rest lines runs now run is front next = search (rules, append-nil, flat_map-append, says_then)
+
+last_cut : (p : Bool) (b : ℕ) → (if p then [] else b ∷ []) ≡ take (length (if p then [] else b ∷ [])) (b ∷ [])
+last_cut true b = refl
+last_cut false b = refl
+
+last_shorter : (p : Bool) (b : ℕ) → length (if p then [] else b ∷ []) ≤ 1
+last_shorter true b = omega arith
+last_shorter false b = omega arith
+
+-- the text of a line is at its front
+pub text_in_front : (line : List ℕ) → without_return line ≡ take (length (without_return line)) line
+text_in_front [] = refl
+text_in_front (b ∷ []) = last_cut ((b == 13) && true) b
+text_in_front (a ∷ b ∷ bs) =
+    kept_first a b bs
+    ∙ ap (λ (t : List ℕ). a ∷ t) (text_in_front (b ∷ bs))
+    ∙ ap (λ (t : List ℕ). take (length t) (a ∷ b ∷ bs)) (sym (kept_first a b bs))
+
+pub text_shorter : (line : List ℕ) → length (without_return line) ≤ length line
+text_shorter [] = omega arith
+text_shorter (b ∷ []) = last_shorter ((b == 13) && true) b
+text_shorter (a ∷ b ∷ bs) = omega (arith, ap length (kept_first a b bs), text_shorter (b ∷ bs))
+
+one_more_step : (n size : ℕ) → (n + 1) * size ≡ n * size + size
+one_more_step n size = omega arith
+
+-- a line that says a step stands where the next one of its run is due
+module _ (inputs stride steps next : ℕ) (bytes rest : List ℕ) (vector : List Val)
+    (are : AreVectors inputs stride steps bytes) (rest_is : rest ≡ drop (steps * stride) bytes)
+    (found : IsFirstByte (is_byte 10) rest (Some next)) (long : next + 1 ≡ stride)
+    (says : vector_in inputs (without_return (take next rest)) ≡ Some vector) where
+  abbrev text : List ℕ
+  text = without_return (take next rest)
+
+  fits : length text ≡ inputs
+  fits = vector_long inputs text vector says
+
+  cut : rest ≡ take next rest ++ 10 ∷ drop 1 (drop next rest)
+  cut = (first_line rest next found).1
+
+  enough : inputs ≤ length (take next rest)
+  enough = omega (arith, fits, text_shorter (take next rest))
+
+  text_there : take inputs (drop (steps * stride) bytes) ≡ text
+  text_there =
+      ap (take inputs) (sym rest_is ∙ cut)
+      ∙ take-append-le inputs (take next rest) (10 ∷ drop 1 (drop next rest)) enough
+      ∙ ap (λ n. take n (take next rest)) (sym fits) ∙ sym (text_in_front (take next rest))
+
+  values_there : values_of (take inputs (drop (steps * stride) bytes)) ≡ Some vector
+  values_there = ap values_of text_there ∙ sym (vector_is inputs text fits) ∙ says
+
+  pub vectors_more : AreVectors inputs stride (steps + 1) bytes
+  vectors_more = search (rules, more_vectors, enough, cut, length-append, length-drop, is_some, values_there)
+
+  pub vectors_are : vectors_in inputs stride (steps + 1) bytes ≡ vectors_in inputs stride steps bytes ++ vector ∷ []
+  vectors_are =
+      vectors_push inputs stride steps bytes
+      ∙ ap (λ (o : Option (List Val)). vectors_in inputs stride steps bytes ++ said o ∷ []) values_there
+
+  pub rest_more : drop 1 (drop next rest) ≡ drop ((steps + 1) * stride) bytes
+  rest_more =
+      let sum : steps * stride + stride ≡ (steps + 1) * stride = omega (arith, one_more_step steps stride) in
+      drop-drop 1 next rest ∙ ap (λ n. drop n rest) long ∙ ap (drop stride) rest_is
+      ∙ drop-drop stride (steps * stride) bytes ∙ ap (λ n. drop n bytes) sum

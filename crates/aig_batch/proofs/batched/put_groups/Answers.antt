@@ -1,0 +1,38 @@
+use Rattle.std.proofs.Common.{◌≡◌, ◌∙◌, ◌+◌, ◌++◌, ◌∷◌, List, [], ap, get_or, length, subst, sym, take}
+use Rattle.std.proofs.lemmas.List.{take_more}
+use Rattle.aig_lanes.specs.declared.run.Run.{Run}
+use Rattle.aig_batch.specs.Parts.Benches.{HasRoomFor}
+use Rattle.aig_batch.specs.Parts.RunsRead.{PutRuns, kept_texts}
+use Rattle.aig_batch.proofs.Side.Fronts.{put_more}
+use Rattle.aig_batch.proofs.Side.Rooms.{room_stays}
+use Rattle.aig_batch.proofs.Side.TextGroups.{zipped_texts}
+use Rattle.aig_batch.proofs.batched.put_groups.Goals as goal
+
+pub loop-group-preserved : goal.loop-group-preserved
+loop-group-preserved g c =
+    let machine = c.args.machine.now in
+    let columns = c.args.columns in
+    let groups = c.args.groups.now in
+    let i = c.loop-group.group-index in
+    let runs = c.as_slice.result.now in
+    let shown = c.run.new.self.shown in
+    let is_group : runs ≡ get_or groups i c.group-item.result = c.as_slice.ensures ∙ c.group-item.is in
+    let now : take (i + 1) groups ≡ take i groups ++ runs ∷ [] =
+    take_more groups i c.group-item.result c.loop-group-test.true
+    ∙ ap (λ (r : List Run). take i groups ++ r ∷ []) (sym is_group) in
+    record {
+      is = c.run.ensures.is;
+      room = λ k d below.
+          room_stays c.loop-group.bench c.run.new.self (get_or groups k d) c.run.ensures.same
+          (c.loop-group.invariant.room k d below);
+      put =
+          subst (λ (gs : List (List Run)). PutRuns machine columns gs c.args.output.now c.run.new.output) (sym now)
+          (put_more machine columns (take i groups) runs (kept_texts columns runs (length runs) shown)
+          c.args.output.now c.loop-group.output c.run.new.output c.loop-group.invariant.put
+          (zipped_texts columns machine runs shown c.run.ensures.texts) c.run.ensures.put);
+    }
+
+pub run-requires-clause-room : goal.run-requires-clause-room
+run-requires-clause-room g c =
+    subst (HasRoomFor c.loop-group.bench) (sym (c.as_slice.ensures ∙ c.group-item.is))
+    (c.loop-group.invariant.room c.loop-group.group-index c.group-item.result c.loop-group-test.true)

@@ -1,0 +1,12 @@
+use Rattle.std.specs.Prelude.{take}
+use Rattle.std.specs.List.{All}
+use Rattle.aig_batch.specs.Parts.Benches.{HasRoomFor, IsBench}
+use Rattle.aig_batch.specs.Parts.RunsRead.{PutRuns}
+use Rattle.aig_batch.proofs.batched.put_groups.Given as goal
+
+abbrev pub invariant-loop-group : goal.invariant-loop-group
+invariant-loop-group g l = record {
+  is : IsBench l.machine l.bench;
+  room : All (HasRoomFor l.bench) l.groups;
+  put : PutRuns l.machine l.columns (take l.group-index l.groups) l.fn.output l.output;
+}

@@ -1,0 +1,72 @@
+use Rattle.std.proofs.Common.{◌≡◌, ◌+◌, ◌∙◌, Err, IfErr, List, Ok, Result, ap, length, subst, sym, ℕ}
+use Rattle.std.specs.List.{All}
+use Rattle.std.proofs.lemmas.Result.{on_ok_weaker}
+use Rattle.aig_core.specs.declared.circuit.Circuit.{Circuit}
+use Rattle.aig_step.specs.declared.fault.SimFault.{SimFault}
+use Rattle.aig_lanes.specs.declared.run.Run.{Run}
+use Rattle.aig_step.specs.Outcome.{sink_failures}
+use Rattle.aig_batch.specs.Parts.Benches.{HasRoomFor}
+use Rattle.aig_batch.specs.Parts.RunsRead.{Says, entries_of_groups}
+use Rattle.aig_trace.specs.Parts.Streaming.{NotTraced}
+use Rattle.aig_batch.proofs.batched.trace_collected.Goals as goal
+
+-- what is said of groups is said where they are passed on
+says_of : (circuit : Circuit) (bytes : List ℕ) (lines : ℕ) (rest : List ℕ) (inputs : ℕ)
+    (groups passed : List (List Run))
+    → inputs ≡ length circuit.inputs → passed ≡ groups → Says inputs bytes lines (entries_of_groups groups) rest
+    → Says (length circuit.inputs) bytes lines (entries_of_groups passed) rest
+says_of circuit bytes lines rest inputs groups passed count same says =
+    subst (λ (n : ℕ). Says n bytes lines (entries_of_groups passed) rest) count
+    (subst (λ (gs : List (List Run)). Says inputs bytes lines (entries_of_groups gs) rest) (sym same) says)
+
+-- what follows from two things that hold of an error
+if_err_too : {A E : Type 0} {K P Q : E → Type 0} (r : Result A E) → ((e : E) → K e → P e → Q e) → IfErr r K
+    → IfErr r P → IfErr r Q
+if_err_too (Ok x) then k p = tt
+if_err_too (Err e) then k p = then e k p
+
+pub returns-clause-ok : goal.returns-clause-ok
+returns-clause-ok g c =
+    let checked = c.args.checked.now in
+    let bytes = c.args.bytes.now in
+    let lines = c.in_ok-groups.lines in
+    let rest = c.in_ok-groups.rest.now in
+    on_ok_weaker c.trace_good.result (λ sent.
+    sent checked bytes c.requires.fresh c.in_ok-machine.ensures.means
+    (says_of checked bytes lines rest c.len-inputs.result c.in_ok-groups.groups.items c.deref-2.result.now
+    (c.len-inputs.ensures ∙ ap (λ (k : Circuit). length k.inputs) c.circuit.ensures.value) c.deref-2.ensures.value
+    c.in_ok-groups.ensures.says) c.requires.none_bad)
+    c.trace_good.ensures.ok
+
+pub returns-clause-err : goal.returns-clause-err
+returns-clause-err g c =
+    let checked = c.args.checked.now in
+    let bytes = c.args.bytes.now in
+    let lines = c.in_ok-groups.lines in
+    let rest = c.in_ok-groups.rest.now in
+    if_err_too c.trace_good.result
+    (λ e kind said.
+    subst (λ (k : SimFault). NotTraced checked c.args.columns bytes k (g.W.Sink.taken c.args.sink.now)
+    (g.W.Sink.taken c.trace_good.new.sink)) (sym kind)
+    (said checked bytes c.requires.fresh c.in_ok-machine.ensures.means
+    (says_of checked bytes lines rest c.len-inputs.result c.in_ok-groups.groups.items c.deref-2.result.now
+    (c.len-inputs.ensures ∙ ap (λ (k : Circuit). length k.inputs) c.circuit.ensures.value) c.deref-2.ensures.value
+    c.in_ok-groups.ensures.says) c.requires.none_bad))
+    c.trace_good.ensures.kind c.trace_good.ensures.err
+
+pub returns-clause-count : goal.returns-clause-count
+returns-clause-count g c =
+    if_err_too c.trace_good.result
+    (λ e kind more. subst (λ (k : SimFault). g.W.Sink.failed c.trace_good.new.sink
+    ≡ g.W.Sink.failed c.args.sink.now + sink_failures k) (sym kind) more)
+    c.trace_good.ensures.kind c.trace_good.ensures.count
+
+pub trace_good-requires-clause-room : goal.trace_good-requires-clause-room
+trace_good-requires-clause-room g c =
+    subst (λ (groups : List (List Run)). All (HasRoomFor c.in_ok-machine.bench) groups)
+    (c.deref.ensures.value ∙ sym c.deref-2.ensures.value) c.in_ok-machine.ensures.room
+
+pub returns-clause-unsent : goal.returns-clause-unsent
+returns-clause-unsent g c =
+    if_err_too c.trace_good.result (λ e kind same not. absurd (not kind)) c.trace_good.ensures.kind
+    c.trace_good.ensures.kind

@@ -1,0 +1,77 @@
+//! Many runs of one circuit.
+ghost use Rattle.std.specs.Prelude.{◌≡◌, ◌++◌, ◌≤◌, IfOk};
+ghost use Rattle.std.specs.List.{All, AllZip};
+ghost use Rattle.aig_lanes.specs.Runs.{IsRunOf, IsTraceOf};
+
+use crate::alone::trace_alone;
+use aig_core::{Checked, Listing, OutOfMemory};
+use aig_lanes::{Run, Trace, trace_group};
+use aig_step::{Machine, Simulator};
+use std::alloc::Global;
+
+/// How many runs are stepped side by side.
+const LANES: usize = 256;
+
+/// So many runs are as fast one after another as side by side.
+const FEW: usize = 8;
+
+/// Adds traces at the end.
+fn append(traces: &mut Vec<Trace>, mut more: Vec<Trace>) -> Result<(), OutOfMemory>
+    ensures { IfOk result (λ _. traces.new.items ≡ traces.old.items ++ more.items) }
+{
+    traces.append(&mut more)?;
+    Ok(())
+}
+
+/// The traces of runs, in their order, group by group.
+fn trace_groups(alloc: Global, machine: &Machine, runs: &[Run]) -> Result<Vec<Trace>, OutOfMemory>
+    requires { All (IsRunOf machine.now) runs.now }
+    ensures { IfOk result (λ traces. AllZip (IsTraceOf machine.now) runs.now traces.items) }
+{
+    let mut traces = Vec::new(alloc);
+    let mut done = 0;
+    while done < runs.len() {
+        let end = runs.len().min(done + LANES);
+        append(&mut traces, trace_group(alloc, machine, &runs[done..end])?)?;
+        done = end;
+    }
+    Ok(traces)
+}
+
+/// How many of so many runs are run one after another: those behind the last full group, where they are few.
+fn count_alone(count: usize) -> usize
+    ensures { result ≤ count }
+{
+    let left = count % LANES;
+    if left < FEW { left } else { 0 }
+}
+
+/// The traces of runs, in their order: groups of them side by side, and a few that are left alone.
+fn trace_runs(
+    alloc: Global,
+    simulator: &mut Simulator,
+    runs: &[Run],
+) -> Result<Listing<Trace>, OutOfMemory>
+    requires { All (IsRunOf simulator.old.circuit) runs.now }
+    ensures { IfOk result (λ traces. AllZip (IsTraceOf simulator.old.circuit) runs.now traces) }
+{
+    let (grouped, rest) = runs.split_at(runs.len() - count_alone(runs.len()));
+    let mut traces = trace_groups(alloc, simulator.machine(), grouped)?;
+    append(&mut traces, trace_alone(alloc, simulator, rest)?)?;
+    Ok(Listing::from_vec(traces))
+}
+
+/// The traces of runs, one for each and in their order: what a `Simulator` shows of a run from the reset state, step by
+/// step. Each run must fit the circuit, as `Run::fits` tells; they may be of any lengths. 256 of them are stepped side
+/// by side. Where an allocation fails there is no trace.
+pub fn simulate_batch(
+    alloc: Global,
+    checked: &Checked,
+    runs: &[Run],
+) -> Result<Listing<Trace>, OutOfMemory>
+    requires { All (IsRunOf checked.now) runs.now }
+    ensures { IfOk result (λ traces. AllZip (IsTraceOf checked.now) runs.now traces) }
+{
+    let mut simulator = Simulator::build(alloc, checked)?;
+    trace_runs(alloc, &mut simulator, runs)
+}

@@ -1,0 +1,150 @@
+//! A simulation that reads the whole stimulus before it sends anything.
+ghost use Rattle.std.specs.Prelude.{◌≡◌, ◌≢◌, ◌+◌, ◌-◌, ◌^◌, ◌<◌, ◌≤◌, ℕ, List, [], IfErr, None};
+ghost use Rattle.std.specs.Prelude.{OnOk, length, max, true};
+ghost use Rattle.std.specs.List.{All};
+ghost use Rattle.aig_core.specs.declared.circuit.Circuit.{Circuit as CircuitRecord};
+ghost use Rattle.aig_io.specs.declared.block.TheConstants.{ROOM};
+ghost use Rattle.aig_step.specs.declared.fault.SimFault.TheVariants.{WriteFailed};
+ghost use Rattle.aig_lanes.specs.declared.run.Run.{Run as RunRecord};
+ghost use Rattle.aig_batch.specs.Batched.{NotBatched};
+ghost use Rattle.aig_step.specs.Outcome.{Simulated, first_bad_line, sink_failures, source_failures};
+ghost use Rattle.aig_batch.specs.Parts.Benches.{Fits, HasRoomFor, IsBench};
+ghost use Rattle.aig_batch.specs.Parts.RunsRead.{PutRuns, Says, entries_of_groups};
+ghost use Rattle.aig_trace.specs.Parts.Streaming.{NotTraced, SentAll, SentInPart};
+ghost use Rattle.aig_trace.specs.Parts.Tracing.{IsFresh};
+ghost use Rattle.aig_lanes.specs.Runs.{IsRunOf};
+ghost use Rattle.aig_meaning.specs.Meaning.{MeansTheSame};
+
+use crate::collected::collect;
+use crate::front::read_front;
+use crate::text_group::{Bench, set_up};
+use aig_core::{Checked, Sink, Source};
+use aig_lanes::RunGroup;
+use aig_step::{Columns, Machine, SimFault};
+use aig_trace::{Gathered, Reader};
+use std::alloc::Global;
+
+/// Puts the texts of groups, one after the other.
+fn put_groups<W: Sink>(
+    output: &mut Gathered<W>,
+    machine: &Machine,
+    columns: Columns,
+    groups: &[RunGroup],
+    bench: &mut Bench,
+)
+    requires lanes { All (λ (runs : List RunRecord). length runs ≤ 256) groups.now }
+    requires fits { All (λ (runs : List RunRecord). All (IsRunOf machine.now) runs) groups.now }
+    requires is { IsBench machine.now bench.old }
+    requires counts { All (All (Fits machine.now)) groups.now }
+    requires room { All (HasRoomFor bench.old) groups.now }
+    ensures { PutRuns machine.now columns groups.now output.old output.new }
+{
+    for group in groups {
+        bench.run(machine, columns, group.as_slice(), output);
+    }
+}
+
+/// Sends the text for the front of a stimulus that has no bad line, and the text for what comes behind it.
+fn trace_good<W: Sink>(
+    reader: &mut Reader,
+    sink: &mut W,
+    machine: &Machine,
+    columns: Columns,
+    groups: &[RunGroup],
+    bench: &mut Bench,
+    lines: usize,
+    rest: &[u8],
+) -> Result<(), SimFault>
+    requires number { reader.old.number ≡ 1 }
+    requires lines { lines + length rest.now < 2 ^ 64 - 1 }
+    requires sink { W.failed sink.old < 2 ^ 64 - 1 }
+    requires lanes { All (λ (runs : List RunRecord). length runs ≤ 256) groups.now }
+    requires fits { All (λ (runs : List RunRecord). All (IsRunOf machine.now) runs) groups.now }
+    requires is { IsBench machine.now bench.old }
+    requires counts { All (All (Fits machine.now)) groups.now }
+    requires room { All (HasRoomFor bench.old) groups.now }
+    ensures ok { OnOk result ((c : CircuitRecord) (bytes : List ℕ) → IsFresh c columns reader.old
+        → MeansTheSame c machine.now
+        → Says (length c.inputs) bytes lines (entries_of_groups groups.now) rest.now
+        → first_bad_line c bytes true ≡ None → SentAll c columns bytes [] (W.taken sink.old) (W.taken sink.new)) }
+    ensures err { IfErr result (λ e. (c : CircuitRecord) (bytes : List ℕ) → IsFresh c columns reader.old
+        → MeansTheSame c machine.now
+        → Says (length c.inputs) bytes lines (entries_of_groups groups.now) rest.now
+        → first_bad_line c bytes true ≡ None
+        → SentInPart c columns bytes true [] (W.taken sink.old) (W.taken sink.new)) }
+    ensures kind { IfErr result (λ e. e ≡ WriteFailed) }
+    ensures ok_count { OnOk result (W.failed sink.new ≡ W.failed sink.old) }
+    ensures count { IfErr result (λ _. W.failed sink.new ≡ W.failed sink.old + 1) }
+    ensures short { W.longest sink.new ≤ max (W.longest sink.old) ROOM }
+{
+    let mut output = Gathered::new(sink);
+    put_groups(&mut output, machine, columns, groups, bench);
+    reader.pass(lines as u64);
+    let _all = reader.take_chunk(&mut output, rest);
+    let _last = reader.take_end(&mut output);
+    let (sent, _sink) = output.finish();
+    if sent.is_err() {
+        return Err(SimFault::WriteFailed);
+    }
+    Ok(())
+}
+
+/// Sends the text for a stimulus that has no bad line. All memory is taken before the first byte is sent.
+fn trace_collected<W: Sink>(
+    alloc: Global,
+    checked: &Checked,
+    columns: Columns,
+    reader: &mut Reader,
+    sink: &mut W,
+    bytes: &[u8],
+) -> Result<(), SimFault>
+    requires number { reader.old.number ≡ 1 }
+    requires fresh { IsFresh checked.now columns reader.old }
+    requires none_bad { first_bad_line checked.now bytes.now true ≡ None }
+    requires sink { W.failed sink.old < 2 ^ 64 - 1 }
+    ensures ok { OnOk result (SentAll checked.now columns bytes.now [] (W.taken sink.old) (W.taken sink.new)) }
+    ensures err { IfErr result (λ e. NotTraced checked.now columns bytes.now e (W.taken sink.old) (W.taken sink.new)) }
+    ensures unsent { IfErr result (λ e. e ≢ WriteFailed → sink.new ≡ sink.old) }
+    ensures ok_count { OnOk result (W.failed sink.new ≡ W.failed sink.old) }
+    ensures count { IfErr result (λ e. W.failed sink.new ≡ W.failed sink.old + sink_failures e) }
+    ensures kind { IfErr result (λ e. source_failures e ≡ 0) }
+    ensures short { W.longest sink.new ≤ max (W.longest sink.old) ROOM }
+{
+    let inputs = checked.circuit().inputs.len();
+    let (groups, lines, rest) = read_front(alloc, inputs, bytes)?;
+    let (machine, mut bench) = set_up(alloc, checked, &groups)?;
+    trace_good(
+        reader, sink, &machine, columns, &groups, &mut bench, lines, rest,
+    )
+}
+
+/// Simulates a circuit over a stimulus text, and writes the trace text, as `simulate` does; but the whole stimulus is
+/// read, and each line of it found good, before anything is sent. All memory is taken before that too: beside the
+/// stimulus that of what is kept of 256 runs, which are stepped side by side. That is faster than `simulate` from some
+/// hundred gates on.
+// Not built into its callers, whose stack would then hold the rooms for lines several times over.
+#[inline(never)]
+pub fn simulate_batched<R: Source, W: Sink>(
+    alloc: Global,
+    checked: &Checked,
+    columns: Columns,
+    source: &mut R,
+    sink: &mut W,
+) -> Result<(), SimFault>
+    requires source { R.failed source.old < 2 ^ 64 - 1 }
+    requires sink { W.failed sink.old < 2 ^ 64 - 1 }
+    ensures ok { OnOk result (Simulated checked.now columns (R.coming source.old) (R.coming source.new)
+        (W.taken sink.old) (W.taken sink.new)) }
+    ensures err { IfErr result (λ error. NotBatched checked.now columns error
+        (R.coming source.old) (R.coming source.new) (W.taken sink.old) (W.taken sink.new)) }
+    ensures unsent { IfErr result (λ error. error ≢ WriteFailed → sink.new ≡ sink.old) }
+    ensures ok_counts { OnOk result ((R.failed source.new ≡ R.failed source.old)
+        × (W.failed sink.new ≡ W.failed sink.old)) }
+    ensures source_count { IfErr result (λ error. R.failed source.new ≡ R.failed source.old + source_failures error) }
+    ensures sink_count { IfErr result (λ error. W.failed sink.new ≡ W.failed sink.old + sink_failures error) }
+    ensures short { W.longest sink.new ≤ max (W.longest sink.old) ROOM }
+{
+    let mut reader = Reader::new(alloc, checked, columns)?;
+    let bytes = collect(alloc, checked, source)?;
+    trace_collected(alloc, checked, columns, &mut reader, sink, &bytes)
+}

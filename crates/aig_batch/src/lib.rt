@@ -1,0 +1,36 @@
+//! Many runs: a whole stimulus that is read first and stepped side by side, and runs without texts.
+//!
+//! Others call `simulate_batched`, which reads a stimulus to its end, and `simulate_batch`, which
+//! makes the traces of runs.
+//!
+//! Modules, of a whole stimulus:
+//! - `entry`, `line_feed`: whether a line is good; the first line feed, looked for at one place
+//!   first.
+//! - `collected`: the stimulus, judged line by line while it comes.
+//! - `front`, `runs_read`: the runs at its front.
+//! - `text_group`: what groups of runs are stepped in, and their texts, written run by run.
+//! - `batched`: `simulate_batched`.
+//!
+//! Of runs without texts:
+//! - `alone`: runs one after another.
+//! - `batch`: `simulate_batch`.
+//!
+//! Definitions (`specs/`):
+//! - `Batched`: what came of it where the whole stimulus is read first.
+//! - `Parts`: what only private functions cite.
+//!
+//! Lemmas (`proofs/`), beside the folders that are named after modules: `Side` (runs side by side).
+#![tactic(auto)]
+
+mod alone;
+mod batch;
+mod batched;
+mod collected;
+mod entry;
+mod front;
+mod line_feed;
+mod runs_read;
+mod text_group;
+
+pub use crate::batch::simulate_batch;
+pub use crate::batched::simulate_batched;

@@ -1,0 +1,135 @@
+-- The characters of literals in all lanes.
+use Rattle.std.proofs.Common.{rules}
+use Rattle.std.proofs.Common.{◌≡◌, ◌≢◌, ◌+◌, ◌*◌, ◌/◌, ◌%◌, ◌^◌, ◌<◌, ◌≤◌, ◌++◌, ℕ, zero, suc, List, [], ◌∷◌}
+use Rattle.std.proofs.Common.{drop, length, get_or, set, take, refl, sym, ap, ap₂, ◌∙◌, arith}
+use Rattle.std.proofs.lemmas.Bool.{cases_lt}
+use Rattle.std.proofs.Math.Nat.{add-mul, mul-le-mul_right, one-mul}
+use Rattle.std.proofs.lemmas.List.{drop-take, get_or-set_other, get_or-set_same, map-append, take-take, take_all}
+use Rattle.std.proofs.lemmas.List.{take_more, take_more_set}
+use Rattle.std.proofs.lemmas.Nat.{pow_below, pow_pos, shr-shr}
+use Rattle.std.proofs.lemmas.Nat.Bits.{and_pow, bit_at_and, bit_at_ones, bit_at-lt}
+use Rattle.std.specs.Int.{bit_at}
+use Rattle.std.specs.Int.Bits.{bit_and}
+use Rattle.std.specs.Simd.Lanes.{zip2}
+use Rattle.aig_core.specs.declared.value.Val.{Val}
+use Rattle.aig_core.specs.declared.value.Val.TheVariants.{Zero, One, X}
+use Rattle.aig_lanes.specs.Parts.Lanes.{IsPair, bit_in}
+use Rattle.std.proofs.lemmas.Simd.{length-zip2}
+use Rattle.aig_lanes.specs.Parts.Sheets.{OctetText, character_by, octet_text}
+use Rattle.aig_lanes.proofs.Side.Vectors.{one_more}
+use Rattle.aig_step.specs.TraceText.{character_of, values_text}
+
+-- one more is put into both lists
+pub zip_set : (f : ℕ → ℕ → ℕ) (xs ys : List ℕ) (i a b : ℕ)
+    → zip2 f (set xs i a) (set ys i b) ≡ set (zip2 f xs ys) i (f a b)
+zip_set f [] ys i a b = refl
+zip_set f (x ∷ xs) [] zero a b = refl
+zip_set f (x ∷ xs) [] (suc i) a b = refl
+zip_set f (x ∷ xs) (y ∷ ys) zero a b = refl
+zip_set f (x ∷ xs) (y ∷ ys) (suc i) a b = ap (λ (zs : List ℕ). f x y ∷ zs) (zip_set f xs ys i a b)
+
+-- a part of both lists
+pub zip_take : (f : ℕ → ℕ → ℕ) (n : ℕ) (xs ys : List ℕ) → zip2 f (take n xs) (take n ys) ≡ take n (zip2 f xs ys)
+zip_take f zero xs ys = refl
+zip_take f (suc n) [] ys = refl
+zip_take f (suc n) (x ∷ xs) [] = refl
+zip_take f (suc n) (x ∷ xs) (y ∷ ys) = ap (λ (zs : List ℕ). f x y ∷ zs) (zip_take f n xs ys)
+
+zip_none : (f : ℕ → ℕ → ℕ) (xs : List ℕ) → zip2 f xs [] ≡ []
+zip_none f [] = refl
+zip_none f (x ∷ xs) = refl
+
+pub zip_drop : (f : ℕ → ℕ → ℕ) (n : ℕ) (xs ys : List ℕ) → zip2 f (drop n xs) (drop n ys) ≡ drop n (zip2 f xs ys)
+zip_drop f zero xs ys = refl
+zip_drop f (suc n) [] ys = refl
+zip_drop f (suc n) (x ∷ xs) [] = zip_none f (drop n xs)
+zip_drop f (suc n) (x ∷ xs) (y ∷ ys) = zip_drop f n xs ys
+
+-- a byte of a word has its bits
+pub byte_bit : (word shift k : ℕ) → k < 8 → bit_at (bit_and (word / 2 ^ shift) 255) k ≡ bit_at word (shift + k)
+byte_bit word shift k below =
+    let all : bit_at 255 k ≡ 1 = bit_at_ones 8 k below in
+    let moved : bit_at (word / 2 ^ shift) k ≡ bit_at word (shift + k) = ap (λ n. n % 2) (shr-shr word shift k) in
+    omega (arith, bit_at_and (word / 2 ^ shift) 255 k, all, moved, bit_at-lt word (shift + k))
+
+-- the character of a lane of two planes
+pub pair_character : (l : ℕ) (high low : List ℕ) (x : Val) → IsPair l high low x
+    → character_by (bit_in l high) (bit_in l low) ≡ character_of x
+pair_character l high low Zero is = ap₂ character_by is.one_bit is.zero_bit
+pair_character l high low One is = ap₂ character_by is.one_bit is.zero_bit
+pair_character l high low X is = ap₂ character_by is.one_bit is.zero_bit
+
+-- one more value is shown
+pub shown_more : (i : ℕ) (text : List ℕ) (shown : List Val) (c : ℕ) (x : Val) → i < length text → i < length shown
+    → take i text ≡ values_text (take i shown) → c ≡ character_of x → x ≡ get_or shown i Zero
+    → take (i + 1) (set text i c) ≡ values_text (take (i + 1) shown)
+shown_more i text shown c x here there before shows is =
+    take_more_set text i c here
+    ∙ ap₂ (λ (front : List ℕ) (d : ℕ). front ++ d ∷ []) before (shows ∙ ap character_of is)
+    ∙ sym (ap values_text (take_more shown i Zero there)
+    ∙ map-append character_of (take i shown) (get_or shown i Zero ∷ []))
+
+-- all of them
+pub all_shown : (i : ℕ) (text : List ℕ) (shown : List Val) → length text ≤ i → length shown ≤ i
+    → take i text ≡ values_text (take i shown) → text ≡ values_text shown
+all_shown i text shown end end_too is =
+    sym (take_all i text end) ∙ is ∙ ap values_text (take_all i shown end_too)
+
+-- a bit times a number that is not 0
+no_times : (bit more : ℕ) → 0 < more → bit * more ≡ 0 → bit ≡ 0
+no_times zero more some none = refl
+no_times (suc n) more some none = absurd (omega (arith, some, none, one_more n more))
+
+some_times : (bit more : ℕ) → bit < 2 → bit * more ≢ 0 → bit ≡ 1
+some_times zero more below some = absurd (some (omega arith))
+some_times (suc zero) more below some = refl
+some_times (suc (suc n)) more below some = absurd (omega (arith, below))
+
+-- a byte has no bit at a place, or has it, by its and with that bit alone
+pub no_bit : (byte bit place : ℕ) → bit ≡ 2 ^ place → bit_and byte bit ≡ 0 → bit_at byte place ≡ 0
+no_bit byte bit place is none =
+    no_times (bit_at byte place) (2 ^ place) (pow_pos place)
+    (sym (and_pow byte place) ∙ ap (bit_and byte) (sym is) ∙ none)
+
+pub some_bit : (byte bit place : ℕ) → bit ≡ 2 ^ place → bit_and byte bit ≢ 0 → bit_at byte place ≡ 1
+some_bit byte bit place is some =
+    some_times (bit_at byte place) (2 ^ place) (bit_at-lt byte place)
+    (λ none. some (ap (bit_and byte) is ∙ and_pow byte place ∙ none))
+
+-- the bit of a lane, as a byte
+pub shifted_byte : (k : ℕ) → k < 8 → 1 * 2 ^ k % 256 ≡ 2 ^ k
+shifted_byte k below = let small : 2 ^ k < 2 ^ 8 = pow_below k 8 below in omega (arith, small)
+
+abbrev pub octet_of : List ℕ → List ℕ → OctetText
+octet_of ones zeros = record { ones = ones; zeros = zeros }
+
+-- there is a character for each literal
+pub text_long : (place : ℕ) (o : OctetText) → length o.ones ≡ length o.zeros
+    → length (octet_text place o) ≡ length o.ones
+text_long place o same =
+    length-zip2 (λ (high low : ℕ). character_by (bit_at high place) (bit_at low place)) o.ones o.zeros same
+
+-- a part of what two texts begin with is the same
+pub part_same : (from count end : ℕ) (xs ys : List ℕ) → from + count ≤ end → take end xs ≡ take end ys
+    → take count (drop from xs) ≡ take count (drop from ys)
+part_same from count end xs ys within same =
+    sym (drop-take from count xs)
+    ∙ ap (drop from)
+    (sym (take-take (from + count) end xs within)
+    ∙ ap (take (from + count)) same
+    ∙ take-take (from + count) end ys within)
+    ∙ drop-take from count ys
+
+-- the places of a step are among those of the steps before a later one
+pub steps_within : (step end width : ℕ) → step < end → step * width + width ≤ end * width
+steps_within step end width below =
+    let next : (step + 1) * width ≡ step * width + width =
+    add-mul step 1 width ∙ ap (λ (n : ℕ). step * width + n) (one-mul width) in
+    let more : step + 1 ≤ end = omega arith in
+    omega (arith, next, mul-le-mul_right {m = step + 1} {n = end} width more)
+
+-- an octet is replaced by one that is as long
+pub long_after : (octets : List OctetText) (here k j : ℕ) (now d : OctetText) → here < length octets
+    → length (octet_text j now) ≡ length (octet_text j (get_or octets here d))
+    → length (octet_text j (get_or (set octets here now) k d)) ≡ length (octet_text j (get_or octets k d))
+long_after octets here k j now d room same = search (rules, cases_lt, get_or-set_other, get_or-set_same)

@@ -1,0 +1,12 @@
+use Rattle.std.specs.Prelude.{◌≡◌, ◌<◌, ℕ, [], length, slice_index_or}
+use Rattle.aig_lanes.specs.declared.run.Run.{Run}
+use Rattle.aig_lanes.specs.Parts.InputBits.{HoldsInputs}
+use Rattle.aig_lanes.proofs.input_bits.fill_lanes.Given as goal
+
+abbrev pub invariant-loop-lane : goal.invariant-loop-lane
+invariant-loop-lane l = record {
+  holds : (k : ℕ) (d : Run) → k < l.lane
+      → HoldsInputs l.first (slice_index_or l.runs k d) (slice_index_or l.lanes k []);
+  count : length l.lanes ≡ length l.fn.lanes;
+  sizes : (k : ℕ) → length (slice_index_or l.lanes k []) ≡ length (slice_index_or l.fn.lanes k []);
+}

@@ -1,0 +1,12 @@
+use Rattle.std.specs.Prelude.{◌≡◌, List, map, take}
+use Rattle.aig_core.specs.declared.circuit.Latch.{Latch}
+use Rattle.aig_core.specs.declared.value.Val.{Val}
+use Rattle.aig_meaning.specs.Meaning.{literal_value}
+use Rattle.aig_lanes.specs.Parts.Lanes.{IsLane}
+use Rattle.aig_step.specs.Parts.Tables.{read_from}
+use Rattle.aig_lanes.proofs.lane_row.next_in_lane.Given as goal
+
+abbrev pub invariant-loop-latch : goal.invariant-loop-latch
+invariant-loop-latch l =
+    (values : List Val) → IsLane l.lane l.planes values
+    → l.shown.items ≡ map (literal_value (read_from values)) (map (λ (m : Latch). m.next) (take l.latch-index l.latches))

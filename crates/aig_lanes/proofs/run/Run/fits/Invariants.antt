@@ -1,0 +1,8 @@
+use Rattle.std.specs.Prelude.{◌≡◌, List, length, take}
+use Rattle.std.specs.List.{All}
+use Rattle.aig_core.specs.declared.value.Val.{Val}
+use Rattle.aig_lanes.proofs.run.Run.fits.Given as goal
+
+abbrev pub invariant-loop-vector : goal.invariant-loop-vector
+invariant-loop-vector l =
+    All (λ (vector : List Val). length vector ≡ length l.checked.inputs) (take l.vector-index l.vector-items)

@@ -1,0 +1,6 @@
+pub mod Lanes
+pub mod Groups
+pub mod Sheets
+pub mod InputBits
+pub mod Vectors
+pub mod LaneTexts

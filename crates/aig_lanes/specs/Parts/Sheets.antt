@@ -1,0 +1,61 @@
+-- The characters of literals in all lanes. Only the simulator cites this.
+use Rattle.std.specs.Prelude.{◌≡◌, ◌+◌, ◌-◌, ◌*◌, ◌/◌, ◌%◌, ◌<◌, ◌≤◌, ◌==◌, ◌++◌, ℕ, List, [], if◌then◌else◌}
+use Rattle.std.specs.Prelude.{drop, length, slice_index_or, take}
+use Rattle.std.specs.Int.{bit_at}
+use Rattle.std.specs.Simd.Lanes.{zip2}
+use Rattle.aig_lanes.specs.declared.run.Run.{Run}
+
+-- the character of a literal by two bits: whether it may be 1, and whether it may be 0
+abbrev pub character_by : ℕ → ℕ → ℕ
+character_by high low = if high == 0 then 48 else if low == 0 then 49 else 120
+
+-- for each literal a byte with a bit for each of eight lanes, whether it may be 1 there, and one whether it may be 0
+pub record OctetText : Type 0 where
+  pub ones : List ℕ
+  pub zeros : List ℕ
+
+-- the characters of literals in one of eight lanes
+abbrev pub octet_text : ℕ → OctetText → List ℕ
+octet_text place o = zip2 (λ (high low : ℕ). character_by (bit_at high place) (bit_at low place)) o.ones o.zeros
+
+-- a text with these characters from a place on, as far as it has places
+abbrev pub overwritten : ℕ → (characters text : List ℕ) → List ℕ
+overwritten at characters text =
+    take at text ++ (take (length text - at) characters ++ drop (at + length characters) text)
+
+-- the byte at a place of rows of 32 bytes, where one row stands behind the other
+abbrev pub byte_at : ℕ → List (List ℕ) → ℕ
+byte_at place rows = slice_index_or (slice_index_or rows (place / 32) []) (place % 32) 0
+
+-- the bytes of one octet, where there are eight for each
+abbrev pub eight_at : ℕ → (ones zeros : List ℕ) → OctetText
+eight_at octet ones zeros = record { ones = take 8 (drop (8 * octet) ones); zeros = take 8 (drop (8 * octet) zeros) }
+
+-- octets for all lanes, with so many literals for each step
+pub record SheetText : Type 0 where
+  pub width : ℕ
+  pub octets : List OctetText
+
+-- the characters of literals in a lane, those of one step behind those of the step before it
+abbrev pub lane_text : ℕ → List OctetText → List ℕ
+lane_text lane octets = octet_text (lane % 8) (slice_index_or octets (lane / 8) (record { ones = []; zeros = [] }))
+
+abbrev pub text_in : ℕ → SheetText → List ℕ
+text_in lane sheet = lane_text lane sheet.octets
+
+-- the characters of a step in a lane
+abbrev pub step_in : (step lane : ℕ) → SheetText → List ℕ
+step_in step lane sheet = take sheet.width (drop (step * sheet.width) (text_in lane sheet))
+
+-- a lane has places for a step
+abbrev pub HasStep : (step lane : ℕ) → SheetText → Type 0
+HasStep step lane sheet = step * sheet.width + sheet.width ≤ length (text_in lane sheet)
+
+-- there are as many octets as there are eights of lanes
+abbrev pub IsSheet : List OctetText → Type 0
+IsSheet octets = length octets ≡ 32
+
+-- in the lane of each run there are places for so many literals for each step, and for so many steps more
+abbrev pub HoldsSteps : (width more : ℕ) → List OctetText → List Run → Type 0
+HoldsSteps width more octets runs = (l : ℕ) (d : Run) → l < 256 → l < length runs
+    → (length (slice_index_or runs l d).steps + more) * width ≤ length (lane_text l octets)

@@ -1,0 +1,218 @@
+//! The inputs of runs as bits. They are made run by run, where the lines of a stimulus stand one behind the other: a
+//! step of all runs takes a line of each, and those lie far apart.
+ghost use Rattle.std.specs.Prelude.{◌≡◌, ◌+◌, ◌<◌, ◌≤◌, ℕ, IfOk, List, [], length, slice_index_or};
+ghost use Rattle.std.specs.List.{All};
+ghost use Rattle.aig_core.specs.declared.value.Val.{Val as Value};
+ghost use Rattle.aig_lanes.specs.declared.run.Run.{Run as RunRecord};
+ghost use Rattle.aig_lanes.specs.Parts.InputBits.{AreBlocks, HasRoom, HoldsBlock, HoldsBlocks, HoldsInputs, IsWord};
+ghost use Rattle.aig_lanes.specs.Parts.InputBits.{SameRooms, TellsOther, word_at};
+
+use crate::sheets::longest_in;
+use crate::vectors::{RunGroup, Vectors};
+use aig_core::OutOfMemory;
+use std::alloc::Global;
+use std::marker::Model;
+use std::simd::prelude::*;
+
+/// Of 64 inputs of a step, which may be 1 and which may be 0: a bit for each.
+#[derive(Clone, Copy)]
+pub struct InputWord {
+    pub one: u64,
+    pub zero: u64,
+}
+
+/// The bits of 64 characters, from one on, where another character stands.
+#[inline(always)]
+fn other_than(text: &[u8], first: usize, character: u8) -> u64
+    requires { first + 64 ≤ length text.now }
+    ensures { TellsOther character first text.now result }
+{
+    u8x64::from_slice(&text[first..])
+        .simd_ne(u8x64::splat(character))
+        .to_bitmask()
+}
+
+/// The characters from one on, fewer than 64, and zeros behind them.
+fn padded(text: &[u8], first: usize) -> [u8; 64]
+    requires { first ≤ length text.now × length text.now < first + 64 }
+    ensures { (k : ℕ) → first + k < length text.now
+        → slice_index_or result k 0 ≡ slice_index_or text.now (first + k) 0 }
+{
+    let (_, rest) = text.split_at(first);
+    let mut characters = [b'0'; 64];
+    characters[..rest.len()].copy_from_slice(rest);
+    characters
+}
+
+/// The bits of 64 inputs, from one on, or of as many as there are.
+#[inline(always)]
+fn word_of(text: &[u8], first: usize) -> InputWord
+    requires { first ≤ length text.now }
+    ensures { IsWord first text.now result }
+{
+    if text.len() - first >= 64 {
+        return InputWord {
+            one: other_than(text, first, b'0'),
+            zero: other_than(text, first, b'1'),
+        };
+    }
+    let rest = padded(text, first);
+    InputWord {
+        one: other_than(&rest, 0, b'0'),
+        zero: other_than(&rest, 0, b'1'),
+    }
+}
+
+/// The bits of 64 inputs in the steps of a lane's runs, one run after the other.
+#[derive(Drop)]
+struct LaneBits {
+    words: Vec<InputWord>,
+}
+
+impl Model for LaneBits {
+    ghost use Rattle.std.specs.Prelude.{List};
+    ghost use Rattle.aig_lanes.specs.declared.input_bits.InputWord.{InputWord};
+
+    ghost Value = { List InputWord };
+
+    ghost view = { λ b. b.words.items };
+}
+
+/// Puts the bits of 64 inputs, from one on, for each step of a run.
+fn fill_words(words: &mut [InputWord], run: &Vectors, first: usize)
+    requires inputs { All (λ (vector : List Value). first ≤ length vector) run.now.steps }
+    requires room { length run.now.steps ≤ length words.old }
+    ensures holds { HoldsInputs first run.now words.new }
+    ensures size { length words.new ≡ length words.old }
+{
+    for step in 0..run.len() {
+        words[step] = word_of(run.text(step), first);
+    }
+}
+
+impl LaneBits {
+    /// Puts those of a run, from an input on.
+    fn fill(&mut self, run: &Vectors, first: usize)
+        requires inputs { All (λ (vector : List Value). first ≤ length vector) run.now.steps }
+        requires room { length run.now.steps ≤ length self.old }
+        ensures holds { HoldsInputs first run.now self.new }
+        ensures size { length self.new ≡ length self.old }
+    {
+        fill_words(&mut self.words, run, first);
+    }
+}
+
+/// Puts those of all runs.
+fn fill_lanes(lanes: &mut [LaneBits], runs: &[Vectors], first: usize)
+    requires lanes { length runs.now ≤ 256 × length lanes.old ≡ 256 }
+    requires inputs { All (λ (run : RunRecord).
+        All (λ (vector : List Value). first ≤ length vector) run.steps) runs.now }
+    requires room { HasRoom runs.now lanes.old }
+    ensures holds { HoldsBlock first runs.now lanes.new }
+    ensures count { length lanes.new ≡ length lanes.old }
+    ensures sizes { (l : ℕ) → length (slice_index_or lanes.new l []) ≡ length (slice_index_or lanes.old l []) }
+{
+    for lane in 0..runs.len() {
+        lanes[lane].fill(&runs[lane], first);
+    }
+}
+
+/// The bits of 64 inputs in the steps of 256 lanes.
+#[derive(Drop)]
+pub struct BlockBits {
+    lanes: Vec<LaneBits>,
+}
+
+impl Model for BlockBits {
+    ghost use Rattle.std.specs.Prelude.{◌≡◌, List, length};
+    ghost use Rattle.aig_lanes.specs.declared.input_bits.InputWord.{InputWord};
+
+    ghost Value = { List (List InputWord) };
+
+    ghost view = { λ b. b.lanes.items };
+
+    ghost invariant = { λ b. length b.lanes.items ≡ 256 };
+}
+
+/// Room in each lane for as many steps as the longest of its runs has.
+fn new_lanes(alloc: Global, groups: &[RunGroup]) -> Result<Vec<LaneBits>, OutOfMemory>
+    ensures count { IfOk result (λ lanes. length lanes.items ≡ 256) }
+    ensures room { IfOk result (λ lanes. All (λ (runs : List RunRecord). HasRoom runs lanes.items) groups.now) }
+{
+    let mut lanes = Vec::with_capacity(alloc, 256)?;
+    for lane in 0..256usize {
+        let steps = longest_in(groups, lane / 8);
+        lanes.push(LaneBits {
+            words: vec![in alloc; InputWord { one: 0, zero: 0 }; steps]?,
+        })?;
+    }
+    Ok(lanes)
+}
+
+impl BlockBits {
+    /// Room for as many steps as the runs of these groups have.
+    fn new(alloc: Global, groups: &[RunGroup]) -> Result<Self, OutOfMemory>
+        ensures { IfOk result (λ bits. All (λ (runs : List RunRecord). HasRoom runs bits) groups.now) }
+    {
+        Ok(BlockBits {
+            lanes: new_lanes(alloc, groups)?,
+        })
+    }
+
+    /// Puts the inputs of all runs, from one on.
+    fn fill(&mut self, runs: &[Vectors], first: usize)
+        requires lanes { length runs.now ≤ 256 }
+        requires inputs { All (λ (run : RunRecord).
+            All (λ (vector : List Value). first ≤ length vector) run.steps) runs.now }
+        requires room { HasRoom runs.now self.old }
+        ensures holds { HoldsBlock first runs.now self.new }
+        ensures sizes { (l : ℕ) → length (slice_index_or self.new l []) ≡ length (slice_index_or self.old l []) }
+    {
+        fill_lanes(&mut self.lanes, runs, first);
+    }
+
+    /// The bits for a step in a lane, if it has that; none are set where it has not.
+    #[inline(always)]
+    pub(crate) fn word(&self, lane: usize, step: usize) -> InputWord
+        requires { lane < 256 }
+        ensures { result ≡ word_at lane step self.now }
+    {
+        let words = &self.lanes[lane].words;
+        if step < words.len() {
+            return words[step];
+        }
+        InputWord { one: 0, zero: 0 }
+    }
+}
+
+/// Room for so many inputs in the steps of the runs of these groups, 64 inputs after the other.
+pub fn new_bits(
+    alloc: Global,
+    inputs: usize,
+    groups: &[RunGroup],
+) -> Result<Vec<BlockBits>, OutOfMemory>
+    ensures count { IfOk result (λ bits. AreBlocks inputs (length bits.items)) }
+    ensures room { IfOk result (λ bits. All (λ (runs : List RunRecord). All (HasRoom runs) bits.items) groups.now) }
+{
+    let blocks = inputs.div_ceil(64);
+    let mut bits = Vec::with_capacity(alloc, blocks)?;
+    for block in 0..blocks {
+        bits.push(BlockBits::new(alloc, groups)?)?;
+    }
+    Ok(bits)
+}
+
+/// Puts the inputs of all runs.
+pub fn fill_bits(bits: &mut [BlockBits], runs: &[Vectors], inputs: usize)
+    requires lanes { length runs.now ≤ 256 }
+    requires inputs { All (λ (run : RunRecord).
+        All (λ (vector : List Value). length vector ≡ inputs) run.steps) runs.now }
+    requires blocks { AreBlocks inputs (length bits.old) }
+    requires room { All (HasRoom runs.now) bits.old }
+    ensures holds { HoldsBlocks runs.now bits.new }
+    ensures same { SameRooms bits.old bits.new }
+{
+    for block in 0..bits.len() {
+        bits[block].fill(runs, 64 * block);
+    }
+}

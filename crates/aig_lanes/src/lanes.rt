@@ -1,0 +1,158 @@
+//! Tables of values for runs side by side: each literal has a plane, with a bit for each run.
+ghost use Rattle.std.specs.Prelude.{◌≡◌, ◌≢◌, ◌+◌, ◌-◌, ◌*◌, ◌/◌, ◌<◌, ◌≤◌, ℕ, List, length, slice_set, if◌then◌else◌};
+ghost use Rattle.std.specs.List.{All};
+ghost use Rattle.aig_core.specs.declared.value.Val.{Val as Value};
+ghost use Rattle.aig_core.specs.declared.value.Val.TheVariants.{Zero};
+ghost use Rattle.aig_core.specs.Values.{value_and, value_not};
+ghost use Rattle.aig_meaning.specs.Meaning.{literal_value};
+ghost use Rattle.aig_lanes.specs.Parts.Groups.{Assigned};
+ghost use Rattle.aig_lanes.specs.Parts.Lanes.{IsLane, IsPair, may_be_one};
+ghost use Rattle.aig_step.specs.Parts.Tables.{IsLiteralBelow, IsPairBelow, evaluated, placed, read_from};
+
+use crate::planes::{Plane, plane_of, value_in, with_bit};
+use aig_core::{Lit, Val};
+use aig_step::{Machine, Pair};
+
+/// Whether a literal with this value may be 1, and whether its negation may be.
+#[inline(always)]
+fn bits_of(value: Val) -> (bool, bool)
+    ensures one { (if result.0 then 1 else 0) ≡ may_be_one value }
+    ensures zero { (if result.1 then 1 else 0) ≡ may_be_one (value_not value) }
+{
+    match value {
+        Val::Zero => (false, true),
+        Val::One => (true, false),
+        Val::X => (true, true),
+    }
+}
+
+/// The planes of a literal and of its negation.
+#[inline(always)]
+pub(crate) fn planes_of(planes: &[Plane], literal: Lit) -> (Plane, Plane)
+    requires { IsLiteralBelow (length planes.now / 2) literal }
+    ensures { (l : ℕ) (values : List Value) → IsLane l planes.now values
+        → IsPair l result.0 result.1 (literal_value (read_from values) literal) }
+{
+    (
+        planes[literal.0 as usize],
+        planes[literal.negated().0 as usize],
+    )
+}
+
+/// Puts both planes of a variable.
+#[inline(always)]
+pub(crate) fn put_pair(planes: &mut [Plane], variable: usize, one: Plane, zero: Plane)
+    requires { 2 * variable + 1 < length planes.old }
+    ensures { (l : ℕ) (values : List Value) (x : Value) → IsLane l planes.old values → IsPair l one zero x
+        → IsLane l planes.new (slice_set values variable x) }
+{
+    planes[2 * variable] = one;
+    planes[2 * variable + 1] = zero;
+}
+
+/// Puts a value in all lanes.
+pub(crate) fn put_all(planes: &mut [Plane], variable: usize, value: Val)
+    requires { 2 * variable + 1 < length planes.old }
+    ensures { (l : ℕ) (values : List Value) → l < 256 → IsLane l planes.old values
+        → IsLane l planes.new (slice_set values variable value) }
+{
+    let (one, zero) = bits_of(value);
+    put_pair(planes, variable, plane_of(one), plane_of(zero));
+}
+
+/// Puts a value in one lane.
+fn put_in_lane(planes: &mut [Plane], lane: usize, variable: usize, value: Val)
+    requires lane { lane < 256 }
+    requires room { 2 * variable + 1 < length planes.old }
+    ensures own { (values : List Value) → IsLane lane planes.old values
+        → IsLane lane planes.new (slice_set values variable value) }
+    ensures others { (l : ℕ) (values : List Value) → l < 256 → l ≢ lane → IsLane l planes.old values
+        → IsLane l planes.new values }
+{
+    let (one_bit, zero_bit) = bits_of(value);
+    let one = with_bit(planes[2 * variable], lane, one_bit);
+    let zero = with_bit(planes[2 * variable + 1], lane, zero_bit);
+    put_pair(planes, variable, one, zero);
+}
+
+/// Puts values in one lane, from the variable behind the constant on.
+pub(crate) fn put_vector(planes: &mut [Plane], lane: usize, given: &[Val])
+    requires lane { lane < 256 }
+    requires room { 2 * (1 + length given.now) ≤ length planes.old }
+    ensures own { (values : List Value) → IsLane lane planes.old values
+        → IsLane lane planes.new (placed 1 given.now values) }
+    ensures others { (l : ℕ) (values : List Value) → l < 256 → l ≢ lane → IsLane l planes.old values
+        → IsLane l planes.new values }
+{
+    let mut variable = 1;
+    for value in given {
+        put_in_lane(planes, lane, variable, *value);
+        variable += 1;
+    }
+}
+
+/// Puts the values that stand in another table, in each lane, from this variable on.
+pub(crate) fn place_lanes(planes: &mut [Plane], first: usize, given: &[Plane])
+    requires { 2 * first + length given.now ≤ length planes.old }
+    ensures { (l : ℕ) (values before : List Value) → IsLane l planes.old values → IsLane l given.now before
+        → IsLane l planes.new (placed first before values) }
+{
+    for i in 0..given.len() / 2 {
+        put_pair(planes, first + i, given[2 * i], given[2 * i + 1]);
+    }
+}
+
+/// The planes of a gate with these operands.
+#[inline(always)]
+fn planes_of_gate(planes: &[Plane], pair: Pair) -> (Plane, Plane)
+    requires { IsPairBelow (length planes.now / 2) pair }
+    ensures { (l : ℕ) (values : List Value) → IsLane l planes.now values
+        → IsPair l result.0 result.1 (value_and (literal_value (read_from values) pair.left)
+        (literal_value (read_from values) pair.right)) }
+{
+    let (left, not_left) = planes_of(planes, pair.left);
+    let (right, not_right) = planes_of(planes, pair.right);
+    (left & right, not_left | not_right)
+}
+
+/// Puts the value of each gate, in each lane. The variables of the gates are the last ones of the table.
+pub(crate) fn evaluate_lanes(pairs: &[Pair], planes: &mut [Plane])
+    requires room { 2 * length pairs.now ≤ length planes.old }
+    requires below { All (IsPairBelow (length planes.old / 2)) pairs.now }
+    ensures { (l : ℕ) (values : List Value) → IsLane l planes.old values
+        → IsLane l planes.new (evaluated (length planes.old / 2 - length pairs.now) pairs.now values) }
+{
+    let mut variable = planes.len() / 2 - pairs.len();
+    for pair in pairs {
+        let (one, zero) = planes_of_gate(planes, *pair);
+        put_pair(planes, variable, one, zero);
+        variable += 1;
+    }
+}
+
+/// Fills a table with the values of a step in each lane, where it has those of the constant and of the inputs.
+pub fn assign_lanes(machine: &Machine, state: &[Plane], table: &mut [Plane])
+    requires each_latch { length state.now ≡ 2 * length machine.now.latches }
+    requires room { length table.old ≡ 2 * (1 + machine.now.max_var) }
+    ensures { (l : ℕ) (given values before : List Value) → length given ≡ length machine.now.inputs
+        → IsLane l table.old (placed 1 given (slice_set values 0 Zero)) → IsLane l state.now before
+        → Assigned machine.now l before given table.new }
+{
+    let parts = machine.parts();
+    // That there are not too many inputs to count one more is known by this read.
+    let _largest = parts.max_var;
+    let pairs = machine.pairs();
+    place_lanes(table, 1 + parts.inputs.len(), state);
+    evaluate_lanes(pairs, table);
+}
+
+/// The value of a literal in a lane.
+pub(crate) fn value_of_lane(planes: &[Plane], literal: Lit, lane: usize) -> Val
+    requires lane { lane < 256 }
+    requires below { IsLiteralBelow (length planes.now / 2) literal }
+    ensures { (values : List Value) → IsLane lane planes.now values
+        → result ≡ literal_value (read_from values) literal }
+{
+    let (one, zero) = planes_of(planes, literal);
+    value_in(one, zero, lane)
+}

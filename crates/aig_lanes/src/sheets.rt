@@ -1,0 +1,176 @@
+//! Sheets: what literals are in all lanes, step by step.
+ghost use Rattle.std.specs.Prelude.{◌≡◌, ◌+◌, ◌*◌, ◌/◌, ◌++◌, ◌<◌, ◌≤◌, ◌^◌, ℕ, List, [], IfOk, codes, length};
+ghost use Rattle.std.specs.Prelude.{slice_index_or};
+ghost use Rattle.std.specs.Prelude.{take};
+ghost use Rattle.std.specs.List.{All};
+ghost use Rattle.aig_lanes.specs.declared.run.Run.{Run as RunRecord};
+ghost use Rattle.aig_lanes.specs.Parts.Lanes.{bit_in};
+ghost use Rattle.aig_lanes.specs.Parts.Sheets.{HasStep, HoldsSteps, IsSheet, OctetText, character_by, eight_at};
+ghost use Rattle.aig_lanes.specs.Parts.Sheets.{octet_text, overwritten, step_in, text_in};
+
+use crate::octets::Octet;
+use crate::planes::Plane;
+use crate::turned::turned;
+use crate::vectors::{RunGroup, Vectors};
+use aig_core::OutOfMemory;
+use std::alloc::Global;
+use std::marker::Model;
+
+/// How many steps the longest of the runs has whose lanes are these eight, or this number if that is more.
+fn longer_of(runs: &[Vectors], octet: usize, least: usize) -> usize
+    requires { octet < 32 }
+    ensures least { least ≤ result }
+    ensures all { (l : ℕ) (d : RunRecord) → l / 8 ≡ octet → l < length runs.now
+        → length (slice_index_or runs.now l d).steps ≤ result }
+{
+    let mut longest = least;
+    for lane in 8 * octet..8 * octet + 8 {
+        if lane < runs.len() && runs[lane].len() > longest {
+            longest = runs[lane].len();
+        }
+    }
+    longest
+}
+
+/// How many steps the longest run has whose lane is one of these eight.
+pub(crate) fn longest_in(groups: &[RunGroup], octet: usize) -> usize
+    requires { octet < 32 }
+    ensures { All (λ (runs : List RunRecord). (l : ℕ) (d : RunRecord) → l / 8 ≡ octet → l < length runs
+        → length (slice_index_or runs l d).steps ≤ result) groups.now }
+{
+    let mut longest = 0;
+    for group in groups {
+        longest = longer_of(group.as_slice(), octet, longest);
+    }
+    longest
+}
+
+/// Octets for all lanes, each of so many literals for each step of the longest run in its lanes, and for so many steps
+/// more.
+fn new_octets(
+    alloc: Global,
+    width: usize,
+    more: usize,
+    groups: &[RunGroup],
+) -> Result<Vec<Octet>, OutOfMemory>
+    ensures is { IfOk result (λ octets. IsSheet octets.items) }
+    ensures room { IfOk result (λ octets. All (HoldsSteps width more octets.items) groups.now) }
+{
+    let mut octets = Vec::with_capacity(alloc, 32)?;
+    for octet in 0..32usize {
+        let Some(steps) = longest_in(groups, octet).checked_add(more) else {
+            return Err(OutOfMemory);
+        };
+        let Some(count) = steps.checked_mul(width) else {
+            return Err(OutOfMemory);
+        };
+        octets.push(Octet::new(alloc, count)?)?;
+    }
+    Ok(octets)
+}
+
+/// Puts the bytes of eight literals for each octet, from a place on, as far as there are places.
+#[inline(always)]
+fn put_bytes(octets: &mut [Octet], at: usize, ones: &[u8; 256], zeros: &[u8; 256])
+    requires { length octets.old ≡ 32 }
+    ensures text { (k j : ℕ) (d : OctetText) → k < 32 → octet_text j (slice_index_or octets.new k d)
+        ≡ overwritten at (octet_text j (eight_at k ones.now zeros.now))
+        (octet_text j (slice_index_or octets.old k d)) }
+    ensures size { length octets.new ≡ 32 }
+    ensures ones { length ones.now ≡ 256 }
+    ensures zeros { length zeros.now ≡ 256 }
+{
+    for k in 0..32 {
+        let from = 8 * k;
+        octets[k].put(at, &ones[from..from + 8], &zeros[from..from + 8]);
+    }
+}
+
+/// What so many literals are in all lanes, step by step.
+#[derive(Drop)]
+pub(crate) struct Sheet {
+    width: usize,
+    octets: Vec<Octet>,
+}
+
+impl Model for Sheet {
+    ghost use Rattle.aig_lanes.specs.Parts.Sheets.{IsSheet, SheetText};
+
+    ghost Value = { SheetText };
+
+    ghost view = { λ s. record { width = s.width; octets = s.octets.items } };
+
+    ghost invariant = { λ s. IsSheet s.octets.items };
+}
+
+impl Sheet {
+    /// Of so many literals, with room for each step of these groups, and for so many steps more.
+    pub(crate) fn new(
+        alloc: Global,
+        width: usize,
+        more: usize,
+        groups: &[RunGroup],
+    ) -> Result<Self, OutOfMemory>
+        ensures width { IfOk result (λ sheet. sheet.width ≡ width) }
+        ensures room { IfOk result (λ sheet. All (HoldsSteps width more sheet.octets) groups.now) }
+    {
+        Ok(Sheet {
+            width,
+            octets: new_octets(alloc, width, more, groups)?,
+        })
+    }
+
+    /// Where the literals of a step begin.
+    #[inline(always)]
+    pub(crate) fn start(&self, step: usize) -> usize
+        requires { step * self.now.width < 2 ^ 64 }
+        ensures { result ≡ step * self.now.width }
+    {
+        step * self.width
+    }
+
+    /// Puts eight literals, from a place on, in each lane as far as it has places. Behind the plane of each stands that
+    /// of its negation.
+    #[inline(always)]
+    pub(crate) fn put(&mut self, at: usize, planes: &[Plane; 16])
+        ensures width { self.new.width ≡ self.old.width }
+        ensures text { (l k : ℕ) → l < 256 → k < 8 → at + k < length (text_in l self.old)
+            → slice_index_or (text_in l self.new) (at + k) 0
+            ≡ character_by (bit_in l (slice_index_or planes.now (2 * k) []))
+            (bit_in l (slice_index_or planes.now (2 * k + 1) [])) }
+        ensures front { (l : ℕ) → l < 256 → take at (text_in l self.new) ≡ take at (text_in l self.old) }
+        ensures long { (l : ℕ) → length (text_in l self.new) ≡ length (text_in l self.old) }
+    {
+        put_bytes(&mut self.octets, at, &turned(planes, 0), &turned(planes, 1));
+    }
+
+    /// Writes the characters of a step in a lane from a place on, and answers where they end.
+    #[inline(always)]
+    pub(crate) fn write(&self, line: &mut [u8], at: usize, step: usize, lane: usize) -> usize
+        requires lane { lane < 256 }
+        requires fits { step * self.now.width < 2 ^ 64 }
+        requires has { HasStep step lane self.now }
+        requires room { at + self.now.width ≤ length line.old }
+        ensures end { result ≡ at + self.now.width }
+        ensures size { length line.new ≡ length line.old }
+        ensures text { take result line.new ≡ take at line.old ++ step_in step lane self.now }
+    {
+        self.octets[lane / 8].write(line, at, step * self.width, self.width, lane % 8);
+        at + self.width
+    }
+
+    /// Writes a space and the characters of a step in a lane, as `write` writes those.
+    #[inline(always)]
+    pub(crate) fn write_column(&self, line: &mut [u8], at: usize, step: usize, lane: usize) -> usize
+        requires lane { lane < 256 }
+        requires fits { step * self.now.width < 2 ^ 64 }
+        requires has { HasStep step lane self.now }
+        requires room { at + 1 + self.now.width ≤ length line.old }
+        ensures end { result ≡ at + 1 + self.now.width }
+        ensures size { length line.new ≡ length line.old }
+        ensures text { take result line.new ≡ take at line.old ++ (codes " " ++ step_in step lane self.now) }
+    {
+        line[at] = b' ';
+        self.write(line, at + 1, step, lane)
+    }
+}

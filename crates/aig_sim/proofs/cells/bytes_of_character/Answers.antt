@@ -1,5 +1,0 @@
-use Rattle.aig_sim.proofs.Running.Characters.{stands_for}
-use Rattle.aig_sim.proofs.cells.bytes_of_character.Goals as goal
-
-pub returns : goal.returns
-returns c = stands_for c.args.character c.if-place-character.false

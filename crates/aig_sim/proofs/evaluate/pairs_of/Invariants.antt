@@ -1,6 +1,0 @@
-use Rattle.std.specs.Prelude.{◌≡◌, take, map}
-use Rattle.aig_sim.specs.Parts.Tables.{pair_of}
-use Rattle.aig_sim.proofs.evaluate.pairs_of.Given as goal
-
-abbrev pub invariant-loop-gate : goal.invariant-loop-gate
-invariant-loop-gate l = l.pairs.items ≡ map pair_of (take l.gate-index l.gates)

@@ -1,0 +1,114 @@
+-- What the text of a line says: its characters, its carriage return, its length.
+use Rattle.std.proofs.Common.{◌≡◌, ◌≢◌, ◌+◌, ◌≤◌, ◌<◌, ◌&&◌, ◌==◌, ℕ, suc, List, [], ◌∷◌, ◌++◌, Bool, true}
+use Rattle.std.proofs.Common.{false, length}
+use Rattle.std.proofs.Common.{Option, Some, None, codes, option_map, option_and_then, if◌then◌else◌, bytes_eq}
+use Rattle.std.proofs.Common.{refl, sym, ap}
+use Rattle.std.proofs.Common.{◌∙◌, arith}
+use Rattle.std.proofs.lemmas.Bool.{ne_eqb, false_from_ne_true}
+use Rattle.std.proofs.lemmas.Slice.Eq.{bytes_eq-Decides}
+use Rattle.aig_core.specs.declared.value.Val.{Val}
+use Rattle.aig_text.specs.Lines.{line}
+use Rattle.aig_step.specs.Stimulus.{entry_in, entry_of, value_of, values_of, without_return}
+
+-- characters, one by one
+nothing_first : (o : Option Val) → option_and_then (λ v. option_map (λ vs. v ∷ vs) None) o ≡ None
+nothing_first (Some v) = refl
+nothing_first None = refl
+
+first_and : (o : Option Val) (others longer : Option (List Val)) (vs : List Val) (v : Val)
+    → ((us : List Val) → others ≡ Some us → longer ≡ Some (us ++ v ∷ []))
+    → option_and_then (λ u. option_map (λ us. u ∷ us) others) o ≡ Some vs
+    → option_and_then (λ u. option_map (λ us. u ∷ us) longer) o ≡ Some (vs ++ v ∷ [])
+first_and None others longer vs v more is = cc
+first_and (Some u) None longer vs v more is = cc
+first_and (Some u) (Some us) longer vs v more is =
+    let same : u ∷ us ≡ vs = cc in
+    ap (λ (o : Option (List Val)). option_map (λ ws. u ∷ ws) o) (more us refl)
+    ∙ ap (λ (ws : List Val). Some (ws ++ v ∷ [])) same
+
+-- one more character that stands for a value
+pub values_on : (front : List ℕ) (b : ℕ) (vs : List Val) (v : Val) → values_of front ≡ Some vs → value_of b ≡ Some v
+    → values_of (front ++ b ∷ []) ≡ Some (vs ++ v ∷ [])
+values_on [] b vs v are is =
+    let none : vs ≡ [] = cc in
+    ap (option_and_then (λ u. option_map (λ us. u ∷ us) (Some []))) is
+    ∙ ap (λ (ws : List Val). Some (ws ++ v ∷ [])) (sym none)
+values_on (a ∷ front) b vs v are is =
+    first_and (value_of a) (values_of front) (values_of (front ++ b ∷ [])) vs v
+    (λ (us : List Val) (e : values_of front ≡ Some us). values_on front b us v e is) are
+
+-- a character that stands for none, whatever comes before and behind it
+pub no_values : (front rest : List ℕ) (b : ℕ) → value_of b ≡ None → values_of (front ++ b ∷ rest) ≡ None
+no_values [] rest b none = ap (option_and_then (λ u. option_map (λ us. u ∷ us) (values_of rest))) none
+no_values (a ∷ front) rest b none =
+    ap (λ (o : Option (List Val)). option_and_then (λ u. option_map (λ us. u ∷ us) o) (value_of a))
+    (no_values front rest b none)
+    ∙ nothing_first (value_of a)
+
+first_length : (o : Option Val) (others : Option (List Val)) (vs : List Val) (n : ℕ)
+    → ((us : List Val) → others ≡ Some us → length us ≡ n)
+    → option_and_then (λ u. option_map (λ us. u ∷ us) others) o ≡ Some vs → length vs ≡ suc n
+first_length None others vs n long is = cc
+first_length (Some u) None vs n long is = cc
+first_length (Some u) (Some us) vs n long is =
+    let same : vs ≡ u ∷ us = cc in ap length same ∙ ap suc (long us refl)
+
+-- as many values as characters
+pub values_length : (text : List ℕ) (vs : List Val) → values_of text ≡ Some vs → length vs ≡ length text
+values_length [] vs is = let none : vs ≡ [] = cc in ap length none
+values_length (b ∷ bs) vs is =
+    first_length (value_of b) (values_of bs) vs (length bs)
+    (λ (us : List Val) (e : values_of bs ≡ Some us). values_length bs us e) is
+
+-- the carriage return
+and_false : (a : Bool) → (a && false) ≡ false
+and_false true = refl
+and_false false = refl
+
+pub kept_first : (b c : ℕ) (bs : List ℕ) → without_return (b ∷ c ∷ bs) ≡ b ∷ without_return (c ∷ bs)
+kept_first b c bs =
+    let some : length (c ∷ bs) ≢ 0 = omega arith in
+    ap (λ (last : Bool). if (b == 13) && last then [] else b ∷ without_return (c ∷ bs))
+    (ne_eqb (length (c ∷ bs)) 0 some)
+    ∙ ap (λ (t : Bool). if t then [] else b ∷ without_return (c ∷ bs)) (and_false (b == 13))
+
+-- one at the end is dropped
+pub return_dropped : (text : List ℕ) → without_return (text ++ 13 ∷ []) ≡ text
+return_dropped [] = refl
+return_dropped (b ∷ []) = kept_first b 13 []
+return_dropped (b ∷ c ∷ bs) =
+    kept_first b c (bs ++ 13 ∷ []) ∙ ap (λ (t : List ℕ). b ∷ t) (return_dropped (c ∷ bs))
+
+-- and another byte there is kept
+pub no_return : (text : List ℕ) (b : ℕ) → b ≢ 13 → without_return (text ++ b ∷ []) ≡ text ++ b ∷ []
+no_return [] b other = rw (ne_eqb b 13 other) refl
+no_return (a ∷ []) b other = kept_first a b [] ∙ ap (λ (t : List ℕ). a ∷ t) (no_return [] b other)
+no_return (a ∷ c ∷ bs) b other =
+    kept_first a c (bs ++ b ∷ []) ∙ ap (λ (t : List ℕ). a ∷ t) (no_return (c ∷ bs) b other)
+
+-- at most one byte is dropped
+pub one_shorter : (text : List ℕ) → length text ≤ length (without_return text) + 1
+one_shorter [] = omega arith
+one_shorter (b ∷ []) = omega arith
+one_shorter (b ∷ c ∷ bs) = omega (arith, ap length (kept_first b c bs), one_shorter (c ∷ bs))
+
+-- what a text says
+no_stop : (text : List ℕ) → text ≢ codes "." → bytes_eq text (codes ".") ≡ false
+no_stop text other =
+    false_from_ne_true (bytes_eq text (codes ".")) (λ e. other ((bytes_eq-Decides text (codes ".")).0 e))
+
+-- a text with another number of characters than there are inputs says nothing
+wrong_length : (inputs : ℕ) (text : List ℕ) → text ≢ codes "." → length text ≢ inputs → entry_in inputs text ≡ None
+wrong_length inputs text other wrong = rw (no_stop text other, ne_eqb (length text) inputs wrong) refl
+
+pub too_long_text : (inputs : ℕ) (text : List ℕ) → inputs + 1 < length text → entry_in inputs text ≡ None
+too_long_text inputs text long =
+    wrong_length inputs text
+    (λ (e : text ≡ codes "."). let one : length text ≡ 1 = ap length e in absurd (omega arith))
+    (omega arith)
+
+-- a line of more than two bytes more than there are inputs is bad, its line feed not counted
+pub too_long : (inputs : ℕ) (text : List ℕ) (ended : Bool) → inputs + 2 < length text
+    → entry_of inputs (line text ended) ≡ None
+too_long inputs text true long = too_long_text inputs (without_return text) (omega (arith, one_shorter text))
+too_long inputs text false long = too_long_text inputs text (omega arith)

@@ -1,0 +1,176 @@
+-- The characters of a step's inputs, and how long its line is.
+use Rattle.std.proofs.Common.{◌≡◌, ◌==◌, ◌≤◌, ℕ, List, [], ◌∷◌, Bool, true, false, Option, Some, None, codes}
+use Rattle.std.proofs.Common.{length, replicate}
+use Rattle.std.proofs.Common.{refl, sym, ap, ap₂, ◌∙◌, arith, bytes_eq, option_map, option_and_then, if◌then◌else◌}
+use Rattle.std.proofs.lemmas.Bool.{eqb-true}
+use Rattle.std.proofs.lemmas.List.{length-map}
+use Rattle.std.proofs.lemmas.Slice.Eq.{bytes_eq-Decides}
+use Rattle.aig_core.specs.declared.circuit.Circuit.{Circuit}
+use Rattle.aig_core.specs.declared.circuit.Latch.{Latch}
+use Rattle.aig_core.specs.declared.value.Val.{Val}
+use Rattle.aig_core.specs.declared.value.Val.TheVariants.{Zero, One, X}
+use Rattle.aig_meaning.specs.Meaning.{IsRow, IsStepAssignment, MeansTheSame, Row, latch_variables, literal_value}
+use Rattle.aig_meaning.specs.Meaning.{next_literals}
+use Rattle.aig_meaning.proofs.Rows.{one_row}
+use Rattle.aig_core.specs.Wellformed.{IsWellFormed}
+use Rattle.std.proofs.lemmas.Simd.{length-replicate}
+use Rattle.aig_step.specs.Stimulus.{Step, Stop, entry_in, value_of, values_of}
+use Rattle.aig_step.specs.TraceText.{character_of, values_text}
+use Rattle.aig_step.specs.Parts.Lines.{HasLineRoom, line_size, row_read, row_size, vector_in}
+
+-- a value that a character stands for has that character
+by_tests : (p q r : Bool) (b : ℕ) (v : Val) → (p ≡ true → b ≡ 48) → (q ≡ true → b ≡ 49) → (r ≡ true → b ≡ 120)
+    → (if p then Some Zero else if q then Some One else if r then Some X else None) ≡ Some v → character_of v ≡ b
+by_tests true q r b v zero one x is =
+    let same : v ≡ Zero = cc in ap character_of same ∙ sym (zero refl)
+by_tests false true r b v zero one x is =
+    let same : v ≡ One = cc in ap character_of same ∙ sym (one refl)
+by_tests false false true b v zero one x is =
+    let same : v ≡ X = cc in ap character_of same ∙ sym (x refl)
+by_tests false false false b v zero one x is = cc
+
+character_back : (b : ℕ) (v : Val) → value_of b ≡ Some v → character_of v ≡ b
+character_back b v is =
+    by_tests (b == 48) (b == 49) (b == 120) b v (eqb-true b 48) (eqb-true b 49) (eqb-true b 120) is
+
+first_back : (o : Option Val) (others : Option (List Val)) (b : ℕ) (bs : List ℕ) (vs : List Val)
+    → ((v : Val) → o ≡ Some v → character_of v ≡ b)
+    → ((us : List Val) → others ≡ Some us → values_text us ≡ bs)
+    → option_and_then (λ u. option_map (λ us. u ∷ us) others) o ≡ Some vs → values_text vs ≡ b ∷ bs
+first_back None others b bs vs first more is = cc
+first_back (Some u) None b bs vs first more is = cc
+first_back (Some u) (Some us) b bs vs first more is =
+    let same : vs ≡ u ∷ us = cc in
+    ap values_text same ∙ ap₂ (λ (c : ℕ) (cs : List ℕ). c ∷ cs) (first u refl) (more us refl)
+
+-- the characters of the values that characters stand for
+pub values_back : (text : List ℕ) (vs : List Val) → values_of text ≡ Some vs → values_text vs ≡ text
+values_back [] vs is = let none : vs ≡ [] = cc in ap values_text none
+values_back (b ∷ bs) vs is =
+    first_back (value_of b) (values_of bs) b bs vs (character_back b)
+    (λ (us : List Val) (e : values_of bs ≡ Some us). values_back bs us e) is
+
+-- the values that a text says, by what was tested
+by_length : (long : Bool) (o : Option (List Val)) (given : List Val) → (if long then o else None) ≡ Some given
+    → o ≡ Some given
+by_length true o given is = is
+by_length false o given is = cc
+
+has_length : (long : Bool) (o : Option (List Val)) (given : List Val) → (if long then o else None) ≡ Some given
+    → long ≡ true
+has_length true o given is = refl
+has_length false o given is = cc
+
+says_step : (stop long : Bool) (o : Option (List Val)) (given : List Val) → (stop ≡ true → o ≡ None)
+    → (if long then o else None) ≡ Some given
+    → (if stop then Some Stop else if long then option_map Step o else None) ≡ Some (Step given)
+says_step true true o given none is = let no = none refl in cc
+says_step true false o given none is = cc
+says_step false true o given none is = ap (option_map Step) is
+says_step false false o given none is = cc
+
+says_none : (stop long : Bool) (o : Option (List Val)) → (if long then o else None) ≡ None
+    → (if stop then Some Stop else if long then option_map Step o else None) ≡ (if stop then Some Stop else None)
+says_none true long o is = refl
+says_none false true o is = ap (option_map Step) is
+says_none false false o is = refl
+
+-- a text that says values is made of their characters, and has as many as there are inputs
+pub vector_back : (inputs : ℕ) (text : List ℕ) (given : List Val) → vector_in inputs text ≡ Some given
+    → values_text given ≡ text
+vector_back inputs text given is =
+    values_back text given (by_length (length text == inputs) (values_of text) given is)
+
+pub vector_long : (inputs : ℕ) (text : List ℕ) (given : List Val) → vector_in inputs text ≡ Some given
+    → length text ≡ inputs
+vector_long inputs text given is =
+    eqb-true (length text) inputs (has_length (length text == inputs) (values_of text) given is)
+
+-- it says a step, since the character of a line that ends a run is no value
+pub vector_says : (inputs : ℕ) (text : List ℕ) (given : List Val) → vector_in inputs text ≡ Some given
+    → entry_in inputs text ≡ Some (Step given)
+vector_says inputs text given is =
+    says_step (bytes_eq text (codes ".")) (length text == inputs) (values_of text) given
+    (λ stop. ap values_of ((bytes_eq-Decides text (codes ".")).0 stop)) is
+
+-- and a text that says no values says no step
+pub vector_none : (inputs : ℕ) (text : List ℕ) → vector_in inputs text ≡ None
+    → entry_in inputs text ≡ (if bytes_eq text (codes ".") then Some Stop else None)
+vector_none inputs text is = says_none (bytes_eq text (codes ".")) (length text == inputs) (values_of text) is
+
+-- how long the line of a row is
+pub row_long : (c : Circuit) (row : Row) → IsRow c row → row_size row ≡ line_size c
+row_long c row (a, read) =
+    omega (
+      arith,
+      ap length read.assigned.latches,
+      length-map (latch_variables c) a,
+      length-map c.latches (λ (l : Latch). l.var),
+      ap length read.assigned.inputs,
+      length-map c.inputs a,
+      ap length read.outputs_shown,
+      length-map c.outputs (literal_value a),
+      ap length read.next_shown,
+      length-map (next_literals c) (literal_value a),
+      length-map c.latches (λ (l : Latch). l.next),
+      ap length read.bad_shown,
+      length-map c.bad (literal_value a),
+      ap length read.constraints_shown,
+      length-map c.constraints (literal_value a),
+    )
+
+-- that of a circuit that means the same
+pub row_fits : (c d : Circuit) (row : Row) → MeansTheSame c d → IsRow d row → row_size row ≡ line_size c
+row_fits c d row means is = row_long c row ((means.rows row).1 is)
+
+-- circuits that mean the same have lines of the same length
+pub same_size : (c d : Circuit) → IsWellFormed c → MeansTheSame c d → line_size c ≡ line_size d
+same_size c d formed means =
+    let states = length c.latches in
+    let inputs = length c.inputs in
+    let there = one_row c (replicate states X) (replicate inputs X) formed (length-replicate states X)
+    (length-replicate inputs X) in
+    sym (row_long c there.0 there.3) ∙ row_long d there.0 ((means.rows there.0).0 there.3)
+
+-- the values of a step show a row
+pub row_is_read : (c : Circuit) (state given : List Val) (a : ℕ → Val) → IsStepAssignment c state given a
+    → IsRow c (row_read c state given a)
+row_is_read c state given a is = (
+  a,
+  record {
+    assigned = is;
+    outputs_shown = refl;
+    next_shown = refl;
+    bad_shown = refl;
+    constraints_shown = refl;
+  },
+)
+
+-- Two circuits show the same, so their rows and lines are alike.
+pub record ShowsTheSame (c d : Circuit) : Type 0 where
+  pub inputs : d.inputs ≡ c.inputs
+  pub latches : d.latches ≡ c.latches
+  pub outputs : d.outputs ≡ c.outputs
+  pub bad : d.bad ≡ c.bad
+  pub constraints : d.constraints ≡ c.constraints
+
+pub same_read : (c d : Circuit) (state given : List Val) (a : ℕ → Val) → ShowsTheSame c d
+    → row_read d state given a ≡ row_read c state given a
+same_read c d state given a same = rw (same.latches, same.outputs, same.bad, same.constraints) refl
+
+-- room for each row is room for the line of this one
+pub line_fits : (c d : Circuit) (room : ℕ) (state given : List Val) (a : ℕ → Val) → IsStepAssignment c state given a
+    → HasLineRoom c room → ShowsTheSame c d → line_size d ≤ room
+line_fits c d room state given a assigned fits same =
+    let row = row_read c state given a in
+    let is = row_is_read c state given a assigned in
+    omega (
+      arith,
+      fits row is,
+      row_long c row is,
+      ap length same.inputs,
+      ap length same.latches,
+      ap length same.outputs,
+      ap length same.bad,
+      ap length same.constraints,
+    )

@@ -1,0 +1,4 @@
+pub mod Cells
+pub mod Characters
+pub mod Machines
+pub mod Tables

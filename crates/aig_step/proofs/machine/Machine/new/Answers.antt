@@ -1,0 +1,17 @@
+use Rattle.std.proofs.lemmas.Result.{IfOk-weaker}
+use Rattle.aig_core.specs.declared.circuit.Circuit.{Circuit}
+use Rattle.aig_meaning.specs.Meaning.{MeansTheSame}
+use Rattle.aig_meaning.proofs.Same.{same_through}
+use Rattle.aig_image.proofs.Meaning.Images.{image_means_the_same}
+use Rattle.aig_step.proofs.machine.Machine.new.Goals as goal
+
+-- what runs means the same as the image, and that the same as the circuit
+pub returns : goal.returns
+returns c =
+    IfOk-weaker c.of_ordered.result (λ (m : Circuit). MeansTheSame c.in_ok-image.image m)
+    (λ (m : Circuit). MeansTheSame c.args.checked.now m)
+    (λ m same.
+    same_through c.args.checked.now c.in_ok-image.image m
+    (image_means_the_same c.args.checked.now c.in_ok-image.image c.circuit-circuit.ensures.well_formed
+    c.in_ok-image.ensures) same)
+    c.of_ordered.ensures

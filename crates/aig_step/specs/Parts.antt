@@ -1,0 +1,6 @@
+pub mod Cells
+pub mod Tables
+pub mod Machines
+pub mod Simulators
+pub mod Lines
+pub mod Seen

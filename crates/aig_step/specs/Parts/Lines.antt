@@ -1,0 +1,46 @@
+-- How lines are read, kept and written. Only the simulator cites this.
+use Rattle.std.specs.Prelude.{◌++◌, ◌+◌, ◌≤◌, ◌==◌, ℕ, List, None, Option, length, map, take, if◌then◌else◌}
+use Rattle.aig_core.specs.declared.circuit.Circuit.{Circuit}
+use Rattle.aig_core.specs.declared.value.Val.{Val}
+use Rattle.aig_meaning.specs.Meaning.{IsRow, Row, literal_value, next_literals}
+use Rattle.aig_step.specs.Stimulus.{values_of}
+
+-- the values that a text says, where there are so many inputs
+abbrev pub vector_in : ℕ → List ℕ → Option (List Val)
+vector_in inputs text = if length text == inputs then values_of text else None
+
+-- the bytes that are kept, and how many there may be
+pub record Keeping : Type 0 where
+  pub bytes : List ℕ
+  pub room : ℕ
+
+-- more bytes of a line came: as many are kept as there is room for
+abbrev pub keeping_more : Keeping → List ℕ → Keeping
+keeping_more k text = record k { bytes = take k.room (k.bytes ++ text) }
+
+-- the row that values show, with this state and these inputs
+abbrev pub row_read : Circuit → List Val → List Val → (ℕ → Val) → Row
+row_read c state inputs a = record {
+  state = state;
+  inputs = inputs;
+  outputs = map (literal_value a) c.outputs;
+  next = map (literal_value a) (next_literals c);
+  bad = map (literal_value a) c.bad;
+  constraints = map (literal_value a) c.constraints;
+}
+
+-- how long the line of a row may be
+abbrev pub row_size : Row → ℕ
+row_size row =
+    length row.state + length row.inputs + length row.outputs + length row.next + length row.bad
+    + length row.constraints + 6
+
+-- how many values the rows of a circuit have, and what stands between them
+abbrev pub line_size : Circuit → ℕ
+line_size c =
+    length c.latches + length c.inputs + length c.outputs + length c.latches + length c.bad
+    + length c.constraints + 6
+
+-- so many bytes are room for the line of each row
+abbrev pub HasLineRoom : Circuit → ℕ → Type 0
+HasLineRoom c room = (row : Row) → IsRow c row → row_size row ≤ room

@@ -1,0 +1,44 @@
+//! Single steps of a circuit, and what they are made of: lines of a stimulus, and the line that
+//! shows a step.
+//!
+//! Others call `Simulator` for single steps. The crates of the simulator above this one call
+//! `Machine`, `Table` and `write_row`.
+//!
+//! Modules:
+//! - `cells`: a table of values as bytes, each with its negation behind it.
+//! - `evaluate`: the other loops of a step over such a table.
+//! - `machine`: a circuit in binary order that is kept to be run.
+//! - `simulator`: `Simulator`, with its state and the row of its last step.
+//! - `stimulus`: what the lines of a stimulus say.
+//! - `kept`: the beginning of a line that has not ended yet.
+//! - `trace`: the line of a step.
+//! - `fault`: why a simulation ended early.
+//!
+//! Definitions (`specs/`); those that matter most are `stimulus`, `IsTraceText`, `Simulated` and
+//! `Stepped`:
+//! - `Simulating`, `Showing`: what a simulator is, what a step does, and what it shows.
+//! - `Stimulus`, `TraceText`: what bytes say, and which text is due. `Outcome`: what came of it.
+//! - `Messages`: the words of a fault.
+//! - `Parts`: what only functions inside the simulator cite.
+//!
+//! Lemmas (`proofs/`), beside the folders that are named after modules: `Running` (how a circuit is
+//! run).
+#![tactic(auto)]
+
+mod cells;
+mod evaluate;
+mod fault;
+mod kept;
+mod machine;
+mod simulator;
+mod stimulus;
+mod trace;
+
+pub use crate::cells::{Code, Table};
+pub use crate::evaluate::{Pair, put_reset_state, reset_value, show_next};
+pub use crate::fault::SimFault;
+pub use crate::kept::Kept;
+pub use crate::machine::Machine;
+pub use crate::simulator::{Row, Simulator};
+pub use crate::stimulus::{is_stop, without_return};
+pub use crate::trace::{Columns, write_row, write_text};

@@ -1,0 +1,151 @@
+//! A circuit in binary order that is kept to be run.
+ghost use Rattle.std.specs.Prelude.{◌≡◌, ◌+◌, ◌≤◌, List, None, Some, false, length, slice_set, true, IfOk};
+ghost use Rattle.aig_core.specs.declared.value.Val.{Val as Value};
+ghost use Rattle.aig_core.specs.declared.value.Val.TheVariants.{Zero};
+ghost use Rattle.aig_meaning.specs.Meaning.{IsStepAssignment, MeansTheSame};
+ghost use Rattle.aig_step.specs.Parts.Lines.{vector_in};
+ghost use Rattle.aig_step.specs.Parts.Machines.{CanRun, ShowsBelow, circuit_of, parts_of};
+ghost use Rattle.aig_step.specs.Parts.Tables.{placed, read_from};
+
+use crate::cells::{Code, Table};
+use crate::evaluate::{Pair, pairs_of, place};
+use aig_core::{Checked, Circuit, Justice, Listing, Ordered, OutOfMemory, Symbols, Val};
+use aig_image::to_binary;
+use std::alloc::Global;
+use std::marker::Model;
+
+/// A circuit in binary order, without what no row shows, its gates as pairs of operands.
+#[derive(Drop)]
+pub struct Machine {
+    /// The circuit without its gates.
+    parts: Circuit,
+    /// The operands of its gates.
+    pairs: Vec<Pair>,
+}
+
+impl Model for Machine {
+    ghost use Rattle.aig_core.specs.declared.circuit.Circuit.{Circuit as CircuitRecord};
+    ghost use Rattle.aig_step.specs.Parts.Machines.{CanRun, circuit_of};
+
+    ghost Value = { CircuitRecord };
+
+    ghost view = { λ m. circuit_of m.parts m.pairs.items };
+
+    ghost invariant = { λ m. CanRun m.parts m.pairs.items };
+}
+
+/// The circuit without its gates, and without what no row shows.
+fn into_parts(alloc: Global, circuit: Circuit) -> Circuit
+    ensures { result ≡ parts_of circuit }
+{
+    Circuit {
+        justice: Justice {
+            sizes: Listing::new(alloc),
+            literals: Listing::new(alloc),
+        },
+        fairness: Listing::new(alloc),
+        gates: Listing::new(alloc),
+        symbols: Symbols::new(alloc),
+        comment: None,
+        ..circuit
+    }
+}
+
+impl Machine {
+    /// What runs a circuit in binary order.
+    fn of_ordered(alloc: Global, ordered: Ordered) -> Result<Self, OutOfMemory>
+        ensures { IfOk result (λ m. MeansTheSame ordered m) }
+    {
+        let circuit = ordered.into_checked().into_circuit();
+        let pairs = pairs_of(alloc, circuit.gates.as_slice())?;
+        Ok(Machine {
+            parts: into_parts(alloc, circuit),
+            pairs,
+        })
+    }
+
+    /// What runs a circuit, by its binary image.
+    pub fn new(alloc: Global, checked: &Checked) -> Result<Self, OutOfMemory>
+        ensures { IfOk result (λ m. MeansTheSame checked.now m) }
+    {
+        // That the circuit is well formed is known by this call.
+        let _circuit = checked.circuit();
+        let image = to_binary(alloc, checked)?;
+        Machine::of_ordered(alloc, image)
+    }
+
+    /// The circuit without its gates.
+    pub fn parts(&self) -> &Circuit
+        ensures max_var { result.now.max_var ≡ self.now.max_var }
+        ensures inputs { result.now.inputs ≡ self.now.inputs }
+        ensures latches { result.now.latches ≡ self.now.latches }
+        ensures outputs { result.now.outputs ≡ self.now.outputs }
+        ensures bad { result.now.bad ≡ self.now.bad }
+        ensures constraints { result.now.constraints ≡ self.now.constraints }
+        ensures below { ShowsBelow (1 + result.now.max_var) result.now }
+        ensures room { length result.now.inputs + length result.now.latches ≤ result.now.max_var }
+    {
+        &self.parts
+    }
+
+    /// Fills the table with the values of a step, where it has those of the constant and of the inputs.
+    #[inline(always)]
+    fn evaluate(&self, state: &[Code], values: &mut Table)
+        requires each_latch { length state.now ≡ length self.now.latches }
+        requires room { length values.old ≡ 1 + self.now.max_var }
+        ensures assigned { (given table : List Value) → length given ≡ length self.now.inputs
+            → values.old ≡ placed 1 given (slice_set table 0 Zero)
+            → IsStepAssignment self.now state.now given (read_from values.new) }
+        ensures room { length values.new ≡ length values.old }
+    {
+        // That there are not too many inputs to count one more is known by this read.
+        let _largest = self.parts.max_var;
+        let pairs = self.pairs.as_slice();
+        values.place(1 + self.parts.inputs.len(), state);
+        values.evaluate(pairs);
+    }
+
+    /// Fills the table with the values of a step.
+    pub(crate) fn assign(&self, given: &[Val], state: &[Code], values: &mut Table)
+        requires each_input { length given.now ≡ length self.now.inputs }
+        requires each_latch { length state.now ≡ length self.now.latches }
+        requires room { length values.old ≡ 1 + self.now.max_var }
+        ensures assigned { IsStepAssignment self.now state.now given.now (read_from values.new) }
+        ensures room { length values.new ≡ length values.old }
+    {
+        // That the table has room for the inputs is known by this read.
+        let _parts = &self.parts;
+        values.put(0, Val::Zero);
+        place(1, given, values);
+        self.evaluate(state, values);
+    }
+
+    /// The operands of its gates.
+    pub fn pairs(&self) -> &[Pair]
+        ensures runs { CanRun self.now result.now }
+        ensures is { circuit_of self.now result.now ≡ self.now }
+    {
+        &self.pairs
+    }
+
+    /// Fills the table with the values of a step whose inputs this text says, and answers whether it says inputs.
+    #[inline(always)]
+    pub fn assign_text(&self, text: &[u8], state: &[Code], values: &mut Table) -> bool
+        requires each_latch { length state.now ≡ length self.now.latches }
+        requires room { length values.old ≡ 1 + self.now.max_var }
+        ensures good { result ≡ true → (given : List Value) × (vector_in (length self.now.inputs) text.now ≡ Some given)
+            × IsStepAssignment self.now state.now given (read_from values.new) }
+        ensures bad { result ≡ false → vector_in (length self.now.inputs) text.now ≡ None }
+        ensures room { length values.new ≡ length values.old }
+    {
+        if text.len() != self.parts.inputs.len() {
+            return false;
+        }
+        values.put(0, Val::Zero);
+        if !values.place_text(1, text) {
+            return false;
+        }
+        self.evaluate(state, values);
+        true
+    }
+}

@@ -1,0 +1,9 @@
+pub mod Going
+pub mod Heard
+pub mod LinesSay
+pub mod RunTexts
+pub mod StepsTaken
+pub mod Taking
+pub mod Gathering
+pub mod Sending
+pub mod Streams

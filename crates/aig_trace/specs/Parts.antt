@@ -1,0 +1,4 @@
+pub mod Progress
+pub mod Gathering
+pub mod Tracing
+pub mod Streaming

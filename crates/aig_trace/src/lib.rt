@@ -1,0 +1,23 @@
+//! The trace text of a stimulus that is taken line by line.
+//!
+//! Others call `simulate`. Where a whole stimulus is read first, `aig_batch` calls `Reader` for the
+//! lines that it does not step side by side, and `Gathered` for the text.
+//!
+//! Modules:
+//! - `gathered`: lines that are gathered before an output.
+//! - `tracer`, `reader`: a line and what is written for it; bytes as they come.
+//! - `stream`: `simulate`.
+//!
+//! Definitions (`specs/`): `Parts`, what only functions inside the simulator cite. What is promised
+//! of `simulate` stands in `Outcome` of `aig_step`.
+#![tactic(auto)]
+
+mod gathered;
+mod reader;
+mod stream;
+mod tracer;
+
+pub use crate::gathered::{Gathered, Line};
+pub use crate::reader::Reader;
+pub use crate::stream::simulate;
+pub use crate::tracer::line_room;

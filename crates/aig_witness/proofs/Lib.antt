@@ -1,0 +1,7 @@
+pub mod Confirmed
+pub mod WitnessEnds
+pub mod WitnessLines
+pub mod WitnessReading
+pub mod WitnessRoom
+pub mod WitnessValues
+pub mod Witnessing

@@ -1,0 +1,158 @@
+-- A line that is too long for a witness file is as wrong as what is kept of it.
+use Rattle.std.proofs.Common.{rules}
+use Rattle.std.proofs.Common.{◌≡◌, ◌≢◌, ◌+◌, ◌-◌, ◌*◌, ◌<◌, ◌≤◌, ◌==◌, ◌&&◌, ℕ, zero, suc, List, [], ◌∷◌, Bool}
+use Rattle.std.proofs.Common.{true, false, length, Option, Some, None, refl, sym, ap, ◌∙◌, arith, take, drop, max}
+use Rattle.std.proofs.Common.{codes, bytes_eq, fold, inl, inr, not, nat_le, nat_lt, if◌then◌else◌, option_map}
+use Rattle.std.specs.List.{list_all}
+use Rattle.std.proofs.lemmas.Bool.{cases_lt, eqb-false, false_from_ne_true, leb-true, ltb-true}
+use Rattle.std.proofs.lemmas.Slice.Eq.{bytes_eq-Decides}
+use Rattle.std.proofs.lemmas.List.{length-take-le, take_all, take-append-drop}
+use Rattle.std.proofs.lemmas.List.Sums.{fold-append}
+use Rattle.aig_core.specs.declared.circuit.TheConstants.{LARGEST}
+use Rattle.aig_text.specs.Lines.{line}
+use Rattle.aig_text.specs.Spelling.{is_digit, value_of}
+use Rattle.aig_step.specs.Stimulus.{text_of, without_return}
+use Rattle.aig_witness.specs.Witness.{Nothing, Property, Said, Shape, Steps, Version, Whole, begun_at, is_canonical}
+use Rattle.aig_witness.specs.Witness.{number_below, property_in, said_with, with_entry}
+use Rattle.aig_witness.specs.Parts.Witnessing.{digits_below, witness_room}
+use Rattle.aig_step.proofs.EntryTexts.{one_shorter, too_long_text}
+use Rattle.aig_witness.proofs.WitnessValues.{no_first_state}
+
+abbrev spell : ℕ → ℕ → ℕ
+spell v b = 10 * v + (b - 48)
+
+-- m with so many zeros behind it
+tens : ℕ → ℕ → ℕ
+tens m zero = m
+tens m (suc k) = tens (10 * m) k
+
+tens_grow : (m k : ℕ) → m ≤ tens m k
+unfolding tens
+tens_grow m zero = omega arith
+tens_grow m (suc k) = omega (arith, tens_grow (10 * m) k)
+
+-- digits behind a number
+spelled_behind : (m n : ℕ) (ds : List ℕ) → m ≤ n → tens m (length ds) ≤ fold spell n ds
+unfolding tens
+spelled_behind m n [] low = low
+spelled_behind m n (d ∷ ds) low = spelled_behind (10 * m) (10 * n + (d - 48)) ds (omega arith)
+
+spell_grows : (n : ℕ) (ds : List ℕ) → n ≤ fold spell n ds
+spell_grows n [] = omega arith
+spell_grows n (d ∷ ds) = omega (arith, spell_grows (10 * n + (d - 48)) ds)
+
+-- digits behind others do not make the number smaller
+pub spelled_front : (text : List ℕ) (i : ℕ) → value_of (take i text) ≤ value_of text
+spelled_front text i =
+    let whole : value_of text ≡ fold spell (value_of (take i text)) (drop i text) =
+    ap (fold spell 0) (sym (take-append-drop i text)) ∙ fold-append spell 0 (take i text) (drop i text) in
+    omega (arith, whole, spell_grows (value_of (take i text)) (drop i text))
+
+-- a number that is too large is none
+by_order : (low : Bool) (n : ℕ) → (low ≡ true → ⊥) → (if low then Some n else None) ≡ None
+by_order true n never = absurd (never refl)
+by_order false n never = refl
+
+too_high : (digits : Bool) (n bound : ℕ) → bound ≤ n → (if digits && nat_lt n bound then Some n else None) ≡ None
+too_high true n bound high = by_order (nat_lt n bound) n (λ low. absurd (omega (arith, ltb-true n bound low, high)))
+too_high false n bound high = refl
+
+pub digits_high : (bound : ℕ) (text : List ℕ) → bound ≤ value_of text → digits_below bound text ≡ None
+digits_high bound text high = too_high (list_all is_digit text) (value_of text) bound high
+
+-- a canonical number of many digits is large
+tens_on : (m j k : ℕ) → tens m (j + k) ≡ tens (tens m j) k
+unfolding tens
+tens_on m zero k = let same : 0 + k ≡ k = omega arith in ap (tens m) same
+tens_on m (suc j) k = let same : suc j + k ≡ suc (j + k) = omega arith in ap (tens m) same ∙ tens_on (10 * m) j k
+
+three : (a b d : Bool) → (a && b && d) ≡ true → (b ≡ true) × (d ≡ true)
+three true true true is = (refl, refl)
+three true true false is = cc
+three true false d is = cc
+three false b d is = cc
+
+two : (a b : Bool) → (a && b) ≡ true → (a ≡ true) × (b ≡ true)
+two true b is = (refl, is)
+two false b is = cc
+
+not_padding : (digit padding : Bool) → digit ≡ true → not (digit && padding) ≡ true → padding ≡ false
+not_padding true true is unpadded = cc
+not_padding true false is unpadded = refl
+not_padding false padding is unpadded = cc
+
+canonical_first : (a b : ℕ) (bs : List ℕ) → is_canonical (a ∷ b ∷ bs) ≡ true → 1 ≤ a - 48
+canonical_first a b bs is = search (rules, three, nat_lt, two, eqb-false, not_padding, leb-true, nat_le)
+
+-- twelve digits or more
+canonical_large : (text : List ℕ) → 11 < length text → is_canonical text ≡ true → 100000000000 ≤ value_of text
+unfolding tens
+canonical_large [] long is = absurd (omega arith)
+canonical_large (a ∷ []) long is = absurd (omega arith)
+canonical_large (a ∷ b ∷ bs) long is =
+    let more = length (b ∷ bs) - 11 in
+    let count : length (b ∷ bs) ≡ 11 + more = omega (arith, long) in
+    omega (
+      arith,
+      spelled_behind 1 (10 * 0 + (a - 48)) (b ∷ bs) (omega (arith, canonical_first a b bs is)),
+      ap (tens 1) count,
+      tens_on 1 11 more,
+      tens_grow (tens 1 11) more,
+    )
+
+not_below : (canonical : Bool) (n bound : ℕ) → (canonical ≡ true → bound ≤ n)
+    → (if canonical && nat_lt n bound then Some n else None) ≡ None
+not_below true n bound high = too_high true n bound (high refl)
+not_below false n bound high = refl
+
+number_long : (bound : ℕ) (text : List ℕ) → bound ≤ LARGEST → 11 < length text → number_below bound text ≡ None
+number_long bound text few long =
+    not_below (is_canonical text) (value_of text) bound
+    (λ is. omega (arith, canonical_large text long is, few))
+
+none_either : (begins : Bool) (o : Option ℕ) → o ≡ None → (if begins then o else None) ≡ None
+none_either true o none = none
+none_either false o none = refl
+
+property_long : (bad : ℕ) (text : List ℕ) → bad ≤ LARGEST → 12 < length text → property_in bad text ≡ None
+property_long bad [] few long = refl
+property_long bad (b ∷ bs) few long =
+    none_either (b == 98) (number_below bad bs) (number_long bad bs few (omega (arith, long)))
+
+other_text : (text word : List ℕ) → length text ≢ length word → bytes_eq text word ≡ false
+other_text text word other =
+    false_from_ne_true (bytes_eq text word) (λ e. other (ap length ((bytes_eq-Decides text word).0 e)))
+
+-- a text that is too long is not due, whichever line is
+long_due : (shape : Shape) (said : Said) (text : List ℕ) → shape.bad ≤ LARGEST
+    → max (max (length shape.resets) shape.inputs) 12 + 1 < length text → said_with shape said text ≡ None
+long_due shape Nothing text few long =
+    ap (λ (b : Bool). if b then Some Version else None) (other_text text (codes "1") (omega (arith, long)))
+long_due shape Version text few long =
+    ap (option_map Property) (property_long shape.bad text few (omega (arith, long)))
+long_due shape (Property p) text few long =
+    ap (option_map (begun_at p)) (no_first_state shape.resets text (omega (arith, long)))
+long_due shape (Steps claim) text few long =
+    ap (option_map (with_entry claim)) (too_long_text shape.inputs text (omega (arith, long)))
+long_due shape (Whole claim) text few long = refl
+
+long_line : (shape : Shape) (said : Said) (text : List ℕ) (ended : Bool) → shape.bad ≤ LARGEST
+    → max (max (length shape.resets) shape.inputs) 12 + 2 < length text
+    → said_with shape said (text_of (line text ended)) ≡ None
+long_line shape said text true few long =
+    long_due shape said (without_return text) few (omega (arith, long, one_shorter text))
+long_line shape said text false few long = long_due shape said text few (omega (arith, long))
+
+-- a line that is too long is as wrong as what is kept of it
+pub kept_due : (shape : Shape) (said : Said) (text : List ℕ) (ended : Bool) → shape.bad ≤ LARGEST
+    → said_with shape said (text_of (line (take (witness_room shape) text) ended))
+    ≡ said_with shape said (text_of (line text ended))
+kept_due shape said text ended few =
+    let most = max (max (length shape.resets) shape.inputs) 12 in
+    elim (cases_lt (most + 2) (length text)) [
+      | inl long ↦ long_line shape said (take (most + 3) text) ended few
+          (omega (arith, length-take-le (most + 3) text (omega (arith, long))))
+          ∙ sym (long_line shape said text ended few long)
+      | inr short ↦ ap (λ (t : List ℕ). said_with shape said (text_of (line t ended)))
+          (take_all (most + 3) text (omega (arith, short)))
+    ]

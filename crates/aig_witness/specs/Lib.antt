@@ -1,0 +1,5 @@
+pub use Rattle.aig_step.specs.Stimulus
+pub use Rattle.aig_step.specs.Outcome
+pub mod Witness
+pub mod Confirming
+pub mod Parts

@@ -1,0 +1,270 @@
+//! Lines of a witness file, and the steps of a circuit for them.
+ghost use Rattle.std.specs.Prelude.{◌≡◌, ◌≢◌, ◌+◌, ◌-◌, ◌^◌, ◌<◌, ◌≤◌, IfOk, None, codes, false, length, map, true};
+ghost use Rattle.std.specs.List.{All};
+ghost use Rattle.std.specs.Str.{bytes_eq};
+ghost use Rattle.aig_core.specs.declared.circuit.TheConstants.{LARGEST};
+ghost use Rattle.aig_meaning.specs.Meaning.{MeansTheSame, literal_value};
+ghost use Rattle.aig_witness.specs.declared.checker.Due.TheVariants as due;
+ghost use Rattle.aig_step.specs.Stimulus.{entry_in};
+ghost use Rattle.aig_witness.specs.Witness.{Nothing, Said, first_state_in, property_in, said_with, shape_of};
+ghost use Rattle.aig_step.specs.Parts.Lines.{vector_in};
+ghost use Rattle.aig_step.specs.Parts.Tables.{IsLiteralBelow, read_from};
+ghost use Rattle.aig_witness.specs.Parts.Witnessing.{Stands, StepTaken, TookDue, TookEntry, TookFirstState};
+ghost use Rattle.aig_witness.specs.Parts.Witnessing.{TookProperty, are_ones, is_one, verdict_of, witness_room};
+
+use crate::search::Search;
+use crate::verdict::Verdict;
+use crate::witness_line::{is_version, property_in, read_first_state};
+use aig_core::{Checked, Circuit, Lit, OutOfMemory, Val};
+use aig_step::{Code, Machine, Table, is_stop, show_next};
+use std::alloc::Global;
+use std::marker::Model;
+
+/// Which line is due.
+#[derive(Clone, Copy)]
+pub(crate) enum Due {
+    /// The line `1`.
+    Version,
+    /// The line that names a bad state.
+    Property,
+    /// The line of the first state.
+    FirstState,
+    /// A line of a step, or the line `.`.
+    Steps,
+    /// None.
+    Nothing,
+}
+
+/// What judges the lines of a witness file, and follows what they claim.
+#[derive(Drop)]
+pub(crate) struct Checker {
+    machine: Machine,
+    /// A place for the value of each variable.
+    values: Table,
+    /// The state before the next step.
+    state: Vec<Code>,
+    due: Due,
+    search: Search,
+}
+
+impl Model for Checker {
+    ghost use Rattle.std.specs.Prelude.{◌≡◌, ◌+◌, ◌≤◌, length};
+    ghost use Rattle.aig_core.specs.declared.circuit.TheConstants.{LARGEST};
+    ghost use Rattle.aig_step.specs.Parts.Tables.{IsLiteralBelow};
+    ghost use Rattle.aig_witness.specs.Parts.Witnessing.{Witnessing};
+
+    ghost Value = { Witnessing };
+
+    ghost view = { λ c. record {
+      circuit = c.machine;
+      due = c.due;
+      state = c.state.items;
+      search = c.search;
+    } };
+
+    ghost invariant = { λ c. (length c.values ≡ 1 + c.machine.max_var)
+        × (length c.state.items ≡ length c.machine.latches)
+        × IsLiteralBelow (1 + c.machine.max_var) c.search.literal
+        × (length c.machine.bad ≤ LARGEST) };
+}
+
+/// Whether the value is 1.
+fn is_one(value: Val) -> bool
+    ensures { result ≡ is_one value }
+{
+    matches!(value, Val::One)
+}
+
+/// Whether each of the literals is 1.
+fn are_ones(literals: &[Lit], values: &Table) -> bool
+    requires { All (IsLiteralBelow (length values.now)) literals.now }
+    ensures { result ≡ are_ones (map (literal_value (read_from values.now)) literals.now) }
+{
+    for literal in literals {
+        if !is_one(values.value(*literal)) {
+            return false;
+        }
+    }
+    true
+}
+
+/// Places for the value of each variable, and for the state.
+fn make_room(alloc: Global, parts: &Circuit) -> Result<(Table, Vec<Code>), OutOfMemory>
+    ensures values { IfOk result (λ made. length made.0 ≡ 1 + parts.now.max_var) }
+    ensures state { IfOk result (λ made. length made.1.items ≡ length parts.now.latches) }
+{
+    let values = Table::new(alloc, 1 + parts.max_var as usize)?;
+    let state = vec![in alloc; Code::of(Val::Zero); parts.latches.len()]?;
+    Ok((values, state))
+}
+
+impl Checker {
+    /// It runs what the machine runs, and stands before the first line.
+    fn with_room(alloc: Global, machine: Machine) -> Result<Self, OutOfMemory>
+        requires { length machine.bad ≤ LARGEST }
+        ensures circuit { IfOk result (λ c. c.circuit ≡ machine) }
+        ensures begun { IfOk result (λ c. Stands c Nothing) }
+    {
+        let (values, state) = make_room(alloc, machine.parts())?;
+        Ok(Checker {
+            machine,
+            values,
+            state,
+            due: Due::Version,
+            search: Search {
+                literal: Lit(0),
+                steps: 0,
+                holds: true,
+                found: None,
+            },
+        })
+    }
+
+    /// It stands before the first line. All room that it needs is made here.
+    pub(crate) fn new(alloc: Global, checked: &Checked) -> Result<Self, OutOfMemory>
+        ensures same { IfOk result (λ c. MeansTheSame checked.now c.circuit) }
+        ensures bad { IfOk result (λ c. length c.circuit.bad ≡ length checked.now.bad) }
+        ensures few { IfOk result (λ c. length c.circuit.bad ≤ LARGEST) }
+        ensures begun { IfOk result (λ c. Stands c Nothing) }
+    {
+        // That the circuit is well formed is known by this call.
+        let _circuit = checked.circuit();
+        let machine = Machine::new(alloc, checked)?;
+        Checker::with_room(alloc, machine)
+    }
+
+    /// How many bytes of a line are to be kept, so that one that is too long is found bad.
+    pub(crate) fn room(&self) -> usize
+        ensures { result ≡ witness_room (shape_of self.now.circuit) }
+    {
+        let parts = self.machine.parts();
+        // That there are not too many inputs and latches to count a few more is known by this read.
+        let _largest = parts.max_var;
+        // A line that names a bad state has at most eleven bytes.
+        parts.latches.len().max(parts.inputs.len()).max(12) + 3
+    }
+
+    /// Takes the first line, and answers whether it is good.
+    fn take_version(&mut self, text: &[u8]) -> bool
+        ensures is { result ≡ bytes_eq text.now (codes "1") }
+        ensures leads { result ≡ true → self.new ≡ record self.old { due = due.Property } }
+        ensures circuit { self.new.circuit ≡ self.old.circuit }
+        ensures none { result ≡ false → self.new.search ≡ self.old.search }
+        ensures steps { self.new.search.steps ≡ self.old.search.steps }
+    {
+        if !is_version(text) {
+            return false;
+        }
+        self.due = Due::Property;
+        true
+    }
+
+    /// Takes the line that names a bad state, and answers whether it is good.
+    fn take_property(&mut self, text: &[u8]) -> bool
+        ensures good { result ≡ true → TookProperty self.old self.new text.now }
+        ensures bad { result ≡ false → property_in (length self.old.circuit.bad) text.now ≡ None }
+        ensures circuit { self.new.circuit ≡ self.old.circuit }
+        ensures none { result ≡ false → self.new.search ≡ self.old.search }
+        ensures steps { self.new.search.steps ≡ self.old.search.steps }
+    {
+        let bad = self.machine.parts().bad.as_slice();
+        let Some(property) = property_in(text, bad.len()) else {
+            return false;
+        };
+        self.search.literal = bad[property];
+        self.due = Due::FirstState;
+        true
+    }
+
+    /// Takes the line of the first state, and answers whether it is good.
+    fn take_first_state(&mut self, text: &[u8]) -> bool
+        ensures good { result ≡ true → TookFirstState self.old self.new text.now }
+        ensures bad { result ≡ false → first_state_in (shape_of self.old.circuit).resets text.now ≡ None }
+        ensures circuit { self.new.circuit ≡ self.old.circuit }
+        ensures none { result ≡ false → self.new.search ≡ self.old.search }
+        ensures steps { self.new.search.steps ≡ self.old.search.steps }
+    {
+        let parts = self.machine.parts();
+        if !read_first_state(text, parts.latches.as_slice(), &mut self.state) {
+            return false;
+        }
+        self.due = Due::Steps;
+        true
+    }
+
+    /// Takes a step if the text says its inputs, and answers whether it does.
+    fn take_step(&mut self, text: &[u8]) -> bool
+        requires { self.old.search.steps < 2 ^ 64 - 1 }
+        ensures good { result ≡ true → StepTaken self.old self.new text.now }
+        ensures bad { result ≡ false → vector_in (length self.old.circuit.inputs) text.now ≡ None }
+        ensures stays { result ≡ false → self.new ≡ self.old }
+        ensures circuit { self.new.circuit ≡ self.old.circuit }
+        ensures steps { self.new.search.steps ≤ self.old.search.steps + 1 }
+    {
+        if !self
+            .machine
+            .assign_text(text, &self.state, &mut self.values)
+        {
+            return false;
+        }
+        let parts = self.machine.parts();
+        show_next(parts.latches.as_slice(), &self.values, &mut self.state);
+        let is_bad = is_one(self.values.value(self.search.literal));
+        let hold = are_ones(parts.constraints.as_slice(), &self.values);
+        self.search.look(is_bad, hold);
+        true
+    }
+
+    /// Takes a line of a step or the line `.`, and answers whether it is one of them.
+    fn take_entry(&mut self, text: &[u8]) -> bool
+        requires { self.old.search.steps < 2 ^ 64 - 1 }
+        ensures good { result ≡ true → TookEntry self.old self.new text.now }
+        ensures bad { result ≡ false → entry_in (length self.old.circuit.inputs) text.now ≡ None }
+        ensures circuit { self.new.circuit ≡ self.old.circuit }
+        ensures none { result ≡ false → self.new.search ≡ self.old.search }
+        ensures steps { self.new.search.steps ≤ self.old.search.steps + 1 }
+    {
+        if self.take_step(text) {
+            return true;
+        }
+        if !is_stop(text) {
+            return false;
+        }
+        self.due = Due::Nothing;
+        true
+    }
+
+    /// Takes a line, and answers whether it is one that is due.
+    pub(crate) fn take_line(&mut self, text: &[u8]) -> bool
+        requires { self.old.search.steps < 2 ^ 64 - 1 }
+        ensures good { result ≡ true → (said : Said) → Stands self.old said → TookDue self.old self.new said text.now }
+        ensures bad { result ≡ false → (said : Said) → Stands self.old said
+            → said_with (shape_of self.old.circuit) said text.now ≡ None }
+        ensures circuit { self.new.circuit ≡ self.old.circuit }
+        ensures none { result ≡ false → self.new.search ≡ self.old.search }
+        ensures steps { self.new.search.steps ≤ self.old.search.steps + 1 }
+    {
+        match self.due {
+            Due::Version => self.take_version(text),
+            Due::Property => self.take_property(text),
+            Due::FirstState => self.take_first_state(text),
+            Due::Steps => self.take_entry(text),
+            Due::Nothing => false,
+        }
+    }
+
+    /// Whether no line is due.
+    pub(crate) fn is_whole(&self) -> bool
+        ensures whole { result ≡ true → self.now.due ≡ due.Nothing }
+        ensures due { result ≡ false → self.now.due ≢ due.Nothing }
+    {
+        matches!(self.due, Due::Nothing)
+    }
+
+    /// What the steps so far come to.
+    pub(crate) fn verdict(&self) -> Verdict
+        ensures { result ≡ verdict_of self.now.search.found }
+    {
+        self.search.verdict()
+    }
+}

@@ -1,0 +1,133 @@
+//! What single lines of a witness file say.
+ghost use Rattle.std.specs.Prelude.{◌≡◌, ◌≤◌, Some, None, codes, false, length, map, true};
+ghost use Rattle.std.specs.Str.{bytes_eq};
+ghost use Rattle.aig_core.specs.declared.circuit.Latch.{Latch as LatchRecord};
+ghost use Rattle.aig_core.specs.declared.circuit.TheConstants.{LARGEST};
+ghost use Rattle.aig_text.specs.CanonicalNumber.{is_padded};
+ghost use Rattle.aig_step.specs.Stimulus.{value_of, values_of};
+ghost use Rattle.aig_witness.specs.Witness.{first_state_in, may_start_at, may_start_in, number_below, property_in};
+ghost use Rattle.aig_witness.specs.Parts.Witnessing.{digits_below};
+
+use aig_core::{Latch, Reset, Val};
+use aig_step::Code;
+
+/// Whether the text is the first line.
+pub(crate) fn is_version(text: &[u8]) -> bool
+    ensures { result ≡ bytes_eq text.now (codes "1") }
+{
+    text.len() == 1 && text[0] == b'1'
+}
+
+/// Whether a zero stands at the front, with another digit behind it.
+fn is_padded(text: &[u8]) -> bool
+    ensures { result ≡ is_padded text.now }
+{
+    match text {
+        [first, next, ..] => next.is_ascii_digit() && *first == b'0',
+        _ => false,
+    }
+}
+
+/// The number that digits spell, if there are but digits and it is below the bound.
+fn digits_below(text: &[u8], bound: usize) -> Option<usize>
+    requires { bound ≤ LARGEST }
+    ensures { result ≡ digits_below bound text.now }
+{
+    let mut value = 0;
+    for digit in text {
+        if !digit.is_ascii_digit() {
+            return None;
+        }
+        if value >= bound {
+            return None;
+        }
+        value = 10 * value + (*digit - b'0') as usize;
+    }
+    if value < bound { Some(value) } else { None }
+}
+
+/// The number that a text spells canonically, if it is below the bound.
+fn number_below(text: &[u8], bound: usize) -> Option<usize>
+    requires { bound ≤ LARGEST }
+    ensures { result ≡ number_below bound text.now }
+{
+    if text.is_empty() || is_padded(text) {
+        return None;
+    }
+    digits_below(text, bound)
+}
+
+/// The bad state that a line names, where there are so many.
+pub(crate) fn property_in(text: &[u8], bad: usize) -> Option<usize>
+    requires { bad ≤ LARGEST }
+    ensures { result ≡ property_in bad text.now }
+{
+    match text {
+        [b'b', number @ ..] => number_below(number, bad),
+        _ => None,
+    }
+}
+
+/// The value that a character stands for.
+fn value_of(character: u8) -> Option<Val>
+    ensures { result ≡ value_of character }
+{
+    match character {
+        b'0' => Some(Val::Zero),
+        b'1' => Some(Val::One),
+        b'x' => Some(Val::X),
+        _ => None,
+    }
+}
+
+/// Reads the values that characters stand for, and answers whether each stands for one.
+fn read_values(text: &[u8], values: &mut [Code]) -> bool
+    requires { length values.old ≡ length text.now }
+    ensures good { result ≡ true → values_of text.now ≡ Some values.new }
+    ensures bad { result ≡ false → values_of text.now ≡ None }
+{
+    for i in 0..text.len() {
+        let Some(value) = value_of(text[i]) else {
+            return false;
+        };
+        values[i] = Code::of(value);
+    }
+    true
+}
+
+/// Whether a latch may start at this value.
+fn may_start_at(reset: Reset, value: Val) -> bool
+    ensures { result ≡ may_start_at reset value }
+{
+    match (reset, value) {
+        (Reset::Zero, Val::Zero) | (Reset::One, Val::One) | (Reset::Uninit, _) => true,
+        _ => false,
+    }
+}
+
+/// Whether each latch may start at its value.
+fn may_start_in(latches: &[Latch], state: &[Code]) -> bool
+    requires { length state.now ≡ length latches.now }
+    ensures { result ≡ may_start_in (map (λ (l : LatchRecord). l.reset) latches.now) state.now }
+{
+    for i in 0..latches.len() {
+        if !may_start_at(latches[i].reset, state[i].value()) {
+            return false;
+        }
+    }
+    true
+}
+
+/// Reads the first state, and answers whether the text says one that agrees with the resets.
+pub(crate) fn read_first_state(text: &[u8], latches: &[Latch], state: &mut [Code]) -> bool
+    requires { length state.old ≡ length latches.now }
+    ensures good { result ≡ true
+        → first_state_in (map (λ (l : LatchRecord). l.reset) latches.now) text.now ≡ Some state.new }
+    ensures bad { result ≡ false
+        → first_state_in (map (λ (l : LatchRecord). l.reset) latches.now) text.now ≡ None }
+{
+    if text.len() != state.len() {
+        return false;
+    }
+    read_values(text, state) && may_start_in(latches, state)
+}
