@@ -1,7 +1,7 @@
 -- A stimulus without a bad line, whose bytes are all taken at once.
 use Rattle.std.proofs.Common.{◌≡◌, ◌+◌, ◌++◌, ℕ, List, [], Bool, true, false, None, Option}
 use Rattle.std.proofs.Common.{length, refl, sym, subst, ◌∙◌, append_assoc, arith}
-use Rattle.aig_core.specs.declared.circuit.Circuit.{Circuit}
+use Rattle.aig_circuit.specs.declared.circuit.Circuit.{Circuit}
 use Rattle.aig_io.specs.Output.{Out, Put}
 use Rattle.aig_io.proofs.Puts.{put_twice}
 use Rattle.aig_step.specs.declared.trace.Columns.{Columns}

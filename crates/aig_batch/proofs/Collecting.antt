@@ -1,7 +1,7 @@
 -- What came of a stimulus that is judged while it comes.
 use Rattle.std.proofs.Common.{◌≡◌, ℕ, List, ◌++◌, false, Option, None, length, subst}
 use Rattle.std.specs.Io.KnownBytes.{Consumes, Keeps}
-use Rattle.aig_core.specs.declared.circuit.Circuit.{Circuit}
+use Rattle.aig_circuit.specs.declared.circuit.Circuit.{Circuit}
 use Rattle.aig_io.specs.Transfer.{GaveSome}
 use Rattle.aig_batch.specs.Batched.{CameToNoBadLine}
 use Rattle.aig_step.specs.Stimulus.{stimulus}

@@ -5,7 +5,7 @@ use Rattle.std.proofs.Common.{subst, ◌∙◌, arith}
 use Rattle.std.proofs.lemmas.List.{drop-append-le, drop_all, length-drop, length-take-le, take-append-drop}
 use Rattle.std.proofs.Math.Seq.{take-add, take-append-add}
 use Rattle.memchr.specs.Find.{IsFirstByte, is_byte}
-use Rattle.aig_core.specs.declared.value.Val.{Val}
+use Rattle.aig_circuit.specs.declared.value.Val.{Val}
 use Rattle.aig_step.specs.Stimulus.{Entry, Stimulus, entry_in, stimulus, value_of, values_of, without_return}
 use Rattle.aig_batch.specs.Parts.Judging.{IsJudged}
 use Rattle.aig_step.specs.Parts.Seen.{HasNoLineFeed, IsHeard}

@@ -2,7 +2,7 @@
 ghost use Rattle.std.specs.Prelude.{◌≡◌, ◌≢◌, ◌+◌, ◌-◌, ◌^◌, ◌<◌, ◌≤◌, ℕ, List, [], IfErr, None};
 ghost use Rattle.std.specs.Prelude.{OnOk, length, max, true};
 ghost use Rattle.std.specs.List.{All};
-ghost use Rattle.aig_core.specs.declared.circuit.Circuit.{Circuit as CircuitRecord};
+ghost use Rattle.aig_circuit.specs.declared.circuit.Circuit.{Circuit as CircuitRecord};
 ghost use Rattle.aig_io.specs.declared.block.TheConstants.{ROOM};
 ghost use Rattle.aig_step.specs.declared.fault.SimFault.TheVariants.{WriteFailed};
 ghost use Rattle.aig_lanes.specs.declared.run.Run.{Run as RunRecord};

@@ -1,7 +1,7 @@
 //! The front of a stimulus: runs that are stepped side by side, group by group.
 ghost use Rattle.std.specs.Prelude.{◌≡◌, ◌≤◌, IfOk, List, length};
 ghost use Rattle.std.specs.List.{All};
-ghost use Rattle.aig_core.specs.declared.value.Val.{Val as Value};
+ghost use Rattle.aig_circuit.specs.declared.value.Val.{Val as Value};
 ghost use Rattle.aig_lanes.specs.declared.run.Run.{Run as RunRecord};
 ghost use Rattle.aig_batch.specs.Parts.RunsRead.{HasNoBadLine, Says, entries_of_groups};
 

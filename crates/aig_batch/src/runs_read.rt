@@ -1,7 +1,7 @@
 //! Runs that are read at the front of a stimulus.
 ghost use Rattle.std.specs.Prelude.{◌≡◌, ◌+◌, ◌≤◌, List, IfOk, IfSome, length};
 ghost use Rattle.std.specs.List.{All, flat_map};
-ghost use Rattle.aig_core.specs.declared.value.Val.{Val as Value};
+ghost use Rattle.aig_circuit.specs.declared.value.Val.{Val as Value};
 ghost use Rattle.aig_lanes.specs.declared.run.Run.{Run as RunRecord};
 ghost use Rattle.aig_batch.specs.Parts.RunsRead.{HasNoBadLine, Says, entries_of_run};
 ghost use Rattle.memchr.specs.Find.{IsFirstByte, is_byte};

@@ -4,8 +4,8 @@ use Rattle.std.proofs.Common.{rules}
 use Rattle.std.proofs.Common.{◌≡◌, ◌+◌, ◌<◌, ℕ, suc, List, [], ◌∷◌, ◌++◌, map, take, length, get_or, refl, ap}
 use Rattle.std.proofs.Common.{arith}
 use Rattle.std.proofs.lemmas.List.{take_more, length-take-le}
-use Rattle.aig_core.specs.declared.circuit.Latch.{Latch}
-use Rattle.aig_core.proofs.Makers.{latch}
+use Rattle.aig_circuit.specs.declared.circuit.Latch.{Latch}
+use Rattle.aig_circuit.proofs.Makers.{latch}
 use Rattle.aig_text.specs.declared.row.NextState.{NextState}
 use Rattle.aig_text.specs.Rows.{next_of, latches_from}
 use Rattle.aig_binary.specs.Parts.NextStates.{latches_by}

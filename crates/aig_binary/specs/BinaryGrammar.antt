@@ -2,10 +2,10 @@
 -- project's profile). A relation that knows of no reading from left to right.
 use Rattle.std.specs.Prelude.{◌≡◌, ◌≤◌, ◌-◌, ◌⊎◌, ℕ, List, [], ◌∷◌, ◌++◌, true, codes}
 use Rattle.std.specs.List.{AllByRecursion, AllZip, sum}
-use Rattle.aig_core.specs.declared.circuit.Gate.{Gate}
-use Rattle.aig_core.specs.declared.circuit.Circuit.{Circuit}
-use Rattle.aig_core.specs.Literal.{literal_of}
-use Rattle.aig_core.specs.Wellformed.{IsWellFormed}
+use Rattle.aig_circuit.specs.declared.circuit.Gate.{Gate}
+use Rattle.aig_circuit.specs.declared.circuit.Circuit.{Circuit}
+use Rattle.aig_circuit.specs.Literal.{literal_of}
+use Rattle.aig_circuit.specs.Wellformed.{IsWellFormed}
 use Rattle.aig_text.specs.declared.header_line.TheConstants.{HEADER_LEAST}
 use Rattle.aig_text.specs.Lines.{Line, lines_of}
 use Rattle.aig_text.specs.Spelling.{IsHeaderLine}

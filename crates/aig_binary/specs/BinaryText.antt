@@ -2,10 +2,10 @@
 -- the shortest spellings of its two deltas.
 use Rattle.std.specs.Prelude.{◌-◌, ◌<◌, ◌≤◌, ℕ, List, ◌++◌}
 use Rattle.std.specs.List.{flat_map}
-use Rattle.aig_core.specs.declared.circuit.Gate.{Gate}
-use Rattle.aig_core.specs.declared.circuit.Circuit.{Circuit}
-use Rattle.aig_core.specs.declared.circuit.TheConstants.{LARGEST}
-use Rattle.aig_core.specs.Literal.{literal_of}
+use Rattle.aig_circuit.specs.declared.circuit.Gate.{Gate}
+use Rattle.aig_circuit.specs.declared.circuit.Circuit.{Circuit}
+use Rattle.aig_circuit.specs.declared.circuit.TheConstants.{LARGEST}
+use Rattle.aig_circuit.specs.Literal.{literal_of}
 use Rattle.aig_text.specs.Rows.{header_row}
 use Rattle.aig_text.specs.AsciiText.{header_text, line_text, tail_text}
 use Rattle.aig_binary.specs.BinaryGrammar.{binary_word, binary_rows_of}

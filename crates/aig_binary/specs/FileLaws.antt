@@ -1,8 +1,8 @@
 -- What the definitions of binary files say of one another.
 use Rattle.std.specs.Prelude.{◌≡◌, ◌↔◌, ℕ, List, None, Ok}
-use Rattle.aig_core.specs.declared.circuit.Circuit.{Circuit}
-use Rattle.aig_core.specs.declared.circuit.TheConstants.{LARGEST}
-use Rattle.aig_core.specs.Wellformed.{IsWellFormed}
+use Rattle.aig_circuit.specs.declared.circuit.Circuit.{Circuit}
+use Rattle.aig_circuit.specs.declared.circuit.TheConstants.{LARGEST}
+use Rattle.aig_circuit.specs.Wellformed.{IsWellFormed}
 use Rattle.aig_core.specs.BinaryOrder.{IsInBinaryOrder}
 use Rattle.aig_binary.specs.BinaryGrammar.{IsBinaryText}
 use Rattle.aig_binary.specs.BinaryText.{binary_text}

@@ -1,12 +1,12 @@
 //! The reader of binary files.
 ghost use Rattle.std.specs.Prelude.{◌≡◌, ◌+◌, ◌^◌, ◌<◌, ◌≤◌, IfOk, IfErr, MatchResult, OnOk, map, length};
 ghost use Rattle.std.specs.List.{range_with_len, sum};
-ghost use Rattle.aig_core.specs.declared.circuit.TheConstants.{LARGEST as largest_index};
+ghost use Rattle.aig_circuit.specs.declared.circuit.TheConstants.{LARGEST as largest_index};
 ghost use Rattle.aig_text.specs.Lines.{lines_of};
 ghost use Rattle.aig_text.specs.declared.section.Section.TheVariants.{Latches};
 ghost use Rattle.aig_text.specs.Rows.{in_binary, sections};
 ghost use Rattle.aig_text.specs.Outcomes.{GivesOrMemory};
-ghost use Rattle.aig_core.specs.declared.circuit.Circuit.{Circuit as CircuitRecord};
+ghost use Rattle.aig_circuit.specs.declared.circuit.Circuit.{Circuit as CircuitRecord};
 ghost use Rattle.aig_text.specs.Reading.{IsFirstFault, at_line, section_at, sections_at, want_of_memory};
 ghost use Rattle.aig_core.specs.BinaryOrder.{IsInBinaryOrder};
 ghost use Rattle.aig_binary.specs.BinaryGrammar.{IsBinaryText};

@@ -5,9 +5,9 @@ ghost use Rattle.std.specs.Prelude.{◌≡◌, ◌+◌, ◌-◌, ◌*◌, ◌^�
 ghost use Rattle.std.specs.Prelude.{if◌then◌else◌};
 ghost use Rattle.aig_io.specs.Output.{Put};
 ghost use Rattle.aig_io.specs.Transfer.{TookBeginning};
-ghost use Rattle.aig_core.specs.Wellformed.{IsWithinLimits};
+ghost use Rattle.aig_circuit.specs.Wellformed.{IsWithinLimits};
 ghost use Rattle.aig_io.specs.declared.block.TheConstants.{ROOM};
-ghost use Rattle.aig_core.specs.declared.circuit.Latch.{Latch as LatchRecord};
+ghost use Rattle.aig_circuit.specs.declared.circuit.Latch.{Latch as LatchRecord};
 ghost use Rattle.aig_text.specs.AsciiText.{line_text, row_text};
 ghost use Rattle.aig_text.specs.Rows.{next_row};
 ghost use Rattle.aig_binary.specs.BinaryGrammar.{binary_rows_of};

@@ -1,9 +1,7 @@
--- Form, well-formedness and the first fault.
-pub mod InForm
+-- Well-formedness and the first fault.
 pub mod Sections
 pub mod Faultless
 pub mod Reported
-pub mod Fitting
 pub mod InOrder
 pub mod Properties
 pub mod Parted

@@ -4,12 +4,12 @@ use Rattle.std.specs.Prelude.{◌≡◌, ◌==◌, ◌||◌, ◌⊎◌, ℕ, Lis
 use Rattle.std.specs.Option.{option_map, option_or}
 use Rattle.std.specs.Ordering.{nat_cmp}
 use Rattle.std.specs.FinSet as set
-use Rattle.aig_core.specs.declared.circuit.Circuit.{Circuit}
+use Rattle.aig_circuit.specs.declared.circuit.Circuit.{Circuit}
 use Rattle.aig_core.specs.declared.fault.CheckFault.{CheckFault}
 use Rattle.aig_core.specs.declared.fault.CheckFault.TheVariants.{Redefined, Undefined, Cyclic, OutOfMemory}
-use Rattle.aig_core.specs.Literal.{variable_of}
-use Rattle.aig_core.specs.Wellformed.{defined_variables, used_literals}
-use Rattle.aig_core.specs.Order.{first_cyclic}
+use Rattle.aig_circuit.specs.Literal.{variable_of}
+use Rattle.aig_circuit.specs.Wellformed.{defined_variables, used_literals}
+use Rattle.aig_topo.specs.Order.{first_cyclic}
 
 -- the first number that the set has, or that stands before in the list
 abbrev pub first_repeat : set.FinSet nat_cmp → List ℕ → Option ℕ

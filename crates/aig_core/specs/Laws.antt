@@ -2,17 +2,17 @@
 use Rattle.std.specs.Prelude.{ℕ, List, ◌∷◌, ◌++◌, ◌≡◌, ◌<◌, ◌≤◌, ◌+◌, ◌↔◌, Some, None, length, true}
 use Rattle.std.specs.List.{AllByRecursion, slice_get, sum}
 use Rattle.std.specs.FinSet as set
-use Rattle.aig_core.specs.declared.circuit.Circuit.{Circuit}
-use Rattle.aig_core.specs.declared.circuit.Gate.{Gate}
+use Rattle.aig_circuit.specs.declared.circuit.Circuit.{Circuit}
+use Rattle.aig_circuit.specs.declared.circuit.Gate.{Gate}
 use Rattle.aig_core.specs.declared.fault.CheckFault.TheVariants.{Redefined, Undefined, Cyclic}
-use Rattle.aig_core.specs.Literal.{literal_of}
-use Rattle.aig_core.specs.Wellformed.{IsWellFormed, IsAmong, AreDistinct, IsKnown, HasRank}
-use Rattle.aig_core.specs.Wellformed.{defined_variables, used_literals}
-use Rattle.aig_core.specs.declared.circuit.Justice.{Justice}
-use Rattle.aig_core.specs.Justice.{end_to_end, properties_of}
-use Rattle.aig_core.specs.Form.{IsInForm}
+use Rattle.aig_circuit.specs.Literal.{literal_of}
+use Rattle.aig_circuit.specs.Wellformed.{IsWellFormed, IsAmong, AreDistinct, IsKnown, HasRank}
+use Rattle.aig_circuit.specs.Wellformed.{defined_variables, used_literals}
+use Rattle.aig_circuit.specs.declared.circuit.Justice.{Justice}
+use Rattle.aig_circuit.specs.Justice.{end_to_end, properties_of}
+use Rattle.aig_circuit.specs.Form.{IsInForm}
 use Rattle.aig_core.specs.Fault.{first_structural_fault, first_repeat, first_unknown, with_all}
-use Rattle.aig_core.specs.Order.{IsLeastReadyOrder, ends_within}
+use Rattle.aig_topo.specs.Order.{IsLeastReadyOrder, ends_within}
 
 -- a circuit in form is well formed exactly where it has no fault
 abbrev pub FaultlessIsWellFormed : Type 0

@@ -1,10 +1,5 @@
 -- What only private functions cite: how parts of the work are described. What the crate promises stands in the other
 -- files.
-pub mod SameLists
-pub mod SymbolOrder
-pub mod Marks
-pub mod Places
-pub mod Ranks
 pub mod InOrder
 pub mod Numbered
 pub mod Parted

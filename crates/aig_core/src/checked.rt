@@ -2,19 +2,19 @@
 ghost use Rattle.std.specs.Prelude.{◌≡◌, ◌≢◌, ◌↔◌, IsTrue, IfOk, IfErr, OnOk, None, true};
 ghost use Rattle.std.specs.Option.{IfSome};
 ghost use Rattle.aig_core.specs.declared.fault.CheckFault.TheVariants.{OutOfMemory as WantOfMemory};
-ghost use Rattle.aig_core.specs.Wellformed.{AreDistinct, IsWellFormed, defined_variables};
+ghost use Rattle.aig_circuit.specs.Wellformed.{AreDistinct, IsWellFormed, defined_variables};
 ghost use Rattle.aig_core.specs.BinaryOrder.{IsInBinaryOrder};
-ghost use Rattle.aig_core.specs.Form.{IsInForm};
-ghost use Rattle.aig_core.specs.Order.{IsLeastReadyOrder};
+ghost use Rattle.aig_circuit.specs.Form.{IsInForm};
+ghost use Rattle.aig_topo.specs.Order.{IsLeastReadyOrder};
 ghost use Rattle.aig_core.specs.Fault.{first_structural_fault, IsFault};
-ghost use Rattle.aig_core.specs.Parts.SameLists.{same_lists};
+ghost use Rattle.aig_circuit.specs.Parts.SameLists.{same_lists};
 
 use crate::checked::copies::copy_circuit;
 use crate::checked::distinct::{is_defined_once_by_parts, is_spread};
 use crate::checked::faults::{find_fault, find_redefinition};
-use crate::circuit::Circuit;
-use crate::fault::{CheckFault, OutOfMemory};
-use crate::placed::Placed;
+use crate::fault::CheckFault;
+use aig_circuit::{Circuit, OutOfMemory};
+use aig_topo::Placed;
 use std::alloc::Global;
 use std::marker::Model;
 
@@ -36,10 +36,10 @@ pub struct Checked {
 }
 
 impl Model for Checked {
-    ghost use Rattle.aig_core.specs.declared.circuit.Circuit.{Circuit as CircuitRecord};
+    ghost use Rattle.aig_circuit.specs.declared.circuit.Circuit.{Circuit as CircuitRecord};
     ghost use Rattle.std.specs.Option.{IfSome};
-    ghost use Rattle.aig_core.specs.Wellformed.{IsWellFormed as IsGood};
-    ghost use Rattle.aig_core.specs.Order.{IsLeastReadyOrder as IsLeast};
+    ghost use Rattle.aig_circuit.specs.Wellformed.{IsWellFormed as IsGood};
+    ghost use Rattle.aig_topo.specs.Order.{IsLeastReadyOrder as IsLeast};
     ghost use Rattle.aig_core.specs.BinaryOrder.{IsInBinaryOrder as IsInOrder};
     ghost use Rattle.std.specs.Prelude.{◌≡◌, true};
 

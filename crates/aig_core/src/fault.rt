@@ -1,15 +1,10 @@
-//! Why a circuit is refused, and running out of memory.
+//! Why a circuit is refused.
 ghost use Rattle.std.specs.Prelude.{◌≡◌};
 ghost use Rattle.aig_core.specs.declared.fault.CheckFault.TheVariants.{OutOfMemory};
 
-use crate::literal::{Lit, Var};
-use std::alloc::{AllocError, AllocFailed};
+use aig_circuit::{Lit, OutOfMemory, Var};
+use std::alloc::AllocError;
 use thiserror::Error;
-
-/// An allocation failed. It is the error of a call that can fail in no other way.
-#[derive(Debug, Drop, Error)]
-#[error("out of memory")]
-pub struct OutOfMemory;
 
 /// Why a circuit is not well formed.
 #[derive(Clone, Copy, Debug, PartialEq, Error)]
@@ -42,17 +37,5 @@ impl From<OutOfMemory> for CheckFault {
 
     fn from(_refused: OutOfMemory) -> CheckFault {
         CheckFault::OutOfMemory
-    }
-}
-
-impl From<AllocError> for OutOfMemory {
-    fn from(_refused: AllocError) -> OutOfMemory {
-        OutOfMemory
-    }
-}
-
-impl<T: Drop> From<AllocFailed<T>> for OutOfMemory {
-    fn from(_refused: AllocFailed<T>) -> OutOfMemory {
-        OutOfMemory
     }
 }

@@ -3,9 +3,8 @@ ghost use Rattle.std.specs.Prelude.{◌≡◌, IfOk, OnOk, OnErr, not};
 ghost use Rattle.std.specs.FinSet as set;
 ghost use Rattle.aig_core.specs.Names.{is_named, nothing_named, with_name};
 
-use crate::circuit::Kind;
-use crate::literal::Var;
-use crate::var_set::VarSet;
+use aig_circuit::{Kind, Var};
+use aig_tables::VarSet;
 use std::alloc::{AllocError, Global};
 
 /// How many things of each kind a circuit has.

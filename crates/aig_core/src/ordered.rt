@@ -1,13 +1,12 @@
 //! Circuits in binary order, and the tests for it.
 ghost use Rattle.std.specs.Prelude.{◌≡◌, ◌↔◌, ◌+◌, ◌^◌, ◌<◌, ◌≤◌, ℕ, length, IsTrue, IsOk, IfOk, IfErr};
-ghost use Rattle.aig_core.specs.Wellformed.{IsWellFormed, IsWithinLimits};
+ghost use Rattle.aig_circuit.specs.Wellformed.{IsWellFormed, IsWithinLimits};
 ghost use Rattle.aig_core.specs.BinaryOrder.{IsInBinaryOrder, IsNumberedInOrder};
 ghost use Rattle.aig_core.specs.Parts.Numbered.{AreFirstInOrder, AreNumbered, AreSectionsInOrder, AreSectionsNumbered};
 ghost use Rattle.aig_core.specs.Parts.Numbered.{IsGateOf, IsInputOf, IsLatchOf, IsNumberedGateOf};
 
 use crate::checked::Checked;
-use crate::circuit::{Circuit, Gate, Latch};
-use crate::literal::Var;
+use aig_circuit::{Circuit, Gate, Latch, Var};
 use std::marker::Model;
 
 /// A circuit that is well formed and in binary order. `try_from_checked` makes one of any circuit that is,
@@ -18,8 +17,8 @@ pub struct Ordered {
 }
 
 impl Model for Ordered {
-    ghost use Rattle.aig_core.specs.declared.circuit.Circuit.{Circuit as CircuitRecord};
-    ghost use Rattle.aig_core.specs.Wellformed.{IsWellFormed as IsGood};
+    ghost use Rattle.aig_circuit.specs.declared.circuit.Circuit.{Circuit as CircuitRecord};
+    ghost use Rattle.aig_circuit.specs.Wellformed.{IsWellFormed as IsGood};
     ghost use Rattle.aig_core.specs.BinaryOrder.{IsInBinaryOrder as IsInOrder};
 
     ghost Value = { CircuitRecord };

@@ -1,9 +1,9 @@
 -- What the definitions of relabelled and reordered circuits say of one another.
 use Rattle.std.specs.Prelude.{◌≡◌, ◌<◌, ◌≤◌, ℕ, List, Bool, Option, map, length}
 use Rattle.std.specs.List.{AllByRecursion}
-use Rattle.aig_core.specs.declared.circuit.Circuit.{Circuit}
-use Rattle.aig_core.specs.declared.circuit.TheConstants.{LARGEST}
-use Rattle.aig_core.specs.Wellformed.{AreDistinct, IsVariableUpTo, IsWellFormed, defined_variables}
+use Rattle.aig_circuit.specs.declared.circuit.Circuit.{Circuit}
+use Rattle.aig_circuit.specs.declared.circuit.TheConstants.{LARGEST}
+use Rattle.aig_circuit.specs.Wellformed.{AreDistinct, IsVariableUpTo, IsWellFormed, defined_variables}
 use Rattle.aig_image.specs.Relabelled.{relabelled, relabelled_gate, NamesOnly}
 use Rattle.aig_image.specs.Reordered.{reordered, operands_sorted, has_smaller_first, with_operands_exchanged}
 use Rattle.aig_image.specs.Reordered.{converted, restored, ArePlaces, positions_of}

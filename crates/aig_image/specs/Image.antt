@@ -1,8 +1,8 @@
 -- The binary image of a circuit (this project's profile; binary order is the AIGER report's): the same circuit with new
 -- numbers, its gates in the least ready order, the larger operand of each first.
 use Rattle.std.specs.Prelude.{◌≡◌, ℕ, List, length}
-use Rattle.aig_core.specs.declared.circuit.Circuit.{Circuit}
-use Rattle.aig_core.specs.Order.{IsLeastReadyOrder}
+use Rattle.aig_circuit.specs.declared.circuit.Circuit.{Circuit}
+use Rattle.aig_topo.specs.Order.{IsLeastReadyOrder}
 use Rattle.aig_image.specs.Reordered.{converted}
 use Rattle.aig_image.specs.Renumbering.{in_new_order, renumbered}
 

@@ -2,8 +2,8 @@
 -- (this project's profile). What the circuit means knows none of the three.
 use Rattle.std.specs.Prelude.{◌≡◌, ◌⊎◌, ℕ, map}
 use Rattle.std.specs.List.{Contains}
-use Rattle.aig_core.specs.declared.circuit.Gate.{Gate}
-use Rattle.aig_core.specs.declared.circuit.Circuit.{Circuit}
+use Rattle.aig_circuit.specs.declared.circuit.Gate.{Gate}
+use Rattle.aig_circuit.specs.declared.circuit.Circuit.{Circuit}
 use Rattle.aig_image.specs.Relabelled.{relabelled_latch, relabelled_literal}
 
 -- the gate's operands are these two, the one first or the other

@@ -2,9 +2,9 @@
 -- in the order of the file, then gates in the order in which they are taken.
 use Rattle.std.specs.Prelude.{◌+◌, ◌-◌, ◌==◌, ℕ, List, ◌++◌, map, slice_index_or, if◌then◌else◌}
 use Rattle.std.specs.List.{position_or_len}
-use Rattle.aig_core.specs.declared.circuit.Latch.{Latch}
-use Rattle.aig_core.specs.declared.circuit.Gate.{Gate}
-use Rattle.aig_core.specs.declared.circuit.Circuit.{Circuit}
+use Rattle.aig_circuit.specs.declared.circuit.Latch.{Latch}
+use Rattle.aig_circuit.specs.declared.circuit.Gate.{Gate}
+use Rattle.aig_circuit.specs.declared.circuit.Circuit.{Circuit}
 use Rattle.aig_image.specs.Reordered.{taken}
 
 -- the variables in their new order, where the gates are taken in this one

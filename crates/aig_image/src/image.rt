@@ -3,8 +3,8 @@ ghost use Rattle.std.specs.Prelude.{◌≡◌, ◌<◌, ◌↔◌, None, length,
 ghost use Rattle.std.specs.List.{AllByRecursion};
 ghost use Rattle.std.specs.Option.{unwrap_or};
 ghost use Rattle.aig_core.specs.BinaryOrder.{IsNumberedInOrder};
-ghost use Rattle.aig_core.specs.Wellformed.{IsWellFormed};
-ghost use Rattle.aig_core.specs.Order.{IsLeastReadyOrder};
+ghost use Rattle.aig_circuit.specs.Wellformed.{IsWellFormed};
+ghost use Rattle.aig_topo.specs.Order.{IsLeastReadyOrder};
 ghost use Rattle.aig_image.specs.Image.{IsBinaryImage};
 ghost use Rattle.aig_image.specs.Parts.Numbers.{number_of, IsRenumberingOf};
 ghost use Rattle.aig_image.specs.Relabelled.{relabelled, FitIntoLiterals};

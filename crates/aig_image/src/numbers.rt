@@ -2,9 +2,9 @@
 ghost use Rattle.std.specs.Prelude.{◌≡◌, ◌↔◌, ◌⊎◌, ◌+◌, ◌==◌, ◌≤◌, ◌<◌, ◌++◌, ℕ, List, [], length, map};
 ghost use Rattle.std.specs.Prelude.{IfOk, OnOk, IsTrue, if◌then◌else◌};
 ghost use Rattle.std.specs.Option.{IfSome};
-ghost use Rattle.aig_core.specs.Literal.{variable_of};
-ghost use Rattle.aig_core.specs.VarMap.{with_new};
-ghost use Rattle.aig_core.specs.declared.circuit.Gate.{Gate as GateRecord};
+ghost use Rattle.aig_circuit.specs.Literal.{variable_of};
+ghost use Rattle.aig_tables.specs.VarMap.{with_new};
+ghost use Rattle.aig_circuit.specs.declared.circuit.Gate.{Gate as GateRecord};
 ghost use Rattle.aig_image.specs.Parts.Numbers.{number_of, first_variables, variables_with, AreNumbered};
 ghost use Rattle.aig_image.specs.Relabelled.{FitIntoLiterals};
 ghost use Rattle.aig_image.specs.Parts.InOrder.{StandInOrder};

@@ -1,8 +1,8 @@
 //! A group of runs, stepped side by side until all have ended.
 ghost use Rattle.std.specs.Prelude.{◌≡◌, ◌+◌, ◌*◌, ◌<◌, ◌≤◌, ◌^◌, [], ℕ, length, map, replicate, slice_index_or, IfOk};
 ghost use Rattle.std.specs.List.{All, AllZip};
-ghost use Rattle.aig_core.specs.declared.circuit.Latch.{Latch as LatchRecord};
-ghost use Rattle.aig_core.specs.declared.value.Val.TheVariants.{X};
+ghost use Rattle.aig_circuit.specs.declared.circuit.Latch.{Latch as LatchRecord};
+ghost use Rattle.aig_circuit.specs.declared.value.Val.TheVariants.{X};
 ghost use Rattle.aig_meaning.specs.Trace.{reset_value};
 ghost use Rattle.aig_lanes.specs.declared.run.Run.{Run as RunRecord};
 ghost use Rattle.aig_lanes.specs.declared.run.Trace.{Trace as TraceRecord};

@@ -2,7 +2,7 @@
 //! step of all runs takes a line of each, and those lie far apart.
 ghost use Rattle.std.specs.Prelude.{◌≡◌, ◌+◌, ◌<◌, ◌≤◌, ℕ, IfOk, List, [], length, slice_index_or};
 ghost use Rattle.std.specs.List.{All};
-ghost use Rattle.aig_core.specs.declared.value.Val.{Val as Value};
+ghost use Rattle.aig_circuit.specs.declared.value.Val.{Val as Value};
 ghost use Rattle.aig_lanes.specs.declared.run.Run.{Run as RunRecord};
 ghost use Rattle.aig_lanes.specs.Parts.InputBits.{AreBlocks, HasRoom, HoldsBlock, HoldsBlocks, HoldsInputs, IsWord};
 ghost use Rattle.aig_lanes.specs.Parts.InputBits.{SameRooms, TellsOther, word_at};

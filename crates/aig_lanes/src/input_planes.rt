@@ -3,8 +3,8 @@ ghost use Rattle.std.specs.Prelude.{◌≡◌, ◌+◌, ◌-◌, ◌*◌, ◌/�
 ghost use Rattle.std.specs.Prelude.{slice_set, take};
 ghost use Rattle.std.specs.Int.{bit_at};
 ghost use Rattle.std.specs.List.{All};
-ghost use Rattle.aig_core.specs.declared.value.Val.{Val as Value};
-ghost use Rattle.aig_core.specs.declared.value.Val.TheVariants.{Zero};
+ghost use Rattle.aig_circuit.specs.declared.value.Val.{Val as Value};
+ghost use Rattle.aig_circuit.specs.declared.value.Val.TheVariants.{Zero};
 ghost use Rattle.aig_lanes.specs.declared.input_bits.InputWord.{InputWord as InputWordRecord};
 ghost use Rattle.aig_lanes.specs.Parts.InputBits.{AreBlocks, AreBytes, AreWords, IsWord, byte_in, word_at};
 ghost use Rattle.aig_lanes.specs.Parts.Lanes.{IsLane, IsPlane, bit_in};

@@ -1,8 +1,8 @@
 //! What a lane shows of a step.
 ghost use Rattle.std.specs.Prelude.{◌≡◌, ◌/◌, ◌<◌, ◌≤◌, ℕ, List, length, map, slice_index_or, IfOk};
 ghost use Rattle.std.specs.List.{All};
-ghost use Rattle.aig_core.specs.declared.circuit.Latch.{Latch as LatchRecord};
-ghost use Rattle.aig_core.specs.declared.value.Val.{Val as Value};
+ghost use Rattle.aig_circuit.specs.declared.circuit.Latch.{Latch as LatchRecord};
+ghost use Rattle.aig_circuit.specs.declared.value.Val.{Val as Value};
 ghost use Rattle.aig_meaning.specs.Meaning.{literal_value};
 ghost use Rattle.aig_lanes.specs.declared.run.Run.{Run as RunRecord};
 ghost use Rattle.aig_lanes.specs.declared.run.Trace.{Trace as TraceRecord};

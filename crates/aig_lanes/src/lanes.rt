@@ -1,9 +1,9 @@
 //! Tables of values for runs side by side: each literal has a plane, with a bit for each run.
 ghost use Rattle.std.specs.Prelude.{◌≡◌, ◌≢◌, ◌+◌, ◌-◌, ◌*◌, ◌/◌, ◌<◌, ◌≤◌, ℕ, List, length, slice_set, if◌then◌else◌};
 ghost use Rattle.std.specs.List.{All};
-ghost use Rattle.aig_core.specs.declared.value.Val.{Val as Value};
-ghost use Rattle.aig_core.specs.declared.value.Val.TheVariants.{Zero};
-ghost use Rattle.aig_core.specs.Values.{value_and, value_not};
+ghost use Rattle.aig_circuit.specs.declared.value.Val.{Val as Value};
+ghost use Rattle.aig_circuit.specs.declared.value.Val.TheVariants.{Zero};
+ghost use Rattle.aig_circuit.specs.Values.{value_and, value_not};
 ghost use Rattle.aig_meaning.specs.Meaning.{literal_value};
 ghost use Rattle.aig_lanes.specs.Parts.Groups.{Assigned};
 ghost use Rattle.aig_lanes.specs.Parts.Lanes.{IsLane, IsPair, may_be_one};

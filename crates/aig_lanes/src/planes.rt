@@ -1,6 +1,6 @@
 //! Planes: a bit for each of 256 lanes.
 ghost use Rattle.std.specs.Prelude.{◌≡◌, ◌≢◌, ◌%◌, ◌^◌, ◌<◌, ◌==◌, ℕ, if◌then◌else◌};
-ghost use Rattle.aig_core.specs.declared.value.Val.{Val as Value};
+ghost use Rattle.aig_circuit.specs.declared.value.Val.{Val as Value};
 ghost use Rattle.aig_lanes.specs.Parts.Lanes.{IsPair, IsPlane, bit_in};
 
 use aig_core::Val;

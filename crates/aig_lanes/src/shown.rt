@@ -2,7 +2,7 @@
 ghost use Rattle.std.specs.Prelude.{◌≡◌, ◌+◌, ◌*◌, ◌/◌, ◌++◌, ◌<◌, ◌≤◌, ◌^◌, ℕ, List, [], IfOk, length, map};
 ghost use Rattle.std.specs.Prelude.{slice_index_or, take};
 ghost use Rattle.std.specs.List.{All};
-ghost use Rattle.aig_core.specs.declared.value.Val.{Val as Value};
+ghost use Rattle.aig_circuit.specs.declared.value.Val.{Val as Value};
 ghost use Rattle.aig_meaning.specs.Meaning.{literal_value};
 ghost use Rattle.aig_lanes.specs.Parts.LaneTexts.{AreShown, HasSheets, HasShown, HoldsRuns, PutBehind, PutsShown};
 ghost use Rattle.aig_lanes.specs.Parts.LaneTexts.{shown_properties, shown_size, shown_text};

@@ -1,11 +1,11 @@
 -- Two step assignments of the same state and inputs agree on all that the circuit defines.
 use Rattle.std.proofs.Common.{rules}
 use Rattle.std.proofs.Common.{◌≡◌, ℕ, List, map, refl, ap, ap₂, eqb, cond, ◌%◌}
-use Rattle.aig_core.specs.declared.circuit.Circuit.{Circuit}
-use Rattle.aig_core.specs.declared.value.Val.{Val}
-use Rattle.aig_core.specs.Literal.{variable_of}
-use Rattle.aig_core.specs.Values.{value_and, value_not}
-use Rattle.aig_core.specs.Wellformed.{IsAmong, IsWellFormed, defined_variables}
+use Rattle.aig_circuit.specs.declared.circuit.Circuit.{Circuit}
+use Rattle.aig_circuit.specs.declared.value.Val.{Val}
+use Rattle.aig_circuit.specs.Literal.{variable_of}
+use Rattle.aig_circuit.specs.Values.{value_and, value_not}
+use Rattle.aig_circuit.specs.Wellformed.{IsAmong, IsWellFormed, defined_variables}
 use Rattle.aig_meaning.specs.Meaning.{IsStepAssignment, literal_value}
 use Rattle.aig_meaning.proofs.Lists.{each_equal, equal_each}
 use Rattle.aig_meaning.proofs.Known.{AreDefined}

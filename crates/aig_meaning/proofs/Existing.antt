@@ -7,18 +7,18 @@ use Rattle.std.specs.List.{Contains}
 use Rattle.std.proofs.lemmas.Bool.{ne_eqb}
 use Rattle.std.proofs.lemmas.Bool.Decides.{Decides-eqb}
 use Rattle.std.proofs.lemmas.List.{length-map}
-use Rattle.aig_core.specs.declared.circuit.Latch.{Latch}
-use Rattle.aig_core.specs.declared.circuit.Gate.{Gate}
-use Rattle.aig_core.specs.declared.circuit.Circuit.{Circuit}
-use Rattle.aig_core.specs.declared.value.Val.{Val}
-use Rattle.aig_core.specs.declared.value.Val.TheVariants.{Zero}
-use Rattle.aig_core.specs.Literal.{variable_of}
-use Rattle.aig_core.specs.Values.{value_and}
-use Rattle.aig_core.specs.Wellformed.{IsAmong, AreDistinct, IsWellFormed, defined_variables, operands}
-use Rattle.aig_core.proofs.Checking.Fitting.{each}
-use Rattle.aig_core.proofs.Ordering.Cyclic.{among_last}
-use Rattle.aig_core.proofs.Ordering.LeastReady.{among_or_not}
-use Rattle.aig_core.proofs.Ordering.Ranked.{distinct_back}
+use Rattle.aig_circuit.specs.declared.circuit.Latch.{Latch}
+use Rattle.aig_circuit.specs.declared.circuit.Gate.{Gate}
+use Rattle.aig_circuit.specs.declared.circuit.Circuit.{Circuit}
+use Rattle.aig_circuit.specs.declared.value.Val.{Val}
+use Rattle.aig_circuit.specs.declared.value.Val.TheVariants.{Zero}
+use Rattle.aig_circuit.specs.Literal.{variable_of}
+use Rattle.aig_circuit.specs.Values.{value_and}
+use Rattle.aig_circuit.specs.Wellformed.{IsAmong, AreDistinct, IsWellFormed, defined_variables, operands}
+use Rattle.aig_circuit.proofs.Checking.Fitting.{each}
+use Rattle.aig_topo.proofs.Ordering.Cyclic.{among_last}
+use Rattle.aig_topo.proofs.Ordering.LeastReady.{among_or_not}
+use Rattle.aig_topo.proofs.Ordering.Ranked.{distinct_back}
 use Rattle.aig_meaning.specs.Meaning.{Holds, IsStepAssignment, latch_variables, literal_value}
 use Rattle.aig_meaning.specs.Laws.{OneStepAssignment}
 use Rattle.aig_meaning.proofs.Lists.{among_front, distinct_front, distinct_apart, map_same, gate_named, variables_of}

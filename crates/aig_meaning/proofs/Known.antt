@@ -1,10 +1,10 @@
 -- The literals that a well-formed circuit uses are known, list by list.
 use Rattle.std.proofs.Common.{ℕ, List, ◌++◌}
 use Rattle.std.specs.List.{AllByRecursion, Contains, concat, flat_map}
-use Rattle.aig_core.specs.declared.circuit.Gate.{Gate}
-use Rattle.aig_core.specs.declared.circuit.Circuit.{Circuit}
-use Rattle.aig_core.specs.Wellformed.{IsKnown, IsWellFormed, defined_variables, literal_lists, operands}
-use Rattle.aig_core.proofs.Checking.InForm.{front, back, each_of}
+use Rattle.aig_circuit.specs.declared.circuit.Gate.{Gate}
+use Rattle.aig_circuit.specs.declared.circuit.Circuit.{Circuit}
+use Rattle.aig_circuit.specs.Wellformed.{IsKnown, IsWellFormed, defined_variables, literal_lists, operands}
+use Rattle.aig_circuit.proofs.Checking.InForm.{front, back, each_of}
 use Rattle.aig_meaning.specs.Meaning.{next_literals}
 use Rattle.aig_meaning.proofs.Lists.{of_operands}
 

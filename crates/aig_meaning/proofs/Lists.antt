@@ -2,9 +2,9 @@
 use Rattle.std.proofs.Common.{◌≡◌, ◌<◌, ℕ, zero, suc, List, [], ◌∷◌, ◌++◌, length, map, get_or, refl}
 use Rattle.std.proofs.Common.{ap₂, subst, inl, inr, ⊎_elim, arith}
 use Rattle.std.specs.List.{AllZip, AllByRecursion, Contains, flat_map}
-use Rattle.aig_core.specs.declared.circuit.Gate.{Gate}
-use Rattle.aig_core.specs.Wellformed.{IsAmong, AreDistinct, operands}
-use Rattle.aig_core.proofs.Ordering.Cyclic.{among_last}
+use Rattle.aig_circuit.specs.declared.circuit.Gate.{Gate}
+use Rattle.aig_circuit.specs.Wellformed.{IsAmong, AreDistinct, operands}
+use Rattle.aig_topo.proofs.Ordering.Cyclic.{among_last}
 
 pub among_front : (x : ℕ) (xs ys : List ℕ) → IsAmong x xs → IsAmong x (xs ++ ys)
 among_front x [] ys a = absurd a

@@ -4,14 +4,14 @@ use Rattle.std.proofs.Common.{rules}
 use Rattle.std.proofs.Common.{◌≡◌, ◌<◌, ◌+◌, ℕ, zero, suc, List, [], ◌∷◌, ◌++◌, map}
 use Rattle.std.proofs.Common.{refl, sym, subst, inl, inr, ⊎_elim, arith}
 use Rattle.std.specs.List.{AllZip, Contains}
-use Rattle.aig_core.specs.declared.circuit.Gate.{Gate}
-use Rattle.aig_core.specs.declared.circuit.Circuit.{Circuit}
-use Rattle.aig_core.specs.declared.value.Val.{Val}
-use Rattle.aig_core.specs.declared.value.Val.TheVariants.{Zero}
-use Rattle.aig_core.specs.Literal.{variable_of}
-use Rattle.aig_core.specs.Values.{value_and, value_not}
-use Rattle.aig_core.specs.Wellformed.{IsAmong, IsWellFormed, defined_variables, operands}
-use Rattle.aig_core.proofs.Ordering.Counted.{among_either}
+use Rattle.aig_circuit.specs.declared.circuit.Gate.{Gate}
+use Rattle.aig_circuit.specs.declared.circuit.Circuit.{Circuit}
+use Rattle.aig_circuit.specs.declared.value.Val.{Val}
+use Rattle.aig_circuit.specs.declared.value.Val.TheVariants.{Zero}
+use Rattle.aig_circuit.specs.Literal.{variable_of}
+use Rattle.aig_circuit.specs.Values.{value_and, value_not}
+use Rattle.aig_circuit.specs.Wellformed.{IsAmong, IsWellFormed, defined_variables, operands}
+use Rattle.aig_topo.proofs.Ordering.Counted.{among_either}
 use Rattle.aig_meaning.specs.Meaning.{IsStepAssignment, latch_variables, literal_value}
 use Rattle.aig_meaning.proofs.Lists.{gate_named, variables_of}
 use Rattle.aig_meaning.proofs.Known.{AreDefined, IsDefined, known_operands}

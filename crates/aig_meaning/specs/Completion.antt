@@ -1,8 +1,8 @@
 -- Completions: 0 or 1 for each x (the usual meaning of x). And what it is for known values to stay where more is known.
 use Rattle.std.specs.Prelude.{◌≡◌, ◌⊎◌, List, ⊤}
 use Rattle.std.specs.List.{AllZip}
-use Rattle.aig_core.specs.declared.value.Val.{Val}
-use Rattle.aig_core.specs.declared.value.Val.TheVariants.{Zero, One, X}
+use Rattle.aig_circuit.specs.declared.value.Val.{Val}
+use Rattle.aig_circuit.specs.declared.value.Val.TheVariants.{Zero, One, X}
 use Rattle.aig_meaning.specs.Meaning.{Row}
 
 -- 0 and 1 stay, x becomes one of them

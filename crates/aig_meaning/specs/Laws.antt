@@ -1,9 +1,9 @@
 -- What the definitions of this crate say of one another.
 use Rattle.std.specs.Prelude.{◌≡◌, ◌↔◌, ℕ, List, [], ◌∷◌, ◌++◌, length}
 use Rattle.std.specs.List.{AllZip, AllByRecursion}
-use Rattle.aig_core.specs.declared.circuit.Circuit.{Circuit}
-use Rattle.aig_core.specs.declared.value.Val.{Val}
-use Rattle.aig_core.specs.Wellformed.{IsAmong, IsWellFormed, defined_variables}
+use Rattle.aig_circuit.specs.declared.circuit.Circuit.{Circuit}
+use Rattle.aig_circuit.specs.declared.value.Val.{Val}
+use Rattle.aig_circuit.specs.Wellformed.{IsAmong, IsWellFormed, defined_variables}
 use Rattle.aig_meaning.specs.Meaning.{IsRow, IsStepAssignment, MeansTheSame, Row}
 use Rattle.aig_meaning.specs.Trace.{IsFirstState, IsTrace, reset_state, state_after}
 use Rattle.aig_meaning.specs.Completion.{IsCompletion, RowStays, Stays}

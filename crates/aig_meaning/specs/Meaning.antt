@@ -2,13 +2,13 @@
 -- circuit; the values of variable 0, FALSE, and of literals are the AIGER report's.)
 use Rattle.std.specs.Prelude.{◌≡◌, ◌↔◌, ◌%◌, ◌==◌, ℕ, List, length, map, if◌then◌else◌}
 use Rattle.std.specs.List.{Contains}
-use Rattle.aig_core.specs.declared.circuit.Latch.{Latch}
-use Rattle.aig_core.specs.declared.circuit.Gate.{Gate}
-use Rattle.aig_core.specs.declared.circuit.Circuit.{Circuit}
-use Rattle.aig_core.specs.declared.value.Val.{Val}
-use Rattle.aig_core.specs.declared.value.Val.TheVariants.{Zero}
-use Rattle.aig_core.specs.Literal.{variable_of}
-use Rattle.aig_core.specs.Values.{value_and, value_not}
+use Rattle.aig_circuit.specs.declared.circuit.Latch.{Latch}
+use Rattle.aig_circuit.specs.declared.circuit.Gate.{Gate}
+use Rattle.aig_circuit.specs.declared.circuit.Circuit.{Circuit}
+use Rattle.aig_circuit.specs.declared.value.Val.{Val}
+use Rattle.aig_circuit.specs.declared.value.Val.TheVariants.{Zero}
+use Rattle.aig_circuit.specs.Literal.{variable_of}
+use Rattle.aig_circuit.specs.Values.{value_and, value_not}
 
 -- the value of a literal, where variables have these values
 abbrev pub literal_value : (ℕ → Val) → ℕ → Val

@@ -1,6 +1,6 @@
 -- The mapped image and the undone circuit mean what the circuit means: a comment means nothing.
 use Rattle.std.proofs.Common.{ℕ, refl, sym, subst}
-use Rattle.aig_core.specs.declared.circuit.Circuit.{Circuit}
+use Rattle.aig_circuit.specs.declared.circuit.Circuit.{Circuit}
 use Rattle.aig_meaning.specs.Meaning.{MeansTheSame}
 use Rattle.aig_meaning.proofs.Traces.{same_meaning_same_traces}
 use Rattle.aig_image.specs.Image.{image_by}

@@ -5,10 +5,10 @@ use Rattle.std.specs.Prelude.{◌≡◌, ◌+◌, ◌-◌, ◌++◌, ℕ, List, 
 use Rattle.std.specs.Prelude.{if◌then◌else◌}
 use Rattle.std.specs.List.{flat_map}
 use Rattle.std.specs.Option.{unwrap_or, is_some}
-use Rattle.aig_core.specs.declared.circuit.Latch.{Latch}
-use Rattle.aig_core.specs.declared.circuit.Gate.{Gate}
-use Rattle.aig_core.specs.declared.circuit.Circuit.{Circuit}
-use Rattle.aig_core.specs.Order.{IsLeastReadyOrder}
+use Rattle.aig_circuit.specs.declared.circuit.Latch.{Latch}
+use Rattle.aig_circuit.specs.declared.circuit.Gate.{Gate}
+use Rattle.aig_circuit.specs.declared.circuit.Circuit.{Circuit}
+use Rattle.aig_topo.specs.Order.{IsLeastReadyOrder}
 use Rattle.aig_text.specs.AsciiText.{more_numbers_text, numbers_text}
 use Rattle.aig_order.specs.declared.map_block.MappedGate.{MappedGate}
 use Rattle.aig_order.specs.declared.map_block.MapBlock.{MapBlock}

@@ -3,7 +3,7 @@
 use Rattle.std.specs.Prelude.{◌==◌, ◌&&◌, ℕ, List, length, take, drop, Bool, nat_le, nat_lt, Option, None, Some}
 use Rattle.std.specs.Prelude.{if◌then◌else◌}
 use Rattle.std.specs.Str.{bytes_eq}
-use Rattle.aig_core.specs.declared.circuit.TheConstants.{LARGEST}
+use Rattle.aig_circuit.specs.declared.circuit.TheConstants.{LARGEST}
 use Rattle.aig_text.specs.Scanning.{◌>>=◌}
 use Rattle.aig_text.specs.CanonicalNumber.{canonical_before}
 use Rattle.aig_order.specs.declared.map_block.FirstLine.{FirstLine}

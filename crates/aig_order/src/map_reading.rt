@@ -1,7 +1,7 @@
 //! The map block of a circuit, read from its comment.
 ghost use Rattle.std.specs.Prelude.{◌≡◌, ◌+◌, ◌^◌, ◌<◌, ◌≤◌, ℕ, List, [], Option, IfOk, IfSome};
 ghost use Rattle.std.specs.Option.{unwrap_or};
-ghost use Rattle.aig_core.specs.declared.circuit.TheConstants.{LARGEST as largest_index};
+ghost use Rattle.aig_circuit.specs.declared.circuit.TheConstants.{LARGEST as largest_index};
 ghost use Rattle.aig_text.specs.Outcomes.{Gives, GivesOrFails};
 ghost use Rattle.aig_order.specs.MapSpelling.{after_text, first_line_at, gate_at, is_variable, last_number_at};
 ghost use Rattle.aig_order.specs.MapSpelling.{variable_at};

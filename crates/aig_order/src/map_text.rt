@@ -4,8 +4,8 @@ ghost use Rattle.std.specs.Prelude.{◌≡◌, ◌+◌, ◌-◌, ◌^◌, ◌<�
 ghost use Rattle.std.specs.List.{flat_map};
 ghost use Rattle.aig_io.specs.Output.{Put};
 ghost use Rattle.aig_text.specs.AsciiText.{numbers_text};
-ghost use Rattle.aig_core.specs.declared.circuit.Circuit.{Circuit as CircuitRecord};
-ghost use Rattle.aig_core.specs.declared.circuit.Gate.{Gate as GateRecord};
+ghost use Rattle.aig_circuit.specs.declared.circuit.Circuit.{Circuit as CircuitRecord};
+ghost use Rattle.aig_circuit.specs.declared.circuit.Gate.{Gate as GateRecord};
 ghost use Rattle.aig_image.specs.Relabelled.{FitIntoLiterals, relabelled};
 ghost use Rattle.aig_order.specs.MapBlock.{block_by, block_text, first_line_text, gate_row};
 ghost use Rattle.aig_order.specs.MapBlock.{mapped_comment, mapped_gate, variable_row};

@@ -1,7 +1,7 @@
 //! The mapped image of a circuit: the binary image with a map block, by which it can be undone.
 ghost use Rattle.std.specs.Prelude.{◌≡◌, ◌+◌, ◌≤◌, None, Some, IfOk, length, min};
-ghost use Rattle.aig_core.specs.declared.circuit.TheConstants.{LARGEST};
-ghost use Rattle.aig_core.specs.Wellformed.{IsWellFormed};
+ghost use Rattle.aig_circuit.specs.declared.circuit.TheConstants.{LARGEST};
+ghost use Rattle.aig_circuit.specs.Wellformed.{IsWellFormed};
 ghost use Rattle.aig_core.specs.BinaryOrder.{IsNumberedInOrder};
 ghost use Rattle.aig_image.specs.Parts.Numbers.{number_of, IsRenumberingOf};
 ghost use Rattle.aig_image.specs.Relabelled.{FitIntoLiterals, relabelled};

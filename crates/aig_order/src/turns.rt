@@ -3,9 +3,9 @@
 ghost use Rattle.std.specs.Prelude.{◌≡◌, ◌<◌, ◌≤◌, ◌↔◌, ℕ, List, Option, length, map, IfOk, IsTrue, MatchOption};
 ghost use Rattle.std.specs.List.{AllByRecursion};
 ghost use Rattle.std.specs.Option.{IfSome};
-ghost use Rattle.aig_core.specs.declared.circuit.TheConstants.{LARGEST};
-ghost use Rattle.aig_core.specs.Order.{IsLeastReadyOrder};
-ghost use Rattle.aig_core.specs.Wellformed.{AreDistinct, defined_variables};
+ghost use Rattle.aig_circuit.specs.declared.circuit.TheConstants.{LARGEST};
+ghost use Rattle.aig_topo.specs.Order.{IsLeastReadyOrder};
+ghost use Rattle.aig_circuit.specs.Wellformed.{AreDistinct, defined_variables};
 ghost use Rattle.aig_core.specs.BinaryOrder.{IsInBinaryOrder};
 ghost use Rattle.aig_order.specs.declared.map_block.MappedGate.{MappedGate as MappedGateRecord};
 ghost use Rattle.aig_order.specs.MapReading.{HasCountsOf, IsWithinBounds};

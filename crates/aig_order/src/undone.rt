@@ -3,8 +3,8 @@ ghost use Rattle.std.specs.Prelude.{◌≡◌, ◌<◌, ◌≤◌, ◌⊎◌, �
 ghost use Rattle.std.specs.Prelude.{replicate, if◌then◌else◌, IfOk, IfErr, IsTrue, OnOk};
 ghost use Rattle.std.specs.Bool.{OnTrue, OnFalse};
 ghost use Rattle.std.specs.List.{AllByRecursion};
-ghost use Rattle.aig_core.specs.declared.circuit.Gate.{Gate as GateRecord};
-ghost use Rattle.aig_core.specs.Wellformed.{AreDistinct};
+ghost use Rattle.aig_circuit.specs.declared.circuit.Gate.{Gate as GateRecord};
+ghost use Rattle.aig_circuit.specs.Wellformed.{AreDistinct};
 ghost use Rattle.aig_image.specs.Relabelled.{FitIntoLiterals, relabelled_gate};
 ghost use Rattle.aig_image.specs.Renumbering.{source_variable};
 ghost use Rattle.aig_image.specs.Reordered.{exchanged_by, exchanged_if, taken};

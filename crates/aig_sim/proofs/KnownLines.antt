@@ -7,8 +7,8 @@ use Rattle.std.proofs.Common.{ap, ap₂, subst, ◌∙◌, inl, inr}
 use Rattle.std.specs.List.{AllZip}
 use Rattle.std.proofs.lemmas.Bool.{ne_eqb}
 use Rattle.std.proofs.lemmas.Slice.Zip.{AllZip-long}
-use Rattle.aig_core.specs.declared.value.Val.{Val}
-use Rattle.aig_core.specs.declared.value.Val.TheVariants.{Zero, One, X}
+use Rattle.aig_circuit.specs.declared.value.Val.{Val}
+use Rattle.aig_circuit.specs.declared.value.Val.TheVariants.{Zero, One, X}
 use Rattle.aig_meaning.specs.Completion.{Stays}
 use Rattle.aig_text.specs.Lines.{Line, line, begun_by, lines_of}
 use Rattle.aig_sim.specs.Laws.{IsAsKnown}

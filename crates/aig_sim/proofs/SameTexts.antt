@@ -1,8 +1,8 @@
 -- Circuits that mean the same have the same trace texts.
 use Rattle.std.proofs.Common.{◌≡◌, ◌++◌, ℕ, List, [], ◌∷◌, Bool, length, sym, ap, subst}
 use Rattle.std.specs.List.{AllZip, flat_map}
-use Rattle.aig_core.specs.declared.circuit.Circuit.{Circuit}
-use Rattle.aig_core.specs.declared.value.Val.{Val}
+use Rattle.aig_circuit.specs.declared.circuit.Circuit.{Circuit}
+use Rattle.aig_circuit.specs.declared.value.Val.{Val}
 use Rattle.aig_meaning.specs.Meaning.{Row}
 use Rattle.aig_meaning.specs.Trace.{IsTrace, reset_state}
 use Rattle.aig_meaning.proofs.Traces.{same_meaning_same_traces}

@@ -1,8 +1,8 @@
 -- A witness file as a whole (this project's profile): the texts of its lines, one behind the other, and what it says.
 use Rattle.std.specs.Prelude.{◌≡◌, ◌<◌, ◌++◌, ℕ, List, [], ◌∷◌, true, codes, length, map}
 use Rattle.std.specs.List.{AllByRecursion}
-use Rattle.aig_core.specs.declared.circuit.Circuit.{Circuit}
-use Rattle.aig_core.specs.declared.value.Val.{Val}
+use Rattle.aig_circuit.specs.declared.circuit.Circuit.{Circuit}
+use Rattle.aig_circuit.specs.declared.value.Val.{Val}
 use Rattle.aig_meaning.specs.Trace.{IsFirstState}
 use Rattle.aig_text.specs.Lines.{lines_of}
 use Rattle.aig_text.specs.Spelling.{value_of as number_of}

@@ -1,7 +1,7 @@
 -- What a simulator is and what a step does (the usual meaning of a circuit).
 use Rattle.std.specs.Prelude.{◌≡◌, List, Option, None, Some}
-use Rattle.aig_core.specs.declared.circuit.Circuit.{Circuit}
-use Rattle.aig_core.specs.declared.value.Val.{Val}
+use Rattle.aig_circuit.specs.declared.circuit.Circuit.{Circuit}
+use Rattle.aig_circuit.specs.declared.value.Val.{Val}
 use Rattle.aig_meaning.specs.Meaning.{IsRow, Row}
 use Rattle.aig_meaning.specs.Trace.{reset_state}
 

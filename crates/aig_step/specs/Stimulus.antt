@@ -4,8 +4,8 @@ use Rattle.std.specs.Prelude.{ℕ, suc, List, [], ◌∷◌, ◌==◌, ◌&&◌,
 use Rattle.std.specs.Prelude.{filter, length, nat_eq}
 use Rattle.std.specs.Prelude.{option_and_then, option_map, if◌then◌else◌}
 use Rattle.std.specs.Str.{bytes_eq}
-use Rattle.aig_core.specs.declared.value.Val.{Val}
-use Rattle.aig_core.specs.declared.value.Val.TheVariants.{Zero, One, X}
+use Rattle.aig_circuit.specs.declared.value.Val.{Val}
+use Rattle.aig_circuit.specs.declared.value.Val.TheVariants.{Zero, One, X}
 use Rattle.aig_text.specs.Lines.{Line, lines_of}
 
 -- the value that a character stands for: `0`, `1` or `x`

@@ -2,8 +2,8 @@
 ghost use Rattle.std.specs.Prelude.{◌≡◌, ◌+◌, ◌-◌, ◌*◌, ◌<◌, ◌≤◌, ◌^◌, [], ◌∷◌, length, slice_set, IfOk};
 ghost use Rattle.std.specs.Prelude.{List, Some, None, false, option_map, true};
 ghost use Rattle.std.specs.List.{All};
-ghost use Rattle.aig_core.specs.declared.value.Val.{Val as Value};
-ghost use Rattle.aig_core.specs.Values.{value_and};
+ghost use Rattle.aig_circuit.specs.declared.value.Val.{Val as Value};
+ghost use Rattle.aig_circuit.specs.Values.{value_and};
 ghost use Rattle.aig_meaning.specs.Meaning.{literal_value};
 ghost use Rattle.aig_step.specs.Stimulus.{value_of, values_of};
 ghost use Rattle.aig_step.specs.TraceText.{character_of};
@@ -23,7 +23,7 @@ pub struct Code {
 
 impl Model for Code {
     ghost use Rattle.std.specs.Prelude.{◌≡◌};
-    ghost use Rattle.aig_core.specs.declared.value.Val.{Val};
+    ghost use Rattle.aig_circuit.specs.declared.value.Val.{Val};
     ghost use Rattle.aig_step.specs.Parts.Cells.{code_of, value_of_code};
 
     ghost Value = { Val };
@@ -43,7 +43,7 @@ pub struct Table {
 
 impl Model for Table {
     ghost use Rattle.std.specs.Prelude.{List};
-    ghost use Rattle.aig_core.specs.declared.value.Val.{Val};
+    ghost use Rattle.aig_circuit.specs.declared.value.Val.{Val};
     ghost use Rattle.aig_step.specs.Parts.Cells.{AreCodes, values_of_bytes};
 
     ghost Value = { List Val };

@@ -1,7 +1,7 @@
 //! The loops of a step, over a table of the variables' values.
 ghost use Rattle.std.specs.Prelude.{◌≡◌, ◌+◌, ◌≤◌, length, map, IfOk};
 ghost use Rattle.std.specs.List.{All};
-ghost use Rattle.aig_core.specs.declared.circuit.Latch.{Latch as LatchRecord};
+ghost use Rattle.aig_circuit.specs.declared.circuit.Latch.{Latch as LatchRecord};
 ghost use Rattle.aig_meaning.specs.Meaning.{literal_value};
 ghost use Rattle.aig_meaning.specs.Trace.{reset_value as value_after_reset};
 ghost use Rattle.aig_step.specs.Parts.Tables.{IsLiteralBelow, pair_of, placed, read_from};

@@ -1,7 +1,7 @@
 //! A circuit in binary order that is kept to be run.
 ghost use Rattle.std.specs.Prelude.{◌≡◌, ◌+◌, ◌≤◌, List, None, Some, false, length, slice_set, true, IfOk};
-ghost use Rattle.aig_core.specs.declared.value.Val.{Val as Value};
-ghost use Rattle.aig_core.specs.declared.value.Val.TheVariants.{Zero};
+ghost use Rattle.aig_circuit.specs.declared.value.Val.{Val as Value};
+ghost use Rattle.aig_circuit.specs.declared.value.Val.TheVariants.{Zero};
 ghost use Rattle.aig_meaning.specs.Meaning.{IsStepAssignment, MeansTheSame};
 ghost use Rattle.aig_step.specs.Parts.Lines.{vector_in};
 ghost use Rattle.aig_step.specs.Parts.Machines.{CanRun, ShowsBelow, circuit_of, parts_of};
@@ -24,7 +24,7 @@ pub struct Machine {
 }
 
 impl Model for Machine {
-    ghost use Rattle.aig_core.specs.declared.circuit.Circuit.{Circuit as CircuitRecord};
+    ghost use Rattle.aig_circuit.specs.declared.circuit.Circuit.{Circuit as CircuitRecord};
     ghost use Rattle.aig_step.specs.Parts.Machines.{CanRun, circuit_of};
 
     ghost Value = { CircuitRecord };

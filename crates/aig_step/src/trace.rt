@@ -1,7 +1,7 @@
 //! The text of a trace.
 ghost use Rattle.std.specs.Prelude.{◌≡◌, ◌+◌, ◌++◌, ◌≤◌, List, codes, length, map, take};
 ghost use Rattle.std.specs.List.{All};
-ghost use Rattle.aig_core.specs.declared.value.Val.{Val as Value};
+ghost use Rattle.aig_circuit.specs.declared.value.Val.{Val as Value};
 ghost use Rattle.aig_meaning.specs.Meaning.{literal_value, next_literals};
 ghost use Rattle.aig_step.specs.TraceText.{properties_text, row_text, values_text};
 ghost use Rattle.aig_step.specs.Parts.Lines.{line_size, row_read};

@@ -3,8 +3,8 @@
 use Rattle.std.specs.Prelude.{◌-◌, ◌==◌, ◌&&◌, ℕ, List, [], ◌∷◌, ◌++◌, Option, None, Some, codes, decimal}
 use Rattle.std.specs.Prelude.{if◌then◌else◌}
 use Rattle.std.specs.List.{flat_map}
-use Rattle.aig_core.specs.declared.circuit.Symbol.{Symbol}
-use Rattle.aig_core.specs.declared.circuit.Circuit.{Circuit}
+use Rattle.aig_circuit.specs.declared.circuit.Symbol.{Symbol}
+use Rattle.aig_circuit.specs.declared.circuit.Circuit.{Circuit}
 use Rattle.aig_text.specs.declared.header_line.TheConstants.{HEADER_LEAST}
 pub use Rattle.aig_text.specs.Tail.{kind_letter}
 use Rattle.aig_text.specs.Rows.{ascii_word, header_row, rows_of, Row}

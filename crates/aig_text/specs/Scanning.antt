@@ -2,10 +2,10 @@
 use Rattle.std.specs.Prelude.{◌-◌, ◌==◌, ◌&&◌, ◌||◌, ℕ, zero, suc, List, [], ◌∷◌, length, take, drop, slice_index}
 use Rattle.std.specs.Prelude.{Bool, false, Option, None, Some, if◌then◌else◌}
 use Rattle.std.specs.List.{prefix_len}
-use Rattle.aig_core.specs.declared.circuit.Kind.{Kind}
-use Rattle.aig_core.specs.declared.circuit.Kind.TheVariants.{Input, Latch, Output, Bad, Constraint, Justice}
-use Rattle.aig_core.specs.declared.circuit.Kind.TheVariants.{Fairness}
-use Rattle.aig_core.specs.declared.circuit.Symbol.{Symbol}
+use Rattle.aig_circuit.specs.declared.circuit.Kind.{Kind}
+use Rattle.aig_circuit.specs.declared.circuit.Kind.TheVariants.{Input, Latch, Output, Bad, Constraint, Justice}
+use Rattle.aig_circuit.specs.declared.circuit.Kind.TheVariants.{Fairness}
+use Rattle.aig_circuit.specs.declared.circuit.Symbol.{Symbol}
 use Rattle.aig_text.specs.Lines.{Line}
 use Rattle.aig_text.specs.Spelling.{is_digit, is_space, value_of, zeros}
 

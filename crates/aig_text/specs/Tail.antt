@@ -2,11 +2,11 @@
 -- latches and the rest, and then a line `c` and the comment where there is one.
 use Rattle.std.specs.Prelude.{◌≡◌, ◌++◌, ℕ, List, [], ◌∷◌, Option, None, Some, codes}
 use Rattle.std.specs.List.{AllZip}
-use Rattle.aig_core.specs.declared.circuit.Kind.{Kind}
-use Rattle.aig_core.specs.declared.circuit.Kind.TheVariants.{Input, Latch, Output, Bad, Constraint, Justice}
-use Rattle.aig_core.specs.declared.circuit.Kind.TheVariants.{Fairness}
-use Rattle.aig_core.specs.declared.circuit.Symbol.{Symbol}
-use Rattle.aig_core.specs.declared.circuit.Circuit.{Circuit}
+use Rattle.aig_circuit.specs.declared.circuit.Kind.{Kind}
+use Rattle.aig_circuit.specs.declared.circuit.Kind.TheVariants.{Input, Latch, Output, Bad, Constraint, Justice}
+use Rattle.aig_circuit.specs.declared.circuit.Kind.TheVariants.{Fairness}
+use Rattle.aig_circuit.specs.declared.circuit.Symbol.{Symbol}
+use Rattle.aig_circuit.specs.declared.circuit.Circuit.{Circuit}
 use Rattle.aig_text.specs.Lines.{Line, bytes_of}
 use Rattle.aig_text.specs.Spelling.{IsNumber, IsLineEnd}
 

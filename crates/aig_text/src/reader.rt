@@ -1,6 +1,6 @@
 //! The reader of ASCII files.
 ghost use Rattle.std.specs.Prelude.{◌≡◌, IfOk, IfErr, MatchResult};
-ghost use Rattle.aig_core.specs.declared.circuit.Circuit.{Circuit as CircuitRecord};
+ghost use Rattle.aig_circuit.specs.declared.circuit.Circuit.{Circuit as CircuitRecord};
 ghost use Rattle.aig_text.specs.Lines.{lines_of};
 ghost use Rattle.aig_text.specs.Rows.{ascii_word};
 ghost use Rattle.aig_text.specs.Outcomes.{GivesOrMemory};

@@ -1,7 +1,7 @@
 //! Sections: rows of one kind, one to a line.
 ghost use Rattle.std.specs.Prelude.{◌≡◌, ◌^◌, ◌≤◌, OnOk, OnErr};
 ghost use Rattle.std.specs.List.{sum};
-ghost use Rattle.aig_core.specs.declared.circuit.TheConstants.{LARGEST as largest_index};
+ghost use Rattle.aig_circuit.specs.declared.circuit.TheConstants.{LARGEST as largest_index};
 ghost use Rattle.aig_text.specs.declared.section.Section.TheVariants.{JusticeSizes};
 ghost use Rattle.aig_text.specs.Rows.{in_ascii, sections};
 ghost use Rattle.aig_text.specs.Outcomes.{GivesOrMemory, rows_meant};

@@ -1,8 +1,8 @@
 -- What is converted means what it was converted from.
 use Rattle.std.proofs.Common.{refl, subst, sym, ℕ, List, Bool, true, false, inl, if◌then◌else◌}
-use Rattle.aig_core.specs.declared.circuit.Circuit.{Circuit}
-use Rattle.aig_core.specs.declared.circuit.TheConstants.{LARGEST}
-use Rattle.aig_core.specs.Wellformed.{IsWellFormed}
+use Rattle.aig_circuit.specs.declared.circuit.Circuit.{Circuit}
+use Rattle.aig_circuit.specs.declared.circuit.TheConstants.{LARGEST}
+use Rattle.aig_circuit.specs.Wellformed.{IsWellFormed}
 use Rattle.aig_meaning.specs.Meaning.{IsRow, MeansTheSame, Row}
 use Rattle.aig_meaning.proofs.Same.{means_itself, same_back, same_by_rows, same_through}
 use Rattle.aig_image.proofs.Imaging.Ordered.{image_is_ordered}

@@ -1,10 +1,10 @@
 -- What is written for bytes is one text, a canonical binary file comes back through ASCII, and an ASCII file through
 -- binary with the map.
 use Rattle.std.proofs.Common.{◌≡◌, ◌∙◌, sym, refl, ap, subst, ℕ, List, Bool, true, false, inl, inr}
-use Rattle.aig_core.specs.declared.circuit.Circuit.{Circuit}
-use Rattle.aig_core.specs.declared.circuit.TheConstants.{LARGEST}
-use Rattle.aig_core.specs.Wellformed.{IsWellFormed}
-use Rattle.aig_core.proofs.Checking.Fitting.{definitions_fit, well_formed_in_form}
+use Rattle.aig_circuit.specs.declared.circuit.Circuit.{Circuit}
+use Rattle.aig_circuit.specs.declared.circuit.TheConstants.{LARGEST}
+use Rattle.aig_circuit.specs.Wellformed.{IsWellFormed}
+use Rattle.aig_circuit.proofs.Checking.Fitting.{definitions_fit, well_formed_in_form}
 use Rattle.aig_text.specs.AsciiText.{ascii_text}
 use Rattle.aig_text.proofs.Canonical.Text.{canonical_text}
 use Rattle.aig_text.specs.AsciiGrammar.{IsAsciiText}

@@ -1,8 +1,8 @@
 -- The texts of the headline exist: a file has a conversion text, which has one back, and no fault.
 use Rattle.std.proofs.Common.{◌≡◌, sym, refl, ap, subst, ℕ, List, None, true, false, inl, inr}
-use Rattle.aig_core.specs.declared.circuit.Circuit.{Circuit}
-use Rattle.aig_core.specs.declared.circuit.TheConstants.{LARGEST}
-use Rattle.aig_core.specs.Wellformed.{IsWellFormed}
+use Rattle.aig_circuit.specs.declared.circuit.Circuit.{Circuit}
+use Rattle.aig_circuit.specs.declared.circuit.TheConstants.{LARGEST}
+use Rattle.aig_circuit.specs.Wellformed.{IsWellFormed}
 use Rattle.aig_text.specs.AsciiText.{ascii_text}
 use Rattle.aig_text.specs.Reading.{fault_of}
 use Rattle.aig_binary.specs.BinaryText.{binary_text}

@@ -1,6 +1,6 @@
 -- Which text a conversion writes (this project's profile): a circuit is read, changed as asked, and written.
 use Rattle.std.specs.Prelude.{◌≡◌, ℕ, List, [], Bool, true, false, None, if◌then◌else◌}
-use Rattle.aig_core.specs.declared.circuit.Circuit.{Circuit}
+use Rattle.aig_circuit.specs.declared.circuit.Circuit.{Circuit}
 use Rattle.aig_text.specs.AsciiText.{ascii_text}
 use Rattle.aig_binary.specs.BinaryText.{binary_text}
 use Rattle.aig_image.specs.Image.{IsBinaryImage}

@@ -1,6 +1,6 @@
 -- Which texts are AIGER files of which circuits, ASCII or binary, and what is wrong with a text that is none.
 use Rattle.std.specs.Prelude.{◌⊎◌, ℕ, List, Option, Result, if◌then◌else◌}
-use Rattle.aig_core.specs.declared.circuit.Circuit.{Circuit}
+use Rattle.aig_circuit.specs.declared.circuit.Circuit.{Circuit}
 use Rattle.aig_text.specs.declared.fault.ReadFault.{ReadFault}
 use Rattle.aig_text.specs.Lines.{lines_of}
 use Rattle.aig_text.specs.Reading.{first_word_is, reading, fault_of}

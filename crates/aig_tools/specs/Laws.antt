@@ -1,13 +1,13 @@
 -- What the definitions of this crate say of one another.
 use Rattle.std.specs.Prelude.{◌≡◌, ◌↔◌, ◌+◌, ◌*◌, ℕ, List, [], ◌∷◌, None, Ok, true, false, length}
 use Rattle.std.specs.Prelude.{slice_index_or, take}
-use Rattle.aig_core.specs.declared.circuit.TheConstants.{LARGEST}
-use Rattle.aig_core.specs.Wellformed.{IsWellFormed}
+use Rattle.aig_circuit.specs.declared.circuit.TheConstants.{LARGEST}
+use Rattle.aig_circuit.specs.Wellformed.{IsWellFormed}
 use Rattle.aig_text.specs.AsciiText.{ascii_text}
 use Rattle.aig_text.specs.AsciiGrammar.{IsAsciiText}
 use Rattle.aig_core.specs.BinaryOrder.{IsInBinaryOrder}
 use Rattle.aig_binary.specs.BinaryText.{binary_text}
-use Rattle.aig_core.specs.declared.circuit.Circuit.{Circuit}
+use Rattle.aig_circuit.specs.declared.circuit.Circuit.{Circuit}
 use Rattle.aig_order.specs.declared.fault.MapFault.{MapFault}
 use Rattle.aig_order.specs.declared.fault.MapFault.TheVariants.{OutOfMemory}
 use Rattle.aig_order.specs.Undone.{IsMapFault}
@@ -16,7 +16,7 @@ use Rattle.aig_command.specs.declared.request.ToAig.{ToAig}
 use Rattle.aig_command.specs.declared.request.Unroll.{Unroll}
 use Rattle.aig_meaning.specs.Meaning.{Row}
 use Rattle.aig_meaning.specs.Trace.{IsTrace}
-use Rattle.aig_core.specs.declared.value.Val.TheVariants.{Zero, One}
+use Rattle.aig_circuit.specs.declared.value.Val.TheVariants.{Zero, One}
 use Rattle.aig_witness.specs.declared.verdict.Verdict.TheVariants.{Confirmed}
 use Rattle.aig_step.specs.Outcome.{first_bad_line}
 use Rattle.aig_witness.specs.Witness.{Claim, IsVerdict}

@@ -11,7 +11,7 @@ use Rattle.aig_order.specs.Undone.{IsMapFault}
 use Rattle.aig_tools.specs.File.{IsFileOf}
 use Rattle.aig_tools.specs.Reading.{Refused}
 use Rattle.aig_tools.specs.declared.fault.ToolFault.TheVariants as faults
-use Rattle.aig_core.specs.declared.circuit.Circuit.{Circuit}
+use Rattle.aig_circuit.specs.declared.circuit.Circuit.{Circuit}
 use Rattle.aig_command.specs.Answer.{name_of}
 use Rattle.aig_tools.specs.Devices.{DoneBetween, FilesByName, NotDoneBetween, SinkUse, SourceUse}
 use Rattle.aig_tools.specs.Conversion.{IsConversionText, IsTextAs}

@@ -1,7 +1,7 @@
 -- What came of reading a circuit from a source, for the source and what is left of it.
 use Rattle.std.specs.Prelude.{◌≡◌, ◌+◌, ℕ, List, Option, IfSome, ⊤}
 use Rattle.aig_io.specs.Transfer.{GaveAll, GaveSome}
-use Rattle.aig_core.specs.declared.circuit.Circuit.{Circuit}
+use Rattle.aig_circuit.specs.declared.circuit.Circuit.{Circuit}
 use Rattle.aig_text.specs.declared.fault.ReadFault.{ReadFault}
 use Rattle.aig_text.specs.Reading.{IsFirstFault}
 use Rattle.aig_tools.specs.declared.fault.ToolFault.{ToolFault}

@@ -1,7 +1,7 @@
 -- Which text a simulation writes (this project's profile): a circuit is read, and the trace text of the stimulus is
 -- written.
 use Rattle.std.specs.Prelude.{◌≡◌, ℕ, List, true, None, if◌then◌else◌}
-use Rattle.aig_core.specs.declared.circuit.Circuit.{Circuit}
+use Rattle.aig_circuit.specs.declared.circuit.Circuit.{Circuit}
 use Rattle.aig_command.specs.declared.request.Sim.{Sim}
 use Rattle.aig_step.specs.declared.trace.Columns.{Columns}
 use Rattle.aig_step.specs.declared.trace.Columns.TheVariants.{Plain, Properties}

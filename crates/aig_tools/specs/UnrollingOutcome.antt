@@ -3,7 +3,7 @@
 use Rattle.std.specs.Prelude.{◌≡◌, ◌+◌, ◌⊎◌, ℕ, List, Option, IfSome, ⊤}
 use Rattle.std.specs.Io.KnownBytes.{Appends}
 use Rattle.aig_io.specs.Transfer.{GaveAll, GaveSome, TookBeginning}
-use Rattle.aig_core.specs.declared.circuit.Circuit.{Circuit}
+use Rattle.aig_circuit.specs.declared.circuit.Circuit.{Circuit}
 use Rattle.aig_unroll.specs.declared.fault.UnrollFault.{UnrollFault}
 use Rattle.aig_unroll.specs.Outcome.{NotUnrolled}
 use Rattle.aig_command.specs.Answer.{name_of}

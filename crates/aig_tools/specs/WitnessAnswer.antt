@@ -1,7 +1,7 @@
 -- What is answered to a witness file (this project's profile): a circuit is read, and the verdict on what the witness
 -- file claims of it is written in a line.
 use Rattle.std.specs.Prelude.{◌≡◌, ◌++◌, ℕ, List, None, codes, decimal, true}
-use Rattle.aig_core.specs.declared.circuit.Circuit.{Circuit}
+use Rattle.aig_circuit.specs.declared.circuit.Circuit.{Circuit}
 use Rattle.aig_command.specs.declared.request.Sim.{Sim}
 use Rattle.aig_witness.specs.declared.verdict.Verdict.{Verdict}
 use Rattle.aig_witness.specs.declared.verdict.Verdict.TheVariants.{Confirmed, NotConfirmed}

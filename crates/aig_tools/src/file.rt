@@ -1,6 +1,6 @@
 //! Files of either kind.
 ghost use Rattle.std.specs.Prelude.{◌≡◌, ◌-◌, ◌^◌, ◌<◌, IfOk, IfErr, MatchResult};
-ghost use Rattle.aig_core.specs.declared.circuit.Circuit.{Circuit as CircuitRecord};
+ghost use Rattle.aig_circuit.specs.declared.circuit.Circuit.{Circuit as CircuitRecord};
 ghost use Rattle.aig_text.specs.Reading.{IsFirstFault, want_of_memory};
 ghost use Rattle.aig_tools.specs.Devices.{source_use};
 ghost use Rattle.aig_tools.specs.File.{IsFileOf, first_fault};

@@ -1,7 +1,7 @@
 -- A step that a tracer took.
 use Rattle.std.proofs.Common.{◌≡◌, ℕ, List, Bool, Some, length, map, true, refl, ap, ap₂, ◌∙◌}
-use Rattle.aig_core.specs.declared.circuit.Circuit.{Circuit}
-use Rattle.aig_core.specs.declared.value.Val.{Val}
+use Rattle.aig_circuit.specs.declared.circuit.Circuit.{Circuit}
+use Rattle.aig_circuit.specs.declared.value.Val.{Val}
 use Rattle.aig_meaning.specs.Meaning.{IsStepAssignment, Row, literal_value, next_literals}
 use Rattle.aig_io.specs.Output.{Out, Put}
 use Rattle.aig_step.specs.TraceText.{row_text}

@@ -5,7 +5,7 @@ use Rattle.std.proofs.Common.{length, take, sym, subst, append-nil}
 use Rattle.std.proofs.Math.Seq.{take-append-add}
 use Rattle.std.proofs.lemmas.Bool.{false≢true}
 use Rattle.std.specs.Io.KnownBytes.{Appends, Consumes, IsAtEnd, Keeps}
-use Rattle.aig_core.specs.declared.circuit.Circuit.{Circuit}
+use Rattle.aig_circuit.specs.declared.circuit.Circuit.{Circuit}
 use Rattle.aig_io.specs.Transfer.{TookBeginning}
 use Rattle.aig_io.proofs.KnownBytes.{appends_twice}
 use Rattle.aig_step.specs.declared.fault.SimFault.{SimFault}

@@ -7,10 +7,10 @@ use Rattle.std.proofs.Common.{◌<◌, drop, get_or}
 use Rattle.std.proofs.lemmas.Bool.{cases_lt}
 use Rattle.std.proofs.lemmas.List.{take_all, length-take-le}
 use Rattle.std.proofs.lemmas.Simd.{map-map}
-use Rattle.aig_core.specs.declared.circuit.Circuit.{Circuit}
-use Rattle.aig_core.specs.declared.circuit.Latch.{Latch}
-use Rattle.aig_core.specs.declared.value.Val.{Val}
-use Rattle.aig_core.specs.declared.value.Val.TheVariants.{Zero, One, X}
+use Rattle.aig_circuit.specs.declared.circuit.Circuit.{Circuit}
+use Rattle.aig_circuit.specs.declared.circuit.Latch.{Latch}
+use Rattle.aig_circuit.specs.declared.value.Val.{Val}
+use Rattle.aig_circuit.specs.declared.value.Val.TheVariants.{Zero, One, X}
 use Rattle.aig_io.specs.Output.{Out, Put}
 use Rattle.aig_io.proofs.Puts.{put_nothing, put_twice}
 use Rattle.aig_meaning.specs.Meaning.{MeansTheSame}

@@ -1,7 +1,7 @@
 //! The bytes of a stimulus as they come, line by line.
 ghost use Rattle.std.specs.Prelude.{◌≡◌, ◌+◌, ◌-◌, ◌^◌, ◌<◌, ◌≤◌, ◌++◌, ◌∷◌, [], ℕ, List, Bool, IfErr, IfOk};
 ghost use Rattle.std.specs.Prelude.{IfSome, None, false, length, true};
-ghost use Rattle.aig_core.specs.declared.circuit.Circuit.{Circuit as CircuitRecord};
+ghost use Rattle.aig_circuit.specs.declared.circuit.Circuit.{Circuit as CircuitRecord};
 ghost use Rattle.aig_step.specs.declared.fault.SimFault.TheVariants.{OutOfMemory as IsOutOfMemory};
 ghost use Rattle.aig_step.specs.declared.trace.Columns.{Columns as ColumnsAsked};
 ghost use Rattle.aig_step.specs.Parts.Seen.{HasNoLineFeed};

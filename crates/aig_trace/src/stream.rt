@@ -1,7 +1,7 @@
 //! A circuit over a stimulus text.
 ghost use Rattle.std.specs.Prelude.{◌≡◌, ◌≢◌, ◌+◌, ◌-◌, ◌^◌, ◌<◌, ◌≤◌, ◌++◌, [], ℕ, List, Err, IfErr, OnOk};
 ghost use Rattle.std.specs.Prelude.{false, length, max, true};
-ghost use Rattle.aig_core.specs.declared.circuit.Circuit.{Circuit as CircuitRecord};
+ghost use Rattle.aig_circuit.specs.declared.circuit.Circuit.{Circuit as CircuitRecord};
 ghost use Rattle.aig_io.specs.declared.block.TheConstants.{ROOM};
 ghost use Rattle.aig_step.specs.declared.fault.SimFault.TheVariants.{OutOfMemory};
 ghost use Rattle.aig_step.specs.declared.trace.Columns.{Columns as ColumnsAsked};

@@ -9,14 +9,14 @@ use Rattle.std.specs.List.{All, AllByRecursion, range_with_len}
 use Rattle.std.proofs.lemmas.Bool.{cases_lt, le-leb, le-ltb, lt-leb, lt-ltb}
 use Rattle.std.proofs.lemmas.List.{get_or_append_left, get_or-append_right}
 use Rattle.std.proofs.lemmas.List.FromFn.{get_or-map-range_with_len, length-map-range_with_len}
-use Rattle.aig_core.specs.declared.circuit.Circuit.{Circuit}
-use Rattle.aig_core.specs.declared.circuit.Gate.{Gate}
-use Rattle.aig_core.specs.declared.circuit.Latch.{Latch}
-use Rattle.aig_core.specs.declared.circuit.TheConstants.{LARGEST}
+use Rattle.aig_circuit.specs.declared.circuit.Circuit.{Circuit}
+use Rattle.aig_circuit.specs.declared.circuit.Gate.{Gate}
+use Rattle.aig_circuit.specs.declared.circuit.Latch.{Latch}
+use Rattle.aig_circuit.specs.declared.circuit.TheConstants.{LARGEST}
 use Rattle.aig_core.specs.BinaryOrder.{AreOrderedGates, IsInBinaryOrder}
-use Rattle.aig_core.specs.Literal.{literal_of, variable_of}
-use Rattle.aig_core.specs.Wellformed.{IsKnown, IsWellFormed, defined_variables}
-use Rattle.aig_core.proofs.Checking.Fitting.{known_in_range}
+use Rattle.aig_circuit.specs.Literal.{literal_of, variable_of}
+use Rattle.aig_circuit.specs.Wellformed.{IsKnown, IsWellFormed, defined_variables}
+use Rattle.aig_circuit.proofs.Checking.Fitting.{known_in_range}
 use Rattle.aig_meaning.proofs.Known.{AreDefined, known_next, known_outputs, known_bad, known_constraints}
 use Rattle.aig_unroll.specs.Unrolled.{IsTooLarge, all_inputs, at, first_gate, first_input, frame_size, latches_at}
 use Rattle.aig_unroll.specs.Unrolled.{chain_at, chain_behind, first_constraint, first_latches, next_of, resets_of}

@@ -5,7 +5,7 @@ use Rattle.std.specs.Int.Bits.{bit_and, bit_xor, xor_add_and, xor_zero_r}
 use Rattle.std.proofs.lemmas.Bool.{cases_lt, lt-ltb}
 use Rattle.std.proofs.lemmas.List.{get_or_default}
 use Rattle.std.proofs.lemmas.Nat.{and_mask}
-use Rattle.aig_core.specs.Literal.{variable_of}
+use Rattle.aig_circuit.specs.Literal.{variable_of}
 use Rattle.aig_unroll.specs.Parts.Standing.{stood, with_sign}
 
 -- exclusive or with the last bit carries the sign over

@@ -1,11 +1,11 @@
 -- What the definitions of this crate say of one another.
 use Rattle.std.specs.Prelude.{◌≡◌, ◌↔◌, ◌+◌, ◌*◌, ℕ, List, [], ◌∷◌, None, length}
 use Rattle.std.specs.List.{AllByRecursion, flat_map, range_with_len}
-use Rattle.aig_core.specs.declared.circuit.Circuit.{Circuit}
-use Rattle.aig_core.specs.declared.circuit.Reset.{Reset}
-use Rattle.aig_core.specs.declared.circuit.Reset.TheVariants as resets
-use Rattle.aig_core.specs.declared.value.Val.{Val}
-use Rattle.aig_core.specs.Wellformed.{IsWellFormed}
+use Rattle.aig_circuit.specs.declared.circuit.Circuit.{Circuit}
+use Rattle.aig_circuit.specs.declared.circuit.Reset.{Reset}
+use Rattle.aig_circuit.specs.declared.circuit.Reset.TheVariants as resets
+use Rattle.aig_circuit.specs.declared.value.Val.{Val}
+use Rattle.aig_circuit.specs.Wellformed.{IsWellFormed}
 use Rattle.aig_core.specs.BinaryOrder.{IsInBinaryOrder}
 use Rattle.aig_meaning.specs.Meaning.{Row}
 use Rattle.aig_meaning.specs.Trace.{IsTrace}

@@ -1,6 +1,6 @@
 -- What came of unrolling a circuit over so many frames.
 use Rattle.std.specs.Prelude.{ℕ}
-use Rattle.aig_core.specs.declared.circuit.Circuit.{Circuit}
+use Rattle.aig_circuit.specs.declared.circuit.Circuit.{Circuit}
 use Rattle.aig_unroll.specs.declared.fault.UnrollFault.{UnrollFault}
 use Rattle.aig_unroll.specs.declared.fault.UnrollFault.TheVariants.{Unsupported, TooLarge, OutOfMemory}
 use Rattle.aig_unroll.specs.Unrolled.{IsTooLarge, IsUnsupported}

@@ -1,11 +1,11 @@
 //! A circuit frame by frame, as it is unrolled.
 ghost use Rattle.std.specs.Prelude.{◌≡◌, ◌+◌, ◌-◌, ◌<◌, ◌≤◌, ◌∷◌, drop, length, map, IfOk};
 ghost use Rattle.std.specs.List.{All};
-ghost use Rattle.aig_core.specs.declared.circuit.Latch.{Latch as LatchRecord};
-ghost use Rattle.aig_core.specs.declared.circuit.TheConstants.{LARGEST};
+ghost use Rattle.aig_circuit.specs.declared.circuit.Latch.{Latch as LatchRecord};
+ghost use Rattle.aig_circuit.specs.declared.circuit.TheConstants.{LARGEST};
 ghost use Rattle.aig_core.specs.BinaryOrder.{IsInBinaryOrder};
-ghost use Rattle.aig_core.specs.Literal.{literal_of};
-ghost use Rattle.aig_core.specs.Wellformed.{IsWellFormed};
+ghost use Rattle.aig_circuit.specs.Literal.{literal_of};
+ghost use Rattle.aig_circuit.specs.Wellformed.{IsWellFormed};
 ghost use Rattle.aig_binary.specs.BinaryText.{HasDeltas};
 ghost use Rattle.aig_unroll.specs.Unrolled.{IsTooLarge, all_inputs, bad_at, chain_at, first_latches, frame_size};
 ghost use Rattle.aig_unroll.specs.Unrolled.{gates_at, outputs_at, resets_of, uninitialised};

@@ -2,9 +2,9 @@
 //! last latch; the variables behind them are those of gates, which follow on one another in each frame.
 ghost use Rattle.std.specs.Prelude.{◌≡◌, ◌+◌, ◌≤◌, length, map};
 ghost use Rattle.std.specs.List.{All, range_with_len};
-ghost use Rattle.aig_core.specs.declared.circuit.Latch.{Latch as LatchRecord};
-ghost use Rattle.aig_core.specs.declared.circuit.TheConstants.{LARGEST};
-ghost use Rattle.aig_core.specs.Literal.{literal_of};
+ghost use Rattle.aig_circuit.specs.declared.circuit.Latch.{Latch as LatchRecord};
+ghost use Rattle.aig_circuit.specs.declared.circuit.TheConstants.{LARGEST};
+ghost use Rattle.aig_circuit.specs.Literal.{literal_of};
 ghost use Rattle.aig_unroll.specs.Unrolled.{chain_behind, chained, copied, first_latches, gate_of, guarded};
 ghost use Rattle.aig_unroll.specs.Parts.Standing.{GateHasRoom, HasRoom, stood};
 

@@ -3,7 +3,7 @@
 ghost use Rattle.std.specs.Io.KnownBytes.{Appends};
 ghost use Rattle.std.specs.Prelude.{◌≡◌, ◌+◌, ◌-◌, ◌^◌, ◌<◌, ◌≤◌, length, max, is_ok, IfErr, IfOk, OnErr, OnOk};
 ghost use Rattle.std.specs.Prelude.{if◌then◌else◌};
-ghost use Rattle.aig_core.specs.Wellformed.{IsWellFormed};
+ghost use Rattle.aig_circuit.specs.Wellformed.{IsWellFormed};
 ghost use Rattle.aig_io.specs.Output.{Put};
 ghost use Rattle.aig_io.specs.Transfer.{TookBeginning};
 ghost use Rattle.aig_io.specs.declared.block.TheConstants.{ROOM};
@@ -39,7 +39,7 @@ pub struct Unrolling {
 }
 
 impl Model for Unrolling {
-    ghost use Rattle.aig_core.specs.declared.circuit.Circuit.{Circuit};
+    ghost use Rattle.aig_circuit.specs.declared.circuit.Circuit.{Circuit};
     ghost use Rattle.aig_unroll.specs.Unrolled.{unrolled};
     ghost use Rattle.aig_unroll.specs.Parts.Writing.{IsReady};
 

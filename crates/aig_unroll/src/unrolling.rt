@@ -1,7 +1,7 @@
 //! The circuit unrolled.
 ghost use Rattle.std.specs.Prelude.{◌≡◌, ◌↔◌, ◌+◌, ◌*◌, ◌≤◌, length, IfErr, IfOk, IsTrue, OnOk};
 ghost use Rattle.std.specs.List.{flat_map, range_with_len};
-ghost use Rattle.aig_core.specs.Wellformed.{IsWellFormed};
+ghost use Rattle.aig_circuit.specs.Wellformed.{IsWellFormed};
 ghost use Rattle.aig_unroll.specs.Unrolled.{IsTooLarge, IsUnrolled, IsUnsupported, all_inputs, bad_at};
 ghost use Rattle.aig_unroll.specs.Unrolled.{frame_size, gates_at, outputs_at, unrolled};
 ghost use Rattle.aig_unroll.specs.Outcome.{NotUnrolled};

@@ -1,7 +1,7 @@
 //! The text of an unrolled circuit, put frame by frame.
 ghost use Rattle.std.specs.Prelude.{◌≡◌, ◌+◌, ◌<◌, ◌≤◌, false, length};
 ghost use Rattle.std.specs.List.{flat_map, range_with_len};
-ghost use Rattle.aig_core.specs.declared.circuit.TheConstants.{LARGEST};
+ghost use Rattle.aig_circuit.specs.declared.circuit.TheConstants.{LARGEST};
 ghost use Rattle.aig_io.specs.Output.{Put};
 ghost use Rattle.aig_text.specs.Rows.{header_row};
 ghost use Rattle.aig_binary.specs.BinaryText.{gate_text};

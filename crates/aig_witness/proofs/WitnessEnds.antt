@@ -4,7 +4,7 @@ use Rattle.std.proofs.Common.{◌≡◌, ◌∙◌, ◌++◌, ℕ, List, [], Boo
 use Rattle.std.proofs.Common.{refl, sym, ap, subst, append-nil}
 use Rattle.std.proofs.lemmas.Bool.{false≢true}
 use Rattle.std.specs.Io.KnownBytes.{Consumes, IsAtEnd, Keeps}
-use Rattle.aig_core.specs.declared.circuit.Circuit.{Circuit}
+use Rattle.aig_circuit.specs.declared.circuit.Circuit.{Circuit}
 use Rattle.aig_meaning.specs.Meaning.{MeansTheSame}
 use Rattle.aig_meaning.proofs.Traces.{same_meaning_same_traces}
 use Rattle.aig_step.specs.declared.fault.SimFault.{SimFault}

@@ -6,12 +6,12 @@ use Rattle.std.specs.List.{All, AllZip}
 use Rattle.std.proofs.lemmas.Bool.{ltb-true}
 use Rattle.std.proofs.lemmas.List.{get_or-map, length-map, length-replicate}
 use Rattle.std.proofs.lemmas.List.Sums.{AllPass-from_list_all, list_all-from_AllPass}
-use Rattle.aig_core.specs.declared.circuit.Circuit.{Circuit}
-use Rattle.aig_core.specs.declared.circuit.Reset.{Reset}
-use Rattle.aig_core.specs.declared.circuit.Reset.TheVariants as resets
-use Rattle.aig_core.specs.declared.value.Val.{Val}
-use Rattle.aig_core.specs.declared.value.Val.TheVariants.{Zero, One, X}
-use Rattle.aig_core.specs.Wellformed.{IsWellFormed}
+use Rattle.aig_circuit.specs.declared.circuit.Circuit.{Circuit}
+use Rattle.aig_circuit.specs.declared.circuit.Reset.{Reset}
+use Rattle.aig_circuit.specs.declared.circuit.Reset.TheVariants as resets
+use Rattle.aig_circuit.specs.declared.value.Val.{Val}
+use Rattle.aig_circuit.specs.declared.value.Val.TheVariants.{Zero, One, X}
+use Rattle.aig_circuit.specs.Wellformed.{IsWellFormed}
 use Rattle.aig_meaning.specs.Meaning.{MeansTheSame, literal_value}
 use Rattle.aig_meaning.specs.Trace.{MayStartAt, reset_state}
 use Rattle.aig_meaning.proofs.Rows.{one_row}

@@ -2,7 +2,7 @@
 ghost use Rattle.std.specs.Prelude.{◌≡◌, ◌≢◌, ◌+◌, ◌-◌, ◌^◌, ◌<◌, ◌≤◌, IfOk, None, codes, false, length, map, true};
 ghost use Rattle.std.specs.List.{All};
 ghost use Rattle.std.specs.Str.{bytes_eq};
-ghost use Rattle.aig_core.specs.declared.circuit.TheConstants.{LARGEST};
+ghost use Rattle.aig_circuit.specs.declared.circuit.TheConstants.{LARGEST};
 ghost use Rattle.aig_meaning.specs.Meaning.{MeansTheSame, literal_value};
 ghost use Rattle.aig_witness.specs.declared.checker.Due.TheVariants as due;
 ghost use Rattle.aig_step.specs.Stimulus.{entry_in};
@@ -49,7 +49,7 @@ pub(crate) struct Checker {
 
 impl Model for Checker {
     ghost use Rattle.std.specs.Prelude.{◌≡◌, ◌+◌, ◌≤◌, length};
-    ghost use Rattle.aig_core.specs.declared.circuit.TheConstants.{LARGEST};
+    ghost use Rattle.aig_circuit.specs.declared.circuit.TheConstants.{LARGEST};
     ghost use Rattle.aig_step.specs.Parts.Tables.{IsLiteralBelow};
     ghost use Rattle.aig_witness.specs.Parts.Witnessing.{Witnessing};
 

@@ -1,6 +1,6 @@
 //! A witness file, judged for a circuit.
 ghost use Rattle.std.specs.Prelude.{◌≡◌, ◌≢◌, ◌+◌, ◌-◌, ◌^◌, ◌<◌, [], ℕ, List, Err, IfErr, IfOk, OnOk};
-ghost use Rattle.aig_core.specs.declared.circuit.Circuit.{Circuit as CircuitRecord};
+ghost use Rattle.aig_circuit.specs.declared.circuit.Circuit.{Circuit as CircuitRecord};
 ghost use Rattle.aig_step.specs.declared.fault.SimFault.TheVariants.{OutOfMemory};
 ghost use Rattle.aig_witness.specs.Confirming.{Judged, NotJudged};
 ghost use Rattle.aig_step.specs.Outcome.{source_failures};

@@ -1,8 +1,8 @@
 //! What single lines of a witness file say.
 ghost use Rattle.std.specs.Prelude.{◌≡◌, ◌≤◌, Some, None, codes, false, length, map, true};
 ghost use Rattle.std.specs.Str.{bytes_eq};
-ghost use Rattle.aig_core.specs.declared.circuit.Latch.{Latch as LatchRecord};
-ghost use Rattle.aig_core.specs.declared.circuit.TheConstants.{LARGEST};
+ghost use Rattle.aig_circuit.specs.declared.circuit.Latch.{Latch as LatchRecord};
+ghost use Rattle.aig_circuit.specs.declared.circuit.TheConstants.{LARGEST};
 ghost use Rattle.aig_text.specs.CanonicalNumber.{is_padded};
 ghost use Rattle.aig_step.specs.Stimulus.{value_of, values_of};
 ghost use Rattle.aig_witness.specs.Witness.{first_state_in, may_start_at, may_start_in, number_below, property_in};

@@ -1,7 +1,7 @@
 //! The bytes of a witness file as they come, line by line.
 ghost use Rattle.std.specs.Prelude.{◌≡◌, ◌+◌, ◌-◌, ◌^◌, ◌<◌, ◌≤◌, ◌++◌, ◌∷◌, [], ℕ, List, Bool, IfOk, Some, false};
 ghost use Rattle.std.specs.Prelude.{length, true};
-ghost use Rattle.aig_core.specs.declared.circuit.Circuit.{Circuit as CircuitRecord};
+ghost use Rattle.aig_circuit.specs.declared.circuit.Circuit.{Circuit as CircuitRecord};
 ghost use Rattle.aig_meaning.specs.Meaning.{MeansTheSame};
 ghost use Rattle.aig_witness.specs.Witness.{first_bad_witness_line};
 ghost use Rattle.aig_step.specs.Parts.Seen.{HasNoLineFeed};

@@ -3,8 +3,8 @@ use Rattle.std.proofs.Common.{rules}
 use Rattle.std.proofs.Common.{◌≡◌, ◌++◌, ◌∷◌, ◌∙◌, ℕ, List, [], ap, append-nil, codes, length, map, refl, sym, subst}
 use Rattle.std.proofs.Common.{true}
 use Rattle.std.specs.List.{AllZip, flat_map}
-use Rattle.aig_core.specs.declared.circuit.Circuit.{Circuit}
-use Rattle.aig_core.specs.declared.value.Val.{Val}
+use Rattle.aig_circuit.specs.declared.circuit.Circuit.{Circuit}
+use Rattle.aig_circuit.specs.declared.value.Val.{Val}
 use Rattle.aig_meaning.specs.Meaning.{MeansTheSame, Row}
 use Rattle.aig_meaning.specs.Trace.{Follow}
 use Rattle.aig_lanes.specs.declared.run.Run.{Run}

@@ -9,7 +9,7 @@ use Rattle.std.specs.List.{flat_map}
 use Rattle.std.proofs.lemmas.List.{drop-drop, length-append, length-drop, map-append, take-append-le}
 use Rattle.std.proofs.lemmas.List.Concat.{flat_map-append}
 use Rattle.memchr.specs.Find.{IsFirstByte, is_byte}
-use Rattle.aig_core.specs.declared.value.Val.{Val}
+use Rattle.aig_circuit.specs.declared.value.Val.{Val}
 use Rattle.aig_lanes.specs.declared.run.Run.{Run}
 use Rattle.aig_step.specs.Stimulus.{Entry, Step, Stop, entry_in, values_of, without_return}
 use Rattle.aig_step.specs.Parts.Lines.{vector_in}

@@ -1,7 +1,7 @@
 -- What runs are stepped in, one group after the other. Only private functions cite this.
 use Rattle.std.specs.Prelude.{◌≡◌, ◌+◌, ◌*◌, ◌<◌, ◌^◌, List, length}
 use Rattle.std.specs.List.{All}
-use Rattle.aig_core.specs.declared.circuit.Circuit.{Circuit}
+use Rattle.aig_circuit.specs.declared.circuit.Circuit.{Circuit}
 use Rattle.aig_lanes.specs.declared.run.Run.{Run}
 use Rattle.aig_batch.specs.declared.text_group.Bench.{Bench}
 use Rattle.aig_lanes.specs.Parts.InputBits.{AreBlocks, HasRoom, SameRooms}

@@ -4,11 +4,11 @@ use Rattle.std.proofs.Common.{arith}
 use Rattle.std.proofs.Common.{rules}
 use Rattle.std.proofs.Common.{◌≡◌, ◌≤◌, ℕ, List, ◌∷◌, ◌++◌, length, Option, Ok, refl, sym, ap, subst, ◌∙◌}
 use Rattle.std.specs.List.{AllByRecursion, AllZip, sum}
-use Rattle.aig_core.specs.declared.circuit.Symbol.{Symbol}
-use Rattle.aig_core.specs.declared.circuit.Gate.{Gate}
-use Rattle.aig_core.specs.declared.circuit.Circuit.{Circuit}
+use Rattle.aig_circuit.specs.declared.circuit.Symbol.{Symbol}
+use Rattle.aig_circuit.specs.declared.circuit.Gate.{Gate}
+use Rattle.aig_circuit.specs.declared.circuit.Circuit.{Circuit}
 use Rattle.aig_core.specs.Names.{nothing_named}
-use Rattle.aig_core.specs.Wellformed.{IsWellFormed}
+use Rattle.aig_circuit.specs.Wellformed.{IsWellFormed}
 use Rattle.aig_text.specs.Lines.{Line, lines_of, bytes_of}
 use Rattle.aig_text.specs.Laws.{IsOneLine, EndInLineFeeds}
 use Rattle.aig_text.specs.Rows.{Row}

@@ -1,6 +1,6 @@
 -- The first fault of a binary file.
 use Rattle.std.proofs.Common.{◌≡◌, ℕ, List, None, Result, Ok, Err, refl, ap, ◌⊎◌, inl, inr}
-use Rattle.aig_core.specs.declared.circuit.Circuit.{Circuit}
+use Rattle.aig_circuit.specs.declared.circuit.Circuit.{Circuit}
 use Rattle.aig_text.specs.declared.fault.ReadFault.{ReadFault}
 use Rattle.aig_text.specs.Lines.{lines_of}
 use Rattle.aig_text.specs.Reading.{fault_of, want_of_memory, IsFirstFault}

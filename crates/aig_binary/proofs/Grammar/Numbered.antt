@@ -4,11 +4,11 @@ use Rattle.std.proofs.Common.{◌≡◌, ◌+◌, ◌≤◌, ℕ, suc, List, [],
 use Rattle.std.proofs.Common.{ap₂, subst, ◌∙◌, add-one, arith}
 use Rattle.std.specs.List.{AllByRecursion, range_with_len, sum}
 use Rattle.std.proofs.lemmas.List.FromFn.{length-range_with_len}
-use Rattle.aig_core.specs.declared.circuit.Latch.{Latch}
-use Rattle.aig_core.specs.declared.circuit.Gate.{Gate}
-use Rattle.aig_core.specs.declared.circuit.Circuit.{Circuit}
-use Rattle.aig_core.specs.Literal.{literal_of}
-use Rattle.aig_core.specs.Form.{IsLiteralUpTo}
+use Rattle.aig_circuit.specs.declared.circuit.Latch.{Latch}
+use Rattle.aig_circuit.specs.declared.circuit.Gate.{Gate}
+use Rattle.aig_circuit.specs.declared.circuit.Circuit.{Circuit}
+use Rattle.aig_circuit.specs.Literal.{literal_of}
+use Rattle.aig_circuit.specs.Form.{IsLiteralUpTo}
 use Rattle.aig_core.specs.BinaryOrder.{AreOrderedGates, IsInBinaryOrder}
 use Rattle.aig_core.proofs.Numbered.WellOrdered.{HasLiteralsUpTo}
 use Rattle.aig_text.specs.declared.header_line.Header.{Header}

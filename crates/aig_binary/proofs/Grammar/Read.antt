@@ -4,17 +4,17 @@ use Rattle.std.proofs.Common.{◌≡◌, ◌+◌, ◌≤◌, ℕ, suc, min, List
 use Rattle.std.proofs.Common.{ap₂, subst, ◌∙◌, add-one, arith}
 use Rattle.std.specs.List.{AllByRecursion, range_with_len, sum}
 use Rattle.std.proofs.lemmas.List.{length-map}
-use Rattle.aig_core.specs.declared.circuit.TheConstants.{LARGEST}
-use Rattle.aig_core.specs.declared.circuit.Reset.{Reset}
-use Rattle.aig_core.specs.declared.circuit.Latch.{Latch}
-use Rattle.aig_core.specs.declared.circuit.Gate.{Gate}
-use Rattle.aig_core.specs.declared.circuit.Circuit.{Circuit}
-use Rattle.aig_core.specs.Literal.{literal_of}
+use Rattle.aig_circuit.specs.declared.circuit.TheConstants.{LARGEST}
+use Rattle.aig_circuit.specs.declared.circuit.Reset.{Reset}
+use Rattle.aig_circuit.specs.declared.circuit.Latch.{Latch}
+use Rattle.aig_circuit.specs.declared.circuit.Gate.{Gate}
+use Rattle.aig_circuit.specs.declared.circuit.Circuit.{Circuit}
+use Rattle.aig_circuit.specs.Literal.{literal_of}
 use Rattle.aig_core.specs.Names.{nothing_named}
-use Rattle.aig_core.specs.Form.{IsInForm, IsLiteralUpTo}
+use Rattle.aig_circuit.specs.Form.{IsInForm, IsLiteralUpTo}
 use Rattle.aig_core.specs.BinaryOrder.{IsInBinaryOrder}
-use Rattle.aig_core.proofs.Makers.{latch}
-use Rattle.aig_core.proofs.Checking.Fitting.{well_formed_in_form}
+use Rattle.aig_circuit.proofs.Makers.{latch}
+use Rattle.aig_circuit.proofs.Checking.Fitting.{well_formed_in_form}
 use Rattle.aig_text.specs.declared.header_line.Header.{Header}
 use Rattle.aig_text.specs.Lines.{Line, ahead, lines_of, bytes_of}
 use Rattle.aig_text.specs.Rows.{next_form, next_row, latches_from, sections, in_binary}

@@ -11,19 +11,19 @@ use Rattle.std.proofs.lemmas.Cmp.{nat_cmp_total}
 use Rattle.std.specs.FinSet as set
 use Rattle.std.specs.FinSet.{FinSet, contains-insert, contains-empty}
 use Rattle.aig_core.specs.declared.fault.CheckFault.{CheckFault}
-use Rattle.aig_core.specs.declared.circuit.Circuit.{Circuit}
-use Rattle.aig_core.specs.Literal.{variable_of}
-use Rattle.aig_core.specs.Wellformed.{IsAmong, AreDistinct, IsKnown, HasRank, IsWellFormed, defined_variables}
-use Rattle.aig_core.specs.Wellformed.{used_literals}
-use Rattle.aig_core.specs.Form.{IsInForm}
+use Rattle.aig_circuit.specs.declared.circuit.Circuit.{Circuit}
+use Rattle.aig_circuit.specs.Literal.{variable_of}
+use Rattle.aig_circuit.specs.Wellformed.{IsAmong, AreDistinct, IsKnown, HasRank, IsWellFormed, defined_variables}
+use Rattle.aig_circuit.specs.Wellformed.{used_literals}
+use Rattle.aig_circuit.specs.Form.{IsInForm}
 use Rattle.aig_core.specs.declared.fault.CheckFault.TheVariants.{OutOfMemory, Redefined, Undefined, Cyclic}
 use Rattle.aig_core.specs.Fault.{IsFault, first_repeat, first_redefinition, first_unknown}
 use Rattle.aig_core.specs.Fault.{with_all, is_known, first_structural_fault}
 use Rattle.std.specs.Option.{option_map, option_or}
-use Rattle.aig_core.specs.Order.{first_cyclic}
-use Rattle.aig_core.proofs.Ordering.LeastReady.{a_least_ready_order}
-use Rattle.aig_core.proofs.Ordering.Ranked.{rank_exactly_where_all_are_ordered}
-use Rattle.aig_core.proofs.Ordering.Cyclic.{none_cyclic, all_listed_where_none}
+use Rattle.aig_topo.specs.Order.{first_cyclic}
+use Rattle.aig_topo.proofs.Ordering.LeastReady.{a_least_ready_order}
+use Rattle.aig_topo.proofs.Ordering.Ranked.{rank_exactly_where_all_are_ordered}
+use Rattle.aig_topo.proofs.Ordering.Cyclic.{none_cyclic, all_listed_where_none}
 
 same_is_equal : (x : ℕ) → eq_by_cmp nat_cmp x x ≡ true
 same_is_equal x = (eq_by_cmp_equiv nat_cmp_total).refl x

@@ -8,20 +8,20 @@ use Rattle.std.specs.FinSet as set
 use Rattle.std.specs.FinSet.{FinSet}
 use Rattle.std.proofs.lemmas.Bool.Decides.{Decides-eqb}
 use Rattle.std.proofs.lemmas.List.Concat.{flat_map-cons}
-use Rattle.aig_core.specs.declared.circuit.Circuit.{Circuit}
-use Rattle.aig_core.specs.declared.circuit.Latch.{Latch}
-use Rattle.aig_core.specs.declared.circuit.Gate.{Gate}
-use Rattle.aig_core.specs.Literal.{variable_of}
-use Rattle.aig_core.specs.Wellformed.{IsAmong, IsVariableUpTo, operands, defined_variables, literal_lists, used_literals}
-use Rattle.aig_core.specs.Form.{IsInForm}
-use Rattle.aig_core.specs.Order.{gate_operands, ends_within, depends_on_cycle, first_cyclic}
+use Rattle.aig_circuit.specs.declared.circuit.Circuit.{Circuit}
+use Rattle.aig_circuit.specs.declared.circuit.Latch.{Latch}
+use Rattle.aig_circuit.specs.declared.circuit.Gate.{Gate}
+use Rattle.aig_circuit.specs.Literal.{variable_of}
+use Rattle.aig_circuit.specs.Wellformed.{IsAmong, IsVariableUpTo, operands, defined_variables, literal_lists, used_literals}
+use Rattle.aig_circuit.specs.Form.{IsInForm}
+use Rattle.aig_topo.specs.Order.{gate_operands, ends_within, depends_on_cycle, first_cyclic}
 use Rattle.aig_core.specs.Fault.{first_repeat, first_unknown, first_structural_fault, with_all, is_known}
 use Rattle.aig_core.specs.Parts.InOrder.{are_in_order, has_gates_in_order}
-use Rattle.aig_core.proofs.Checking.Fitting.{each}
+use Rattle.aig_circuit.proofs.Checking.Fitting.{each}
 use Rattle.aig_core.proofs.Checking.Faultless.{no_repeat, apart, kept}
 use Rattle.aig_core.proofs.Checking.Sections.{repeat_append, unknown_append, with_all_append}
-use Rattle.aig_core.proofs.Ordering.Cyclic.{all_true, and_left, and_right, find_none, among_last}
-use Rattle.aig_core.proofs.Ordering.Ranked.{at, needed, over_one, stands_there}
+use Rattle.aig_topo.proofs.Ordering.Cyclic.{all_true, and_left, and_right, find_none, among_last}
+use Rattle.aig_topo.proofs.Ordering.Ranked.{at, needed, over_one, stands_there}
 
 abbrev follow : FinSet nat_cmp → List Gate → Bool
 follow = are_in_order (λ (g : Gate). g.var ∷ []) operands

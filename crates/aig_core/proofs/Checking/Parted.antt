@@ -11,14 +11,14 @@ use Rattle.std.proofs.lemmas.List.Concat.{flat_map_single}
 use Rattle.aig_core.specs.declared.fault.CheckFault.TheVariants.{Redefined}
 use Rattle.aig_core.specs.Fault.{first_redefinition, first_repeat, IsFault}
 use Rattle.aig_core.proofs.Checking.Faultless.{told_once, told_twice}
-use Rattle.aig_core.proofs.Checking.Sections.{defined_gates, defined_inputs, defined_is, defined_latches}
+use Rattle.aig_circuit.proofs.Checking.Joined.{defined_gates, defined_inputs, defined_is, defined_latches}
 use Rattle.std.proofs.Math.ListN.{replicate}
 use Rattle.std.proofs.Math.Seq.{take-append_seam}
 use Rattle.std.proofs.lemmas.List.{append-nil, get_or-replicate, get_or-set_other, get_or-set_same, length-replicate, length-set}
 use Rattle.std.proofs.lemmas.List.Elements.{filter-append}
 use Rattle.std.proofs.lemmas.Bool.{cases_eq, eq-eqb, ne_eqb}
-use Rattle.aig_core.specs.declared.circuit.Circuit.{Circuit}
-use Rattle.aig_core.specs.Wellformed.{AreDistinct, IsAmong, defined_variables}
+use Rattle.aig_circuit.specs.declared.circuit.Circuit.{Circuit}
+use Rattle.aig_circuit.specs.Wellformed.{AreDistinct, IsAmong, defined_variables}
 use Rattle.aig_core.specs.Parts.Parted.{AreParts, is_in_part}
 
 -- ---- distinct numbers, and those of them in a part

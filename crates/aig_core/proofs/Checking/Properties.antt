@@ -3,8 +3,8 @@ use Rattle.std.proofs.Common.{◌≡◌, ◌+◌, ℕ, List, [], ◌∷◌, ◌+
 use Rattle.std.specs.List.{concat, sum}
 use Rattle.std.proofs.lemmas.List.{take-append-drop, length-append, length-drop, length-take-le}
 use Rattle.std.proofs.Math.Seq.{drop-append_seam, take-append_seam}
-use Rattle.aig_core.specs.declared.circuit.Justice.{Justice}
-use Rattle.aig_core.specs.Justice.{literals_of_each, properties_of, end_to_end}
+use Rattle.aig_circuit.specs.declared.circuit.Justice.{Justice}
+use Rattle.aig_circuit.specs.Justice.{literals_of_each, properties_of, end_to_end}
 
 sum_from : (a : ℕ) (ns : List ℕ) → fold (λ s n. s + n) a ns ≡ a + fold (λ s n. s + n) 0 ns
 sum_from a [] = omega arith

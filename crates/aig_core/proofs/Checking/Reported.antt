@@ -11,21 +11,21 @@ use Rattle.std.proofs.lemmas.List.Folds.{find_at}
 use Rattle.std.proofs.lemmas.List.Quantifiers.{position-Some}
 use Rattle.std.proofs.lemmas.List.Sums.{position_or_len_is}
 use Rattle.std.proofs.lemmas.Option.{slice_get-get_or, slice_get_past, slice_get_within}
-use Rattle.aig_core.specs.declared.circuit.Circuit.{Circuit}
-use Rattle.aig_core.specs.declared.circuit.Gate.{Gate}
+use Rattle.aig_circuit.specs.declared.circuit.Circuit.{Circuit}
+use Rattle.aig_circuit.specs.declared.circuit.Gate.{Gate}
 use Rattle.aig_core.specs.declared.fault.CheckFault.{CheckFault}
 use Rattle.aig_core.specs.declared.fault.CheckFault.TheVariants.{Redefined, Undefined, Cyclic}
-use Rattle.aig_core.specs.Wellformed.{IsAmong, AreDistinct, IsKnown, HasRank, defined_variables, used_literals}
+use Rattle.aig_circuit.specs.Wellformed.{IsAmong, AreDistinct, IsKnown, HasRank, defined_variables, used_literals}
 use Rattle.aig_core.specs.Fault.{first_repeat, first_unknown, with_all, is_known, first_structural_fault}
-use Rattle.aig_core.specs.Order.{gate_operands, TakesLeast, IsFull, IsLeastReadyOrder, depends_on_cycle, first_cyclic}
+use Rattle.aig_topo.specs.Order.{gate_operands, TakesLeast, IsFull, IsLeastReadyOrder, depends_on_cycle, first_cyclic}
 use Rattle.aig_core.specs.Laws.{IsFirstRepeat, IsFirstUnknown, IsFirstLeftOut, IsFullyDefined}
 use Rattle.aig_core.proofs.Checking.Sections.{repeat_append, unknown_append}
 use Rattle.aig_core.proofs.Checking.Faultless.{distinct, nothing_repeats, none_in_empty, not_true, found, taken}
 use Rattle.aig_core.proofs.Checking.Faultless.{known_is}
 use Rattle.aig_core.proofs.Checking.Faultless.{known_told, all_known, none_unknown, ranked_where_none_cyclic}
-use Rattle.aig_core.proofs.Ordering.LeastReady.{a_least_ready_order}
-use Rattle.aig_core.proofs.Ordering.Ranked.{no_gate, at, rank_exactly_where_all_are_ordered}
-use Rattle.aig_core.proofs.Ordering.Cyclic.{free, placed_where_free, none_cyclic}
+use Rattle.aig_topo.proofs.Ordering.LeastReady.{a_least_ready_order}
+use Rattle.aig_topo.proofs.Ordering.Ranked.{no_gate, at, rank_exactly_where_all_are_ordered}
+use Rattle.aig_topo.proofs.Ordering.Cyclic.{free, placed_where_free, none_cyclic}
 
 some_same : (x y : ℕ) → Some x ≡ Some y → x ≡ y
 some_same x y is = cc

@@ -1,4 +1,4 @@
--- Definitions and uses over sections end to end, as the loops over each section tell them.
+-- Repeats, unknown literals and faults over sections end to end, as the loops over each section tell them.
 use Rattle.std.proofs.Common.{◌≡◌, ℕ, List, [], ◌∷◌, ◌++◌, true, false, cond, Option, None, Some}
 use Rattle.std.proofs.Common.{refl, sym, ap, ◌∙◌, inl, ⊎_elim, map}
 use Rattle.std.specs.List.{concat, flat_map}
@@ -9,35 +9,15 @@ use Rattle.std.specs.FinSet.{FinSet}
 use Rattle.std.proofs.lemmas.Grind.{common_steps}
 use Rattle.std.proofs.lemmas.List.{map-id}
 use Rattle.std.proofs.lemmas.List.Concat.{flat_map_single}
-use Rattle.aig_core.specs.declared.circuit.Latch.{Latch}
-use Rattle.aig_core.specs.declared.circuit.Gate.{Gate}
-use Rattle.aig_core.specs.declared.circuit.Circuit.{Circuit}
+use Rattle.aig_circuit.specs.declared.circuit.Latch.{Latch}
+use Rattle.aig_circuit.specs.declared.circuit.Gate.{Gate}
+use Rattle.aig_circuit.specs.declared.circuit.Circuit.{Circuit}
 use Rattle.aig_core.specs.declared.fault.CheckFault.{CheckFault}
 use Rattle.aig_core.specs.declared.fault.CheckFault.TheVariants.{Redefined}
-use Rattle.aig_core.specs.Wellformed.{defined_variables, literal_lists, used_literals, operands}
+use Rattle.aig_circuit.specs.Wellformed.{defined_variables, literal_lists, used_literals, operands}
 use Rattle.aig_core.specs.Fault.{first_repeat, first_redefinition, first_unknown, with_all, is_known, IsFault}
-
--- what the loops over the sections go through
-abbrev pub defined_inputs : List ℕ → List ℕ
-defined_inputs = flat_map (λ (v : ℕ). v ∷ [])
-
-abbrev pub defined_latches : List Latch → List ℕ
-defined_latches = flat_map (λ (l : Latch). l.var ∷ [])
-
-abbrev pub defined_gates : List Gate → List ℕ
-defined_gates = flat_map (λ (g : Gate). g.var ∷ [])
-
-abbrev pub used_nexts : List Latch → List ℕ
-used_nexts = flat_map (λ (l : Latch). l.next ∷ [])
-
-pub defined_is : (c : Circuit) → (defined_inputs c.inputs ++ defined_latches c.latches) ++ defined_gates c.gates
-    ≡ defined_variables c
-defined_is c = rw (
-  flat_map_single (λ (v : ℕ). v) c.inputs,
-  map-id c.inputs,
-  flat_map_single (λ (l : Latch). l.var) c.latches,
-  flat_map_single (λ (g : Gate). g.var) c.gates,
-) refl
+use Rattle.aig_circuit.proofs.Checking.Joined.{defined_inputs, defined_latches, defined_gates, used_nexts}
+use Rattle.aig_circuit.proofs.Checking.Joined.{defined_is}
 
 -- what they go through before the gates
 before_is : (c : Circuit)
@@ -45,10 +25,6 @@ before_is : (c : Circuit)
 before_is c =
     rw (flat_map_single (λ (v : ℕ). v) c.inputs, map-id c.inputs, flat_map_single (λ (l : Latch). l.var) c.latches)
     refl
-
-pub used_is : (c : Circuit) → (used_nexts c.latches ++ concat (literal_lists c)) ++ flat_map operands c.gates
-    ≡ used_literals c
-used_is c = rw (flat_map_single (λ (l : Latch). l.next) c.latches) refl
 
 pub with_all_append : (s : FinSet nat_cmp) (xs ys : List ℕ) → with_all s (xs ++ ys) ≡ with_all (with_all s xs) ys
 with_all_append s [] ys = refl

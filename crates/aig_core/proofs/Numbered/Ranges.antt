@@ -7,10 +7,10 @@ use Rattle.std.proofs.lemmas.Bool.Decides.{Decides-eqb}
 use Rattle.std.proofs.lemmas.Cmp.{nat_eq_equiv}
 use Rattle.std.proofs.lemmas.List.FromFn.{length-range_with_len}
 use Rattle.std.proofs.lemmas.Map.Made.{length-le_from_is_member}
-use Rattle.aig_core.specs.declared.circuit.Gate.{Gate}
-use Rattle.aig_core.specs.declared.circuit.Circuit.{Circuit}
-use Rattle.aig_core.specs.Wellformed.{IsAmong, AreDistinct, IsKnown, defined_variables}
-use Rattle.aig_core.proofs.Checking.Fitting.{each, among_from_test, distinct_by_test}
+use Rattle.aig_circuit.specs.declared.circuit.Gate.{Gate}
+use Rattle.aig_circuit.specs.declared.circuit.Circuit.{Circuit}
+use Rattle.aig_circuit.specs.Wellformed.{IsAmong, AreDistinct, IsKnown, defined_variables}
+use Rattle.aig_circuit.proofs.Checking.Fitting.{each, among_from_test, distinct_by_test}
 use Rattle.aig_core.specs.BinaryOrder.{AreNumberedGates, AreOrderedGates, IsInBinaryOrder, IsNumberedInOrder}
 
 -- numbers, and the next ones behind them

@@ -4,15 +4,15 @@ use Rattle.std.proofs.Common.{⊎_elim}
 use Rattle.std.specs.Prelude.{◌⊎◌}
 use Rattle.std.specs.List.{AllByRecursion, concat, range_with_len, flat_map}
 use Rattle.std.proofs.lemmas.List.Elements.{All-contains, All-from_recursion}
-use Rattle.aig_core.specs.declared.circuit.Latch.{Latch}
-use Rattle.aig_core.specs.declared.circuit.Gate.{Gate}
-use Rattle.aig_core.specs.declared.circuit.Circuit.{Circuit}
-use Rattle.aig_core.specs.Literal.{literal_of}
-use Rattle.aig_core.specs.Wellformed.{AreDistinct, IsKnown, IsRank, IsVariableUpTo, IsWithinLimits, HasGoodSymbols}
-use Rattle.aig_core.specs.Wellformed.{IsWellFormed, literal_lists, operands, used_literals}
-use Rattle.aig_core.proofs.Checking.Fitting.{all_weaker}
-use Rattle.aig_core.specs.Form.{IsLiteralUpTo}
-use Rattle.aig_core.proofs.Checking.InForm.{joined, joined_all}
+use Rattle.aig_circuit.specs.declared.circuit.Latch.{Latch}
+use Rattle.aig_circuit.specs.declared.circuit.Gate.{Gate}
+use Rattle.aig_circuit.specs.declared.circuit.Circuit.{Circuit}
+use Rattle.aig_circuit.specs.Literal.{literal_of}
+use Rattle.aig_circuit.specs.Wellformed.{AreDistinct, IsKnown, IsRank, IsVariableUpTo, IsWithinLimits, HasGoodSymbols}
+use Rattle.aig_circuit.specs.Wellformed.{IsWellFormed, literal_lists, operands, used_literals}
+use Rattle.aig_circuit.proofs.Checking.Fitting.{all_weaker}
+use Rattle.aig_circuit.specs.Form.{IsLiteralUpTo}
+use Rattle.aig_circuit.proofs.Checking.InForm.{joined, joined_all}
 use Rattle.aig_core.specs.BinaryOrder.{AreOrderedGates, IsInBinaryOrder}
 use Rattle.aig_core.proofs.Numbered.Ranges.{each_in_range, distinct, known, variables_are}
 

@@ -1,10 +1,7 @@
 //! Copies of circuits.
 ghost use Rattle.std.specs.Prelude.{◌≡◌, IfOk};
 
-use crate::circuit::{Circuit, Justice};
-use crate::fault::OutOfMemory;
-use crate::listing::Listing;
-use crate::symbols::Symbols;
+use aig_circuit::{Circuit, Justice, Listing, OutOfMemory, Symbols};
 use std::alloc::Global;
 
 /// The same symbols in memory of their own.

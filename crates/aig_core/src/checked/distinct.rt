@@ -3,16 +3,13 @@
 ghost use Rattle.std.specs.Prelude.{◌≡◌, ◌↔◌, ◌<◌, ◌++◌, ◌∷◌, [], List, ℕ, IsTrue, IfOk, OnOk, length};
 ghost use Rattle.std.specs.Prelude.{slice_index_or};
 ghost use Rattle.std.specs.List.{flat_map};
-ghost use Rattle.aig_core.specs.Wellformed.{AreDistinct, defined_variables};
+ghost use Rattle.aig_circuit.specs.Wellformed.{AreDistinct, defined_variables};
 ghost use Rattle.aig_core.specs.Parts.Parted.{AreParts};
 
 use crate::checked::faults::define_all;
-use crate::circuit::Circuit;
-use crate::entry::Entry;
-use crate::fault::{CheckFault, OutOfMemory};
-use crate::listing::Listing;
-use crate::literal::Var;
-use crate::var_set::VarSet;
+use crate::fault::CheckFault;
+use aig_circuit::{Circuit, Entry, Listing, OutOfMemory, Var};
+use aig_tables::VarSet;
 use std::alloc::Global;
 
 /// How many parts there are. Of a million variables a part has some thousands, and a set of so many stays near the

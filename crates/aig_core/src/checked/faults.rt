@@ -4,26 +4,21 @@ ghost use Rattle.std.specs.Prelude.{◌≡◌, ◌≤◌, ◌*◌, ◌++◌, IfO
 ghost use Rattle.std.specs.List.{concat, flat_map};
 ghost use Rattle.std.specs.Option.{option_map, option_to_list, IfSome};
 ghost use Rattle.std.specs.FinSet as set;
-ghost use Rattle.aig_core.specs.Wellformed.{defined_variables, literal_lists, used_literals};
+ghost use Rattle.aig_circuit.specs.Wellformed.{defined_variables, literal_lists, used_literals};
 ghost use Rattle.aig_core.specs.Fault.{first_structural_fault, first_repeat, first_redefinition, first_unknown};
 ghost use Rattle.aig_core.specs.Fault.{with_all};
 ghost use Rattle.aig_core.specs.Fault.{is_known, IsFault};
-ghost use Rattle.aig_core.specs.Form.{IsInForm};
-ghost use Rattle.aig_core.specs.Order.{first_cyclic, IsLeastReadyOrder};
+ghost use Rattle.aig_circuit.specs.Form.{IsInForm};
+ghost use Rattle.aig_topo.specs.Order.{first_cyclic, IsLeastReadyOrder};
 ghost use Rattle.aig_core.specs.declared.fault.CheckFault.TheVariants.{Cyclic as CyclicFault};
 ghost use Rattle.aig_core.specs.Parts.InOrder.{are_in_order, has_gates_in_order};
-ghost use Rattle.aig_core.specs.declared.circuit.TheConstants.{LARGEST as largest};
+ghost use Rattle.aig_circuit.specs.declared.circuit.TheConstants.{LARGEST as largest};
 
 use crate::checked::Keep;
-use crate::circuit::{Circuit, Gate, LARGEST};
-use crate::cycle::first_cyclic_gate;
-use crate::entry::Entry;
-use crate::fault::{CheckFault, OutOfMemory};
-use crate::least_ready::place_gates;
-use crate::listing::Listing;
-use crate::literal::Lit;
-use crate::placed::Placed;
-use crate::var_set::VarSet;
+use crate::fault::CheckFault;
+use aig_circuit::{Circuit, Entry, Gate, LARGEST, Listing, Lit, OutOfMemory};
+use aig_tables::VarSet;
+use aig_topo::{Placed, first_cyclic_gate, place_gates};
 use std::alloc::Global;
 
 /// Adds the variable that an entry defines to those that were seen, unless it was seen before.

@@ -2,14 +2,14 @@
 use Rattle.std.proofs.Common.{rules}
 use Rattle.std.proofs.Common.{◌≡◌, ◌+◌, ◌*◌, ◌%◌, ◌<◌, ◌≤◌, ℕ, suc, List, [], ◌∷◌, ◌++◌, length, length-append, map}
 use Rattle.std.proofs.Common.{max, min, refl, sym, ap, subst, ◌∙◌, ◌⊎◌, inl, inr, ⊎_elim, append_assoc, arith}
-use Rattle.aig_core.specs.declared.circuit.Gate.{Gate}
-use Rattle.aig_core.specs.Literal.{variable_of}
-use Rattle.aig_core.specs.Wellformed.{IsAmong, AreDistinct, IsKnown, operands}
-use Rattle.aig_core.specs.Order.{IsReady, TakesLeast, gate_operands}
-use Rattle.aig_core.proofs.Ordering.Counted.{among_either}
-use Rattle.aig_core.proofs.Ordering.Cyclic.{among_last}
-use Rattle.aig_core.proofs.Checking.Fitting.{each}
-use Rattle.aig_core.proofs.Ordering.Ranked.{at, needed_by, variables}
+use Rattle.aig_circuit.specs.declared.circuit.Gate.{Gate}
+use Rattle.aig_circuit.specs.Literal.{variable_of}
+use Rattle.aig_circuit.specs.Wellformed.{IsAmong, AreDistinct, IsKnown, operands}
+use Rattle.aig_topo.specs.Order.{IsReady, TakesLeast, gate_operands}
+use Rattle.aig_topo.proofs.Ordering.Counted.{among_either}
+use Rattle.aig_topo.proofs.Ordering.Cyclic.{among_last}
+use Rattle.aig_circuit.proofs.Checking.Fitting.{each}
+use Rattle.aig_topo.proofs.Ordering.Ranked.{at, needed_by, variables}
 use Rattle.aig_core.specs.BinaryOrder.{AreOrderedGates}
 use Rattle.aig_image.specs.Relabelled.{relabelled_gate}
 use Rattle.aig_image.specs.Reordered.{operands_sorted}

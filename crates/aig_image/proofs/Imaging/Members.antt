@@ -2,16 +2,16 @@
 use Rattle.std.proofs.Common.{rules}
 use Rattle.std.proofs.Common.{◌≡◌, ◌<◌, ◌≤◌, ℕ, List, [], ◌++◌, length, map, sym, subst, ⊎_elim}
 use Rattle.std.specs.List.{AllByRecursion}
-use Rattle.aig_core.specs.declared.circuit.Latch.{Latch}
-use Rattle.aig_core.specs.declared.circuit.Circuit.{Circuit}
-use Rattle.aig_core.specs.Wellformed.{IsAmong, AreDistinct, IsWellFormed, defined_variables}
-use Rattle.aig_core.specs.Order.{IsLeastReadyOrder, gate_operands}
-use Rattle.aig_core.proofs.Ordering.Counted.{among_either}
-use Rattle.aig_core.proofs.Ordering.Cyclic.{among_last}
-use Rattle.aig_core.proofs.Checking.Fitting.{each, at_most, at_most_below}
-use Rattle.aig_core.proofs.Ordering.Ranked.{variables, stands_there, distinct_back, rank_exactly_where_all_are_ordered}
+use Rattle.aig_circuit.specs.declared.circuit.Latch.{Latch}
+use Rattle.aig_circuit.specs.declared.circuit.Circuit.{Circuit}
+use Rattle.aig_circuit.specs.Wellformed.{IsAmong, AreDistinct, IsWellFormed, defined_variables}
+use Rattle.aig_topo.specs.Order.{IsLeastReadyOrder, gate_operands}
+use Rattle.aig_topo.proofs.Ordering.Counted.{among_either}
+use Rattle.aig_topo.proofs.Ordering.Cyclic.{among_last}
+use Rattle.aig_circuit.proofs.Checking.Fitting.{each, at_most, at_most_below}
+use Rattle.aig_topo.proofs.Ordering.Ranked.{variables, stands_there, distinct_back, rank_exactly_where_all_are_ordered}
 use Rattle.aig_core.proofs.Numbered.Ranges.{at_least_below}
-use Rattle.aig_core.proofs.Ordering.Steps.{all_of}
+use Rattle.aig_topo.proofs.Ordering.Steps.{all_of}
 use Rattle.aig_image.specs.Reordered.{ArePlaces, positions_of}
 use Rattle.aig_image.specs.Renumbering.{in_new_order}
 use Rattle.aig_image.proofs.Relabelling.Positions.{places_have_positions}

@@ -1,7 +1,7 @@
 -- A circuit has exactly one binary image, since its gates have exactly one order.
 use Rattle.std.proofs.Common.{◌≡◌, ap, ◌∙◌, refl}
-use Rattle.aig_core.specs.declared.circuit.Circuit.{Circuit}
-use Rattle.aig_core.proofs.Ordering.LeastReady.{a_least_ready_order, one_least_ready_order}
+use Rattle.aig_circuit.specs.declared.circuit.Circuit.{Circuit}
+use Rattle.aig_topo.proofs.Ordering.LeastReady.{a_least_ready_order, one_least_ready_order}
 use Rattle.aig_image.specs.Image.{IsBinaryImage, image_by}
 
 pub image_is_one : (c : Circuit)

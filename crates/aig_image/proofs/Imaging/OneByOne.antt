@@ -4,12 +4,12 @@ use Rattle.std.proofs.Common.{◌≡◌, ◌+◌, ◌*◌, ◌<◌, ◌≤◌, �
 use Rattle.std.proofs.Common.{⊎_elim, arith}
 use Rattle.std.specs.List.{range_with_len}
 use Rattle.std.proofs.lemmas.Bool.{cases_lt}
-use Rattle.aig_core.specs.declared.circuit.Gate.{Gate}
-use Rattle.aig_core.specs.declared.circuit.Circuit.{Circuit}
-use Rattle.aig_core.specs.Literal.{variable_of}
-use Rattle.aig_core.specs.Wellformed.{IsAmong}
-use Rattle.aig_core.specs.Order.{IsLeastReadyOrder, IsReady, TakesLeast, IsFull, gate_operands}
-use Rattle.aig_core.proofs.Ordering.Ranked.{at, over_one, all_served}
+use Rattle.aig_circuit.specs.declared.circuit.Gate.{Gate}
+use Rattle.aig_circuit.specs.declared.circuit.Circuit.{Circuit}
+use Rattle.aig_circuit.specs.Literal.{variable_of}
+use Rattle.aig_circuit.specs.Wellformed.{IsAmong}
+use Rattle.aig_topo.specs.Order.{IsLeastReadyOrder, IsReady, TakesLeast, IsFull, gate_operands}
+use Rattle.aig_topo.proofs.Ordering.Ranked.{at, over_one, all_served}
 use Rattle.aig_core.specs.BinaryOrder.{AreNumberedGates, AreOrderedGates, IsInBinaryOrder, IsNumberedInOrder}
 use Rattle.aig_core.proofs.Numbered.Ranges.{among, is_numbered}
 

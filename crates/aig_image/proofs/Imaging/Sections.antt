@@ -6,16 +6,16 @@ use Rattle.std.proofs.Common.{sym, ap, ap₂, subst, ◌∙◌, append_assoc, ar
 use Rattle.std.specs.List.{AllByRecursion, concat, range_with_len, flat_map}
 use Rattle.std.proofs.lemmas.List.{length-map}
 use Rattle.std.proofs.lemmas.Simd.{map-map}
-use Rattle.aig_core.specs.declared.circuit.Latch.{Latch}
-use Rattle.aig_core.specs.declared.circuit.Gate.{Gate}
-use Rattle.aig_core.specs.declared.circuit.Circuit.{Circuit}
-use Rattle.aig_core.specs.Wellformed.{IsAmong, IsKnown, IsVariableUpTo, IsWellFormed}
-use Rattle.aig_core.specs.Wellformed.{defined_variables, literal_lists, operands}
-use Rattle.aig_core.specs.Order.{IsLeastReadyOrder}
-use Rattle.aig_core.proofs.Ordering.Cyclic.{among_last}
-use Rattle.aig_core.proofs.Checking.Fitting.{each, all_weaker}
-use Rattle.aig_core.proofs.Checking.InForm.{front, back}
-use Rattle.aig_core.proofs.Ordering.Ranked.{at, variables, stands_there}
+use Rattle.aig_circuit.specs.declared.circuit.Latch.{Latch}
+use Rattle.aig_circuit.specs.declared.circuit.Gate.{Gate}
+use Rattle.aig_circuit.specs.declared.circuit.Circuit.{Circuit}
+use Rattle.aig_circuit.specs.Wellformed.{IsAmong, IsKnown, IsVariableUpTo, IsWellFormed}
+use Rattle.aig_circuit.specs.Wellformed.{defined_variables, literal_lists, operands}
+use Rattle.aig_topo.specs.Order.{IsLeastReadyOrder}
+use Rattle.aig_topo.proofs.Ordering.Cyclic.{among_last}
+use Rattle.aig_circuit.proofs.Checking.Fitting.{each, all_weaker}
+use Rattle.aig_circuit.proofs.Checking.InForm.{front, back}
+use Rattle.aig_topo.proofs.Ordering.Ranked.{at, variables, stands_there}
 use Rattle.aig_core.specs.BinaryOrder.{AreOrderedGates, IsInBinaryOrder}
 use Rattle.aig_image.specs.Image.{image_by}
 use Rattle.aig_image.specs.Relabelled.{relabelled_gate, relabelled_latch}

@@ -4,17 +4,17 @@ use Rattle.std.proofs.Common.{◌≡◌, ◌<◌, ◌≤◌, ◌+◌, ℕ, zero,
 use Rattle.std.proofs.Common.{refl, sym, subst, ⊎_elim, arith}
 use Rattle.std.specs.List.{range_with_len}
 use Rattle.std.proofs.lemmas.Simd.{pick_l_whole}
-use Rattle.aig_core.specs.declared.circuit.Gate.{Gate}
-use Rattle.aig_core.specs.declared.circuit.Latch.{Latch}
-use Rattle.aig_core.specs.declared.circuit.Circuit.{Circuit}
-use Rattle.aig_core.specs.declared.circuit.TheConstants.{LARGEST}
-use Rattle.aig_core.specs.Literal.{variable_of}
-use Rattle.aig_core.specs.Wellformed.{IsAmong, AreDistinct, IsKnown, IsVariableUpTo, IsWellFormed, defined_variables}
-use Rattle.aig_core.specs.Order.{IsLeastReadyOrder, gate_operands}
-use Rattle.aig_core.proofs.Ordering.Counted.{among_either}
-use Rattle.aig_core.proofs.Ordering.Cyclic.{among_last}
-use Rattle.aig_core.proofs.Checking.Fitting.{each, definitions_fit}
-use Rattle.aig_core.proofs.Ordering.Ranked.{at, no_gate, over_one, variables, stands_there, distinct_back}
+use Rattle.aig_circuit.specs.declared.circuit.Gate.{Gate}
+use Rattle.aig_circuit.specs.declared.circuit.Latch.{Latch}
+use Rattle.aig_circuit.specs.declared.circuit.Circuit.{Circuit}
+use Rattle.aig_circuit.specs.declared.circuit.TheConstants.{LARGEST}
+use Rattle.aig_circuit.specs.Literal.{variable_of}
+use Rattle.aig_circuit.specs.Wellformed.{IsAmong, AreDistinct, IsKnown, IsVariableUpTo, IsWellFormed, defined_variables}
+use Rattle.aig_topo.specs.Order.{IsLeastReadyOrder, gate_operands}
+use Rattle.aig_topo.proofs.Ordering.Counted.{among_either}
+use Rattle.aig_topo.proofs.Ordering.Cyclic.{among_last}
+use Rattle.aig_circuit.proofs.Checking.Fitting.{each, definitions_fit}
+use Rattle.aig_topo.proofs.Ordering.Ranked.{at, no_gate, over_one, variables, stands_there, distinct_back}
 use Rattle.aig_image.specs.Parts.InOrder.{StandInOrder}
 use Rattle.aig_image.specs.declared.image.Renumbering.{Renumbering}
 use Rattle.aig_image.specs.Parts.Numbers.{number_of, AreNumbered, IsRenumberingOf}

@@ -2,11 +2,11 @@
 use Rattle.std.proofs.Common.{◌≡◌, ◌<◌, ℕ, zero, suc, List, [], ◌∷◌, ◌++◌, Some, length, refl, sym, ap, subst, ◌∙◌, inl}
 use Rattle.std.proofs.Common.{inr, ⊎_elim, arith}
 use Rattle.std.specs.List.{AllByRecursion}
-use Rattle.aig_core.specs.declared.circuit.Gate.{Gate}
-use Rattle.aig_core.specs.Wellformed.{IsAmong, AreDistinct}
-use Rattle.aig_core.specs.Order.{TakesLeast, gate_of}
-use Rattle.aig_core.proofs.Ordering.Cyclic.{among_last}
-use Rattle.aig_core.proofs.Ordering.Ranked.{at, gate_here, variables}
+use Rattle.aig_circuit.specs.declared.circuit.Gate.{Gate}
+use Rattle.aig_circuit.specs.Wellformed.{IsAmong, AreDistinct}
+use Rattle.aig_topo.specs.Order.{TakesLeast, gate_of}
+use Rattle.aig_topo.proofs.Ordering.Cyclic.{among_last}
+use Rattle.aig_topo.proofs.Ordering.Ranked.{at, gate_here, variables}
 use Rattle.aig_image.specs.Reordered.{taken}
 
 -- what is taken in turn is there, and is taken once

@@ -5,10 +5,10 @@ use Rattle.std.proofs.Common.{ap, subst, ◌∙◌, ◌⊎◌, ⊎_elim, arith}
 use Rattle.std.specs.Prelude.{max, min}
 use Rattle.std.specs.List.{Contains}
 use Rattle.std.proofs.lemmas.List.{get_or_default, get_or-map}
-use Rattle.aig_core.specs.declared.circuit.Gate.{Gate}
-use Rattle.aig_core.specs.declared.circuit.Circuit.{Circuit}
-use Rattle.aig_core.specs.Order.{IsLeastReadyOrder}
-use Rattle.aig_core.specs.Wellformed.{IsAmong, IsWellFormed}
+use Rattle.aig_circuit.specs.declared.circuit.Gate.{Gate}
+use Rattle.aig_circuit.specs.declared.circuit.Circuit.{Circuit}
+use Rattle.aig_topo.specs.Order.{IsLeastReadyOrder}
+use Rattle.aig_circuit.specs.Wellformed.{IsAmong, IsWellFormed}
 use Rattle.aig_meaning.specs.Meaning.{MeansTheSame}
 use Rattle.aig_meaning.proofs.Traces.{same_meaning_same_traces}
 use Rattle.aig_image.specs.Image.{image_by}

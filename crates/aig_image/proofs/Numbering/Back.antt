@@ -5,7 +5,7 @@ use Rattle.std.proofs.Common.{get_or}
 use Rattle.std.proofs.Common.{refl, subst, sym, ap, ◌∙◌, ◌⊎◌, ⊎_elim, arith}
 use Rattle.std.specs.List.{position_or_len}
 use Rattle.std.proofs.lemmas.Bool.Decides.{eqb_tells}
-use Rattle.aig_core.specs.Wellformed.{IsAmong, AreDistinct}
+use Rattle.aig_circuit.specs.Wellformed.{IsAmong, AreDistinct}
 use Rattle.aig_image.specs.Renumbering.{renumbered, source_variable}
 use Rattle.aig_image.proofs.Numbering.Places.{number_at}
 use Rattle.aig_image.proofs.Relabelling.Standing.{here}

@@ -10,10 +10,10 @@ use Rattle.std.proofs.lemmas.Grind.{common_steps}
 use Rattle.std.proofs.lemmas.List.{map-id}
 use Rattle.std.proofs.lemmas.List.Folds.{position_or_len_push}
 use Rattle.std.proofs.lemmas.List.Sums.{prefix_len-le-length}
-use Rattle.aig_core.specs.Wellformed.{IsAmong}
-use Rattle.aig_core.specs.VarMap.{with_new}
-use Rattle.aig_core.proofs.Tables.Maps.{get-with_new}
-use Rattle.aig_core.proofs.Ordering.LeastReady.{among_or_not}
+use Rattle.aig_circuit.specs.Wellformed.{IsAmong}
+use Rattle.aig_tables.specs.VarMap.{with_new}
+use Rattle.aig_tables.proofs.Tables.Maps.{get-with_new}
+use Rattle.aig_topo.proofs.Ordering.LeastReady.{among_or_not}
 use Rattle.aig_image.proofs.Numbering.Places.{no_place}
 use Rattle.aig_image.specs.declared.numbers.Numbers.{Numbers}
 use Rattle.aig_image.specs.Parts.Numbers.{number_of, number_in, AreNumbered}

@@ -9,7 +9,7 @@ use Rattle.std.proofs.Math.Seq.{get_or-append_seam}
 use Rattle.std.proofs.lemmas.Bool.{cases_lt, ne_eqb}
 use Rattle.std.proofs.lemmas.Bool.Decides.{eqb_tells}
 use Rattle.std.proofs.lemmas.List.Sums.{prefix_len-le-length, prefix_len_stops}
-use Rattle.aig_core.specs.Wellformed.{IsAmong, AreDistinct}
+use Rattle.aig_circuit.specs.Wellformed.{IsAmong, AreDistinct}
 use Rattle.aig_image.specs.Renumbering.{renumbered}
 use Rattle.aig_image.proofs.Relabelling.Positions.{place_is}
 use Rattle.aig_image.proofs.Relabelling.Standing.{here, somewhere}

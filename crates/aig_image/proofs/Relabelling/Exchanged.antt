@@ -3,14 +3,14 @@ use Rattle.std.proofs.Common.{rules}
 use Rattle.std.proofs.Common.{◌≡◌, ◌<◌, ℕ, zero, suc, List, [], ◌∷◌, ◌++◌, Bool, true, false, length, map}
 use Rattle.std.proofs.Common.{refl, sym, ap, subst, inl, inr, ⊎_elim, arith}
 use Rattle.std.specs.List.{AllByRecursion, concat, flat_map, Contains}
-use Rattle.aig_core.specs.declared.circuit.Latch.{Latch}
-use Rattle.aig_core.specs.declared.circuit.Gate.{Gate}
-use Rattle.aig_core.specs.declared.circuit.Circuit.{Circuit}
-use Rattle.aig_core.specs.Literal.{variable_of}
-use Rattle.aig_core.specs.Wellformed.{IsAmong, AreDistinct, IsKnown, IsVariableUpTo, IsRank, IsWellFormed}
-use Rattle.aig_core.specs.Wellformed.{literal_lists, operands}
-use Rattle.aig_core.proofs.Checking.InForm.{joined, front, back}
-use Rattle.aig_core.proofs.Ordering.Ranked.{variables}
+use Rattle.aig_circuit.specs.declared.circuit.Latch.{Latch}
+use Rattle.aig_circuit.specs.declared.circuit.Gate.{Gate}
+use Rattle.aig_circuit.specs.declared.circuit.Circuit.{Circuit}
+use Rattle.aig_circuit.specs.Literal.{variable_of}
+use Rattle.aig_circuit.specs.Wellformed.{IsAmong, AreDistinct, IsKnown, IsVariableUpTo, IsRank, IsWellFormed}
+use Rattle.aig_circuit.specs.Wellformed.{literal_lists, operands}
+use Rattle.aig_circuit.proofs.Checking.InForm.{joined, front, back}
+use Rattle.aig_topo.proofs.Ordering.Ranked.{variables}
 use Rattle.aig_image.specs.Reordered.{operands_sorted, has_smaller_first, exchanged_if, exchanged_by}
 use Rattle.aig_image.specs.Reordered.{with_operands_exchanged}
 use Rattle.aig_image.proofs.Relabelling.Formed.{symbols_kept, gates_uncounted}

@@ -5,19 +5,19 @@ use Rattle.std.proofs.Common.{refl, sym, ap, subst, ◌∙◌, inl, inr, ⊎_eli
 use Rattle.std.specs.List.{AllByRecursion, concat, flat_map, Contains}
 use Rattle.std.proofs.lemmas.List.{map-append, length-map}
 use Rattle.std.proofs.lemmas.Simd.{map-map}
-use Rattle.aig_core.specs.declared.circuit.Kind.{Kind}
-use Rattle.aig_core.specs.declared.circuit.Kind.TheVariants as kinds
-use Rattle.aig_core.specs.declared.circuit.Symbol.{Symbol}
-use Rattle.aig_core.specs.declared.circuit.Latch.{Latch}
-use Rattle.aig_core.specs.declared.circuit.Gate.{Gate}
-use Rattle.aig_core.specs.declared.circuit.Circuit.{Circuit}
-use Rattle.aig_core.specs.declared.circuit.TheConstants.{LARGEST}
-use Rattle.aig_core.specs.Literal.{variable_of}
-use Rattle.aig_core.specs.Wellformed.{IsAmong, AreDistinct, IsKnown, IsRank, IsVariableUpTo}
-use Rattle.aig_core.specs.Wellformed.{HasGoodSymbols, IsWellFormed}
-use Rattle.aig_core.specs.Wellformed.{count_of, defined_variables, literal_lists, operands, used_literals}
-use Rattle.aig_core.proofs.Checking.InForm.{joined}
-use Rattle.aig_core.proofs.Ordering.Ranked.{variables}
+use Rattle.aig_circuit.specs.declared.circuit.Kind.{Kind}
+use Rattle.aig_circuit.specs.declared.circuit.Kind.TheVariants as kinds
+use Rattle.aig_circuit.specs.declared.circuit.Symbol.{Symbol}
+use Rattle.aig_circuit.specs.declared.circuit.Latch.{Latch}
+use Rattle.aig_circuit.specs.declared.circuit.Gate.{Gate}
+use Rattle.aig_circuit.specs.declared.circuit.Circuit.{Circuit}
+use Rattle.aig_circuit.specs.declared.circuit.TheConstants.{LARGEST}
+use Rattle.aig_circuit.specs.Literal.{variable_of}
+use Rattle.aig_circuit.specs.Wellformed.{IsAmong, AreDistinct, IsKnown, IsRank, IsVariableUpTo}
+use Rattle.aig_circuit.specs.Wellformed.{HasGoodSymbols, IsWellFormed}
+use Rattle.aig_circuit.specs.Wellformed.{count_of, defined_variables, literal_lists, operands, used_literals}
+use Rattle.aig_circuit.proofs.Checking.InForm.{joined}
+use Rattle.aig_topo.proofs.Ordering.Ranked.{variables}
 use Rattle.aig_image.specs.Relabelled.{relabelled_literal, relabelled_latch, relabelled_gate, relabelled}
 use Rattle.aig_image.specs.Relabelled.{LatchNames, GateNames, NamesOnly}
 use Rattle.aig_image.proofs.Relabelling.Relabelled.{lists_there, with_gates}

@@ -2,14 +2,14 @@
 use Rattle.std.proofs.Common.{rules}
 use Rattle.std.proofs.Common.{ℕ, List, [], ◌∷◌, map}
 use Rattle.std.specs.List.{AllByRecursion, concat, flat_map}
-use Rattle.aig_core.specs.declared.circuit.Latch.{Latch}
-use Rattle.aig_core.specs.declared.circuit.Gate.{Gate}
-use Rattle.aig_core.specs.declared.circuit.Circuit.{Circuit}
-use Rattle.aig_core.specs.Literal.{variable_of}
-use Rattle.aig_core.specs.Wellformed.{IsKnown, IsWellFormed, defined_variables, operands}
-use Rattle.aig_core.proofs.Checking.Fitting.{each, all_weaker}
-use Rattle.aig_core.proofs.Checking.InForm.{front, back}
-use Rattle.aig_core.proofs.Ordering.Ranked.{variables}
+use Rattle.aig_circuit.specs.declared.circuit.Latch.{Latch}
+use Rattle.aig_circuit.specs.declared.circuit.Gate.{Gate}
+use Rattle.aig_circuit.specs.declared.circuit.Circuit.{Circuit}
+use Rattle.aig_circuit.specs.Literal.{variable_of}
+use Rattle.aig_circuit.specs.Wellformed.{IsKnown, IsWellFormed, defined_variables, operands}
+use Rattle.aig_circuit.proofs.Checking.Fitting.{each, all_weaker}
+use Rattle.aig_circuit.proofs.Checking.InForm.{front, back}
+use Rattle.aig_topo.proofs.Ordering.Ranked.{variables}
 use Rattle.aig_image.specs.Relabelled.{LatchNames, GateNames, NamesOnly}
 
 module _ (P : ℕ → Type 0) (c : Circuit) (constant : P 0) (defined : AllByRecursion P (defined_variables c)) where

@@ -5,18 +5,18 @@ use Rattle.std.proofs.Common.{inl, inr, ⊎_elim, arith}
 use Rattle.std.specs.List.{AllByRecursion, flat_map, Contains}
 use Rattle.std.proofs.lemmas.List.{length-map, get_or-map, get_or_default}
 use Rattle.std.proofs.lemmas.List.Elements.{Contains-get_or}
-use Rattle.aig_core.specs.declared.circuit.Latch.{Latch}
-use Rattle.aig_core.specs.declared.circuit.Gate.{Gate}
-use Rattle.aig_core.specs.declared.circuit.Circuit.{Circuit}
-use Rattle.aig_core.specs.Literal.{variable_of}
-use Rattle.aig_core.specs.Wellformed.{IsAmong, AreDistinct, IsKnown, IsVariableUpTo, IsWellFormed, operands}
-use Rattle.aig_core.specs.Wellformed.{defined_variables, used_literals}
-use Rattle.aig_core.proofs.Ordering.Counted.{among_either}
-use Rattle.aig_core.proofs.Ordering.Cyclic.{among_last}
-use Rattle.aig_core.proofs.Checking.Fitting.{each, all_weaker}
-use Rattle.aig_core.proofs.Checking.InForm.{joined, front, back}
-use Rattle.aig_core.proofs.Ordering.Ranked.{variables, stands_there, distinct_back}
-use Rattle.aig_core.proofs.Ordering.Steps.{all_of}
+use Rattle.aig_circuit.specs.declared.circuit.Latch.{Latch}
+use Rattle.aig_circuit.specs.declared.circuit.Gate.{Gate}
+use Rattle.aig_circuit.specs.declared.circuit.Circuit.{Circuit}
+use Rattle.aig_circuit.specs.Literal.{variable_of}
+use Rattle.aig_circuit.specs.Wellformed.{IsAmong, AreDistinct, IsKnown, IsVariableUpTo, IsWellFormed, operands}
+use Rattle.aig_circuit.specs.Wellformed.{defined_variables, used_literals}
+use Rattle.aig_topo.proofs.Ordering.Counted.{among_either}
+use Rattle.aig_topo.proofs.Ordering.Cyclic.{among_last}
+use Rattle.aig_circuit.proofs.Checking.Fitting.{each, all_weaker}
+use Rattle.aig_circuit.proofs.Checking.InForm.{joined, front, back}
+use Rattle.aig_topo.proofs.Ordering.Ranked.{variables, stands_there, distinct_back}
+use Rattle.aig_topo.proofs.Ordering.Steps.{all_of}
 use Rattle.aig_image.specs.Reordered.{no_gate, taken, reordered, ArePlaces}
 use Rattle.aig_image.proofs.Relabelling.Formed.{symbols_kept, gates_uncounted}
 use Rattle.aig_image.proofs.Relabelling.Standing.{among_first, somewhere, at_place, by_places, same_place}

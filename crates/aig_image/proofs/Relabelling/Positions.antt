@@ -6,9 +6,9 @@ use Rattle.std.proofs.lemmas.Bool.{ne_eqb, eq-eqb}
 use Rattle.std.proofs.lemmas.List.{ext_get_or}
 use Rattle.std.proofs.lemmas.List.FromFn.{length-map-range_with_len, get_or-map-range_with_len}
 use Rattle.std.proofs.lemmas.List.Sums.{position_or_len_is}
-use Rattle.aig_core.specs.Wellformed.{IsAmong, AreDistinct}
-use Rattle.aig_core.proofs.Checking.Fitting.{each, at_most_below}
-use Rattle.aig_core.proofs.Ordering.LeastReady.{among_or_not}
+use Rattle.aig_circuit.specs.Wellformed.{IsAmong, AreDistinct}
+use Rattle.aig_circuit.proofs.Checking.Fitting.{each, at_most_below}
+use Rattle.aig_topo.proofs.Ordering.LeastReady.{among_or_not}
 use Rattle.aig_image.specs.Reordered.{ArePlaces, positions_of}
 use Rattle.aig_image.proofs.Relabelling.Standing.{here, somewhere, same_place, distinct_by_places}
 

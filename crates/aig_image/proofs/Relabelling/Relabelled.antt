@@ -3,14 +3,14 @@ use Rattle.std.proofs.Common.{rules}
 use Rattle.std.proofs.Common.{◌≡◌, ◌+◌, ◌*◌, ◌%◌, ℕ, List, [], get_or, map, refl, ap, ap₂, ◌∙◌, arith}
 use Rattle.std.proofs.lemmas.List.{map-id}
 use Rattle.std.proofs.lemmas.Simd.{map-map}
-use Rattle.aig_core.specs.declared.circuit.Latch.{Latch}
-use Rattle.aig_core.specs.declared.circuit.Gate.{Gate}
-use Rattle.aig_core.specs.declared.circuit.Circuit.{Circuit}
+use Rattle.aig_circuit.specs.declared.circuit.Latch.{Latch}
+use Rattle.aig_circuit.specs.declared.circuit.Gate.{Gate}
+use Rattle.aig_circuit.specs.declared.circuit.Circuit.{Circuit}
 use Rattle.aig_image.specs.Relabelled.{relabelled_literal, relabelled_latch, relabelled_gate, relabelled}
 use Rattle.aig_image.specs.Relabelled.{GateNames, NamesOnly}
-use Rattle.aig_core.specs.Literal.{variable_of}
-use Rattle.aig_core.specs.Wellformed.{literal_lists}
-use Rattle.aig_core.proofs.Makers.{latch, gate, gates_alike}
+use Rattle.aig_circuit.specs.Literal.{variable_of}
+use Rattle.aig_circuit.specs.Wellformed.{literal_lists}
+use Rattle.aig_circuit.proofs.Makers.{latch, gate, gates_alike}
 use Rattle.aig_image.proofs.Relabelling.Lists.{map_where, map_twice, map_nothing}
 
 -- the circuit with other sections; the lists of literals stand in the order of `literal_lists`

@@ -5,13 +5,13 @@ use Rattle.std.proofs.Common.{map, max, min, refl, ap, ap₂, ◌∙◌, arith}
 use Rattle.std.proofs.Math.Nat.{max_comm, min_comm}
 use Rattle.std.proofs.lemmas.List.{length-map, get_or-map, ext_get_or}
 use Rattle.std.proofs.lemmas.Simd.{map-map}
-use Rattle.aig_core.specs.declared.circuit.Gate.{Gate}
-use Rattle.aig_core.specs.declared.circuit.Circuit.{Circuit}
+use Rattle.aig_circuit.specs.declared.circuit.Gate.{Gate}
+use Rattle.aig_circuit.specs.declared.circuit.Circuit.{Circuit}
 use Rattle.aig_image.specs.Relabelled.{relabelled, relabelled_gate}
 use Rattle.aig_image.specs.Reordered.{no_gate, taken, reordered, operands_sorted, has_smaller_first, exchanged_if}
 use Rattle.aig_image.specs.Reordered.{exchanged_by, with_operands_exchanged, ArePlaces}
 use Rattle.aig_image.proofs.Relabelling.Lists.{map_each, read_mapped}
-use Rattle.aig_core.proofs.Makers.{gate}
+use Rattle.aig_circuit.proofs.Makers.{gate}
 use Rattle.aig_image.proofs.Relabelling.Relabelled.{with_gates}
 
 -- what keeps the gate that stands nowhere is done to gates before or after they are taken

@@ -3,12 +3,12 @@ use Rattle.std.proofs.Common.{rules}
 use Rattle.std.proofs.Common.{Bool, ◌≡◌, ℕ, List, ◌++◌, get_or, length, map, refl, sym, ap, ap₂, subst, ◌∙◌}
 use Rattle.std.proofs.lemmas.List.{length-map}
 use Rattle.std.proofs.lemmas.Simd.{map-map}
-use Rattle.aig_core.specs.declared.circuit.Gate.{Gate}
-use Rattle.aig_core.specs.declared.circuit.Circuit.{Circuit}
+use Rattle.aig_circuit.specs.declared.circuit.Gate.{Gate}
+use Rattle.aig_circuit.specs.declared.circuit.Circuit.{Circuit}
 use Rattle.aig_image.specs.Relabelled.{relabelled, relabelled_gate, NamesOnly}
-use Rattle.aig_core.specs.declared.circuit.Latch.{Latch}
-use Rattle.aig_core.specs.Wellformed.{defined_variables}
-use Rattle.aig_core.proofs.Ordering.Ranked.{variables}
+use Rattle.aig_circuit.specs.declared.circuit.Latch.{Latch}
+use Rattle.aig_circuit.specs.Wellformed.{defined_variables}
+use Rattle.aig_topo.proofs.Ordering.Ranked.{variables}
 use Rattle.aig_image.specs.Reordered.{taken, reordered, operands_sorted, has_smaller_first, exchanged_by}
 use Rattle.aig_image.specs.Reordered.{with_operands_exchanged}
 use Rattle.aig_image.proofs.Relabelling.Exchanged.{same_variables}

@@ -2,9 +2,9 @@
 use Rattle.std.proofs.Common.{◌≡◌, ◌<◌, ℕ, zero, suc, List, [], ◌∷◌, ◌++◌, length, get_or, refl, sym, ap, subst, inl}
 use Rattle.std.proofs.Common.{inr, ⊎_elim, arith}
 use Rattle.std.specs.List.{AllByRecursion}
-use Rattle.aig_core.specs.Wellformed.{IsAmong, AreDistinct}
-use Rattle.aig_core.proofs.Ordering.Counted.{among_either}
-use Rattle.aig_core.proofs.Ordering.Cyclic.{among_last}
+use Rattle.aig_circuit.specs.Wellformed.{IsAmong, AreDistinct}
+use Rattle.aig_topo.proofs.Ordering.Counted.{among_either}
+use Rattle.aig_topo.proofs.Ordering.Cyclic.{among_last}
 
 pub among_first : (xs ys : List ℕ) (x : ℕ) → IsAmong x xs → IsAmong x (xs ++ ys)
 among_first [] ys x a = absurd a

@@ -1,8 +1,8 @@
 -- Gates that stand in order: each over nothing but constants and what is defined before it.
 use Rattle.std.specs.Prelude.{◌<◌, ℕ, List, ◌++◌, map, take, length, slice_index_or}
 use Rattle.std.specs.List.{AllByRecursion}
-use Rattle.aig_core.specs.declared.circuit.Gate.{Gate}
-use Rattle.aig_core.specs.Wellformed.{IsKnown, operands}
+use Rattle.aig_circuit.specs.declared.circuit.Gate.{Gate}
+use Rattle.aig_circuit.specs.Wellformed.{IsKnown, operands}
 
 -- the first ones are defined before all gates
 abbrev pub StandInOrder : List ℕ → List Gate → Type 0

@@ -16,8 +16,8 @@ use Rattle.std.proofs.lemmas.List.{take-append-le, take-take}
 use Rattle.std.proofs.lemmas.List.{take_all}
 use Rattle.std.proofs.lemmas.List.FromFn.{get_or-map-range_with_len}
 use Rattle.std.proofs.lemmas.Simd.{get_or-zip2, get_or_narrower, length-zip2}
-use Rattle.aig_core.specs.declared.value.Val.{Val}
-use Rattle.aig_core.specs.declared.value.Val.TheVariants.{Zero}
+use Rattle.aig_circuit.specs.declared.value.Val.{Val}
+use Rattle.aig_circuit.specs.declared.value.Val.TheVariants.{Zero}
 use Rattle.aig_lanes.specs.Parts.Lanes.{IsPair, bit_in}
 use Rattle.aig_lanes.specs.Parts.Sheets.{OctetText, byte_at, character_by, eight_at, octet_text, overwritten}
 use Rattle.aig_step.specs.TraceText.{character_of, values_text}

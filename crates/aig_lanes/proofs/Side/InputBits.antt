@@ -13,9 +13,9 @@ use Rattle.std.proofs.lemmas.Bool.Decides.{eqb_tells}
 use Rattle.std.proofs.lemmas.List.{get_or-drop, get_or-map, get_or-replicate, get_or-take, length-drop}
 use Rattle.std.proofs.lemmas.List.{length-take-le}
 use Rattle.std.proofs.lemmas.Simd.{bit_mask_l, bitmask_splat, get_or-chunk, get_or-zip2, length-chunk, length-zip2}
-use Rattle.aig_core.specs.declared.value.Val.{Val}
-use Rattle.aig_core.specs.declared.value.Val.TheVariants.{Zero, One, X}
-use Rattle.aig_core.specs.Values.{value_not}
+use Rattle.aig_circuit.specs.declared.value.Val.{Val}
+use Rattle.aig_circuit.specs.declared.value.Val.TheVariants.{Zero, One, X}
+use Rattle.aig_circuit.specs.Values.{value_not}
 use Rattle.aig_lanes.specs.Parts.Lanes.{bit_in, may_be_one}
 use Rattle.aig_step.specs.TraceText.{character_of}
 use Rattle.aig_lanes.proofs.Side.Sheets.{byte_bit, no_bit, shifted_byte, some_bit}

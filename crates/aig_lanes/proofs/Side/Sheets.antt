@@ -11,8 +11,8 @@ use Rattle.std.proofs.lemmas.Nat.Bits.{and_pow, bit_at_and, bit_at_ones, bit_at-
 use Rattle.std.specs.Int.{bit_at}
 use Rattle.std.specs.Int.Bits.{bit_and}
 use Rattle.std.specs.Simd.Lanes.{zip2}
-use Rattle.aig_core.specs.declared.value.Val.{Val}
-use Rattle.aig_core.specs.declared.value.Val.TheVariants.{Zero, One, X}
+use Rattle.aig_circuit.specs.declared.value.Val.{Val}
+use Rattle.aig_circuit.specs.declared.value.Val.TheVariants.{Zero, One, X}
 use Rattle.aig_lanes.specs.Parts.Lanes.{IsPair, bit_in}
 use Rattle.std.proofs.lemmas.Simd.{length-zip2}
 use Rattle.aig_lanes.specs.Parts.Sheets.{OctetText, character_by, octet_text}

@@ -10,10 +10,10 @@ use Rattle.std.proofs.lemmas.List.{append-nil, drop_all, get_or-map, length-map,
 use Rattle.std.proofs.lemmas.List.{take_all, take_more}
 use Rattle.std.proofs.lemmas.List.Elements.{All-set}
 use Rattle.std.proofs.lemmas.Simd.{length-zip2}
-use Rattle.aig_core.specs.declared.value.Val.{Val}
-use Rattle.aig_core.specs.declared.value.Val.TheVariants.{Zero, One, X}
-use Rattle.aig_core.specs.Literal.{negation_of, variable_of}
-use Rattle.aig_core.specs.Values.{value_and, value_not}
+use Rattle.aig_circuit.specs.declared.value.Val.{Val}
+use Rattle.aig_circuit.specs.declared.value.Val.TheVariants.{Zero, One, X}
+use Rattle.aig_circuit.specs.Literal.{negation_of, variable_of}
+use Rattle.aig_circuit.specs.Values.{value_and, value_not}
 use Rattle.aig_meaning.specs.Meaning.{literal_value}
 use Rattle.aig_lanes.specs.Parts.Lanes.{IsLane, IsPair, IsPlane, bit_in, bits_of_values, may_be_one}
 use Rattle.aig_step.specs.declared.evaluate.Pair.{Pair}

@@ -5,7 +5,7 @@ use Rattle.std.proofs.Common.{arith, ap, drop, get_or, is_some, length, refl, sy
 use Rattle.std.specs.List.{All}
 use Rattle.std.proofs.lemmas.Bool.{cases_lt}
 use Rattle.std.proofs.lemmas.List.{drop-drop, length-drop, length-take-le}
-use Rattle.aig_core.specs.declared.value.Val.{Val}
+use Rattle.aig_circuit.specs.declared.value.Val.{Val}
 use Rattle.aig_step.specs.Stimulus.{values_of}
 use Rattle.aig_step.specs.TraceText.{values_text}
 use Rattle.aig_lanes.specs.Parts.Vectors.{AreVectors, said, vectors_in}

@@ -1,7 +1,7 @@
 -- Runs of a group, stepped side by side: where each stands. Only the simulator cites this.
 use Rattle.std.specs.Prelude.{◌≡◌, ◌+◌, ◌<◌, ◌≤◌, ◌++◌, ℕ, List, [], ◌∷◌, length, map, slice_index_or, take}
-use Rattle.aig_core.specs.declared.circuit.Circuit.{Circuit}
-use Rattle.aig_core.specs.declared.value.Val.{Val}
+use Rattle.aig_circuit.specs.declared.circuit.Circuit.{Circuit}
+use Rattle.aig_circuit.specs.declared.value.Val.{Val}
 use Rattle.aig_meaning.specs.Meaning.{IsStepAssignment}
 use Rattle.aig_meaning.specs.Trace.{IsTrace, reset_state, state_after}
 use Rattle.aig_lanes.specs.declared.run.FullRow.{FullRow}

@@ -1,9 +1,9 @@
 -- The texts of runs of a group, stepped side by side: what is kept of them. Only the simulator cites this.
 use Rattle.std.specs.Prelude.{◌≡◌, ◌+◌, ◌*◌, ◌<◌, ◌≤◌, ◌++◌, ℕ, zero, suc, List, [], codes, length, map, replicate}
 use Rattle.std.specs.Prelude.{slice_index_or, take}
-use Rattle.aig_core.specs.declared.circuit.Circuit.{Circuit}
-use Rattle.aig_core.specs.declared.value.Val.{Val}
-use Rattle.aig_core.specs.declared.value.Val.TheVariants.{X}
+use Rattle.aig_circuit.specs.declared.circuit.Circuit.{Circuit}
+use Rattle.aig_circuit.specs.declared.value.Val.{Val}
+use Rattle.aig_circuit.specs.declared.value.Val.TheVariants.{X}
 use Rattle.aig_meaning.specs.Meaning.{Row, literal_value}
 use Rattle.aig_meaning.specs.Trace.{IsTrace, reset_state, state_after}
 use Rattle.aig_lanes.specs.declared.run.Run.{Run}

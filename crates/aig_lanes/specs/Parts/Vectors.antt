@@ -2,7 +2,7 @@
 -- Only the simulator cites this.
 use Rattle.std.specs.Prelude.{◌≡◌, ◌+◌, ◌*◌, ◌<◌, ◌≤◌, ℕ, zero, suc, List, [], ◌∷◌, Option, None, Some}
 use Rattle.std.specs.Prelude.{drop, is_some, length, take, true}
-use Rattle.aig_core.specs.declared.value.Val.{Val}
+use Rattle.aig_circuit.specs.declared.value.Val.{Val}
 use Rattle.aig_step.specs.Stimulus.{values_of}
 
 -- the values that are said, if any are

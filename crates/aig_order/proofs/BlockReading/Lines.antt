@@ -9,8 +9,8 @@ use Rattle.std.proofs.lemmas.Bool.{leb-true, le-leb}
 use Rattle.std.proofs.lemmas.Bool.Decides.{Decides-and}
 use Rattle.std.proofs.lemmas.Fmt.{decimal_digit}
 use Rattle.std.proofs.lemmas.Option.{cond_some}
-use Rattle.aig_core.specs.declared.circuit.TheConstants.{LARGEST}
-use Rattle.aig_core.specs.Wellformed.{IsVariableUpTo}
+use Rattle.aig_circuit.specs.declared.circuit.TheConstants.{LARGEST}
+use Rattle.aig_circuit.specs.Wellformed.{IsVariableUpTo}
 use Rattle.aig_text.specs.AsciiText.{numbers_text}
 use Rattle.aig_text.specs.CanonicalNumber.{canonical_before}
 use Rattle.aig_text.proofs.Canonical.Numbers.{canonical_is_read, canonical_reads}

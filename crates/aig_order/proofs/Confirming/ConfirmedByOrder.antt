@@ -2,9 +2,9 @@
 -- its least ready order, no gate with equal operands is recorded as exchanged, and the block tells of a comment section
 -- where a comment follows.
 use Rattle.std.proofs.Common.{◌≡◌, ◌↔◌, ℕ, List, Ok, sym}
-use Rattle.aig_core.specs.declared.circuit.Circuit.{Circuit}
-use Rattle.aig_core.specs.Order.{IsLeastReadyOrder}
-use Rattle.aig_core.specs.Wellformed.{AreDistinct, IsWellFormed}
+use Rattle.aig_circuit.specs.declared.circuit.Circuit.{Circuit}
+use Rattle.aig_topo.specs.Order.{IsLeastReadyOrder}
+use Rattle.aig_circuit.specs.Wellformed.{AreDistinct, IsWellFormed}
 use Rattle.aig_core.specs.BinaryOrder.{IsInBinaryOrder}
 use Rattle.aig_order.specs.declared.map_block.MapBlock.{MapBlock}
 use Rattle.aig_order.specs.MapBlock.{IsMappedImage}

@@ -1,8 +1,8 @@
 -- What a block tells, judged: whether the circuit that is undone by it has the image that it was read of.
 use Rattle.std.proofs.Common.{◌≡◌, ◌↔◌, ◌∙◌, sym, ℕ, List, Bool, false, true≢false, IsTrue, Ok}
-use Rattle.aig_core.specs.declared.circuit.Circuit.{Circuit}
-use Rattle.aig_core.specs.Order.{IsLeastReadyOrder}
-use Rattle.aig_core.specs.Wellformed.{AreDistinct, IsWellFormed}
+use Rattle.aig_circuit.specs.declared.circuit.Circuit.{Circuit}
+use Rattle.aig_topo.specs.Order.{IsLeastReadyOrder}
+use Rattle.aig_circuit.specs.Wellformed.{AreDistinct, IsWellFormed}
 use Rattle.aig_core.specs.BinaryOrder.{IsInBinaryOrder}
 use Rattle.aig_order.specs.declared.map_block.MapBlock.{MapBlock}
 use Rattle.aig_order.specs.MapBlock.{IsMappedImage}

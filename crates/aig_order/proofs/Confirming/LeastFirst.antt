@@ -5,10 +5,10 @@ use Rattle.std.proofs.Common.{◌≡◌, ◌+◌, ◌<◌, ◌≤◌, ℕ, zero,
 use Rattle.std.proofs.Common.{refl, sym, ap, subst, inl, inr, ⊎_elim, arith}
 use Rattle.std.specs.List.{range_with_len}
 use Rattle.std.proofs.lemmas.Bool.{cases_lt}
-use Rattle.aig_core.specs.Wellformed.{IsAmong}
-use Rattle.aig_core.specs.Order.{IsReady, TakesLeast, IsFull}
-use Rattle.aig_core.proofs.Checking.Fitting.{each}
-use Rattle.aig_core.proofs.Ordering.Ranked.{all_served}
+use Rattle.aig_circuit.specs.Wellformed.{IsAmong}
+use Rattle.aig_topo.specs.Order.{IsReady, TakesLeast, IsFull}
+use Rattle.aig_circuit.proofs.Checking.Fitting.{each}
+use Rattle.aig_topo.proofs.Ordering.Ranked.{all_served}
 
 -- what a function gives at a number is among what it gives at numbers in a row
 among_given : (f : ℕ → ℕ) (k a n : ℕ) → a ≤ k → k < a + n → IsAmong (f k) (map f (range_with_len a n))

@@ -5,8 +5,8 @@ use Rattle.std.proofs.Common.{length-append, get_or, sym, ap, subst, ◌∙◌, 
 use Rattle.std.proofs.lemmas.Bool.{cases_lt}
 use Rattle.std.proofs.lemmas.List.{get_or_append_left, get_or_default}
 use Rattle.std.proofs.Math.Seq.{get_or-append_seam}
-use Rattle.aig_core.specs.declared.circuit.Gate.{Gate}
-use Rattle.aig_core.proofs.Ordering.Ranked.{no_gate}
+use Rattle.aig_circuit.specs.declared.circuit.Gate.{Gate}
+use Rattle.aig_topo.proofs.Ordering.Ranked.{no_gate}
 use Rattle.aig_order.specs.Parts.Turns.{ready_from, ready_at, AreLinks, IsClear}
 
 -- the next place gets a link

@@ -6,7 +6,7 @@ use Rattle.std.proofs.lemmas.Bool.{cases_lt}
 use Rattle.std.proofs.lemmas.Grind.{same_number_lists}
 use Rattle.std.proofs.lemmas.List.{get_or_default, get_or-map, length-map}
 use Rattle.std.proofs.lemmas.List.FromFn.{length-map-range_with_len}
-use Rattle.aig_core.specs.Wellformed.{AreDistinct}
+use Rattle.aig_circuit.specs.Wellformed.{AreDistinct}
 use Rattle.aig_image.proofs.Relabelling.Formed.{all_through}
 use Rattle.aig_image.proofs.Relabelling.Positions.{places_have_positions}
 use Rattle.aig_image.proofs.Relabelling.Standing.{at_place, same_place}

@@ -8,11 +8,11 @@ use Rattle.std.specs.Option.{unwrap_or}
 use Rattle.std.proofs.Math.Nat.{max-eq_right, min-eq_left}
 use Rattle.std.proofs.lemmas.Bool.{ltb-true}
 use Rattle.std.proofs.lemmas.List.{length-map, get_or-map}
-use Rattle.aig_core.specs.declared.circuit.Gate.{Gate}
-use Rattle.aig_core.specs.declared.circuit.Circuit.{Circuit}
-use Rattle.aig_core.specs.Order.{IsLeastReadyOrder}
-use Rattle.aig_core.specs.Wellformed.{IsWellFormed}
-use Rattle.aig_core.proofs.Ordering.Ranked.{at, no_gate}
+use Rattle.aig_circuit.specs.declared.circuit.Gate.{Gate}
+use Rattle.aig_circuit.specs.declared.circuit.Circuit.{Circuit}
+use Rattle.aig_topo.specs.Order.{IsLeastReadyOrder}
+use Rattle.aig_circuit.specs.Wellformed.{IsWellFormed}
+use Rattle.aig_topo.proofs.Ordering.Ranked.{at, no_gate}
 use Rattle.aig_order.specs.declared.map_block.MappedGate.{MappedGate}
 use Rattle.aig_order.specs.declared.map_block.MapBlock.{MapBlock}
 use Rattle.aig_order.specs.MapBlock.{mapped_gate, map_block, mapped_by, IsMappedImage}

@@ -3,12 +3,12 @@
 use Rattle.std.proofs.Common.{rules}
 use Rattle.std.proofs.Common.{◌≡◌, ◌+◌, ◌<◌, ◌≤◌, ◌↔◌, ℕ, suc, List, [], Bool, IsTrue, Option, length, get_or}
 use Rattle.std.proofs.Common.{map, sym, ap, subst, ◌∙◌, ⊎_elim, arith}
-use Rattle.aig_core.specs.declared.circuit.Gate.{Gate}
-use Rattle.aig_core.specs.declared.circuit.Circuit.{Circuit}
-use Rattle.aig_core.specs.Literal.{variable_of}
-use Rattle.aig_core.specs.Wellformed.{IsAmong, AreDistinct, defined_variables, operands}
-use Rattle.aig_core.specs.Order.{IsLeastReadyOrder, TakesLeast, IsFull, gate_operands}
-use Rattle.aig_core.proofs.Ordering.Ranked.{at, over_one, needed_by}
+use Rattle.aig_circuit.specs.declared.circuit.Gate.{Gate}
+use Rattle.aig_circuit.specs.declared.circuit.Circuit.{Circuit}
+use Rattle.aig_circuit.specs.Literal.{variable_of}
+use Rattle.aig_circuit.specs.Wellformed.{IsAmong, AreDistinct, defined_variables, operands}
+use Rattle.aig_topo.specs.Order.{IsLeastReadyOrder, TakesLeast, IsFull, gate_operands}
+use Rattle.aig_topo.proofs.Ordering.Ranked.{at, over_one, needed_by}
 use Rattle.aig_image.specs.Relabelled.{relabelled_gate}
 use Rattle.aig_image.specs.Reordered.{exchanged_if}
 use Rattle.aig_order.specs.declared.map_block.MapBlock.{MapBlock}

@@ -3,15 +3,15 @@ use Rattle.std.proofs.Common.{◌≡◌, ℕ, List, ◌++◌, length, map, min, 
 use Rattle.std.specs.List.{range_with_len}
 use Rattle.std.proofs.Math.Nat.{min-eq_left}
 use Rattle.std.proofs.lemmas.Simd.{pick_l_whole}
-use Rattle.aig_core.specs.declared.circuit.Latch.{Latch}
-use Rattle.aig_core.specs.declared.circuit.Circuit.{Circuit}
-use Rattle.aig_core.specs.declared.circuit.TheConstants.{LARGEST}
+use Rattle.aig_circuit.specs.declared.circuit.Latch.{Latch}
+use Rattle.aig_circuit.specs.declared.circuit.Circuit.{Circuit}
+use Rattle.aig_circuit.specs.declared.circuit.TheConstants.{LARGEST}
 use Rattle.aig_core.specs.BinaryOrder.{IsNumberedInOrder}
-use Rattle.aig_core.specs.Wellformed.{IsVariableUpTo, IsWellFormed, defined_variables}
-use Rattle.aig_core.proofs.Checking.Fitting.{all_weaker}
+use Rattle.aig_circuit.specs.Wellformed.{IsVariableUpTo, IsWellFormed, defined_variables}
+use Rattle.aig_circuit.proofs.Checking.Fitting.{all_weaker}
 use Rattle.aig_core.proofs.Numbered.Ranges.{numbered_variables_are}
-use Rattle.aig_core.proofs.Ordering.LeastReady.{one_least_ready_order}
-use Rattle.aig_core.proofs.Ordering.Ranked.{no_gate, variables}
+use Rattle.aig_topo.proofs.Ordering.LeastReady.{one_least_ready_order}
+use Rattle.aig_topo.proofs.Ordering.Ranked.{no_gate, variables}
 use Rattle.aig_image.specs.Image.{image_by}
 use Rattle.aig_image.specs.Relabelled.{NamesOnly}
 use Rattle.aig_image.specs.Reordered.{with_operands_sorted}

@@ -2,13 +2,13 @@
 -- comment is its mapped image.
 use Rattle.std.proofs.Common.{rules}
 use Rattle.std.proofs.Common.{◌≡◌, ◌+◌, ◌-◌, ◌≤◌, ℕ, List, length, ap, ◌∙◌, Some, arith}
-use Rattle.aig_core.specs.declared.circuit.Gate.{Gate}
-use Rattle.aig_core.specs.declared.circuit.Circuit.{Circuit}
-use Rattle.aig_core.specs.declared.circuit.TheConstants.{LARGEST}
-use Rattle.aig_core.specs.Wellformed.{IsWellFormed}
-use Rattle.aig_core.specs.Order.{IsLeastReadyOrder}
-use Rattle.aig_core.proofs.Checking.Fitting.{definitions_fit}
-use Rattle.aig_core.proofs.Ordering.LeastReady.{one_least_ready_order}
+use Rattle.aig_circuit.specs.declared.circuit.Gate.{Gate}
+use Rattle.aig_circuit.specs.declared.circuit.Circuit.{Circuit}
+use Rattle.aig_circuit.specs.declared.circuit.TheConstants.{LARGEST}
+use Rattle.aig_circuit.specs.Wellformed.{IsWellFormed}
+use Rattle.aig_topo.specs.Order.{IsLeastReadyOrder}
+use Rattle.aig_circuit.proofs.Checking.Fitting.{definitions_fit}
+use Rattle.aig_topo.proofs.Ordering.LeastReady.{one_least_ready_order}
 use Rattle.aig_image.specs.declared.image.Renumbering.{Renumbering}
 use Rattle.aig_image.specs.Image.{image_by, IsBinaryImage}
 use Rattle.aig_image.specs.Parts.Numbers.{number_of, IsRenumberingOf}

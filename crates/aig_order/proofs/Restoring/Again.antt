@@ -11,13 +11,13 @@ use Rattle.std.proofs.Math.Nat.{max-eq_left, min-eq_right}
 use Rattle.std.proofs.lemmas.Bool.{lt-ltb, le-ltb}
 use Rattle.std.proofs.lemmas.List.{length-map}
 use Rattle.std.proofs.lemmas.Simd.{map-map}
-use Rattle.aig_core.specs.declared.circuit.Gate.{Gate}
-use Rattle.aig_core.specs.declared.circuit.Circuit.{Circuit}
+use Rattle.aig_circuit.specs.declared.circuit.Gate.{Gate}
+use Rattle.aig_circuit.specs.declared.circuit.Circuit.{Circuit}
 use Rattle.aig_core.specs.BinaryOrder.{AreOrderedGates}
-use Rattle.aig_core.specs.Wellformed.{AreDistinct, IsVariableUpTo, IsWellFormed, defined_variables}
-use Rattle.aig_core.proofs.Checking.Fitting.{all_weaker}
-use Rattle.aig_core.proofs.Makers.{gates_alike}
-use Rattle.aig_core.proofs.Ordering.Ranked.{at, no_gate}
+use Rattle.aig_circuit.specs.Wellformed.{AreDistinct, IsVariableUpTo, IsWellFormed, defined_variables}
+use Rattle.aig_circuit.proofs.Checking.Fitting.{all_weaker}
+use Rattle.aig_circuit.proofs.Makers.{gates_alike}
+use Rattle.aig_topo.proofs.Ordering.Ranked.{at, no_gate}
 use Rattle.aig_image.specs.Relabelled.{relabelled_gate, relabelled_latch, GateNames, NamesOnly}
 use Rattle.aig_image.specs.Renumbering.{renumbered, source_variable}
 use Rattle.aig_image.specs.Reordered.{converted, exchanged_if, has_smaller_first, operands_sorted}

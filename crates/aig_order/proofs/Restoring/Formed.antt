@@ -1,9 +1,9 @@
 -- A circuit that is undone from a well-formed one in binary order is well formed, where no variable is defined twice.
 use Rattle.std.proofs.Common.{◌≡◌, ℕ, List, Bool, Option, refl}
 use Rattle.std.specs.List.{AllByRecursion}
-use Rattle.aig_core.specs.declared.circuit.Circuit.{Circuit}
-use Rattle.aig_core.specs.Wellformed.{AreDistinct, IsVariableUpTo, IsWellFormed, defined_variables}
-use Rattle.aig_core.proofs.Checking.Fitting.{all_weaker}
+use Rattle.aig_circuit.specs.declared.circuit.Circuit.{Circuit}
+use Rattle.aig_circuit.specs.Wellformed.{AreDistinct, IsVariableUpTo, IsWellFormed, defined_variables}
+use Rattle.aig_circuit.proofs.Checking.Fitting.{all_weaker}
 use Rattle.aig_image.specs.Renumbering.{renumbered, source_variable}
 use Rattle.aig_image.specs.Reordered.{reordered, with_operands_exchanged}
 use Rattle.aig_image.proofs.Relabelling.Exchanged.{exchange_keeps_form}

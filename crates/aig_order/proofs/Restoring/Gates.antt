@@ -4,12 +4,12 @@ use Rattle.std.proofs.Common.{◌≡◌, ◌+◌, ◌*◌, ◌<◌, ◌≤◌, �
 use Rattle.std.proofs.Common.{sym, ap, ◌∙◌, ◌⊎◌, inl, inr, arith}
 use Rattle.std.proofs.lemmas.List.{length-map, get_or-map}
 use Rattle.std.proofs.lemmas.List.FromFn.{get_or-map-range_with_len}
-use Rattle.aig_core.specs.declared.circuit.Latch.{Latch}
-use Rattle.aig_core.specs.declared.circuit.Gate.{Gate}
-use Rattle.aig_core.specs.declared.circuit.Circuit.{Circuit}
-use Rattle.aig_core.specs.Literal.{variable_of}
-use Rattle.aig_core.specs.Wellformed.{IsAmong, AreDistinct, defined_variables, operands}
-use Rattle.aig_core.proofs.Ordering.Ranked.{at, no_gate, variables, distinct_back}
+use Rattle.aig_circuit.specs.declared.circuit.Latch.{Latch}
+use Rattle.aig_circuit.specs.declared.circuit.Gate.{Gate}
+use Rattle.aig_circuit.specs.declared.circuit.Circuit.{Circuit}
+use Rattle.aig_circuit.specs.Literal.{variable_of}
+use Rattle.aig_circuit.specs.Wellformed.{IsAmong, AreDistinct, defined_variables, operands}
+use Rattle.aig_topo.proofs.Ordering.Ranked.{at, no_gate, variables, distinct_back}
 use Rattle.aig_image.specs.Relabelled.{relabelled_gate}
 use Rattle.aig_image.specs.Renumbering.{renumbered, source_variable}
 use Rattle.aig_image.specs.Reordered.{exchanged_if}

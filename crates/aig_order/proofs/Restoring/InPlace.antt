@@ -6,9 +6,9 @@ use Rattle.std.proofs.Common.{refl, sym, ap, ap₂, subst, ◌∙◌, inl, inr, 
 use Rattle.std.proofs.Common.{get_or-set_same, get_or-set_other}
 use Rattle.std.proofs.lemmas.Bool.{cases_lt}
 use Rattle.std.proofs.lemmas.List.{get_or-take, get_or_default, length-take-le, map-append, take_more}
-use Rattle.aig_core.specs.declared.circuit.Gate.{Gate}
-use Rattle.aig_core.specs.Wellformed.{AreDistinct, IsAmong}
-use Rattle.aig_core.proofs.Ordering.Ranked.{at, no_gate}
+use Rattle.aig_circuit.specs.declared.circuit.Gate.{Gate}
+use Rattle.aig_circuit.specs.Wellformed.{AreDistinct, IsAmong}
+use Rattle.aig_topo.proofs.Ordering.Ranked.{at, no_gate}
 use Rattle.aig_image.specs.Reordered.{exchanged_by, exchanged_if, taken}
 use Rattle.aig_image.proofs.Relabelling.Standing.{somewhere, same_place}
 use Rattle.aig_order.specs.Parts.Confirmed.{DifferWhereExchanged, HasTwoOperands, gate_in_place}

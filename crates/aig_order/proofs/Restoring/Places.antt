@@ -7,9 +7,9 @@ use Rattle.std.specs.List.{AllByRecursion, position_or_len, range_with_len}
 use Rattle.std.proofs.lemmas.Bool.Decides.{eqb_tells}
 use Rattle.std.proofs.lemmas.List.{length-map}
 use Rattle.std.proofs.lemmas.Simd.{map-map}
-use Rattle.aig_core.specs.declared.circuit.Circuit.{Circuit}
+use Rattle.aig_circuit.specs.declared.circuit.Circuit.{Circuit}
 use Rattle.aig_core.specs.BinaryOrder.{IsInBinaryOrder}
-use Rattle.aig_core.specs.Wellformed.{AreDistinct, IsVariableUpTo}
+use Rattle.aig_circuit.specs.Wellformed.{AreDistinct, IsVariableUpTo}
 use Rattle.aig_image.specs.Reordered.{ArePlaces, positions_of}
 use Rattle.aig_image.proofs.Relabelling.Formed.{all_through}
 use Rattle.aig_image.proofs.Relabelling.Lists.{map_each}

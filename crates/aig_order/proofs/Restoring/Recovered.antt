@@ -6,14 +6,14 @@ use Rattle.std.specs.Prelude.{is_some}
 use Rattle.std.specs.Option.{unwrap_or}
 use Rattle.std.proofs.lemmas.List.{ext_get_or, length-map, get_or-map, get_or-append-add}
 use Rattle.std.proofs.lemmas.Simd.{map-map}
-use Rattle.aig_core.specs.declared.circuit.Latch.{Latch}
-use Rattle.aig_core.specs.declared.circuit.Gate.{Gate}
-use Rattle.aig_core.specs.declared.circuit.Circuit.{Circuit}
-use Rattle.aig_core.specs.Order.{IsLeastReadyOrder}
-use Rattle.aig_core.specs.Wellformed.{IsAmong, IsWellFormed, defined_variables}
-use Rattle.aig_core.proofs.Checking.Fitting.{each}
-use Rattle.aig_core.proofs.Ordering.Ranked.{at, no_gate, variables}
-use Rattle.aig_core.proofs.Ordering.Steps.{all_of}
+use Rattle.aig_circuit.specs.declared.circuit.Latch.{Latch}
+use Rattle.aig_circuit.specs.declared.circuit.Gate.{Gate}
+use Rattle.aig_circuit.specs.declared.circuit.Circuit.{Circuit}
+use Rattle.aig_topo.specs.Order.{IsLeastReadyOrder}
+use Rattle.aig_circuit.specs.Wellformed.{IsAmong, IsWellFormed, defined_variables}
+use Rattle.aig_circuit.proofs.Checking.Fitting.{each}
+use Rattle.aig_topo.proofs.Ordering.Ranked.{at, no_gate, variables}
+use Rattle.aig_topo.proofs.Ordering.Steps.{all_of}
 use Rattle.aig_image.specs.Relabelled.{relabelled_gate, NamesOnly}
 use Rattle.aig_image.specs.Renumbering.{in_new_order, renumbered, source_variable}
 use Rattle.aig_image.specs.Reordered.{ArePlaces, converted, operands_sorted, positions_of, restored, taken}

@@ -8,14 +8,14 @@ use Rattle.std.specs.List.{AllByRecursion, range_with_len}
 use Rattle.std.proofs.lemmas.List.{ext_get_or, length-map, get_or-map, get_or-append-add}
 use Rattle.std.proofs.lemmas.List.FromFn.{length-map-range_with_len, get_or-map-range_with_len}
 use Rattle.std.proofs.lemmas.Simd.{map-map}
-use Rattle.aig_core.specs.declared.circuit.Latch.{Latch}
-use Rattle.aig_core.specs.declared.circuit.Gate.{Gate}
-use Rattle.aig_core.specs.declared.circuit.Circuit.{Circuit}
-use Rattle.aig_core.specs.Wellformed.{AreDistinct, IsVariableUpTo, defined_variables}
-use Rattle.aig_core.proofs.Checking.Fitting.{each}
-use Rattle.aig_core.proofs.Checking.InForm.{joined}
+use Rattle.aig_circuit.specs.declared.circuit.Latch.{Latch}
+use Rattle.aig_circuit.specs.declared.circuit.Gate.{Gate}
+use Rattle.aig_circuit.specs.declared.circuit.Circuit.{Circuit}
+use Rattle.aig_circuit.specs.Wellformed.{AreDistinct, IsVariableUpTo, defined_variables}
+use Rattle.aig_circuit.proofs.Checking.Fitting.{each}
+use Rattle.aig_circuit.proofs.Checking.InForm.{joined}
 use Rattle.aig_core.proofs.Numbered.Ranges.{variables_are}
-use Rattle.aig_core.proofs.Ordering.Ranked.{at}
+use Rattle.aig_topo.proofs.Ordering.Ranked.{at}
 use Rattle.aig_image.specs.Relabelled.{relabelled, relabelled_gate, relabelled_latch}
 use Rattle.aig_image.specs.Renumbering.{in_new_order, renumbered, source_variable}
 use Rattle.aig_image.specs.Reordered.{ArePlaces, exchanged_by, taken}

@@ -5,14 +5,14 @@ use Rattle.std.proofs.Common.{arith}
 use Rattle.std.specs.List.{AllByRecursion}
 use Rattle.std.specs.Option.{unwrap_or}
 use Rattle.std.proofs.lemmas.List.{length-map, get_or-map}
-use Rattle.aig_core.specs.declared.circuit.Latch.{Latch}
-use Rattle.aig_core.specs.declared.circuit.Gate.{Gate}
-use Rattle.aig_core.specs.declared.circuit.Circuit.{Circuit}
-use Rattle.aig_core.specs.Wellformed.{AreDistinct, IsVariableUpTo, IsWellFormed}
-use Rattle.aig_core.specs.Order.{IsLeastReadyOrder}
-use Rattle.aig_core.proofs.Checking.Fitting.{definitions_fit}
-use Rattle.aig_core.proofs.Checking.InForm.{front, back}
-use Rattle.aig_core.proofs.Ordering.Ranked.{at, no_gate, variables}
+use Rattle.aig_circuit.specs.declared.circuit.Latch.{Latch}
+use Rattle.aig_circuit.specs.declared.circuit.Gate.{Gate}
+use Rattle.aig_circuit.specs.declared.circuit.Circuit.{Circuit}
+use Rattle.aig_circuit.specs.Wellformed.{AreDistinct, IsVariableUpTo, IsWellFormed}
+use Rattle.aig_topo.specs.Order.{IsLeastReadyOrder}
+use Rattle.aig_circuit.proofs.Checking.Fitting.{definitions_fit}
+use Rattle.aig_circuit.proofs.Checking.InForm.{front, back}
+use Rattle.aig_topo.proofs.Ordering.Ranked.{at, no_gate, variables}
 use Rattle.aig_image.specs.Renumbering.{in_new_order, renumbered}
 use Rattle.aig_image.proofs.Imaging.Members.{all_taken}
 use Rattle.aig_image.proofs.Relabelling.Formed.{all_through}

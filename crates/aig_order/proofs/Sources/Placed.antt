@@ -9,7 +9,7 @@ use Rattle.std.proofs.lemmas.Bool.Decides.{eqb_tells}
 use Rattle.std.proofs.lemmas.Grind.{same_number_lists}
 use Rattle.std.proofs.lemmas.List.{length-set, length-replicate}
 use Rattle.std.proofs.lemmas.List.FromFn.{get_or-map-range_with_len, length-map-range_with_len}
-use Rattle.aig_core.specs.Wellformed.{IsAmong, AreDistinct, IsVariableUpTo}
+use Rattle.aig_circuit.specs.Wellformed.{IsAmong, AreDistinct, IsVariableUpTo}
 use Rattle.aig_order.specs.declared.map_block.MappedGate.{MappedGate}
 use Rattle.aig_order.specs.Parts.Placed.{with_gates, table_of}
 use Rattle.aig_order.specs.Undone.{places_recorded, variable_at_place}

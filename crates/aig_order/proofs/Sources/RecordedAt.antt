@@ -1,6 +1,6 @@
 -- What stands at a position of a list, what a block tells of the gate at a position, and which gate it was.
 use Rattle.std.proofs.Common.{ℕ, List, false, get_or}
-use Rattle.aig_core.specs.declared.circuit.Gate.{Gate}
+use Rattle.aig_circuit.specs.declared.circuit.Gate.{Gate}
 use Rattle.aig_image.specs.Reordered.{exchanged_if, no_gate}
 use Rattle.aig_order.specs.declared.map_block.MappedGate.{MappedGate}
 

@@ -3,11 +3,11 @@ use Rattle.std.proofs.Common.{rules}
 use Rattle.std.proofs.Common.{◌≡◌, ◌↔◌, ap, ◌∙◌, sym, subst, refl, ◌⊎◌, inl, inr, ⊎_elim, ℕ, zero, suc, ◌+◌, cond, IsOk}
 use Rattle.std.proofs.Common.{IfOk, IfErr, OnOk, MatchResult, List, Bool, true, false, true≢false, IsTrue, Result, Ok}
 use Rattle.std.proofs.Common.{Err, Option, None, Some}
-use Rattle.aig_core.specs.declared.circuit.Circuit.{Circuit}
-use Rattle.aig_core.specs.Form.{IsInForm}
-use Rattle.aig_core.specs.Wellformed.{AreDistinct, IsWellFormed, defined_variables}
-use Rattle.aig_core.proofs.Checking.Fitting.{well_formed_in_form}
-use Rattle.aig_core.proofs.Ordering.LeastReady.{one_least_ready_order}
+use Rattle.aig_circuit.specs.declared.circuit.Circuit.{Circuit}
+use Rattle.aig_circuit.specs.Form.{IsInForm}
+use Rattle.aig_circuit.specs.Wellformed.{AreDistinct, IsWellFormed, defined_variables}
+use Rattle.aig_circuit.proofs.Checking.Fitting.{well_formed_in_form}
+use Rattle.aig_topo.proofs.Ordering.LeastReady.{one_least_ready_order}
 use Rattle.aig_core.specs.BinaryOrder.{IsInBinaryOrder}
 use Rattle.aig_order.specs.declared.fault.MapFault.{MapFault}
 use Rattle.aig_order.specs.declared.fault.MapFault.TheVariants.{Missing, Malformed, Mismatch, Forged, OutOfMemory}

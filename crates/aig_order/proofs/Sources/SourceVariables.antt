@@ -4,9 +4,9 @@ use Rattle.std.proofs.Common.{◌≡◌, ◌≢◌, ◌+◌, ◌<◌, ◌≤◌,
 use Rattle.std.proofs.Common.{eqb, length, map, get_or, ⊎_elim, arith}
 use Rattle.std.specs.List.{AllByRecursion, range_with_len}
 use Rattle.std.proofs.lemmas.Bool.Decides.{eqb_tells}
-use Rattle.aig_core.specs.Wellformed.{IsVariableUpTo}
-use Rattle.aig_core.proofs.Checking.Fitting.{all_weaker}
-use Rattle.aig_core.proofs.Checking.InForm.{joined}
+use Rattle.aig_circuit.specs.Wellformed.{IsVariableUpTo}
+use Rattle.aig_circuit.proofs.Checking.Fitting.{all_weaker}
+use Rattle.aig_circuit.proofs.Checking.InForm.{joined}
 use Rattle.aig_order.specs.declared.map_block.MappedGate.{MappedGate}
 use Rattle.aig_order.specs.declared.map_block.MapBlock.{MapBlock}
 use Rattle.aig_order.specs.MapReading.{IsWithinBounds}

@@ -2,10 +2,10 @@
 -- no comment section where a comment follows.
 use Rattle.std.specs.Prelude.{◌≡◌, ◌≢◌, ◌⊎◌, ◌<◌, ℕ, List, [], Bool, false, true, length, slice_index_or}
 use Rattle.std.specs.List.{AllByRecursion}
-use Rattle.aig_core.specs.declared.circuit.Gate.{Gate}
+use Rattle.aig_circuit.specs.declared.circuit.Gate.{Gate}
 use Rattle.aig_order.specs.declared.map_block.MappedGate.{MappedGate}
 use Rattle.aig_order.specs.declared.map_block.MapBlock.{MapBlock}
-use Rattle.aig_core.specs.declared.circuit.Circuit.{Circuit}
+use Rattle.aig_circuit.specs.declared.circuit.Circuit.{Circuit}
 use Rattle.aig_image.specs.Renumbering.{source_variable}
 use Rattle.aig_order.specs.Parts.Had.{gates_there}
 use Rattle.aig_order.specs.Undone.{exchanges_recorded, source_variables}

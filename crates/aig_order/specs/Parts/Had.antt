@@ -1,7 +1,7 @@
 -- What a circuit was, but for its variables.
 use Rattle.std.specs.Prelude.{ℕ, List, [], map, Option}
-use Rattle.aig_core.specs.declared.circuit.Gate.{Gate}
-use Rattle.aig_core.specs.declared.circuit.Circuit.{Circuit}
+use Rattle.aig_circuit.specs.declared.circuit.Gate.{Gate}
+use Rattle.aig_circuit.specs.declared.circuit.Circuit.{Circuit}
 use Rattle.aig_image.specs.Relabelled.{relabelled_gate}
 use Rattle.aig_image.specs.Reordered.{taken}
 use Rattle.aig_order.specs.declared.map_block.MappedGate.{MappedGate}

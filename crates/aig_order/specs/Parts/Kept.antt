@@ -1,7 +1,7 @@
 -- The variables of a circuit that were kept while the circuit's own became others.
 use Rattle.std.specs.Prelude.{◌≡◌, ◌-◌, ℕ, List, map}
-use Rattle.aig_core.specs.declared.circuit.Gate.{Gate}
-use Rattle.aig_core.specs.declared.circuit.Circuit.{Circuit}
+use Rattle.aig_circuit.specs.declared.circuit.Gate.{Gate}
+use Rattle.aig_circuit.specs.declared.circuit.Circuit.{Circuit}
 use Rattle.aig_image.specs.Relabelled.{relabelled_gate}
 use Rattle.aig_image.specs.Reordered.{has_smaller_first}
 use Rattle.aig_order.specs.declared.map_block.MappedGate.{MappedGate}

@@ -1,7 +1,7 @@
 -- Whether the places that a block tells are the order in which the gates of its source are taken, by the image alone.
 use Rattle.std.specs.Prelude.{◌-◌, ◌<◌, ◌≤◌, ℕ, suc, List, length, slice_index_or}
-use Rattle.aig_core.specs.declared.circuit.Gate.{Gate}
-use Rattle.aig_core.specs.Literal.{variable_of}
+use Rattle.aig_circuit.specs.declared.circuit.Gate.{Gate}
+use Rattle.aig_circuit.specs.Literal.{variable_of}
 use Rattle.aig_image.specs.Reordered.{positions_of}
 use Rattle.aig_order.specs.declared.map_block.MappedGate.{MappedGate}
 use Rattle.aig_order.specs.Undone.{places_recorded}

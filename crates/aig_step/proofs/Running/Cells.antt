@@ -3,10 +3,10 @@ use Rattle.std.proofs.Common.{◌≡◌, ◌+◌, ◌*◌, ◌%◌, ◌/◌, ◌
 use Rattle.std.proofs.Common.{[], ◌∷◌, length, get_or, refl, sym, ap, ap₂}
 use Rattle.std.proofs.Common.{◌∙◌, ◌≤◌, arith, drop, drop-cons, set, replicate}
 use Rattle.std.proofs.lemmas.List.{drop_all, length-replicate}
-use Rattle.aig_core.specs.declared.value.Val.{Val}
-use Rattle.aig_core.specs.declared.value.Val.TheVariants.{Zero, One, X}
-use Rattle.aig_core.specs.Literal.{variable_of}
-use Rattle.aig_core.specs.Values.{value_and, value_not}
+use Rattle.aig_circuit.specs.declared.value.Val.{Val}
+use Rattle.aig_circuit.specs.declared.value.Val.TheVariants.{Zero, One, X}
+use Rattle.aig_circuit.specs.Literal.{variable_of}
+use Rattle.aig_circuit.specs.Values.{value_and, value_not}
 use Rattle.aig_meaning.specs.Meaning.{literal_value}
 use Rattle.aig_step.specs.declared.evaluate.Pair.{Pair}
 use Rattle.aig_step.specs.Parts.Cells.{AreCodes, bytes_of_values, code_of, value_of_code, values_of_bytes}

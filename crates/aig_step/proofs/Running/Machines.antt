@@ -3,15 +3,15 @@ use Rattle.std.proofs.Common.{◌≡◌, ◌+◌, ◌<◌, ◌≤◌, ℕ, zero,
 use Rattle.std.proofs.Common.{ap, ap₂, subst, ◌∙◌, arith, set}
 use Rattle.std.specs.List.{All, range_with_len}
 use Rattle.std.proofs.lemmas.List.{get_or-set_same, length-map, length-set}
-use Rattle.aig_core.specs.declared.circuit.Latch.{Latch}
-use Rattle.aig_core.specs.declared.circuit.Gate.{Gate}
-use Rattle.aig_core.specs.declared.circuit.Circuit.{Circuit}
-use Rattle.aig_core.specs.declared.value.Val.{Val}
-use Rattle.aig_core.specs.declared.value.Val.TheVariants.{Zero}
+use Rattle.aig_circuit.specs.declared.circuit.Latch.{Latch}
+use Rattle.aig_circuit.specs.declared.circuit.Gate.{Gate}
+use Rattle.aig_circuit.specs.declared.circuit.Circuit.{Circuit}
+use Rattle.aig_circuit.specs.declared.value.Val.{Val}
+use Rattle.aig_circuit.specs.declared.value.Val.TheVariants.{Zero}
 use Rattle.aig_core.specs.BinaryOrder.{AreOrderedGates, IsInBinaryOrder}
-use Rattle.aig_core.specs.Wellformed.{IsKnown, IsWellFormed, defined_variables}
-use Rattle.aig_core.proofs.Checking.Fitting.{known_in_range}
-use Rattle.aig_core.proofs.Makers.{gates_alike}
+use Rattle.aig_circuit.specs.Wellformed.{IsKnown, IsWellFormed, defined_variables}
+use Rattle.aig_circuit.proofs.Checking.Fitting.{known_in_range}
+use Rattle.aig_circuit.proofs.Makers.{gates_alike}
 use Rattle.aig_meaning.specs.Meaning.{IsReadOff, IsStepAssignment, MeansTheSame, Row, latch_variables}
 use Rattle.aig_meaning.proofs.Known.{AreDefined, known_next, known_outputs, known_bad, known_constraints}
 use Rattle.aig_step.specs.declared.evaluate.Pair.{Pair}

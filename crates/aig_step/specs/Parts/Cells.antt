@@ -1,9 +1,9 @@
 -- Values as bytes, and tables of values as bytes: the byte of each value, and behind it that of its negation, so that a
 -- literal is the place of its own byte.
 use Rattle.std.specs.Prelude.{◌≡◌, ◌==◌, ℕ, List, [], ◌∷◌, if◌then◌else◌}
-use Rattle.aig_core.specs.declared.value.Val.{Val}
-use Rattle.aig_core.specs.declared.value.Val.TheVariants.{Zero, One, X}
-use Rattle.aig_core.specs.Values.{value_not}
+use Rattle.aig_circuit.specs.declared.value.Val.{Val}
+use Rattle.aig_circuit.specs.declared.value.Val.TheVariants.{Zero, One, X}
+use Rattle.aig_circuit.specs.Values.{value_not}
 
 -- the bytes are such that the bitwise and of two is that of their `and`
 abbrev pub code_of : Val → ℕ

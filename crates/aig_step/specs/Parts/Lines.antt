@@ -1,7 +1,7 @@
 -- How lines are read, kept and written. Only the simulator cites this.
 use Rattle.std.specs.Prelude.{◌++◌, ◌+◌, ◌≤◌, ◌==◌, ℕ, List, None, Option, length, map, take, if◌then◌else◌}
-use Rattle.aig_core.specs.declared.circuit.Circuit.{Circuit}
-use Rattle.aig_core.specs.declared.value.Val.{Val}
+use Rattle.aig_circuit.specs.declared.circuit.Circuit.{Circuit}
+use Rattle.aig_circuit.specs.declared.value.Val.{Val}
 use Rattle.aig_meaning.specs.Meaning.{IsRow, Row, literal_value, next_literals}
 use Rattle.aig_step.specs.Stimulus.{values_of}
 

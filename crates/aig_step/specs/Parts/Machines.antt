@@ -1,8 +1,8 @@
 -- A circuit that is kept to be run.
 use Rattle.std.specs.Prelude.{◌≡◌, ◌+◌, ℕ, List, [], None, length}
 use Rattle.std.specs.List.{All, range_with_len}
-use Rattle.aig_core.specs.declared.circuit.Latch.{Latch}
-use Rattle.aig_core.specs.declared.circuit.Circuit.{Circuit}
+use Rattle.aig_circuit.specs.declared.circuit.Latch.{Latch}
+use Rattle.aig_circuit.specs.declared.circuit.Circuit.{Circuit}
 use Rattle.aig_meaning.specs.Meaning.{latch_variables}
 use Rattle.aig_step.specs.declared.evaluate.Pair.{Pair}
 use Rattle.aig_step.specs.Parts.Tables.{AreOverLower, IsLiteralBelow, gates_from}

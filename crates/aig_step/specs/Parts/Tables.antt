@@ -1,10 +1,10 @@
 -- Tables of values, in which each variable has the place of its number, and how they are filled.
 use Rattle.std.specs.Prelude.{◌+◌, ◌<◌, ℕ, List, [], ◌∷◌, slice_index_or, slice_set}
-use Rattle.aig_core.specs.declared.circuit.Gate.{Gate}
-use Rattle.aig_core.specs.declared.value.Val.{Val}
-use Rattle.aig_core.specs.declared.value.Val.TheVariants.{Zero}
-use Rattle.aig_core.specs.Literal.{variable_of}
-use Rattle.aig_core.specs.Values.{value_and}
+use Rattle.aig_circuit.specs.declared.circuit.Gate.{Gate}
+use Rattle.aig_circuit.specs.declared.value.Val.{Val}
+use Rattle.aig_circuit.specs.declared.value.Val.TheVariants.{Zero}
+use Rattle.aig_circuit.specs.Literal.{variable_of}
+use Rattle.aig_circuit.specs.Values.{value_and}
 use Rattle.aig_meaning.specs.Meaning.{literal_value}
 use Rattle.aig_step.specs.declared.evaluate.Pair.{Pair}
 

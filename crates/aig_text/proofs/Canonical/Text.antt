@@ -4,17 +4,17 @@ use Rattle.std.proofs.Common.{inl, inr, Option, Some, true, refl, ap, ◌∙◌,
 use Rattle.std.specs.List.{AllByRecursion, AllZip, flat_map, sum}
 use Rattle.std.specs.Prelude.{decimal}
 use Rattle.std.proofs.lemmas.Bool.{ne_eqb}
-use Rattle.aig_core.specs.declared.circuit.Circuit.{Circuit}
-use Rattle.aig_core.specs.declared.circuit.Gate.{Gate}
-use Rattle.aig_core.specs.declared.circuit.Kind.{Kind}
-use Rattle.aig_core.specs.declared.circuit.Kind.TheVariants as named
-use Rattle.aig_core.specs.declared.circuit.Latch.{Latch}
-use Rattle.aig_core.specs.declared.circuit.Reset.{Reset}
-use Rattle.aig_core.specs.declared.circuit.Reset.TheVariants as resets
-use Rattle.aig_core.specs.declared.circuit.Symbol.{Symbol}
-use Rattle.aig_core.specs.declared.circuit.TheConstants.{LARGEST}
-use Rattle.aig_core.specs.Wellformed.{IsWellFormed, IsWithinLimits, IsVariableUpTo, IsAmong, count_of}
-use Rattle.aig_core.specs.Form.{IsInForm}
+use Rattle.aig_circuit.specs.declared.circuit.Circuit.{Circuit}
+use Rattle.aig_circuit.specs.declared.circuit.Gate.{Gate}
+use Rattle.aig_circuit.specs.declared.circuit.Kind.{Kind}
+use Rattle.aig_circuit.specs.declared.circuit.Kind.TheVariants as named
+use Rattle.aig_circuit.specs.declared.circuit.Latch.{Latch}
+use Rattle.aig_circuit.specs.declared.circuit.Reset.{Reset}
+use Rattle.aig_circuit.specs.declared.circuit.Reset.TheVariants as resets
+use Rattle.aig_circuit.specs.declared.circuit.Symbol.{Symbol}
+use Rattle.aig_circuit.specs.declared.circuit.TheConstants.{LARGEST}
+use Rattle.aig_circuit.specs.Wellformed.{IsWellFormed, IsWithinLimits, IsVariableUpTo, IsAmong, count_of}
+use Rattle.aig_circuit.specs.Form.{IsInForm}
 use Rattle.aig_core.proofs.Checking.Properties.{sum_cons}
 use Rattle.aig_text.specs.declared.section.Section.TheVariants.{Inputs, Latches, Outputs, Bad, Constraints}
 use Rattle.aig_text.specs.declared.section.Section.TheVariants.{JusticeSizes, JusticeLiterals, Fairness, Gates}

@@ -3,12 +3,12 @@ use Rattle.std.proofs.Common.{◌≡◌, ℕ, zero, suc, ◌+◌, ◌*◌, ◌<�
 use Rattle.std.proofs.Common.{◌∙◌, sym, arith, ◌⊎◌, inl, inr}
 use Rattle.std.specs.List.{AllByRecursion, AllZip, sum}
 use Rattle.std.proofs.lemmas.Bool.{ne_eqb}
-use Rattle.aig_core.specs.declared.circuit.Reset.{Reset}
-use Rattle.aig_core.specs.declared.circuit.Reset.TheVariants as resets
-use Rattle.aig_core.specs.declared.circuit.Latch.{Latch}
-use Rattle.aig_core.specs.declared.circuit.Gate.{Gate}
-use Rattle.aig_core.specs.Wellformed.{IsVariableUpTo}
-pub use Rattle.aig_core.specs.Form.{IsLiteralUpTo}
+use Rattle.aig_circuit.specs.declared.circuit.Reset.{Reset}
+use Rattle.aig_circuit.specs.declared.circuit.Reset.TheVariants as resets
+use Rattle.aig_circuit.specs.declared.circuit.Latch.{Latch}
+use Rattle.aig_circuit.specs.declared.circuit.Gate.{Gate}
+use Rattle.aig_circuit.specs.Wellformed.{IsVariableUpTo}
+pub use Rattle.aig_circuit.specs.Form.{IsLiteralUpTo}
 use Rattle.aig_core.proofs.Checking.Properties.{sum_cons}
 use Rattle.aig_text.specs.declared.row.Role.TheVariants as roles
 use Rattle.aig_text.specs.Rows.{Role, Form, roles_of, input_form, latch_form, literal_form, size_form, gate_form}

@@ -1,6 +1,6 @@
 -- The first fault of a text: of its lines, and then of the structure of its circuit.
 use Rattle.std.proofs.Common.{◌≡◌, ℕ, List, None, Ok, Err, refl, ap, ◌∙◌, ◌⊎◌, inl, inr}
-use Rattle.aig_core.specs.declared.circuit.Circuit.{Circuit}
+use Rattle.aig_circuit.specs.declared.circuit.Circuit.{Circuit}
 use Rattle.aig_core.specs.declared.fault.CheckFault.{CheckFault}
 use Rattle.aig_core.specs.Fault as structure
 use Rattle.aig_text.specs.declared.fault.ReadFault.{ReadFault}

@@ -5,10 +5,10 @@ use Rattle.std.specs.List.{AllByRecursion, list_any, before_first, sum}
 use Rattle.std.specs.Str.{bytes_eq}
 use Rattle.std.proofs.lemmas.Bool.{ltb-false, le-ltb, or_parts, or_from}
 use Rattle.std.proofs.Math.Dec.{ltb}
-use Rattle.aig_core.specs.declared.circuit.Circuit.{Circuit}
-use Rattle.aig_core.specs.declared.circuit.TheConstants.{LARGEST}
-use Rattle.aig_core.proofs.Checking.Fitting.{all_weaker}
-use Rattle.aig_core.specs.Wellformed.{IsWithinLimits}
+use Rattle.aig_circuit.specs.declared.circuit.Circuit.{Circuit}
+use Rattle.aig_circuit.specs.declared.circuit.TheConstants.{LARGEST}
+use Rattle.aig_circuit.proofs.Checking.Fitting.{all_weaker}
+use Rattle.aig_circuit.specs.Wellformed.{IsWithinLimits}
 use Rattle.aig_text.specs.declared.fault.ReadKind.{ReadKind}
 use Rattle.aig_text.specs.declared.fault.ReadKind.TheVariants as kinds
 use Rattle.aig_text.specs.declared.header_line.TheConstants.{HEADER_LEAST, HEADER_NUMBERS}

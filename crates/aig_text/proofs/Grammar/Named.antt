@@ -9,11 +9,11 @@ use Rattle.std.specs.FinSet.{contains-insert, contains-empty}
 use Rattle.std.proofs.lemmas.Cmp.{nat_cmp_total}
 use Rattle.std.proofs.lemmas.Bool.{eqb-true, eq-eqb, or_parts, or_from, and_parts}
 use Rattle.aig_core.specs.declared.names.Names.{Names}
-use Rattle.aig_core.specs.declared.circuit.Kind.{Kind}
-use Rattle.aig_core.specs.declared.circuit.Kind.TheVariants.{Input, Latch, Output, Bad, Constraint, Justice, Fairness}
-use Rattle.aig_core.specs.declared.circuit.Symbol.{Symbol}
+use Rattle.aig_circuit.specs.declared.circuit.Kind.{Kind}
+use Rattle.aig_circuit.specs.declared.circuit.Kind.TheVariants.{Input, Latch, Output, Bad, Constraint, Justice, Fairness}
+use Rattle.aig_circuit.specs.declared.circuit.Symbol.{Symbol}
 use Rattle.aig_core.specs.Names.{is_named, with_name, nothing_named}
-use Rattle.aig_core.specs.Wellformed.{NameTheSame, NameApart}
+use Rattle.aig_circuit.specs.Wellformed.{NameTheSame, NameApart}
 use Rattle.aig_text.specs.Rows.{Header}
 use Rattle.aig_text.specs.Reading.{count_named}
 

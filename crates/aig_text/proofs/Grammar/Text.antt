@@ -2,17 +2,17 @@
 use Rattle.std.proofs.Common.{◌≡◌, ℕ, ◌+◌, ◌*◌, ◌≤◌, List, [], ◌∷◌, ◌++◌, Option, None, Some, Result, Ok, refl, ap}
 use Rattle.std.proofs.Common.{subst, ◌∙◌, sym, length, min}
 use Rattle.std.specs.List.{AllByRecursion, AllZip, sum}
-use Rattle.aig_core.specs.declared.circuit.Circuit.{Circuit}
-use Rattle.aig_core.specs.declared.circuit.TheConstants.{LARGEST}
+use Rattle.aig_circuit.specs.declared.circuit.Circuit.{Circuit}
+use Rattle.aig_circuit.specs.declared.circuit.TheConstants.{LARGEST}
 use Rattle.aig_core.specs.declared.fault.CheckFault.{CheckFault}
 use Rattle.aig_core.specs.Fault.{first_structural_fault}
 use Rattle.aig_core.proofs.Checking.Faultless.{well_formed, faultless}
-use Rattle.aig_core.proofs.Checking.Fitting.{well_formed_in_form}
-use Rattle.aig_core.specs.declared.circuit.Symbol.{Symbol}
+use Rattle.aig_circuit.proofs.Checking.Fitting.{well_formed_in_form}
+use Rattle.aig_circuit.specs.declared.circuit.Symbol.{Symbol}
 use Rattle.aig_core.specs.Names.{nothing_named}
-use Rattle.aig_core.specs.Wellformed.{IsWellFormed, IsWithinLimits, IsVariableUpTo, HasGoodSymbols, defined_variables}
-use Rattle.aig_core.specs.Wellformed.{used_literals}
-use Rattle.aig_core.specs.Form.{IsInForm}
+use Rattle.aig_circuit.specs.Wellformed.{IsWellFormed, IsWithinLimits, IsVariableUpTo, HasGoodSymbols, defined_variables}
+use Rattle.aig_circuit.specs.Wellformed.{used_literals}
+use Rattle.aig_circuit.specs.Form.{IsInForm}
 use Rattle.aig_text.specs.declared.fault.ReadFault.{ReadFault}
 use Rattle.aig_text.specs.declared.fault.ReadKind.TheVariants as kinds
 use Rattle.aig_text.specs.Lines.{Line, Ahead, ahead, lines_of}

@@ -1,13 +1,13 @@
 -- The tail of a circuit: what it tells besides, and how it is read again.
 use Rattle.std.proofs.Common.{◌≡◌, ℕ, ◌<◌, List, [], ◌∷◌, ◌++◌, get_or, Option, Ok, refl, sym, ap, subst, ◌∙◌}
 use Rattle.std.specs.List.{AllByRecursion, AllZip}
-use Rattle.aig_core.specs.declared.circuit.Circuit.{Circuit}
-use Rattle.aig_core.specs.declared.circuit.Kind.{Kind}
-use Rattle.aig_core.specs.declared.circuit.Kind.TheVariants.{Input, Latch, Output, Bad, Constraint, Justice, Fairness}
-use Rattle.aig_core.specs.declared.circuit.Symbol.{Symbol}
+use Rattle.aig_circuit.specs.declared.circuit.Circuit.{Circuit}
+use Rattle.aig_circuit.specs.declared.circuit.Kind.{Kind}
+use Rattle.aig_circuit.specs.declared.circuit.Kind.TheVariants.{Input, Latch, Output, Bad, Constraint, Justice, Fairness}
+use Rattle.aig_circuit.specs.declared.circuit.Symbol.{Symbol}
 use Rattle.aig_core.specs.declared.names.Names.{Names}
 use Rattle.aig_core.specs.Names.{nothing_named}
-use Rattle.aig_core.specs.Wellformed.{HasGoodSymbols, NameApart, IsAmong, count_of}
+use Rattle.aig_circuit.specs.Wellformed.{HasGoodSymbols, NameApart, IsAmong, count_of}
 use Rattle.aig_text.specs.Lines.{Line}
 use Rattle.aig_text.specs.Rows.{Header}
 use Rattle.aig_text.specs.Laws.{IsOneLine}

@@ -6,7 +6,7 @@ use Rattle.std.specs.Prelude.{not}
 use Rattle.std.specs.List.{list_any, before_first}
 use Rattle.std.specs.Str.{bytes_eq}
 use Rattle.std.proofs.lemmas.Bool.{lt-ltb, le-ltb, ltb-false, ltb-true, eqb-true, ne_eqb, cases_lt, cases_Bool}
-use Rattle.aig_core.specs.declared.circuit.TheConstants.{LARGEST}
+use Rattle.aig_circuit.specs.declared.circuit.TheConstants.{LARGEST}
 use Rattle.aig_text.specs.declared.fault.ReadKind.{ReadKind}
 use Rattle.aig_text.specs.declared.fault.ReadKind.TheVariants as kinds
 use Rattle.aig_text.specs.declared.header_line.TheConstants.{HEADER_LEAST, HEADER_NUMBERS}

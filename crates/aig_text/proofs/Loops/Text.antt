@@ -1,6 +1,6 @@
 -- The steps of reading a text, one after another.
 use Rattle.std.proofs.Common.{◌≡◌, ℕ, List, Ok, Err, refl, ◌⊎◌, inl, inr}
-use Rattle.aig_core.specs.declared.circuit.Circuit.{Circuit}
+use Rattle.aig_circuit.specs.declared.circuit.Circuit.{Circuit}
 use Rattle.aig_core.specs.Names.{nothing_named}
 use Rattle.aig_text.specs.declared.fault.ReadFault.{ReadFault}
 use Rattle.aig_text.specs.Lines.{Line, Ahead, ahead}

@@ -1,6 +1,6 @@
 -- Numbers of any length as a machine word keeps them.
 use Rattle.std.specs.Prelude.{◌+◌, ◌%◌, ◌^◌, ℕ, List, map, nat_lt, Option, None, Some, if◌then◌else◌}
-use Rattle.aig_core.specs.declared.circuit.Symbol.{Symbol}
+use Rattle.aig_circuit.specs.declared.circuit.Symbol.{Symbol}
 
 -- what is kept of a number: the number itself below 2^36, and of any other that it is that large and whether it is odd
 abbrev pub kept : ℕ → ℕ

@@ -1,7 +1,7 @@
 -- How far a simulation has come. Only the simulator cites this.
 use Rattle.std.specs.Prelude.{◌≡◌, ◌++◌, ℕ, List, [], ◌∷◌, Bool, true, false, codes}
-use Rattle.aig_core.specs.declared.circuit.Circuit.{Circuit}
-use Rattle.aig_core.specs.declared.value.Val.{Val}
+use Rattle.aig_circuit.specs.declared.circuit.Circuit.{Circuit}
+use Rattle.aig_circuit.specs.declared.value.Val.{Val}
 use Rattle.aig_meaning.specs.Meaning.{IsRow, Row}
 use Rattle.aig_meaning.specs.Trace.{reset_state}
 use Rattle.aig_step.specs.declared.trace.Columns.{Columns}

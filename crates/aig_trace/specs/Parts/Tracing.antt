@@ -1,7 +1,7 @@
 -- How far the lines of a stimulus were taken, and what was put for them. Only the simulator cites this.
 use Rattle.std.specs.Prelude.{◌≡◌, ◌++◌, ◌+◌, ℕ, List, [], Bool, true, None, Some, length, take}
-use Rattle.aig_core.specs.declared.circuit.Circuit.{Circuit}
-use Rattle.aig_core.specs.declared.value.Val.{Val}
+use Rattle.aig_circuit.specs.declared.circuit.Circuit.{Circuit}
+use Rattle.aig_circuit.specs.declared.value.Val.{Val}
 use Rattle.aig_io.specs.Output.{Out, Put}
 use Rattle.aig_meaning.specs.Meaning.{MeansTheSame}
 use Rattle.aig_step.specs.declared.trace.Columns.{Columns}

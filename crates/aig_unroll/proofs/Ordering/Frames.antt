@@ -5,12 +5,12 @@ use Rattle.std.specs.List.{flat_map, range_with_len}
 use Rattle.std.proofs.Math.Nat.{suc-mul}
 use Rattle.std.proofs.lemmas.List.{length-map, map-append}
 use Rattle.std.proofs.lemmas.List.FromFn.{length-range_with_len}
-use Rattle.aig_core.specs.declared.circuit.Gate.{Gate}
-use Rattle.aig_core.specs.declared.circuit.Latch.{Latch}
-use Rattle.aig_core.specs.declared.circuit.Reset.{Reset}
-use Rattle.aig_core.specs.declared.circuit.Reset.TheVariants as resets
-use Rattle.aig_core.specs.declared.circuit.Circuit.{Circuit}
-use Rattle.aig_core.specs.Literal.{literal_of}
+use Rattle.aig_circuit.specs.declared.circuit.Gate.{Gate}
+use Rattle.aig_circuit.specs.declared.circuit.Latch.{Latch}
+use Rattle.aig_circuit.specs.declared.circuit.Reset.{Reset}
+use Rattle.aig_circuit.specs.declared.circuit.Reset.TheVariants as resets
+use Rattle.aig_circuit.specs.declared.circuit.Circuit.{Circuit}
+use Rattle.aig_circuit.specs.Literal.{literal_of}
 use Rattle.aig_core.proofs.Numbered.Ranges.{ranges_joined}
 use Rattle.aig_unroll.specs.Unrolled.{at, bad_at, chain_at, chained, copied, first_bad, first_constraint}
 use Rattle.aig_unroll.specs.Unrolled.{first_gate, first_latches, frame_size, gates_at, guarded, latches_at, literal_in}

@@ -2,9 +2,9 @@
 use Rattle.std.proofs.Common.{◌≡◌, ◌+◌, ◌*◌, ◌<◌, ◌≤◌, ℕ, zero, suc, List, [], ◌∷◌, ◌++◌, length, map, max, min, refl}
 use Rattle.std.proofs.Common.{sym, ap, subst, add-one, arith}
 use Rattle.std.specs.List.{AllByRecursion, flat_map, range_with_len}
-use Rattle.aig_core.specs.declared.circuit.Gate.{Gate}
-use Rattle.aig_core.specs.declared.circuit.Circuit.{Circuit}
-use Rattle.aig_core.specs.Literal.{literal_of}
+use Rattle.aig_circuit.specs.declared.circuit.Gate.{Gate}
+use Rattle.aig_circuit.specs.declared.circuit.Circuit.{Circuit}
+use Rattle.aig_circuit.specs.Literal.{literal_of}
 use Rattle.aig_core.specs.BinaryOrder.{AreOrderedGates}
 use Rattle.aig_unroll.specs.Unrolled.{at, chain_at, chained, copied, first_bad, first_constraint, first_gate}
 use Rattle.aig_unroll.specs.Unrolled.{gates_at, guarded, next_of}

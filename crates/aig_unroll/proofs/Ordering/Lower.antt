@@ -5,11 +5,11 @@ use Rattle.std.proofs.Common.{subst, arith, eqb, get_or}
 use Rattle.std.specs.List.{AllByRecursion}
 use Rattle.std.proofs.lemmas.Bool.{cond_both}
 use Rattle.std.proofs.lemmas.Bool.Decides.{Decides-eqb, not_from_Decides}
-use Rattle.aig_core.specs.declared.circuit.Circuit.{Circuit}
-use Rattle.aig_core.specs.declared.circuit.Reset.{Reset}
-use Rattle.aig_core.specs.declared.circuit.Reset.TheVariants as resets
-use Rattle.aig_core.specs.Literal.{literal_of, negation_of, variable_of}
-use Rattle.aig_core.proofs.Checking.Fitting.{all_weaker}
+use Rattle.aig_circuit.specs.declared.circuit.Circuit.{Circuit}
+use Rattle.aig_circuit.specs.declared.circuit.Reset.{Reset}
+use Rattle.aig_circuit.specs.declared.circuit.Reset.TheVariants as resets
+use Rattle.aig_circuit.specs.Literal.{literal_of, negation_of, variable_of}
+use Rattle.aig_circuit.proofs.Checking.Fitting.{all_weaker}
 use Rattle.aig_unroll.specs.Unrolled.{at, chain_at, chain_behind, first_constraint, first_gate}
 use Rattle.aig_unroll.specs.Unrolled.{first_latches, latches_at, literal_in, next_of, resets_of, standing_for}
 use Rattle.aig_unroll.specs.Unrolled.{uninitialised}

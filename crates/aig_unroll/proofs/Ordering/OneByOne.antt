@@ -1,9 +1,9 @@
 -- The parts of a frame made one by one: what one more entry of the circuit adds.
 use Rattle.std.proofs.Common.{◌≡◌, ◌+◌, ℕ, suc, List, [], ◌∷◌, ◌++◌, length, ap, ◌∙◌, arith}
-use Rattle.aig_core.specs.declared.circuit.Gate.{Gate}
-use Rattle.aig_core.specs.declared.circuit.Reset.{Reset}
-use Rattle.aig_core.specs.declared.circuit.Reset.TheVariants as resets
-use Rattle.aig_core.specs.Literal.{literal_of}
+use Rattle.aig_circuit.specs.declared.circuit.Gate.{Gate}
+use Rattle.aig_circuit.specs.declared.circuit.Reset.{Reset}
+use Rattle.aig_circuit.specs.declared.circuit.Reset.TheVariants as resets
+use Rattle.aig_circuit.specs.Literal.{literal_of}
 use Rattle.aig_unroll.specs.Unrolled.{chain_behind, chained, copied, first_latches, gate_of, guarded, uninitialised}
 
 pub copied_more : (f : ℕ → ℕ) (v : ℕ) (gs : List Gate) (g : Gate)

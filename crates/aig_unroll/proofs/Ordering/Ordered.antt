@@ -5,15 +5,15 @@ use Rattle.std.specs.List.{AllByRecursion, concat, flat_map, range_with_len}
 use Rattle.std.proofs.Math.Nat.{mul-le-mul_right}
 use Rattle.std.proofs.lemmas.Bool.{cases_lt}
 use Rattle.std.proofs.lemmas.List.FromFn.{length-range_with_len}
-use Rattle.aig_core.specs.declared.circuit.Latch.{Latch}
-use Rattle.aig_core.specs.declared.circuit.Circuit.{Circuit}
-use Rattle.aig_core.specs.declared.circuit.TheConstants.{LARGEST}
-use Rattle.aig_core.specs.Literal.{literal_of}
-use Rattle.aig_core.specs.Form.{IsLiteralUpTo}
-use Rattle.aig_core.specs.Wellformed.{IsWellFormed, IsWithinLimits, literal_lists, operands}
+use Rattle.aig_circuit.specs.declared.circuit.Latch.{Latch}
+use Rattle.aig_circuit.specs.declared.circuit.Circuit.{Circuit}
+use Rattle.aig_circuit.specs.declared.circuit.TheConstants.{LARGEST}
+use Rattle.aig_circuit.specs.Literal.{literal_of}
+use Rattle.aig_circuit.specs.Form.{IsLiteralUpTo}
+use Rattle.aig_circuit.specs.Wellformed.{IsWellFormed, IsWithinLimits, literal_lists, operands}
 use Rattle.aig_core.specs.BinaryOrder.{AreOrderedGates, IsInBinaryOrder}
-use Rattle.aig_core.proofs.Checking.Fitting.{all_weaker, well_formed_in_form}
-use Rattle.aig_core.proofs.Checking.InForm.{front, back, each_of}
+use Rattle.aig_circuit.proofs.Checking.Fitting.{all_weaker, well_formed_in_form}
+use Rattle.aig_circuit.proofs.Checking.InForm.{front, back, each_of}
 use Rattle.aig_core.proofs.Numbered.Ranges.{each_in_range}
 use Rattle.aig_core.proofs.Numbered.WellOrdered.{well_formed}
 use Rattle.aig_unroll.specs.Unrolled.{IsTooLarge, all_inputs, at, bad_at, chain_at, first_bad, first_gate, frame_size}

@@ -2,10 +2,10 @@
 use Rattle.std.proofs.Common.{◌≡◌, ◌+◌, ◌*◌, ℕ, suc, List, [], ◌∷◌, ◌++◌, length, map}
 use Rattle.std.proofs.Common.{refl, ap, ap₂, ◌∙◌, append-nil, arith}
 use Rattle.std.specs.List.{AllByRecursion, range_with_len}
-use Rattle.aig_core.specs.declared.circuit.Circuit.{Circuit}
-use Rattle.aig_core.specs.declared.circuit.Reset.{Reset}
-use Rattle.aig_core.specs.declared.circuit.Reset.TheVariants as resets
-use Rattle.aig_core.specs.Literal.{literal_of}
+use Rattle.aig_circuit.specs.declared.circuit.Circuit.{Circuit}
+use Rattle.aig_circuit.specs.declared.circuit.Reset.{Reset}
+use Rattle.aig_circuit.specs.declared.circuit.Reset.TheVariants as resets
+use Rattle.aig_circuit.specs.Literal.{literal_of}
 use Rattle.aig_unroll.specs.Laws.{IsPlainlyUnrolled}
 use Rattle.aig_unroll.specs.Unrolled.{all_inputs, at, bad_at, chain_at, chained, copied, first_bad, first_constraint}
 use Rattle.aig_unroll.specs.Unrolled.{first_gate, frame_size, gates_at, guarded, resets_of, uninitialised, unrolled}

@@ -2,10 +2,10 @@
 use Rattle.std.proofs.Common.{◌≡◌, ◌+◌, ℕ, List, [], ◌∷◌, length, map, refl, ap, ap₂, sym, ◌∙◌, ⊎_elim, suc, arith}
 use Rattle.std.specs.Prelude.{max, min}
 use Rattle.std.specs.List.{AllByRecursion}
-use Rattle.aig_core.specs.declared.circuit.Gate.{Gate}
-use Rattle.aig_core.specs.declared.value.Val.{Val}
-use Rattle.aig_core.specs.Literal.{literal_of}
-use Rattle.aig_core.specs.Values.{value_and}
+use Rattle.aig_circuit.specs.declared.circuit.Gate.{Gate}
+use Rattle.aig_circuit.specs.declared.value.Val.{Val}
+use Rattle.aig_circuit.specs.Literal.{literal_of}
+use Rattle.aig_circuit.specs.Values.{value_and}
 use Rattle.aig_meaning.specs.Meaning.{Holds, literal_value}
 use Rattle.aig_meaning.proofs.Lists.{variables_of}
 use Rattle.aig_image.proofs.Meaning.Renamed.{and_exchanged}

@@ -3,10 +3,10 @@ use Rattle.std.proofs.Common.{◌≡◌, ◌+◌, ◌-◌, ◌*◌, ◌/◌, ◌
 use Rattle.std.proofs.Common.{◌∙◌, arith, cond, eqb, true, false, inl, inr}
 use Rattle.std.specs.List.{range_with_len}
 use Rattle.std.proofs.lemmas.Bool.{cases_lt}
-use Rattle.aig_core.specs.declared.value.Val.{Val}
-use Rattle.aig_core.specs.declared.value.Val.TheVariants.{Zero, One, X}
-use Rattle.aig_core.specs.Literal.{literal_of, negation_of, variable_of}
-use Rattle.aig_core.specs.Values.{value_not}
+use Rattle.aig_circuit.specs.declared.value.Val.{Val}
+use Rattle.aig_circuit.specs.declared.value.Val.TheVariants.{Zero, One, X}
+use Rattle.aig_circuit.specs.Literal.{literal_of, negation_of, variable_of}
+use Rattle.aig_circuit.specs.Values.{value_not}
 use Rattle.aig_meaning.specs.Meaning.{literal_value}
 use Rattle.aig_unroll.proofs.Traces.Places.{StandAt}
 

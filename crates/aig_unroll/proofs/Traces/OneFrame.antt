@@ -5,14 +5,14 @@ use Rattle.std.proofs.Common.{ap₂, sym, subst, ◌∙◌, ⊎_elim, inl, inr, 
 use Rattle.std.specs.List.{AllByRecursion, Contains}
 use Rattle.std.proofs.lemmas.Bool.{cases_lt, le-leb, lt-leb, ne_eqb}
 use Rattle.std.proofs.lemmas.List.{get_or-map, length-map}
-use Rattle.aig_core.specs.declared.circuit.Gate.{Gate}
-use Rattle.aig_core.specs.declared.circuit.Circuit.{Circuit}
-use Rattle.aig_core.specs.declared.value.Val.{Val}
-use Rattle.aig_core.specs.declared.value.Val.TheVariants.{Zero}
+use Rattle.aig_circuit.specs.declared.circuit.Gate.{Gate}
+use Rattle.aig_circuit.specs.declared.circuit.Circuit.{Circuit}
+use Rattle.aig_circuit.specs.declared.value.Val.{Val}
+use Rattle.aig_circuit.specs.declared.value.Val.TheVariants.{Zero}
 use Rattle.aig_core.specs.BinaryOrder.{AreOrderedGates, IsInBinaryOrder}
-use Rattle.aig_core.specs.Literal.{literal_of, variable_of}
-use Rattle.aig_core.specs.Wellformed.{IsAmong, IsVariableUpTo, IsWellFormed, defined_variables}
-use Rattle.aig_core.proofs.Checking.Fitting.{each}
+use Rattle.aig_circuit.specs.Literal.{literal_of, variable_of}
+use Rattle.aig_circuit.specs.Wellformed.{IsAmong, IsVariableUpTo, IsWellFormed, defined_variables}
+use Rattle.aig_circuit.proofs.Checking.Fitting.{each}
 use Rattle.aig_meaning.specs.Meaning.{IsReadOff, Row, literal_value, next_literals}
 use Rattle.aig_meaning.proofs.Known.{AreDefined, IsDefined, known_next, known_outputs, known_bad, known_constraints}
 use Rattle.aig_meaning.proofs.Known.{known_operands}

@@ -3,14 +3,14 @@ use Rattle.std.proofs.Common.{◌≡◌, ◌+◌, ◌*◌, ℕ, List, [], ◌∷
 use Rattle.std.proofs.Common.{◌∙◌, subst, arith, length-append, suc-mul}
 use Rattle.std.specs.List.{AllZip, flat_map, range_with_len}
 use Rattle.std.proofs.lemmas.List.Elements.{All-contains, All-from_recursion}
-use Rattle.aig_core.specs.declared.circuit.Circuit.{Circuit}
-use Rattle.aig_core.specs.declared.circuit.Reset.{Reset}
-use Rattle.aig_core.specs.declared.circuit.Reset.TheVariants as resets
-use Rattle.aig_core.specs.declared.value.Val.{Val}
-use Rattle.aig_core.specs.declared.value.Val.TheVariants.{Zero, One}
+use Rattle.aig_circuit.specs.declared.circuit.Circuit.{Circuit}
+use Rattle.aig_circuit.specs.declared.circuit.Reset.{Reset}
+use Rattle.aig_circuit.specs.declared.circuit.Reset.TheVariants as resets
+use Rattle.aig_circuit.specs.declared.value.Val.{Val}
+use Rattle.aig_circuit.specs.declared.value.Val.TheVariants.{Zero, One}
 use Rattle.aig_core.specs.BinaryOrder.{IsInBinaryOrder}
-use Rattle.aig_core.specs.Values.{value_not}
-use Rattle.aig_core.specs.Wellformed.{IsWellFormed}
+use Rattle.aig_circuit.specs.Values.{value_not}
+use Rattle.aig_circuit.specs.Wellformed.{IsWellFormed}
 use Rattle.aig_meaning.specs.Meaning.{Holds, IsRow, Row, literal_value}
 use Rattle.aig_meaning.specs.Trace.{Follow, IsFirstState, IsTrace, MayStartAt}
 use Rattle.aig_meaning.proofs.Rows.{inputs_length}

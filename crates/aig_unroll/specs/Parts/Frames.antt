@@ -1,11 +1,11 @@
 -- A circuit that is unrolled, in one of the frames.
 use Rattle.std.specs.Prelude.{◌≡◌, ◌+◌, ◌*◌, ◌<◌, ℕ, List, [], ◌∷◌, ◌++◌, None, drop, length, map, take}
 use Rattle.std.specs.List.{range_with_len}
-use Rattle.aig_core.specs.declared.circuit.Gate.{Gate}
-use Rattle.aig_core.specs.declared.circuit.Circuit.{Circuit}
+use Rattle.aig_circuit.specs.declared.circuit.Gate.{Gate}
+use Rattle.aig_circuit.specs.declared.circuit.Circuit.{Circuit}
 use Rattle.aig_core.specs.BinaryOrder.{IsInBinaryOrder}
-use Rattle.aig_core.specs.Literal.{literal_of}
-use Rattle.aig_core.specs.Wellformed.{IsWellFormed}
+use Rattle.aig_circuit.specs.Literal.{literal_of}
+use Rattle.aig_circuit.specs.Wellformed.{IsWellFormed}
 use Rattle.aig_unroll.specs.Unrolled.{IsTooLarge, chain_behind, chained, copied, first_gate, first_input, guarded}
 use Rattle.aig_unroll.specs.Unrolled.{latches_at}
 

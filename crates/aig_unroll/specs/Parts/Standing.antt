@@ -1,9 +1,9 @@
 -- What stands for literals in a frame, by a table of what stands for each variable up to the last latch.
 use Rattle.std.specs.Prelude.{◌+◌, ◌-◌, ◌*◌, ◌%◌, ◌==◌, ◌≤◌, ℕ, List, length, nat_lt, slice_index_or}
 use Rattle.std.specs.Prelude.{if◌then◌else◌}
-use Rattle.aig_core.specs.declared.circuit.Gate.{Gate}
-use Rattle.aig_core.specs.declared.circuit.TheConstants.{LARGEST}
-use Rattle.aig_core.specs.Literal.{negation_of, variable_of}
+use Rattle.aig_circuit.specs.declared.circuit.Gate.{Gate}
+use Rattle.aig_circuit.specs.declared.circuit.TheConstants.{LARGEST}
+use Rattle.aig_circuit.specs.Literal.{negation_of, variable_of}
 
 -- what stands for a literal, where this stands for its variable: the sign carries over
 abbrev pub with_sign : ℕ → ℕ → ℕ

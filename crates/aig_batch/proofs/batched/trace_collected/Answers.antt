@@ -1,7 +1,7 @@
 use Rattle.std.proofs.Common.{◌≡◌, ◌+◌, ◌∙◌, Err, IfErr, List, Ok, Result, ap, length, subst, sym, ℕ}
 use Rattle.std.specs.List.{All}
 use Rattle.std.proofs.lemmas.Result.{on_ok_weaker}
-use Rattle.aig_core.specs.declared.circuit.Circuit.{Circuit}
+use Rattle.aig_circuit.specs.declared.circuit.Circuit.{Circuit}
 use Rattle.aig_step.specs.declared.fault.SimFault.{SimFault}
 use Rattle.aig_lanes.specs.declared.run.Run.{Run}
 use Rattle.aig_step.specs.Outcome.{sink_failures}

@@ -1,5 +1,5 @@
 use Rattle.std.proofs.Common.{◌≡◌, ℕ, List, Some, is_some, true, take, ap, sym, ◌∙◌}
-use Rattle.aig_core.specs.declared.value.Val.{Val}
+use Rattle.aig_circuit.specs.declared.value.Val.{Val}
 use Rattle.aig_step.specs.Stimulus.{values_of}
 use Rattle.aig_batch.proofs.Judging.{some_is}
 use Rattle.aig_batch.proofs.Side.GoodLines.{values_end, values_say}

@@ -1,7 +1,7 @@
 use Rattle.std.proofs.Common.{◌≡◌, ◌∙◌, ◌+◌, List, Some, ℕ, ap, bytes_eq, codes, drop, length}
 use Rattle.std.proofs.Common.{subst, sym, take}
 use Rattle.std.specs.List.{All}
-use Rattle.aig_core.specs.declared.value.Val.{Val}
+use Rattle.aig_circuit.specs.declared.value.Val.{Val}
 use Rattle.aig_step.specs.Stimulus.{without_return}
 use Rattle.aig_step.specs.Parts.Lines.{vector_in}
 use Rattle.aig_batch.specs.Parts.RunsRead.{HasNoBadLine, Says, entries_of_run}

@@ -1,7 +1,7 @@
 use Rattle.std.proofs.Common.{take}
 use Rattle.std.specs.List.{flat_map}
 use Rattle.aig_io.specs.Output.{Put}
-use Rattle.aig_core.specs.declared.circuit.Latch.{Latch}
+use Rattle.aig_circuit.specs.declared.circuit.Latch.{Latch}
 use Rattle.aig_text.specs.AsciiText.{row_text}
 use Rattle.aig_text.specs.Rows.{next_row}
 use Rattle.aig_binary.proofs.writer.put_nexts.Given as goal

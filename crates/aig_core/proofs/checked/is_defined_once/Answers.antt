@@ -1,5 +1,5 @@
 use Rattle.aig_core.proofs.Checking.Faultless.{told_once, told_twice}
-use Rattle.aig_core.specs.Wellformed.{defined_variables}
+use Rattle.aig_circuit.specs.Wellformed.{defined_variables}
 use Rattle.aig_core.proofs.checked.is_defined_once.Goals as goal
 
 pub returns-in-Ok : goal.returns-in-Ok

@@ -1,5 +1,5 @@
 use Rattle.std.proofs.Common.{rules}
-use Rattle.aig_core.proofs.Alike.{told}
+use Rattle.aig_circuit.proofs.Alike.{told}
 use Rattle.aig_core.proofs.checked.same.Goals as goal
 
 pub returns-then-eq-4 : goal.returns-then-eq-4

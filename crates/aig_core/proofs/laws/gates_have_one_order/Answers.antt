@@ -1,4 +1,4 @@
-use Rattle.aig_core.proofs.Ordering.LeastReady.{a_least_ready_order, one_least_ready_order}
+use Rattle.aig_topo.proofs.Ordering.LeastReady.{a_least_ready_order, one_least_ready_order}
 use Rattle.aig_core.proofs.laws.gates_have_one_order.Goals as goal
 
 pub returns : goal.returns

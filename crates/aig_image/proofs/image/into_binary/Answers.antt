@@ -1,5 +1,5 @@
 use Rattle.std.proofs.Common.{◌≡◌, refl, sym, subst}
-use Rattle.aig_core.specs.Wellformed.{IsWellFormed}
+use Rattle.aig_circuit.specs.Wellformed.{IsWellFormed}
 use Rattle.aig_image.specs.Image.{IsBinaryImage}
 use Rattle.aig_image.proofs.Imaging.OwnImage.{own_image}
 use Rattle.aig_image.proofs.image.into_binary.Goals as goal

@@ -1,9 +1,9 @@
 use Rattle.std.proofs.Common.{rules}
 use Rattle.std.proofs.Common.{◌≡◌, List, map, sym, subst}
 use Rattle.aig_core.specs.BinaryOrder.{IsInBinaryOrder, IsNumberedInOrder}
-use Rattle.aig_core.specs.Wellformed.{IsWellFormed}
-use Rattle.aig_core.specs.declared.circuit.Circuit.{Circuit}
-use Rattle.aig_core.specs.declared.circuit.Gate.{Gate}
+use Rattle.aig_circuit.specs.Wellformed.{IsWellFormed}
+use Rattle.aig_circuit.specs.declared.circuit.Circuit.{Circuit}
+use Rattle.aig_circuit.specs.declared.circuit.Gate.{Gate}
 use Rattle.aig_image.specs.Image.{IsBinaryImage}
 use Rattle.aig_image.specs.Reordered.{operands_sorted}
 use Rattle.aig_image.proofs.Imaging.Ordered.{image_is_ordered}

@@ -1,5 +1,5 @@
 use Rattle.std.proofs.Common.{List, get_or, map, subst}
-use Rattle.aig_core.specs.declared.circuit.Latch.{Latch}
+use Rattle.aig_circuit.specs.declared.circuit.Latch.{Latch}
 use Rattle.aig_meaning.specs.Meaning.{literal_value}
 use Rattle.aig_lanes.specs.Parts.Lanes.{IsLane}
 use Rattle.aig_step.specs.Parts.Tables.{read_from}

@@ -1,8 +1,8 @@
 use Rattle.std.proofs.Common.{◌≡◌, ◌+◌, ◌<◌, ◌++◌, List, [], length, map, get_or, replicate, take, drop, ap, subst}
 use Rattle.std.proofs.Common.{◌∙◌, arith}
 use Rattle.std.proofs.lemmas.Grind.{common_steps}
-use Rattle.aig_core.specs.declared.circuit.Latch.{Latch}
-use Rattle.aig_core.specs.declared.value.Val.TheVariants.{X}
+use Rattle.aig_circuit.specs.declared.circuit.Latch.{Latch}
+use Rattle.aig_circuit.specs.declared.value.Val.TheVariants.{X}
 use Rattle.aig_meaning.specs.Trace.{reset_state, reset_value}
 use Rattle.aig_lanes.specs.declared.run.Trace.{Trace}
 use Rattle.aig_lanes.specs.Parts.Lanes.{IsLane}

@@ -1,5 +1,5 @@
 use Rattle.std.specs.Prelude.{◌≡◌, List, map, take}
-use Rattle.aig_core.specs.declared.value.Val.{Val}
+use Rattle.aig_circuit.specs.declared.value.Val.{Val}
 use Rattle.aig_meaning.specs.Meaning.{literal_value}
 use Rattle.aig_lanes.specs.Parts.Lanes.{IsLane}
 use Rattle.aig_step.specs.Parts.Tables.{read_from}

@@ -1,6 +1,6 @@
 use Rattle.std.proofs.Common.{◌<◌, ◌≤◌, ◌++◌, [], ◌∷◌, length, ap₂, sym, ◌∙◌, arith}
 use Rattle.std.proofs.lemmas.List.{take_all, take_more}
-use Rattle.aig_core.specs.declared.value.Val.TheVariants.{Zero}
+use Rattle.aig_circuit.specs.declared.value.Val.TheVariants.{Zero}
 use Rattle.aig_step.specs.Parts.Tables.{read_from}
 use Rattle.aig_lanes.proofs.Side.Tables.{lane_length, pair_of_variable}
 use Rattle.aig_lanes.proofs.lane_row.values_in_lane.Goals as goal

@@ -1,5 +1,5 @@
 use Rattle.std.specs.Prelude.{◌≡◌, List, take}
-use Rattle.aig_core.specs.declared.value.Val.{Val}
+use Rattle.aig_circuit.specs.declared.value.Val.{Val}
 use Rattle.aig_lanes.specs.Parts.Lanes.{IsLane}
 use Rattle.aig_lanes.proofs.lane_row.values_in_lane.Given as goal
 

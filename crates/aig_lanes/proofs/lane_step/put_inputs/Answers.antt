@@ -1,7 +1,7 @@
 use Rattle.std.proofs.Common.{◌≡◌, ◌≢◌, ◌<◌, [], length, get_or, set, ap, sym, subst, ◌∙◌, arith, inl, inr}
 use Rattle.std.proofs.lemmas.Bool.{cases_lt}
 use Rattle.std.proofs.lemmas.List.{get_or_default}
-use Rattle.aig_core.specs.declared.value.Val.TheVariants.{Zero}
+use Rattle.aig_circuit.specs.declared.value.Val.TheVariants.{Zero}
 use Rattle.aig_lanes.specs.declared.run.Run.{Run}
 use Rattle.aig_lanes.specs.Parts.Lanes.{IsLane}
 use Rattle.aig_step.specs.Parts.Tables.{placed}

@@ -1,7 +1,7 @@
 use Rattle.std.proofs.Common.{◌-◌, ◌/◌, List, length, ap, sym, subst, refl, ◌∙◌, set, arith}
 use Rattle.std.proofs.lemmas.List.{drop_all}
-use Rattle.aig_core.specs.declared.value.Val.{Val}
-use Rattle.aig_core.specs.Values.{value_and}
+use Rattle.aig_circuit.specs.declared.value.Val.{Val}
+use Rattle.aig_circuit.specs.Values.{value_and}
 use Rattle.aig_meaning.specs.Meaning.{literal_value}
 use Rattle.aig_step.specs.declared.evaluate.Pair.{Pair}
 use Rattle.aig_lanes.specs.Parts.Lanes.{IsLane}

@@ -1,5 +1,5 @@
 use Rattle.std.specs.Prelude.{◌≡◌, ◌+◌, ◌-◌, ◌/◌, ℕ, List, length, drop}
-use Rattle.aig_core.specs.declared.value.Val.{Val}
+use Rattle.aig_circuit.specs.declared.value.Val.{Val}
 use Rattle.aig_lanes.specs.Parts.Lanes.{IsLane}
 use Rattle.aig_step.specs.Parts.Tables.{evaluated}
 use Rattle.aig_lanes.proofs.lanes.evaluate_lanes.Given as goal

@@ -1,5 +1,5 @@
 use Rattle.std.proofs.Common.{◌≡◌, ◌/◌, ◌<◌, length, [], ◌∙◌, arith}
-use Rattle.aig_core.specs.Literal.{negation_of}
+use Rattle.aig_circuit.specs.Literal.{negation_of}
 use Rattle.aig_lanes.proofs.Side.Tables.{lane_length, pair_at}
 use Rattle.aig_lanes.proofs.lanes.planes_of.Goals as goal
 

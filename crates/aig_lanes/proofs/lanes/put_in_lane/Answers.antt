@@ -1,7 +1,7 @@
 use Rattle.std.proofs.Common.{◌+◌, ◌*◌, ◌<◌, List, [], length, get_or, subst, ◌∙◌, arith}
 use Rattle.std.proofs.lemmas.List.{set-get_or}
-use Rattle.aig_core.specs.declared.value.Val.{Val}
-use Rattle.aig_core.specs.declared.value.Val.TheVariants.{Zero}
+use Rattle.aig_circuit.specs.declared.value.Val.{Val}
+use Rattle.aig_circuit.specs.declared.value.Val.TheVariants.{Zero}
 use Rattle.aig_lanes.specs.Parts.Lanes.{IsLane, IsPair}
 use Rattle.aig_step.specs.Parts.Tables.{read_from}
 use Rattle.aig_lanes.proofs.Side.Tables.{kept_pair, lane_length, pair_of_variable}

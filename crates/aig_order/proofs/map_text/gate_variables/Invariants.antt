@@ -1,5 +1,5 @@
 use Rattle.std.proofs.Common.{◌≡◌, map, take}
-use Rattle.aig_core.specs.declared.circuit.Gate.{Gate}
+use Rattle.aig_circuit.specs.declared.circuit.Gate.{Gate}
 use Rattle.aig_order.proofs.map_text.gate_variables.Given as goal
 
 abbrev pub invariant-loop-gate : goal.invariant-loop-gate

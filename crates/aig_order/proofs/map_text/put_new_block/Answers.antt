@@ -1,5 +1,5 @@
 use Rattle.std.proofs.Common.{◌∙◌, ℕ, List, ap, refl, subst, arith}
-use Rattle.aig_core.specs.declared.circuit.Circuit.{Circuit}
+use Rattle.aig_circuit.specs.declared.circuit.Circuit.{Circuit}
 use Rattle.aig_io.specs.Output.{Put}
 use Rattle.aig_order.specs.MapBlock.{first_line_text}
 use Rattle.aig_order.proofs.BlockText.Added.{block_put}

@@ -1,5 +1,5 @@
 use Rattle.std.proofs.Common.{◌∙◌, refl, arith}
-use Rattle.aig_core.proofs.Ordering.Ranked.{at, no_gate}
+use Rattle.aig_topo.proofs.Ordering.Ranked.{at, no_gate}
 use Rattle.aig_io.proofs.Puts.{put_more}
 use Rattle.aig_text.specs.AsciiText.{numbers_text}
 use Rattle.aig_order.specs.MapBlock.{gate_row, mapped_gate}

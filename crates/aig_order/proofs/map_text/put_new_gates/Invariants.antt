@@ -1,6 +1,6 @@
 use Rattle.std.proofs.Common.{ℕ, List, take}
 use Rattle.std.specs.List.{flat_map}
-use Rattle.aig_core.specs.declared.circuit.Gate.{Gate}
+use Rattle.aig_circuit.specs.declared.circuit.Gate.{Gate}
 use Rattle.aig_io.specs.Output.{Put}
 use Rattle.aig_text.specs.AsciiText.{numbers_text}
 use Rattle.aig_order.specs.MapBlock.{gate_row, mapped_gate}

@@ -1,9 +1,9 @@
 use Rattle.std.proofs.Common.{rules}
 use Rattle.std.proofs.Common.{◌≡◌, ◌∙◌, ℕ, ap, subst, sym}
-use Rattle.aig_core.specs.declared.circuit.Circuit.{Circuit}
+use Rattle.aig_circuit.specs.declared.circuit.Circuit.{Circuit}
 use Rattle.aig_core.specs.BinaryOrder.{IsInBinaryOrder}
-use Rattle.aig_core.specs.Wellformed.{IsWellFormed}
-use Rattle.aig_core.proofs.Checking.Fitting.{definitions_fit}
+use Rattle.aig_circuit.specs.Wellformed.{IsWellFormed}
+use Rattle.aig_circuit.proofs.Checking.Fitting.{definitions_fit}
 use Rattle.aig_image.specs.Parts.Numbers.{number_of}
 use Rattle.aig_order.specs.MapBlock.{IsMappedImage, block_by, mapped_comment}
 use Rattle.aig_order.proofs.BlockText.NewGates.{as_many_gates, as_many_inputs, as_many_latches}

@@ -1,7 +1,7 @@
 use Rattle.std.proofs.Common.{rules}
 use Rattle.std.proofs.Common.{◌≡◌, ◌+◌, ◌↔◌, length, IsTrue, arith}
 use Rattle.std.proofs.lemmas.Result.{IfOk-weaker}
-use Rattle.aig_core.specs.Order.{IsLeastReadyOrder}
+use Rattle.aig_topo.specs.Order.{IsLeastReadyOrder}
 use Rattle.aig_order.specs.Parts.Tables.{block_read}
 use Rattle.aig_order.specs.Parts.Turns.{positions, AreTakenInTurn}
 use Rattle.aig_order.specs.Undone.{undone}

@@ -1,9 +1,9 @@
 use Rattle.std.proofs.Common.{rules}
 use Rattle.std.proofs.Common.{◌↔◌, subst, ℕ, List, Bool, Option, IsTrue, IfOk}
 use Rattle.std.proofs.lemmas.Result.{IfOk-weaker}
-use Rattle.aig_core.specs.declared.circuit.Circuit.{Circuit}
-use Rattle.aig_core.specs.Order.{IsLeastReadyOrder}
-use Rattle.aig_core.specs.Wellformed.{AreDistinct, defined_variables}
+use Rattle.aig_circuit.specs.declared.circuit.Circuit.{Circuit}
+use Rattle.aig_topo.specs.Order.{IsLeastReadyOrder}
+use Rattle.aig_circuit.specs.Wellformed.{AreDistinct, defined_variables}
 use Rattle.aig_order.specs.MapBlock.{IsMappedImage}
 use Rattle.aig_order.specs.Parts.Confirmed.{TellsComment}
 use Rattle.aig_order.specs.Parts.Tables.{block_read, source_read}

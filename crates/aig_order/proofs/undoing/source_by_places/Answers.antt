@@ -1,8 +1,8 @@
 use Rattle.std.proofs.Common.{rules}
 use Rattle.std.proofs.Common.{◌≡◌, ◌⊎◌, ◌∙◌, ap, subst, sym}
 use Rattle.std.proofs.lemmas.Result.{IfOk-weaker}
-use Rattle.aig_core.specs.declared.circuit.Circuit.{Circuit}
-use Rattle.aig_core.specs.Wellformed.{AreDistinct, IsWellFormed, defined_variables}
+use Rattle.aig_circuit.specs.declared.circuit.Circuit.{Circuit}
+use Rattle.aig_circuit.specs.Wellformed.{AreDistinct, IsWellFormed, defined_variables}
 use Rattle.aig_order.specs.declared.fault.MapFault.TheVariants.{Forged, OutOfMemory}
 use Rattle.aig_order.specs.Parts.Confirmed.{ExchangesDiffer}
 use Rattle.aig_order.specs.Parts.Tables.{block_read, source_read}

@@ -4,8 +4,8 @@ use Rattle.std.proofs.Common.{sym}
 use Rattle.std.specs.Prelude.{if◌then◌else◌}
 use Rattle.std.specs.List.{AllByRecursion}
 use Rattle.std.proofs.lemmas.Result.{err_from_is_err_and}
-use Rattle.aig_core.specs.declared.circuit.Circuit.{Circuit}
-use Rattle.aig_core.specs.declared.circuit.Gate.{Gate}
+use Rattle.aig_circuit.specs.declared.circuit.Circuit.{Circuit}
+use Rattle.aig_circuit.specs.declared.circuit.Gate.{Gate}
 use Rattle.aig_image.specs.Relabelled.{relabelled, relabelled_gate}
 use Rattle.aig_image.specs.Renumbering.{source_variable}
 use Rattle.aig_image.specs.Reordered.{exchanged_by}

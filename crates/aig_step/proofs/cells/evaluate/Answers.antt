@@ -1,6 +1,6 @@
 use Rattle.std.proofs.Common.{◌≡◌, ◌-◌, ◌/◌, length, ap, ap₂, refl, ◌∙◌, set, arith}
 use Rattle.std.proofs.lemmas.List.{length-set}
-use Rattle.aig_core.specs.Values.{value_and}
+use Rattle.aig_circuit.specs.Values.{value_and}
 use Rattle.aig_step.specs.Parts.Cells.{values_of_bytes}
 use Rattle.aig_step.specs.Parts.Tables.{evaluated}
 use Rattle.aig_step.proofs.Running.Cells.{are_codes, codes_length, no_more, one_more, values_are}

@@ -1,6 +1,6 @@
 use Rattle.std.proofs.Common.{◌≡◌, ◌+◌, List, [], length, ap, ◌∙◌, set, drop, sym, arith}
 use Rattle.std.proofs.lemmas.List.{drop_all, length-set}
-use Rattle.aig_core.specs.declared.value.Val.{Val}
+use Rattle.aig_circuit.specs.declared.value.Val.{Val}
 use Rattle.aig_step.specs.Parts.Cells.{bytes_of_values, values_of_bytes}
 use Rattle.aig_step.specs.Parts.Tables.{placed}
 use Rattle.aig_step.proofs.Running.Cells.{are_codes, codes_length, values_are}

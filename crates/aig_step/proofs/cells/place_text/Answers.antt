@@ -1,7 +1,7 @@
 use Rattle.std.proofs.Common.{◌≡◌, ◌+◌, ◌++◌, List, None, [], ◌∷◌, length, ap, ap₂, ◌∙◌, set, take, drop, get_or}
 use Rattle.std.proofs.Common.{sym, arith}
 use Rattle.std.proofs.lemmas.List.{length-append, length-set, take_more}
-use Rattle.aig_core.specs.declared.value.Val.{Val}
+use Rattle.aig_circuit.specs.declared.value.Val.{Val}
 use Rattle.aig_step.specs.Stimulus.{value_of, values_of}
 use Rattle.aig_step.specs.Parts.Cells.{values_of_bytes}
 use Rattle.aig_step.proofs.EntryTexts.{no_values, values_on}

@@ -1,5 +1,5 @@
 use Rattle.std.specs.Prelude.{◌≡◌, ◌+◌, List, Some, length, take}
-use Rattle.aig_core.specs.declared.value.Val.{Val}
+use Rattle.aig_circuit.specs.declared.value.Val.{Val}
 use Rattle.aig_step.specs.Stimulus.{values_of}
 use Rattle.aig_step.specs.Parts.Cells.{AreCodes, values_of_bytes}
 use Rattle.aig_step.specs.Parts.Tables.{placed}

@@ -1,5 +1,5 @@
 use Rattle.std.specs.Prelude.{◌≡◌, length, take, map}
-use Rattle.aig_core.specs.declared.circuit.Latch.{Latch}
+use Rattle.aig_circuit.specs.declared.circuit.Latch.{Latch}
 use Rattle.aig_meaning.specs.Trace.{reset_value}
 use Rattle.aig_step.proofs.evaluate.put_reset_state.Given as goal
 

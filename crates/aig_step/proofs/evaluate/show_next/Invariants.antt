@@ -1,5 +1,5 @@
 use Rattle.std.specs.Prelude.{◌≡◌, length, take, map}
-use Rattle.aig_core.specs.declared.circuit.Latch.{Latch}
+use Rattle.aig_circuit.specs.declared.circuit.Latch.{Latch}
 use Rattle.aig_meaning.specs.Meaning.{literal_value}
 use Rattle.aig_step.specs.Parts.Tables.{read_from}
 use Rattle.aig_step.proofs.evaluate.show_next.Given as goal

@@ -1,5 +1,5 @@
 use Rattle.std.proofs.Common.{length, drop, min, Some, refl, arith}
-use Rattle.aig_core.specs.declared.circuit.TheConstants.{LARGEST}
+use Rattle.aig_circuit.specs.declared.circuit.TheConstants.{LARGEST}
 use Rattle.aig_text.specs.declared.fault.ReadKind.TheVariants as kinds
 use Rattle.aig_text.specs.declared.header_line.TheConstants.{HEADER_LEAST, HEADER_NUMBERS}
 use Rattle.aig_text.specs.Scanning.{more_numbers_at}

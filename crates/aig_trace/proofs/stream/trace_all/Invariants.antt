@@ -1,5 +1,5 @@
 use Rattle.std.proofs.Common.{◌≡◌, ◌+◌, ◌^◌, ◌≤◌, [], max}
-use Rattle.aig_core.specs.declared.circuit.Circuit.{Circuit}
+use Rattle.aig_circuit.specs.declared.circuit.Circuit.{Circuit}
 use Rattle.aig_io.specs.declared.block.TheConstants.{ROOM}
 use Rattle.aig_step.specs.declared.trace.Columns.{Columns}
 use Rattle.aig_trace.specs.Parts.Streaming.{Reached}

@@ -1,5 +1,5 @@
 use Rattle.std.specs.Prelude.{◌≡◌, ◌+◌, ◌≤◌, drop, map}
-use Rattle.aig_core.specs.declared.circuit.Latch.{Latch}
+use Rattle.aig_circuit.specs.declared.circuit.Latch.{Latch}
 use Rattle.aig_unroll.specs.Unrolled.{uninitialised}
 use Rattle.aig_unroll.proofs.frames.count_uninitialised.Given as goal
 

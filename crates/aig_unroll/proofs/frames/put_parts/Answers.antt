@@ -1,6 +1,6 @@
 use Rattle.std.proofs.Common.{◌≡◌, ◌+◌, ◌-◌, ◌++◌, ◌∙◌, ℕ, List, ap, ap₂, arith, drop, length, length-append, map}
 use Rattle.std.proofs.lemmas.List.{length-drop, length-take}
-use Rattle.aig_core.specs.declared.circuit.Gate.{Gate}
+use Rattle.aig_circuit.specs.declared.circuit.Gate.{Gate}
 use Rattle.aig_unroll.specs.Unrolled.{chain_behind, chained, copied, guarded}
 use Rattle.aig_unroll.specs.Parts.Standing.{stood}
 use Rattle.aig_unroll.proofs.Placed.{three_put}

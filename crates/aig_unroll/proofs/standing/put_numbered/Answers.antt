@@ -1,7 +1,7 @@
 use Rattle.std.proofs.Common.{◌+◌, ◌*◌, ◌∙◌, ◌++◌, ◌∷◌, [], ap₂, arith, sym}
 use Rattle.std.proofs.lemmas.List.{length-set, take_more_set}
 use Rattle.std.proofs.lemmas.List.FromFn.{map-range_with_len_more}
-use Rattle.aig_core.specs.Literal.{literal_of}
+use Rattle.aig_circuit.specs.Literal.{literal_of}
 use Rattle.aig_unroll.proofs.standing.put_numbered.Goals as goal
 
 pub loop-i-preserved : goal.loop-i-preserved

@@ -1,6 +1,6 @@
 use Rattle.std.specs.Prelude.{◌≡◌, ◌+◌, length, map, take}
 use Rattle.std.specs.List.{range_with_len}
-use Rattle.aig_core.specs.Literal.{literal_of}
+use Rattle.aig_circuit.specs.Literal.{literal_of}
 use Rattle.aig_unroll.proofs.standing.put_numbered.Given as goal
 
 abbrev pub invariant-loop-i : goal.invariant-loop-i

@@ -1,8 +1,8 @@
 use Rattle.std.proofs.Common.{◌≡◌, ◌+◌, ◌*◌, ◌<◌, ◌≤◌, ◌∙◌, ℕ, List, [], ap, arith, length, refl, subst₂, take}
 use Rattle.std.proofs.lemmas.List.{length-map}
 use Rattle.std.proofs.lemmas.List.FromFn.{length-map-range_with_len}
-use Rattle.aig_core.specs.declared.circuit.Circuit.{Circuit}
-use Rattle.aig_core.specs.Literal.{literal_of}
+use Rattle.aig_circuit.specs.declared.circuit.Circuit.{Circuit}
+use Rattle.aig_circuit.specs.Literal.{literal_of}
 use Rattle.aig_unroll.specs.Unrolled.{at, bad_at, first_bad, frame_size, gates_at, outputs_at}
 use Rattle.aig_unroll.specs.Parts.Frames.{Frame, IsPutAt}
 use Rattle.aig_unroll.proofs.Ordering.Frames.{frame_length}

@@ -1,6 +1,6 @@
 use Rattle.std.proofs.Common.{◌≡◌, ◌+◌, ◌*◌, ◌∷◌, ◌∙◌, ℕ, [], ap, ap₂, length, sym}
 use Rattle.std.proofs.lemmas.List.FromFn.{length-range_with_len}
-use Rattle.aig_core.specs.declared.circuit.Circuit.{Circuit}
+use Rattle.aig_circuit.specs.declared.circuit.Circuit.{Circuit}
 use Rattle.aig_unroll.specs.Unrolled.{all_inputs, frame_size}
 use Rattle.aig_unroll.proofs.Ordering.Frames.{bad_length, gates_length, outputs_length}
 use Rattle.aig_unroll.proofs.writing.header_numbers.Goals as goal

@@ -1,7 +1,7 @@
 use Rattle.std.proofs.Common.{◌+◌, ◌∙◌, ap, sym}
 use Rattle.aig_unroll.specs.Unrolled.{gates_at}
 use Rattle.aig_unroll.specs.Parts.Frames.{Frame}
-use Rattle.aig_core.specs.declared.circuit.Gate.{Gate}
+use Rattle.aig_circuit.specs.declared.circuit.Gate.{Gate}
 use Rattle.aig_text.specs.AsciiText.{numbers_text}
 use Rattle.aig_text.specs.Rows.{gate_row}
 use Rattle.aig_unroll.proofs.Written.{frame_more}

@@ -1,5 +1,5 @@
 use Rattle.std.proofs.Common.{◌≡◌, ◌+◌, ◌^◌, ◌≤◌, []}
-use Rattle.aig_core.specs.declared.circuit.Circuit.{Circuit}
+use Rattle.aig_circuit.specs.declared.circuit.Circuit.{Circuit}
 use Rattle.aig_witness.specs.Parts.Witnessing.{IsAtLine, ReachedLine}
 use Rattle.aig_witness.proofs.witness.judge_all.Given as goal
 

@@ -1,6 +1,6 @@
 use Rattle.std.proofs.Common.{map, arith}
 use Rattle.std.proofs.lemmas.List.{length-map}
-use Rattle.aig_core.specs.declared.circuit.Latch.{Latch}
+use Rattle.aig_circuit.specs.declared.circuit.Latch.{Latch}
 use Rattle.aig_witness.proofs.WitnessValues.{no_first_state}
 use Rattle.aig_witness.proofs.witness_line.read_first_state.Goals as goal
 

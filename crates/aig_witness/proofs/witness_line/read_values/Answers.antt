@@ -1,6 +1,6 @@
 use Rattle.std.proofs.Common.{◌≡◌, ◌<◌, length, ◌+◌, Some, List, ap, ◌∙◌, sym, take, drop, get_or, arith}
 use Rattle.std.proofs.lemmas.List.{length-set, take_more, take_more_set}
-use Rattle.aig_core.specs.declared.value.Val.{Val}
+use Rattle.aig_circuit.specs.declared.value.Val.{Val}
 use Rattle.aig_step.specs.Stimulus.{value_of, values_of}
 use Rattle.aig_step.proofs.EntryTexts.{no_values, values_on}
 use Rattle.aig_step.proofs.LineBytes.{parted}

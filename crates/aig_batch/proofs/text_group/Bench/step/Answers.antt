@@ -1,6 +1,6 @@
 use Rattle.std.proofs.Common.{◌≡◌, ◌∙◌, ◌+◌, ◌<◌, ◌≤◌, List, arith, get_or, length, subst, sym, ℕ}
 use Rattle.std.proofs.lemmas.List.{take_all, with_items_is}
-use Rattle.aig_core.specs.declared.value.Val.{Val}
+use Rattle.aig_circuit.specs.declared.value.Val.{Val}
 use Rattle.aig_meaning.specs.Trace.{IsTrace, reset_state}
 use Rattle.aig_lanes.specs.Parts.InputBits.{HoldsBlocks}
 use Rattle.aig_lanes.specs.Parts.LaneTexts.{kept_text, shown_size}

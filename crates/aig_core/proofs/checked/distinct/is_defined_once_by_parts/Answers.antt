@@ -2,7 +2,7 @@ use Rattle.std.proofs.Common.{◌≡◌, ◌++◌, ◌∙◌, [], arith, sym}
 use Rattle.std.proofs.lemmas.Result.{IfOk-weaker}
 use Rattle.aig_core.specs.Parts.Parted.{AreParts}
 use Rattle.aig_core.proofs.Checking.Parted.{of_circuit, whole}
-use Rattle.aig_core.proofs.Checking.Sections.{defined_gates, defined_inputs, defined_latches}
+use Rattle.aig_circuit.proofs.Checking.Joined.{defined_gates, defined_inputs, defined_latches}
 use Rattle.aig_core.proofs.checked.distinct.is_defined_once_by_parts.Goals as goal
 
 pub returns : goal.returns

@@ -1,8 +1,8 @@
 use Rattle.std.proofs.Common.{◌∙◌, ◌∷◌, [], ap}
 use Rattle.std.proofs.lemmas.Result.{err_from_is_err_and}
 use Rattle.aig_core.proofs.Checking.Sections.{told_of_gates, gates_repeat, all_seen}
-use Rattle.aig_core.specs.declared.circuit.Gate.{Gate}
-use Rattle.aig_core.specs.Wellformed.{operands}
+use Rattle.aig_circuit.specs.declared.circuit.Gate.{Gate}
+use Rattle.aig_circuit.specs.Wellformed.{operands}
 use Rattle.aig_core.specs.Parts.InOrder.{are_in_order}
 use Rattle.aig_core.proofs.checked.faults.definitions.Goals as goal
 

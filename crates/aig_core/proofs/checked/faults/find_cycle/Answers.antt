@@ -1,12 +1,12 @@
 use Rattle.std.proofs.Common.{◌≡◌, ◌∙◌, ◌*◌, ◌≤◌, ap, sym, subst, Some, get_or, inr, List}
 use Rattle.std.specs.Option.{option_map}
 use Rattle.std.proofs.lemmas.List.{get_or_default}
-use Rattle.aig_core.specs.declared.circuit.Gate.{Gate}
-use Rattle.aig_core.specs.declared.circuit.TheConstants.{LARGEST}
+use Rattle.aig_circuit.specs.declared.circuit.Gate.{Gate}
+use Rattle.aig_circuit.specs.declared.circuit.TheConstants.{LARGEST}
 use Rattle.aig_core.specs.declared.fault.CheckFault.TheVariants.{Cyclic}
-use Rattle.aig_core.specs.Order.{first_cyclic}
-use Rattle.aig_core.proofs.Ordering.Ranked.{no_gate, at}
-use Rattle.aig_core.proofs.Ordering.Cyclic.{cyclic_there, cyclic_nowhere_there, in_bounds}
+use Rattle.aig_topo.specs.Order.{first_cyclic}
+use Rattle.aig_topo.proofs.Ordering.Ranked.{no_gate, at}
+use Rattle.aig_topo.proofs.Ordering.Cyclic.{cyclic_there, cyclic_nowhere_there, in_bounds}
 use Rattle.aig_core.proofs.checked.faults.find_cycle.Goals as goal
 
 pub own_literal-requires : goal.own_literal-requires

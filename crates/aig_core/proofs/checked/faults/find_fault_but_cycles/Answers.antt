@@ -1,5 +1,5 @@
 use Rattle.std.proofs.Common.{◌∙◌, sym, ap, not}
-use Rattle.aig_core.proofs.Tables.Buckets.{none_of}
+use Rattle.aig_tables.proofs.Tables.Buckets.{none_of}
 use Rattle.aig_core.proofs.Checking.InOrder.{in_order_faultless}
 use Rattle.aig_core.proofs.checked.faults.find_fault_but_cycles.Goals as goal
 

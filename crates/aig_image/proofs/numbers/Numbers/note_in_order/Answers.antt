@@ -1,6 +1,6 @@
 use Rattle.std.proofs.Common.{[], ◌∷◌, ◌++◌, subst, take, take_all, ap, arith}
-use Rattle.aig_core.specs.declared.circuit.Gate.{Gate}
-use Rattle.aig_core.proofs.Ordering.Ranked.{variables}
+use Rattle.aig_circuit.specs.declared.circuit.Gate.{Gate}
+use Rattle.aig_topo.proofs.Ordering.Ranked.{variables}
 use Rattle.aig_image.specs.Parts.Numbers.{AreNumbered}
 use Rattle.aig_image.proofs.Numbering.KnownBefore.{next_over_known}
 use Rattle.aig_image.proofs.Numbering.Noted.{one_more, variables_more}

@@ -1,7 +1,7 @@
 use Rattle.std.proofs.Common.{◌≡◌, ◌+◌, ◌++◌, ◌<◌, ℕ, List, take}
 use Rattle.std.specs.List.{AllByRecursion}
-use Rattle.aig_core.specs.Wellformed.{IsKnown, operands}
-use Rattle.aig_core.proofs.Ordering.Ranked.{at, variables}
+use Rattle.aig_circuit.specs.Wellformed.{IsKnown, operands}
+use Rattle.aig_topo.proofs.Ordering.Ranked.{at, variables}
 use Rattle.aig_image.specs.Parts.Numbers.{AreNumbered}
 use Rattle.aig_image.proofs.numbers.Numbers.note_in_order.Given as goal
 

@@ -1,5 +1,5 @@
 use Rattle.std.proofs.Common.{[], refl}
-use Rattle.aig_core.specs.declared.circuit.Latch.{Latch}
+use Rattle.aig_circuit.specs.declared.circuit.Latch.{Latch}
 use Rattle.aig_image.proofs.Numbering.Noted.{two_sections, none_noted}
 use Rattle.aig_image.proofs.numbers.Numbers.of_first.Goals as goal
 

@@ -2,8 +2,8 @@ use Rattle.std.proofs.Common.{◌≡◌, List, length, get_or, ap, refl, sym, su
 use Rattle.std.specs.List.{All}
 use Rattle.std.proofs.lemmas.List.{take_all}
 use Rattle.std.proofs.lemmas.List.Elements.{All-more}
-use Rattle.aig_core.specs.declared.circuit.Circuit.{Circuit}
-use Rattle.aig_core.specs.declared.value.Val.{Val}
+use Rattle.aig_circuit.specs.declared.circuit.Circuit.{Circuit}
+use Rattle.aig_circuit.specs.declared.value.Val.{Val}
 use Rattle.aig_lanes.proofs.run.Run.fits.Goals as goal
 
 pub loop-vector-preserved : goal.loop-vector-preserved

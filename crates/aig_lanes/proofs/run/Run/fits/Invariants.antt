@@ -1,6 +1,6 @@
 use Rattle.std.specs.Prelude.{◌≡◌, List, length, take}
 use Rattle.std.specs.List.{All}
-use Rattle.aig_core.specs.declared.value.Val.{Val}
+use Rattle.aig_circuit.specs.declared.value.Val.{Val}
 use Rattle.aig_lanes.proofs.run.Run.fits.Given as goal
 
 abbrev pub invariant-loop-vector : goal.invariant-loop-vector

@@ -1,6 +1,6 @@
 use Rattle.std.proofs.Common.{◌≡◌, ◌++◌, ◌-◌, List, length, take, drop, ap, ◌∙◌, arith}
 use Rattle.std.proofs.lemmas.Grind.{common_steps}
-use Rattle.aig_core.specs.declared.value.Val.{Val}
+use Rattle.aig_circuit.specs.declared.value.Val.{Val}
 use Rattle.aig_step.specs.Parts.Cells.{values_of_bytes}
 use Rattle.aig_step.specs.Parts.Tables.{evaluated}
 use Rattle.aig_step.proofs.Running.Cells.{are_codes, values_are}

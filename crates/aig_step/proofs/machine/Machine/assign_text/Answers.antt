@@ -1,6 +1,6 @@
 use Rattle.std.proofs.Common.{◌≡◌, List, length, ap, ◌∙◌, eq-eqb}
-use Rattle.aig_core.specs.declared.circuit.Circuit.{Circuit}
-use Rattle.aig_core.specs.declared.value.Val.{Val}
+use Rattle.aig_circuit.specs.declared.circuit.Circuit.{Circuit}
+use Rattle.aig_circuit.specs.declared.value.Val.{Val}
 use Rattle.aig_step.specs.Parts.Tables.{placed}
 use Rattle.aig_step.proofs.EntryTexts.{values_length}
 use Rattle.aig_step.proofs.machine.Machine.assign_text.Goals as goal

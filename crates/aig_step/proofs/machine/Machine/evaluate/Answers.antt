@@ -1,7 +1,7 @@
 use Rattle.std.proofs.Common.{◌≡◌, ◌+◌, ◌-◌, ◌≤◌, length, ap, refl, sym, subst, ◌∙◌, arith, set}
 use Rattle.std.proofs.lemmas.List.{length-set}
-use Rattle.aig_core.specs.declared.circuit.Circuit.{Circuit}
-use Rattle.aig_core.specs.declared.value.Val.TheVariants.{Zero}
+use Rattle.aig_circuit.specs.declared.circuit.Circuit.{Circuit}
+use Rattle.aig_circuit.specs.declared.value.Val.TheVariants.{Zero}
 use Rattle.aig_meaning.specs.Meaning.{IsStepAssignment}
 use Rattle.aig_step.specs.Parts.Tables.{placed, read_from}
 use Rattle.aig_step.specs.Parts.Machines.{first_gate}

@@ -1,8 +1,8 @@
 use Rattle.std.proofs.Common.{◌≡◌, List, Some, map, ap, refl, subst, ◌∙◌}
 use Rattle.std.specs.Vec.{with_items}
 use Rattle.std.proofs.lemmas.List.{with_items_is}
-use Rattle.aig_core.specs.declared.circuit.Circuit.{Circuit}
-use Rattle.aig_core.specs.declared.circuit.Latch.{Latch}
+use Rattle.aig_circuit.specs.declared.circuit.Circuit.{Circuit}
+use Rattle.aig_circuit.specs.declared.circuit.Latch.{Latch}
 use Rattle.aig_meaning.specs.Meaning.{IsReadOff, IsStepAssignment, Row, literal_value, next_literals}
 use Rattle.aig_meaning.proofs.Rows.{same_row}
 use Rattle.aig_step.specs.Parts.Tables.{read_from}

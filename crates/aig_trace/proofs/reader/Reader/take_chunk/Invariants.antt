@@ -1,5 +1,5 @@
 use Rattle.std.proofs.Common.{◌+◌, ◌≤◌, ℕ, List, length}
-use Rattle.aig_core.specs.declared.circuit.Circuit.{Circuit}
+use Rattle.aig_circuit.specs.declared.circuit.Circuit.{Circuit}
 use Rattle.aig_step.specs.declared.trace.Columns.{Columns}
 use Rattle.aig_trace.specs.Parts.Tracing.{IsAt, Passed, PutSome}
 use Rattle.aig_trace.proofs.reader.Reader.take_chunk.Given as goal

@@ -1,7 +1,7 @@
 use Rattle.std.proofs.Common.{◌≡◌, ◌+◌, ◌-◌, ◌<◌, ◌∙◌, List, ℕ, ap, ap₂, arith, length, map, subst}
 use Rattle.std.proofs.Common.{sym}
 use Rattle.std.proofs.lemmas.List.{with_items_is}
-use Rattle.aig_core.specs.declared.circuit.Latch.{Latch}
+use Rattle.aig_circuit.specs.declared.circuit.Latch.{Latch}
 use Rattle.aig_unroll.specs.Unrolled.{next_of}
 use Rattle.aig_unroll.specs.Parts.Frames.{Frame, table}
 use Rattle.aig_unroll.specs.Parts.Standing.{stood}

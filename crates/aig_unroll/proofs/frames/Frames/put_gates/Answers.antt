@@ -1,6 +1,6 @@
 use Rattle.std.proofs.Common.{◌≡◌, ◌∙◌, ℕ, List, ap, ap₂, subst, sym}
 use Rattle.std.specs.List.{All}
-use Rattle.aig_core.specs.declared.circuit.Gate.{Gate}
+use Rattle.aig_circuit.specs.declared.circuit.Gate.{Gate}
 use Rattle.aig_binary.specs.BinaryText.{HasDeltas}
 use Rattle.aig_unroll.specs.Unrolled.{at, chain_at, first_gate, gates_at}
 use Rattle.aig_unroll.specs.Parts.Frames.{Frame, gates_by}

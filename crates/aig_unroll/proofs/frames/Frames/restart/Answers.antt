@@ -1,6 +1,6 @@
 use Rattle.std.proofs.Common.{◌≡◌, ◌+◌, ◌*◌, ◌∙◌, List, ap, ap₂, arith, length, map}
 use Rattle.std.proofs.lemmas.List.{with_items_is}
-use Rattle.aig_core.specs.declared.circuit.Latch.{Latch}
+use Rattle.aig_circuit.specs.declared.circuit.Latch.{Latch}
 use Rattle.aig_unroll.specs.Unrolled.{first_latches, uninitialised}
 use Rattle.aig_unroll.specs.Parts.Frames.{table}
 use Rattle.aig_unroll.proofs.InFrame.{first_frame, places_are}

@@ -1,5 +1,5 @@
 use Rattle.std.proofs.Common.{subst}
-use Rattle.aig_core.specs.declared.circuit.Circuit.{Circuit}
+use Rattle.aig_circuit.specs.declared.circuit.Circuit.{Circuit}
 use Rattle.aig_unroll.specs.Unrolled.{IsTooLarge}
 use Rattle.aig_unroll.proofs.Ordering.Counts.{as_large, image_counts}
 use Rattle.aig_unroll.proofs.unroller.Unrolling.new.Goals as goal

@@ -1,7 +1,7 @@
 use Rattle.std.proofs.Common.{List, ap, arith, map, sym, ◌∙◌}
 use Rattle.std.proofs.lemmas.List.{with_items_is}
-use Rattle.aig_core.specs.declared.circuit.Latch.{Latch}
-use Rattle.aig_core.specs.declared.value.Val.{Val}
+use Rattle.aig_circuit.specs.declared.circuit.Latch.{Latch}
+use Rattle.aig_circuit.specs.declared.value.Val.{Val}
 use Rattle.aig_witness.specs.declared.checker.Due.TheVariants as due
 use Rattle.aig_witness.specs.Witness.{first_state_in}
 use Rattle.aig_witness.proofs.checker.Checker.take_first_state.Goals as goal

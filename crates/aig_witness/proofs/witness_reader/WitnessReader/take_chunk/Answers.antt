@@ -1,5 +1,5 @@
 use Rattle.std.proofs.Common.{◌≡◌, ◌∙◌, ◌++◌, ◌∷◌, ℕ, List, drop, ap, sym, subst, arith}
-use Rattle.aig_core.specs.declared.circuit.Circuit.{Circuit}
+use Rattle.aig_circuit.specs.declared.circuit.Circuit.{Circuit}
 use Rattle.aig_step.specs.Parts.Lines.{Keeping}
 use Rattle.aig_step.specs.Parts.Seen.{HasNoLineFeed}
 use Rattle.aig_witness.specs.Witness.{shape_of}

@@ -1,5 +1,5 @@
 use Rattle.std.proofs.Common.{◌+◌, ◌≤◌, ℕ, List, length}
-use Rattle.aig_core.specs.declared.circuit.Circuit.{Circuit}
+use Rattle.aig_circuit.specs.declared.circuit.Circuit.{Circuit}
 use Rattle.aig_witness.specs.Parts.Witnessing.{IsAtLine, PassedLines}
 use Rattle.aig_witness.proofs.witness_reader.WitnessReader.take_chunk.Given as goal
 

@@ -1,6 +1,6 @@
 use Rattle.std.proofs.Common.{rules}
 use Rattle.std.proofs.Common.{◌∙◌, [], ap, sym, subst, arith, refl}
-use Rattle.aig_core.specs.declared.circuit.Circuit.{Circuit}
+use Rattle.aig_circuit.specs.declared.circuit.Circuit.{Circuit}
 use Rattle.aig_step.specs.Stimulus.{without_return}
 use Rattle.aig_witness.specs.Witness.{said_with, shape_of}
 use Rattle.aig_step.specs.Parts.Lines.{Keeping}

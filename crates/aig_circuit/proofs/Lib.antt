@@ -1,0 +1,4 @@
+pub mod Alike
+pub mod Makers
+pub mod NameRows
+pub mod Checking

@@ -1,0 +1,201 @@
+//! The symbols of a circuit. Their names stand in one list of bytes, one behind the other, so no name has memory of its
+//! own.
+ghost use Rattle.std.specs.Prelude.{◌≡◌, [], ◌∷◌, ◌++◌, length, IfOk, OnOk, OnErr};
+ghost use Rattle.std.specs.Cmp.Lexicographic.{pointwise, lists_per};
+ghost use Rattle.std.specs.Iterator.{YieldsFirst, item_count};
+ghost use Rattle.aig_circuit.specs.contracts.circuit.SymbolPartialEq.TheImpl.Laws.{laws-law as symbol_laws};
+
+use crate::circuit::{Kind, Symbol};
+use std::alloc::{AllocError, Global};
+use std::marker::Model;
+
+/// A symbol whose name stands among others.
+#[derive(Clone, Copy)]
+struct Row {
+    kind: Kind,
+    position: u32,
+    /// Where the name begins.
+    start: usize,
+    /// Where it ends.
+    end: usize,
+}
+
+/// Symbols, in the order of a file. To a contract they are the list of them, wherever their names stand.
+#[derive(Drop)]
+pub struct Symbols {
+    /// The names, one behind the other. Where memory ran out once, a name may stand here that no row has.
+    bytes: Vec<u8>,
+    rows: Vec<Row>,
+}
+
+impl Model for Symbols {
+    ghost use Rattle.std.specs.Prelude.{List};
+    ghost use Rattle.aig_circuit.specs.declared.circuit.Symbol.{Symbol as SymbolRecord};
+
+    ghost Value = { List SymbolRecord };
+
+    ghost use Rattle.aig_circuit.specs.Symbols.{AreWithin, symbols_in};
+
+    ghost view = { λ s. symbols_in s.bytes.items s.rows.items };
+
+    ghost invariant = { λ s. AreWithin s.bytes.items s.rows.items };
+}
+
+/// A symbol that is looked at where its name stands.
+#[derive(Drop)]
+pub struct BorrowedSymbol<'a> {
+    /// What it names.
+    pub kind: Kind,
+    /// Which of these, counted from 0 in the order of the file.
+    pub position: u32,
+    /// The bytes of the name.
+    pub name: &'a [u8],
+}
+
+impl<'a> Model for BorrowedSymbol<'a> {
+    ghost use Rattle.aig_circuit.specs.declared.circuit.Symbol.{Symbol as SymbolRecord};
+
+    ghost Value = { SymbolRecord };
+
+    ghost view = { λ s. record { kind = s.kind; position = s.position; name = s.name.now } };
+}
+
+impl<'a> PartialEq for BorrowedSymbol<'a> {
+    ghost eq = { ⟦<Symbol as PartialEq>⟧.eq };
+
+    ghost laws = { symbol_laws };
+
+    fn eq(&self, other: &Self) -> bool {
+        self.kind == other.kind && self.position == other.position && self.name == other.name
+    }
+}
+
+/// Each symbol of a list, in its order. To a contract it is the list of those that are still to come.
+#[derive(Drop)]
+pub struct EachSymbol<'a> {
+    bytes: &'a [u8],
+    rows: &'a [Row],
+}
+
+impl<'a> Model for EachSymbol<'a> {
+    ghost use Rattle.std.specs.Prelude.{List};
+    ghost use Rattle.aig_circuit.specs.declared.circuit.Symbol.{Symbol as SymbolRecord};
+
+    ghost Value = { List SymbolRecord };
+
+    ghost use Rattle.aig_circuit.specs.Symbols.{AreWithin, symbols_in};
+
+    ghost view = { λ s. symbols_in s.bytes.now s.rows.now };
+
+    ghost invariant = { λ s. AreWithin s.bytes.now s.rows.now };
+}
+
+impl<'a> EachSymbol<'a> {
+    /// Those that are still to come, once more.
+    pub(crate) fn again(&self) -> EachSymbol<'a>
+        ensures { result ≡ self.now }
+    {
+        EachSymbol {
+            bytes: self.bytes,
+            rows: self.rows,
+        }
+    }
+}
+
+impl<'a> Iterator for EachSymbol<'a> {
+    type Item = BorrowedSymbol<'a>;
+
+    ghost next_gives = { YieldsFirst (λ s. s) };
+
+    ghost remaining = { item_count (λ s. s) };
+
+    fn next(&mut self) -> Option<BorrowedSymbol<'a>> {
+        let (row, rest) = self.rows.split_first()?;
+        self.rows = rest;
+        Some(BorrowedSymbol {
+            kind: row.kind,
+            position: row.position,
+            name: &self.bytes[row.start..row.end],
+        })
+    }
+}
+
+impl Symbols {
+    /// No symbols yet; memory is taken from `alloc` where there are more.
+    pub fn new(alloc: Global) -> Self
+        ensures { result ≡ [] }
+    {
+        Symbols {
+            bytes: Vec::new(alloc),
+            rows: Vec::new(alloc),
+        }
+    }
+
+    /// How many symbols there are.
+    pub fn len(&self) -> usize
+        ensures { result ≡ length self.now }
+    {
+        self.rows.len()
+    }
+
+    /// Each symbol, in its order.
+    pub fn iter(&self) -> EachSymbol<'_>
+        ensures { result ≡ self.now }
+    {
+        EachSymbol {
+            bytes: self.bytes.as_slice(),
+            rows: self.rows.as_slice(),
+        }
+    }
+
+    /// Adds a symbol at the end. If an allocation fails, the symbols stay as they are.
+    pub fn push(&mut self, symbol: &BorrowedSymbol) -> Result<(), AllocError>
+        ensures ok { OnOk result (self.new ≡ self.old ++ symbol.now ∷ []) }
+        ensures err { OnErr result (self.new ≡ self.old) }
+    {
+        let start = self.bytes.len();
+        self.bytes.extend_from_slice(symbol.name)?;
+        self.rows.push(Row {
+            kind: symbol.kind,
+            position: symbol.position,
+            start,
+            end: self.bytes.len(),
+        })?;
+        Ok(())
+    }
+
+    /// The same symbols in memory of their own, unless an allocation fails.
+    pub fn copy(&self, alloc: Global) -> Result<Self, AllocError>
+        ensures { IfOk result (λ r. r ≡ self.now) }
+    {
+        Ok(Symbols {
+            bytes: Vec::from_slice(alloc, self.bytes.as_slice())?,
+            rows: Vec::from_slice(alloc, self.rows.as_slice())?,
+        })
+    }
+}
+
+impl PartialEq for Symbols {
+    ghost eq = { pointwise ⟦<Symbol as PartialEq>⟧.eq };
+
+    ghost laws = { lists_per symbol_laws };
+
+    fn eq(&self, other: &Self) -> bool {
+        let mut others = other.iter();
+        for symbol in self.iter() {
+            match others.next() {
+                Some(other) if symbol == other => {}
+                _ => return false,
+            }
+        }
+        others.next().is_none()
+    }
+}
+
+impl Clone for Symbols {
+    ghost is_clone = { λ symbols copy. copy ≡ symbols };
+
+    fn clone(&self) -> Result<Self, AllocError> {
+        self.copy(*self.bytes.allocator())
+    }
+}

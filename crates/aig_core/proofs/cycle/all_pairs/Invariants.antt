@@ -1,6 +1,0 @@
-use Rattle.std.proofs.Common.{◌≡◌, map, take}
-use Rattle.aig_core.specs.Cycle.{pair_of}
-use Rattle.aig_core.proofs.cycle.all_pairs.Given as goal
-
-abbrev pub invariant-loop-gate : goal.invariant-loop-gate
-invariant-loop-gate l = l.all.items ≡ map (pair_of l.gates) (take l.gate-index l.gates)

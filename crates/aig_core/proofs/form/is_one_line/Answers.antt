@@ -1,5 +1,0 @@
-use Rattle.aig_core.proofs.Checking.InForm.{none_among}
-use Rattle.aig_core.proofs.form.is_one_line.Goals as goal
-
-pub returns : goal.returns
-returns c = none_among 10 c.args.name.now c.contains.result c.contains.ensures.value

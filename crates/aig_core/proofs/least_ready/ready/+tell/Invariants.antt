@@ -1,4 +1,0 @@
-use Rattle.aig_core.proofs.least_ready.ready.+tell.Given as goal
-
-abbrev pub decreases-tell : goal.decreases-tell
-decreases-tell l = l.bit

@@ -1,7 +1,0 @@
-use Rattle.aig_core.proofs.Tables.Maps.{nothing}
-use Rattle.aig_core.proofs.Tables.Buckets.{none_spread}
-use Rattle.aig_core.proofs.var_map.spread.Spread.new.Goals as goal
-
-pub returns : goal.returns
-returns g c = nothing _ (none_spread c.min-count.result c.in_ok-empty_buckets.field-0.items c.new.result
-    c.in_ok-empty_buckets.ensures c.new.ensures.empty)

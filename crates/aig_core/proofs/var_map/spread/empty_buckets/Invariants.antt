@@ -1,6 +1,0 @@
-use Rattle.std.proofs.Common.{◌≡◌, []}
-use Rattle.std.proofs.Math.ListN.{replicate}
-use Rattle.aig_core.proofs.var_map.spread.empty_buckets.Given as goal
-
-abbrev pub invariant-loop : goal.invariant-loop
-invariant-loop g l = l.buckets.items ≡ replicate l.counter []

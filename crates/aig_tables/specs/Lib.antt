@@ -1,0 +1,2 @@
+pub mod VarMap
+pub mod Parts

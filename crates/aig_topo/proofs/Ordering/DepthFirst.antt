@@ -1,0 +1,403 @@
+-- A search for a gate that depends on a cycle, depth first.
+use Rattle.std.proofs.Common.{rules}
+use Rattle.std.proofs.Common.{◌≡◌, ◌≢◌, ◌<◌, ◌≤◌, ◌+◌, ◌-◌, ◌*◌, ℕ, zero, suc, List, [], ◌∷◌, ◌++◌, Bool, true, false}
+use Rattle.std.proofs.Common.{cond, eqb, ltb, None, Some, length, map, take, replicate, get_or, refl, sym, ap, ap₂, subst}
+use Rattle.std.proofs.Common.{◌∙◌, inl, inr, ⊎_elim, arith}
+use mathlib.Core.Bool.{◌&&◌, not}
+use Rattle.std.specs.List.{sum, list_all, position, position_or_len}
+use Rattle.std.specs.Option.{option_to_list, unwrap_or}
+use Rattle.std.proofs.Math.ListN.{set as put}
+use Rattle.std.proofs.Math.Seq.{get_or-append_seam}
+use Rattle.std.proofs.lemmas.Bool.{cases_lt, ltb-true, le-ltb, lt-ltb}
+use Rattle.std.proofs.lemmas.Bool.Decides.{eqb_tells}
+use Rattle.std.proofs.lemmas.List.{get_or-set_same, get_or-set_other, get_or_past, get_or-map, length-set, length-append}
+use Rattle.std.proofs.lemmas.List.{get_or_append_left, get_or-take, length-take-le, length-map, length-replicate}
+use Rattle.std.proofs.lemmas.List.Sums.{sum_by-cons, sum_by-set, count_by-le-length, position_or_len_is}
+use Rattle.std.proofs.lemmas.List.Quantifiers.{position-Some}
+use Rattle.aig_circuit.specs.Wellformed.{IsAmong}
+use Rattle.aig_topo.specs.declared.cycle.Pair.{Pair}
+use Rattle.aig_topo.specs.Cycle.{comes_to_end, how_many_done, IsSearching, IsAtEnd, IsRisen}
+use Rattle.aig_topo.specs.Cycle.{gate_at, over_pair, needs_in, pair_at}
+use Rattle.aig_topo.specs.Cycle.{pair_of, place_of, AreWithin}
+use Rattle.aig_circuit.specs.declared.circuit.Gate.{Gate}
+use Rattle.aig_circuit.specs.Literal.{variable_of}
+use Rattle.aig_topo.specs.Order.{gate_of, gates_under, gate_operands, ends_within, depends_on_cycle}
+use Rattle.aig_topo.proofs.Ordering.Chains.{zeros}
+use Rattle.aig_topo.proofs.Ordering.Counted.{among_either}
+use Rattle.aig_topo.proofs.Ordering.Ranked.{over_one, no_gate, at, needed}
+use Rattle.aig_topo.proofs.Ordering.Cyclic.{all_true, each_true}
+
+and_false_left : (a b : Bool) → a ≡ false → (a && b) ≡ false
+and_false_left true b h = cc
+and_false_left false b h = refl
+
+and_false_right : (a b : Bool) → b ≡ false → (a && b) ≡ false
+and_false_right true b h = h
+and_false_right false b h = refl
+
+one_false : (p : ℕ → Bool) (xs : List ℕ) (x : ℕ) → IsAmong x xs → p x ≡ false → list_all p xs ≡ false
+one_false p [] x a h = absurd a
+one_false p (y ∷ ys) x a h =
+    ⊎_elim (λ (e : x ≡ y). and_false_left (p y) (list_all p ys) (subst (λ z. p z ≡ false) e h))
+    (λ (later : IsAmong x ys). and_false_right (p y) (list_all p ys) (one_false p ys x later h)) a
+
+-- a gate of a pair is one of its places
+from_place : (n p h : ℕ) → IsAmong h (option_to_list (gate_at n p)) → (h < n) × (h ≡ p)
+from_place n p h = search (rules, ltb-true)
+
+module _ (pairs : List Pair) (states : List ℕ) (gate : ℕ) (there : gate < length pairs) where
+  needs_are : needs_in pairs gate ≡ over_pair (length pairs) (pair_at pairs gate)
+  needs_are = get_or-map (over_pair (length pairs)) pairs gate (record { left = 0; right = 0 }) [] there
+
+  -- where both places are done, all that the gate needs is
+  pub both_done : get_or states (pair_at pairs gate).left 0 ≡ 2 → get_or states (pair_at pairs gate).right 0 ≡ 2
+      → (h : ℕ) → IsAmong h (needs_in pairs gate) → (h < length pairs) × (get_or states h 0 ≡ 2)
+  both_done left right h a = search (rules, from_place, among_either, needs_are)
+
+-- one that is done counts as one
+abbrev counted : ℕ → ℕ
+counted s = cond (eqb s 2) 1 0
+
+-- where no number is above 2, the sum is at most twice as many
+pub few : (xs : List ℕ) → ((i : ℕ) → get_or xs i 0 ≤ 2) → sum xs ≤ 2 * length xs
+few [] small = omega arith
+few (x ∷ xs) small =
+    let first : x ≤ 2 = small 0 in
+    let all : sum (x ∷ xs) ≡ x + sum xs = sum_by-cons (λ y. y) x xs in
+    omega (arith, first, all, few xs (λ i. small (suc i)))
+
+-- what comes to an end comes to one within more too
+pub one_more : (needs : ℕ → List ℕ) (n g : ℕ) → comes_to_end n needs g ≡ true → comes_to_end (suc n) needs g ≡ true
+unfolding comes_to_end
+one_more needs zero g h = cc
+one_more needs (suc n) g h =
+    all_true (comes_to_end (suc n) needs) (needs g)
+    (λ x a. one_more needs n x (each_true (comes_to_end n needs) (needs g) h x a))
+
+pub many_more : (needs : ℕ → List ℕ) (k n g : ℕ) → comes_to_end n needs g ≡ true → comes_to_end (n + k) needs g ≡ true
+many_more needs zero n g h = subst (λ m. comes_to_end m needs g ≡ true) (omega arith) h
+many_more needs (suc k) n g h =
+    subst (λ m. comes_to_end m needs g ≡ true) (omega arith) (many_more needs k (suc n) g (one_more needs n g h))
+
+module _ (count : ℕ) (needs : ℕ → List ℕ) (states way : List ℕ) (before : IsSearching count needs states way) where
+  -- what is met is a gate
+  pub met_below : (g : ℕ) → get_or states g 0 ≡ 1 → g < count
+  met_below g h = search (rules, get_or_past, cases_lt)
+
+  pub last_met : (g : ℕ) → IsAtEnd way g → get_or states g 0 ≡ 1
+  last_met g end = subst (λ y. get_or states y 0 ≡ 1) end.last (before.met (length way - 1) (omega (arith, end.some)))
+
+  -- where the last one of the way needs one that is met, nothing on the way comes to an end
+  pub trapped : (user next : ℕ) → IsAtEnd way user → IsAmong next (needs user) → get_or states next 0 ≡ 1
+      → (n g : ℕ) → get_or states g 0 ≡ 1 → comes_to_end n needs g ≡ false
+  unfolding comes_to_end
+  trapped user next end uses met zero g h = refl
+  trapped user next end uses met (suc n) g h =
+      let stands = before.on_way g h in
+      let at : get_or way stands.0 0 ≡ g = stands.2 in
+      ⊎_elim (λ (more : stands.0 + 1 < length way).
+      one_false (comes_to_end n needs) (needs g) (get_or way (stands.0 + 1) 0)
+      (subst (λ y. IsAmong (get_or way (stands.0 + 1) 0) (needs y)) at (before.uses stands.0 more))
+      (trapped user next end uses met n (get_or way (stands.0 + 1) 0) (before.met (stands.0 + 1) more)))
+      (λ (last : length way ≤ stands.0 + 1).
+      let below : stands.0 < length way = stands.1 in
+      let place : length way - 1 ≡ stands.0 = omega (arith, last, below) in
+      one_false (comes_to_end n needs) (needs g) next
+      (subst (λ y. IsAmong next (needs y)) (sym end.last ∙ ap (λ i. get_or way i 0) place ∙ at) uses)
+      (trapped user next end uses met n next met))
+      (cases_lt (stands.0 + 1) (length way))
+
+  module _ (x : ℕ) (there : x < count) where
+    in_states : x < length states
+    in_states = omega (arith, there, before.as_many)
+
+    -- a gate that was not seen is met
+    module _ (unseen : get_or states x 0 ≡ 0)
+        (needed : (user : ℕ) → IsAtEnd way user → IsAmong x (needs user)) where
+      abbrev now : List ℕ
+      now = put states x 1
+
+      abbrev longer : List ℕ
+      longer = way ++ x ∷ []
+
+      at_x : get_or now x 0 ≡ 1
+      at_x = get_or-set_same states x 1 0 in_states
+
+      elsewhere : (g : ℕ) → g ≢ x → get_or now g 0 ≡ get_or states g 0
+      elsewhere g differs = get_or-set_other states x g 1 0 differs
+
+      long : length longer ≡ length way + 1
+      long = length-append way (x ∷ [])
+
+      old_at : (i : ℕ) → i < length way → get_or longer i 0 ≡ get_or way i 0
+      old_at i l = get_or_append_left way (x ∷ []) 0 i l
+
+      new_at : get_or longer (length way) 0 ≡ x
+      new_at = get_or-append_seam way x [] 0
+
+      -- one on the way is another
+      other : (i : ℕ) → i < length way → get_or way i 0 ≢ x
+      other i l e =
+          let same : get_or states (get_or way i 0) 0 ≡ get_or states x 0 = ap (λ g. get_or states g 0) e in
+          let met : get_or states (get_or way i 0) 0 ≡ 1 = before.met i l in
+          absurd (omega (arith, same, met, unseen))
+
+      by_place : (P : ℕ → Type 0) → ((i : ℕ) → i < length way → P i) → P (length way) → (i : ℕ) → i < length longer → P i
+      by_place P old new i l =
+          ⊎_elim (λ (b : i < length way). old i b)
+          (λ (p : length way ≤ i). let same : length way ≡ i = omega (arith, p, l, long) in subst P same new)
+          (cases_lt i (length way))
+
+      done_as_before : how_many_done now ≡ how_many_done states
+      done_as_before =
+          let change : how_many_done now + counted (get_or states x 0) ≡ how_many_done states + 0 =
+          sum_by-set counted states x 1 0 in_states in
+          let was : counted (get_or states x 0) ≡ 0 = ap counted unseen in
+          omega (arith, change, was)
+
+      pub entered : IsSearching count needs now longer
+      entered = record {
+        as_many = length-set states x 1 ∙ before.as_many;
+        none = elsewhere count (λ e. absurd (omega (arith, e, there))) ∙ before.none;
+        small = λ g. ⊎_elim (λ (t : (eqb g x ≡ true) × (g ≡ x)). rw (t.1, at_x) (omega arith))
+            (λ (f : (eqb g x ≡ false) × (g ≢ x)). rw (elsewhere g f.1) (before.small g)) (eqb_tells g x);
+        met = by_place (λ i. get_or now (get_or longer i 0) 0 ≡ 1)
+            (λ i l. ap (λ g. get_or now g 0) (old_at i l) ∙ elsewhere (get_or way i 0) (other i l) ∙ before.met i l)
+            (ap (λ g. get_or now g 0) new_at ∙ at_x);
+        apart = λ i j less l. by_place (λ k. i < k → get_or longer i 0 ≢ get_or longer k 0)
+            (λ k b less e. before.apart i k less b (sym (old_at i (omega (arith, less, b))) ∙ e ∙ old_at k b))
+            (λ less e. other i less (sym (old_at i less) ∙ e ∙ new_at)) j l less;
+        uses = λ i l. by_place (λ k. k ≡ i + 1 → IsAmong (get_or longer k 0) (needs (get_or longer i 0)))
+            (λ k b e. let below : i < length way = omega (arith, b, e) in
+            let within : i + 1 < length way = omega (arith, b, e) in
+            subst (λ y. IsAmong (get_or longer k 0) (needs y)) (sym (old_at i below))
+            (subst (λ y. IsAmong y (needs (get_or way i 0)))
+            (ap (λ m. get_or way m 0) (sym e) ∙ sym (old_at k b)) (before.uses i within)))
+            (λ e. let below : i < length way = omega (arith, e) in
+            subst (λ y. IsAmong (get_or longer (length way) 0) (needs y)) (sym (old_at i below))
+            (subst (λ y. IsAmong y (needs (get_or way i 0))) (sym new_at) (needed (get_or way i 0) (record {
+              some = omega (arith, e);
+              last = ap (λ m. get_or way m 0) (omega (arith, e));
+            }))))
+            (i + 1) l refl;
+        on_way = λ g h. ⊎_elim (λ (t : (eqb g x ≡ true) × (g ≡ x)).
+            let last : length way < length longer = omega (arith, long) in
+            (length way, last, new_at ∙ sym t.1))
+            (λ (f : (eqb g x ≡ false) × (g ≢ x)).
+            let stands = before.on_way g (sym (elsewhere g f.1) ∙ h) in
+            let below : stands.0 < length way = stands.1 in
+            let within : stands.0 < length longer = omega (arith, long, below) in
+            (stands.0, within, old_at stands.0 below ∙ stands.2))
+            (eqb_tells g x);
+        ended = λ g l h. ⊎_elim (λ (t : (eqb g x ≡ true) × (g ≡ x)).
+            let one : get_or now g 0 ≡ 1 = ap (λ y. get_or now y 0) t.1 ∙ at_x in absurd (omega (arith, one, h)))
+            (λ (f : (eqb g x ≡ false) × (g ≢ x)).
+            subst (λ n. comes_to_end n needs g ≡ true) (sym done_as_before)
+            (before.ended g l (sym (elsewhere g f.1) ∙ h)))
+            (eqb_tells g x);
+      }
+
+      pub one_step_in : sum now ≡ sum states + 1
+      one_step_in =
+          let change : sum now + get_or states x 0 ≡ sum states + 1 = sum_by-set (λ s. s) states x 1 0 in_states in
+          omega (arith, change, unseen)
+
+      pub risen_in : IsRisen states now
+      risen_in g =
+          ⊎_elim (λ (t : (eqb g x ≡ true) × (g ≡ x)). rw (t.1, at_x, unseen) (omega arith))
+          (λ (f : (eqb g x ≡ false) × (g ≢ x)). omega (arith, elsewhere g f.1)) (eqb_tells g x)
+
+    -- the last one of the way is done
+    module _ (end : IsAtEnd way x)
+        (served : (h : ℕ) → IsAmong h (needs x) → (h < count) × (get_or states h 0 ≡ 2)) where
+      abbrev after : List ℕ
+      after = put states x 2
+
+      abbrev shorter : List ℕ
+      shorter = take (length way - 1) way
+
+      was_met : get_or states x 0 ≡ 1
+      was_met = last_met x end
+
+      done_x : get_or after x 0 ≡ 2
+      done_x = get_or-set_same states x 2 0 in_states
+
+      apart_from : (g : ℕ) → g ≢ x → get_or after g 0 ≡ get_or states g 0
+      apart_from g differs = get_or-set_other states x g 2 0 differs
+
+      as_long : length shorter ≡ length way - 1
+      as_long = length-take-le (length way - 1) way (omega arith)
+
+      kept_at : (i : ℕ) → i < length way - 1 → get_or shorter i 0 ≡ get_or way i 0
+      kept_at i l = get_or-take (length way - 1) way i 0 l
+
+      differs_at : (i : ℕ) → i < length way - 1 → get_or way i 0 ≢ x
+      differs_at i l e = before.apart i (length way - 1) l (omega (arith, end.some)) (e ∙ sym end.last)
+
+      one_more_done : how_many_done after ≡ suc (how_many_done states)
+      one_more_done =
+          let change : how_many_done after + counted (get_or states x 0) ≡ how_many_done states + 1 =
+          sum_by-set counted states x 2 0 in_states in
+          let was : counted (get_or states x 0) ≡ 0 = ap counted was_met in
+          omega (arith, change, was)
+
+      ends_here : comes_to_end (suc (how_many_done states)) needs x ≡ true
+      unfolding comes_to_end
+      ends_here = all_true (comes_to_end (how_many_done states) needs) (needs x)
+          (λ h a. before.ended h (served h a).0 (served h a).1)
+
+      pub left : IsSearching count needs after shorter
+      left = record {
+        as_many = length-set states x 2 ∙ before.as_many;
+        none = apart_from count (λ e. absurd (omega (arith, e, there))) ∙ before.none;
+        small = λ g. ⊎_elim (λ (t : (eqb g x ≡ true) × (g ≡ x)). rw (t.1, done_x) (omega arith))
+            (λ (f : (eqb g x ≡ false) × (g ≢ x)). rw (apart_from g f.1) (before.small g)) (eqb_tells g x);
+        met = λ i l. let below : i < length way - 1 = omega (arith, l, as_long) in
+            ap (λ g. get_or after g 0) (kept_at i below) ∙ apart_from (get_or way i 0) (differs_at i below)
+            ∙ before.met i (omega (arith, below));
+        apart = λ i j less l e. let below : j < length way - 1 = omega (arith, l, as_long) in
+            let lower : i < length way - 1 = omega (arith, below, less) in
+            before.apart i j less (omega (arith, below)) (sym (kept_at i lower) ∙ e ∙ kept_at j below);
+        uses = λ i l. let below : i + 1 < length way - 1 = omega (arith, l, as_long) in
+            let lower : i < length way - 1 = omega (arith, below) in
+            let within : i + 1 < length way = omega (arith, below) in
+            subst (λ y. IsAmong (get_or shorter (i + 1) 0) (needs y)) (sym (kept_at i lower))
+            (subst (λ y. IsAmong y (needs (get_or way i 0))) (sym (kept_at (i + 1) below)) (before.uses i within));
+        on_way = λ g h.
+            let differs : g ≢ x = λ e. let two : get_or after g 0 ≡ 2 = ap (λ y. get_or after y 0) e ∙ done_x in
+            absurd (omega (arith, two, h)) in
+            let stands = before.on_way g (sym (apart_from g differs) ∙ h) in
+            let below : stands.0 < length way = stands.1 in
+            let not_last : stands.0 ≢ length way - 1 =
+            λ e. differs (sym stands.2 ∙ ap (λ i. get_or way i 0) e ∙ end.last) in
+            let lower : stands.0 < length way - 1 = omega (arith, below, not_last) in
+            let within : stands.0 < length shorter = omega (arith, lower, as_long) in
+            (stands.0, within, kept_at stands.0 lower ∙ stands.2);
+        ended = λ g l h. subst (λ n. comes_to_end n needs g ≡ true) (sym one_more_done)
+            (⊎_elim (λ (t : (eqb g x ≡ true) × (g ≡ x)).
+            subst (λ y. comes_to_end (suc (how_many_done states)) needs y ≡ true) (sym t.1) ends_here)
+            (λ (f : (eqb g x ≡ false) × (g ≢ x)).
+            one_more needs (how_many_done states) g (before.ended g l (sym (apart_from g f.1) ∙ h)))
+            (eqb_tells g x));
+      }
+
+      pub one_step_out : sum after ≡ sum states + 1
+      one_step_out =
+          let change : sum after + get_or states x 0 ≡ sum states + 2 = sum_by-set (λ s. s) states x 2 0 in_states in
+          omega (arith, change, was_met)
+
+      pub risen_out : IsRisen states after
+      risen_out g =
+          ⊎_elim (λ (t : (eqb g x ≡ true) × (g ≡ x)). rw (t.1, done_x, was_met) (omega arith))
+          (λ (f : (eqb g x ≡ false) × (g ≢ x)). omega (arith, apart_from g f.1)) (eqb_tells g x)
+
+-- nothing is known yet
+module _ (count : ℕ) (needs : ℕ → List ℕ) where
+  abbrev at_first : List ℕ
+  at_first = put (replicate (count + 1) 0) count 2
+
+  at_count : get_or at_first count 0 ≡ 2
+  at_count = get_or-set_same (replicate (count + 1) 0) count 2 0 (omega (arith, length-replicate {A = ℕ} (count + 1) 0))
+
+  unknown : (g : ℕ) → g ≢ count → get_or at_first g 0 ≡ 0
+  unknown g differs = get_or-set_other (replicate (count + 1) 0) count g 2 0 differs ∙ zeros (count + 1) g
+
+  pub begins : IsSearching count needs at_first []
+  begins = search (rules, length-set, length-replicate, at_count, unknown, eqb_tells)
+
+-- the places of operands, and the gates that are needed
+module _ (gates : List Gate) (pairs : List Pair) (pairs_are : pairs ≡ map (pair_of gates) gates) where
+  long_pairs : length pairs ≡ length gates
+  long_pairs = ap length pairs_are ∙ length-map gates (pair_of gates)
+
+  below : (v i : ℕ) → gate_of gates v ≡ Some i → i < length gates
+  below v i e = (position-Some (λ (g : Gate). eqb g.var v) gates i no_gate e).0
+
+  place_within : (literal : ℕ) → place_of gates literal ≤ length gates
+  place_within literal = search (rules, below)
+
+  pub all_within : AreWithin pairs
+  all_within g =
+      ⊎_elim (λ (l : g < length gates).
+      let is : pair_at pairs g ≡ pair_of gates (at gates g) = ap (λ ps. pair_at ps g) pairs_are
+      ∙ get_or-map (pair_of gates) gates g no_gate (record { left = 0; right = 0 }) l in
+      rw (is, long_pairs) (place_within (at gates g).left, place_within (at gates g).right))
+      (λ (past : length gates ≤ g).
+      let is : pair_at pairs g ≡ record { left = 0; right = 0 } =
+      get_or_past pairs g (record { left = 0; right = 0 }) (omega (arith, past, long_pairs)) in
+      rw is (omega arith, omega arith))
+      (cases_lt g (length gates))
+
+  gate_again : (v : ℕ) → gate_at (length gates) (unwrap_or (gate_of gates v) (length gates)) ≡ gate_of gates v
+  gate_again v =
+      elim (gate_of gates v) as (λ o. gate_of gates v ≡ o → gate_at (length gates) (unwrap_or o (length gates)) ≡ o) [
+        | None ↦ λ e. ap (λ b. cond b (Some (length gates)) None) (le-ltb (length gates) (length gates) (omega arith))
+        | Some i ↦ λ e. ap (λ b. cond b (Some i) None) (lt-ltb i (length gates) (below v i e))
+      ] refl
+
+  over_again : (g : Gate) → over_pair (length gates) (pair_of gates g) ≡ gates_under gates g
+  over_again g = ap₂ (λ a b. option_to_list a ++ option_to_list b) (gate_again (variable_of g.left))
+      (gate_again (variable_of g.right))
+
+  pub same_needs : (g : ℕ) → g < length gates → needs_in pairs g ≡ gate_operands gates g
+  same_needs g there =
+      let in_pairs : g < length pairs = omega (arith, there, long_pairs) in
+      let is : pair_at pairs g ≡ pair_of gates (at gates g) = ap (λ ps. pair_at ps g) pairs_are
+      ∙ get_or-map (pair_of gates) gates g no_gate (record { left = 0; right = 0 }) there in
+      needs_are pairs [] g in_pairs ∙ ap₂ over_pair long_pairs is ∙ over_again (at gates g) ∙ sym (needed gates g there)
+
+  all_alike : (p q : ℕ → Bool) (xs : List ℕ) → ((x : ℕ) → IsAmong x xs → p x ≡ q x) → list_all p xs ≡ list_all q xs
+  all_alike p q [] same = refl
+  all_alike p q (x ∷ xs) same =
+      ap₂ (λ a b. a && b) (same x (inl refl)) (all_alike p q xs (λ y a. same y (inr a)))
+
+  same_end : (n g : ℕ) → g < length gates → comes_to_end n (needs_in pairs) g ≡ ends_within n gates g
+  unfolding comes_to_end ends_within
+  same_end zero g there = refl
+  same_end (suc n) g there =
+      ap (list_all (comes_to_end n (needs_in pairs))) (same_needs g there)
+      ∙ all_alike (comes_to_end n (needs_in pairs)) (ends_within n gates) (gate_operands gates g)
+      (λ h a. same_end n h (over_one gates g h there a).0)
+
+  depends_where : (g : ℕ) → g < length gates → depends_on_cycle gates (at gates g)
+      ≡ not (comes_to_end (suc (length gates)) (needs_in pairs) g)
+  unfolding ends_within
+  depends_where g there = ap (λ xs. not (list_all (ends_within (length gates) gates) xs)) (sym (needed gates g there))
+      ∙ ap not (sym (same_end (suc (length gates)) g there))
+
+  pub depends : (g : ℕ) → g < length gates → ((n : ℕ) → comes_to_end n (needs_in pairs) g ≡ false)
+      → depends_on_cycle gates (at gates g) ≡ true
+  depends g there never = depends_where g there ∙ ap not (never (suc (length gates)))
+
+  -- what is done depends on no cycle: no more gates are done than there are
+  pub independent : (states way : List ℕ) → IsSearching (length pairs) (needs_in pairs) states way → (g : ℕ)
+      → g < length gates → get_or states g 0 ≡ 2 → depends_on_cycle gates (at gates g) ≡ false
+  independent states way searching g there done =
+      let few : how_many_done states ≤ suc (length gates) =
+      omega (arith, count_by-le-length (λ s. eqb s 2) states, searching.as_many, long_pairs) in
+      let ends : comes_to_end (how_many_done states) (needs_in pairs) g ≡ true =
+      searching.ended g (omega (arith, there, long_pairs)) done in
+      depends_where g there ∙ ap not (subst (λ m. comes_to_end m (needs_in pairs) g ≡ true) (omega (arith, few))
+      (many_more (needs_in pairs) (suc (length gates) - how_many_done states) (how_many_done states) g ends))
+
+  module _ (states way : List ℕ) (searching : IsSearching (length pairs) (needs_in pairs) states way) where
+    -- where all before a gate are done, and it depends on a cycle, it is the first one
+    pub first_is : (g : ℕ) → g < length gates → ((k : ℕ) → k < g → get_or states k 0 ≡ 2)
+        → ((n : ℕ) → comes_to_end n (needs_in pairs) g ≡ false) → Some g ≡ position (depends_on_cycle gates) gates
+    first_is g there before never =
+        let place : position_or_len (depends_on_cycle gates) gates ≡ g =
+        position_or_len_is (depends_on_cycle gates) gates g no_gate (omega (arith, there))
+        (λ k l. independent states way searching k (omega (arith, l, there)) (before k l))
+        (λ _. depends g there never) in
+        sym (ap (λ m. cond (ltb m (length gates)) (Some m) None) place
+        ∙ ap (λ b. cond b (Some g) None) (lt-ltb g (length gates) there))
+
+    pub none_is : ((k : ℕ) → k < length gates → get_or states k 0 ≡ 2)
+        → None ≡ position (depends_on_cycle gates) gates
+    none_is all =
+        let place : position_or_len (depends_on_cycle gates) gates ≡ length gates =
+        position_or_len_is (depends_on_cycle gates) gates (length gates) no_gate (omega arith)
+        (λ k l. independent states way searching k l (all k l))
+        (λ l. absurd (omega (arith, l))) in
+        sym (ap (λ m. cond (ltb m (length gates)) (Some m) None) place
+        ∙ ap (λ b. cond b (Some (length gates)) None) (le-ltb (length gates) (length gates) (omega arith)))

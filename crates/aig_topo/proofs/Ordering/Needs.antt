@@ -1,0 +1,93 @@
+-- What gates need, as the code looks it up.
+use Rattle.std.proofs.Common.{◌≡◌, ◌<◌, ◌≤◌, ℕ, List, [], ◌∷◌, ◌++◌, Option, None, Some, length, map, get_or, eqb}
+use Rattle.std.proofs.Common.{refl, sym, ap, ap₂, subst, ◌∙◌, ⊎_elim, arith}
+use Rattle.std.specs.List.{AllByRecursion}
+use Rattle.std.specs.Option.{IfSome, option_to_list}
+use Rattle.std.proofs.lemmas.Bool.{cases_lt}
+use Rattle.std.proofs.lemmas.List.{get_or-map, get_or_past, length-map}
+use Rattle.std.proofs.lemmas.List.Quantifiers.{position-Some}
+use Rattle.aig_circuit.specs.declared.circuit.Gate.{Gate}
+use Rattle.aig_circuit.specs.declared.circuit.TheConstants.{LARGEST}
+use Rattle.aig_topo.specs.declared.least_ready.needs.Needs.{Needs}
+use Rattle.aig_circuit.specs.Literal.{variable_of}
+use Rattle.aig_circuit.specs.Wellformed.{IsAmong}
+use Rattle.aig_topo.specs.Order.{gate_of, gates_under, gate_operands, IsReady, TakesLeast, IsFull}
+use Rattle.aig_topo.specs.Placing.{link_to, linked, needs_of, under, needs_at, no_needs, AreThere}
+use Rattle.aig_topo.proofs.Ordering.Ranked.{no_gate, needed, over_one}
+use Rattle.aig_topo.proofs.Ordering.Steps.{all_of, none_past}
+
+few_one : (o : Option ℕ) → ((at : ℕ) → o ≡ Some at → at < LARGEST) → IfSome o (λ at. at < LARGEST)
+few_one None h = tt
+few_one (Some at) h = h at refl
+
+-- the place of a gate is among the gates
+pub few_places : (gates : List Gate) (index : ℕ → Option ℕ) → ((v : ℕ) → index v ≡ gate_of gates v)
+    → length gates ≤ LARGEST → (v : ℕ) → IfSome (index v) (λ at. at < LARGEST)
+few_places gates index is few v =
+    few_one (index v) (λ at e.
+    omega (arith, few, (position-Some (λ (g : Gate). eqb g.var v) gates at no_gate (sym (is v) ∙ e)).0))
+
+linked_to : (o : Option ℕ) → linked (link_to o) ≡ option_to_list o
+linked_to None = refl
+linked_to (Some x) = refl
+
+pub same_under : (gates : List Gate) (g : Gate) → under (needs_of gates g) ≡ gates_under gates g
+same_under gates g =
+    ap₂ (λ xs ys. xs ++ ys) (linked_to (gate_of gates (variable_of g.left)))
+    (linked_to (gate_of gates (variable_of g.right)))
+
+pub here_needs : (all : List Needs) (gate : ℕ) (n : Needs) → gate < length all → n ≡ get_or all gate n
+    → needs_at all gate ≡ under n
+here_needs all gate n there is = get_or-map under all gate n [] there ∙ ap under (sym is)
+
+module _ (gates : List Gate) (all : List Needs) (all_are : all ≡ map (needs_of gates) gates) where
+  pub as_long : length all ≡ length gates
+  as_long = ap length all_are ∙ length-map gates (needs_of gates)
+
+  pub same_needs : (u : ℕ) → needs_at all u ≡ gate_operands gates u
+  same_needs u =
+      ⊎_elim (λ (there : u < length gates).
+      get_or-map under all u no_needs [] (omega (arith, there, as_long))
+      ∙ ap (λ ns. under (get_or ns u no_needs)) all_are
+      ∙ ap under (get_or-map (needs_of gates) gates u no_gate no_needs there)
+      ∙ same_under gates (get_or gates u no_gate)
+      ∙ sym (needed gates u there))
+      (λ (past : length gates ≤ u).
+      get_or_past (map under all) u [] (omega (arith, past, as_long, length-map all under))
+      ∙ sym (none_past gates u past))
+      (cases_lt u (length gates))
+
+  pub are_there : AreThere all
+  are_there u = all_of (λ h. h < length all) (needs_at all u) (λ h a.
+      let among : IsAmong h (gate_operands gates u) = subst (λ xs. IsAmong h xs) (same_needs u) a in
+      ⊎_elim (λ (there : u < length gates). rw as_long (over_one gates u h there among).0)
+      (λ (past : length gates ≤ u). absurd (subst (λ xs. IsAmong h xs) (none_past gates u past) among))
+      (cases_lt u (length gates)))
+
+-- an order by what is needed, however that is told
+module _ (count : ℕ) (some other : ℕ → List ℕ) (same : (u : ℕ) → some u ≡ other u) where
+  ready_too : (taken : List ℕ) (g : ℕ) → IsReady count some taken g → IsReady count other taken g
+  ready_too taken g r = record {
+    there = r.there;
+    left = r.left;
+    served = subst (AllByRecursion (λ h. IsAmong h taken)) (same g) r.served;
+  }
+
+  ready_before : (taken : List ℕ) (g : ℕ) → IsReady count other taken g → IsReady count some taken g
+  ready_before taken g r = record {
+    there = r.there;
+    left = r.left;
+    served = subst (AllByRecursion (λ h. IsAmong h taken)) (sym (same g)) r.served;
+  }
+
+  pub in_turn_too : (taken xs : List ℕ) → TakesLeast count some taken xs → TakesLeast count other taken xs
+  in_turn_too taken [] in_turn = tt
+  in_turn_too taken (x ∷ xs) in_turn = (
+    ready_too taken x in_turn.0,
+    λ h r. in_turn.1 h (ready_before taken h r),
+    in_turn_too (x ∷ taken) xs in_turn.2,
+  )
+
+  pub full_too : (list : List ℕ) → IsFull count some list → IsFull count other list
+  full_too list full g there served =
+      full g there (subst (AllByRecursion (λ h. IsAmong h list)) (sym (same g)) served)

@@ -1,0 +1,156 @@
+-- Rows: what gates need and their lists, in one table.
+use Rattle.std.proofs.Common.{◌≡◌, ◌≢◌, ◌<◌, ◌≤◌, ◌-◌, ◌∙◌, ℕ, zero, suc, List, [], ◌∷◌, ◌++◌, length, map, get_or}
+use Rattle.std.proofs.Common.{refl}
+use Rattle.std.proofs.Common.{sym, ap, subst, ⊎_elim, eqb, true, false, arith}
+use Rattle.std.specs.List.{AllByRecursion}
+use Rattle.std.proofs.Math.ListN.{set as put}
+use Rattle.std.proofs.lemmas.Bool.{cases_lt}
+use Rattle.std.proofs.lemmas.Bool.Decides.{eqb_tells}
+use Rattle.std.proofs.lemmas.List.{get_or-map, get_or-set_other, get_or-set_same, get_or_past, length-map, length-set}
+use Rattle.std.proofs.lemmas.List.{map-set, set-get_or}
+use Rattle.aig_topo.specs.declared.least_ready.lists.Row.{Row}
+use Rattle.aig_topo.specs.declared.least_ready.needs.Needs.{Needs}
+use Rattle.aig_topo.specs.Lists.{Link, needs_in, needs_in_row, links_in, links_in_row, first_of, list_in, LeadsTo}
+use Rattle.aig_topo.specs.Lists.{AreLists}
+use Rattle.aig_topo.specs.Placing.{linked, under, needs_by, rest_by, no_needs, AreThere}
+use Rattle.aig_topo.proofs.Ordering.Lists.{read_first, front_below}
+
+-- the row of a gate that needs this and was not looked at
+abbrev pub row_of : Needs → Row
+row_of needs = record { next = needs.left; rest = needs.right; first = 0 }
+
+pub needs_of_rows : (all : List Needs) → needs_in (map row_of all) ≡ all
+needs_of_rows [] = refl
+needs_of_rows (n ∷ ns) = ap (λ more. n ∷ more) (needs_of_rows ns)
+
+-- no gate has a list yet
+pub first_of_rows : (all : List Needs) (k : ℕ) → first_of (links_in (map row_of all)) k ≡ 0
+first_of_rows [] zero = refl
+first_of_rows [] (suc k) = refl
+first_of_rows (n ∷ ns) zero = refl
+first_of_rows (n ∷ ns) (suc k) = first_of_rows ns k
+
+-- there are as many of each part
+pub as_many_needs : (rows : List Row) → length (needs_in rows) ≡ length rows
+as_many_needs rows = length-map rows needs_in_row
+
+pub as_many_links : (rows : List Row) → length (links_in rows) ≡ length rows
+as_many_links rows = length-map rows links_in_row
+
+-- tables with the same needs are as long
+pub as_many : (rows more : List Row) → needs_in more ≡ needs_in rows → length more ≡ length rows
+as_many rows more same = sym (as_many_needs more) ∙ ap length same ∙ as_many_needs rows
+
+-- what an index reads is what each table has there
+module _ (rows : List Row) (at : ℕ) (row : Row) (there : at < length rows) (is : row ≡ get_or rows at row) where
+  pub read_needs : needs_in_row row ≡ get_or (needs_in rows) at (needs_in_row row)
+  read_needs = ap needs_in_row is ∙ sym (get_or-map needs_in_row rows at row (needs_in_row row) there)
+
+  pub read_link : links_in_row row ≡ get_or (links_in rows) at (links_in_row row)
+  read_link = ap links_in_row is ∙ sym (get_or-map links_in_row rows at row (links_in_row row) there)
+
+  -- another first gate leaves what gates need
+  pub same_needs_in : (changed : Row) → needs_in_row changed ≡ needs_in_row row
+      → needs_in (put rows at changed) ≡ needs_in rows
+  same_needs_in changed same =
+      map-set needs_in_row rows at changed
+      ∙ ap (put (needs_in rows) at) (same ∙ read_needs)
+      ∙ set-get_or (needs_in rows) at (needs_in_row row)
+
+-- what each table has once one row is changed
+pub needs_then : (rows : List Row) (at : ℕ) (changed : Row)
+    → needs_in (put rows at changed) ≡ put (needs_in rows) at (needs_in_row changed)
+needs_then rows at changed = map-set needs_in_row rows at changed
+
+pub links_then : (rows : List Row) (at : ℕ) (changed : Row)
+    → links_in (put rows at changed) ≡ put (links_in rows) at (links_in_row changed)
+links_then rows at changed = map-set links_in_row rows at changed
+
+-- the first link of a list, as it is read, leads into the table
+module _ (rows : List Row) (at : ℕ) (row : Row) (there : at < length rows) (is : row ≡ get_or rows at row) where
+  pub first_read : first_of (links_in rows) at ≡ row.first
+  first_read =
+      read_first (links_in rows) at (links_in_row row) (omega (arith, there, as_many_links rows))
+      (read_link rows at row there is)
+
+  pub first_there : AreLists (links_in rows) → 0 < row.first → row.first - 1 < length rows
+  first_there lists some =
+      omega (
+        arith,
+        front_below (links_in rows) at (row.first - 1) lists (omega (arith, first_read, some)),
+        as_many_links rows,
+      )
+
+  pub first_is : AreLists (links_in rows) → (u : ℕ) → (us : List ℕ) → list_in rows at ≡ u ∷ us
+      → row.first ≡ suc u
+  first_is lists u us are =
+      let to : LeadsTo (links_in rows) (first_of (links_in rows) at) (u ∷ us) =
+      subst (LeadsTo (links_in rows) (first_of (links_in rows) at)) are (lists.ends at) in
+      sym first_read ∙ to.0
+
+-- the first of a list is there
+pub first_fits : (links : List Link) (k : ℕ) → AreLists links
+    → AllByRecursion (λ h. h < length links) (linked (first_of links k))
+first_fits links k lists =
+    elim (first_of links k) as (λ n. first_of links k ≡ n → AllByRecursion (λ h. h < length links) (linked n)) [
+      | zero ↦ λ _. tt
+      | suc g ↦ λ is. (front_below links k g lists is, tt)
+    ] refl
+
+-- what a gate needs beside is there, as all that it needs
+second_part : (P : ℕ → Type 0) (xs ys : List ℕ) → AllByRecursion P (xs ++ ys) → AllByRecursion P ys
+second_part P [] ys all = all
+second_part P (x ∷ xs) ys all = second_part P xs ys all.1
+
+pub rest_there : (rows : List Row) → AreThere (needs_in rows) → (u : ℕ)
+    → AllByRecursion (λ h. h < length rows) (rest_by rows u)
+rest_there rows there u =
+    let all : List Needs = needs_in rows in
+    let n : Needs = get_or all u no_needs in
+    rw (sym (as_many_needs rows))
+    (⊎_elim (λ (in_all : u < length all).
+    second_part (λ h. h < length all) (linked n.left) (linked n.right)
+    (subst (AllByRecursion (λ h. h < length all)) (get_or-map under all u no_needs [] in_all) (there u)))
+    (λ (past : length all ≤ u).
+    subst (λ (m : Needs). AllByRecursion (λ h. h < length all) (linked m.right))
+    (sym (get_or_past all u no_needs past)) tt)
+    (cases_lt u (length all)))
+
+-- where another is asked of one gate
+module _ (rows more : List Row) (gate : ℕ) (n : Needs) (now : needs_in more ≡ put (needs_in rows) gate n) where
+  pub as_many_then : length more ≡ length rows
+  as_many_then =
+      sym (as_many_needs more) ∙ ap length now ∙ length-set (needs_in rows) gate n ∙ as_many_needs rows
+
+  pub rest_here : gate < length rows → rest_by more gate ≡ linked n.right
+  rest_here there =
+      ap (λ ns. linked (get_or ns gate no_needs).right) now
+      ∙ ap (λ (m : Needs). linked m.right)
+      (get_or-set_same (needs_in rows) gate n no_needs (omega (arith, there, as_many_needs rows)))
+
+  pub rest_elsewhere : (u : ℕ) → u ≢ gate → rest_by more u ≡ rest_by rows u
+  rest_elsewhere u other =
+      ap (λ ns. linked (get_or ns u no_needs).right) now
+      ∙ ap (λ (m : Needs). linked m.right) (get_or-set_other (needs_in rows) gate u n no_needs other)
+
+  under_now : map under (needs_in more) ≡ put (map under (needs_in rows)) gate (under n)
+  under_now = ap (map under) now ∙ map-set under (needs_in rows) gate n
+
+  pub needs_elsewhere : (u : ℕ) → u ≢ gate → needs_by more u ≡ needs_by rows u
+  needs_elsewhere u other =
+      ap (λ xs. get_or xs u []) under_now ∙ get_or-set_other (map under (needs_in rows)) gate u (under n) [] other
+
+  pub there_then : gate < length rows → AllByRecursion (λ h. h < length rows) (under n) → AreThere (needs_in rows)
+      → AreThere (needs_in more)
+  there_then there fits before u =
+      let here : needs_by more gate ≡ under n =
+      ap (λ xs. get_or xs gate []) under_now
+      ∙ get_or-set_same (map under (needs_in rows)) gate (under n) []
+      (omega (arith, there, length-map (needs_in rows) under, as_many_needs rows)) in
+      rw (as_many_needs more ∙ as_many_then)
+      (⊎_elim (λ (t : (eqb u gate ≡ true) × (u ≡ gate)).
+      subst (AllByRecursion (λ h. h < length rows)) (sym (ap (needs_by more) t.1 ∙ here)) fits)
+      (λ (f : (eqb u gate ≡ false) × (u ≢ gate)).
+      subst (AllByRecursion (λ h. h < length rows)) (sym (needs_elsewhere u f.1))
+      (rw (sym (as_many_needs rows)) (before u)))
+      (eqb_tells u gate))

@@ -1,0 +1,52 @@
+use Rattle.std.proofs.Common.{◌≡◌, ◌∙◌, ◌<◌, ap, sym, subst, length, get_or, arith, false}
+use Rattle.std.proofs.lemmas.List.{get_or_default}
+use Rattle.aig_topo.specs.Cycle.{needs_in, comes_to_end}
+use Rattle.aig_topo.proofs.Ordering.DepthFirst.{few, last_met, met_below, trapped}
+use Rattle.aig_topo.proofs.cycle.Search.leads_to_cycle.Goals as goal
+
+pub open_operand-requires-clause-there : goal.open_operand-requires-clause-there
+open_operand-requires-clause-there c =
+    let now = c.loop-gate.self in
+    let before = c.loop-gate.invariant.search.searching in
+    met_below (length now.operands.items) (needs_in now.operands.items) now.states.items now.way.items before
+    c.in-Some.gate (last_met (length now.operands.items) (needs_in now.operands.items) now.states.items now.way.items
+    before c.in-Some.gate c.in-Some.ensures.some)
+
+pub loop-gate-smaller-in_default-open_operand : goal.loop-gate-smaller-in_default-open_operand
+loop-gate-smaller-in_default-open_operand c =
+    omega (
+      arith,
+      few c.leave.new.self.states.items c.leave.ensures.search.searching.small,
+      c.leave.ensures.by_one,
+      c.leave.ensures.search.searching.as_many,
+      c.loop-gate.invariant.search.searching.as_many,
+      ap length c.leave.ensures.operands,
+    )
+
+pub loop-gate-smaller : goal.loop-gate-smaller
+loop-gate-smaller c =
+    omega (
+      arith,
+      few c.enter-in-Some.new.self.states.items c.in_ok-enter-2.ensures.search.searching.small,
+      c.in_ok-enter-2.ensures.by_one,
+      c.in_ok-enter-2.ensures.search.searching.as_many,
+      c.loop-gate.invariant.search.searching.as_many,
+      ap length c.in_ok-enter-2.ensures.operands,
+    )
+
+pub returns-then-index-eq-MET-clause-cyclic : goal.returns-then-index-eq-MET-clause-cyclic
+returns-then-index-eq-MET-clause-cyclic c = λ _ n.
+    let now = c.loop-gate.self in
+    let before = c.loop-gate.invariant.search.searching in
+    let next = c.in-Some-open_operand.next in
+    let there : next < length now.states.items =
+    omega (arith, c.in-Some-open_operand.ensures.there, before.as_many) in
+    let met : get_or now.states.items next 0 ≡ 1 =
+    sym (c.index-in-Some.ensures ∙ get_or_default now.states.items next c.index-in-Some.result.now 0 there)
+    ∙ c.if-index-eq-MET.true in
+    let root : get_or now.states.items c.args.root 0 ≡ 1 =
+    subst (λ g. get_or now.states.items g 0 ≡ 1) (c.loop-gate.invariant.first c.in-Some.ensures.some.some)
+    (before.met 0 c.in-Some.ensures.some.some) in
+    subst (λ ps. comes_to_end n (needs_in ps) c.args.root ≡ false) c.loop-gate.invariant.operands
+    (trapped (length now.operands.items) (needs_in now.operands.items) now.states.items now.way.items before
+    c.in-Some.gate next c.in-Some.ensures.some c.in-Some-open_operand.ensures.needed met n c.args.root root)

@@ -1,0 +1,39 @@
+use Rattle.std.proofs.Common.{◌≡◌, ◌-◌, ◌<◌, ◌∙◌, ℕ, suc, List, ap, length, get_or, subst, arith}
+use Rattle.std.proofs.lemmas.List.{get_or_default}
+use Rattle.aig_topo.specs.declared.least_ready.lists.Row.{Row}
+use Rattle.aig_topo.specs.declared.least_ready.needs.Needs.{Needs}
+use Rattle.aig_topo.specs.Lists.{needs_in, needs_in_row}
+use Rattle.aig_topo.specs.Placing.{linked, no_needs, rest_by}
+use Rattle.aig_topo.proofs.Ordering.Rows.{as_many_needs, read_needs, first_there, first_is}
+use Rattle.aig_topo.proofs.least_ready.lists.Lists.first_rest.Goals as goal
+
+pub index-requires-2 : goal.index-requires-2
+index-requires-2 c =
+    omega (
+      arith,
+      first_there c.args.self.now.rows.items c.args.list c.index.result.now c.requires.there c.index.ensures
+          c.requires.lists (omega (arith, c.if-first-eq0.false)),
+      c.args.self.now.rows.ok.0,
+    )
+
+pub returns-then-first-eq0 : goal.returns-then-first-eq0
+returns-then-first-eq0 c = λ u us are.
+    let is = first_is c.args.self.now.rows.items c.args.list c.index.result.now c.requires.there c.index.ensures
+    c.requires.lists u us are in
+    absurd (omega (arith, is, c.if-first-eq0.true))
+
+pub returns : goal.returns
+returns c = λ u us are.
+    let rows : List Row = c.args.self.now.rows.items in
+    let at : ℕ = c.index.result.now.first - 1 in
+    let row : Row = c.index-2.result.now in
+    let is : c.index.result.now.first ≡ suc u =
+    first_is rows c.args.list c.index.result.now c.requires.there c.index.ensures c.requires.lists u us are in
+    let there : at < length rows =
+    first_there rows c.args.list c.index.result.now c.requires.there c.index.ensures c.requires.lists
+    (omega (arith, is)) in
+    let same : at ≡ u = omega (arith, is) in
+    let read : needs_in_row row ≡ get_or (needs_in rows) at no_needs =
+    read_needs rows at row there c.index-2.ensures
+    ∙ get_or_default (needs_in rows) at (needs_in_row row) no_needs (omega (arith, there, as_many_needs rows)) in
+    subst (λ z. linked row.rest ≡ rest_by rows z) same (ap (λ (n : Needs). linked n.right) read)

@@ -1,0 +1,9 @@
+pub mod Order
+pub mod Cycle
+pub mod Operands
+pub mod Users
+pub mod Ready
+pub mod Progress
+pub mod Placed
+pub mod Lists
+pub mod Placing
