@@ -9,7 +9,7 @@ use Rattle.aig_circuit.specs.declared.value.Val.{Val}
 use Rattle.aig_step.specs.Stimulus.{Entry, Stimulus, entry_in, stimulus, value_of, values_of, without_return}
 use Rattle.aig_batch.specs.Parts.Judging.{IsJudged}
 use Rattle.aig_step.specs.Parts.Seen.{HasNoLineFeed, IsHeard}
-use Rattle.aig_trace.proofs.Heard.{heard_line, heard_more, heard_nothing, said_at_end, said_bad, said_last, said_last_bad}
+use Rattle.aig_trace.proofs.Heard.{heard_line, heard_more, said_at_end, said_bad, said_last, said_last_bad}
 use Rattle.aig_trace.proofs.Heard.{said_so_far}
 use Rattle.aig_step.proofs.WholeLines.{first_line, no_line}
 
@@ -45,17 +45,6 @@ some_is (Some x) is = (x, refl)
 pub none_is : {X : Type 0} (o : Option X) → is_some o ≡ false → o ≡ None
 none_is None is = refl
 none_is (Some x) is = cc
-
--- before the first byte
-pub judged_nothing : (inputs : ℕ) → IsJudged inputs [] 0 1
-judged_nothing inputs = record {
-  lines = 0;
-  entries = [];
-  heard = heard_nothing inputs;
-  counted = omega arith;
-  within = omega arith;
-  few = omega arith;
-}
 
 module _ (inputs : ℕ) (bytes : List ℕ) (begun at number : ℕ) (within : at ≤ length bytes)
     (j : IsJudged inputs (take at bytes) begun number) where

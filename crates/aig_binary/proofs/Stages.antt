@@ -33,17 +33,6 @@ module _ (h : Header) (c : Circuit) where
   nexts_make_latches (Ok x) nexts after found = search (rules, latches_of_rows)
   nexts_make_latches (Err e) nexts after found = cc
 
-  no_nexts : (r : Found (List (List ℕ))) (e : ReadFault) → rows_meant next_of [] r ≡ Err e
-      → (r >>= with_nexts) ≡ Err e
-  no_nexts (Ok x) e found = cc
-  no_nexts (Err f) e found = let same : f ≡ e = cc in ap (λ (g : ReadFault). Err g) same
-
-  pub no_latches : (r : Found (List (List ℕ))) (e : ReadFault)
-      → (e ≡ want_of_memory) ⊎ (rows_meant next_of [] r ≡ Err e)
-      → (e ≡ want_of_memory) ⊎ ((r >>= with_nexts) ≡ Err e)
-  no_latches r e (inl m) = inl m
-  no_latches r e (inr found) = inr (no_nexts r e found)
-
 -- a section without lines
 pub nothing_found : (h : Header) (c : Circuit) (at : Ahead) → section_at no_lines h c at ≡ Ok (c, at)
 unfolding rows_at

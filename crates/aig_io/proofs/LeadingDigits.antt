@@ -247,17 +247,6 @@ text_bytes n digits zeros low e long =
 
 -- ---- eight digits, the zeros in front too
 
-eight_fit : (n i : ℕ) → get_or (map (λ d. 48 + d) (last_digits 8 n)) i 0 < 256
-eight_fit n zero = omega arith
-eight_fit n (suc zero) = omega arith
-eight_fit n (suc (suc zero)) = omega arith
-eight_fit n (suc (suc (suc zero))) = omega arith
-eight_fit n (suc (suc (suc (suc zero)))) = omega arith
-eight_fit n (suc (suc (suc (suc (suc zero))))) = omega arith
-eight_fit n (suc (suc (suc (suc (suc (suc zero)))))) = omega arith
-eight_fit n (suc (suc (suc (suc (suc (suc (suc zero))))))) = omega arith
-eight_fit n (suc (suc (suc (suc (suc (suc (suc (suc i)))))))) = omega arith
-
 -- the bytes of the word, as characters
 pub eight_bytes : (n digits : ℕ) → digits ≡ number_l 256 (last_digits 8 n)
     → to_le_bytes w64 (digits + 0x3030_3030_3030_3030) ≡ map (λ d. 48 + d) (last_digits 8 n)

@@ -1,4 +1,3 @@
-pub mod Further
 pub mod KnownLines
 pub mod KnownTexts
 pub mod LongEnough

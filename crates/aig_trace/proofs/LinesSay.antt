@@ -1,5 +1,5 @@
 -- What lines say, line behind line.
-use Rattle.std.proofs.Common.{◌≡◌, ◌+◌, ℕ, suc, List, [], ◌∷◌, ◌++◌, length, Option, Some, None, refl, ap}
+use Rattle.std.proofs.Common.{◌≡◌, ◌+◌, ℕ, suc, List, [], ◌∷◌, ◌++◌, length, Option, Some, None, ap}
 use Rattle.std.proofs.Common.{◌∙◌, append-nil, arith}
 use Rattle.aig_text.specs.Lines.{Line}
 use Rattle.aig_step.specs.Stimulus.{Entry, Stimulus, before_rest, entry_of, lines_say, no_lines, with_entry}
@@ -8,19 +8,6 @@ use Rattle.aig_step.specs.Parts.Seen.{all_good, then_bad}
 -- what lines say behind lines that say these entries
 abbrev pub behind : List Entry → Stimulus → Stimulus
 behind entries s = record { entries = entries ++ s.entries; bad = s.bad }
-
-after_bad : (number k : ℕ) (o : Option Entry) (rest whole : Stimulus) → (before_rest number o rest).bad ≡ Some k
-    → (rest.bad ≡ Some k → whole ≡ rest) → before_rest number o whole ≡ before_rest number o rest
-after_bad number k None rest whole bad later = refl
-after_bad number k (Some e) rest whole bad later = ap (with_entry e) (later bad)
-
--- lines behind a bad one change nothing
-pub bad_stays : (inputs number k : ℕ) (ls more : List Line) → (lines_say inputs number ls).bad ≡ Some k
-    → lines_say inputs number (ls ++ more) ≡ lines_say inputs number ls
-bad_stays inputs number k [] more bad = cc
-bad_stays inputs number k (l ∷ ls) more bad =
-    after_bad number k (entry_of inputs l) (lines_say inputs (suc number) ls)
-    (lines_say inputs (suc number) (ls ++ more)) bad (bad_stays inputs (suc number) k ls more)
 
 after_good : (number : ℕ) (o : Option Entry) (rest whole later : Stimulus) → (before_rest number o rest).bad ≡ None
     → (rest.bad ≡ None → whole ≡ behind rest.entries later)

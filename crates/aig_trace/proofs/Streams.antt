@@ -1,7 +1,7 @@
 -- What came of a source, and what a sink took, from the first byte on.
-use Rattle.std.proofs.Common.{◌+◌, ℕ, List, [], ◌++◌, Bool, true, false, Option, None, Some, Result, Ok, Err, IfErr}
+use Rattle.std.proofs.Common.{◌+◌, ℕ, List, [], ◌++◌, Bool, true, false, Option, Result, Ok, Err, IfErr}
 use Rattle.std.proofs.Common.{OnOk}
-use Rattle.std.proofs.Common.{length, take, sym, subst, append-nil}
+use Rattle.std.proofs.Common.{length, take, subst, append-nil}
 use Rattle.std.proofs.Math.Seq.{take-append-add}
 use Rattle.std.proofs.lemmas.Bool.{false≢true}
 use Rattle.std.specs.Io.KnownBytes.{Appends, Consumes, IsAtEnd, Keeps}
@@ -14,29 +14,15 @@ use Rattle.aig_step.specs.declared.fault.SimFault.TheVariants.{WriteFailed}
 use Rattle.aig_step.specs.declared.trace.Columns.{Columns}
 use Rattle.aig_step.specs.Outcome.{Came, Interrupted, NotSimulated, Simulated}
 use Rattle.aig_trace.specs.Parts.Streaming.{NotSent, Reached, SentAll, SentLines}
-use Rattle.aig_trace.specs.Parts.Tracing.{IsAt, Reading}
+use Rattle.aig_trace.specs.Parts.Tracing.{Reading}
 use Rattle.aig_trace.proofs.Taking.{none_bad_so_far, text_so_far}
-use Rattle.aig_step.proofs.Coming.{consumes_twice, consumes_kept, consumes_none}
+use Rattle.aig_step.proofs.Coming.{consumes_twice, consumes_kept}
 
 begins : (a b c : Option (List ℕ)) (xs ys : List ℕ) → Appends a b xs → TookBeginning b c ys
     → TookBeginning a c (xs ++ ys)
 begins a b c xs ys p q = record {
   count = length xs + q.count;
   took = rw take-append-add (appends_twice a b c xs (take q.count ys) p q.took);
-}
-
-appends_none : (a : Option (List ℕ)) → Appends a a []
-appends_none None = tt
-appends_none (Some xs) = sym (append-nil xs)
-
-pub reached_none : (c : Circuit) (columns : Columns) (at : Reading) (coming taken : Option (List ℕ))
-    → IsAt c columns [] [] at → Reached c columns at coming coming taken taken
-reached_none c columns at coming taken stands = record {
-  bytes = [];
-  text = [];
-  gave = consumes_none coming;
-  took = appends_none taken;
-  stands = stands;
 }
 
 module _ (c : Circuit) (columns : Columns) (at : Reading) (coming now left taken mid filled : Option (List ℕ))

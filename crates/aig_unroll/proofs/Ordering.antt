@@ -2,7 +2,6 @@
 pub mod One
 pub mod Rows
 pub mod Frames
-pub mod OneByOne
 pub mod Lower
 pub mod Gates
 pub mod Ordered

@@ -10,7 +10,7 @@ use Rattle.aig_witness.specs.Witness.{Nothing, Said, Shape, first_bad_witness_li
 use Rattle.aig_witness.specs.Witness.{said_with, shape_of, witness_of, wrong_line}
 use Rattle.aig_step.specs.Parts.Seen.{HasNoLineFeed}
 use Rattle.aig_witness.specs.Parts.Witnessing.{IsHeardAs}
-use Rattle.aig_step.proofs.WholeLines.{judged_at_end, judged_before, judged_so_far, last_of, nothing_seen}
+use Rattle.aig_step.proofs.WholeLines.{judged_at_end, judged_before, judged_so_far, last_of}
 use Rattle.aig_step.proofs.WholeLines.{seen_line, seen_more}
 
 behind_on : (number : ℕ) (o : Option Said) (rest whole : Said → Result Said ℕ) (t : Said) (r : Result Said ℕ)
@@ -49,10 +49,6 @@ wrong_behind shape number said t ls more l led is =
     led_on shape number said t ls (l ∷ more) led
     ∙ ap (λ (o : Option Said). said_behind (number + length ls) o
     (λ next. said_by shape (suc (number + length ls)) next more)) is
-
--- nothing came
-pub nothing_said : (shape : Shape) → IsHeardAs shape [] 0 [] Nothing
-nothing_said shape = record { whole = []; seen = nothing_seen; counted = refl; led = refl }
 
 -- the first wrong line, by the lines that are judged
 wrong_by : (c : Circuit) (bytes : List ℕ) (ended : Bool) (ls : List Line) → judged_lines bytes ended ≡ ls

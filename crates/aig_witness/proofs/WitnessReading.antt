@@ -1,9 +1,8 @@
 -- Bytes of a witness file that are taken by a reader, line by line.
 use Rattle.std.proofs.Common.{rules}
-use Rattle.std.proofs.Common.{◌≡◌, ◌≢◌, ◌+◌, ◌≤◌, ℕ, suc, List, [], ◌∷◌, ◌++◌, Bool, true, false, Some, None, Ok}
+use Rattle.std.proofs.Common.{◌≡◌, ◌≢◌, ◌+◌, ℕ, suc, List, [], ◌∷◌, ◌++◌, Bool, true, false, Some, None, Ok}
 use Rattle.std.proofs.Common.{length, take, max, Option, refl, sym, ap, ap₂, subst, ◌∙◌, append_assoc, append-nil, arith}
 use Rattle.aig_circuit.specs.declared.circuit.Circuit.{Circuit}
-use Rattle.aig_circuit.specs.declared.circuit.TheConstants.{LARGEST}
 use Rattle.aig_text.specs.Lines.{line}
 use Rattle.aig_witness.specs.declared.checker.Due.TheVariants as due
 use Rattle.aig_step.specs.Stimulus.{text_of, without_return}
@@ -15,7 +14,7 @@ use Rattle.aig_witness.specs.Parts.Witnessing.{HasFollowed, IsAtLine, PassedLine
 use Rattle.aig_witness.specs.Parts.Witnessing.{Witnessing, witness_room}
 use Rattle.aig_step.proofs.LineBytes.{kept_twice}
 use Rattle.aig_step.proofs.Coming.{take_none}
-use Rattle.aig_witness.proofs.WitnessLines.{none_wrong, nothing_said, said_at_end, said_last, said_line, said_more}
+use Rattle.aig_witness.proofs.WitnessLines.{none_wrong, said_at_end, said_last, said_line, said_more}
 use Rattle.aig_witness.proofs.WitnessLines.{wrong_after_last, wrong_at_end, wrong_ended, wrong_last}
 use Rattle.aig_witness.proofs.WitnessRoom.{kept_due}
 
@@ -23,21 +22,6 @@ use Rattle.aig_witness.proofs.WitnessRoom.{kept_due}
 nothing_kept : (n : ℕ) (rest : List ℕ) → take (suc n) rest ≡ [] → rest ≡ []
 nothing_kept n [] none = refl
 nothing_kept n (b ∷ bs) none = cc
-
--- before the first byte
-pub at_first_line : (at : WitnessReading) → length at.checking.circuit.bad ≤ LARGEST → at.kept.bytes ≡ []
-    → at.number ≡ 1 → Stands at.checking Nothing → IsAtLine at.checking.circuit [] at
-at_first_line at few none number stands = record {
-  same = refl;
-  few = few;
-  lines = 0;
-  rest = [];
-  said = Nothing;
-  heard = nothing_said (shape_of at.checking.circuit);
-  number = number;
-  kept = none ∙ sym (take_none (witness_room (shape_of at.checking.circuit)));
-  stands = stands;
-}
 
 -- what is said where no line is due, and where one is
 whole_followed : (c : Circuit) (bytes : List ℕ) (lines : ℕ) (w : Witnessing) (said : Said) → w.circuit ≡ c

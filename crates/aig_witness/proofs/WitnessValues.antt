@@ -5,10 +5,9 @@ use Rattle.std.proofs.Common.{if◌then◌else◌}
 use Rattle.std.specs.List.{list_all}
 use Rattle.aig_circuit.specs.declared.circuit.Reset.{Reset}
 use Rattle.aig_circuit.specs.declared.value.Val.{Val}
-use Rattle.aig_circuit.specs.declared.value.Val.TheVariants.{Zero, One, X}
+use Rattle.aig_circuit.specs.declared.value.Val.TheVariants.{X}
 use Rattle.aig_step.specs.Stimulus.{values_of}
 use Rattle.aig_witness.specs.Witness.{first_state_in, if_may_start, may_start_at, may_start_in}
-use Rattle.aig_witness.specs.Parts.Witnessing.{is_one}
 use Rattle.aig_step.proofs.EntryTexts.{values_length}
 
 and_fails : (a b : Bool) → b ≡ false → (a && b) ≡ false
@@ -21,12 +20,6 @@ pub fails_at : {X : Type 0} (p : X → Bool) (xs : List X) (i : ℕ) (d : X) →
 fails_at p [] i d low fails = absurd (omega arith)
 fails_at p (x ∷ xs) zero d low fails = ap (λ (b : Bool). b && list_all p xs) fails
 fails_at p (x ∷ xs) (suc i) d low fails = and_fails (p x) (list_all p xs) (fails_at p xs i d (omega arith) fails)
-
--- a value other than 1
-pub no_one : (v : Val) → v ≢ One → is_one v ≡ false
-no_one Zero other = refl
-no_one One other = absurd (other refl)
-no_one X other = refl
 
 -- whether latches may start at values, one by one
 pub starts : (rs : List Reset) (vs : List Val) (r : Reset) (v : Val) → length vs ≡ length rs

@@ -16,15 +16,11 @@ use Rattle.aig_step.specs.Parts.Lines.{vector_in}
 use Rattle.aig_batch.specs.Parts.RunsRead.{Says, entries_of_run}
 use Rattle.aig_step.specs.Parts.Seen.{IsHeard}
 use Rattle.aig_lanes.specs.Parts.Vectors.{AreVectors, said, vectors_in}
-use Rattle.aig_step.proofs.EntryTexts.{kept_first, values_length}
+use Rattle.aig_step.proofs.EntryTexts.{kept_first}
 use Rattle.aig_trace.proofs.Heard.{heard_line}
 use Rattle.aig_step.proofs.LineValues.{vector_long, vector_says}
 use Rattle.aig_lanes.proofs.Side.Vectors.{more_vectors, vectors_push}
 use Rattle.aig_step.proofs.WholeLines.{first_line}
-
--- no line
-pub says_none : (inputs : ℕ) (bytes : List ℕ) → Says inputs bytes 0 [] bytes
-says_none inputs bytes = search (rules, append-nil)
 
 -- lines behind lines
 pub says_then : (inputs : ℕ) (bytes mid rest : List ℕ) (m n : ℕ) (es fs : List Entry) → Says inputs bytes m es mid
@@ -87,13 +83,6 @@ module _ (inputs : ℕ) (bytes : List ℕ) (steps : List (List Val)) (before res
       → vector_in inputs (without_return (take next before)) ≡ Some given
       → Says inputs bytes (length now) (map Step now) rest
   one_step given now is said = search (rules, length-append, map-append, one_more, vector_says)
-
--- a vector has a value for each input
-pub vector_fits : (inputs : ℕ) (text : List ℕ) (given : List Val) → vector_in inputs text ≡ Some given
-    → length given ≡ inputs
-vector_fits inputs text given said =
-    let long = vector_long inputs text given said in
-    values_length text given (sym (vector_is inputs text long) ∙ said) ∙ long
 
 -- one more run
 pub one_run : (inputs : ℕ) (bytes before rest : List ℕ) (lines : ℕ) (runs now : List Run) (run : Run)

@@ -3,7 +3,6 @@ use Rattle.std.proofs.Common.{rules}
 use Rattle.std.proofs.Common.{◌≡◌, ◌+◌, ◌*◌, ◌<◌, ◌≤◌, ◌++◌, ℕ, zero, suc, List, [], ap, ap₂, arith, codes, drop}
 use Rattle.std.proofs.Common.{get_or}
 use Rattle.std.proofs.Common.{◌∙◌, length, map, refl, subst, sym, take}
-use Rattle.std.proofs.Math.Nat.{mul-add, mul-le-mul_left}
 use Rattle.aig_circuit.specs.declared.circuit.Circuit.{Circuit}
 use Rattle.aig_circuit.specs.declared.value.Val.{Val}
 use Rattle.aig_meaning.specs.Meaning.{literal_value, next_literals}
@@ -17,7 +16,6 @@ use Rattle.aig_step.specs.Parts.Lines.{row_read}
 use Rattle.aig_lanes.specs.Parts.Sheets.{SheetText, step_in, text_in}
 use Rattle.aig_step.specs.Parts.Tables.{read_from}
 use Rattle.aig_step.specs.TraceText.{properties_text, row_text, values_text}
-use Rattle.aig_lanes.proofs.Side.Groups.{ShowsTheSame}
 use Rattle.aig_lanes.proofs.Side.Sheets.{part_same, steps_within}
 
 properties_shown : (columns : Columns) (c : Circuit) (lane : ℕ) (values before given : List Val) (step : ℕ)
@@ -37,9 +35,6 @@ pub line_shown : (columns : Columns) (c : Circuit) (lane : ℕ) (values before g
 line_shown columns c lane values before given step shown state next are =
     let properties = properties_shown columns c lane values before given step shown are.properties in
     rw (state, are.outputs, next, properties) refl
-
-pub sheets_same : (a b : Circuit) (shown : Shown) → ShowsTheSame a b → HasSheets b shown → HasSheets a shown
-sheets_same a b shown same has = search rules
 
 -- sheets that have the places that they had are sheets of the circuit still
 pub sheets_stay : (c : Circuit) (before after : Shown) → SameRoom before after → HasSheets c before → HasSheets c after
@@ -127,9 +122,6 @@ same_room_twice a b c one more = record {
 pub rooms_twice : (a b c : Shown) → SameRoom a b → SameRoom b c → SameRoom a c
 rooms_twice a b c one more = search (rules, same_room_twice)
 
-pub room_same : (a : Shown) → SameRoom a a
-room_same a = search (rules, same_sheet)
-
 pub size_stays : (before after : Shown) → SameRoom before after → shown_size after ≡ shown_size before
 size_stays before after same =
     omega (arith, same.state.width, same.outputs.width, same.bad.width, same.constraints.width)
@@ -142,11 +134,3 @@ places_stay steps lane before after same there =
 pub holds_still : (lane : ℕ) (run : Run) (before after : Shown) → SameRoom before after → HoldsRun lane run before
     → HoldsRun lane run after
 holds_still lane run before after same holds = search (rules, places_stay)
-
-two_of : (n : ℕ) → 2 * n ≡ n + n
-two_of n = omega arith
-
--- the places of the state behind a step can be counted where two states for each line can
-pub fits_behind : (step width size bound : ℕ) → 2 * width ≤ size → (step + 1) * size < bound
-    → (step + 1) * width + width < bound
-fits_behind step width size bound two fits = search (rules, mul-le-mul_left, two_of, mul-add, steps_within)

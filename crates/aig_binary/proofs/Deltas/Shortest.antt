@@ -24,10 +24,6 @@ shortest_final value = refl
 pub one_group_less : (more value : ℕ) → value < 128 ^ suc more → value / 128 < 128 ^ more
 one_group_less more value h = search rules
 
-last_behind : (b : ℕ) (d : List ℕ) → 0 < length d → last_byte (b ∷ d) ≡ last_byte d
-last_behind b [] h = absurd (omega arith)
-last_behind b (c ∷ d) h = refl
-
 -- groups that spell the number, at most so many, with no zeros at the end of a number that is not 0
 record Spell (most value : ℕ) (bytes : List ℕ) : Type 0 where
   pub groups : AreGroups bytes

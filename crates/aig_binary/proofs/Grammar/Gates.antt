@@ -110,9 +110,6 @@ pub record AreGates (variable count : ℕ) (bytes : List ℕ) (gs : List Gate) (
   pub ordered : AreOrderedGates variable gs
   pub counted : length gs ≡ count
 
-no_gates : (variable : ℕ) (bytes : List ℕ) → AreGates variable 0 bytes [] bytes
-no_gates variable bytes = record { spelling = []; are = refl; spelled = refl; ordered = tt; counted = refl }
-
 one_gate : (variable count : ℕ) (bytes between rest : List ℕ) (g : Gate) (gs : List Gate)
     → IsGateAt variable bytes g between → AreGates (suc variable) count between gs rest
     → AreGates variable (suc count) bytes (g ∷ gs) rest

@@ -12,9 +12,8 @@ use Rattle.aig_core.specs.declared.fault.CheckFault.TheVariants.{Redefined}
 use Rattle.aig_core.specs.Fault.{first_redefinition, first_repeat, IsFault}
 use Rattle.aig_core.proofs.Checking.Faultless.{told_once, told_twice}
 use Rattle.aig_circuit.proofs.Checking.Joined.{defined_gates, defined_inputs, defined_is, defined_latches}
-use Rattle.std.proofs.Math.ListN.{replicate}
 use Rattle.std.proofs.Math.Seq.{take-append_seam}
-use Rattle.std.proofs.lemmas.List.{append-nil, get_or-replicate, get_or-set_other, get_or-set_same, length-replicate, length-set}
+use Rattle.std.proofs.lemmas.List.{append-nil, get_or-set_other, get_or-set_same, length-set}
 use Rattle.std.proofs.lemmas.List.Elements.{filter-append}
 use Rattle.std.proofs.lemmas.Bool.{cases_eq, eq-eqb, ne_eqb}
 use Rattle.aig_circuit.specs.declared.circuit.Circuit.{Circuit}
@@ -88,9 +87,6 @@ part_twice seen v xs none told =
     (λ i. first_repeat (none i) (each_itself xs i)) told)
 
 -- ---- parts
-
-pub none_parted : AreParts (replicate 256 []) []
-none_parted = record { many = length-replicate {A = List ℕ} 256 []; each = λ k low. get_or-replicate 256 k [] [] low }
 
 -- the numbers of a part, with one number more that is in it or is not
 part_more : (k x : ℕ) (all : List ℕ) (b : Bool) → is_in_part k x ≡ b

@@ -1,11 +1,8 @@
 -- The characters of literals in all lanes.
-use Rattle.std.proofs.Common.{rules}
-use Rattle.std.proofs.Common.{◌≡◌, ◌≢◌, ◌+◌, ◌*◌, ◌/◌, ◌%◌, ◌^◌, ◌<◌, ◌≤◌, ◌++◌, ℕ, zero, suc, List, [], ◌∷◌}
-use Rattle.std.proofs.Common.{drop, length, get_or, set, take, refl, sym, ap, ap₂, ◌∙◌, arith}
-use Rattle.std.proofs.lemmas.Bool.{cases_lt}
+use Rattle.std.proofs.Common.{◌≡◌, ◌≢◌, ◌+◌, ◌*◌, ◌/◌, ◌%◌, ◌^◌, ◌<◌, ◌≤◌, ℕ, zero, suc, List, [], ◌∷◌}
+use Rattle.std.proofs.Common.{drop, length, take, refl, sym, ap, ap₂, ◌∙◌, arith}
 use Rattle.std.proofs.Math.Nat.{add-mul, mul-le-mul_right, one-mul}
-use Rattle.std.proofs.lemmas.List.{drop-take, get_or-set_other, get_or-set_same, map-append, take-take, take_all}
-use Rattle.std.proofs.lemmas.List.{take_more, take_more_set}
+use Rattle.std.proofs.lemmas.List.{drop-take, take-take}
 use Rattle.std.proofs.lemmas.Nat.{pow_below, pow_pos, shr-shr}
 use Rattle.std.proofs.lemmas.Nat.Bits.{and_pow, bit_at_and, bit_at_ones, bit_at-lt}
 use Rattle.std.specs.Int.{bit_at}
@@ -17,16 +14,7 @@ use Rattle.aig_lanes.specs.Parts.Lanes.{IsPair, bit_in}
 use Rattle.std.proofs.lemmas.Simd.{length-zip2}
 use Rattle.aig_lanes.specs.Parts.Sheets.{OctetText, character_by, octet_text}
 use Rattle.aig_lanes.proofs.Side.Vectors.{one_more}
-use Rattle.aig_step.specs.TraceText.{character_of, values_text}
-
--- one more is put into both lists
-pub zip_set : (f : ℕ → ℕ → ℕ) (xs ys : List ℕ) (i a b : ℕ)
-    → zip2 f (set xs i a) (set ys i b) ≡ set (zip2 f xs ys) i (f a b)
-zip_set f [] ys i a b = refl
-zip_set f (x ∷ xs) [] zero a b = refl
-zip_set f (x ∷ xs) [] (suc i) a b = refl
-zip_set f (x ∷ xs) (y ∷ ys) zero a b = refl
-zip_set f (x ∷ xs) (y ∷ ys) (suc i) a b = ap (λ (zs : List ℕ). f x y ∷ zs) (zip_set f xs ys i a b)
+use Rattle.aig_step.specs.TraceText.{character_of}
 
 -- a part of both lists
 pub zip_take : (f : ℕ → ℕ → ℕ) (n : ℕ) (xs ys : List ℕ) → zip2 f (take n xs) (take n ys) ≡ take n (zip2 f xs ys)
@@ -58,22 +46,6 @@ pub pair_character : (l : ℕ) (high low : List ℕ) (x : Val) → IsPair l high
 pair_character l high low Zero is = ap₂ character_by is.one_bit is.zero_bit
 pair_character l high low One is = ap₂ character_by is.one_bit is.zero_bit
 pair_character l high low X is = ap₂ character_by is.one_bit is.zero_bit
-
--- one more value is shown
-pub shown_more : (i : ℕ) (text : List ℕ) (shown : List Val) (c : ℕ) (x : Val) → i < length text → i < length shown
-    → take i text ≡ values_text (take i shown) → c ≡ character_of x → x ≡ get_or shown i Zero
-    → take (i + 1) (set text i c) ≡ values_text (take (i + 1) shown)
-shown_more i text shown c x here there before shows is =
-    take_more_set text i c here
-    ∙ ap₂ (λ (front : List ℕ) (d : ℕ). front ++ d ∷ []) before (shows ∙ ap character_of is)
-    ∙ sym (ap values_text (take_more shown i Zero there)
-    ∙ map-append character_of (take i shown) (get_or shown i Zero ∷ []))
-
--- all of them
-pub all_shown : (i : ℕ) (text : List ℕ) (shown : List Val) → length text ≤ i → length shown ≤ i
-    → take i text ≡ values_text (take i shown) → text ≡ values_text shown
-all_shown i text shown end end_too is =
-    sym (take_all i text end) ∙ is ∙ ap values_text (take_all i shown end_too)
 
 -- a bit times a number that is not 0
 no_times : (bit more : ℕ) → 0 < more → bit * more ≡ 0 → bit ≡ 0
@@ -127,9 +99,3 @@ steps_within step end width below =
     add-mul step 1 width ∙ ap (λ (n : ℕ). step * width + n) (one-mul width) in
     let more : step + 1 ≤ end = omega arith in
     omega (arith, next, mul-le-mul_right {m = step + 1} {n = end} width more)
-
--- an octet is replaced by one that is as long
-pub long_after : (octets : List OctetText) (here k j : ℕ) (now d : OctetText) → here < length octets
-    → length (octet_text j now) ≡ length (octet_text j (get_or octets here d))
-    → length (octet_text j (get_or (set octets here now) k d)) ≡ length (octet_text j (get_or octets k d))
-long_after octets here k j now d room same = search (rules, cases_lt, get_or-set_other, get_or-set_same)

@@ -44,12 +44,6 @@ vectors_push inputs stride (suc steps) lines =
     ∙ ap (λ ls. vectors_in inputs stride steps (drop stride lines) ++ said (values_of (take inputs ls)) ∷ [])
     (drop-drop (steps * stride) stride lines ∙ ap (λ n. drop n lines) (sym (one_more steps stride))))
 
-pub no_vectors : (inputs stride : ℕ) (lines : List ℕ) → AreVectors inputs stride 0 lines
-no_vectors inputs stride lines = record {
-  within = λ k below. absurd (omega (arith, below));
-  good = λ k below. absurd (omega (arith, below));
-}
-
 pub more_vectors : (inputs stride steps : ℕ) (lines : List ℕ) → AreVectors inputs stride steps lines
     → steps * stride + inputs ≤ length lines
     → is_some (values_of (take inputs (drop (steps * stride) lines))) ≡ true

@@ -1,12 +1,10 @@
 -- Why undoing refuses.
 use Rattle.std.proofs.Common.{rules}
-use Rattle.std.proofs.Common.{◌≡◌, ◌↔◌, ap, ◌∙◌, sym, subst, refl, ◌⊎◌, inl, inr, ⊎_elim, ℕ, zero, suc, ◌+◌, cond, IsOk}
-use Rattle.std.proofs.Common.{IfOk, IfErr, OnOk, MatchResult, List, Bool, true, false, true≢false, IsTrue, Result, Ok}
+use Rattle.std.proofs.Common.{◌≡◌, ap, ◌∙◌, sym, subst, refl, ◌⊎◌, inl, inr, ⊎_elim, ℕ, zero, suc, ◌+◌, cond, IsOk}
+use Rattle.std.proofs.Common.{IfOk, IfErr, OnOk, MatchResult, List, Bool, true, false, Result, Ok}
 use Rattle.std.proofs.Common.{Err, Option, None, Some}
 use Rattle.aig_circuit.specs.declared.circuit.Circuit.{Circuit}
-use Rattle.aig_circuit.specs.Form.{IsInForm}
 use Rattle.aig_circuit.specs.Wellformed.{AreDistinct, IsWellFormed, defined_variables}
-use Rattle.aig_circuit.proofs.Checking.Fitting.{well_formed_in_form}
 use Rattle.aig_topo.proofs.Ordering.LeastReady.{one_least_ready_order}
 use Rattle.aig_core.specs.BinaryOrder.{IsInBinaryOrder}
 use Rattle.aig_order.specs.declared.fault.MapFault.{MapFault}
@@ -30,10 +28,6 @@ use Rattle.aig_order.proofs.Mapping.MappedOrder.{mapped_image_is_ordered}
 -- a circuit has one mapped image, since its gates have one order
 pub one_mapped : (c a b : Circuit) → IsMappedImage c a → IsMappedImage c b → a ≡ b
 one_mapped c a b p q = p.2 ∙ ap (λ order. mapped_by order c) (one_least_ready_order c p.0 q.0 p.1 q.1) ∙ sym q.2
-
--- what is not in form is not well formed
-pub not_in_form : (c : Circuit) (in_form : Bool) → (IsTrue in_form ↔ IsInForm c) → in_form ≡ false → ¬ IsWellFormed c
-not_in_form c in_form tells is good = true≢false (sym (tells.1 (well_formed_in_form c good)) ∙ is)
 
 -- a fault that reading a block can find
 abbrev IsReadFault : MapFault → Type 0

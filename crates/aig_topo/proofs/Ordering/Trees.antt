@@ -2,7 +2,7 @@
 use Rattle.std.proofs.Common.{rules}
 use Rattle.std.proofs.Common.{◌≡◌, ◌≢◌, ◌<◌, ◌≤◌, ◌+◌, ◌-◌, ◌*◌, ◌/◌, ◌%◌, ◌^◌, ℕ, zero, suc, List, Bool, true, false}
 use Rattle.std.proofs.Common.{cond, eqb, ltb, length, get_or, refl, sym, subst, ap, ap₂, ◌∙◌, ⊎_elim, arith}
-use mathlib.Core.Bool.{not, beq, ◌||◌, ◌&&◌}
+use mathlib.Core.Bool.{not, ◌||◌, ◌&&◌}
 use Rattle.std.specs.Int.{w64, bit_at}
 use Rattle.std.specs.Int.Bits.{bit_and, bit_or}
 use Rattle.std.proofs.Math.ListN.{set as put}
@@ -42,16 +42,6 @@ bit_cleared word k i within within_too =
 -- whether a word has any bit
 pub has_any : (word : ℕ) → not (eqb word 0) ≡ ltb 0 word
 has_any word = grind arith
-
-same_bool : (a b : Bool) → beq a b ≡ true → a ≡ b
-same_bool true true same = refl
-same_bool true false same = cc
-same_bool false true same = cc
-same_bool false false same = refl
-
-pub any_as_before : (before after : ℕ) → beq (eqb before 0) (eqb after 0) ≡ true → ltb 0 before ≡ ltb 0 after
-any_as_before before after same = sym (has_any before) ∙ ap not (same_bool (eqb before 0) (eqb after 0) same)
-    ∙ has_any after
 
 -- two numbers of one word and one place in it are one
 one_place : (i k : ℕ) → i / 64 ≡ k / 64 → i % 64 ≡ k % 64 → i ≡ k

@@ -1,9 +1,9 @@
--- The frames of an unrolled circuit, one by one: how many gates each has, and which variables these define.
+-- The frames of an unrolled circuit, one by one: how many gates each has.
 use Rattle.std.proofs.Common.{◌≡◌, ◌+◌, ◌*◌, ◌<◌, ℕ, zero, suc, List, [], ◌∷◌, ◌++◌, length, map, get_or}
-use Rattle.std.proofs.Common.{refl, ap, ap₂, ◌∙◌, length-append, arith}
+use Rattle.std.proofs.Common.{refl, ap, ◌∙◌, length-append, arith}
 use Rattle.std.specs.List.{flat_map, range_with_len}
 use Rattle.std.proofs.Math.Nat.{suc-mul}
-use Rattle.std.proofs.lemmas.List.{length-map, map-append}
+use Rattle.std.proofs.lemmas.List.{length-map}
 use Rattle.std.proofs.lemmas.List.FromFn.{length-range_with_len}
 use Rattle.aig_circuit.specs.declared.circuit.Gate.{Gate}
 use Rattle.aig_circuit.specs.declared.circuit.Latch.{Latch}
@@ -11,14 +11,10 @@ use Rattle.aig_circuit.specs.declared.circuit.Reset.{Reset}
 use Rattle.aig_circuit.specs.declared.circuit.Reset.TheVariants as resets
 use Rattle.aig_circuit.specs.declared.circuit.Circuit.{Circuit}
 use Rattle.aig_circuit.specs.Literal.{literal_of}
-use Rattle.aig_core.proofs.Numbered.Ranges.{ranges_joined}
 use Rattle.aig_unroll.specs.Unrolled.{at, bad_at, chain_at, chained, copied, first_bad, first_constraint}
 use Rattle.aig_unroll.specs.Unrolled.{first_gate, first_latches, frame_size, gates_at, guarded, latches_at, literal_in}
 use Rattle.aig_unroll.specs.Unrolled.{next_of, outputs_at, resets_of}
-use Rattle.aig_unroll.proofs.Ordering.Rows.{one_row_more, row_read, rows_length}
-
-abbrev pub variables_of : List Gate → List ℕ
-variables_of gates = map (λ (g : Gate). g.var) gates
+use Rattle.aig_unroll.proofs.Ordering.Rows.{row_read, rows_length}
 
 pub copied_length : (f : ℕ → ℕ) (v : ℕ) (gs : List Gate) → length (copied f v gs) ≡ length gs
 copied_length f v [] = refl
@@ -37,22 +33,6 @@ first_length v [] = refl
 first_length v (resets.Zero ∷ rs) = ap suc (first_length v rs)
 first_length v (resets.One ∷ rs) = ap suc (first_length v rs)
 first_length v (resets.Uninit ∷ rs) = ap suc (first_length (v + 1) rs)
-
--- each kind of gates defines variables one after another
-pub copied_variables : (f : ℕ → ℕ) (v : ℕ) (gs : List Gate)
-    → variables_of (copied f v gs) ≡ range_with_len v (length gs)
-copied_variables f v [] = refl
-copied_variables f v (g ∷ gs) = ap (λ (vs : List ℕ). v ∷ vs) (copied_variables f (v + 1) gs)
-
-pub chained_variables : (v chain : ℕ) (xs : List ℕ)
-    → variables_of (chained v chain xs) ≡ range_with_len v (length xs)
-chained_variables v chain [] = refl
-chained_variables v chain (x ∷ xs) = ap (λ (vs : List ℕ). v ∷ vs) (chained_variables (v + 1) (literal_of v) xs)
-
-pub guarded_variables : (v chain : ℕ) (xs : List ℕ)
-    → variables_of (guarded v chain xs) ≡ range_with_len v (length xs)
-guarded_variables v chain [] = refl
-guarded_variables v chain (x ∷ xs) = ap (λ (vs : List ℕ). v ∷ vs) (guarded_variables (v + 1) chain xs)
 
 module _ (c : Circuit) (frames : ℕ) where
   -- where the next frame's gates begin
@@ -93,40 +73,6 @@ module _ (c : Circuit) (frames : ℕ) where
         chain_length t,
         guards_length t,
       )
-
-  -- the gates of a frame define the variables from its first one on
-  pub frame_variables : (t : ℕ)
-      → variables_of (gates_at c frames t) ≡ range_with_len (first_gate c frames t) (frame_size c)
-  frame_variables t =
-      let var : Gate → ℕ = λ g. g.var in
-      let size : length (map (at c frames t) c.constraints) ≡ length c.constraints =
-      length-map c.constraints (at c frames t) in
-      let bads : length (map (at c frames t) c.bad) ≡ length c.bad = length-map c.bad (at c frames t) in
-      let all : length c.gates + (length c.constraints + length c.bad) ≡ frame_size c = omega arith in
-      map-append var (copies t) (chain t ++ guards t)
-      ∙ ap₂ (λ (xs ys : List ℕ). xs ++ ys) (copied_variables (at c frames t) (first_gate c frames t) c.gates)
-      (map-append var (chain t) (guards t)
-      ∙ ap₂ (λ (xs ys : List ℕ). xs ++ ys)
-      (chained_variables (first_constraint c frames t) (chain_at c frames t) (map (at c frames t) c.constraints)
-      ∙ ap (range_with_len (first_constraint c frames t)) size)
-      (guarded_variables (first_bad c frames t) (chain_at c frames (suc t)) (map (at c frames t) c.bad)
-      ∙ ap (range_with_len (first_bad c frames t)) bads)
-      ∙ ranges_joined (first_constraint c frames t) (length c.constraints) (length c.bad))
-      ∙ ranges_joined (first_gate c frames t) (length c.gates) (length c.constraints + length c.bad)
-      ∙ ap (range_with_len (first_gate c frames t)) all
-
-  -- frame by frame
-  pub gates_more : (n : ℕ) → flat_map (gates_at c frames) (range_with_len 0 (n + 1))
-      ≡ flat_map (gates_at c frames) (range_with_len 0 n) ++ gates_at c frames n
-  gates_more n = one_row_more (gates_at c frames) n
-
-  pub outputs_more : (n : ℕ) → flat_map (outputs_at c frames) (range_with_len 0 (n + 1))
-      ≡ flat_map (outputs_at c frames) (range_with_len 0 n) ++ outputs_at c frames n
-  outputs_more n = one_row_more (outputs_at c frames) n
-
-  pub bad_more : (n : ℕ) → flat_map (bad_at c frames) (range_with_len 0 (n + 1))
-      ≡ flat_map (bad_at c frames) (range_with_len 0 n) ++ bad_at c frames n
-  bad_more n = one_row_more (bad_at c frames) n
 
   -- where a frame's gates stand among those of all frames
   pub gate_stands : (n t i : ℕ) (d : Gate) → t < n → i < frame_size c

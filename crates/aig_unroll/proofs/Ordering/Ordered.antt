@@ -2,7 +2,6 @@
 use Rattle.std.proofs.Common.{◌≡◌, ◌+◌, ◌*◌, ◌<◌, ◌≤◌, ℕ, List, ◌++◌, length, map, refl, sym, ap}
 use Rattle.std.proofs.Common.{subst, inl, inr, arith}
 use Rattle.std.specs.List.{AllByRecursion, concat, flat_map, range_with_len}
-use Rattle.std.proofs.Math.Nat.{mul-le-mul_right}
 use Rattle.std.proofs.lemmas.Bool.{cases_lt}
 use Rattle.std.proofs.lemmas.List.FromFn.{length-range_with_len}
 use Rattle.aig_circuit.specs.declared.circuit.Latch.{Latch}
@@ -16,12 +15,12 @@ use Rattle.aig_circuit.proofs.Checking.Fitting.{all_weaker, well_formed_in_form}
 use Rattle.aig_circuit.proofs.Checking.InForm.{front, back, each_of}
 use Rattle.aig_core.proofs.Numbered.Ranges.{each_in_range}
 use Rattle.aig_core.proofs.Numbered.WellOrdered.{well_formed}
-use Rattle.aig_unroll.specs.Unrolled.{IsTooLarge, all_inputs, at, bad_at, chain_at, first_bad, first_gate, frame_size}
-use Rattle.aig_unroll.specs.Unrolled.{latches_at, next_of, outputs_at, unrolled}
+use Rattle.aig_unroll.specs.Unrolled.{IsTooLarge, all_inputs, bad_at, first_bad, first_gate, frame_size}
+use Rattle.aig_unroll.specs.Unrolled.{next_of, outputs_at, unrolled}
 use Rattle.aig_unroll.proofs.Ordering.Frames.{bad_length, gates_length, outputs_length}
 use Rattle.aig_unroll.proofs.Ordering.Gates.{frames_ordered}
-use Rattle.aig_unroll.proofs.Ordering.Lower.{IsBelow, all_at_below, at_below, chain_at_below}
-use Rattle.aig_unroll.proofs.Ordering.Lower.{latches_below, own_end}
+use Rattle.aig_unroll.proofs.Ordering.Lower.{IsBelow, all_at_below}
+use Rattle.aig_unroll.proofs.Ordering.Lower.{own_end}
 use Rattle.aig_unroll.proofs.Ordering.Rows.{all_mapped, all_rows, row_end}
 
 module _ (c : Circuit) (frames : ℕ) (good : IsWellFormed c) (ordered : IsInBinaryOrder c) where
@@ -62,28 +61,6 @@ module _ (c : Circuit) (frames : ℕ) (good : IsWellFormed c) (ordered : IsInBin
   -- all gates of a frame stand within the unrolled circuit
   frame_fits : (t : ℕ) → t < frames → first_gate c frames t + frame_size c ≤ d.max_var + 1
   frame_fits t there = omega (arith, row_end (frame_size c) t frames there)
-
-  -- what a literal is in a frame is a literal of the unrolled circuit
-  pub at_up_to : (t literal : ℕ) → t < frames → literal ≤ 2 * c.max_var + 1 → at c frames t literal ≤ 2 * d.max_var + 1
-  at_up_to t literal there fits =
-      let below : IsBelow (first_gate c frames t + length c.gates) (at c frames t literal) =
-      at_below c frames next_below t (length c.gates) literal there (omega (arith, ordered.all)) in
-      omega (arith, frame_fits t there)
-
-  -- so are the latches of a frame and the chain before it, also behind the last frame
-  start_fits : (t : ℕ) → t ≤ frames → first_gate c frames t ≤ d.max_var + 1
-  start_fits t fits =
-      let more : t * frame_size c ≤ frames * frame_size c = mul-le-mul_right (frame_size c) fits in omega (arith, more)
-
-  pub latches_up_to : (t : ℕ) → t ≤ frames → AllByRecursion (IsLiteralUpTo d.max_var) (latches_at c frames t)
-  latches_up_to t fits =
-      all_weaker (IsBelow (first_gate c frames t)) (IsLiteralUpTo d.max_var)
-      (λ l below. omega (arith, start_fits t fits)) (latches_at c frames t) (latches_below c frames next_below t fits)
-
-  pub chain_up_to : (t : ℕ) → t ≤ frames → chain_at c frames t ≤ 2 * d.max_var + 1
-  chain_up_to t fits =
-      let below : IsBelow (first_gate c frames t) (chain_at c frames t) = chain_at_below c frames t in
-      omega (arith, start_fits t fits)
 
   outputs_up_to : AllByRecursion (IsLiteralUpTo d.max_var) d.outputs
   outputs_up_to =
