@@ -12,6 +12,9 @@ functions are put in together, and each is judged by what 'rt check' says of its
 waits for another that is not proved is tried again when that one is right again. One that seems to be proved is tried
 again alone.
 
+Three ways of refusing are told apart: the prover refutes a goal, with values at which it is false; it finds no proof; or all
+that fails is an answer that names what the wrong body took away, which says little of the contract, so these are listed.
+
 Each public function that has a body wants a wrong one, here or in must-fail/, but for those of the file WITHOUT.
 
 The last line is 'N passed, M failed'. The variable RT names another rt than the one on the PATH.
@@ -33,6 +36,14 @@ FUNCTION = re.compile(r"^( *)(pub )?(?:pub\(\w+\) )?(?:const )?fn (\w+)", re.M)
 BLOCK = re.compile(r"^(?:impl\b|(?:pub(?:\(\w+\))? )?trait\b)[^{]*", re.M)
 # What the check says of a function with goals of its own that are open, and not of one that waits for another.
 OPEN = re.compile(r"not proved$|no proof: expected answers")
+
+
+# A goal with values at which it is false, and a proof file that names what is not there any more.
+REFUTED = "allow values at which this goal is false"
+MISSING_NAME = re.compile(r"has no field|is not in scope|has no `|was not admitted|has no goal")
+
+# The ways in which a wrong body is refused.
+WAYS = ("refuted", "without a proof", "for want of a name")
 
 
 class Unfit(Exception):
@@ -152,6 +163,24 @@ class Said:
         named = [it for it in self.functions if it == function or is_method and it.endswith(function)]
         return self.functions[named[0]] if len(named) == 1 else "proved"
 
+    def way(self):
+        """In which way this check refused: the strongest that one of its lines shows."""
+        errors = re.findall(r"^\./proofs/\S+: error: .*", self.text, re.M)
+        if REFUTED in self.text:
+            return WAYS[0]
+        is_open = "no proof: expected answers" in self.text
+        return WAYS[1] if is_open or not all(MISSING_NAME.search(it) for it in errors) else WAYS[2]
+
+    def way_of(self, function):
+        """The same of one function among several: by the notes before its line, and by the errors of its proof files."""
+        line = re.search(rf"^fn \S*{re.escape(function)}: .*$", self.text, re.M)
+        before = self.text[: line.start()].rpartition("\nfn ")[2] if line else self.text
+        if REFUTED in before:
+            return WAYS[0]
+        errors = re.findall(rf"^\./proofs/\S*/{function.rpartition('::')[2]}/\S+: error: .*", self.text, re.M)
+        is_open = line and "expected answers" in line[0]
+        return WAYS[1] if is_open or not errors or not all(MISSING_NAME.search(it) for it in errors) else WAYS[2]
+
     def start(self):
         lines = self.text.splitlines()
         return " / ".join([it for it in lines if "error" in it][:2] or lines[-2:])[:300]
@@ -173,7 +202,7 @@ class Copy:
     """A copy of the repository in which one crate is changed and checked."""
 
     def __init__(self, crate, room):
-        self.folder, self.checks = Path(room) / "crates" / crate, 0
+        self.folder, self.checks, self.ways = Path(room) / "crates" / crate, 0, {}
         known = crates()
         shutil.copy2(TOP / "crates.txt", room)
         for name in known:
@@ -210,6 +239,7 @@ class Copy:
         said = self.check(self.with_bodies([body])[1])
         if said.is_proved is None:
             return f"it could not be judged: {said.start()}"
+        self.ways[body] = said.way()
         return "NOT REFUSED: the crate is still proved with it" if said.is_proved else None
 
     def together(self, bodies):
@@ -223,6 +253,7 @@ class Copy:
             return {**self.together(bodies[:half]), **self.together(bodies[half:])}
         lines = {it: said.of(it.function()) for it in bodies}
         judged = {it: None for it, line in lines.items() if OPEN.match(line)}
+        self.ways.update({it: said.way_of(it.function()) for it in judged})
         judged.update({it: self.alone(it) for it, line in lines.items() if line.startswith("proved")})
         return judged or {bodies[0]: self.alone(bodies[0])}
 
@@ -266,9 +297,13 @@ def try_crate(crate):
             return 0, [*failed, f"{crate} is not proved as it is, so nothing was tried"]
         judged = copy.judge(bodies)
     wrong = [f"{body.label}: {why}" for body, why in judged.items() if why]
-    refused = len(judged) - len(wrong)
-    print(f"{crate}: {refused} of {len(bodies)} wrong bodies are refused, after {copy.checks} checks", flush=True)
-    return refused, failed + wrong
+    refused = [body for body, why in judged.items() if not why]
+    counts = ", ".join(f"{sum(copy.ways[it] == way for it in refused)} {way}" for way in WAYS)
+    print(f"{crate}: {len(refused)} of {len(bodies)} wrong bodies are refused ({counts}), after {copy.checks} checks", flush=True)
+    for body in refused:
+        if copy.ways[body] == WAYS[2]:
+            print(f"    {body.label}: {WAYS[2]}")
+    return len(refused), failed + wrong
 
 
 def main(names):
