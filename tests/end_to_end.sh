@@ -2,6 +2,8 @@
 # Runs the linked program on real files and pipes: the rows of the table in rows.sh, and what needs a device of
 # the system, as a closed standard output, a large file or little memory. Then the launcher, and other programs that read
 # AIGER files, where there are any.
+#
+#     tests/end_to_end.sh [rows | rest]     all of this, or the rows alone, or all but these
 . "$(dirname "${BASH_SOURCE[0]}")/rows.sh"
 . "$top/tests/judge.sh"
 need_program
@@ -16,7 +18,8 @@ row() {
     judge "$name (pipe)" "${PIPESTATUS[1]}"
     check "$name (file)" "$program" "$@" < "$work/in"
 }
-rows
+[ "${1:-rows}" != rows ] || rows
+[ "${1:-rest}" = rest ] || finish
 
 convert() { "$program" aigtoaig --ascii; }
 small='aag 3 1 1 2 0\n6\n2 7\n2\n0\n'

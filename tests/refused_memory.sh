@@ -6,10 +6,15 @@
 # counts once. What happens before anything is read is the same for all rows with the same words, so it is refused
 # once, with a folder as standard input and as the model; and what happens before a stimulus is read is so with the
 # same model, with a folder as the stimulus.
+#
+#     tests/refused_memory.sh [K N]     all rows, or every Nth one from number K on, counted from 0
 . "$(dirname "${BASH_SOURCE[0]}")/rows.sh"
 . "$top/tests/judge.sh"
 need_program
 most=200000   # a row that grows more often than this fails
+first=${1:-0}
+step=${2:-1}
+rows=0
 each=100      # of a row's own growths so many are refused one by one, and behind them ever fewer of many
 
 if ! compile_preload refuse_growth; then
@@ -91,6 +96,7 @@ without_model() {
 }
 
 row() {
+    [ $((rows++ % step)) = "$first" ] || return 0
     local name=$1 input=$work/in status=$5 number ended known reads=source position unread sparse=
     printf '%b' "$2" > "$work/in"
     wants "$3" "$4" "$5"
