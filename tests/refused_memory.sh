@@ -12,9 +12,9 @@
 . "$top/tests/judge.sh"
 need_program
 most=200000   # a row that grows more often than this fails
-first=${1:-0}
-step=${2:-1}
-rows=0
+part=${1:-0}
+parts=${2:-1}
+rows_met=0
 each=100      # of a row's own growths so many are refused one by one, and behind them ever fewer of many
 
 if ! compile_preload refuse_growth; then
@@ -96,7 +96,7 @@ without_model() {
 }
 
 row() {
-    [ $((rows++ % step)) = "$first" ] || return 0
+    [ $((rows_met++ % parts)) = "$part" ] || return 0
     local name=$1 input=$work/in status=$5 number ended known reads=source position unread sparse=
     printf '%b' "$2" > "$work/in"
     wants "$3" "$4" "$5"
