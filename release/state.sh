@@ -1,5 +1,5 @@
-# Read by aiger, prove, test and release/make, which set $top, the repository's folder: what the program's sources are, and
-# which program is of these sources.
+# Read by aiger, prove, test and the scripts beside it, which set $top, the repository's folder: what the program's sources
+# are, and which program is of these sources.
 
 out=$top/crates/aiger/out
 
