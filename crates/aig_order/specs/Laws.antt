@@ -6,10 +6,10 @@ use Rattle.aig_circuit.specs.Wellformed.{IsWellFormed}
 use Rattle.aig_core.specs.BinaryOrder.{IsInBinaryOrder}
 use Rattle.aig_meaning.specs.Meaning.{MeansTheSame, Row}
 use Rattle.aig_meaning.specs.Trace.{IsTrace}
-use Rattle.aig_order.specs.declared.map_block.MapBlock.{MapBlock}
-use Rattle.aig_order.specs.MapBlock.{block_text, IsMappedImage}
-use Rattle.aig_order.specs.MapReading.{block_reading, HasCountsOf, IsWithinBounds}
-use Rattle.aig_order.specs.Undone.{IsUndoneFrom}
+use Rattle.aig_map.specs.declared.map_block.MapBlock.{MapBlock}
+use Rattle.aig_map.specs.MapBlock.{block_text, IsMappedImage}
+use Rattle.aig_map.specs.MapReading.{block_reading, HasCountsOf, IsWithinBounds}
+use Rattle.aig_map.specs.Undone.{IsUndoneFrom}
 
 -- a well-formed circuit has exactly one mapped image, which is well formed and in binary order
 abbrev pub MappedImageIsOne : Type 0

@@ -6,14 +6,14 @@ ghost use Rattle.aig_core.specs.BinaryOrder.{IsNumberedInOrder};
 ghost use Rattle.aig_image.specs.Parts.Numbers.{number_of, IsRenumberingOf};
 ghost use Rattle.aig_image.specs.Relabelled.{FitIntoLiterals, relabelled};
 ghost use Rattle.aig_image.specs.Reordered.{with_operands_sorted};
-ghost use Rattle.aig_order.specs.MapBlock.{IsMappedImage, block_by, mapped_comment};
-ghost use Rattle.aig_order.specs.Parts.Kept.{AreVariablesOf};
+ghost use Rattle.aig_map.specs.MapBlock.{IsMappedImage, block_by, mapped_comment};
+ghost use Rattle.aig_map.specs.Parts.Kept.{AreVariablesOf};
 
-use crate::map_text::{KeptVariables, keep_variables, map_comment, new_map_comment};
 use aig_core::{
     Checked, Circuit, LARGEST, Listing, Ordered, OutOfMemory, Var, is_numbered_in_order,
 };
 use aig_image::{Labels, Renumbering, relabel, sort_operands};
+use aig_map::{KeptVariables, keep_variables, map_comment, new_map_comment};
 use std::alloc::Global;
 
 /// What labels each variable with itself. One that is too large for a literal, as no circuit has any, gets the largest

@@ -2,24 +2,21 @@
 ghost use Rattle.std.specs.Prelude.{◌≡◌, ◌↔◌, ◌⊎◌, IfOk, IfErr, IsTrue, MatchResult, Ok, OnOk};
 ghost use Rattle.aig_circuit.specs.declared.circuit.Circuit.{Circuit as CircuitRecord};
 ghost use Rattle.aig_circuit.specs.Wellformed.{AreDistinct, IsWellFormed, defined_variables};
-ghost use Rattle.aig_order.specs.declared.fault.MapFault.TheVariants.{Forged as IsForged, OutOfMemory as IsOutOfMemory};
+ghost use Rattle.aig_map.specs.declared.fault.MapFault.TheVariants.{Forged as IsForged, OutOfMemory as IsOutOfMemory};
 ghost use Rattle.aig_core.specs.BinaryOrder.{IsInBinaryOrder};
-ghost use Rattle.aig_order.specs.MapBlock.{IsMappedImage};
-ghost use Rattle.aig_order.specs.MapReading.{block_reading};
-ghost use Rattle.aig_order.specs.Parts.Confirmed.{ExchangesDiffer};
-ghost use Rattle.aig_order.specs.Parts.Tables.{block_read, source_read, IsTakenOutOf};
-ghost use Rattle.aig_order.specs.Parts.Turns.{positions};
-ghost use Rattle.aig_order.specs.Undone.{IsMapFault, IsUndoneFrom, comment_behind, places_recorded, source_variables};
-ghost use Rattle.aig_order.specs.Undone.{undone};
+ghost use Rattle.aig_map.specs.MapBlock.{IsMappedImage};
+ghost use Rattle.aig_map.specs.MapReading.{block_reading};
+ghost use Rattle.aig_map.specs.Parts.Confirmed.{ExchangesDiffer};
+ghost use Rattle.aig_map.specs.Parts.Tables.{block_read, source_read, IsTakenOutOf};
+ghost use Rattle.aig_map.specs.Parts.Turns.{positions};
+ghost use Rattle.aig_map.specs.Undone.{IsMapFault, IsUndoneFrom, comment_behind, places_recorded, source_variables};
+ghost use Rattle.aig_map.specs.Undone.{undone};
 
-use crate::confirmed::tells_comment;
-use crate::fault::MapFault;
-use crate::map_block::MapBlock;
-use crate::map_reading::read_block;
-use crate::recorded::{Recorded, take_out};
-use crate::turns::{positions, tells_order};
-use crate::undone::{SourceVariables, make_undone, source_variables};
 use aig_core::{Checked, Circuit, OutOfMemory, is_defined_once, is_in_binary_order};
+use aig_map::{
+    MapBlock, MapFault, Recorded, SourceVariables, make_undone, positions, read_block,
+    source_variables, take_out, tells_comment, tells_order,
+};
 use std::alloc::Global;
 
 /// The source, which is forged where it is not well formed. Nothing else can be wrong with it than that a variable is

@@ -7,7 +7,7 @@ use Rattle.aig_meaning.specs.Meaning.{IsRow, MeansTheSame, Row}
 use Rattle.aig_meaning.proofs.Same.{means_itself, same_back, same_by_rows, same_through}
 use Rattle.aig_image.proofs.Imaging.Ordered.{image_is_ordered}
 use Rattle.aig_image.proofs.Meaning.Images.{image_means_the_same}
-use Rattle.aig_order.proofs.Mapping.MappedOrder.{mapped_image_is_ordered}
+use Rattle.aig_map.proofs.Mapping.MappedOrder.{mapped_image_is_ordered}
 use Rattle.aig_order.proofs.Meaning.{mapped_image_means_the_same, undone_means_the_same}
 use Rattle.aig_command.specs.declared.request.ToAig.{ToAig}
 use Rattle.aig_tools.specs.File.{IsFileOf}

@@ -12,12 +12,12 @@ use Rattle.aig_core.specs.BinaryOrder.{IsInBinaryOrder}
 use Rattle.aig_binary.specs.BinaryText.{binary_text}
 use Rattle.aig_binary.proofs.Canonical.{canonical_binary}
 use Rattle.aig_image.specs.Image.{IsBinaryImage}
-use Rattle.aig_order.specs.MapBlock.{IsMappedImage}
-use Rattle.aig_order.specs.Undone.{IsUndoneFrom}
-use Rattle.aig_order.proofs.Mapping.MappedOrder.{mapped_image_is_ordered}
+use Rattle.aig_map.specs.MapBlock.{IsMappedImage}
+use Rattle.aig_map.specs.Undone.{IsUndoneFrom}
+use Rattle.aig_map.proofs.Mapping.MappedOrder.{mapped_image_is_ordered}
 use Rattle.aig_image.proofs.Imaging.One.{image_is_one}
-use Rattle.aig_order.proofs.Sources.OneSource.{one_source, undoing_recovers}
-use Rattle.aig_order.proofs.Sources.Refused.{one_mapped}
+use Rattle.aig_map.proofs.Sources.OneSource.{one_source, undoing_recovers}
+use Rattle.aig_map.proofs.Sources.Refused.{one_mapped}
 use Rattle.aig_image.proofs.Imaging.OwnImage.{own_image}
 use Rattle.aig_command.specs.declared.request.ToAig.{ToAig}
 use Rattle.aig_tools.specs.File.{IsFileOf}

@@ -6,14 +6,14 @@ use Rattle.aig_circuit.specs.Wellformed.{IsWellFormed}
 use Rattle.aig_text.specs.AsciiText.{ascii_text}
 use Rattle.aig_text.specs.Reading.{fault_of}
 use Rattle.aig_binary.specs.BinaryText.{binary_text}
-use Rattle.aig_order.specs.declared.fault.MapFault.{MapFault}
-use Rattle.aig_order.specs.declared.fault.MapFault.TheVariants.{OutOfMemory}
-use Rattle.aig_order.specs.MapBlock.{IsMappedImage}
-use Rattle.aig_order.specs.Undone.{IsMapFault}
-use Rattle.aig_order.proofs.Mapping.MappedOrder.{mapped_image_is_one, mapped_image_is_ordered}
-use Rattle.aig_order.proofs.Sources.OneSource.{undoing_recovers}
+use Rattle.aig_map.specs.declared.fault.MapFault.{MapFault}
+use Rattle.aig_map.specs.declared.fault.MapFault.TheVariants.{OutOfMemory}
+use Rattle.aig_map.specs.MapBlock.{IsMappedImage}
+use Rattle.aig_map.specs.Undone.{IsMapFault}
+use Rattle.aig_map.proofs.Mapping.MappedOrder.{mapped_image_is_one, mapped_image_is_ordered}
+use Rattle.aig_map.proofs.Sources.OneSource.{undoing_recovers}
 use Rattle.aig_image.proofs.Imaging.OwnImage.{own_image}
-use Rattle.aig_order.proofs.Sources.Refused.{only_memory}
+use Rattle.aig_map.proofs.Sources.Refused.{only_memory}
 use Rattle.aig_command.specs.declared.request.ToAig.{ToAig}
 use Rattle.aig_tools.specs.File.{IsFileOf, first_fault}
 use Rattle.aig_tools.specs.Conversion.{IsConversionText, IsSource, IsTextAs}

@@ -4,8 +4,8 @@ use Rattle.aig_circuit.specs.declared.circuit.Circuit.{Circuit}
 use Rattle.aig_text.specs.AsciiText.{ascii_text}
 use Rattle.aig_binary.specs.BinaryText.{binary_text}
 use Rattle.aig_image.specs.Image.{IsBinaryImage}
-use Rattle.aig_order.specs.MapBlock.{IsMappedImage}
-use Rattle.aig_order.specs.Undone.{IsUndoneFrom}
+use Rattle.aig_map.specs.MapBlock.{IsMappedImage}
+use Rattle.aig_map.specs.Undone.{IsUndoneFrom}
 use Rattle.aig_command.specs.declared.request.ToAig.{ToAig}
 use Rattle.aig_tools.specs.File.{IsFileOf}
 

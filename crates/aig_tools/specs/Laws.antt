@@ -8,9 +8,9 @@ use Rattle.aig_text.specs.AsciiGrammar.{IsAsciiText}
 use Rattle.aig_core.specs.BinaryOrder.{IsInBinaryOrder}
 use Rattle.aig_binary.specs.BinaryText.{binary_text}
 use Rattle.aig_circuit.specs.declared.circuit.Circuit.{Circuit}
-use Rattle.aig_order.specs.declared.fault.MapFault.{MapFault}
-use Rattle.aig_order.specs.declared.fault.MapFault.TheVariants.{OutOfMemory}
-use Rattle.aig_order.specs.Undone.{IsMapFault}
+use Rattle.aig_map.specs.declared.fault.MapFault.{MapFault}
+use Rattle.aig_map.specs.declared.fault.MapFault.TheVariants.{OutOfMemory}
+use Rattle.aig_map.specs.Undone.{IsMapFault}
 use Rattle.aig_command.specs.declared.request.Sim.{Sim}
 use Rattle.aig_command.specs.declared.request.ToAig.{ToAig}
 use Rattle.aig_command.specs.declared.request.Unroll.{Unroll}

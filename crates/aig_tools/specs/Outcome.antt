@@ -6,8 +6,8 @@ use Rattle.aig_io.specs.Transfer.{GaveAll, GaveSome, TookBeginning}
 use Rattle.aig_tools.specs.declared.fault.ToolFault.{ToolFault}
 use Rattle.aig_command.specs.declared.request.ToAig.{ToAig}
 use Rattle.aig_tools.specs.Blame.{at_fault, map_fault, sink_failures, source_failures, text_fault, TheSink}
-use Rattle.aig_order.specs.declared.fault.MapFault.{MapFault}
-use Rattle.aig_order.specs.Undone.{IsMapFault}
+use Rattle.aig_map.specs.declared.fault.MapFault.{MapFault}
+use Rattle.aig_map.specs.Undone.{IsMapFault}
 use Rattle.aig_tools.specs.File.{IsFileOf}
 use Rattle.aig_tools.specs.Reading.{Refused}
 use Rattle.aig_tools.specs.declared.fault.ToolFault.TheVariants as faults

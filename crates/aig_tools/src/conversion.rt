@@ -2,7 +2,7 @@
 ghost use Rattle.std.specs.Io.KnownBytes.{Appends};
 ghost use Rattle.std.specs.Prelude.{◌≡◌, ◌+◌, ◌-◌, ◌^◌, ◌<◌, ◌≤◌, ◌⊎◌, max, ℕ, List, false, true, IfErr, IfOk, OnOk};
 ghost use Rattle.aig_io.specs.declared.block.TheConstants.{ROOM};
-ghost use Rattle.aig_order.specs.Undone.{IsMapFault};
+ghost use Rattle.aig_map.specs.Undone.{IsMapFault};
 ghost use Rattle.aig_command.specs.Answer.{IsKeptAlone, name_of};
 ghost use Rattle.aig_tools.specs.Conversion.{IsImageAs, IsSource, IsTextAs, changed};
 ghost use Rattle.aig_tools.specs.Parts.Closing.{conversion_closed};

@@ -67,30 +67,54 @@ fn ordered_of(alloc: Global, text: &str) -> Result<Ordered, Fail> {
     )
 }
 
+/// Whether what is written of the circuit, in pieces of several sizes, is this text.
+fn comes_back(alloc: Global, ordered: &Ordered, text: &str) -> Result<bool, Fail> {
+    for piece in [1, 7, 8192] {
+        let mut sink = MemorySink::new(alloc, 200, piece, 0)?;
+        write_binary(ordered, &mut sink)?;
+        if sink.taken() != text.as_bytes() {
+            return Ok(false);
+        }
+    }
+    Ok(true)
+}
+
 #[test]
 fn binary_texts_come_back(rt: HostRuntime) -> Result<(), Fail> {
     for text in TEXTS.split('#') {
         let ordered = ordered_of(rt.alloc(), text)?;
-        for piece in [1, 7, 8192] {
-            let mut sink = MemorySink::new(rt.alloc(), 200, piece, 0)?;
-            write_binary(&ordered, &mut sink)?;
-            assert!(rt; sink.taken() == text.as_bytes(), "in pieces of {piece}");
-        }
+        let comes = comes_back(rt.alloc(), &ordered, text);
+        drop(ordered);
+        assert!(rt; comes?, "{text}");
     }
     Ok(())
 }
 
-/// Each call of the sink fails in turn: it took a beginning.
+/// Whether writing fails at the call of the sink behind so many of three bytes, which took a beginning of the text.
+fn fails_behind(alloc: Global, ordered: &Ordered, text: &str, calls: u64) -> Result<bool, Fail> {
+    let mut sink = MemorySink::new(alloc, 200, 3, calls + 1)?;
+    let failed = write_binary(ordered, &mut sink).is_err();
+    let taken = sink.taken();
+    Ok(failed && text.as_bytes().starts_with(taken) && taken.len() as u64 == 3 * calls)
+}
+
+/// Whether it fails so at each of the first calls.
+fn fails_at_each(alloc: Global, ordered: &Ordered, text: &str) -> Result<bool, Fail> {
+    for calls in 0..5 {
+        if !fails_behind(alloc, ordered, text, calls)? {
+            return Ok(false);
+        }
+    }
+    Ok(true)
+}
+
 #[test]
 fn failed_sends_of_binary_texts(rt: HostRuntime) -> Result<(), Fail> {
     for text in TEXTS.split('#') {
         let ordered = ordered_of(rt.alloc(), text)?;
-        for call in 0..5 {
-            let mut sink = MemorySink::new(rt.alloc(), 200, 3, call as u64 + 1)?;
-            assert!(rt; write_binary(&ordered, &mut sink).is_err(), "call {call}");
-            assert!(rt; text.as_bytes().starts_with(sink.taken()), "call {call}");
-            assert_eq!(rt; sink.taken().len(), 3 * call);
-        }
+        let fails = fails_at_each(rt.alloc(), &ordered, text);
+        drop(ordered);
+        assert!(rt; fails?, "{text}");
     }
     Ok(())
 }

@@ -25,7 +25,9 @@ aag 1 0 1 2 0
 fn circuits_are_unrolled(rt: HostRuntime) -> Result<(), Fail> {
     for text in TEXTS.split('#') {
         let checked = read_ascii(rt.alloc(), text.as_bytes(), Limits::default())?;
-        assert!(rt; unroll(rt.alloc(), &checked, 2).is_ok(), "{text}");
+        let is_unrolled = unroll(rt.alloc(), &checked, 2).is_ok();
+        drop(checked);
+        assert!(rt; is_unrolled, "{text}");
     }
     Ok(())
 }

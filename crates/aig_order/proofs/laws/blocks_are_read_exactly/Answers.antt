@@ -1,4 +1,4 @@
-use Rattle.aig_order.proofs.BlockReading.Block.{block_is_read, block_reads}
+use Rattle.aig_map.proofs.BlockReading.Block.{block_is_read, block_reads}
 use Rattle.aig_order.proofs.laws.blocks_are_read_exactly.Goals as goal
 
 pub returns : goal.returns

@@ -1,4 +1,4 @@
-use Rattle.aig_order.proofs.Sources.OneSource.{only_mapped_images_are_undone}
+use Rattle.aig_map.proofs.Sources.OneSource.{only_mapped_images_are_undone}
 use Rattle.aig_order.proofs.laws.only_mapped_images_are_undone.Goals as goal
 
 pub returns : goal.returns

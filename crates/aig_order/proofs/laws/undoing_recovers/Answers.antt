@@ -1,4 +1,4 @@
-use Rattle.aig_order.proofs.Sources.OneSource.{undoing_recovers}
+use Rattle.aig_map.proofs.Sources.OneSource.{undoing_recovers}
 use Rattle.aig_order.proofs.laws.undoing_recovers.Goals as goal
 
 pub returns : goal.returns

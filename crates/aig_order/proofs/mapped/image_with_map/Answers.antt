@@ -3,8 +3,8 @@ use Rattle.std.proofs.Common.{subst, sym, Some}
 use Rattle.aig_circuit.specs.declared.circuit.Circuit.{Circuit}
 use Rattle.aig_circuit.specs.Wellformed.{IsWellFormed}
 use Rattle.aig_image.specs.Image.{IsBinaryImage}
-use Rattle.aig_order.proofs.Mapping.MappedOrder.{comment_is_free}
-use Rattle.aig_order.proofs.Mapping.Recorded.{is_mapped_image, renumbering_stays}
+use Rattle.aig_map.proofs.Mapping.MappedOrder.{comment_is_free}
+use Rattle.aig_map.proofs.Mapping.Recorded.{is_mapped_image, renumbering_stays}
 use Rattle.aig_order.proofs.mapped.image_with_map.Goals as goal
 
 pub image-requires-clause-good : goal.image-requires-clause-good

@@ -2,8 +2,8 @@ use Rattle.std.proofs.Common.{rules}
 use Rattle.std.proofs.Common.{subst, sym}
 use Rattle.aig_circuit.specs.declared.circuit.Circuit.{Circuit}
 use Rattle.aig_circuit.specs.Wellformed.{IsWellFormed}
-use Rattle.aig_order.specs.MapBlock.{IsMappedImage}
-use Rattle.aig_order.proofs.Mapping.Recorded.{few_before_gates}
+use Rattle.aig_map.specs.MapBlock.{IsMappedImage}
+use Rattle.aig_map.proofs.Mapping.Recorded.{few_before_gates}
 use Rattle.aig_order.proofs.mapped.into_mapped_image.Goals as goal
 
 pub map_comment-requires-clause-fits : goal.map_comment-requires-clause-fits

@@ -1,7 +1,7 @@
 use Rattle.std.proofs.Common.{◌∙◌, sym, refl, subst, inr, true≢false}
 use Rattle.aig_circuit.specs.declared.circuit.Circuit.{Circuit}
 use Rattle.aig_circuit.specs.Wellformed.{IsWellFormed}
-use Rattle.aig_order.specs.MapBlock.{IsMappedImage}
+use Rattle.aig_map.specs.MapBlock.{IsMappedImage}
 use Rattle.aig_order.proofs.undoing.confirm.Goals as goal
 
 pub returns-in-Ok-true-clause-image : goal.returns-in-Ok-true-clause-image

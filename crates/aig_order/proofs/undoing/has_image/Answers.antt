@@ -4,14 +4,14 @@ use Rattle.std.proofs.lemmas.Result.{IfOk-weaker}
 use Rattle.aig_circuit.specs.declared.circuit.Circuit.{Circuit}
 use Rattle.aig_topo.specs.Order.{IsLeastReadyOrder}
 use Rattle.aig_circuit.specs.Wellformed.{AreDistinct, defined_variables}
-use Rattle.aig_order.specs.MapBlock.{IsMappedImage}
-use Rattle.aig_order.specs.Parts.Confirmed.{TellsComment}
-use Rattle.aig_order.specs.Parts.Tables.{block_read, source_read}
-use Rattle.aig_order.specs.Parts.Turns.{positions}
-use Rattle.aig_order.specs.Undone.{comment_behind, undone}
-use Rattle.aig_order.proofs.BlockReading.Block.{read_is_within}
-use Rattle.aig_order.proofs.Confirming.Exchanges.{image_differs}
-use Rattle.aig_order.proofs.Confirming.Judged.{by_comment, by_order}
+use Rattle.aig_map.specs.MapBlock.{IsMappedImage}
+use Rattle.aig_map.specs.Parts.Confirmed.{TellsComment}
+use Rattle.aig_map.specs.Parts.Tables.{block_read, source_read}
+use Rattle.aig_map.specs.Parts.Turns.{positions}
+use Rattle.aig_map.specs.Undone.{comment_behind, undone}
+use Rattle.aig_map.proofs.BlockReading.Block.{read_is_within}
+use Rattle.aig_map.proofs.Confirming.Exchanges.{image_differs}
+use Rattle.aig_map.proofs.Confirming.Judged.{by_comment, by_order}
 use Rattle.aig_order.proofs.undoing.has_image.Goals as goal
 
 pub returns-then-not-tells_comment : goal.returns-then-not-tells_comment

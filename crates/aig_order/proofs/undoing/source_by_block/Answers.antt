@@ -2,12 +2,12 @@ use Rattle.std.proofs.Common.{rules}
 use Rattle.std.proofs.Common.{◌≡◌, ◌<◌, IfOk, List, length, refl, subst, sym}
 use Rattle.std.specs.List.{AllByRecursion}
 use Rattle.aig_circuit.specs.declared.circuit.Circuit.{Circuit}
-use Rattle.aig_order.specs.declared.map_block.MapBlock.{MapBlock}
-use Rattle.aig_order.specs.declared.map_block.MappedGate.{MappedGate}
-use Rattle.aig_order.specs.Undone.{comment_behind, undone}
-use Rattle.aig_order.proofs.BlockReading.Block.{read_is_block, read_is_within}
-use Rattle.aig_order.proofs.Sources.Refused.{of_places}
-use Rattle.aig_order.proofs.Sources.SourceVariables.{places_there}
+use Rattle.aig_map.specs.declared.map_block.MapBlock.{MapBlock}
+use Rattle.aig_map.specs.declared.map_block.MappedGate.{MappedGate}
+use Rattle.aig_map.specs.Undone.{comment_behind, undone}
+use Rattle.aig_map.proofs.BlockReading.Block.{read_is_block, read_is_within}
+use Rattle.aig_map.proofs.Sources.Refused.{of_places}
+use Rattle.aig_map.proofs.Sources.SourceVariables.{places_there}
 use Rattle.aig_order.proofs.undoing.source_by_block.Goals as goal
 
 pub source_variables-requires : goal.source_variables-requires

@@ -3,14 +3,14 @@ use Rattle.std.proofs.Common.{◌≡◌, ◌⊎◌, ◌∙◌, ap, subst, sym}
 use Rattle.std.proofs.lemmas.Result.{IfOk-weaker}
 use Rattle.aig_circuit.specs.declared.circuit.Circuit.{Circuit}
 use Rattle.aig_circuit.specs.Wellformed.{AreDistinct, IsWellFormed, defined_variables}
-use Rattle.aig_order.specs.declared.fault.MapFault.TheVariants.{Forged, OutOfMemory}
-use Rattle.aig_order.specs.Parts.Confirmed.{ExchangesDiffer}
-use Rattle.aig_order.specs.Parts.Tables.{block_read, source_read}
-use Rattle.aig_order.specs.Parts.Turns.{positions}
-use Rattle.aig_order.specs.Undone.{comment_behind, source_variables}
-use Rattle.aig_order.proofs.BlockReading.Block.{read_is_within}
-use Rattle.aig_order.proofs.Restoring.Formed.{well_formed_again}
-use Rattle.aig_order.proofs.Sources.Refused.{of_exchanges, of_confirmed}
+use Rattle.aig_map.specs.declared.fault.MapFault.TheVariants.{Forged, OutOfMemory}
+use Rattle.aig_map.specs.Parts.Confirmed.{ExchangesDiffer}
+use Rattle.aig_map.specs.Parts.Tables.{block_read, source_read}
+use Rattle.aig_map.specs.Parts.Turns.{positions}
+use Rattle.aig_map.specs.Undone.{comment_behind, source_variables}
+use Rattle.aig_map.proofs.BlockReading.Block.{read_is_within}
+use Rattle.aig_map.proofs.Restoring.Formed.{well_formed_again}
+use Rattle.aig_map.proofs.Sources.Refused.{of_exchanges, of_confirmed}
 use Rattle.aig_order.proofs.undoing.source_by_places.Goals as goal
 
 pub make_undone-requires-clause-counts : goal.make_undone-requires-clause-counts

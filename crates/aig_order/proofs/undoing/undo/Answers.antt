@@ -1,4 +1,4 @@
-use Rattle.aig_order.proofs.Sources.Refused.{only_undone}
+use Rattle.aig_map.proofs.Sources.Refused.{only_undone}
 use Rattle.aig_order.proofs.undoing.undo.Goals as goal
 
 pub returns-clause-only : goal.returns-clause-only

@@ -1,5 +1,5 @@
 use Rattle.std.proofs.Common.{rules}
-use Rattle.aig_order.proofs.Sources.Refused.{of_judged, undone_where_judged}
+use Rattle.aig_map.proofs.Sources.Refused.{of_judged, undone_where_judged}
 use Rattle.aig_order.proofs.undoing.undo_by_block.Goals as goal
 
 pub returns-in-Ok-clause-ok : goal.returns-in-Ok-clause-ok

@@ -1,0 +1,177 @@
+-- A map block: where its text stands at the front of the comment, is within bounds, and counts what the circuit has, it
+-- is read; and what is read is such a block.
+use Rattle.std.proofs.Common.{◌≡◌, ◌≤◌, ◌<◌, ◌+◌, ℕ, List, [], ◌∷◌, ◌++◌, length, map, Option, Some, None, Ok}
+use Rattle.std.proofs.Common.{refl, sym, ap, subst, ◌∙◌, arith, append_assoc}
+use Rattle.std.specs.Prelude.{codes}
+use Rattle.std.specs.Option.{unwrap_or}
+use Rattle.std.specs.List.{AllByRecursion, flat_map}
+use Rattle.std.proofs.lemmas.List.Concat.{flat_map-append}
+use Rattle.aig_circuit.specs.declared.circuit.TheConstants.{LARGEST}
+use Rattle.aig_circuit.specs.declared.circuit.Circuit.{Circuit}
+use Rattle.aig_circuit.specs.Wellformed.{IsVariableUpTo}
+use Rattle.aig_text.specs.AsciiText.{numbers_text}
+use Rattle.aig_text.proofs.Steps.{both_ok}
+use Rattle.aig_map.specs.declared.map_block.FirstLine.{FirstLine}
+use Rattle.aig_map.specs.declared.map_block.MappedGate.{MappedGate}
+use Rattle.aig_map.specs.declared.map_block.MapBlock.{MapBlock}
+use Rattle.aig_map.specs.MapBlock.{first_row, variable_row, gate_row, rows_of, last_line, block_text}
+use Rattle.aig_map.specs.MapSpelling.{after_text}
+use Rattle.aig_map.specs.MapReading.{rest_of_block, block_reading, HasCountsOf, IsWithinBounds}
+use Rattle.aig_map.specs.Parts.Tables.{block_in, block_read}
+use Rattle.aig_map.proofs.BlockReading.Lines.{line, IsGoodGate, variables_are_exact, gates_are_exact}
+use Rattle.aig_map.proofs.BlockReading.Entries.{AreLinesOf, lines, there, entries_are_read, entries_read}
+use Rattle.aig_map.proofs.BlockReading.FirstLine.{IsFront, front_is_read, front_reads, text_reads}
+
+-- what the first line tells of a block
+abbrev first_of : MapBlock → FirstLine
+first_of b = record {
+  max_var = b.max_var;
+  inputs = length b.inputs;
+  latches = length b.latches;
+  gates = length b.gates;
+  has_comment = b.has_comment;
+}
+
+-- the text behind the first line, and what follows it
+abbrev behind : MapBlock → List ℕ → List ℕ
+behind b rest = lines variable_row b.inputs (lines variable_row b.latches (lines gate_row b.gates (last_line ++ rest)))
+
+-- the lines behind the first one, section by section
+rows_behind : (b : MapBlock) (rest : List ℕ) → (flat_map numbers_text (rows_of b) ++ last_line) ++ rest ≡ behind b rest
+rows_behind b rest =
+    let inputs : List (List ℕ) = map variable_row b.inputs in
+    let latches : List (List ℕ) = map variable_row b.latches in
+    rw (
+      flat_map-append numbers_text (inputs ++ latches) (map gate_row b.gates),
+      flat_map-append numbers_text inputs latches,
+    ) (simp append_assoc)
+
+-- the text of a block, its first line first
+text_by_parts : (b : MapBlock) (rest : List ℕ)
+    → block_text b ++ rest ≡ codes "aigmap " ++ line (first_row b) (behind b rest)
+unfolding block_text
+text_by_parts b rest =
+    ap (λ (t : List ℕ). codes "aigmap " ++ t)
+    (append_assoc (numbers_text (first_row b)) (flat_map numbers_text (rows_of b) ++ last_line) rest
+    ∙ ap (line (first_row b)) (rows_behind b rest))
+
+-- the lines behind a first line stand there
+record IsRest (f : FirstLine) (bytes : List ℕ) (r : MapBlock × List ℕ) : Type 0 where
+  within : IsWithinBounds r.0
+  first : first_of r.0 ≡ f
+  text : bytes ≡ behind r.0 r.1
+
+-- gates whose variables and places are below these bounds
+abbrev AllGates : ℕ → ℕ → List MappedGate → Type 0
+AllGates m count gates = AllByRecursion (λ (g : MappedGate). IsVariableUpTo m g.var × (g.place < count)) gates
+
+few_gates : (inputs latches gates m : ℕ) → inputs + latches + gates ≤ m → m ≤ LARGEST → gates ≤ LARGEST
+few_gates inputs latches gates m all few = omega arith
+
+-- they are read, and what is read stands there
+rest_is_read : (b : MapBlock) (rest : List ℕ) → IsWithinBounds b
+    → rest_of_block (first_of b) (behind b rest) ≡ Ok (b, rest)
+unfolding rest_of_block
+rest_is_read b rest within =
+    let m : ℕ = b.max_var in
+    let few : m ≤ LARGEST = within.max_var in
+    let count : ℕ = length b.gates in
+    let fit : count ≤ LARGEST = few_gates (length b.inputs) (length b.latches) count m within.counts few in
+    let last : List ℕ = last_line ++ rest in
+    let gates : List ℕ = lines gate_row b.gates last in
+    let latches : List ℕ = lines variable_row b.latches gates in
+    let first : ℕ = 2 + length b.inputs + length b.latches in
+    rw (
+      entries_are_read (variables_are_exact m few) b.inputs 2 latches within.inputs,
+      entries_are_read (variables_are_exact m few) b.latches (2 + length b.inputs) gates within.latches,
+      entries_are_read (gates_are_exact m few count fit) b.gates first last within.gates,
+    ) refl
+
+rest_reads : (f : FirstLine) → f.max_var ≤ LARGEST → f.inputs + f.latches + f.gates ≤ f.max_var
+    → (bytes : List ℕ) (r : MapBlock × List ℕ) → rest_of_block f bytes ≡ Ok r → IsRest f bytes r
+unfolding rest_of_block
+rest_reads f few fits bytes r h =
+    let a = both_ok _ _ _ h in
+    let b = both_ok _ _ _ a.2 in
+    let d = both_ok _ _ _ b.2 in
+    let e = both_ok _ _ _ d.2 in
+    let m : ℕ = f.max_var in
+    let fit : f.gates ≤ LARGEST = few_gates f.inputs f.latches f.gates m fits few in
+    let inputs : AreLinesOf variable_row (IsVariableUpTo m) f.inputs bytes a.0 =
+    entries_read (variables_are_exact m few) f.inputs 2 bytes a.0 a.1 in
+    let latches : AreLinesOf variable_row (IsVariableUpTo m) f.latches a.0.1 b.0 =
+    entries_read (variables_are_exact m few) f.latches (2 + f.inputs) a.0.1 b.0 b.1 in
+    let gates : AreLinesOf gate_row (IsGoodGate m few f.gates fit) f.gates b.0.1 d.0 =
+    entries_read (gates_are_exact m few f.gates fit) f.gates (2 + f.inputs + f.latches) b.0.1 d.0 d.1 in
+    let last : d.0.1 ≡ last_line ++ e.0 =
+    text_reads last_line d.0.1 e.0 (there _ (after_text last_line d.0.1) e.0 e.1) in
+    let block : MapBlock =
+    record { max_var = m; inputs = a.0.0; latches = b.0.0; gates = d.0.0; has_comment = f.has_comment } in
+    let same : first_of block ≡ f =
+    λ j. record f { inputs = inputs.long j; latches = latches.long j; gates = gates.long j } in
+    let is : (block, e.0) ≡ r = cc in
+    subst (IsRest f bytes) is (
+    record {
+      within = record {
+        max_var = few;
+        counts = subst (λ (g : FirstLine). g.inputs + g.latches + g.gates ≤ g.max_var) (sym same) fits;
+        inputs = inputs.good;
+        latches = latches.good;
+        gates = subst (λ (n : ℕ). AllGates m n d.0.0) (sym gates.long) gates.good;
+      };
+      first = same;
+      text =
+          inputs.text
+          ∙ ap (lines variable_row a.0.0)
+          (latches.text ∙ ap (lines variable_row b.0.0) (gates.text ∙ ap (lines gate_row d.0.0) last));
+    }
+    )
+
+-- a comment that is not empty is there
+comment_is_there : (c : Option (List ℕ)) (n : ℕ) (ns : List ℕ) → unwrap_or c [] ≡ n ∷ ns → c ≡ Some (n ∷ ns)
+comment_is_there None n ns h = cc
+comment_is_there (Some t) n ns h = ap Some h
+
+-- where the text of such a block stands there, it is read
+pub block_is_read : (x : Circuit) (b : MapBlock) (rest : List ℕ) → x.comment ≡ Some (block_text b ++ rest)
+    → HasCountsOf b x → IsWithinBounds b → block_reading x ≡ Ok (b, rest)
+unfolding block_reading
+block_is_read x b rest comment counts within =
+    let front : IsFront x (first_of b, behind b rest) =
+    record {
+      few = within.max_var;
+      inputs = counts.inputs;
+      latches = counts.latches;
+      gates = counts.gates;
+      fits = within.counts;
+      text = ap (λ (c : Option (List ℕ)). unwrap_or c []) comment ∙ text_by_parts b rest;
+    } in
+    rw (front_is_read x (first_of b, behind b rest) front) (rest_is_read b rest within)
+
+-- and what is read is such a block
+pub block_reads : (x : Circuit) (b : MapBlock) (rest : List ℕ) → block_reading x ≡ Ok (b, rest)
+    → (x.comment ≡ Some (block_text b ++ rest)) × HasCountsOf b x × IsWithinBounds b
+unfolding block_reading
+block_reads x b rest h =
+    let a = both_ok _ _ _ h in
+    let first : IsFront x a.0 = front_reads x a.0 a.1 in
+    let others : IsRest a.0.0 a.0.1 (b, rest) = rest_reads a.0.0 first.few first.fits a.0.1 (b, rest) a.2 in
+    let front : IsFront x (first_of b, a.0.1) =
+    subst (λ (f : FirstLine). IsFront x (f, a.0.1)) (sym others.first) first in
+    let text : unwrap_or x.comment [] ≡ codes "aigmap " ++ line (first_row b) (behind b rest) =
+    front.text ∙ ap (λ (t : List ℕ). codes "aigmap " ++ line (first_row b) t) others.text in
+    let counts : HasCountsOf b x = record { inputs = front.inputs; latches = front.latches; gates = front.gates } in
+    (comment_is_there x.comment _ _ text ∙ ap Some (sym (text_by_parts b rest)), counts, others.within)
+
+pub read_is_within : (x : Circuit) (b : MapBlock) (rest : List ℕ) → block_reading x ≡ Ok (b, rest)
+    → HasCountsOf b x × IsWithinBounds b
+read_is_within x b rest h = let r = block_reads x b rest h in (r.1, r.2)
+
+pub read_is_text : (x : Circuit) (b : MapBlock) (rest : List ℕ) → block_reading x ≡ Ok (b, rest)
+    → x.comment ≡ Some (block_text b ++ rest)
+read_is_text x b rest h = (block_reads x b rest h).0
+
+-- and that one is the block that is read of the circuit
+pub read_is_block : (x : Circuit) (b : MapBlock) (rest : List ℕ) → block_reading x ≡ Ok (b, rest) → block_read x ≡ b
+unfolding block_read
+read_is_block x b rest h = ap block_in h

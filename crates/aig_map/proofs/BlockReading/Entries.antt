@@ -1,0 +1,58 @@
+-- So many lines of a map block: their text is read as what they tell, and what is read is their text.
+use Rattle.std.proofs.Common.{rules}
+use Rattle.std.proofs.Common.{◌≡◌, ◌+◌, ℕ, zero, suc, List, [], ◌∷◌, ◌++◌, length, map, Option, Some, None, Ok}
+use Rattle.std.proofs.Common.{refl, sym, ap, subst, ◌∙◌, append_assoc}
+use Rattle.std.specs.List.{AllByRecursion, flat_map}
+use Rattle.aig_text.specs.AsciiText.{numbers_text}
+use Rattle.aig_text.proofs.Steps.{both_ok}
+use Rattle.aig_map.specs.declared.fault.MapFault.{MapFault}
+use Rattle.aig_map.specs.MapReading.{or_else, entries_at}
+use Rattle.aig_map.proofs.BlockReading.Lines.{line, IsLineOf, IsExact}
+
+-- what is there where no fault is
+pub there : {A : Type 0} (fault : MapFault) (x : Option A) (y : A) → or_else fault x ≡ Ok y → x ≡ Some y
+there fault None y h = cc
+there fault (Some x) y h = cc
+
+-- the lines of such things, and what follows them
+abbrev pub lines : {T : Type 0} → (T → List ℕ) → List T → List ℕ → List ℕ
+lines row xs rest = flat_map numbers_text (map row xs) ++ rest
+
+-- lines that tell so many good things, and what follows them
+pub record AreLinesOf {T : Type 0} (row : T → List ℕ) (Good : T → Type 0) (count : ℕ) (bytes : List ℕ)
+    (r : List T × List ℕ) : Type 0 where
+  pub long : length r.0 ≡ count
+  pub good : AllByRecursion Good r.0
+  pub text : bytes ≡ lines row r.0 r.1
+
+module _ {T : Type 0} {entry : List ℕ → Option (T × List ℕ)} {row : T → List ℕ} {Good : T → Type 0}
+    (exact : IsExact entry row Good) where
+  first_line : (x : T) (xs : List T) (rest : List ℕ) → lines row (x ∷ xs) rest ≡ line (row x) (lines row xs rest)
+  first_line x xs rest = append_assoc (numbers_text (row x)) (flat_map numbers_text (map row xs)) rest
+
+  pub entries_are_read : (xs : List T) (number : ℕ) (rest : List ℕ) → AllByRecursion Good xs
+      → entries_at entry number (length xs) (lines row xs rest) ≡ Ok (xs, rest)
+  unfolding entries_at
+  entries_are_read [] number rest good = refl
+  entries_are_read (x ∷ xs) number rest good =
+      let first : entry (lines row (x ∷ xs) rest) ≡ Some (x, lines row xs rest) =
+      ap entry (first_line x xs rest) ∙ exact.is_read x (lines row xs rest) good.0 in
+      rw (first, entries_are_read xs (number + 1) rest good.1) refl
+
+  pub entries_read : (count number : ℕ) (bytes : List ℕ) (r : List T × List ℕ)
+      → entries_at entry number count bytes ≡ Ok r → AreLinesOf row Good count bytes r
+  unfolding entries_at
+  entries_read zero number bytes r h = search rules
+  entries_read (suc count) number bytes r h =
+      let a = both_ok _ _ _ h in
+      let b = both_ok _ _ _ a.2 in
+      let is : (a.0.0 ∷ b.0.0, b.0.1) ≡ r = cc in
+      let first : IsLineOf row Good bytes a.0 = exact.reads bytes a.0 (there _ (entry bytes) a.0 a.1) in
+      let others : AreLinesOf row Good count a.0.1 b.0 = entries_read count (number + 1) a.0.1 b.0 b.1 in
+      subst (AreLinesOf row Good (suc count) bytes) is (
+      record {
+        long = ap suc others.long;
+        good = (first.0, others.good);
+        text = first.1 ∙ ap (line (row a.0.0)) others.text ∙ sym (first_line a.0.0 b.0.0 b.0.1);
+      }
+      )

@@ -1,0 +1,169 @@
+-- The circuit that is undone by a block that fits: in the order of its places it defines the variables that the block
+-- tells of, and its gates are those at the places.
+use Rattle.std.proofs.Common.{rules}
+use Rattle.std.proofs.Common.{◌≡◌, ◌+◌, ◌<◌, ◌≤◌, ℕ, zero, suc, List, [], ◌∷◌, ◌++◌, Option, length, length-append}
+use Rattle.std.proofs.Common.{get_or, map}
+use Rattle.std.proofs.Common.{refl, sym, ap, subst, ◌∙◌, arith}
+use Rattle.std.specs.List.{AllByRecursion, range_with_len}
+use Rattle.std.proofs.lemmas.List.{ext_get_or, length-map, get_or-map, get_or-append-add}
+use Rattle.std.proofs.lemmas.List.FromFn.{length-map-range_with_len, get_or-map-range_with_len}
+use Rattle.std.proofs.lemmas.Simd.{map-map}
+use Rattle.aig_circuit.specs.declared.circuit.Latch.{Latch}
+use Rattle.aig_circuit.specs.declared.circuit.Gate.{Gate}
+use Rattle.aig_circuit.specs.declared.circuit.Circuit.{Circuit}
+use Rattle.aig_circuit.specs.Wellformed.{AreDistinct, IsVariableUpTo, defined_variables}
+use Rattle.aig_circuit.proofs.Checking.Fitting.{each}
+use Rattle.aig_circuit.proofs.Checking.InForm.{joined}
+use Rattle.aig_core.proofs.Numbered.Ranges.{variables_are}
+use Rattle.aig_topo.proofs.Ordering.Ranked.{at}
+use Rattle.aig_image.specs.Relabelled.{relabelled, relabelled_gate, relabelled_latch}
+use Rattle.aig_image.specs.Renumbering.{in_new_order, renumbered, source_variable}
+use Rattle.aig_image.specs.Reordered.{ArePlaces, exchanged_by, taken}
+use Rattle.aig_image.proofs.Numbering.Back.{by_place, back_again}
+use Rattle.aig_image.proofs.Relabelling.Exchanged.{exchanged_each}
+use Rattle.aig_image.proofs.Relabelling.Permuted.{order_keeps_once}
+use Rattle.aig_image.proofs.Relabelling.Restored.{defined_in_order}
+use Rattle.aig_image.proofs.Relabelling.Standing.{at_place}
+use Rattle.aig_map.specs.declared.map_block.MappedGate.{MappedGate}
+use Rattle.aig_map.specs.declared.map_block.MapBlock.{MapBlock}
+use Rattle.aig_map.specs.Parts.Had.{without_gates}
+use Rattle.aig_map.specs.Undone.{exchanges_recorded, places_recorded, source_variables, undone, variable_at_place}
+use Rattle.aig_map.proofs.Restoring.Places.{IsFit, places, order, are, too, by_position, row_in_range}
+use Rattle.aig_map.proofs.Restoring.Places.{variables_recorded}
+use Rattle.aig_map.proofs.Sources.RecordedAt.{gate_had, none_recorded, recorded_at}
+
+-- numbers from 1 on, carried back, are the variables in a row
+carried : (vs : List ℕ) → map (source_variable vs) (range_with_len 1 (length vs)) ≡ vs
+carried vs =
+    let long = length-map-range_with_len (source_variable vs) 1 (length vs) in
+    ext_get_or 0 (map (source_variable vs) (range_with_len 1 (length vs))) vs long (λ i below.
+    get_or-map-range_with_len (source_variable vs) 1 (length vs) i (1 + i) 0 (omega (arith, below, long)) (omega arith)
+    ∙ by_place vs i)
+
+-- equal lists in two parts of equal lengths have equal parts
+parts : (xs ys s t : List ℕ) → length xs ≡ length ys → xs ++ s ≡ ys ++ t → (xs ≡ ys) × (s ≡ t)
+parts [] [] s t long e = (refl, e)
+parts [] (y ∷ ys) s t long e = absurd (omega (arith, long))
+parts (x ∷ xs) [] s t long e = absurd (omega (arith, long))
+parts (x ∷ xs) (y ∷ ys) s t long e =
+    let first : x ≡ y = cc in
+    let others : xs ++ s ≡ ys ++ t = cc in
+    let later = parts xs ys s t (omega (arith, long)) others in
+    (ap (λ z. z ∷ xs) first ∙ ap (λ zs. y ∷ zs) later.0, later.1)
+
+-- the gates at the places, with their operands as they were
+pub gates_had : (gates : List Gate) (recorded : List MappedGate)
+    → exchanged_by (exchanges_recorded recorded) (taken gates (places_recorded recorded))
+    ≡ map (gate_had gates) recorded
+gates_had gates recorded = search (rules, map-map, at, exchanged_each)
+
+-- these gates and what there is beside gates, by the variables of the source, are undone
+pub undone_is : (b : MapBlock) (comment : Option (List ℕ)) (x : Circuit)
+    → record (relabelled (source_variable (source_variables b)) (without_gates b.max_var comment x)) {
+      gates = map (relabelled_gate (source_variable (source_variables b))) (map (gate_had x.gates) b.gates);
+    } ≡ undone b comment x
+undone_is b comment x = search (rules, gates_had)
+
+module _ (b : MapBlock) (x : Circuit) (comment : Option (List ℕ)) (fit : IsFit b x) where
+  abbrev pub vs : List ℕ
+  vs = source_variables b
+
+  abbrev pub source : Circuit
+  source = undone b comment x
+
+  abbrev row : List ℕ
+  row = map (variable_at_place b.gates) (range_with_len 0 (length b.gates))
+
+  abbrev first : List ℕ
+  first = b.inputs ++ b.latches
+
+  abbrev pub start : ℕ
+  start = 1 + length x.inputs + length x.latches
+
+  row_many : length row ≡ length b.gates
+  row_many = length-map-range_with_len (variable_at_place b.gates) 0 (length b.gates)
+
+  first_many : 1 + length first ≡ start
+  first_many = omega (arith, length-append b.inputs b.latches, fit.counts.inputs, fit.counts.latches)
+
+  pub as_many : length vs ≡ x.max_var
+  as_many = omega (arith, length-append first row, row_many, first_many, fit.counts.gates, fit.ordered.all)
+
+  numbers_are : map (source_variable vs) (defined_variables x) ≡ vs
+  numbers_are =
+      ap (map (source_variable vs)) (variables_are x fit.ordered ∙ ap (range_with_len 1) (sym as_many)) ∙ carried vs
+
+  -- in its order, the source defines the variables that the block tells of
+  pub new_is : in_new_order source (order b x fit) ≡ vs
+  new_is =
+      defined_in_order (source_variable vs) (order b x fit) (places b x fit) (exchanges_recorded b.gates) x refl
+      (too b x fit)
+      ∙ numbers_are
+
+  first_is : (source.inputs ≡ b.inputs) × (map (λ (l : Latch). l.var) source.latches ≡ b.latches)
+  first_is =
+      let g : ℕ → ℕ = source_variable vs in
+      let latches : List ℕ = map (λ (l : Latch). l.var) source.latches in
+      let inputs_many : length source.inputs ≡ length b.inputs =
+      length-map x.inputs g ∙ sym fit.counts.inputs in
+      let latches_many : length latches ≡ length b.latches =
+      length-map source.latches (λ (l : Latch). l.var) ∙ length-map x.latches (relabelled_latch g)
+      ∙ sym fit.counts.latches in
+      let both =
+      (parts (source.inputs ++ latches) first _ row
+      (omega (arith, length-append source.inputs latches, length-append b.inputs b.latches, inputs_many, latches_many))
+      new_is).0 in
+      parts source.inputs b.inputs latches b.latches inputs_many both
+
+  pub inputs_are : source.inputs ≡ b.inputs
+  inputs_are = first_is.0
+
+  pub latches_are : map (λ (l : Latch). l.var) source.latches ≡ b.latches
+  latches_are = first_is.1
+
+  -- the number of a gate's place, carried back, is the variable that is recorded of the gate
+  pub variable_there : (i : ℕ) → i < length b.gates
+      → source_variable vs (start + (recorded_at b.gates i).place) ≡ (recorded_at b.gates i).var
+  variable_there i low =
+      let p : ℕ = (recorded_at b.gates i).place in
+      let at_i : get_or (places b x fit) i 0 ≡ p =
+      get_or-map (λ (m : MappedGate). m.place) b.gates i none_recorded 0 low in
+      let here = (are b x fit).1 i (omega (arith, low, fit.counts.gates)) in
+      let number : start + p ≡ 1 + (length first + p) = omega (arith, first_many) in
+      ap (source_variable vs) number ∙ by_place vs (length first + p) ∙ get_or-append-add first row p 0
+      ∙ ap (λ xs. get_or xs p 0) (by_position b.gates)
+      ∙ ap (λ q. get_or (map (λ at. get_or (variables_recorded b.gates) at 0) (order b x fit)) q 0) (sym at_i)
+      ∙ get_or-map (λ at. get_or (variables_recorded b.gates) at 0) (order b x fit) (get_or (places b x fit) i 0) 0 0
+      here.0
+      ∙ ap (λ k. get_or (variables_recorded b.gates) k 0) here.1
+      ∙ get_or-map (λ (m : MappedGate). m.var) b.gates i none_recorded 0 low
+
+  -- the gates of the source, one by one
+  pub gates_are : source.gates ≡ map (λ m. relabelled_gate (source_variable vs) (gate_had x.gates m)) b.gates
+  gates_are = search (rules, gates_had, map-map, gate_had)
+
+  pub gates_many : length source.gates ≡ length b.gates
+  gates_many = ap length gates_are ∙ length-map b.gates (λ m. relabelled_gate (source_variable vs) (gate_had x.gates m))
+
+  -- its variables are in range
+  vs_in_range : AllByRecursion (IsVariableUpTo b.max_var) vs
+  vs_in_range = search (rules, joined, row_in_range)
+
+  pub in_range : (v : ℕ) → IsVariableUpTo x.max_var v → IsVariableUpTo b.max_var (source_variable vs v)
+  in_range zero range = absurd (omega (arith, range.0))
+  in_range (suc k) range = search (rules, by_place, at_place, vs_in_range, as_many)
+
+  module _ (once : AreDistinct (defined_variables source)) where
+    vs_once : AreDistinct vs
+    vs_once =
+        let many : length x.gates ≡ length source.gates = sym (gates_many ∙ fit.counts.gates) in
+        subst AreDistinct new_is
+        (order_keeps_once (order b x fit) (places b x fit) source
+        (subst (ArePlaces (order b x fit) (places b x fit)) many (are b x fit))
+        (subst (ArePlaces (places b x fit) (order b x fit)) many (too b x fit)) once)
+
+    -- where no variable is defined twice, numbers that are carried back are found again
+    pub back : (v : ℕ) → v ≤ x.max_var → renumbered vs (source_variable vs v) ≡ v
+    back v low =
+        back_again vs vs_once (λ w a. (each (IsVariableUpTo b.max_var) vs vs_in_range w a).0) v
+        (omega (arith, low, as_many))

@@ -1,0 +1,120 @@
+-- Variables of gates that were placed one by one stand where their gates' places say.
+use Rattle.std.proofs.Common.{rules}
+use Rattle.std.proofs.Common.{◌≡◌, ◌≢◌, ◌<◌, ℕ, zero, suc, List, [], ◌∷◌, Some, None, true, false}
+use Rattle.std.proofs.Common.{length, map, get_or, set, replicate, refl, sym, subst, ◌∙◌, inl, inr, ⊎_elim, arith}
+use Rattle.std.proofs.Common.{eqb, zero-add, get_or-set_same, get_or-set_other}
+use Rattle.std.specs.Prelude.{◌==◌, if◌then◌else◌}
+use Rattle.std.specs.List.{AllByRecursion, range_with_len}
+use Rattle.std.proofs.lemmas.Bool.Decides.{eqb_tells}
+use Rattle.std.proofs.lemmas.Grind.{same_number_lists}
+use Rattle.std.proofs.lemmas.List.{length-set, length-replicate}
+use Rattle.std.proofs.lemmas.List.FromFn.{get_or-map-range_with_len, length-map-range_with_len}
+use Rattle.aig_circuit.specs.Wellformed.{IsAmong, AreDistinct, IsVariableUpTo}
+use Rattle.aig_map.specs.declared.map_block.MappedGate.{MappedGate}
+use Rattle.aig_map.specs.Parts.Placed.{with_gates, table_of}
+use Rattle.aig_map.specs.Undone.{places_recorded, variable_at_place}
+use Rattle.aig_map.proofs.Sources.AtZero.{only_at_zero, at_zero, elsewhere, or_zero}
+
+-- the variable of a place is that of the first gate if it has this place, and otherwise that of a later gate
+module _ (g : MappedGate) (gates : List MappedGate) (p : ℕ) where
+  pub variable_here : eqb g.place p ≡ true → variable_at_place (g ∷ gates) p ≡ g.var
+  variable_here here = rw here refl
+
+  pub variable_later : eqb g.place p ≡ false → variable_at_place (g ∷ gates) p ≡ variable_at_place gates p
+  variable_later other = rw other refl
+
+-- a table with one more gate
+abbrev put : List ℕ → MappedGate → List ℕ
+put placed g = set placed g.place g.var
+
+put_here : (placed : List ℕ) (g : MappedGate) → g.place < length placed → get_or (put placed g) g.place 0 ≡ g.var
+put_here placed g there = get_or-set_same placed g.place g.var 0 there
+
+put_elsewhere : (placed : List ℕ) (g : MappedGate) (p : ℕ) → p ≢ g.place → get_or (put placed g) p 0 ≡ get_or placed p 0
+put_elsewhere placed g p other = get_or-set_other placed g.place p g.var 0 other
+
+-- the variable of a place: the one that the table has, or that of the gate that is still to be put there
+abbrev expected : List ℕ → List MappedGate → ℕ → ℕ
+expected placed gates p = if get_or placed p 0 == 0 then variable_at_place gates p else get_or placed p 0
+
+-- no gate's place has a variable yet
+abbrev AreFree : List ℕ → List MappedGate → Type 0
+AreFree placed gates = (p : ℕ) → IsAmong p (places_recorded gates) → get_or placed p 0 ≡ 0
+
+-- gates of distinct free places are placed
+all_placed : (placed : List ℕ) (gates : List MappedGate)
+    → AreDistinct (places_recorded gates) → AreFree placed gates → with_gates placed gates ≢ None
+all_placed placed [] once free is = let bad : ⊥ = cc in bad
+all_placed placed (g ∷ gates) once free is =
+    let other : (p : ℕ) → IsAmong p (places_recorded gates) → p ≢ g.place =
+    λ p i e. once.0 (subst (λ q. IsAmong q (places_recorded gates)) e i) in
+    all_placed (put placed g) gates once.1 (λ p i. put_elsewhere placed g p (other p i) ∙ free p (inr i))
+    (sym (at_zero (get_or placed g.place 0) (with_gates (put placed g) gates) None (free g.place (inl refl))) ∙ is)
+
+module _ (most count : ℕ) where
+  -- what a block tells of a gate is within bounds
+  abbrev pub IsGood : MappedGate → Type 0
+  IsGood g = IsVariableUpTo most g.var × (g.place < count)
+
+  -- gates that were placed have each its place, which was free
+  placed_once : (placed : List ℕ) (gates : List MappedGate) (table : List ℕ)
+      → length placed ≡ count → AllByRecursion IsGood gates → with_gates placed gates ≡ Some table
+      → AreDistinct (places_recorded gates) × AreFree placed gates
+  placed_once placed [] table many good is = (tt, λ p a. absurd a)
+  placed_once placed (g ∷ gates) table many good is =
+      let here = only_at_zero (get_or placed g.place 0) (with_gates (put placed g) gates) table is in
+      let long : length (put placed g) ≡ count = length-set placed g.place g.var ∙ many in
+      let later = placed_once (put placed g) gates table long good.1 here.1 in
+      let new : get_or (put placed g) g.place 0 ≡ g.var = put_here placed g (omega (arith, many, good.0.1)) in
+      let apart : ¬ IsAmong g.place (places_recorded gates) = λ a. omega (arith, later.1 g.place a, new, good.0.0.0) in
+      let other : (p : ℕ) → IsAmong p (places_recorded gates) → p ≢ g.place =
+      λ p i e. apart (subst (λ q. IsAmong q (places_recorded gates)) e i) in (
+        (apart, later.0),
+        λ p a. ⊎_elim (λ (e : p ≡ g.place). subst (λ q. get_or placed q 0 ≡ 0) (sym e) here.0)
+            (λ (i : IsAmong p (places_recorded gates)). sym (put_elsewhere placed g p (other p i)) ∙ later.1 p i) a,
+      )
+
+  -- what is expected stays while gates are placed
+  expected_next : (placed : List ℕ) (g : MappedGate) (gates : List MappedGate)
+      → length placed ≡ count → IsGood g → get_or placed g.place 0 ≡ 0
+      → (p : ℕ) → expected (put placed g) gates p ≡ expected placed (g ∷ gates) p
+  expected_next placed g gates many good free p =
+      search (rules, put_here, elsewhere, at_zero, variable_here, put_elsewhere, variable_later, eqb_tells)
+
+  -- at the end each place has the variable that was expected
+  table_has : (placed : List ℕ) (gates : List MappedGate) (table : List ℕ)
+      → length placed ≡ count → AllByRecursion IsGood gates → with_gates placed gates ≡ Some table
+      → (length table ≡ count) × ((p : ℕ) → get_or table p 0 ≡ expected placed gates p)
+  table_has placed [] table many good is = search (rules, or_zero)
+  table_has placed (g ∷ gates) table many good is =
+      let here = only_at_zero (get_or placed g.place 0) (with_gates (put placed g) gates) table is in
+      let long : length (put placed g) ≡ count = length-set placed g.place g.var ∙ many in
+      let later = table_has (put placed g) gates table long good.1 here.1 in
+      (later.0, λ p. later.1 p ∙ expected_next placed g gates many good.0 here.0 p)
+
+zeros : (n p : ℕ) → ◌≡◌ {A = ℕ} (get_or (replicate n 0) p 0) 0
+zeros zero p = refl
+zeros (suc n) zero = refl
+zeros (suc n) (suc p) = zeros n p
+
+-- all gates of a block, in a table of zeros
+module _ (most : ℕ) (gates : List MappedGate) (good : AllByRecursion (IsGood most (length gates)) gates) where
+  abbrev none : List ℕ
+  none = replicate (length gates) 0
+
+  long : length none ≡ length gates
+  long = length-replicate (length gates) 0
+
+  -- the table has the variables by place
+  pub table_is : (table : List ℕ) → table_of gates ≡ Some table
+      → table ≡ map (variable_at_place gates) (range_with_len 0 (length gates))
+  table_is table is =
+      search (rules, table_has, long, length-map-range_with_len, same_number_lists, at_zero, zeros, get_or-map-range_with_len, zero-add)
+
+  -- where there is a table, the places are distinct
+  pub places_once : (table : List ℕ) → table_of gates ≡ Some table → AreDistinct (places_recorded gates)
+  places_once table is = (placed_once most (length gates) none gates table long good is).0
+
+  -- where there is none, they are not
+  pub place_twice : table_of gates ≡ None → ¬ AreDistinct (places_recorded gates)
+  place_twice is once = all_placed none gates once (λ p _. zeros (length gates) p) is

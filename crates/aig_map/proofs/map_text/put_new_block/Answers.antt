@@ -1,0 +1,24 @@
+use Rattle.std.proofs.Common.{◌∙◌, ℕ, List, ap, refl, subst, arith}
+use Rattle.aig_circuit.specs.declared.circuit.Circuit.{Circuit}
+use Rattle.aig_io.specs.Output.{Put}
+use Rattle.aig_map.specs.MapBlock.{first_line_text}
+use Rattle.aig_map.proofs.BlockText.Added.{block_put}
+use Rattle.aig_map.proofs.BlockText.NewGates.{as_many_inputs, as_many_latches, same_counts}
+use Rattle.aig_map.proofs.map_text.put_new_block.Goals as goal
+
+pub returns : goal.returns
+returns g c = λ f old kept is.
+    let gates = c.put_new_gates.ensures f old.gates
+    (c.as_slice-3.ensures.value ∙ kept.gates, c.as_slice-4.ensures ∙ ap (λ (d : Circuit). d.gates) is) in
+    block_put f old _ _ _ _ _ _ _ c.as_slice.result.now c.as_slice-2.result.now old.gates
+    (omega (
+      arith,
+      c.len.ensures,
+      c.len-2.ensures,
+      as_many_inputs f old c.args.circuit.now is,
+      as_many_latches f old c.args.circuit.now is,
+    ))
+    (c.as_slice.ensures ∙ kept.inputs) (c.as_slice-2.ensures ∙ kept.latches) refl
+    (subst (λ (row : List ℕ). Put c.args.output.now c.put_first_line.new.output (first_line_text row))
+    (same_counts f old c.args.circuit.now is) c.put_first_line.ensures)
+    c.put_variables.ensures c.put_variables-2.ensures gates c.put.ensures.put

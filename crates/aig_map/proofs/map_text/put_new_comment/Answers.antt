@@ -1,0 +1,14 @@
+use Rattle.std.proofs.Common.{sym, subst}
+use Rattle.std.specs.Prelude.{Option, ℕ, List, ◌++◌, []}
+use Rattle.std.specs.Option.{unwrap_or}
+use Rattle.aig_io.specs.Output.{Put}
+use Rattle.aig_map.specs.MapBlock.{block_by, block_text}
+use Rattle.aig_io.proofs.Puts.{put_twice}
+use Rattle.aig_map.proofs.map_text.put_new_comment.Goals as goal
+
+pub returns-in-Some : goal.returns-in-Some
+returns-in-Some g c = λ f old kept is.
+    let block : List ℕ = block_text (block_by f old) in
+    subst (λ (comment : Option (List ℕ)). Put c.args.output.now c.put.new.self (block ++ unwrap_or comment []))
+    (sym c.in-Some.is)
+    (put_twice _ _ _ _ _ (c.put_new_block.ensures f old kept is) (rw c.as_slice.ensures at c.put.ensures.put))

@@ -1,0 +1,38 @@
+use Rattle.std.proofs.Common.{rules}
+use Rattle.std.proofs.Common.{◌≡◌, ◌+◌, ◌↔◌, length, IsTrue, arith}
+use Rattle.std.proofs.lemmas.Result.{IfOk-weaker}
+use Rattle.aig_topo.specs.Order.{IsLeastReadyOrder}
+use Rattle.aig_map.specs.Parts.Tables.{block_read}
+use Rattle.aig_map.specs.Parts.Turns.{positions, AreTakenInTurn}
+use Rattle.aig_map.specs.Undone.{undone}
+use Rattle.aig_map.proofs.Confirming.PositionsPut.{positions_many}
+use Rattle.aig_map.proofs.Confirming.TakenInTurn.{tells_order}
+use Rattle.aig_map.proofs.turns.tells_order.Goals as goal
+
+pub are_taken_in_turn-requires-clause-few : goal.are_taken_in_turn-requires-clause-few
+are_taken_in_turn-requires-clause-few c = search (rules, positions_many)
+
+pub are_taken_in_turn-requires-clause-many : goal.are_taken_in_turn-requires-clause-many
+are_taken_in_turn-requires-clause-many c = search (rules, positions_many)
+
+pub returns : goal.returns
+returns c = λ comment once.
+    let b = block_read c.args.image.now in
+    let x = c.args.image.now in
+    let start : 1 + c.len.result + c.len-2.result ≡ 1 + length x.inputs + length x.latches =
+    omega (arith, c.len.ensures, c.len-2.ensures) in
+    IfOk-weaker c.are_taken_in_turn.result
+    (λ recorded. IsTrue recorded
+    ↔ AreTakenInTurn (1 + c.len.result + c.len-2.result) c.as_slice.result.now c.args.places.now)
+    (λ recorded. IsTrue recorded ↔ IsLeastReadyOrder (undone b comment x) (positions b.gates))
+    (λ recorded is.
+    tells_order b x comment
+    (record {
+      ordered = c.requires.ordered;
+      counts = c.requires.counts;
+      bounds = c.requires.bounds;
+      once = c.requires.once;
+    })
+    once (1 + c.len.result + c.len-2.result) c.as_slice.result.now c.args.places.now recorded
+    start c.as_slice.ensures c.requires.are is)
+    c.are_taken_in_turn.ensures

@@ -1,0 +1,74 @@
+use Rattle.std.proofs.Common.{rules}
+use Rattle.std.proofs.Common.{◌≡◌, ◌<◌, ◌∙◌, ℕ, List, Bool, Some, None, length, map, ap₂, subst}
+use Rattle.std.proofs.Common.{sym}
+use Rattle.std.specs.Prelude.{if◌then◌else◌}
+use Rattle.std.specs.List.{AllByRecursion}
+use Rattle.std.proofs.lemmas.Result.{err_from_is_err_and}
+use Rattle.aig_circuit.specs.declared.circuit.Circuit.{Circuit}
+use Rattle.aig_circuit.specs.declared.circuit.Gate.{Gate}
+use Rattle.aig_image.specs.Relabelled.{relabelled, relabelled_gate}
+use Rattle.aig_image.specs.Renumbering.{source_variable}
+use Rattle.aig_image.specs.Reordered.{exchanged_by}
+use Rattle.aig_map.specs.Parts.Had.{without_gates}
+use Rattle.aig_map.specs.Parts.Tables.{block_read}
+use Rattle.aig_map.specs.Undone.{comment_behind, source_variables}
+use Rattle.aig_map.proofs.Confirming.Exchanges.{exchanges_of_same}
+use Rattle.aig_map.proofs.Restoring.AtPositions.{exchanged_as_recorded, flags_fit, positions_fit, put_as_recorded}
+use Rattle.aig_map.proofs.Restoring.Source.{undone_is}
+use Rattle.aig_map.proofs.Sources.RecordedAt.{gate_had}
+use Rattle.aig_map.proofs.Sources.SourceVariables.{they_fit}
+use Rattle.aig_map.proofs.undone.make_undone.Goals as goal
+
+pub source_gates-requires-clause-fit : goal.source_gates-requires-clause-fit
+source_gates-requires-clause-fit c = search (rules, they_fit)
+
+pub source_gates-requires-clause-many : goal.source_gates-requires-clause-many
+source_gates-requires-clause-many c = search (rules, positions_fit)
+
+pub source_gates-requires-clause-there : goal.source_gates-requires-clause-there
+source_gates-requires-clause-there c =
+    let image = c.args.image.now in
+    let fit = positions_fit (block_read image) image c.requires.counts c.requires.bounds c.requires.once in
+    subst (λ (gs : List Gate). AllByRecursion (λ p. p < length gs) c.args.places.now) (sym c.as_slice.ensures)
+    (subst (AllByRecursion (λ p. p < length image.gates)) (sym c.requires.are) fit.1)
+
+pub source_gates-requires-clause-once : goal.source_gates-requires-clause-once
+source_gates-requires-clause-once c = search (rules, positions_fit)
+
+pub source_gates-requires-clause-flags : goal.source_gates-requires-clause-flags
+source_gates-requires-clause-flags c = search (rules, flags_fit)
+
+pub returns-in_err-gates-clause-err : goal.returns-in_err-gates-clause-err
+returns-in_err-gates-clause-err c = search (rules, err_from_is_err_and, put_as_recorded, exchanges_of_same)
+
+pub relabel-requires : goal.relabel-requires
+relabel-requires c = search (rules, they_fit)
+
+pub returns-clause-ok : goal.returns-clause-ok
+returns-clause-ok c =
+    let image = c.args.image.now in
+    let block = block_read image in
+    let comment = comment_behind block c.args.comment.now in
+    let found = c.in_ok-gates.ensures.ok.0 in
+    let there = put_as_recorded block image c.requires.counts c.requires.bounds c.requires.once _ _ _ found
+    c.requires.variables c.requires.are c.as_slice.ensures c.in_ok-gates.ensures.ok.1 in
+    let gates : c.in_ok-gates.gates
+    ≡ map (relabelled_gate (source_variable (source_variables block))) (map (gate_had image.gates) block.gates) =
+    c.in_ok-gates.ensures.ok.3
+    ∙ ap₂ (λ (flags : List Bool) (gs : List Gate). exchanged_by flags gs)
+    (c.as_slice-2.ensures.value ∙ c.requires.taken.exchanged) there
+    ∙ exchanged_as_recorded block image c.requires.counts c.requires.bounds c.requires.once in
+    let front : c.in_ok-others.others ≡ without_gates block.max_var comment image =
+    c.in_ok-others.ensures
+    ∙ ap₂ (λ (max_var : ℕ) (has : Bool).
+    without_gates max_var (if has then Some c.args.comment.now else None) image) c.requires.taken.max_var
+    c.requires.taken.has_comment in
+    let others : c.relabel.result
+    ≡ relabelled (source_variable (source_variables block)) (without_gates block.max_var comment image) =
+    c.relabel.ensures
+    ∙ ap₂ (λ (vs : List ℕ) (d : Circuit). relabelled (source_variable vs) d) c.requires.variables front in
+    ap₂ (λ (d : Circuit) (gs : List Gate). record d { gates = gs }) others gates
+    ∙ undone_is block comment image
+
+pub returns-clause-differ : goal.returns-clause-differ
+returns-clause-differ c = search (rules, put_as_recorded, exchanges_of_same)

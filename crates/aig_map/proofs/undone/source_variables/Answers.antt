@@ -1,0 +1,65 @@
+use Rattle.std.proofs.Common.{rules}
+use Rattle.std.proofs.Common.{◌≡◌, ◌∙◌, ◌++◌, ◌+◌, ◌-◌, ◌≤◌, ℕ, List, take, drop, length}
+use Rattle.std.proofs.Common.{map, replicate, ap, ap₂, arith, inr, refl}
+use Rattle.std.specs.List.{range_with_len}
+use Rattle.std.proofs.lemmas.List.{length-append, take_all}
+use Rattle.std.proofs.lemmas.List.FromFn.{length-map-range_with_len}
+use Rattle.std.proofs.Math.Seq.{take-append_seam}
+use Rattle.aig_map.specs.Undone.{source_variables, variable_at_place}
+use Rattle.aig_map.proofs.Sources.Placed.{places_once, place_twice, table_is}
+use Rattle.aig_map.proofs.undone.source_variables.Goals as goal
+
+-- what stands before the places of gates, of a list that was made longer
+front_stays : (front rest all : List ℕ) (first count : ℕ) → first ≡ length front → first ≤ count
+    → all ≡ take count front ++ rest → take first all ≡ front
+front_stays front rest all first count is most whole = search (rules, take_all, take-append_seam)
+
+-- so many of a list and others, where these are all of the list
+all_taken : (all rest : List ℕ) (count : ℕ) → count ≡ length all → take count (all ++ rest) ≡ all
+all_taken all rest count is = ap (λ k. take k (all ++ rest)) is ∙ take-append_seam all rest
+
+pub returns-then-place_gates-clause-ok : goal.returns-then-place_gates-clause-ok
+returns-then-place_gates-clause-ok c =
+    let block = c.args.block.now in
+    let all = c.if-place_gates.ensures.all in
+    let front : List ℕ = block.inputs ++ block.latches in
+    let behind : List ℕ = map (variable_at_place block.gates) (range_with_len 0 (length block.gates)) in
+    let gates : all.0 ≡ behind =
+    table_is block.max_var block.gates c.requires.bounds.gates all.0 (rw c.as_slice-3.ensures at all.1) in
+    let many : length front ≡ length block.inputs + length block.latches = length-append block.inputs block.latches in
+    let before : c.extend_from_slice-2.new.self.items ≡ front =
+    c.in_ok-extend_from_slice-2.ensures.items
+    ∙ ap₂ (λ s t. s ++ t)
+    (c.in_ok-extend_from_slice.ensures.items
+    ∙ ap₂ (λ s t. s ++ t) c.in_ok-variables.ensures.items c.as_slice.ensures) c.as_slice-2.ensures in
+    let count : ℕ = c.len.result + c.len-2.result + c.len-3.result in
+    let zeros : List ℕ = replicate (count - c.extend_from_slice-2.new.self.len) 0 in
+    let longer : c.resize.new.self.items ≡ take count c.extend_from_slice-2.new.self.items ++ zeros =
+    c.in_ok-resize.ensures.items in
+    let first : take (c.len.result + c.len-2.result) c.as_mut_slice.result.now ≡ front =
+    front_stays front zeros c.as_mut_slice.result.now (c.len.result + c.len-2.result) count
+    (omega (arith, many, c.len.ensures, c.len-2.ensures)) (omega arith)
+    (c.as_mut_slice.ensures.value ∙ longer ∙ ap (λ (xs : List ℕ). take count xs ++ zeros) before) in
+    let new : c.place_gates.new.variables ≡ source_variables block =
+    all.2 ∙ ap₂ (λ s t. s ++ t) first gates in
+    let long : length c.place_gates.new.variables ≡ length front + length block.gates =
+    ap length new ∙ length-append front behind
+    ∙ ap (λ n. length front + n) (length-map-range_with_len (variable_at_place block.gates) 0 (length block.gates)) in
+    all_taken c.place_gates.new.variables (drop (length c.place_gates.new.variables) c.resize.new.self.items)
+    c.resize.new.self.len
+    (omega (arith, c.in_ok-resize.ensures.len, long, many, c.len.ensures, c.len-2.ensures, c.len-3.ensures)) ∙ new
+
+pub returns-then-place_gates-clause-places : goal.returns-then-place_gates-clause-places
+returns-then-place_gates-clause-places c =
+    let block = c.args.block.now in
+    let all = c.if-place_gates.ensures.all in
+    places_once block.max_var block.gates c.requires.bounds.gates all.0 (rw c.as_slice-3.ensures at all.1)
+
+pub returns-else-place_gates-clause-err : goal.returns-else-place_gates-clause-err
+returns-else-place_gates-clause-err c =
+    let block = c.args.block.now in
+    inr (
+      refl,
+      place_twice block.max_var block.gates c.requires.bounds.gates
+          (rw c.as_slice-3.ensures at c.if-place_gates.ensures.twice),
+    )

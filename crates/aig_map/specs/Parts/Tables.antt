@@ -1,0 +1,35 @@
+-- The block that is read of a circuit, and what is kept of it while the source is made.
+use Rattle.std.specs.Prelude.{◌≡◌, ℕ, List, [], false, Result, Ok, Err, length, map}
+use Rattle.aig_circuit.specs.declared.circuit.Gate.{Gate}
+use Rattle.aig_circuit.specs.declared.circuit.Circuit.{Circuit}
+use Rattle.aig_image.specs.Relabelled.{relabelled_gate}
+use Rattle.aig_image.specs.Reordered.{taken}
+use Rattle.aig_map.specs.declared.fault.MapFault.{MapFault}
+use Rattle.aig_map.specs.declared.map_block.MapBlock.{MapBlock}
+use Rattle.aig_map.specs.declared.recorded.Recorded.{Recorded}
+use Rattle.aig_map.specs.MapReading.{block_reading}
+use Rattle.aig_map.specs.Undone.{comment_behind, exchanges_recorded, undone}
+
+-- the block that was read, or an empty one
+abbrev pub block_in : Result (MapBlock × List ℕ) MapFault → MapBlock
+block_in (Ok (b, rest)) = b
+block_in (Err e) = record { max_var = 0; inputs = []; latches = []; gates = []; has_comment = false }
+
+-- the block at the front of the circuit's comment
+unfoldable pub block_read : Circuit → MapBlock
+block_read x = block_in (block_reading x)
+
+-- the circuit that is undone by it, where this follows it
+abbrev pub source_read : Circuit → List ℕ → Circuit
+source_read x rest = undone (block_read x) (comment_behind (block_read x) rest) x
+
+-- all that a block records beside variables and places
+pub record IsTakenOutOf (b : MapBlock) (r : Recorded) : Type 0 where
+  pub max_var : r.max_var ≡ b.max_var
+  pub has_comment : r.has_comment ≡ b.has_comment
+  pub exchanged : r.exchanged.items ≡ exchanges_recorded b.gates
+
+-- these gates, by labels, stand at these positions
+pub record ArePut (f : ℕ → ℕ) (gates : List Gate) (positions : List ℕ) (found : List Gate) : Type 0 where
+  pub many : length found ≡ length gates
+  pub put : taken found positions ≡ map (relabelled_gate f) gates

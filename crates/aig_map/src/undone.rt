@@ -1,0 +1,282 @@
+//! The undone circuit: what a circuit was before its conversion, by a map block.
+ghost use Rattle.std.specs.Prelude.{◌≡◌, ◌<◌, ◌≤◌, ◌⊎◌, ◌↔◌, ◌++◌, true, ℕ, Some, None, List, length, map, take, drop};
+ghost use Rattle.std.specs.Prelude.{replicate, if◌then◌else◌, IfOk, IfErr, IsTrue, OnOk};
+ghost use Rattle.std.specs.Bool.{OnTrue, OnFalse};
+ghost use Rattle.std.specs.List.{AllByRecursion};
+ghost use Rattle.aig_circuit.specs.declared.circuit.Gate.{Gate as GateRecord};
+ghost use Rattle.aig_circuit.specs.Wellformed.{AreDistinct};
+ghost use Rattle.aig_image.specs.Relabelled.{FitIntoLiterals, relabelled_gate};
+ghost use Rattle.aig_image.specs.Renumbering.{source_variable};
+ghost use Rattle.aig_image.specs.Reordered.{exchanged_by, exchanged_if, taken};
+ghost use Rattle.aig_map.specs.declared.fault.MapFault.TheVariants.{Forged as IsForged, OutOfMemory as IsOutOfMemory};
+ghost use Rattle.aig_map.specs.declared.map_block.MappedGate.{MappedGate as MappedGateRecord};
+ghost use Rattle.aig_map.specs.MapReading.{HasCountsOf, IsWithinBounds};
+ghost use Rattle.aig_map.specs.Parts.Placed.{table_of, with_gates};
+ghost use Rattle.aig_map.specs.Parts.Had.{without_gates};
+ghost use Rattle.aig_map.specs.Parts.Confirmed.{DifferWhereExchanged, ExchangesDiffer};
+ghost use Rattle.aig_map.specs.Parts.Tables.{block_read, source_read, ArePut, IsTakenOutOf};
+ghost use Rattle.aig_map.specs.Parts.Turns.{positions};
+ghost use Rattle.aig_map.specs.Undone.{places_recorded, source_variables};
+
+use crate::fault::MapFault;
+use crate::map_block::{MapBlock, MappedGate};
+use crate::recorded::Recorded;
+use aig_core::{Circuit, Gate, Listing, Lit, OutOfMemory, Var, copy_justice, copy_symbols};
+use aig_image::{Labels, NamesVariables, relabel};
+use std::alloc::Global;
+
+/// Puts the variable of each gate at its place, up to the first gate whose place has a variable. Returns whether none
+/// has.
+fn fill_places(placed: &mut [Var], gates: &[MappedGate]) -> bool
+    requires { AllByRecursion (λ (g : MappedGateRecord). g.place < length placed.old) gates.now }
+    ensures all { OnTrue result (with_gates placed.old gates.now ≡ Some placed.new) }
+    ensures twice { OnFalse result (with_gates placed.old gates.now ≡ None) }
+{
+    for gate in gates {
+        let at = gate.place as usize;
+        let there = placed[at];
+        if there.0 != 0 {
+            return false;
+        }
+        placed[at] = gate.var;
+    }
+    true
+}
+
+/// Puts the variable of each gate at its place, behind the first variables, so many. Returns whether no two gates have
+/// one place.
+fn place_gates(variables: &mut [Var], first: usize, gates: &[MappedGate]) -> bool
+    requires within { first ≤ length variables.old }
+    requires none { drop first variables.old ≡ replicate (length gates.now) 0 }
+    requires there { AllByRecursion (λ (g : MappedGateRecord). g.place < length gates.now) gates.now }
+    ensures all { OnTrue result ((table : List ℕ) × (table_of gates.now ≡ Some table)
+        × (variables.new ≡ take first variables.old ++ table)) }
+    ensures twice { OnFalse result (table_of gates.now ≡ None) }
+{
+    let (_, placed) = variables.split_at_mut(first);
+    fill_places(placed, gates)
+}
+
+/// The variables of the source in their new order: inputs, latches, and gates by their places.
+#[derive(Drop)]
+pub struct SourceVariables {
+    /// The variable for each number from 1 on.
+    pub variables: Vec<Var>,
+}
+
+/// A number has the label of the variable that it was given to; the constant stays.
+impl Labels for SourceVariables {
+    ghost label = { λ source. source_variable source.variables.items };
+
+    #[inline(always)]
+    fn label(&self, var: Var) -> Var {
+        if var.0 == 0 {
+            return Var(0);
+        }
+        match self.variables.get(var.0 as usize - 1) {
+            Some(variable) => *variable,
+            None => Var(0),
+        }
+    }
+}
+
+/// The variables of the source in their new order.
+pub fn source_variables(alloc: Global, block: &MapBlock) -> Result<SourceVariables, MapFault>
+    requires bounds { IsWithinBounds block.now }
+    ensures ok { IfOk result (λ r. r.variables.items ≡ source_variables block.now) }
+    ensures places { IfOk result (λ _. AreDistinct (map (λ (g : MappedGateRecord). g.place) block.now.gates)) }
+    ensures err { IfErr result (λ e. (e ≡ IsOutOfMemory)
+        ⊎ ((e ≡ IsForged) × (¬ AreDistinct (map (λ (g : MappedGateRecord). g.place) block.now.gates)))) }
+{
+    let first = block.inputs.len() + block.latches.len();
+    let count = first + block.gates.len();
+    let mut variables = Vec::with_capacity(alloc, count)?;
+    variables.extend_from_slice(block.inputs.as_slice())?;
+    variables.extend_from_slice(block.latches.as_slice())?;
+    variables.resize(count, Var(0))?;
+    if place_gates(variables.as_mut_slice(), first, block.gates.as_slice()) {
+        Ok(SourceVariables { variables })
+    } else {
+        Err(MapFault::Forged)
+    }
+}
+
+/// Puts each gate of the image, by the variables of the source, at its position there. It goes in the order of the
+/// image, where variables of operands mostly lie near one another.
+#[inline(never)]
+fn put_at_positions(found: &mut [Gate], variables: &SourceVariables, gates: &[Gate], places: &[u32])
+    requires fit { FitIntoLiterals (source_variable variables.now.variables.items) }
+    requires many { length places.now ≡ length gates.now }
+    requires there { AllByRecursion (λ at. at < length found.old) places.now }
+    requires once { AreDistinct places.now }
+    ensures many { length found.new ≡ length found.old }
+    ensures put { taken found.new places.now
+        ≡ map (relabelled_gate (source_variable variables.now.variables.items)) gates.now }
+{
+    for (place, gate) in gates.iter().enumerate() {
+        found[places[place] as usize] = gate.relabel(variables);
+    }
+}
+
+/// The gate with its operands exchanged, if so.
+#[inline(always)]
+fn exchanged_if(exchanged: bool, gate: Gate) -> Gate
+    ensures { result ≡ exchanged_if exchanged gate }
+{
+    Gate {
+        var: gate.var,
+        left: if exchanged { gate.right } else { gate.left },
+        right: if exchanged { gate.left } else { gate.right },
+    }
+}
+
+/// Whether operands are exchanged that are equal.
+#[inline(always)]
+fn exchanges_equal(exchanged: bool, gate: &Gate) -> bool
+    ensures { IsTrue result ↔ ((exchanged ≡ true) × (gate.now.left ≡ gate.now.right)) }
+{
+    gate.left.0 == gate.right.0 && exchanged
+}
+
+/// Exchanges the operands of the gates that are recorded as exchanged, up to the first one with equal operands. Returns
+/// whether there is none.
+#[inline(never)]
+fn exchange_recorded(found: &mut [Gate], exchanged: &[bool]) -> bool
+    requires { length exchanged.now ≡ length found.old }
+    ensures all { OnTrue result (found.new ≡ exchanged_by exchanged.now found.old) }
+    ensures differ { IsTrue result ↔ DifferWhereExchanged found.old exchanged.now }
+{
+    for (position, is_exchanged) in exchanged.iter().enumerate() {
+        let there = found[position];
+        if exchanges_equal(*is_exchanged, &there) {
+            return false;
+        }
+        found[position] = exchanged_if(*is_exchanged, there);
+    }
+    true
+}
+
+/// The gates of the image by the variables of the source and at their positions there.
+fn gates_at_positions(
+    alloc: Global,
+    variables: &SourceVariables,
+    gates: &[Gate],
+    places: &[u32],
+) -> Result<Vec<Gate>, OutOfMemory>
+    requires fit { FitIntoLiterals (source_variable variables.now.variables.items) }
+    requires many { length places.now ≡ length gates.now }
+    requires there { AllByRecursion (λ at. at < length gates.now) places.now }
+    requires once { AreDistinct places.now }
+    ensures { IfOk result (λ r. ArePut (source_variable variables.now.variables.items) gates.now places.now r.items) }
+{
+    let none = Gate {
+        var: Var(0),
+        left: Lit(0),
+        right: Lit(0),
+    };
+    let mut found = vec![in alloc; none; gates.len()]?;
+    put_at_positions(found.as_mut_slice(), variables, gates, places);
+    Ok(found)
+}
+
+/// The gates of the source, unless the operands of one are equal and recorded as exchanged.
+fn source_gates(
+    alloc: Global,
+    variables: &SourceVariables,
+    gates: &[Gate],
+    places: &[u32],
+    exchanged: &[bool],
+) -> Result<Listing<Gate>, MapFault>
+    requires fit { FitIntoLiterals (source_variable variables.now.variables.items) }
+    requires many { length places.now ≡ length gates.now }
+    requires there { AllByRecursion (λ at. at < length gates.now) places.now }
+    requires once { AreDistinct places.now }
+    requires flags { length exchanged.now ≡ length gates.now }
+    ensures ok { IfOk result (λ r. (found : List GateRecord)
+        × ArePut (source_variable variables.now.variables.items) gates.now places.now found
+        × DifferWhereExchanged found exchanged.now × (r ≡ exchanged_by exchanged.now found)) }
+    ensures err { IfErr result (λ e. (e ≡ IsOutOfMemory) ⊎ ((e ≡ IsForged) × ((found : List GateRecord)
+        × ArePut (source_variable variables.now.variables.items) gates.now places.now found
+        × (¬ DifferWhereExchanged found exchanged.now)))) }
+{
+    let mut found = gates_at_positions(alloc, variables, gates, places)?;
+    if exchange_recorded(found.as_mut_slice(), exchanged) {
+        Ok(Listing::from_vec(found))
+    } else {
+        Err(MapFault::Forged)
+    }
+}
+
+/// The comment behind a block, where there was a comment section.
+fn source_comment(
+    alloc: Global,
+    has_comment: bool,
+    comment: &[u8],
+) -> Result<Option<Listing<u8>>, OutOfMemory>
+    ensures { IfOk result (λ r. r ≡ (if has_comment then Some comment.now else None)) }
+{
+    if !has_comment {
+        return Ok(None);
+    }
+    Ok(Some(Listing::from_vec(Vec::from_slice(alloc, comment)?)))
+}
+
+/// The circuit by the numbers of the image and without gates, with what a block records of the rest.
+fn without_gates(
+    alloc: Global,
+    recorded: &Recorded,
+    comment: &[u8],
+    image: &Circuit,
+) -> Result<Circuit, OutOfMemory>
+    ensures { IfOk result (λ c. c ≡ without_gates recorded.now.max_var
+        (if recorded.now.has_comment then Some comment.now else None) image.now) }
+{
+    Ok(Circuit {
+        max_var: recorded.max_var,
+        inputs: image.inputs.copy(alloc)?,
+        latches: image.latches.copy(alloc)?,
+        outputs: image.outputs.copy(alloc)?,
+        bad: image.bad.copy(alloc)?,
+        constraints: image.constraints.copy(alloc)?,
+        justice: copy_justice(alloc, &image.justice)?,
+        fairness: image.fairness.copy(alloc)?,
+        gates: Listing::new(alloc),
+        symbols: copy_symbols(alloc, &image.symbols)?,
+        comment: source_comment(alloc, recorded.has_comment, comment)?,
+    })
+}
+
+/// The circuit with the variables and the orders of gates and operands that a block records; this comment follows the
+/// block. It is forged where the operands of a gate are equal and recorded as exchanged.
+pub fn make_undone(
+    alloc: Global,
+    variables: &SourceVariables,
+    places: &[u32],
+    recorded: &Recorded,
+    comment: &[u8],
+    image: &Circuit,
+) -> Result<Circuit, MapFault>
+    requires counts { HasCountsOf (block_read image.now) image.now }
+    requires bounds { IsWithinBounds (block_read image.now) }
+    requires once { AreDistinct (places_recorded (block_read image.now).gates) }
+    requires variables { variables.now.variables.items ≡ source_variables (block_read image.now) }
+    requires are { places.now ≡ positions (block_read image.now).gates }
+    requires taken { IsTakenOutOf (block_read image.now) recorded.now }
+    ensures ok { IfOk result (λ c. c ≡ source_read image.now comment.now) }
+    ensures differ { OnOk result (ExchangesDiffer (block_read image.now) image.now) }
+    ensures err { IfErr result (λ e. (e ≡ IsOutOfMemory)
+        ⊎ ((e ≡ IsForged) × (¬ ExchangesDiffer (block_read image.now) image.now))) }
+{
+    let gates = source_gates(
+        alloc,
+        variables,
+        image.gates.as_slice(),
+        places,
+        recorded.exchanged.as_slice(),
+    )?;
+    let others = without_gates(alloc, recorded, comment, image)?;
+    Ok(Circuit {
+        gates,
+        ..relabel(variables, others)
+    })
+}

@@ -1,8 +1,0 @@
-use Rattle.std.proofs.Common.{rules}
-use Rattle.std.proofs.lemmas.List.{length-set}
-use Rattle.aig_image.proofs.Relabelling.Standing.{at_place}
-use Rattle.aig_order.proofs.Restoring.InPlace.{one_more_put}
-use Rattle.aig_order.proofs.undone.put_at_positions.Goals as goal
-
-pub loop-place-preserved : goal.loop-place-preserved
-loop-place-preserved c = search (rules, at_place, length-set, one_more_put)
