@@ -91,11 +91,11 @@ fn binary_texts_come_back(rt: HostRuntime) -> Result<(), Fail> {
 }
 
 /// Whether writing fails at the call of the sink behind so many of three bytes, which took a beginning of the text.
-fn fails_behind(alloc: Global, ordered: &Ordered, text: &str, calls: u64) -> Result<bool, Fail> {
-    let mut sink = MemorySink::new(alloc, 200, 3, calls + 1)?;
+fn fails_behind(alloc: Global, ordered: &Ordered, text: &str, calls: u8) -> Result<bool, Fail> {
+    let mut sink = MemorySink::new(alloc, 200, 3, u64::from(calls) + 1)?;
     let failed = write_binary(ordered, &mut sink).is_err();
     let taken = sink.taken();
-    Ok(failed && text.as_bytes().starts_with(taken) && taken.len() as u64 == 3 * calls)
+    Ok(failed && text.as_bytes().starts_with(taken) && taken.len() == 3 * usize::from(calls))
 }
 
 /// Whether it fails so at each of the first calls.
