@@ -1,7 +1,10 @@
 -- The command lines that the program takes, in the terms of `clap` (this project's profile).
-use Rattle.std.specs.Prelude.{List, [], ◌∷◌, Some, true, pos, fold}
+use Rattle.std.specs.Prelude.{◌≡◌, List, [], ◌∷◌, Some, false, true, pos, fold}
 use Rattle.std.specs.Prelude.{codes}
-use Rattle.clap.specs.Words.{App, Rule, Text, new_app, new_rule, with_rule, with_subcommand}
+use Rattle.clap.specs.Words.{App, Rule, Text, app_of, new_app, new_rule, rule_of, with_rule, with_subcommand}
+use Rattle.clap.specs.declared.builder.arg.Arg.{Arg}
+use Rattle.clap.specs.declared.builder.command.Command.{Command}
+use Rattle.clap.specs.declared.builder.command.Command.TheViews.{out-Command as fields_of}
 use Rattle.clap.specs.declared.builder.action.ArgAction.TheVariants.{Set, SetTrue}
 use Rattle.clap.specs.declared.builder.value_parser.ValueParser.TheVariants as parser
 
@@ -68,3 +71,12 @@ abbrev pub aiger : App
 aiger =
     with_subcommand (with_subcommand (with_subcommand (above (new_app (codes "aiger"))) to_aig.top) aigsim.top)
     aigunroll.top
+
+-- `clap` reads this of the command, and none of its arguments is one of its subcommands too. Only private functions
+-- cite it.
+abbrev pub HasApp : App → Command → Type 0
+HasApp app command = (app_of command ≡ app) × ((fields_of command).has_globals ≡ false)
+
+-- `clap` reads this of the argument, which is not one of subcommands too. Only private functions cite it.
+abbrev pub HasRule : Rule → Arg → Type 0
+HasRule rule argument = (rule_of argument ≡ rule) × (argument.global ≡ false)

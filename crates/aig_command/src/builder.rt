@@ -1,8 +1,8 @@
 //! The command line as `clap` takes it, with its help texts.
-ghost use Rattle.std.specs.Prelude.{◌≡◌, IfOk, false};
-ghost use Rattle.clap.specs.Words.{app_of, new_app, new_rule, rule_of};
-ghost use Rattle.clap.specs.declared.builder.command.Command.TheViews.{out-Command as fields_of};
-ghost use Rattle.aig_command.specs.Aiger.{aiger, aigsim, aigunroll, flag, frames, max_var, required_file, to_aig};
+ghost use Rattle.std.specs.Prelude.{IfOk, codes};
+ghost use Rattle.clap.specs.Words.{App, Rule, new_app, new_rule, with_rule, with_subcommand};
+ghost use Rattle.aig_command.specs.Aiger.{HasApp, HasRule, above, aiger, aigsim, aigunroll, flag, frames, max_var};
+ghost use Rattle.aig_command.specs.Aiger.{required_file, to_aig};
 
 use clap::{Arg, ArgAction, Command, value_parser};
 use std::alloc::{AllocError, Global};
@@ -118,11 +118,17 @@ const KEEP_MAP_HELP: &str = "\
 Keep a map of the renumbering in the comment, so that
 --undo-map can give the source back; binary output only";
 
+const STRIP_HELP: &str = "Leave out the symbols and the comment";
+
+const UNDO_MAP_HELP: &str = "Give back the source of a conversion with --keep-map";
+
 const ASCII_HELP: &str = "Write ASCII, whatever the destination is named";
 
 const SOURCE_HELP: &str = "The file to read; - or none is the standard input";
 
 const DESTINATION_HELP: &str = "The file to write; - or none is the standard output";
+
+const MODEL_HELP: &str = "The circuit's file; - is the standard input";
 
 const STIMULUS_HELP: &str = "\
 The file of the steps, or of the witness; - or none is the
@@ -134,16 +140,14 @@ Refuse a circuit with an index or a count above N:
 
 /// A command with its texts, before its arguments.
 fn command<'a>(alloc: Global, name: &'a str, about: &'a str, after: &'a str) -> Command<'a>
-    ensures app { app_of result ≡ new_app name.now }
-    ensures local { (fields_of result).has_globals ≡ false }
+    ensures { HasApp (new_app name.now) result }
 {
     Command::new(alloc, name).about(about).after_help(after)
 }
 
 /// An option that is given or not.
 fn flag<'a>(alloc: Global, name: &'a str, help: &'a str) -> Arg<'a>
-    ensures rule { rule_of result ≡ flag name.now }
-    ensures local { result.global ≡ false }
+    ensures { HasRule (flag name.now) result }
 {
     Arg::new(alloc, name)
         .long(name)
@@ -153,8 +157,7 @@ fn flag<'a>(alloc: Global, name: &'a str, help: &'a str) -> Arg<'a>
 
 /// The limit on what is read.
 fn max_var<'a>(alloc: Global) -> Arg<'a>
-    ensures rule { rule_of result ≡ max_var }
-    ensures local { result.global ≡ false }
+    ensures { HasRule max_var result }
 {
     Arg::new(alloc, "max-var")
         .long("max-var")
@@ -166,8 +169,7 @@ fn max_var<'a>(alloc: Global) -> Arg<'a>
 
 /// The number of frames, which has to be given.
 fn frames<'a>(alloc: Global) -> Arg<'a>
-    ensures rule { rule_of result ≡ frames }
-    ensures local { result.global ≡ false }
+    ensures { HasRule frames result }
 {
     Arg::new(alloc, "frames")
         .long("frames")
@@ -180,85 +182,97 @@ fn frames<'a>(alloc: Global) -> Arg<'a>
 
 /// The name of a file.
 fn file<'a>(alloc: Global, name: &'a str, help: &'a str) -> Arg<'a>
-    ensures rule { rule_of result ≡ new_rule name.now }
-    ensures local { result.global ≡ false }
+    ensures { HasRule (new_rule name.now) result }
 {
     Arg::new(alloc, name).help(help)
 }
 
 /// The name of a file that has to be given.
 fn required_file<'a>(alloc: Global, name: &'a str, help: &'a str) -> Arg<'a>
-    ensures rule { rule_of result ≡ required_file name.now }
-    ensures local { result.global ≡ false }
+    ensures { HasRule (required_file name.now) result }
 {
     Arg::new(alloc, name).required(true).help(help)
 }
 
+/// The command with one argument more. It takes what the calls before it gave, so that a command is made with no `?`
+/// between its arguments: each `?` is a way out, on which the proof follows all that is dropped.
+fn with_argument<'a>(
+    command: Result<Command<'a>, AllocError>,
+    argument: Arg<'a>,
+) -> Result<Command<'a>, AllocError>
+    ensures { (app : App) (rule : Rule) → IfOk command.entry (HasApp app) → HasRule rule argument.entry
+        → IfOk result (HasApp (with_rule app rule)) }
+{
+    command?.arg(argument)
+}
+
+/// The program with one subcommand more.
+fn with_subcommand<'a>(
+    program: Result<Command<'a>, AllocError>,
+    subcommand: Result<Command<'a>, AllocError>,
+) -> Result<Command<'a>, AllocError>
+    ensures { (app sub : App) → IfOk program.entry (HasApp app) → IfOk subcommand.entry (HasApp sub)
+        → IfOk result (HasApp (with_subcommand app sub.top)) }
+{
+    program?.subcommand(subcommand?)
+}
+
 /// `aigtoaig`.
 fn to_aig<'a>(alloc: Global) -> Result<Command<'a>, AllocError>
-    ensures app { IfOk result (λ c. app_of c ≡ to_aig) }
-    ensures local { IfOk result (λ c. (fields_of c).has_globals ≡ false) }
+    ensures { IfOk result (HasApp to_aig) }
 {
-    let command = command(alloc, "aigtoaig", TO_AIG_ABOUT, TO_AIG_AFTER)
-        .arg(flag(alloc, "ascii", ASCII_HELP))?
-        .arg(flag(alloc, "strip", "Leave out the symbols and the comment"))?
-        .arg(flag(alloc, "keep-map", KEEP_MAP_HELP))?
-        .arg(flag(
-            alloc,
-            "undo-map",
-            "Give back the source of a conversion with --keep-map",
-        ))?
-        .arg(max_var(alloc))?
-        .arg(file(alloc, "source", SOURCE_HELP))?
-        .arg(file(alloc, "destination", DESTINATION_HELP))?;
-    Ok(command)
+    let command = Ok(command(alloc, "aigtoaig", TO_AIG_ABOUT, TO_AIG_AFTER));
+    let command = with_argument(command, flag(alloc, "ascii", ASCII_HELP));
+    let command = with_argument(command, flag(alloc, "strip", STRIP_HELP));
+    let command = with_argument(command, flag(alloc, "keep-map", KEEP_MAP_HELP));
+    let command = with_argument(command, flag(alloc, "undo-map", UNDO_MAP_HELP));
+    let command = with_argument(command, max_var(alloc));
+    let command = with_argument(command, file(alloc, "source", SOURCE_HELP));
+    with_argument(command, file(alloc, "destination", DESTINATION_HELP))
 }
 
 /// `aigsim`.
 fn aigsim<'a>(alloc: Global) -> Result<Command<'a>, AllocError>
-    ensures app { IfOk result (λ c. app_of c ≡ aigsim) }
-    ensures local { IfOk result (λ c. (fields_of c).has_globals ≡ false) }
+    ensures { IfOk result (HasApp aigsim) }
 {
-    let command = command(alloc, "aigsim", SIM_ABOUT, SIM_AFTER)
-        .arg(flag(alloc, "batch", BATCH_HELP))?
-        .arg(flag(alloc, "properties", PROPERTIES_HELP))?
-        .arg(flag(alloc, "witness", WITNESS_HELP))?
-        .arg(max_var(alloc))?
-        .arg(required_file(
-            alloc,
-            "model",
-            "The circuit's file; - is the standard input",
-        ))?
-        .arg(file(alloc, "stimulus", STIMULUS_HELP))?;
-    Ok(command)
+    let command = Ok(command(alloc, "aigsim", SIM_ABOUT, SIM_AFTER));
+    let command = with_argument(command, flag(alloc, "batch", BATCH_HELP));
+    let command = with_argument(command, flag(alloc, "properties", PROPERTIES_HELP));
+    let command = with_argument(command, flag(alloc, "witness", WITNESS_HELP));
+    let command = with_argument(command, max_var(alloc));
+    let command = with_argument(command, required_file(alloc, "model", MODEL_HELP));
+    with_argument(command, file(alloc, "stimulus", STIMULUS_HELP))
 }
 
 /// `aigunroll`.
 fn aigunroll<'a>(alloc: Global) -> Result<Command<'a>, AllocError>
-    ensures app { IfOk result (λ c. app_of c ≡ aigunroll) }
-    ensures local { IfOk result (λ c. (fields_of c).has_globals ≡ false) }
+    ensures { IfOk result (HasApp aigunroll) }
 {
-    let command = command(alloc, "aigunroll", UNROLL_ABOUT, UNROLL_AFTER)
-        .arg(frames(alloc))?
-        .arg(flag(alloc, "ascii", ASCII_HELP))?
-        .arg(max_var(alloc))?
-        .arg(file(alloc, "source", SOURCE_HELP))?
-        .arg(file(alloc, "destination", DESTINATION_HELP))?;
-    Ok(command)
+    let command = Ok(command(alloc, "aigunroll", UNROLL_ABOUT, UNROLL_AFTER));
+    let command = with_argument(command, frames(alloc));
+    let command = with_argument(command, flag(alloc, "ascii", ASCII_HELP));
+    let command = with_argument(command, max_var(alloc));
+    let command = with_argument(command, file(alloc, "source", SOURCE_HELP));
+    with_argument(command, file(alloc, "destination", DESTINATION_HELP))
+}
+
+/// The program, before its subcommands.
+fn program<'a>(alloc: Global) -> Result<Command<'a>, AllocError>
+    ensures { IfOk result (HasApp (above (new_app (codes "aiger")))) }
+{
+    let command = command(alloc, "aiger", ABOUT, AFTER)
+        .version(VERSION)
+        .propagate_version(true)
+        .subcommand_required(true)
+        .disable_help_subcommand(true);
+    command.bin_name("aiger")
 }
 
 /// The program, with its subcommands.
 pub(crate) fn aiger<'a>(alloc: Global) -> Result<Command<'a>, AllocError>
-    ensures { IfOk result (λ c. app_of c ≡ aiger) }
+    ensures { IfOk result (HasApp aiger) }
 {
-    let command = command(alloc, "aiger", ABOUT, AFTER)
-        .bin_name("aiger")?
-        .version(VERSION)
-        .propagate_version(true)
-        .subcommand_required(true)
-        .disable_help_subcommand(true)
-        .subcommand(to_aig(alloc)?)?
-        .subcommand(aigsim(alloc)?)?
-        .subcommand(aigunroll(alloc)?)?;
-    Ok(command)
+    let program = with_subcommand(program(alloc), to_aig(alloc));
+    let program = with_subcommand(program, aigsim(alloc));
+    with_subcommand(program, aigunroll(alloc))
 }
