@@ -1,7 +1,8 @@
 //! Calls that are given what they need.
 use crate::forms::{numbers_of, symbols_of};
 use aig_core::{
-    Circuit, Listing, Lit, MemorySink, MemorySource, NamedCounts, Names, Output, Var, read_all,
+    Circuit, Listing, Lit, MemorySink, MemorySource, NamedCounts, Names, Output, Symbols, Var,
+    read_all,
 };
 use aig_text::{Limits, read_ascii};
 use std::alloc::Global;
@@ -91,13 +92,27 @@ fn symbols_are_copied(rt: HostRuntime) -> Result<(), Fail> {
     Ok(())
 }
 
+/// Whether what is named in turn is told as new where its symbol says so.
+fn tells_what_is_new(names: &mut Names, symbols: &Symbols) -> Result<bool, Fail> {
+    for symbol in symbols.iter() {
+        let is_new = names.insert(symbol.kind, symbol.position)?;
+        if is_new != (symbol.name == b"new".as_slice()) {
+            return Ok(false);
+        }
+    }
+    Ok(true)
+}
+
+/// The same, of names that begin with none.
+fn names_tell_what_is_new(alloc: Global, symbols: &Symbols) -> Result<bool, Fail> {
+    let mut names = Names::new(alloc, ONE_OF_EACH)?;
+    tells_what_is_new(&mut names, symbols)
+}
+
 #[test]
 fn names(rt: HostRuntime) -> Result<(), Fail> {
-    let mut names = Names::new(rt.alloc(), ONE_OF_EACH)?;
-    for symbol in symbols_of(rt.alloc(), NAMED)?.iter() {
-        let is_new = names.insert(symbol.kind, symbol.position)?;
-        assert!(rt; is_new == (symbol.name == b"new".as_slice()));
-    }
+    let symbols = symbols_of(rt.alloc(), NAMED)?;
+    assert!(rt; names_tell_what_is_new(rt.alloc(), &symbols)?);
     Ok(())
 }
 
