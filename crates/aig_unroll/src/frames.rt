@@ -100,6 +100,24 @@ fn first_standing(
     Ok(standing)
 }
 
+/// The table of frame 0, and room for what stands for the latches in the next frame.
+fn make_tables(
+    alloc: Global,
+    first_input: u32,
+    circuit: &Circuit,
+) -> Result<(Vec<Lit>, Vec<Lit>), OutOfMemory>
+    requires inputs { first_input + length circuit.now.inputs ≤ LARGEST + 1 }
+    requires latches { length circuit.now.latches ≤ LARGEST }
+    ensures standing { IfOk result (λ tables. tables.0.items ≡ table first_input (length circuit.now.inputs)
+        (first_latches 1 (map (λ (l : LatchRecord). l.reset) circuit.now.latches))) }
+    ensures next { IfOk result (λ tables. length tables.1.items ≡ length circuit.now.latches) }
+{
+    let latches = circuit.latches.as_slice();
+    let standing = first_standing(alloc, first_input, circuit.inputs.len(), latches)?;
+    let next = vec![in alloc; Lit(0); latches.len()]?;
+    Ok((standing, next))
+}
+
 /// Changes a table to one whose inputs are the variables from this one on, with this for the latches.
 fn change_standing(first_input: u32, next: &[Lit], standing: &mut [Lit])
     requires room { 1 + length next.now ≤ length standing.old }
@@ -156,17 +174,22 @@ impl Frames {
         let uninitialised = count_uninitialised(circuit.latches.as_slice()) as u32;
         let inputs = circuit.inputs.len();
         let first_input = 1 + uninitialised;
-        let standing = first_standing(alloc, first_input, inputs, circuit.latches.as_slice())?;
-        let next = vec![in alloc; Lit(0); circuit.latches.len()]?;
-        Ok(Frames {
-            circuit,
-            frames,
-            frame: 0,
-            first_input,
-            first_gate: first_input + frames * inputs as u32,
-            standing,
-            next,
-        })
+        let first_gate = first_input + frames * inputs as u32;
+        match make_tables(alloc, first_input, &circuit) {
+            Ok((standing, next)) => Ok(Frames {
+                circuit,
+                frames,
+                frame: 0,
+                first_input,
+                first_gate,
+                standing,
+                next,
+            }),
+            Err(refused) => {
+                drop(circuit);
+                Err(refused)
+            }
+        }
     }
 
     /// The circuit that is unrolled.

@@ -85,7 +85,7 @@ fn put_frame(
     copies.put_gates(&mut gates[frame * width..frame * width + width]);
 }
 
-/// Puts the outputs, the bad states and the gates of all frames.
+/// Puts the outputs, the bad states and the gates of all frames. The frames are dropped by name.
 fn put_frames(mut copies: Frames, outputs: &mut [Lit], bad: &mut [Lit], gates: &mut [Gate])
     requires first { copies.frame ≡ 0 }
     requires outputs { length outputs.old ≡ copies.frames * length copies.circuit.outputs }
@@ -101,6 +101,7 @@ fn put_frames(mut copies: Frames, outputs: &mut [Lit], bad: &mut [Lit], gates: &
         copies.advance();
         put_frame(&copies, frame as usize, outputs, bad, gates);
     }
+    drop(copies);
 }
 
 /// The circuit of these lists.

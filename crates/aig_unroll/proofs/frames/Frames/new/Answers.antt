@@ -22,13 +22,9 @@ invariant_of-result c =
     subst (λ (k : Circuit). ¬ IsTooLarge k frames) (sym same) c.requires.fits in
     let reset = λ (l : Latch). l.reset in
     let first = 1 + c.count_uninitialised-uninitialised.result in
-    first_frame circuit frames first (first + frames * c.len-inputs.result) c.in_ok-standing.standing.items
-    c.in_ok-next.next.items formed ordered fits c.requires.some
+    first_frame circuit frames first (first + frames * c.len-inputs.result) c.in-Ok.standing.items c.in-Ok.next.items
+    formed ordered fits c.requires.some
     (ap (λ n. 1 + n)
     (c.count_uninitialised-uninitialised.ensures.count
     ∙ ap (λ (ls : List Latch). uninitialised (map reset ls)) c.as_slice.ensures))
-    (ap (λ n. first + frames * n) c.len-inputs.ensures)
-    (c.in_ok-standing.ensures
-    ∙ ap₂ (λ n (ls : List Latch). table first n (first_latches 1 (map reset ls)))
-    c.len-inputs.ensures c.as_slice-2.ensures)
-    (omega (arith, c.in_ok-next.next.ok, c.in_ok-next.ensures.len, c.len.ensures))
+    (ap (λ n. first + frames * n) c.len-inputs.ensures) c.in-Ok.ensures.standing c.in-Ok.ensures.next
