@@ -6,7 +6,7 @@ ghost use Rattle.aig_core.specs.BinaryOrder.{IsNumberedInOrder};
 ghost use Rattle.aig_image.specs.Parts.Numbers.{number_of, IsRenumberingOf};
 ghost use Rattle.aig_image.specs.Relabelled.{FitIntoLiterals, relabelled};
 ghost use Rattle.aig_image.specs.Reordered.{with_operands_sorted};
-ghost use Rattle.aig_map.specs.MapBlock.{IsMappedImage, block_by, mapped_comment};
+ghost use Rattle.aig_map.specs.MapBlock.{IsMappedImage};
 ghost use Rattle.aig_map.specs.Parts.Kept.{AreVariablesOf};
 
 use aig_core::{
@@ -37,16 +37,6 @@ fn with_comment(circuit: Circuit, comment: Listing<u8>) -> Circuit
         comment: Some(comment),
         ..circuit
     }
-}
-
-/// The image of a circuit with the comment that tells its map.
-fn image_with_map(renumbering: Renumbering, circuit: Circuit, comment: Listing<u8>) -> Ordered
-    requires good { IsWellFormed circuit }
-    requires of_it { IsRenumberingOf circuit renumbering }
-    requires tells { comment ≡ mapped_comment (block_by (number_of renumbering.numbers) circuit) circuit }
-    ensures { IsMappedImage circuit result }
-{
-    renumbering.image(with_comment(circuit, comment))
 }
 
 /// The mapped image of a circuit that is in binary order, or is but for the operands of gates: its map is all that is
@@ -105,7 +95,54 @@ fn image_in_order(
     Ok(Ordered::from_well_ordered(sorted_with(new, comment)))
 }
 
-/// The mapped image of a circuit that is no longer needed.
+/// The mapped image of a circuit whose gates stand in order; its variables are kept while it gets its new numbers.
+fn image_by_kept_order(
+    alloc: Global,
+    renumbering: Renumbering,
+    circuit: Circuit,
+) -> Result<Ordered, OutOfMemory>
+    requires good { IsWellFormed circuit }
+    requires of_it { IsRenumberingOf circuit renumbering }
+    requires in_order { renumbering.taken ≡ None }
+    ensures { IfOk result (λ o. IsMappedImage circuit o) }
+{
+    let variables = keep_variables(alloc, &circuit)?;
+    image_in_order(alloc, &variables, renumbering, circuit)
+}
+
+/// The mapped image of a circuit whose gates need not stand in order.
+fn image_by_order(
+    alloc: Global,
+    renumbering: Renumbering,
+    circuit: Circuit,
+) -> Result<Ordered, OutOfMemory>
+    requires good { IsWellFormed circuit }
+    requires of_it { IsRenumberingOf circuit renumbering }
+    ensures { IfOk result (λ o. IsMappedImage circuit o) }
+{
+    let comment = map_comment(alloc, renumbering.numbers(), &circuit)?;
+    Ok(renumbering.image(with_comment(circuit, comment)))
+}
+
+/// The mapped image of a circuit that gets new numbers.
+fn renumbered_with_map(
+    alloc: Global,
+    renumbering: Renumbering,
+    circuit: Circuit,
+) -> Result<Ordered, OutOfMemory>
+    requires good { IsWellFormed circuit }
+    requires of_it { IsRenumberingOf circuit renumbering }
+    ensures { IfOk result (λ o. IsMappedImage circuit o) }
+{
+    if renumbering.is_in_order() {
+        image_by_kept_order(alloc, renumbering, circuit)
+    } else {
+        image_by_order(alloc, renumbering, circuit)
+    }
+}
+
+/// The mapped image of a circuit that is no longer needed. What can fail while it is owned stands in a function of its
+/// own: the proof of one goes through all that is dropped on each way out.
 fn into_mapped_image(alloc: Global, checked: Checked) -> Result<Ordered, OutOfMemory>
     ensures { IfOk result (λ o. IsMappedImage checked o) }
 {
@@ -113,12 +150,7 @@ fn into_mapped_image(alloc: Global, checked: Checked) -> Result<Ordered, OutOfMe
         return with_map_alone(alloc, checked.into_circuit());
     }
     let renumbering = Renumbering::new(alloc, &checked)?;
-    if renumbering.is_in_order() {
-        let variables = keep_variables(alloc, checked.circuit())?;
-        return image_in_order(alloc, &variables, renumbering, checked.into_circuit());
-    }
-    let comment = map_comment(alloc, renumbering.numbers(), checked.circuit())?;
-    Ok(image_with_map(renumbering, checked.into_circuit(), comment))
+    renumbered_with_map(alloc, renumbering, checked.into_circuit())
 }
 
 /// The mapped image of a circuit: its binary image, with a map block at the front of the comment, by which `undo`
