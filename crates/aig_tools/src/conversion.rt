@@ -49,11 +49,12 @@ fn undone(alloc: Global, request: &ToAig, found: Checked) -> Result<Checked, Map
     ensures ok { IfOk result (λ source. IsSource request.now.undo_map found source) }
     ensures err { IfErr result (λ e. (request.now.undo_map ≡ true) × IsMapFault found e) }
 {
-    if request.undo_map {
-        undo(alloc, &found)
-    } else {
-        Ok(found)
+    if !request.undo_map {
+        return Ok(found);
     }
+    let source = undo(alloc, &found);
+    drop(found);
+    source
 }
 
 /// The image of a circuit, with the map where the request asks for it.

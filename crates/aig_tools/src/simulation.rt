@@ -87,6 +87,8 @@ pub fn run_sim<M: Source, R: Source, W: Sink>(
     ensures short { W.longest output.new ≤ max (W.longest output.old) ROOM }
 {
     let found = read_circuit(alloc, model, request.max_var, Keep::Order)?;
-    simulate_as_asked(alloc, request, &found, stimulus, output)?;
+    let done = simulate_as_asked(alloc, request, &found, stimulus, output);
+    drop(found);
+    done?;
     Ok(())
 }
