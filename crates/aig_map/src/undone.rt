@@ -221,6 +221,28 @@ fn source_comment(
     Ok(Some(Listing::from_vec(Vec::from_slice(alloc, comment)?)))
 }
 
+/// The sections of single literals.
+#[derive(Drop)]
+struct Literals {
+    outputs: Listing<Lit>,
+    bad: Listing<Lit>,
+    constraints: Listing<Lit>,
+    fairness: Listing<Lit>,
+}
+
+/// These sections of the image, in memory of their own.
+fn copy_literals(alloc: Global, image: &Circuit) -> Result<Literals, OutOfMemory>
+    ensures { IfOk result (λ r. (r.outputs ≡ image.now.outputs) × (r.bad ≡ image.now.bad)
+        × (r.constraints ≡ image.now.constraints) × (r.fairness ≡ image.now.fairness)) }
+{
+    Ok(Literals {
+        outputs: image.outputs.copy(alloc)?,
+        bad: image.bad.copy(alloc)?,
+        constraints: image.constraints.copy(alloc)?,
+        fairness: image.fairness.copy(alloc)?,
+    })
+}
+
 /// The circuit by the numbers of the image and without gates, with what a block records of the rest.
 fn without_gates(
     alloc: Global,
@@ -231,18 +253,24 @@ fn without_gates(
     ensures { IfOk result (λ c. c ≡ without_gates recorded.now.max_var
         (if recorded.now.has_comment then Some comment.now else None) image.now) }
 {
+    let literals = copy_literals(alloc, image)?;
+    let inputs = image.inputs.copy(alloc)?;
+    let latches = image.latches.copy(alloc)?;
+    let justice = copy_justice(alloc, &image.justice)?;
+    let symbols = copy_symbols(alloc, &image.symbols)?;
+    let comment = source_comment(alloc, recorded.has_comment, comment)?;
     Ok(Circuit {
         max_var: recorded.max_var,
-        inputs: image.inputs.copy(alloc)?,
-        latches: image.latches.copy(alloc)?,
-        outputs: image.outputs.copy(alloc)?,
-        bad: image.bad.copy(alloc)?,
-        constraints: image.constraints.copy(alloc)?,
-        justice: copy_justice(alloc, &image.justice)?,
-        fairness: image.fairness.copy(alloc)?,
+        inputs,
+        latches,
+        outputs: literals.outputs,
+        bad: literals.bad,
+        constraints: literals.constraints,
+        justice,
+        fairness: literals.fairness,
         gates: Listing::new(alloc),
-        symbols: copy_symbols(alloc, &image.symbols)?,
-        comment: source_comment(alloc, recorded.has_comment, comment)?,
+        symbols,
+        comment,
     })
 }
 
