@@ -11,17 +11,18 @@ use Rattle.aig_circuit.specs.declared.circuit.Circuit.{Circuit}
 use Rattle.aig_circuit.specs.Literal.{literal_of}
 use Rattle.aig_circuit.specs.Wellformed.{IsWellFormed}
 use Rattle.aig_circuit.specs.Form.{IsInForm}
-use Rattle.aig_text.specs.Lines.{Line, lines_of}
+use Rattle.aig_rows.specs.Lines.{Line, lines_of}
 use Rattle.aig_text.specs.AsciiText.{header_text, line_text, tail_text}
-use Rattle.aig_text.specs.Rows.{Row, row, next_form, next_row, header_row}
+use Rattle.aig_text.specs.Sections.{header_row}
+use Rattle.aig_rows.specs.Rows.{Row, row, next_form, next_row}
 use Rattle.aig_text.proofs.Canonical.Lines.{IsFullRow, header_line, row_lines, header_is_first, header_line_is_good}
 use Rattle.aig_text.proofs.Canonical.Lines.{rows_are_first, rows_are_good}
-use Rattle.aig_text.proofs.Kept.Plain.{all_joined}
-use Rattle.aig_text.proofs.Grammar.Entries.{IsLatchUpTo}
+use Rattle.aig_rows.proofs.Kept.Plain.{all_joined}
+use Rattle.aig_rows.proofs.Grammar.Entries.{IsLatchUpTo}
 use Rattle.aig_text.proofs.Grammar.Headers.{header_limited}
 use Rattle.aig_text.proofs.Grammar.Sections.{latches_up_to}
-use Rattle.aig_text.proofs.Canonical.Text.{entries_full, literal_rows_full, sizes_are_small}
-use Rattle.aig_text.proofs.Canonical.Text.{header_is_small, tail_is_good}
+use Rattle.aig_text.proofs.Canonical.Text.{entries_full, literal_rows_full, sizes_are_small, header_is_small}
+use Rattle.aig_text.proofs.Canonical.Text.{tail_is_good}
 use Rattle.aig_core.specs.BinaryOrder.{IsInBinaryOrder}
 use Rattle.aig_binary.specs.BinaryGrammar.{IsBinaryText, SpellsGates, binary_word, binary_rows_of}
 use Rattle.aig_binary.specs.BinaryText.{HasDeltas, binary_text, gate_text}

@@ -6,8 +6,9 @@ use Rattle.std.proofs.Common.{arith}
 use Rattle.std.proofs.lemmas.List.{take_more, length-take-le}
 use Rattle.aig_circuit.specs.declared.circuit.Latch.{Latch}
 use Rattle.aig_circuit.proofs.Makers.{latch}
-use Rattle.aig_text.specs.declared.row.NextState.{NextState}
-use Rattle.aig_text.specs.Rows.{next_of, latches_from}
+use Rattle.aig_rows.specs.declared.row.NextState.{NextState}
+use Rattle.aig_text.specs.Sections.{latches_from}
+use Rattle.aig_rows.specs.Rows.{next_of}
 use Rattle.aig_binary.specs.Parts.NextStates.{latches_by}
 
 pub no_latches : (v : ℕ) → latches_by v [] ≡ []

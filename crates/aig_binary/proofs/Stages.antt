@@ -7,16 +7,17 @@ use Rattle.std.proofs.Common.{inl, inr}
 use Rattle.aig_circuit.specs.declared.circuit.Circuit.{Circuit}
 use Rattle.aig_circuit.specs.declared.circuit.Gate.{Gate}
 use Rattle.aig_core.specs.Names.{nothing_named}
-use Rattle.aig_text.specs.declared.fault.ReadFault.{ReadFault}
-use Rattle.aig_text.specs.Lines.{Line, Ahead, ahead, lines_of}
+use Rattle.aig_rows.specs.declared.fault.ReadFault.{ReadFault}
+use Rattle.aig_rows.specs.Lines.{Line, Ahead, ahead, lines_of}
 use Rattle.aig_text.specs.declared.header_line.Header.{Header}
-use Rattle.aig_text.specs.declared.row.NextState.{NextState}
-use Rattle.aig_text.specs.Rows.{Form, next_form, next_of, latches_from, sections, no_lines, in_binary}
-use Rattle.aig_text.specs.Outcomes.{rows_meant}
-use Rattle.aig_text.specs.Reading.{◌>>=◌, Found, at_line, header_at, carried_on, row_at, rows_at, section_at}
-use Rattle.aig_text.specs.Reading.{sections_at, empty_circuit, tail_at, want_of_memory}
-use Rattle.aig_text.proofs.Loops.Cutting.{pieces}
-use Rattle.aig_text.proofs.Steps.{both_ok}
+use Rattle.aig_rows.specs.declared.row.NextState.{NextState}
+use Rattle.aig_text.specs.Sections.{latches_from, sections, no_lines, in_binary}
+use Rattle.aig_rows.specs.Rows.{Form, next_form, next_of}
+use Rattle.aig_rows.specs.Outcomes.{rows_meant}
+use Rattle.aig_text.specs.Reading.{header_at, section_at, sections_at, empty_circuit, tail_at}
+use Rattle.aig_rows.specs.Reading.{◌>>=◌, Found, at_line, carried_on, row_at, rows_at, want_of_memory}
+use Rattle.aig_rows.proofs.Loops.Cutting.{pieces}
+use Rattle.aig_rows.proofs.Steps.{both_ok}
 use Rattle.aig_binary.specs.BinaryGrammar.{binary_word}
 use Rattle.aig_binary.specs.BinaryReading.{filled, gates_at, with_definitions, binary_at}
 use Rattle.aig_binary.specs.Parts.NextStates.{latches_by}

@@ -14,7 +14,8 @@ use Rattle.aig_circuit.specs.declared.circuit.Latch.{Latch}
 use Rattle.aig_circuit.specs.declared.circuit.Gate.{Gate}
 use Rattle.aig_circuit.specs.declared.circuit.Circuit.{Circuit}
 use Rattle.aig_text.specs.AsciiText.{line_text, row_text}
-use Rattle.aig_text.specs.Rows.{next_row, literal_rows_of}
+use Rattle.aig_text.specs.Sections.{literal_rows_of}
+use Rattle.aig_rows.specs.Rows.{next_row}
 use Rattle.aig_binary.specs.BinaryGrammar.{binary_rows_of}
 use Rattle.aig_core.specs.BinaryOrder.{AreOrderedGates, IsInBinaryOrder}
 use Rattle.aig_binary.specs.BinaryText.{HasDeltas, gate_text}

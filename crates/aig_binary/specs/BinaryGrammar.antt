@@ -7,11 +7,11 @@ use Rattle.aig_circuit.specs.declared.circuit.Circuit.{Circuit}
 use Rattle.aig_circuit.specs.Literal.{literal_of}
 use Rattle.aig_circuit.specs.Wellformed.{IsWellFormed}
 use Rattle.aig_text.specs.declared.header_line.TheConstants.{HEADER_LEAST}
-use Rattle.aig_text.specs.Lines.{Line, lines_of}
-use Rattle.aig_text.specs.Spelling.{IsHeaderLine}
+use Rattle.aig_rows.specs.Lines.{Line, lines_of}
+use Rattle.aig_text.specs.AsciiGrammar.{IsHeaderLine}
 use Rattle.aig_text.specs.Tail.{AreTailLines}
-use Rattle.aig_text.specs.Rows.{Row, listed_rows, in_binary, header_row}
-use Rattle.aig_text.specs.AsciiGrammar.{IsRowLine}
+use Rattle.aig_text.specs.Sections.{listed_rows, in_binary, header_row}
+use Rattle.aig_rows.specs.Rows.{Row, IsRowLine}
 use Rattle.aig_core.specs.BinaryOrder.{IsInBinaryOrder}
 use Rattle.aig_binary.specs.Delta.{IsDelta}
 

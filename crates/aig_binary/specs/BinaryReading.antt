@@ -7,14 +7,15 @@ use Rattle.aig_circuit.specs.declared.circuit.Gate.{Gate}
 use Rattle.aig_circuit.specs.declared.circuit.Circuit.{Circuit}
 use Rattle.aig_circuit.specs.Literal.{literal_of}
 use Rattle.aig_core.specs.Names.{nothing_named}
-use Rattle.aig_text.specs.declared.fault.Place.TheVariants as places
-use Rattle.aig_text.specs.declared.fault.ReadKind.{ReadKind}
-use Rattle.aig_text.specs.declared.fault.ReadKind.TheVariants as kinds
-use Rattle.aig_text.specs.declared.fault.ReadFault.{ReadFault}
-use Rattle.aig_text.specs.Lines.{Line, ahead, lines_of, bytes_of}
+use Rattle.aig_rows.specs.declared.fault.Place.TheVariants as places
+use Rattle.aig_rows.specs.declared.fault.ReadKind.{ReadKind}
+use Rattle.aig_rows.specs.declared.fault.ReadKind.TheVariants as kinds
+use Rattle.aig_rows.specs.declared.fault.ReadFault.{ReadFault}
+use Rattle.aig_rows.specs.Lines.{Line, ahead, lines_of, bytes_of}
 use Rattle.aig_text.specs.declared.header_line.Header.{Header}
-use Rattle.aig_text.specs.Rows.{sections, in_binary}
-use Rattle.aig_text.specs.Reading.{◌>>=◌, at_line, header_at, sections_at, empty_circuit, tail_at, fault_of}
+use Rattle.aig_text.specs.Sections.{sections, in_binary}
+use Rattle.aig_text.specs.Reading.{header_at, sections_at, empty_circuit, tail_at, fault_of}
+use Rattle.aig_rows.specs.Reading.{◌>>=◌, at_line}
 use Rattle.aig_binary.specs.BinaryGrammar.{binary_word}
 use Rattle.aig_binary.specs.Delta.{delta_at}
 

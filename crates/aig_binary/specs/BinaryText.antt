@@ -6,7 +6,7 @@ use Rattle.aig_circuit.specs.declared.circuit.Gate.{Gate}
 use Rattle.aig_circuit.specs.declared.circuit.Circuit.{Circuit}
 use Rattle.aig_circuit.specs.declared.circuit.TheConstants.{LARGEST}
 use Rattle.aig_circuit.specs.Literal.{literal_of}
-use Rattle.aig_text.specs.Rows.{header_row}
+use Rattle.aig_text.specs.Sections.{header_row}
 use Rattle.aig_text.specs.AsciiText.{header_text, line_text, tail_text}
 use Rattle.aig_binary.specs.BinaryGrammar.{binary_word, binary_rows_of}
 use Rattle.aig_binary.specs.Delta.{shortest_delta}

@@ -3,7 +3,7 @@
 -- project's profile.
 use Rattle.std.specs.Prelude.{◌≡◌, ◌+◌, ◌*◌, ◌/◌, ◌%◌, ◌^◌, ◌<◌, ◌≤◌, ◌⊎◌, ℕ, zero, suc, List, [], ◌∷◌, length, take}
 use Rattle.std.specs.Prelude.{nat_lt, Option, None, Some, if◌then◌else◌}
-use Rattle.aig_text.specs.Scanning.{◌>>=◌}
+use Rattle.aig_rows.specs.Scanning.{◌>>=◌}
 
 -- the number that groups of seven bits spell, the lowest first
 abbrev pub value_of_groups : List ℕ → ℕ

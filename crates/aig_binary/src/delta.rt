@@ -1,7 +1,7 @@
 //! Deltas: the numbers of gates in a binary file, in groups of seven bits, the lowest group first.
 ghost use Rattle.std.specs.Prelude.{◌≡◌, ◌+◌, ◌*◌, ◌%◌, ◌++◌, ◌^◌, ◌<◌, ◌≤◌, ◌↔◌, ℕ, length, drop, take, None, Some};
 ghost use Rattle.std.specs.Prelude.{IfSome};
-ghost use Rattle.aig_text.specs.Outcomes.{Gives};
+ghost use Rattle.aig_rows.specs.Outcomes.{Gives};
 ghost use Rattle.aig_binary.specs.Delta.{BeginsWithDelta, delta_at, shortest_delta};
 ghost use Rattle.aig_binary.specs.declared.delta.TheConstants.{LONGEST};
 

@@ -1,7 +1,7 @@
 //! Gates: each by two deltas, one gate after the other.
 ghost use Rattle.std.specs.Prelude.{◌≡◌, ◌+◌, ◌*◌, ◌^◌, ◌<◌, ◌≤◌, IfOk, length, nat_le};
 ghost use Rattle.std.specs.List.{list_all};
-ghost use Rattle.aig_text.specs.Outcomes.{GivesOrFails, GivesOrMemory};
+ghost use Rattle.aig_rows.specs.Outcomes.{GivesOrFails, GivesOrMemory};
 ghost use Rattle.aig_binary.specs.BinaryReading.{no_delta, lowered_at, gate_at, gates_at};
 
 use crate::delta::get_delta;

@@ -2,12 +2,13 @@
 ghost use Rattle.std.specs.Prelude.{◌≡◌, ◌+◌, ◌^◌, ◌<◌, ◌≤◌, IfOk, IfErr, MatchResult, OnOk, map, length};
 ghost use Rattle.std.specs.List.{range_with_len, sum};
 ghost use Rattle.aig_circuit.specs.declared.circuit.TheConstants.{LARGEST as largest_index};
-ghost use Rattle.aig_text.specs.Lines.{lines_of};
+ghost use Rattle.aig_rows.specs.Lines.{lines_of};
 ghost use Rattle.aig_text.specs.declared.section.Section.TheVariants.{Latches};
-ghost use Rattle.aig_text.specs.Rows.{in_binary, sections};
-ghost use Rattle.aig_text.specs.Outcomes.{GivesOrMemory};
+ghost use Rattle.aig_text.specs.Sections.{in_binary, sections};
+ghost use Rattle.aig_rows.specs.Outcomes.{GivesOrMemory};
 ghost use Rattle.aig_circuit.specs.declared.circuit.Circuit.{Circuit as CircuitRecord};
-ghost use Rattle.aig_text.specs.Reading.{IsFirstFault, at_line, section_at, sections_at, want_of_memory};
+ghost use Rattle.aig_text.specs.Reading.{IsFirstFault, section_at, sections_at};
+ghost use Rattle.aig_rows.specs.Reading.{at_line, want_of_memory};
 ghost use Rattle.aig_core.specs.BinaryOrder.{IsInBinaryOrder};
 ghost use Rattle.aig_binary.specs.BinaryGrammar.{IsBinaryText};
 ghost use Rattle.aig_binary.specs.BinaryReading.{filled, with_definitions, binary_at, first_binary_fault};

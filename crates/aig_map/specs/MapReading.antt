@@ -6,7 +6,7 @@ use Rattle.std.specs.List.{AllByRecursion}
 use Rattle.aig_circuit.specs.declared.circuit.TheConstants.{LARGEST}
 use Rattle.aig_circuit.specs.Wellformed.{IsVariableUpTo}
 use Rattle.aig_circuit.specs.declared.circuit.Circuit.{Circuit}
-pub use Rattle.aig_text.specs.Reading.{◌>>=◌}
+pub use Rattle.aig_rows.specs.Reading.{◌>>=◌}
 use Rattle.aig_map.specs.declared.fault.MapFault.{MapFault}
 use Rattle.aig_map.specs.declared.fault.MapFault.TheVariants.{Missing, Malformed, Mismatch}
 use Rattle.aig_map.specs.declared.map_block.FirstLine.{FirstLine}

@@ -4,8 +4,8 @@ use Rattle.std.specs.Prelude.{◌==◌, ◌&&◌, ℕ, List, length, take, drop,
 use Rattle.std.specs.Prelude.{if◌then◌else◌}
 use Rattle.std.specs.Str.{bytes_eq}
 use Rattle.aig_circuit.specs.declared.circuit.TheConstants.{LARGEST}
-use Rattle.aig_text.specs.Scanning.{◌>>=◌}
-use Rattle.aig_text.specs.CanonicalNumber.{canonical_before}
+use Rattle.aig_rows.specs.Scanning.{◌>>=◌}
+use Rattle.aig_rows.specs.CanonicalNumber.{canonical_before}
 use Rattle.aig_map.specs.declared.map_block.FirstLine.{FirstLine}
 use Rattle.aig_map.specs.declared.map_block.MappedGate.{MappedGate}
 

@@ -1,6 +1,6 @@
 //! Why a circuit has no undone one.
 ghost use Rattle.std.specs.Prelude.{◌≡◌, Some};
-ghost use Rattle.aig_text.specs.Messages.{message_text};
+ghost use Rattle.aig_rows.specs.Messages.{message_text};
 ghost use Rattle.aig_map.specs.Messages.{map_fault_text};
 ghost use Rattle.aig_map.specs.declared.fault.MapFault.TheVariants.{OutOfMemory as IsOutOfMemory};
 

@@ -2,7 +2,7 @@
 ghost use Rattle.std.specs.Prelude.{◌≡◌, ◌+◌, ◌^◌, ◌<◌, ◌≤◌, ℕ, List, [], Option, IfOk, IfSome};
 ghost use Rattle.std.specs.Option.{unwrap_or};
 ghost use Rattle.aig_circuit.specs.declared.circuit.TheConstants.{LARGEST as largest_index};
-ghost use Rattle.aig_text.specs.Outcomes.{Gives, GivesOrFails};
+ghost use Rattle.aig_rows.specs.Outcomes.{Gives, GivesOrFails};
 ghost use Rattle.aig_map.specs.MapSpelling.{after_text, first_line_at, gate_at, is_variable, last_number_at};
 ghost use Rattle.aig_map.specs.MapSpelling.{variable_at};
 ghost use Rattle.aig_map.specs.MapReading.{entries_at, counts_match, counted_line, rest_of_block, block_reading};

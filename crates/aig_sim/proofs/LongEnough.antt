@@ -4,7 +4,7 @@ use Rattle.std.proofs.Common.{codes, refl}
 use Rattle.std.proofs.Common.{subst, ◌∙◌, option_map, if◌then◌else◌, bytes_eq, eqb-true}
 use Rattle.std.specs.List.{AllByRecursion}
 use Rattle.aig_circuit.specs.declared.value.Val.{Val}
-use Rattle.aig_text.specs.Lines.{Line}
+use Rattle.aig_rows.specs.Lines.{Line}
 use Rattle.aig_step.specs.Stimulus.{Entry, Step, Stop, Stimulus, before_rest, entry_in, entry_of, lines_say}
 use Rattle.aig_step.specs.Stimulus.{runs_of, text_of, values_of, with_step}
 use Rattle.aig_step.proofs.EntryTexts.{values_length}

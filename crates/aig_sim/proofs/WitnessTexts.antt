@@ -14,8 +14,8 @@ use Rattle.aig_circuit.specs.declared.circuit.Reset.TheVariants as resets
 use Rattle.aig_circuit.specs.declared.value.Val.{Val}
 use Rattle.aig_circuit.specs.declared.value.Val.TheVariants.{Zero, One, X}
 use Rattle.aig_meaning.specs.Trace.{MayStartAt}
-use Rattle.aig_text.specs.Lines.{Line, lines_of}
-use Rattle.aig_text.specs.Spelling.{value_of as number_of}
+use Rattle.aig_rows.specs.Lines.{Line, lines_of}
+use Rattle.aig_rows.specs.Spelling.{value_of as number_of}
 use Rattle.aig_sim.specs.Laws.{WitnessFilesAreRead}
 use Rattle.aig_step.specs.Stimulus.{Entry, Step, Stop, entry_in, judged_lines, text_of, values_of}
 use Rattle.aig_step.specs.TraceText.{character_of, values_text}

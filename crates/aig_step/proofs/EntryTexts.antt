@@ -7,7 +7,7 @@ use Rattle.std.proofs.Common.{◌∙◌, arith}
 use Rattle.std.proofs.lemmas.Bool.{ne_eqb, false_from_ne_true}
 use Rattle.std.proofs.lemmas.Slice.Eq.{bytes_eq-Decides}
 use Rattle.aig_circuit.specs.declared.value.Val.{Val}
-use Rattle.aig_text.specs.Lines.{line}
+use Rattle.aig_rows.specs.Lines.{line}
 use Rattle.aig_step.specs.Stimulus.{entry_in, entry_of, value_of, values_of, without_return}
 
 -- characters, one by one

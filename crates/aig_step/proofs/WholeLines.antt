@@ -5,10 +5,10 @@ use Rattle.std.specs.List.{AllByRecursion}
 use Rattle.std.proofs.lemmas.Bool.{ne_eqb}
 use Rattle.std.proofs.lemmas.List.Elements.{filter-append}
 use Rattle.memchr.specs.Find.{IsFirstByte, is_byte}
-use Rattle.aig_text.specs.Laws.{AreLines, EndInLineFeeds, IsOneLine}
-use Rattle.aig_text.specs.Lines.{Line, line, begun_by, lines_of, bytes_of}
-use Rattle.aig_text.proofs.Grammar.Pieces.{bytes_joined, lines_again, lines_joined}
-use Rattle.aig_text.proofs.Loops.Cutting.{line_some, line_none, pieces}
+use Rattle.aig_rows.specs.Laws.{AreLines, EndInLineFeeds, IsOneLine}
+use Rattle.aig_rows.specs.Lines.{Line, line, begun_by, lines_of, bytes_of}
+use Rattle.aig_rows.proofs.Grammar.Pieces.{bytes_joined, lines_again, lines_joined}
+use Rattle.aig_rows.proofs.Loops.Cutting.{line_some, line_none, pieces}
 use Rattle.aig_step.specs.Stimulus.{judged_lines}
 use Rattle.aig_step.specs.Parts.Seen.{HasNoLineFeed, IsSeen}
 

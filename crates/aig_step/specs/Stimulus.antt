@@ -6,7 +6,7 @@ use Rattle.std.specs.Prelude.{option_and_then, option_map, if◌then◌else◌}
 use Rattle.std.specs.Str.{bytes_eq}
 use Rattle.aig_circuit.specs.declared.value.Val.{Val}
 use Rattle.aig_circuit.specs.declared.value.Val.TheVariants.{Zero, One, X}
-use Rattle.aig_text.specs.Lines.{Line, lines_of}
+use Rattle.aig_rows.specs.Lines.{Line, lines_of}
 
 -- the value that a character stands for: `0`, `1` or `x`
 abbrev pub value_of : ℕ → Option Val

@@ -1,11 +1,11 @@
 //! Why a simulation ended early.
 ghost use Rattle.std.specs.Prelude.{◌≡◌, Some};
-ghost use Rattle.aig_text.specs.Messages.{message_text};
+ghost use Rattle.aig_rows.specs.Messages.{message_text};
 ghost use Rattle.aig_step.specs.Messages.{sim_fault_text};
 ghost use Rattle.aig_step.specs.declared.fault.SimFault.TheVariants.{OutOfMemory as IsOutOfMemory};
 
 use aig_core::OutOfMemory;
-use aig_text::Message;
+use aig_rows::Message;
 use std::alloc::{AllocError, AllocFailed};
 use std::error::Error;
 use std::fmt;

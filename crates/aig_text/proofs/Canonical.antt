@@ -1,4 +1,3 @@
 pub mod Shortened
-pub mod Numbers
 pub mod Lines
 pub mod Text

@@ -1,12 +1,7 @@
-pub mod Spellings
-pub mod NumberLines
-pub mod Judged
-pub mod Pieces
+pub mod HeaderLines
 pub mod Symbols
 pub mod Named
 pub mod Tail
-pub mod Entries
-pub mod Rows
 pub mod Sections
 pub mod Headers
 pub mod WholeTail

@@ -1,4 +1,2 @@
-pub mod Numbers
-pub mod Checks
-pub mod Plain
+pub mod Headers
 pub mod Symbols

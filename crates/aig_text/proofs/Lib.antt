@@ -1,4 +1,3 @@
-pub mod Steps
 pub mod Grammar
 pub mod Kept
 pub mod Loops

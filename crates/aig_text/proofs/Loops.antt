@@ -1,4 +1,3 @@
-pub mod Cutting
-pub mod Rows
+pub mod Sections
 pub mod Tail
 pub mod Text

@@ -5,7 +5,8 @@ use Rattle.std.proofs.lemmas.List.Concat.{flat_map-append}
 use Rattle.std.proofs.lemmas.List.Folds.{flat_map-map}
 use Rattle.aig_circuit.specs.declared.circuit.Circuit.{Circuit}
 use Rattle.aig_text.specs.AsciiText.{spaced_number, more_numbers_text, numbers_text, row_text, line_text}
-use Rattle.aig_text.specs.Rows.{rows_of, literal_rows_of, input_row, latch_row, literal_row, size_row, gate_row}
+use Rattle.aig_text.specs.Sections.{rows_of, literal_rows_of}
+use Rattle.aig_rows.specs.Rows.{input_row, latch_row, literal_row, size_row, gate_row}
 
 -- numbers after spaces, and the line feed
 pub more_text : (ns : List ℕ) → flat_map spaced_number ns ++ codes "\n" ≡ more_numbers_text ns

@@ -5,14 +5,17 @@ use Rattle.std.specs.List.{AllByRecursion, AllZip, sum}
 use Rattle.aig_circuit.specs.declared.circuit.Circuit.{Circuit}
 use Rattle.aig_circuit.specs.Wellformed.{IsWellFormed}
 use Rattle.aig_text.specs.declared.header_line.TheConstants.{HEADER_LEAST}
-use Rattle.aig_text.specs.Lines.{Line, lines_of}
-use Rattle.aig_text.specs.Spelling.{IsNumberLine, IsHeaderLine}
+use Rattle.aig_rows.specs.Lines.{Line, lines_of}
+use Rattle.aig_rows.specs.Spelling.{EndInNumbers}
 use Rattle.aig_text.specs.Tail.{AreTailLines}
-use Rattle.aig_text.specs.Rows.{ascii_word, header_row, rows_of, Row}
+use Rattle.aig_text.specs.Sections.{ascii_word, header_row, rows_of}
+use Rattle.aig_rows.specs.Rows.{IsRowLine}
 
--- The line holds the numbers of the row, where some may be left out as its form tells.
-abbrev pub IsRowLine : Line → Row → Type 0
-IsRowLine l row = IsNumberLine row.form.least l row.numbers
+-- a line that begins with a word, and holds these numbers after it, and nothing else
+pub record IsHeaderLine (word : List ℕ) (least : ℕ) (l : Line) (ns : List ℕ) : Type 0 where
+  pub rest : List ℕ
+  pub begins : l.text ≡ word ++ rest
+  pub others : EndInNumbers least l.ended rest ns
 
 pub record IsAsciiText (text : List ℕ) (limit : ℕ) (c : Circuit) : Type 0 where
   pub header : Line

@@ -7,7 +7,8 @@ use Rattle.aig_circuit.specs.declared.circuit.Symbol.{Symbol}
 use Rattle.aig_circuit.specs.declared.circuit.Circuit.{Circuit}
 use Rattle.aig_text.specs.declared.header_line.TheConstants.{HEADER_LEAST}
 pub use Rattle.aig_text.specs.Tail.{kind_letter}
-use Rattle.aig_text.specs.Rows.{ascii_word, header_row, rows_of, Row}
+use Rattle.aig_text.specs.Sections.{ascii_word, header_row, rows_of}
+use Rattle.aig_rows.specs.Rows.{Row}
 
 abbrev pub spaced_number : ℕ → List ℕ
 spaced_number n = codes " " ++ decimal n

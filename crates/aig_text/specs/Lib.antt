@@ -1,13 +1,8 @@
-pub mod Lines
-pub mod Spelling
-pub mod Rows
+pub mod Sections
 pub mod Tail
 pub mod AsciiGrammar
 pub mod AsciiText
 pub mod Scanning
-pub mod CanonicalNumber
 pub mod Reading
-pub mod Outcomes
-pub mod Messages
 pub mod Laws
 pub mod Parts

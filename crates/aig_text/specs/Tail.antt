@@ -7,8 +7,8 @@ use Rattle.aig_circuit.specs.declared.circuit.Kind.TheVariants.{Input, Latch, Ou
 use Rattle.aig_circuit.specs.declared.circuit.Kind.TheVariants.{Fairness}
 use Rattle.aig_circuit.specs.declared.circuit.Symbol.{Symbol}
 use Rattle.aig_circuit.specs.declared.circuit.Circuit.{Circuit}
-use Rattle.aig_text.specs.Lines.{Line, bytes_of}
-use Rattle.aig_text.specs.Spelling.{IsNumber, IsLineEnd}
+use Rattle.aig_rows.specs.Lines.{Line, bytes_of}
+use Rattle.aig_rows.specs.Spelling.{IsNumber, IsLineEnd}
 
 abbrev pub kind_letter : Kind → List ℕ
 kind_letter Input = codes "i"

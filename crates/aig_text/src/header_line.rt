@@ -1,15 +1,13 @@
 //! The header line of a file.
-ghost use Rattle.std.specs.Prelude.{◌≡◌, ◌≤◌, Some, IfOk, length};
-ghost use Rattle.std.specs.List.{position_or_len};
+ghost use Rattle.std.specs.Prelude.{◌≡◌, ◌≤◌, Some, IfOk, length, nat_lt};
+ghost use Rattle.std.specs.List.{list_any, position_or_len};
 ghost use Rattle.aig_circuit.specs.declared.circuit.TheConstants.{LARGEST as largest_index};
-ghost use Rattle.aig_text.specs.Lines.{line as line_of};
+ghost use Rattle.aig_rows.specs.Lines.{line as line_of};
 ghost use Rattle.aig_text.specs.Reading.{begins_with_word, ends_word, header_within, header_of};
 
-use crate::fault::ReadKind;
 use crate::limits::Limits;
-use crate::line::Line;
-use crate::number::{any_above, more_numbers};
 use aig_core::LARGEST;
+use aig_rows::{Line, ReadKind, more_numbers};
 
 /// The first word of an ASCII file.
 pub const ASCII_WORD: &[u8] = b"aag";
@@ -61,6 +59,13 @@ pub(crate) fn begins_with_word(text: &[u8], word: &[u8]) -> bool
 {
     let (first, _) = text.split_at(first_word_len(text));
     first == word
+}
+
+/// Whether one of the numbers is above the limit.
+fn any_above(limit: u64, numbers: &[u64]) -> bool
+    ensures { result ≡ list_any (λ n. nat_lt limit n) numbers.now }
+{
+    numbers.iter().any(|number| *number > limit)
 }
 
 /// The header of its numbers.

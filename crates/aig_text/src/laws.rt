@@ -1,12 +1,9 @@
 //! Laws: facts about the definitions alone, each the contract of a function with an empty body.
-ghost use Rattle.aig_text.specs.Laws.{LinesAreThePieces, ReadExactly, FaultyOrAccepted, TextsAreUnambiguous};
-ghost use Rattle.aig_text.specs.Laws.{CanonicalTextIsAccepted, RowsReadExactly, HeadersReadExactly, SymbolsReadExactly};
-ghost use Rattle.aig_text.specs.Laws.{CommentsReadExactly, RowsAreJudged, HeadersAreJudged, SymbolsAreJudged};
+ghost use Rattle.aig_text.specs.Laws.{ReadExactly, FaultyOrAccepted, TextsAreUnambiguous, CanonicalTextIsAccepted};
+ghost use Rattle.aig_text.specs.Laws.{HeadersReadExactly, SymbolsReadExactly, CommentsReadExactly, HeadersAreJudged};
+ghost use Rattle.aig_text.specs.Laws.{SymbolsAreJudged};
 
-/// The lines of a text, joined, are the text; no line holds a line feed, and only the last may lack its own.
-pub fn lines_are_the_pieces()
-    ensures { LinesAreThePieces }
-{}
+pub use aig_rows::laws::{lines_are_the_pieces, rows_are_judged, rows_read_exactly};
 
 /// What is read of a text is a circuit exactly where the text is the file of that circuit.
 pub fn read_exactly()
@@ -28,11 +25,6 @@ pub fn canonical_text_is_accepted()
     ensures { CanonicalTextIsAccepted }
 {}
 
-/// From left to right the numbers of a row are read exactly where the line holds that row, by the grammar.
-pub fn rows_read_exactly()
-    ensures { RowsReadExactly }
-{}
-
 /// From left to right a first word and the numbers of a header are read exactly where the line is a header that holds
 /// them.
 pub fn headers_read_exactly()
@@ -47,11 +39,6 @@ pub fn symbols_read_exactly()
 /// From left to right a line is read as the line `c` exactly where it is that line.
 pub fn comments_read_exactly()
     ensures { CommentsReadExactly }
-{}
-
-/// Where a row is due, a line that holds none is a bad line, and of any other the row's numbers alone are judged.
-pub fn rows_are_judged()
-    ensures { RowsAreJudged }
 {}
 
 /// Where a header is due, a line with another first word is of no such file, one without the numbers of a header has a

@@ -1,20 +1,21 @@
 //! The reader of ASCII files.
-ghost use Rattle.std.specs.Prelude.{◌≡◌, IfOk, IfErr, MatchResult};
+ghost use Rattle.std.specs.Prelude.{◌≡◌, ◌≤◌, IfOk, IfErr, MatchResult};
 ghost use Rattle.aig_circuit.specs.declared.circuit.Circuit.{Circuit as CircuitRecord};
-ghost use Rattle.aig_text.specs.Lines.{lines_of};
-ghost use Rattle.aig_text.specs.Rows.{ascii_word};
-ghost use Rattle.aig_text.specs.Outcomes.{GivesOrMemory};
-ghost use Rattle.aig_text.specs.Reading.{IsFirstFault, first_ascii_fault, want_of_memory, whole_fault, kind_of};
-ghost use Rattle.aig_text.specs.Reading.{circuit_at, empty_circuit};
+ghost use Rattle.aig_circuit.specs.declared.circuit.TheConstants.{LARGEST as largest_index};
+ghost use Rattle.aig_rows.specs.Lines.{lines_of};
+ghost use Rattle.aig_text.specs.Sections.{ascii_word, in_ascii, sections};
+ghost use Rattle.aig_rows.specs.Outcomes.{GivesOrMemory};
+ghost use Rattle.aig_text.specs.Reading.{IsFirstFault, first_ascii_fault, kind_of, circuit_at, empty_circuit};
+ghost use Rattle.aig_text.specs.Reading.{sections_at};
+ghost use Rattle.aig_rows.specs.Reading.{want_of_memory, whole_fault};
 ghost use Rattle.aig_text.specs.AsciiGrammar.{IsAsciiText};
 
-use crate::fault::{Place, ReadFault, ReadKind};
-use crate::header_line::ASCII_WORD;
+use crate::header_line::{ASCII_WORD, Header};
 use crate::limits::Limits;
-use crate::line::Cursor;
 use crate::parts::{header, tail};
 use crate::section::read_sections;
 use aig_core::{CheckFault, Checked, Circuit, Justice, Keep, Listing, Symbols, check_keeping};
+use aig_rows::{Cursor, Place, ReadFault, ReadKind};
 use std::alloc::Global;
 
 /// A circuit that has nothing in it.
@@ -39,14 +40,29 @@ pub fn empty_circuit(alloc: Global, max_var: u32) -> Circuit
     }
 }
 
+/// The circuit with the entries of all sections, whose lines begin here. Goes behind these lines, unless one is not
+/// right.
+fn read_numbered(alloc: Global, header: &Header, at: &mut Cursor) -> Result<Circuit, ReadFault>
+    requires max_var { header.now.max_var ≤ largest_index }
+    requires limit { header.now.limit ≤ largest_index }
+    ensures { GivesOrMemory (λ c. (c, at.new)) result
+        (sections_at in_ascii header.now sections (empty_circuit header.now.max_var) at.old) }
+{
+    let mut circuit = empty_circuit(alloc, header.max_var);
+    if let Err(fault) = read_sections(header, &mut circuit, at) {
+        drop(circuit);
+        return Err(fault);
+    }
+    Ok(circuit)
+}
+
 /// Reads a circuit from the lines of a text. Its definitions and uses are not checked here.
 fn read_circuit(alloc: Global, bytes: &[u8], limits: Limits) -> Result<Circuit, ReadFault>
     ensures { GivesOrMemory (λ c. c) result (circuit_at limits.max_var (lines_of bytes.now)) }
 {
     let mut at = Cursor::new(bytes);
     let header = header(ASCII_WORD, &mut at, limits)?;
-    let mut circuit = empty_circuit(alloc, header.max_var);
-    read_sections(&header, &mut circuit, &mut at)?;
+    let circuit = read_numbered(alloc, &header, &mut at)?;
     tail(alloc, &header, circuit, at)
 }
 

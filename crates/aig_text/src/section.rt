@@ -1,17 +1,15 @@
 //! Sections: rows of one kind, one to a line.
-ghost use Rattle.std.specs.Prelude.{◌≡◌, ◌^◌, ◌≤◌, OnOk, OnErr};
+ghost use Rattle.std.specs.Prelude.{◌≡◌, ◌≤◌, OnOk};
 ghost use Rattle.std.specs.List.{sum};
 ghost use Rattle.aig_circuit.specs.declared.circuit.TheConstants.{LARGEST as largest_index};
 ghost use Rattle.aig_text.specs.declared.section.Section.TheVariants.{JusticeSizes};
-ghost use Rattle.aig_text.specs.Rows.{in_ascii, sections};
-ghost use Rattle.aig_text.specs.Outcomes.{GivesOrMemory, rows_meant};
-ghost use Rattle.aig_text.specs.Reading.{rows_at, section_at, sections_at};
+ghost use Rattle.aig_text.specs.Sections.{in_ascii, sections};
+ghost use Rattle.aig_rows.specs.Outcomes.{GivesOrMemory};
+ghost use Rattle.aig_text.specs.Reading.{section_at, sections_at};
 
-use crate::fault::ReadFault;
 use crate::header_line::Header;
-use crate::line::Cursor;
-use crate::row::Row;
-use aig_core::{Circuit, Listing};
+use aig_core::Circuit;
+use aig_rows::{Cursor, ReadFault, read_rows};
 
 /// What a file lists.
 #[derive(Clone, Copy)]
@@ -48,48 +46,6 @@ pub const SECTIONS: [Section; 9] = [
     Section::Fairness,
     Section::Gates,
 ];
-
-/// Adds the entries of the next `count` lines, which are judged beside `bound` and what is carried to the first, and
-/// moves behind them.
-#[inline(never)]
-pub(crate) fn read_rows<T: Row>(
-    found: &mut Listing<T>,
-    count: u32,
-    bound: u32,
-    start: u64,
-    at: &mut Cursor,
-) -> Result<(), ReadFault>
-    requires bound { bound ≤ largest_index }
-    requires start { start ≤ 2 ^ 33 }
-    ensures rows { GivesOrMemory (λ _. (found.new, at.new)) result
-        (rows_meant T.meant_by found.old (rows_at T.form bound start count at.old)) }
-    ensures err { OnErr result (at.new ≡ at.old) }
-{
-    // Out of the cursor, so that both can stay in registers; only where a row is read slowly, one is lent.
-    let mut rest = at.rest;
-    let mut number = at.number;
-    let mut carried = start;
-    for _ in 0..count {
-        let row = match T::read_short(rest, bound, carried) {
-            Some(found) => {
-                rest = found.1;
-                number += 1;
-                found.0
-            }
-            None => {
-                let mut from = Cursor { rest, number };
-                let row = T::read_row(&mut from, bound, carried)?;
-                rest = from.rest;
-                number = from.number;
-                row
-            }
-        };
-        carried = row.carry(carried);
-        found.push(row)?;
-    }
-    *at = Cursor { rest, number };
-    Ok(())
-}
 
 /// The sum of sizes.
 fn total(sizes: &[u32]) -> u32

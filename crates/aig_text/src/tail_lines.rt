@@ -1,18 +1,16 @@
 //! The tail of a file: symbols and comment.
 ghost use Rattle.std.specs.Prelude.{◌≡◌, IfErr, IfOk, OnOk};
 ghost use Rattle.aig_core.specs.Names.{nothing_named, with_name};
-ghost use Rattle.aig_text.specs.Lines.{line as line_of};
+ghost use Rattle.aig_rows.specs.Lines.{line as line_of};
 ghost use Rattle.aig_text.specs.Parts.Kept.{kept_symbol};
-ghost use Rattle.aig_text.specs.Outcomes.{Gives, GivesOrMemory};
+ghost use Rattle.aig_rows.specs.Outcomes.{Gives, GivesOrMemory};
 ghost use Rattle.aig_text.specs.Scanning.{is_comment_line, kind_at, symbol, symbol_at};
-ghost use Rattle.aig_text.specs.Reading.{at_line, checked_symbol, count_named, tail_at, want_of_memory, with_comment};
-ghost use Rattle.aig_text.specs.Reading.{with_symbol};
+ghost use Rattle.aig_text.specs.Reading.{checked_symbol, count_named, tail_at, with_comment, with_symbol};
+ghost use Rattle.aig_rows.specs.Reading.{at_line, want_of_memory};
 
-use crate::fault::{Place, ReadFault, ReadKind};
 use crate::header_line::Header;
-use crate::line::{Cursor, Line, split_line};
-use crate::number::{ends_line, number};
 use aig_core::{BorrowedSymbol, Circuit, Kind, Listing, NamedCounts, Names};
+use aig_rows::{Cursor, Line, Place, ReadFault, ReadKind, ends_line, leading_number, split_line};
 use std::alloc::Global;
 
 /// What a symbol line holds.
@@ -47,7 +45,7 @@ fn leading_symbol(text: &[u8]) -> Option<Naming>
 {
     let (letter, rest) = text.split_first()?;
     let kind = kind_of_letter(*letter)?;
-    let (position, rest) = number(rest)?;
+    let (position, rest) = leading_number(rest)?;
     match rest.split_first() {
         Some((b' ', name)) => Some(Naming {
             kind,

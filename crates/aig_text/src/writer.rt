@@ -7,10 +7,10 @@ ghost use Rattle.aig_io.specs.Output.{Put};
 ghost use Rattle.aig_io.specs.Transfer.{TookBeginning};
 ghost use Rattle.aig_io.specs.declared.block.TheConstants.{ROOM};
 ghost use Rattle.aig_text.specs.AsciiText.{ascii_text, comment_text, header_text, kind_letter, line_text};
-ghost use Rattle.aig_text.specs.AsciiText.{more_numbers_text, row_text, shortened};
-ghost use Rattle.aig_text.specs.AsciiText.{name_text, numbers_text, spaced_number, symbol_text, tail_text};
-ghost use Rattle.aig_text.specs.Rows.{ascii_word, gate_row, header_row, input_row, latch_row, literal_row, rows_of};
-ghost use Rattle.aig_text.specs.Rows.{literal_rows_of, reset_number, size_row};
+ghost use Rattle.aig_text.specs.AsciiText.{more_numbers_text, row_text, shortened, name_text, numbers_text};
+ghost use Rattle.aig_text.specs.AsciiText.{spaced_number, symbol_text, tail_text};
+ghost use Rattle.aig_text.specs.Sections.{ascii_word, header_row, rows_of, literal_rows_of};
+ghost use Rattle.aig_rows.specs.Rows.{gate_row, input_row, latch_row, literal_row, reset_number, size_row};
 ghost use Rattle.aig_text.specs.declared.writer.TheConstants.{FEW};
 ghost use Rattle.aig_text.specs.declared.writer.WriteFault.TheVariants.{Device};
 

@@ -5,13 +5,14 @@ use Rattle.std.proofs.lemmas.Slice.Eq.{bytes_eq-Decides}
 use Rattle.std.specs.List.{before_first}
 use Rattle.aig_circuit.specs.declared.circuit.Circuit.{Circuit}
 use Rattle.aig_text.specs.declared.header_line.Header.{Header}
-use Rattle.aig_text.specs.declared.fault.ReadFault.{ReadFault}
-use Rattle.aig_text.specs.Lines.{Line, Ahead, ahead, lines_of}
-use Rattle.aig_text.specs.Rows.{ascii_word}
-use Rattle.aig_text.specs.Reading.{at_line, ends_word, begins_with_word, first_word_is, header_of, header_at}
-use Rattle.aig_text.specs.Reading.{circuit_at, reading}
+use Rattle.aig_rows.specs.declared.fault.ReadFault.{ReadFault}
+use Rattle.aig_rows.specs.Lines.{Line, Ahead, ahead, lines_of}
+use Rattle.aig_text.specs.Sections.{ascii_word}
+use Rattle.aig_text.specs.Reading.{ends_word, begins_with_word, first_word_is, header_of, header_at, circuit_at}
+use Rattle.aig_text.specs.Reading.{reading}
+use Rattle.aig_rows.specs.Reading.{at_line}
 use Rattle.aig_text.specs.AsciiGrammar.{IsAsciiText}
-use Rattle.aig_text.proofs.Steps.{both_ok, ok_at_line, ok_same, let_through}
+use Rattle.aig_rows.proofs.Steps.{both_ok, ok_at_line, ok_same, let_through}
 use Rattle.aig_text.proofs.Grammar.Text.{accepted_is_read, reading_is_accepted}
 use Rattle.aig_binary.specs.BinaryGrammar.{binary_word, IsBinaryText}
 use Rattle.aig_binary.specs.BinaryReading.{binary_at, binary_reading}

@@ -2,7 +2,7 @@
 use Rattle.std.specs.Prelude.{◌≡◌, ◌+◌, ◌++◌, ◌⊎◌, ℕ, List, [], Option, codes, string_bytes}
 use Rattle.std.specs.Io.KnownBytes.{Appends}
 use Rattle.aig_io.specs.Transfer.{TookBeginning}
-use Rattle.aig_text.specs.Messages.{fault_text}
+use Rattle.aig_rows.specs.Messages.{fault_text}
 use Rattle.aig_map.specs.Messages.{map_fault_text}
 use Rattle.aig_step.specs.Messages.{sim_fault_text}
 use Rattle.aig_unroll.specs.Messages.{unroll_fault_text}

@@ -2,7 +2,7 @@
 use Rattle.std.specs.Prelude.{◌≡◌, ◌+◌, ℕ, List, Option, IfSome, ⊤}
 use Rattle.aig_io.specs.Transfer.{GaveAll, GaveSome}
 use Rattle.aig_circuit.specs.declared.circuit.Circuit.{Circuit}
-use Rattle.aig_text.specs.declared.fault.ReadFault.{ReadFault}
+use Rattle.aig_rows.specs.declared.fault.ReadFault.{ReadFault}
 use Rattle.aig_text.specs.Reading.{IsFirstFault}
 use Rattle.aig_tools.specs.declared.fault.ToolFault.{ToolFault}
 use Rattle.aig_tools.specs.declared.fault.ToolFault.TheVariants as faults

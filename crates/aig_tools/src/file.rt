@@ -1,7 +1,8 @@
 //! Files of either kind.
 ghost use Rattle.std.specs.Prelude.{◌≡◌, ◌-◌, ◌^◌, ◌<◌, IfOk, IfErr, MatchResult};
 ghost use Rattle.aig_circuit.specs.declared.circuit.Circuit.{Circuit as CircuitRecord};
-ghost use Rattle.aig_text.specs.Reading.{IsFirstFault, want_of_memory};
+ghost use Rattle.aig_text.specs.Reading.{IsFirstFault};
+ghost use Rattle.aig_rows.specs.Reading.{want_of_memory};
 ghost use Rattle.aig_tools.specs.Devices.{source_use};
 ghost use Rattle.aig_tools.specs.File.{IsFileOf, first_fault};
 ghost use Rattle.aig_tools.specs.Reading.{HasRead, NotRead};

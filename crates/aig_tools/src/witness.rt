@@ -3,7 +3,7 @@ ghost use Rattle.std.specs.Prelude.{◌≡◌, ◌+◌, ◌-◌, ◌^◌, ◌<�
 ghost use Rattle.std.specs.Io.KnownBytes.{Appends};
 ghost use Rattle.aig_io.specs.Transfer.{TookBeginning};
 ghost use Rattle.aig_io.specs.declared.block.TheConstants.{ROOM};
-ghost use Rattle.aig_text.specs.Messages.{message_text};
+ghost use Rattle.aig_rows.specs.Messages.{message_text};
 ghost use Rattle.aig_command.specs.Answer.{IsWitnessAlone};
 ghost use Rattle.aig_tools.specs.declared.fault.ToolFault.TheVariants.{Sink as SinkFailed};
 ghost use Rattle.aig_tools.specs.Devices.{sink_use, source_use};

@@ -1,7 +1,7 @@
 -- What lines say, line behind line.
 use Rattle.std.proofs.Common.{◌≡◌, ◌+◌, ℕ, suc, List, [], ◌∷◌, ◌++◌, length, Option, Some, None, ap}
 use Rattle.std.proofs.Common.{◌∙◌, append-nil, arith}
-use Rattle.aig_text.specs.Lines.{Line}
+use Rattle.aig_rows.specs.Lines.{Line}
 use Rattle.aig_step.specs.Stimulus.{Entry, Stimulus, before_rest, entry_of, lines_say, no_lines, with_entry}
 use Rattle.aig_step.specs.Parts.Seen.{all_good, then_bad}
 

@@ -16,7 +16,7 @@ use Rattle.aig_io.proofs.Puts.{put_nothing, put_twice}
 use Rattle.aig_meaning.specs.Meaning.{MeansTheSame}
 use Rattle.aig_meaning.specs.Trace.{reset_value}
 use Rattle.aig_meaning.proofs.Traces.{reset_state_is_first}
-use Rattle.aig_text.specs.Lines.{line}
+use Rattle.aig_rows.specs.Lines.{line}
 use Rattle.aig_step.specs.declared.trace.Columns.{Columns}
 use Rattle.aig_step.specs.Stimulus.{Entry, Step, Stop, Stimulus, entry_in, entry_of, stimulus, without_return}
 use Rattle.aig_step.specs.Outcome.{first_bad_line}

@@ -12,7 +12,7 @@ use Rattle.aig_io.specs.Output.{Out, Put}
 use Rattle.aig_io.specs.Transfer.{WentOut}
 use Rattle.aig_io.proofs.Puts.{put_twice}
 use Rattle.aig_text.specs.AsciiText.{ascii_text, header_text, line_text}
-use Rattle.aig_text.specs.Rows.{ascii_word, header_row, literal_rows_of, rows_of}
+use Rattle.aig_text.specs.Sections.{ascii_word, header_row, literal_rows_of, rows_of}
 use Rattle.aig_text.proofs.Written.{literal_sections_text, sections_text}
 use Rattle.aig_binary.specs.BinaryGrammar.{binary_rows_of, binary_word}
 use Rattle.aig_binary.specs.BinaryText.{HasDeltas, binary_text, gate_text}

@@ -1,6 +1,6 @@
 //! Why a circuit was not unrolled.
 ghost use Rattle.std.specs.Prelude.{◌≡◌, Some};
-ghost use Rattle.aig_text.specs.Messages.{message_text};
+ghost use Rattle.aig_rows.specs.Messages.{message_text};
 ghost use Rattle.aig_unroll.specs.Messages.{unroll_fault_text};
 ghost use Rattle.aig_unroll.specs.declared.fault.UnrollFault.TheVariants.{OutOfMemory as IsOutOfMemory};
 

@@ -3,7 +3,7 @@ ghost use Rattle.std.specs.Prelude.{◌≡◌, ◌+◌, ◌<◌, ◌≤◌, fals
 ghost use Rattle.std.specs.List.{flat_map, range_with_len};
 ghost use Rattle.aig_circuit.specs.declared.circuit.TheConstants.{LARGEST};
 ghost use Rattle.aig_io.specs.Output.{Put};
-ghost use Rattle.aig_text.specs.Rows.{header_row};
+ghost use Rattle.aig_text.specs.Sections.{header_row};
 ghost use Rattle.aig_binary.specs.BinaryText.{gate_text};
 ghost use Rattle.aig_unroll.specs.Unrolled.{bad_at, frame_size, gates_at, outputs_at, unrolled};
 ghost use Rattle.aig_unroll.specs.Parts.Writing.{gate_lines, input_lines, literal_lines};

@@ -4,7 +4,7 @@ use Rattle.std.proofs.Common.{◌≡◌, ◌≢◌, ◌+◌, ℕ, suc, List, [],
 use Rattle.std.proofs.Common.{Result, Ok, Err, refl, sym, ap, ◌∙◌, append_assoc, append-nil, arith}
 use Rattle.std.proofs.lemmas.List.{length_push}
 use Rattle.aig_circuit.specs.declared.circuit.Circuit.{Circuit}
-use Rattle.aig_text.specs.Lines.{Line, line, bytes_of}
+use Rattle.aig_rows.specs.Lines.{Line, line, bytes_of}
 use Rattle.aig_step.specs.Stimulus.{judged_lines, text_of}
 use Rattle.aig_witness.specs.Witness.{Nothing, Said, Shape, first_bad_witness_line, missing_line, said_behind, said_by}
 use Rattle.aig_witness.specs.Witness.{said_with, shape_of, witness_of, wrong_line}

@@ -3,7 +3,7 @@ use Rattle.std.proofs.Common.{rules}
 use Rattle.std.proofs.Common.{◌≡◌, ◌≢◌, ◌+◌, ℕ, suc, List, [], ◌∷◌, ◌++◌, Bool, true, false, Some, None, Ok}
 use Rattle.std.proofs.Common.{length, take, max, Option, refl, sym, ap, ap₂, subst, ◌∙◌, append_assoc, append-nil, arith}
 use Rattle.aig_circuit.specs.declared.circuit.Circuit.{Circuit}
-use Rattle.aig_text.specs.Lines.{line}
+use Rattle.aig_rows.specs.Lines.{line}
 use Rattle.aig_witness.specs.declared.checker.Due.TheVariants as due
 use Rattle.aig_step.specs.Stimulus.{text_of, without_return}
 use Rattle.aig_witness.specs.Witness.{Nothing, Property, Said, Steps, Version, Whole, first_bad_witness_line, missing_line}

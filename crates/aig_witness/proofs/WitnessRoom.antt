@@ -9,8 +9,8 @@ use Rattle.std.proofs.lemmas.Slice.Eq.{bytes_eq-Decides}
 use Rattle.std.proofs.lemmas.List.{length-take-le, take_all, take-append-drop}
 use Rattle.std.proofs.lemmas.List.Sums.{fold-append}
 use Rattle.aig_circuit.specs.declared.circuit.TheConstants.{LARGEST}
-use Rattle.aig_text.specs.Lines.{line}
-use Rattle.aig_text.specs.Spelling.{is_digit, value_of}
+use Rattle.aig_rows.specs.Lines.{line}
+use Rattle.aig_rows.specs.Spelling.{is_digit, value_of}
 use Rattle.aig_step.specs.Stimulus.{text_of, without_return}
 use Rattle.aig_witness.specs.Witness.{Nothing, Property, Said, Shape, Steps, Version, Whole, begun_at, is_canonical}
 use Rattle.aig_witness.specs.Witness.{number_below, property_in, said_with, with_entry}

@@ -16,7 +16,7 @@ use Rattle.aig_meaning.specs.Meaning.{MeansTheSame, literal_value}
 use Rattle.aig_meaning.specs.Trace.{MayStartAt, reset_state}
 use Rattle.aig_meaning.proofs.Rows.{one_row}
 use Rattle.aig_meaning.proofs.Traces.{first_length, reset_state_is_first, trace_goes_on}
-use Rattle.aig_text.specs.Spelling.{value_of as number_of}
+use Rattle.aig_rows.specs.Spelling.{value_of as number_of}
 use Rattle.aig_witness.specs.declared.checker.Due.TheVariants as due
 use Rattle.aig_step.specs.Stimulus.{values_of}
 use Rattle.aig_witness.specs.Witness.{Claim, Nothing, Property, Said, Steps, Version, Whole, begun_at}

@@ -14,9 +14,9 @@ use Rattle.aig_circuit.specs.declared.value.Val.{Val}
 use Rattle.aig_circuit.specs.declared.value.Val.TheVariants.{Zero, One, X}
 use Rattle.aig_meaning.specs.Meaning.{Row}
 use Rattle.aig_meaning.specs.Trace.{IsTrace}
-use Rattle.aig_text.specs.CanonicalNumber.{is_padded}
-use Rattle.aig_text.specs.Lines.{Line}
-use Rattle.aig_text.specs.Spelling.{is_digit, value_of as number_of}
+use Rattle.aig_rows.specs.CanonicalNumber.{is_padded}
+use Rattle.aig_rows.specs.Lines.{Line}
+use Rattle.aig_rows.specs.Spelling.{is_digit, value_of as number_of}
 use Rattle.aig_witness.specs.declared.verdict.Verdict.{Verdict}
 use Rattle.aig_witness.specs.declared.verdict.Verdict.TheVariants.{Confirmed, NotConfirmed}
 use Rattle.aig_step.specs.Stimulus.{Entry, Step, Stop, entry_in, judged_lines, text_of, values_of}

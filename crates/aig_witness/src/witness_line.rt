@@ -3,7 +3,7 @@ ghost use Rattle.std.specs.Prelude.{◌≡◌, ◌≤◌, Some, None, codes, fal
 ghost use Rattle.std.specs.Str.{bytes_eq};
 ghost use Rattle.aig_circuit.specs.declared.circuit.Latch.{Latch as LatchRecord};
 ghost use Rattle.aig_circuit.specs.declared.circuit.TheConstants.{LARGEST};
-ghost use Rattle.aig_text.specs.CanonicalNumber.{is_padded};
+ghost use Rattle.aig_rows.specs.CanonicalNumber.{is_padded};
 ghost use Rattle.aig_step.specs.Stimulus.{value_of, values_of};
 ghost use Rattle.aig_witness.specs.Witness.{first_state_in, may_start_at, may_start_in, number_below, property_in};
 ghost use Rattle.aig_witness.specs.Parts.Witnessing.{digits_below};

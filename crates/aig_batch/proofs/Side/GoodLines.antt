@@ -11,7 +11,7 @@ use Rattle.std.proofs.lemmas.Slice.Eq.{bytes_eq-Decides}
 use Rattle.std.proofs.lemmas.List.{length-take-le}
 use Rattle.memchr.specs.Find.{IsFirstByte, is_byte}
 use Rattle.aig_circuit.specs.declared.value.Val.{Val}
-use Rattle.aig_text.specs.Lines.{Line, line, bytes_of}
+use Rattle.aig_rows.specs.Lines.{Line, line, bytes_of}
 use Rattle.aig_step.specs.Stimulus.{Entry, Step, Stop, Stimulus, before_rest, entry_in, judged_lines}
 use Rattle.aig_step.specs.Stimulus.{values_of, without_return}
 use Rattle.aig_step.specs.Parts.Lines.{vector_in}

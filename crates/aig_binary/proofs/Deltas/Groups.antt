@@ -3,7 +3,7 @@ use Rattle.std.proofs.Common.{rules}
 use Rattle.std.proofs.Common.{◌≡◌, ◌+◌, ◌*◌, ◌%◌, ◌<◌, ◌≤◌, ℕ, zero, suc, List, [], ◌∷◌, ◌++◌, length, Option, None}
 use Rattle.std.proofs.Common.{Some, refl, sym, ap, ◌∙◌, arith, inl, inr}
 use Rattle.std.proofs.lemmas.Bool.{lt-ltb, le-ltb, cases_lt}
-use Rattle.aig_text.specs.Scanning.{◌>>=◌}
+use Rattle.aig_rows.specs.Scanning.{◌>>=◌}
 use Rattle.aig_binary.specs.Delta.{value_of_groups, AreGroups, groups_at}
 
 -- groups at the front that spell the number, at most so many, and what follows them

@@ -6,8 +6,8 @@ use Rattle.std.proofs.Common.{IfSome, take, drop, nat_lt, Option, None, Some, if
 use Rattle.std.proofs.Common.{arith}
 use Rattle.std.proofs.lemmas.Bool.{lt-ltb, le-ltb, cases_lt}
 use Rattle.std.proofs.lemmas.List.{append_cancel_right, take-append-drop}
-use Rattle.aig_text.specs.Outcomes.{Gives}
-use Rattle.aig_text.specs.Scanning.{◌>>=◌}
+use Rattle.aig_rows.specs.Outcomes.{Gives}
+use Rattle.aig_rows.specs.Scanning.{◌>>=◌}
 use Rattle.aig_binary.specs.Delta.{IsDelta, BeginsWithDelta, groups_at, delta_at}
 use Rattle.aig_binary.proofs.Deltas.Groups.{groups_are, groups_read, read_last}
 

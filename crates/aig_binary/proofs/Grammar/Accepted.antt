@@ -9,13 +9,12 @@ use Rattle.aig_circuit.specs.declared.circuit.Gate.{Gate}
 use Rattle.aig_circuit.specs.declared.circuit.Circuit.{Circuit}
 use Rattle.aig_core.specs.Names.{nothing_named}
 use Rattle.aig_circuit.specs.Wellformed.{IsWellFormed}
-use Rattle.aig_text.specs.Lines.{Line, lines_of, bytes_of}
-use Rattle.aig_text.specs.Laws.{IsOneLine, EndInLineFeeds}
-use Rattle.aig_text.specs.Rows.{Row}
-use Rattle.aig_text.specs.AsciiGrammar.{IsRowLine}
-use Rattle.aig_text.proofs.Loops.Cutting.{pieces}
+use Rattle.aig_rows.specs.Lines.{Line, lines_of, bytes_of}
+use Rattle.aig_rows.specs.Laws.{IsOneLine, EndInLineFeeds}
+use Rattle.aig_rows.specs.Rows.{Row, IsRowLine}
+use Rattle.aig_rows.proofs.Loops.Cutting.{pieces}
 use Rattle.aig_text.proofs.Grammar.Headers.{HasCounts, heads, limited, sizes_within_limit, within_limits}
-use Rattle.aig_text.proofs.Grammar.Pieces.{lines_again, first_ended, ended_before, bytes_joined}
+use Rattle.aig_rows.proofs.Grammar.Pieces.{lines_again, first_ended, ended_before, bytes_joined}
 use Rattle.aig_text.proofs.Grammar.Tail.{with_tail}
 use Rattle.aig_text.proofs.Grammar.WholeTail.{left_of, tail_holds, good_symbols}
 use Rattle.aig_core.specs.BinaryOrder.{IsInBinaryOrder}

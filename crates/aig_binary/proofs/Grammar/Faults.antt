@@ -1,9 +1,10 @@
 -- The first fault of a binary file.
 use Rattle.std.proofs.Common.{◌≡◌, ℕ, List, None, Result, Ok, Err, refl, ap, ◌⊎◌, inl, inr}
 use Rattle.aig_circuit.specs.declared.circuit.Circuit.{Circuit}
-use Rattle.aig_text.specs.declared.fault.ReadFault.{ReadFault}
-use Rattle.aig_text.specs.Lines.{lines_of}
-use Rattle.aig_text.specs.Reading.{fault_of, want_of_memory, IsFirstFault}
+use Rattle.aig_rows.specs.declared.fault.ReadFault.{ReadFault}
+use Rattle.aig_rows.specs.Lines.{lines_of}
+use Rattle.aig_text.specs.Reading.{fault_of, IsFirstFault}
+use Rattle.aig_rows.specs.Reading.{want_of_memory}
 use Rattle.aig_binary.specs.BinaryGrammar.{IsBinaryText}
 use Rattle.aig_binary.specs.BinaryReading.{binary_at, binary_reading, first_binary_fault}
 use Rattle.aig_binary.proofs.Grammar.Read.{accepted_is_read}

@@ -5,19 +5,20 @@ use Rattle.std.specs.List.{AllZip}
 use Rattle.aig_circuit.specs.declared.circuit.Gate.{Gate}
 use Rattle.aig_circuit.specs.declared.circuit.Circuit.{Circuit}
 use Rattle.aig_core.specs.Names.{nothing_named}
-use Rattle.aig_text.specs.declared.fault.ReadKind.TheVariants as kinds
-use Rattle.aig_text.specs.declared.fault.ReadFault.{ReadFault}
-use Rattle.aig_text.specs.Lines.{Line, Ahead, ahead, lines_of, bytes_of}
+use Rattle.aig_rows.specs.declared.fault.ReadKind.TheVariants as kinds
+use Rattle.aig_rows.specs.declared.fault.ReadFault.{ReadFault}
+use Rattle.aig_rows.specs.Lines.{Line, Ahead, ahead, lines_of, bytes_of}
 use Rattle.aig_text.specs.declared.header_line.Header.{Header}
-use Rattle.aig_text.specs.Rows.{sections, in_binary}
+use Rattle.aig_text.specs.Sections.{sections, in_binary}
 use Rattle.aig_text.specs.declared.section.Section.{Section}
 use Rattle.aig_text.specs.declared.section.Section.TheVariants.{Inputs, Latches, Outputs, Bad, Constraints}
 use Rattle.aig_text.specs.declared.section.Section.TheVariants.{JusticeSizes, JusticeLiterals, Fairness, Gates}
-use Rattle.aig_text.specs.AsciiGrammar.{IsRowLine}
-use Rattle.aig_text.specs.Reading.{◌>>=◌, at_line, header_of, header_at, sections_at, empty_circuit, tail_at}
-use Rattle.aig_text.proofs.Steps.{both_ok, ok_at_line}
+use Rattle.aig_rows.specs.Rows.{IsRowLine}
+use Rattle.aig_text.specs.Reading.{header_of, header_at, sections_at, empty_circuit, tail_at}
+use Rattle.aig_rows.specs.Reading.{◌>>=◌, at_line}
+use Rattle.aig_rows.proofs.Steps.{both_ok, ok_at_line}
 use Rattle.aig_text.proofs.Grammar.Headers.{TellsHeader, header_tells}
-use Rattle.aig_text.proofs.Grammar.Rows.{IsSound, first_found}
+use Rattle.aig_rows.proofs.Grammar.Rows.{IsSound, first_found}
 use Rattle.aig_text.proofs.Grammar.Sections.{FoundIn, rows_under, AllFit, sections_found}
 use Rattle.aig_text.proofs.Grammar.Tail.{TellsTail, tail_tells}
 use Rattle.aig_binary.specs.BinaryGrammar.{binary_word}

@@ -7,11 +7,11 @@ use Rattle.std.proofs.lemmas.Bool.{ltb-false, le-ltb, or_parts, or_from}
 use Rattle.std.proofs.Math.Dec.{ltb}
 use Rattle.aig_circuit.specs.declared.circuit.Gate.{Gate}
 use Rattle.aig_circuit.specs.Literal.{literal_of}
-use Rattle.aig_text.specs.declared.fault.ReadKind.{ReadKind}
-use Rattle.aig_text.specs.declared.fault.ReadKind.TheVariants as kinds
-use Rattle.aig_text.specs.declared.fault.ReadFault.{ReadFault}
-use Rattle.aig_text.specs.Reading.{◌>>=◌}
-use Rattle.aig_text.proofs.Steps.{both_ok, ok_same, passed}
+use Rattle.aig_rows.specs.declared.fault.ReadKind.{ReadKind}
+use Rattle.aig_rows.specs.declared.fault.ReadKind.TheVariants as kinds
+use Rattle.aig_rows.specs.declared.fault.ReadFault.{ReadFault}
+use Rattle.aig_rows.specs.Reading.{◌>>=◌}
+use Rattle.aig_rows.proofs.Steps.{both_ok, ok_same, passed}
 use Rattle.aig_binary.specs.Delta.{IsDelta, delta_at}
 use Rattle.aig_core.specs.BinaryOrder.{AreOrderedGates}
 use Rattle.aig_binary.specs.BinaryGrammar.{SpellsGate, SpellsGates}

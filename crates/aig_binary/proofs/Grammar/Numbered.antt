@@ -12,12 +12,13 @@ use Rattle.aig_circuit.specs.Form.{IsLiteralUpTo}
 use Rattle.aig_core.specs.BinaryOrder.{AreOrderedGates, IsInBinaryOrder}
 use Rattle.aig_core.proofs.Numbered.WellOrdered.{HasLiteralsUpTo}
 use Rattle.aig_text.specs.declared.header_line.Header.{Header}
-use Rattle.aig_text.specs.Rows.{Row, row, next_form, next_row, latches_from, sections, in_ascii, in_binary}
+use Rattle.aig_text.specs.Sections.{latches_from, sections, in_ascii, in_binary}
+use Rattle.aig_rows.specs.Rows.{Row, row, next_form, next_row}
 use Rattle.aig_text.specs.Reading.{empty_circuit}
-use Rattle.aig_text.proofs.Grammar.Entries.{AreGoodRows, reset_again}
+use Rattle.aig_rows.proofs.Grammar.Entries.{AreGoodRows, reset_again}
 use Rattle.aig_text.proofs.Grammar.Headers.{HasCounts}
-use Rattle.aig_text.proofs.Grammar.Sections.{FoundIn, AllFit, rows_under, with_all, same_rows, same_counts}
-use Rattle.aig_text.proofs.Grammar.Sections.{same_sizes, small_sizes, entries_in_range}
+use Rattle.aig_text.proofs.Grammar.Sections.{FoundIn, AllFit, rows_under, with_all, same_rows, same_counts, same_sizes}
+use Rattle.aig_text.proofs.Grammar.Sections.{small_sizes, entries_in_range}
 use Rattle.aig_binary.specs.BinaryGrammar.{binary_rows_of}
 use Rattle.aig_binary.specs.BinaryReading.{with_definitions}
 

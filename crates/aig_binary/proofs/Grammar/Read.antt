@@ -16,13 +16,14 @@ use Rattle.aig_core.specs.BinaryOrder.{IsInBinaryOrder}
 use Rattle.aig_circuit.proofs.Makers.{latch}
 use Rattle.aig_circuit.proofs.Checking.Fitting.{well_formed_in_form}
 use Rattle.aig_text.specs.declared.header_line.Header.{Header}
-use Rattle.aig_text.specs.Lines.{Line, ahead, lines_of, bytes_of}
-use Rattle.aig_text.specs.Rows.{next_form, next_row, latches_from, sections, in_binary}
+use Rattle.aig_rows.specs.Lines.{Line, ahead, lines_of, bytes_of}
+use Rattle.aig_text.specs.Sections.{latches_from, sections, in_binary}
+use Rattle.aig_rows.specs.Rows.{next_form, next_row}
 use Rattle.aig_text.specs.Reading.{header_of, sections_at, empty_circuit, tail_at}
-use Rattle.aig_text.proofs.Loops.Cutting.{pieces}
-use Rattle.aig_text.proofs.Grammar.Entries.{IsGoodRow, AreGoodRows, IsLatchUpTo, good_reset, reset_told, all_mapped}
+use Rattle.aig_rows.proofs.Loops.Cutting.{pieces}
+use Rattle.aig_rows.proofs.Grammar.Entries.{IsGoodRow, AreGoodRows, IsLatchUpTo, good_reset, reset_told, all_mapped}
 use Rattle.aig_text.proofs.Grammar.Headers.{own_header, header_is_found, sizes_in_both}
-use Rattle.aig_text.proofs.Grammar.Pieces.{lines_joined}
+use Rattle.aig_rows.proofs.Grammar.Pieces.{lines_joined}
 use Rattle.aig_text.proofs.Grammar.Sections.{FoundIn, AllFit, with_all, own_found, own_rows, sections_are_found, bare}
 use Rattle.aig_text.proofs.Grammar.Sections.{latches_up_to, literals_again}
 use Rattle.aig_text.proofs.Grammar.WholeTail.{own_tail}

@@ -1,7 +1,7 @@
 -- The latches that the lines of a binary file tell.
 use Rattle.std.specs.Prelude.{ℕ, suc, List, [], ◌∷◌}
 use Rattle.aig_circuit.specs.declared.circuit.Latch.{Latch}
-use Rattle.aig_text.specs.declared.row.NextState.{NextState}
+use Rattle.aig_rows.specs.declared.row.NextState.{NextState}
 
 -- latches of this variable and the next ones, by what those lines tell
 unfoldable pub latches_by : ℕ → List NextState → List Latch

@@ -10,7 +10,7 @@ use Rattle.aig_circuit.specs.declared.circuit.TheConstants.{LARGEST}
 use Rattle.aig_circuit.specs.declared.circuit.Circuit.{Circuit}
 use Rattle.aig_circuit.specs.Wellformed.{IsVariableUpTo}
 use Rattle.aig_text.specs.AsciiText.{numbers_text}
-use Rattle.aig_text.proofs.Steps.{both_ok}
+use Rattle.aig_rows.proofs.Steps.{both_ok}
 use Rattle.aig_map.specs.declared.map_block.FirstLine.{FirstLine}
 use Rattle.aig_map.specs.declared.map_block.MappedGate.{MappedGate}
 use Rattle.aig_map.specs.declared.map_block.MapBlock.{MapBlock}

@@ -4,7 +4,7 @@ use Rattle.std.proofs.Common.{◌≡◌, ◌+◌, ℕ, zero, suc, List, [], ◌�
 use Rattle.std.proofs.Common.{refl, sym, ap, subst, ◌∙◌, append_assoc}
 use Rattle.std.specs.List.{AllByRecursion, flat_map}
 use Rattle.aig_text.specs.AsciiText.{numbers_text}
-use Rattle.aig_text.proofs.Steps.{both_ok}
+use Rattle.aig_rows.proofs.Steps.{both_ok}
 use Rattle.aig_map.specs.declared.fault.MapFault.{MapFault}
 use Rattle.aig_map.specs.MapReading.{or_else, entries_at}
 use Rattle.aig_map.proofs.BlockReading.Lines.{line, IsLineOf, IsExact}

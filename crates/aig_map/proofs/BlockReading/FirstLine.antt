@@ -12,8 +12,8 @@ use Rattle.std.proofs.lemmas.Slice.Eq.{bytes_eq-Decides}
 use Rattle.std.proofs.Math.Seq.{take-append_seam, drop-append_seam}
 use Rattle.aig_circuit.specs.declared.circuit.TheConstants.{LARGEST}
 use Rattle.aig_circuit.specs.declared.circuit.Circuit.{Circuit}
-use Rattle.aig_text.proofs.Grammar.NumberLines.{some_then}
-use Rattle.aig_text.proofs.Steps.{both_ok, let_through}
+use Rattle.aig_rows.proofs.Grammar.NumberLines.{some_then}
+use Rattle.aig_rows.proofs.Steps.{both_ok, let_through}
 use Rattle.aig_map.specs.declared.map_block.FirstLine.{FirstLine}
 use Rattle.aig_map.specs.MapBlock.{one_if}
 use Rattle.aig_map.specs.MapSpelling.{after_text, number_at, last_number_at, first_line_at}

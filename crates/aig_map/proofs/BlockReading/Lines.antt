@@ -12,9 +12,9 @@ use Rattle.std.proofs.lemmas.Option.{cond_some}
 use Rattle.aig_circuit.specs.declared.circuit.TheConstants.{LARGEST}
 use Rattle.aig_circuit.specs.Wellformed.{IsVariableUpTo}
 use Rattle.aig_text.specs.AsciiText.{numbers_text}
-use Rattle.aig_text.specs.CanonicalNumber.{canonical_before}
-use Rattle.aig_text.proofs.Canonical.Numbers.{canonical_is_read, canonical_reads}
-use Rattle.aig_text.proofs.Grammar.NumberLines.{some_then}
+use Rattle.aig_rows.specs.CanonicalNumber.{canonical_before}
+use Rattle.aig_rows.proofs.Canonical.{canonical_is_read, canonical_reads}
+use Rattle.aig_rows.proofs.Grammar.NumberLines.{some_then}
 use Rattle.aig_map.specs.declared.map_block.MappedGate.{MappedGate}
 use Rattle.aig_map.specs.MapBlock.{one_if, variable_row, gate_row}
 use Rattle.aig_map.specs.MapSpelling.{number_at, last_number_at, is_variable, variable_at, gate_at}

@@ -1,8 +1,8 @@
 -- How bytes that came lie before a reader that takes a stimulus line by line. Only the simulator cites this.
 use Rattle.std.specs.Prelude.{◌≡◌, ◌≢◌, ◌++◌, ℕ, List, true, None, Some, length}
 use Rattle.std.specs.List.{AllByRecursion}
-use Rattle.aig_text.specs.Laws.{IsOneLine}
-use Rattle.aig_text.specs.Lines.{Line, bytes_of}
+use Rattle.aig_rows.specs.Laws.{IsOneLine}
+use Rattle.aig_rows.specs.Lines.{Line, bytes_of}
 use Rattle.aig_step.specs.Stimulus.{Entry, Stimulus, lines_say}
 
 -- no byte is a line feed

@@ -1,26 +1,20 @@
 -- The lines of the canonical text: each number's digits spell it, and no line holds a line feed but at its end.
+use Rattle.std.proofs.Common.{rules}
 use Rattle.std.proofs.Common.{◌≡◌, ◌<◌, ◌≤◌, ◌^◌, ℕ, true, List, [], ◌∷◌, ◌++◌, length, map, refl, sym, ap, ◌∙◌, inl}
 use Rattle.std.proofs.Common.{arith}
 use Rattle.std.specs.List.{AllByRecursion, AllZip, flat_map}
 use Rattle.std.specs.Prelude.{decimal}
-use Rattle.std.proofs.lemmas.Fmt.{digits_decimal, digits_value-decimal, decimal_nonempty}
 use Rattle.std.proofs.lemmas.List.{append_assoc, append-nil}
-use Rattle.aig_text.specs.Lines.{Line, line, lines_of}
-use Rattle.aig_text.specs.Spelling.{IsNumber, AreMoreNumbers, IsLineEnd, EndInNumbers, IsNumberLine, IsHeaderLine}
-use Rattle.aig_text.specs.Rows.{Row}
-use Rattle.aig_text.specs.AsciiGrammar.{IsRowLine}
-use Rattle.aig_text.specs.Parts.Plain.{HasNoLineFeed}
-use Rattle.aig_text.proofs.Kept.Plain.{decimal_model, all_joined, digits_have_no_line_feed, first_line}
+use Rattle.aig_rows.specs.Lines.{Line, line, lines_of}
+use Rattle.aig_rows.specs.Spelling.{AreMoreNumbers, IsLineEnd, EndInNumbers, IsNumberLine}
+use Rattle.aig_text.specs.AsciiGrammar.{IsHeaderLine}
+use Rattle.aig_rows.specs.Rows.{Row, IsRowLine}
+use Rattle.aig_rows.specs.Parts.Plain.{HasNoLineFeed}
+use Rattle.aig_rows.proofs.Kept.Plain.{all_joined, digits_have_no_line_feed, first_line}
 use Rattle.aig_text.specs.declared.header_line.TheConstants.{HEADER_LEAST}
 use Rattle.aig_text.specs.AsciiText.{more_numbers_text, numbers_text, shortened, row_text, line_text, header_text}
 use Rattle.aig_text.proofs.Canonical.Shortened.{leaves_out, enough_are_left, all_left}
-
-pub decimal_is_number : (n : ℕ) → n < 2 ^ 64 → IsNumber (decimal n) n
-decimal_is_number n small = record {
-  some = decimal_nonempty n small;
-  digits = digits_decimal decimal_model n small;
-  value = digits_value-decimal decimal_model n small;
-}
+use Rattle.aig_rows.proofs.Canonical.{decimal_is_number}
 
 -- numbers that a file can tell
 abbrev pub AreSmall : List ℕ → Type 0
@@ -87,20 +81,12 @@ header_line word ns = line (word ++ more_front (shortened HEADER_LEAST ns)) true
 pub row_is_first : (least : ℕ) (ns rest : List ℕ) → AreSmall ns
     → lines_of (row_text least ns ++ rest) ≡ number_line least ns ∷ lines_of rest
 row_is_first least ns rest small =
-    ap (λ (t : List ℕ). lines_of (t ++ rest)) (row_text_is least ns) ∙ ap lines_of (text_is (written least ns) rest)
-    ∙ first_line (front (written least ns)) rest
-    (front_has_no_line_feed (written least ns) (written_are_small least ns small))
+    search (rules, row_text_is, text_is, first_line, front_has_no_line_feed, written_are_small)
 
 pub header_is_first : (word ns rest : List ℕ) → HasNoLineFeed word → AreSmall ns
     → lines_of (header_text word ns ++ rest) ≡ header_line word ns ∷ lines_of rest
 header_is_first word ns rest plain small =
-    let ms : List ℕ = shortened HEADER_LEAST ns in
-    ap lines_of
-    (append_assoc word (more_numbers_text ms) rest ∙ ap (λ (t : List ℕ). word ++ t) (more_text_is ms rest)
-    ∙ sym (append_assoc word (more_front ms) (10 ∷ rest)))
-    ∙ first_line (word ++ more_front ms) rest
-    (all_joined _ word (more_front ms) plain
-    (more_front_has_no_line_feed ms (all_left (λ n. n < 2 ^ 64) HEADER_LEAST ns small)))
+    search (rules, append_assoc, more_text_is, first_line, all_joined, more_front_has_no_line_feed, all_left)
 
 -- a line may end where its text ends
 ends_at_once : IsLineEnd true []
@@ -137,12 +123,7 @@ end_is_good least ns enough small =
 
 pub header_line_is_good : (word ns : List ℕ) → HEADER_LEAST ≤ length ns → AreSmall ns
     → IsHeaderLine word HEADER_LEAST (header_line word ns) ns
-header_line_is_good word ns enough small =
-    record {
-      rest = more_front (shortened HEADER_LEAST ns);
-      begins = refl;
-      others = end_is_good HEADER_LEAST ns enough small;
-    }
+header_line_is_good word ns enough small = search (rules, end_is_good)
 
 -- as many numbers as the form asks for at least, which a file can tell
 pub record IsFullRow (r : Row) : Type 0 where
@@ -156,10 +137,7 @@ row_lines rows = map (λ (r : Row). number_line r.form.least r.numbers) rows
 pub rows_are_first : (rows : List Row) (rest : List ℕ) → AllByRecursion IsFullRow rows
     → lines_of (flat_map line_text rows ++ rest) ≡ row_lines rows ++ lines_of rest
 rows_are_first [] rest h = refl
-rows_are_first (r ∷ rows) rest h =
-    ap lines_of (append_assoc (line_text r) (flat_map line_text rows) rest)
-    ∙ row_is_first r.form.least r.numbers (flat_map line_text rows ++ rest) h.0.small
-    ∙ ap (λ (ls : List Line). number_line r.form.least r.numbers ∷ ls) (rows_are_first rows rest h.1)
+rows_are_first (r ∷ rows) rest h = search (rules, append_assoc, row_is_first, rows_are_first rows rest h.1)
 
 number_line_is_good : (least : ℕ) (ns : List ℕ) → least < length ns → AreSmall ns
     → IsNumberLine least (number_line least ns) ns

@@ -1,12 +1,14 @@
 -- The numbers that are written of a row: those up to the last one that is not 0, and at least so many.
-use Rattle.std.proofs.Common.{◌≡◌, ◌≢◌, ◌<◌, ◌≤◌, ◌-◌, ◌&&◌, ℕ, zero, suc, Bool, true, false, cond, List, []}
-use Rattle.std.proofs.Common.{◌∷◌, ◌++◌, length, take, get_or, eqb, refl, sym, ap, subst, ◌∙◌, arith}
+use Rattle.std.proofs.lemmas.Grind.{common_steps}
+use Rattle.std.proofs.Common.{rules}
+use Rattle.std.proofs.Common.{◌≡◌, ◌≢◌, ◌<◌, ◌≤◌, ◌-◌, ◌&&◌, ℕ, zero, suc, Bool, true, false, cond, List, [], ◌∷◌, ◌++◌}
+use Rattle.std.proofs.Common.{length, take, get_or, eqb, refl, ap, subst, ◌∙◌, arith}
 use Rattle.std.specs.List.{AllByRecursion}
 use Rattle.std.proofs.lemmas.List.{length-take}
 use Rattle.std.proofs.lemmas.Bool.{eqb-true, eq-eqb, ne_eqb, and_parts}
-use Rattle.aig_text.specs.Spelling.{zeros}
+use Rattle.aig_rows.specs.Spelling.{zeros}
 use Rattle.aig_text.specs.AsciiText.{number_before, shortened}
-use Rattle.aig_text.proofs.Grammar.NumberLines.{and_no}
+use Rattle.aig_rows.proofs.Grammar.NumberLines.{and_no}
 
 -- numbers of which the last ones may be left out, where they are 0
 pub record LeavesOut (ns written : List ℕ) : Type 0 where
@@ -22,10 +24,7 @@ before_zeros n count false is = record { left_out = count; are = refl }
 
 one_before : (least n : ℕ) (ns written : List ℕ) → LeavesOut ns written
     → LeavesOut (n ∷ ns) (number_before least n written)
-one_before least n ns [] h =
-    subst (λ (ms : List ℕ). LeavesOut (n ∷ ms) (number_before least n [])) (sym h.are)
-    (before_zeros n h.left_out (eqb least 0 && eqb n 0)
-    (λ both. eqb-true n 0 (and_parts (eqb least 0) (eqb n 0) both).1))
+one_before least n ns [] h = search (rules, before_zeros, eqb-true, and_parts)
 one_before least n ns (m ∷ ms) h = record { left_out = h.left_out; are = ap (λ (ks : List ℕ). n ∷ ks) h.are }
 
 pub leaves_out : (least : ℕ) (ns : List ℕ) → LeavesOut ns (shortened least ns)
@@ -94,10 +93,7 @@ last_is_left least (suc end) (n ∷ m ∷ ns) high is =
 -- the same at an end that is moved to the front
 pub one_less : (least end : ℕ) (ns : List ℕ) → least < end → end ≤ length ns → get_or ns (end - 1) 0 ≡ 0
     → shortened least (take (end - 1) ns) ≡ shortened least (take end ns)
-one_less least end ns low high is =
-    let more : suc (end - 1) ≡ end = omega arith in
-    sym (zero_is_left_out least (end - 1) ns (omega arith) (omega arith) is)
-    ∙ ap (λ (k : ℕ). shortened least (take k ns)) more
+one_less least end ns low high is = grind (arith, common_steps, zero_is_left_out)
 
 pub no_less : (least end : ℕ) (ns : List ℕ) → least < end → end ≤ length ns → get_or ns (end - 1) 0 ≢ 0
     → shortened least (take end ns) ≡ take end ns

@@ -1,6 +1,7 @@
 -- The canonical text of a well-formed circuit is its file.
-use Rattle.std.proofs.Common.{◌≡◌, ◌+◌, ◌*◌, ◌<◌, ◌≤◌, ◌^◌, ℕ, List, [], ◌∷◌, ◌++◌, length, map, append_assoc, sym}
-use Rattle.std.proofs.Common.{inl, inr, Option, Some, true, refl, ap, ◌∙◌, arith, None}
+use Rattle.std.proofs.Common.{rules}
+use Rattle.std.proofs.Common.{◌≡◌, ◌+◌, ◌<◌, ◌≤◌, ◌^◌, ℕ, List, [], ◌∷◌, ◌++◌, length, map, append_assoc, sym, inl}
+use Rattle.std.proofs.Common.{inr, Option, Some, true, refl, ap, ◌∙◌, arith, None}
 use Rattle.std.specs.List.{AllByRecursion, AllZip, flat_map, sum}
 use Rattle.std.specs.Prelude.{decimal}
 use Rattle.std.proofs.lemmas.Bool.{ne_eqb}
@@ -18,22 +19,24 @@ use Rattle.aig_circuit.specs.Form.{IsInForm}
 use Rattle.aig_core.proofs.Checking.Properties.{sum_cons}
 use Rattle.aig_text.specs.declared.section.Section.TheVariants.{Inputs, Latches, Outputs, Bad, Constraints}
 use Rattle.aig_text.specs.declared.section.Section.TheVariants.{JusticeSizes, JusticeLiterals, Fairness, Gates}
-use Rattle.aig_text.specs.Lines.{Line, line, lines_of}
+use Rattle.aig_rows.specs.Lines.{Line, line, lines_of}
 use Rattle.aig_text.specs.AsciiGrammar.{IsAsciiText}
 use Rattle.aig_text.specs.AsciiText.{ascii_text, line_text, tail_text, symbol_text, comment_text}
 use Rattle.aig_text.specs.Tail.{kind_letter, IsSymbolLine, IsComment, AreTailLines}
-use Rattle.aig_text.specs.Parts.Plain.{HasNoLineFeed}
-use Rattle.aig_text.specs.Rows.{ascii_word, header_row, rows_in, rows_of, literal_rows_of, Section, sections, in_ascii, row}
-use Rattle.aig_text.specs.Rows.{Form, input_form, latch_form, literal_form, size_form, gate_form, reset_number}
-use Rattle.aig_text.specs.Rows.{input_row, latch_row, literal_row, size_row, gate_row}
-use Rattle.aig_text.proofs.Loops.Cutting.{pieces}
-use Rattle.aig_text.proofs.Grammar.Entries.{IsLiteralUpTo, IsLatchUpTo, IsGateUpTo}
+use Rattle.aig_rows.specs.Parts.Plain.{HasNoLineFeed}
+use Rattle.aig_text.specs.Sections.{ascii_word, header_row, rows_in, rows_of, literal_rows_of, Section, sections}
+use Rattle.aig_text.specs.Sections.{in_ascii}
+use Rattle.aig_rows.specs.Rows.{row, Form, input_form, latch_form, literal_form, size_form, gate_form, reset_number}
+use Rattle.aig_rows.specs.Rows.{input_row, latch_row, literal_row, size_row, gate_row}
+use Rattle.aig_rows.proofs.Loops.Cutting.{pieces}
+use Rattle.aig_rows.proofs.Grammar.Entries.{IsLiteralUpTo, IsLatchUpTo, IsGateUpTo}
 use Rattle.aig_text.proofs.Grammar.Sections.{inputs_up_to, latches_up_to, gates_up_to, outputs_up_to, bad_up_to}
 use Rattle.aig_text.proofs.Grammar.Sections.{constraints_up_to, justice_up_to, fairness_up_to}
 use Rattle.aig_text.proofs.Grammar.Headers.{header_limited}
-use Rattle.aig_text.proofs.Kept.Plain.{all_joined, digits_have_no_line_feed, first_line}
-use Rattle.aig_text.proofs.Canonical.Lines.{decimal_is_number, AreSmall, IsFullRow, header_line, row_lines}
-use Rattle.aig_text.proofs.Canonical.Lines.{header_is_first, header_line_is_good, rows_are_first, rows_are_good}
+use Rattle.aig_rows.proofs.Kept.Plain.{all_joined, digits_have_no_line_feed, first_line}
+use Rattle.aig_text.proofs.Canonical.Lines.{AreSmall, IsFullRow, header_line, row_lines, header_is_first}
+use Rattle.aig_text.proofs.Canonical.Lines.{header_line_is_good, rows_are_first, rows_are_good}
+use Rattle.aig_rows.proofs.Canonical.{decimal_is_number}
 
 -- a row of entries, each of which a file can tell
 pub entries_full : {X : Type 0} (P : X → Type 0) (form : Form) (of : X → List ℕ) → ((x : X) → P x → IsFullRow (row form (of x)))
@@ -51,11 +54,7 @@ small_reset own resets.One small = omega arith
 small_reset own resets.Uninit small = small
 
 full_latch : (m : ℕ) → m ≤ LARGEST → (l : Latch) → IsLatchUpTo m l → IsFullRow (row latch_form (latch_row l))
-full_latch m top l h =
-    let high : l.var ≤ m = h.0.1 in
-    let next : l.next ≤ 2 * m + 1 = h.1 in
-    let own : 2 * l.var < 2 ^ 64 = omega arith in
-    record { some = omega arith; small = (own, (omega arith, (small_reset (2 * l.var) l.reset own, tt))) }
+full_latch m top l h = search (rules, small_reset)
 
 full_literal : (m : ℕ) → m ≤ LARGEST → (n : ℕ) → IsLiteralUpTo m n → IsFullRow (row literal_form (literal_row n))
 full_literal m top n h = record { some = omega arith; small = (omega arith, tt) }
@@ -64,11 +63,7 @@ full_size : (n : ℕ) → n ≤ LARGEST → IsFullRow (row size_form (size_row n
 full_size n h = record { some = omega arith; small = (omega arith, tt) }
 
 full_gate : (m : ℕ) → m ≤ LARGEST → (g : Gate) → IsGateUpTo m g → IsFullRow (row gate_form (gate_row g))
-full_gate m top g h =
-    let high : g.var ≤ m = h.0.1 in
-    let left : g.left ≤ 2 * m + 1 = h.1 in
-    let right : g.right ≤ 2 * m + 1 = h.2 in
-    record { some = omega arith; small = (omega arith, (omega arith, (omega arith, tt))) }
+full_gate m top g h = search rules
 
 -- no size is above the sum
 each_in_sum : (top : ℕ) (sizes : List ℕ) → sum sizes ≤ top → AllByRecursion (λ n. n ≤ top) sizes
@@ -77,10 +72,7 @@ each_in_sum top (n ∷ ns) h =
     let whole : sum (n ∷ ns) ≡ n + sum ns = sum_cons n ns in (omega arith, each_in_sum top ns (omega arith))
 
 pub sizes_are_small : (c : Circuit) → IsWithinLimits c → sum c.justice.sizes ≤ LARGEST
-sizes_are_small c limits =
-    let long : length c.justice.literals ≤ LARGEST = limits.literals.1.1.1.0 in
-    let same : sum c.justice.sizes ≡ length c.justice.literals = limits.sizes in
-    omega arith
+sizes_are_small c limits = search rules
 
 module _ (c : Circuit) (form : IsInForm c) where
   literals_full : (ns : List ℕ) → AllByRecursion (IsLiteralUpTo c.max_var) ns
@@ -167,11 +159,7 @@ symbols_are_first : (ss : List Symbol) (rest : List ℕ) → AllByRecursion IsFo
     → lines_of (flat_map symbol_text ss ++ rest) ≡ symbol_lines ss ++ lines_of rest
 symbols_are_first [] rest h = refl
 symbols_are_first (s ∷ ss) rest h =
-    ap lines_of
-    (append_assoc (symbol_text s) (flat_map symbol_text ss) rest ∙ symbol_is s (flat_map symbol_text ss ++ rest))
-    ∙ first_line (kind_letter s.kind ++ (decimal s.position ++ (32 ∷ s.name))) (flat_map symbol_text ss ++ rest)
-    (plain_symbol s h.0)
-    ∙ ap (λ (ls : List Line). symbol_line s ∷ ls) (symbols_are_first ss rest h.1)
+    search (rules, append_assoc, symbol_is, first_line, plain_symbol, symbols_are_first ss rest h.1)
 
 symbols_are_good : (ss : List Symbol) → AllByRecursion IsFound ss → AllZip IsSymbolLine (symbol_lines ss) ss
 symbols_are_good [] h = tt
@@ -212,19 +200,10 @@ all_found c limits (s ∷ ss) p l =
 
 -- the lines of the canonical tail
 tail_lines : (c : Circuit) → IsInForm c → lines_of (tail_text c) ≡ symbol_lines c.symbols ++ comment_lines c.comment
-tail_lines c form =
-    symbols_are_first c.symbols (comment_text c.comment)
-    (all_found c form.limits c.symbols form.symbols.positions form.symbols.lines)
-    ∙ ap (λ (ls : List Line). symbol_lines c.symbols ++ ls) (comment_is_first c.comment)
+tail_lines c form = search (rules, symbols_are_first, all_found, comment_is_first)
 
 pub tail_is_good : (c : Circuit) → IsInForm c → AreTailLines (lines_of (tail_text c)) c
-tail_is_good c form = record {
-  named = symbol_lines c.symbols;
-  rest = comment_lines c.comment;
-  are = tail_lines c form;
-  symbols = symbols_are_good c.symbols (all_found c form.limits c.symbols form.symbols.positions form.symbols.lines);
-  comment = comment_is_good c.comment;
-}
+tail_is_good c form = search (rules, tail_lines, symbols_are_good, all_found, comment_is_good)
 
 canonical_lines : (c : Circuit) → IsInForm c
     → lines_of (ascii_text c)

@@ -3,12 +3,12 @@ use Rattle.std.proofs.Common.{◌≡◌, ℕ, List, None, Ok, Err, refl, ap, ◌
 use Rattle.aig_circuit.specs.declared.circuit.Circuit.{Circuit}
 use Rattle.aig_core.specs.declared.fault.CheckFault.{CheckFault}
 use Rattle.aig_core.specs.Fault as structure
-use Rattle.aig_text.specs.declared.fault.ReadFault.{ReadFault}
-use Rattle.aig_text.specs.Lines.{lines_of}
+use Rattle.aig_rows.specs.declared.fault.ReadFault.{ReadFault}
+use Rattle.aig_rows.specs.Lines.{lines_of}
 use Rattle.aig_text.specs.AsciiGrammar.{IsAsciiText}
 use Rattle.aig_text.specs.Reading.{reading, circuit_at, first_ascii_fault, fault_of, unless_faulty, kind_of}
-use Rattle.aig_text.specs.Reading.{whole_fault}
-use Rattle.aig_text.specs.Reading.{want_of_memory, IsFirstFault}
+use Rattle.aig_text.specs.Reading.{IsFirstFault}
+use Rattle.aig_rows.specs.Reading.{whole_fault, want_of_memory}
 use Rattle.aig_text.proofs.Grammar.Text.{accepted_is_read}
 
 reading_of : (limit : ℕ) (text : List ℕ) (c : Circuit) → circuit_at limit (lines_of text) ≡ Ok c

@@ -1,6 +1,8 @@
 -- A header that is read tells its numbers, and the other way round, whatever the word of its format.
-use Rattle.std.proofs.Common.{◌≡◌, ℕ, ◌+◌, ◌≤◌, min, true, false, cond, List, [], ◌∷◌, drop, length}
-use Rattle.std.proofs.Common.{get_or, Option, None, Some, Result, Ok, Err, refl, ap, subst, ◌∙◌, sym, arith}
+use Rattle.std.proofs.lemmas.Grind.{common_steps}
+use Rattle.std.proofs.Common.{rules}
+use Rattle.std.proofs.Common.{◌≡◌, ℕ, ◌+◌, ◌≤◌, min, true, false, cond, List, [], ◌∷◌, drop, length, get_or, Option}
+use Rattle.std.proofs.Common.{None, Some, Result, Ok, Err, refl, ap, subst, ◌∙◌, sym, arith}
 use Rattle.std.specs.List.{AllByRecursion, list_any, before_first, sum}
 use Rattle.std.specs.Str.{bytes_eq}
 use Rattle.std.proofs.lemmas.Bool.{ltb-false, le-ltb, or_parts, or_from}
@@ -9,16 +11,16 @@ use Rattle.aig_circuit.specs.declared.circuit.Circuit.{Circuit}
 use Rattle.aig_circuit.specs.declared.circuit.TheConstants.{LARGEST}
 use Rattle.aig_circuit.proofs.Checking.Fitting.{all_weaker}
 use Rattle.aig_circuit.specs.Wellformed.{IsWithinLimits}
-use Rattle.aig_text.specs.declared.fault.ReadKind.{ReadKind}
-use Rattle.aig_text.specs.declared.fault.ReadKind.TheVariants as kinds
+use Rattle.aig_rows.specs.declared.fault.ReadKind.{ReadKind}
+use Rattle.aig_rows.specs.declared.fault.ReadKind.TheVariants as kinds
 use Rattle.aig_text.specs.declared.header_line.TheConstants.{HEADER_LEAST, HEADER_NUMBERS}
-use Rattle.aig_text.specs.Lines.{Line}
-use Rattle.aig_text.specs.Spelling.{IsHeaderLine}
-use Rattle.aig_text.specs.Scanning.{more_numbers_at}
-use Rattle.aig_text.specs.Rows.{Header, header_row}
+use Rattle.aig_rows.specs.Lines.{Line}
+use Rattle.aig_text.specs.AsciiGrammar.{IsHeaderLine}
+use Rattle.aig_rows.specs.Scanning.{more_numbers_at}
+use Rattle.aig_text.specs.Sections.{Header, header_row}
 use Rattle.aig_text.specs.Reading.{ends_word, header_of_row, header_within, header_of}
-use Rattle.aig_text.proofs.Steps.{ok_same, passed, let_through}
-use Rattle.aig_text.proofs.Grammar.NumberLines.{header_reads, header_is_read}
+use Rattle.aig_rows.proofs.Steps.{ok_same, passed, let_through}
+use Rattle.aig_text.proofs.Grammar.HeaderLines.{header_reads, header_is_read}
 use Rattle.aig_text.proofs.Grammar.Sections.{row_of_header}
 
 none_larger : (m : ℕ) (ns : List ℕ) → list_any (λ n. ltb m n) ns ≡ false → AllByRecursion (λ n. n ≤ m) ns
@@ -50,44 +52,17 @@ within_tells : (word : List ℕ) (limit : ℕ) (l : Line) (h : Header) (o : Opti
     → header_within (min limit LARGEST) o ≡ Ok h → TellsHeader word limit l h
 unfolding header_within
 within_tells word limit l h None begins read is = cc
-within_tells word limit l h (Some ns) begins read is =
-    let top : ℕ = min limit LARGEST in
-    let p = passed (list_any (λ n. ltb top n) ns) kinds.TooLarge (counts_fit top ns) h is in
-    let q =
-    passed (ltb (get_or ns 0 0) (get_or ns 1 0 + get_or ns 2 0 + get_or ns 4 0)) kinds.BadHeader
-    (Ok (header_of_row top ns)) h p.1 in
-    record {
-      numbers = ns;
-      begins = begins;
-      read = read;
-      is = ok_same {E = ReadKind} (header_of_row top ns) h q.1;
-      within = none_larger top ns p.0;
-      counted = ltb-false (get_or ns 0 0) (get_or ns 1 0 + get_or ns 2 0 + get_or ns 4 0) q.0;
-    }
+within_tells word limit l h (Some ns) begins read is = search (rules, passed, ok_same, none_larger, ltb-false)
 
 pub header_tells : (word : List ℕ) (limit : ℕ) (l : Line) (h : Header) → header_of word limit l ≡ Ok h
     → TellsHeader word limit l h
 unfolding header_of
-header_tells word limit l h is =
-    let p =
-    let_through (bytes_eq (before_first ends_word l.text) word) kinds.NotAiger
-    (header_within (min limit LARGEST)
-    (more_numbers_at l.ended HEADER_LEAST HEADER_NUMBERS (drop (length word) l.text))) h is in
-    within_tells word limit l h
-    (more_numbers_at l.ended HEADER_LEAST HEADER_NUMBERS (drop (length word) l.text)) p.0 refl p.1
+header_tells word limit l h is = search (rules, let_through, within_tells)
 
 pub found_header : (word : List ℕ) (limit : ℕ) (l : Line) (h : Header) → TellsHeader word limit l h
     → header_of word limit l ≡ Ok h
 unfolding header_of header_within
-found_header word limit l h t =
-    rw (
-      t.begins,
-      t.read,
-      all_within (min limit LARGEST) t.numbers t.within,
-      le-ltb (get_or t.numbers 0 0)
-          (get_or t.numbers 1 0 + get_or t.numbers 2 0 + get_or t.numbers 4 0) t.counted,
-      t.is,
-    ) refl
+found_header word limit l h t = search (rules, all_within, le-ltb)
 
 -- the header's row
 all_numbers : (limit : ℕ) (ns : List ℕ) → length ns ≡ HEADER_NUMBERS → row_of_header (header_of_row limit ns) ≡ ns
@@ -143,37 +118,11 @@ module _ (word : List ℕ) (limit : ℕ) (l : Line) (h : Header) (c : Circuit) (
   -- where the sizes are those of the literals
   pub within_limits : sum c.justice.sizes ≡ length c.justice.literals → sum c.justice.sizes ≤ h.limit
       → IsWithinLimits c
-  within_limits sizes small =
-      let own : AllByRecursion (λ n. n ≤ LARGEST) (header_row c) = all_of LARGEST (omega arith) in
-      let long : length c.justice.literals ≤ LARGEST = omega (arith, sizes, small, limit_is) in
-      record {
-        max_var = own.0;
-        inputs = own.1.0;
-        latches = own.1.1.0;
-        literals = (own.1.1.1.0, (own.1.1.1.1.1.0, (own.1.1.1.1.1.1.0, (long, (own.1.1.1.1.1.1.1.1.0, tt)))));
-        justice = own.1.1.1.1.1.1.1.0;
-        sizes = sizes;
-        gates = own.1.1.1.1.0;
-      }
+  within_limits sizes small = grind (arith, common_steps, all_of, limit_is)
 
 -- all numbers of the header row of a circuit within the limits are within them
 pub header_limited : (c : Circuit) → IsWithinLimits c → AllByRecursion (λ n. n ≤ LARGEST) (header_row c)
-header_limited c w = (
-  w.max_var,
-  (
-    w.inputs,
-    (
-      w.latches,
-      (
-        w.literals.0,
-        (
-          w.gates,
-          (w.literals.1.0, (w.literals.1.1.0, (w.justice, (w.literals.1.1.1.1.0, tt)))),
-        ),
-      ),
-    ),
-  ),
-)
+header_limited c w = search rules
 
 pub both_limits : (limit : ℕ) (ns : List ℕ) → AllByRecursion (λ n. n ≤ limit) ns → AllByRecursion (λ n. n ≤ LARGEST) ns
     → AllByRecursion (λ n. n ≤ min limit LARGEST) ns
@@ -186,10 +135,7 @@ both_limits limit (n ∷ ns) g h =
 -- the sizes of a circuit are within both limits
 pub sizes_in_both : (limit : ℕ) (c : Circuit) → IsWithinLimits c → sum c.justice.sizes ≤ limit
     → sum c.justice.sizes ≤ min limit LARGEST
-sizes_in_both limit c w small =
-    let long : length c.justice.literals ≤ LARGEST = w.literals.1.1.1.0 in
-    let same : sum c.justice.sizes ≡ length c.justice.literals = w.sizes in
-    omega arith
+sizes_in_both limit c w small = search rules
 
 -- the header of a circuit that is read within a limit, by its header row
 abbrev pub own_header : ℕ → Circuit → Header

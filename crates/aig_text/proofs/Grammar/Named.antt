@@ -1,4 +1,5 @@
 -- Symbols of which each is new where it stands name no two things alike, and the other way round.
+use Rattle.std.proofs.Common.{rules}
 use Rattle.std.proofs.Common.{◌≡◌, ◌<◌, ℕ, Bool, true, false, List, [], ◌∷◌, eqb, ◌&&◌, refl, sym, ap, ◌∙◌}
 use mathlib.Core.Bool.{◌||◌}
 use Rattle.std.specs.List.{AllByRecursion}
@@ -10,11 +11,12 @@ use Rattle.std.proofs.lemmas.Cmp.{nat_cmp_total}
 use Rattle.std.proofs.lemmas.Bool.{eqb-true, eq-eqb, or_parts, or_from, and_parts}
 use Rattle.aig_core.specs.declared.names.Names.{Names}
 use Rattle.aig_circuit.specs.declared.circuit.Kind.{Kind}
-use Rattle.aig_circuit.specs.declared.circuit.Kind.TheVariants.{Input, Latch, Output, Bad, Constraint, Justice, Fairness}
+use Rattle.aig_circuit.specs.declared.circuit.Kind.TheVariants.{Input, Latch, Output, Bad, Constraint, Justice}
+use Rattle.aig_circuit.specs.declared.circuit.Kind.TheVariants.{Fairness}
 use Rattle.aig_circuit.specs.declared.circuit.Symbol.{Symbol}
 use Rattle.aig_core.specs.Names.{is_named, with_name, nothing_named}
 use Rattle.aig_circuit.specs.Wellformed.{NameTheSame, NameApart}
-use Rattle.aig_text.specs.Rows.{Header}
+use Rattle.aig_text.specs.Sections.{Header}
 use Rattle.aig_text.specs.Reading.{count_named}
 
 same_kind : Kind → Kind → Bool
@@ -87,19 +89,10 @@ abbrev pub IsPlaced : Header → Symbol → Type 0
 IsPlaced h s = s.position < count_named h s.kind
 
 not_both : (s t : Symbol) → (same_kind s.kind t.kind && eqb t.position s.position) ≡ false → ¬ NameTheSame s t
-not_both s t h same =
-    let yes : (same_kind s.kind t.kind && eqb t.position s.position) ≡ true =
-    rw (← same.0, kind_is_same s.kind, eq-eqb t.position s.position (sym same.1)) refl in
-    cc
+not_both s t h same = search (rules, same_kind, kind_is_same, eq-eqb)
 
 both_false : (s t : Symbol) → ¬ NameTheSame s t → (same_kind s.kind t.kind && eqb t.position s.position) ≡ false
-both_false s t h =
-    elim (same_kind s.kind t.kind && eqb t.position s.position) as
-    (λ b. (same_kind s.kind t.kind && eqb t.position s.position) ≡ b → b ≡ false) [
-      | true ↦ λ e. let p = and_parts (same_kind s.kind t.kind) (eqb t.position s.position) e in
-          absurd (h (same_is_kind s.kind t.kind p.0, sym (eqb-true t.position s.position p.1)))
-      | false ↦ λ e. refl
-    ] refl
+both_false s t h = search (rules, same_kind, and_parts, same_is_kind, eqb-true)
 
 old_and_apart : (before : Names) (s : Symbol) (ss : List Symbol)
     → AllByRecursion (Unnamed (with_name before s.kind s.position)) ss

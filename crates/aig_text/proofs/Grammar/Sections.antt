@@ -1,6 +1,8 @@
 -- Sections that are read hold the rows of the circuit, and the other way round.
-use Rattle.std.proofs.Common.{◌≡◌, ℕ, ◌≤◌, List, [], ◌∷◌, ◌++◌, map, length, None, Ok, refl, ap, subst}
-use Rattle.std.proofs.Common.{◌∙◌, sym, arith, append_assoc}
+use Rattle.std.proofs.lemmas.Grind.{common_steps}
+use Rattle.std.proofs.Common.{rules}
+use Rattle.std.proofs.Common.{◌≡◌, ℕ, ◌≤◌, List, [], ◌∷◌, ◌++◌, map, length, None, Ok, refl, ap, subst, ◌∙◌, sym, arith}
+use Rattle.std.proofs.Common.{append_assoc}
 use Rattle.std.specs.List.{AllByRecursion, AllZip, sum}
 use Rattle.std.proofs.lemmas.List.{length-map}
 use Rattle.std.proofs.lemmas.List.Elements.{All-from_recursion, recursion_from_All}
@@ -10,34 +12,28 @@ use Rattle.aig_circuit.specs.declared.circuit.Gate.{Gate}
 use Rattle.aig_circuit.specs.Wellformed.{IsWithinLimits, IsVariableUpTo, operands}
 use Rattle.aig_circuit.specs.Form.{AreInRange, HasEntriesInRange, IsInForm}
 use Rattle.aig_circuit.proofs.Checking.InForm.{by_parts, in_range}
-use Rattle.aig_text.specs.declared.fault.ReadFault.{ReadFault}
+use Rattle.aig_rows.specs.declared.fault.ReadFault.{ReadFault}
 use Rattle.aig_text.specs.declared.section.Section.TheVariants.{Inputs, Latches, Outputs, Bad, Constraints}
 use Rattle.aig_text.specs.declared.section.Section.TheVariants.{JusticeSizes, JusticeLiterals, Fairness, Gates}
-use Rattle.aig_text.specs.Lines.{Line, Ahead, ahead}
-use Rattle.aig_text.specs.Rows.{Header, Section, sections, Listed, in_ascii, Form, Row, row, rows_of, header_row}
-use Rattle.aig_text.specs.Rows.{input_row, latch_row, literal_row, size_row, gate_row, input_of, latch_of, literal_in}
-use Rattle.aig_text.specs.Rows.{size_of, gate_of, input_form, latch_form, literal_form, size_form, gate_form}
-use Rattle.aig_text.specs.AsciiGrammar.{IsRowLine}
-use Rattle.aig_text.specs.Reading.{Found, rows_at, section_at, sections_at, header_of_row, empty_circuit}
-use Rattle.aig_text.proofs.Steps.{both_ok, ok_same}
-use Rattle.aig_text.proofs.Grammar.Entries.{AreGoodRows, IsGoodBeside, each_good, IsEntry, HasGoodRow}
-use Rattle.aig_text.proofs.Grammar.Entries.{IsLiteralUpTo, IsLatchUpTo, IsSizeUpTo, IsGateUpTo, input_entry}
-use Rattle.aig_text.proofs.Grammar.Entries.{latch_entry, literal_entry, size_entry, gate_entry, good_input, good_latch}
-use Rattle.aig_text.proofs.Grammar.Entries.{good_literal, good_gate, good_sizes, sizes_within, all_again, rows_again}
-use Rattle.aig_text.proofs.Grammar.Entries.{all_mapped, all_good}
-use Rattle.aig_text.proofs.Grammar.Rows.{IsSound, AreRows, rows_meant, rows_are_found}
+use Rattle.aig_rows.specs.Lines.{Line, Ahead, ahead}
+use Rattle.aig_text.specs.Sections.{Header, Section, sections, Listed, in_ascii, rows_of, header_row}
+use Rattle.aig_rows.specs.Rows.{Form, Row, row, input_row, latch_row, literal_row, size_row, gate_row, input_of}
+use Rattle.aig_rows.specs.Rows.{latch_of, literal_in, size_of, gate_of, input_form, latch_form, literal_form, size_form}
+use Rattle.aig_rows.specs.Rows.{gate_form, IsRowLine}
+use Rattle.aig_text.specs.Reading.{section_at, sections_at, header_of_row, empty_circuit}
+use Rattle.aig_rows.specs.Reading.{Found, rows_at}
+use Rattle.aig_rows.proofs.Steps.{both_ok, ok_same}
+use Rattle.aig_rows.proofs.Grammar.Entries.{AreGoodRows, IsGoodBeside, each_good, IsEntry, HasGoodRow, IsLiteralUpTo}
+use Rattle.aig_rows.proofs.Grammar.Entries.{IsLatchUpTo, IsSizeUpTo, IsGateUpTo, input_entry, latch_entry}
+use Rattle.aig_rows.proofs.Grammar.Entries.{literal_entry, size_entry, gate_entry, good_input, good_latch, good_literal}
+use Rattle.aig_rows.proofs.Grammar.Entries.{good_gate, good_sizes, sizes_within, all_again, rows_again, all_mapped}
+use Rattle.aig_rows.proofs.Grammar.Entries.{all_good, zips_joined}
+use Rattle.aig_rows.proofs.Grammar.Rows.{IsSound, AreRows, rows_meant, rows_are_found}
 
 -- rows that a section may have, the first one beside what is carried at the start, and as many as it has
 pub record FitRows (form : Form) (bound start count : ℕ) (rows : List (List ℕ)) : Type 0 where
   pub good : AreGoodRows form bound start rows
   pub counted : length rows ≡ count
-
-pub zips_joined : {A B : Type 0} (R : A → B → Type 0) (us vs : List A) (ys zs : List B) → AllZip R us ys
-    → AllZip R vs zs → AllZip R (us ++ vs) (ys ++ zs)
-zips_joined R [] vs [] zs g h = h
-zips_joined R [] vs (y ∷ ys) zs g h = absurd g
-zips_joined R (u ∷ us) vs [] zs g h = absurd g
-zips_joined R (u ∷ us) vs (y ∷ ys) zs g h = (g.0, zips_joined R us vs ys zs g.1 h)
 
 -- two lists that go together, split where one is joined of two
 pub record ZipsTwo {A B : Type 0} (R : A → B → Type 0) (xs : List A) (ys zs : List B) : Type 0 where
@@ -127,10 +123,7 @@ module _ (listed : Section → Listed) (h : Header) where
       → (ss : List Section) (c : Circuit) (at : Ahead) (p : Circuit × Ahead)
       → sections_at listed h ss c at ≡ Ok p → AreSections ss c p.0 at.lines p.1.lines
   unfolding sections_at
-  sections_found sound [] c at p is =
-      let e : (c, at) ≡ p = ok_same {E = ReadFault} _ _ is in
-      subst (λ (q : Circuit × Ahead). AreSections [] c q.0 at.lines q.1.lines) e
-      (record { found = tt; front = []; lines = refl; spelled = tt; fit = tt; circuit = refl })
+  sections_found sound [] c at p is = search (rules, ok_same)
   sections_found sound (s ∷ ss) c at p is =
       let f = both_ok (section_at (listed s) h c at) (then_sections ss) p is in
       let r = both_ok (rows_of_section s c at) (after_rows s c) f.0 f.1 in
@@ -162,11 +155,7 @@ module _ (listed : Section → Listed) (h : Header) where
       → rows_at (listed s).form ((listed s).bound h) ((listed s).start h c) (length rows) (ahead n (first ++ between))
       ≡ Ok (rows, ahead k between)
       → rows_of_section s c (ahead n front) ≡ Ok (rows, ahead k between)
-  rows_here s c rows n k front first between fit lines r =
-      rw lines
-      (subst
-      (λ count. rows_at (listed s).form ((listed s).bound h) ((listed s).start h c) count (ahead n (first ++ between))
-      ≡ Ok (rows, ahead k between)) fit.counted r)
+  rows_here s c rows n k front first between fit lines r = search rules
 
   pub sections_are_found : (ss : List Section) (found : FoundIn ss) (c : Circuit) (n : ℕ) (front rest : List Line)
       → AllZip IsRowLine front (rows_under ss found) → AllFit ss found c
@@ -315,17 +304,7 @@ module _ (h : Header) (found : FoundIn sections)
 
   -- and so are their numbers
   pub same_counts : header_row (circuit_of h.max_var found) ≡ row_of_header h
-  same_counts =
-      rw (
-        inputs.counted,
-        latches.counted,
-        outputs.counted,
-        bad.counted,
-        constraints.counted,
-        sizes.counted,
-        fairness.counted,
-        gates.counted,
-      ) refl
+  same_counts = grind (arith, common_steps)
 
   -- the sizes are those of the literals, and their sum is within the limit
   pub same_sizes : sum (map size_of found.1.1.1.1.1.0) ≡ length (map literal_in found.1.1.1.1.1.1.0)
@@ -372,10 +351,7 @@ module _ (h : Header) (c : Circuit) (ls rest : List Line) (a : AreAllSections h 
 
   -- what is made of good rows is in form
   pub in_form : IsWithinLimits c → IsInForm c
-  in_form limits =
-      let d : Circuit = circuit_of h.max_var a.found in
-      subst IsInForm a.circuit (by_parts d (subst IsWithinLimits (sym a.circuit) limits)
-      (entries_in_range h a.found a.fit) (record { positions = tt; apart = tt; lines = tt }))
+  in_form limits = search (rules, by_parts, entries_in_range)
 
 -- a circuit without its tail
 abbrev pub bare : Circuit → Circuit
@@ -480,24 +456,7 @@ module _ (limit : ℕ) (c : Circuit) (form : IsInForm c) (small : sum c.justice.
   -- the rows of the circuit tell the circuit, but for its tail
   rows_tell : with_all in_ascii own_header sections (own_found in_ascii own_header sections c) (empty_circuit c.max_var)
       ≡ bare c
-  rows_tell =
-      let i = all_again (IsVariableUpTo c.max_var) input_row input_of (input_entry.again c.max_var) c.inputs
-      (inputs_up_to c form) in
-      let l = all_again (IsLatchUpTo c.max_var) latch_row latch_of (latch_entry.again c.max_var) c.latches
-      (latches_up_to c form) in
-      let g = all_again (IsGateUpTo c.max_var) gate_row gate_of (gate_entry.again c.max_var) c.gates
-      (gates_up_to c form) in
-      rw (
-        i,
-        l,
-        g,
-        literals_again c.outputs,
-        literals_again c.bad,
-        literals_again c.constraints,
-        literals_again c.justice.sizes,
-        literals_again c.justice.literals,
-        literals_again c.fairness,
-      ) refl
+  rows_tell = search (rules, all_again, inputs_up_to, latches_up_to, gates_up_to, literals_again)
 
   pub sections_are_read : (n : ℕ) (front rest : List Line) → AllZip IsRowLine front (rows_of c)
       → (k : ℕ)

@@ -1,18 +1,19 @@
 -- How symbol lines and the line `c` are spelled and how they are read: each follows from the other.
-use Rattle.std.proofs.Common.{◌≡◌, ℕ, Bool, true, false, cond, List, [], ◌∷◌, ◌++◌, Option, None, Some, refl}
-use Rattle.std.proofs.Common.{eqb, ap, subst, ◌∙◌}
+use Rattle.std.proofs.Common.{rules}
+use Rattle.std.proofs.Common.{◌≡◌, ℕ, Bool, true, false, cond, List, [], ◌∷◌, ◌++◌, Option, Some, refl, eqb, ap}
+use Rattle.std.proofs.Common.{subst, ◌∙◌}
 use Rattle.std.proofs.lemmas.Bool.{eqb-true, and_parts}
 use Rattle.aig_circuit.specs.declared.circuit.Kind.{Kind}
-use Rattle.aig_circuit.specs.declared.circuit.Kind.TheVariants.{Input, Latch, Output, Bad, Constraint, Justice, Fairness}
+use Rattle.aig_circuit.specs.declared.circuit.Kind.TheVariants.{Input, Latch, Output, Bad, Constraint, Justice}
+use Rattle.aig_circuit.specs.declared.circuit.Kind.TheVariants.{Fairness}
 use Rattle.aig_circuit.specs.declared.circuit.Symbol.{Symbol}
-use Rattle.aig_text.specs.Lines.{Line}
-use Rattle.aig_text.specs.Spelling.{IsNumber}
+use Rattle.aig_rows.specs.Lines.{Line}
+use Rattle.aig_rows.specs.Spelling.{IsNumber}
 use Rattle.aig_text.specs.Tail.{kind_letter, IsSymbolLine, IsCommentLine}
 use Rattle.aig_text.specs.Scanning.{kind_at, after_space, symbol, symbol_at, begins_comment, is_comment_line}
-use Rattle.aig_text.specs.Scanning.{is_line_end}
-use Rattle.aig_text.proofs.Grammar.Spellings.{number_reads, number_is_read, end_reads, end_is_read}
-use Rattle.aig_text.proofs.Grammar.Spellings.{digits_are_no_end}
-use Rattle.aig_text.proofs.Grammar.NumberLines.{some_then}
+use Rattle.aig_rows.specs.Scanning.{is_line_end}
+use Rattle.aig_rows.proofs.Grammar.Spellings.{number_reads, number_is_read, end_reads, end_is_read, digits_are_no_end}
+use Rattle.aig_rows.proofs.Grammar.NumberLines.{some_then}
 
 -- the letter
 abbrev IsLetter : ℕ → Kind → Type 0
@@ -21,28 +22,15 @@ IsLetter b k = b ∷ [] ≡ kind_letter k
 -- the letter of a kind, or one of those that are looked for after it
 letter_or : (b letter : ℕ) (kind k : Kind) (others : Option Kind) → letter ∷ [] ≡ kind_letter kind
     → (others ≡ Some k → IsLetter b k) → cond (eqb b letter) (Some kind) others ≡ Some k → IsLetter b k
-letter_or b letter kind k others is rest h =
-    elim (eqb b letter) as (λ t. eqb b letter ≡ t → cond t (Some kind) others ≡ Some k → IsLetter b k) [
-      | true ↦ λ e g. let same : kind ≡ k = cc in
-          subst (IsLetter b) same (ap (λ (n : ℕ). n ∷ []) (eqb-true b letter e) ∙ is)
-      | false ↦ λ e g. rest g
-    ] refl h
+letter_or b letter kind k others is rest h = search (rules, eqb-true)
 
 letter_reads : (b : ℕ) (k : Kind) → kind_at b ≡ Some k → IsLetter b k
-letter_reads b k h =
-    letter_or b 105 Input k _ refl (letter_or b 108 Latch k _ refl (letter_or b 111 Output k _ refl
-    (letter_or b 98 Bad k _ refl (letter_or b 99 Constraint k _ refl (letter_or b 106 Justice k _ refl
-    (letter_or b 102 Fairness k None refl (λ none. cc))))))) h
+letter_reads b k h = search (rules, letter_or)
 
 -- one space
 space_reads : (bytes rest : List ℕ) → after_space bytes ≡ Some rest → bytes ≡ 32 ∷ rest
 space_reads [] rest h = cc
-space_reads (b ∷ bytes) rest h =
-    elim (eqb b 32) as (λ t. eqb b 32 ≡ t → cond t (Some bytes) None ≡ Some rest → b ∷ bytes ≡ 32 ∷ rest) [
-      | true ↦ λ e g. let same : bytes ≡ rest = cc in ap (λ (n : ℕ). n ∷ bytes) (eqb-true b 32 e)
-          ∙ ap (λ (t : List ℕ). 32 ∷ t) same
-      | false ↦ λ e g. cc
-    ] refl h
+space_reads (b ∷ bytes) rest h = search (rules, eqb-true)
 
 -- a symbol
 pub symbol_reads : (l : Line) (text : List ℕ) (s : Symbol) → l.text ≡ text → symbol_at text ≡ Some s → IsSymbolLine l s
@@ -91,22 +79,12 @@ no_comment Fairness ended rest more = refl
 
 pub symbol_is_no_comment : (l : Line) (s : Symbol) → IsSymbolLine l s → is_comment_line l ≡ false
 unfolding is_comment_line
-symbol_is_no_comment l s h =
-    ap (begins_comment l.ended) h.text
-    ∙ no_comment s.kind l.ended (h.digits ++ (32 ∷ s.name))
-    (digits_are_no_end l.ended h.digits (32 ∷ s.name) s.position h.position)
+symbol_is_no_comment l s h = search (rules, no_comment, digits_are_no_end)
 
 -- the line `c`
 comment_begins : (l : Line) (text : List ℕ) → l.text ≡ text → begins_comment l.ended text ≡ true → IsCommentLine l
 comment_begins l [] is h = cc
-comment_begins l (b ∷ bytes) is h =
-    let both = and_parts (eqb b 99) (is_line_end l.ended bytes) h in
-    record {
-      ending = bytes;
-      text = is ∙ ap (λ (n : ℕ). n ∷ bytes) (eqb-true b 99 both.0);
-      ends =
-          end_reads l.ended bytes both.1;
-    }
+comment_begins l (b ∷ bytes) is h = search (rules, and_parts, eqb-true, end_reads)
 
 pub comment_reads : (l : Line) → is_comment_line l ≡ true → IsCommentLine l
 unfolding is_comment_line

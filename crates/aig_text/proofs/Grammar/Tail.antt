@@ -1,4 +1,5 @@
 -- A tail that is read tells its symbols and its comment, and the other way round.
+use Rattle.std.proofs.Common.{rules}
 use Rattle.std.proofs.Common.{◌≡◌, ◌≢◌, ◌+◌, ◌<◌, ℕ, Bool, true, false, cond, List, [], ◌∷◌, ◌++◌, Option, None, Some}
 use Rattle.std.proofs.Common.{Ok, Result, refl, sym, ap, subst, ◌∙◌, append_assoc, append-nil, inl, inr}
 use Rattle.std.specs.Prelude.{◌⊎◌, nat_le}
@@ -9,17 +10,17 @@ use Rattle.aig_circuit.specs.declared.circuit.Circuit.{Circuit}
 use Rattle.aig_circuit.specs.declared.circuit.Symbol.{Symbol}
 use Rattle.aig_core.specs.Names.{is_named, with_name}
 use Rattle.aig_circuit.specs.Wellformed.{IsAmong}
-use Rattle.aig_text.specs.declared.fault.ReadFault.{ReadFault}
-use Rattle.aig_text.specs.declared.fault.ReadKind.{ReadKind}
-use Rattle.aig_text.specs.declared.fault.ReadKind.TheVariants as kinds
-use Rattle.aig_text.specs.Lines.{Line, bytes_of}
-use Rattle.aig_text.specs.Laws.{IsOneLine}
-use Rattle.aig_text.specs.Rows.{Header}
-use Rattle.aig_text.specs.Tail.{kind_letter, IsSymbolLine, IsComment}
+use Rattle.aig_rows.specs.declared.fault.ReadFault.{ReadFault}
+use Rattle.aig_rows.specs.declared.fault.ReadKind.{ReadKind}
+use Rattle.aig_rows.specs.declared.fault.ReadKind.TheVariants as kinds
+use Rattle.aig_rows.specs.Lines.{Line, bytes_of}
+use Rattle.aig_rows.specs.Laws.{IsOneLine}
+use Rattle.aig_text.specs.Sections.{Header}
+use Rattle.aig_text.specs.Tail.{IsSymbolLine, IsComment}
 use Rattle.aig_text.specs.Scanning.{symbol_at, is_comment_line}
-use Rattle.aig_text.specs.Reading.{◌>>=◌, at_line, count_named, fault_in_symbol, unless_wrong, checked_symbol}
-use Rattle.aig_text.specs.Reading.{with_comment, with_symbol, tail_at}
-use Rattle.aig_text.proofs.Steps.{both_ok, ok_at_line, ok_same}
+use Rattle.aig_text.specs.Reading.{count_named, fault_in_symbol, checked_symbol, with_comment, with_symbol, tail_at}
+use Rattle.aig_rows.specs.Reading.{◌>>=◌, at_line, unless_wrong}
+use Rattle.aig_rows.proofs.Steps.{both_ok, ok_at_line, ok_same}
 use Rattle.aig_text.proofs.Grammar.Symbols.{symbol_reads, symbol_is_read, symbol_is_no_comment, comment_reads}
 use Rattle.aig_text.proofs.Grammar.Symbols.{comment_is_read}
 use Rattle.aig_text.proofs.Grammar.Named.{AreNew}
@@ -171,12 +172,7 @@ none_among [] h = λ a. a
 none_among (x ∷ xs) h = λ a. elim a as (λ _. ⊥) [ inl e ↦ h.0 (sym e) | inr r ↦ none_among xs h.1 r ]
 
 pub name_in_line : (l : Line) (s : Symbol) → IsSymbolLine l s → IsOneLine l → ¬ IsAmong 10 s.name
-name_in_line l s h one =
-    let all : AllByRecursion (λ b. b ≢ 10) (kind_letter s.kind ++ (h.digits ++ (32 ∷ s.name))) =
-    subst (λ (t : List ℕ). AllByRecursion (λ b. b ≢ 10) t) h.text one in
-    none_among s.name
-    (right_of (λ b. b ≢ 10) h.digits (32 ∷ s.name)
-    (right_of (λ b. b ≢ 10) (kind_letter s.kind) (h.digits ++ (32 ∷ s.name)) all)).1
+name_in_line l s h one = search (rules, none_among, right_of)
 
 pub names_in_lines : (named : List Line) (ss : List Symbol) → AllZip IsSymbolLine named ss
     → AllByRecursion IsOneLine named → AllByRecursion (λ (s : Symbol). ¬ IsAmong 10 s.name) ss

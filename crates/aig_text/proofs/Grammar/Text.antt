@@ -1,5 +1,6 @@
 -- A text that is read is the text of its circuit, and the other way round.
-use Rattle.std.proofs.Common.{◌≡◌, ℕ, ◌+◌, ◌*◌, ◌≤◌, List, [], ◌∷◌, ◌++◌, Option, None, Some, Result, Ok, refl, ap}
+use Rattle.std.proofs.Common.{rules}
+use Rattle.std.proofs.Common.{◌≡◌, ℕ, ◌≤◌, List, [], ◌∷◌, ◌++◌, Option, None, Some, Result, Ok, refl, ap}
 use Rattle.std.proofs.Common.{subst, ◌∙◌, sym, length, min}
 use Rattle.std.specs.List.{AllByRecursion, AllZip, sum}
 use Rattle.aig_circuit.specs.declared.circuit.Circuit.{Circuit}
@@ -10,27 +11,28 @@ use Rattle.aig_core.proofs.Checking.Faultless.{well_formed, faultless}
 use Rattle.aig_circuit.proofs.Checking.Fitting.{well_formed_in_form}
 use Rattle.aig_circuit.specs.declared.circuit.Symbol.{Symbol}
 use Rattle.aig_core.specs.Names.{nothing_named}
-use Rattle.aig_circuit.specs.Wellformed.{IsWellFormed, IsWithinLimits, IsVariableUpTo, HasGoodSymbols, defined_variables}
-use Rattle.aig_circuit.specs.Wellformed.{used_literals}
+use Rattle.aig_circuit.specs.Wellformed.{IsWellFormed, IsWithinLimits, HasGoodSymbols}
 use Rattle.aig_circuit.specs.Form.{IsInForm}
-use Rattle.aig_text.specs.declared.fault.ReadFault.{ReadFault}
-use Rattle.aig_text.specs.declared.fault.ReadKind.TheVariants as kinds
-use Rattle.aig_text.specs.Lines.{Line, Ahead, ahead, lines_of}
-use Rattle.aig_text.specs.Rows.{ascii_word, Header, header_row, rows_of, sections, in_ascii}
-use Rattle.aig_text.specs.Laws.{IsOneLine}
-use Rattle.aig_text.specs.AsciiGrammar.{IsRowLine, IsAsciiText}
-use Rattle.aig_text.specs.Reading.{◌>>=◌, header_of, tail_at, header_at, sections_at, empty_circuit, circuit_at}
-use Rattle.aig_text.specs.Reading.{unless_faulty, reading}
-use Rattle.aig_text.proofs.Steps.{both_ok, ok_same}
-use Rattle.aig_text.proofs.Grammar.Rows.{first_found}
-use Rattle.aig_text.proofs.Grammar.Sections.{AreAllSections, all_found, rows_read, counts_read, in_form}
-use Rattle.aig_text.proofs.Grammar.Sections.{sizes_read, sizes_limited, sections_are_read, bare}
+use Rattle.aig_rows.specs.declared.fault.ReadFault.{ReadFault}
+use Rattle.aig_rows.specs.declared.fault.ReadKind.TheVariants as kinds
+use Rattle.aig_rows.specs.Lines.{Line, Ahead, ahead, lines_of}
+use Rattle.aig_text.specs.Sections.{ascii_word, Header, header_row, rows_of, sections, in_ascii}
+use Rattle.aig_rows.specs.Laws.{IsOneLine}
+use Rattle.aig_text.specs.AsciiGrammar.{IsAsciiText}
+use Rattle.aig_rows.specs.Rows.{IsRowLine}
+use Rattle.aig_text.specs.Reading.{header_of, tail_at, header_at, sections_at, empty_circuit, circuit_at, unless_faulty}
+use Rattle.aig_text.specs.Reading.{reading}
+use Rattle.aig_rows.specs.Reading.{◌>>=◌}
+use Rattle.aig_rows.proofs.Steps.{both_ok, ok_same}
+use Rattle.aig_rows.proofs.Grammar.Rows.{first_found}
+use Rattle.aig_text.proofs.Grammar.Sections.{AreAllSections, all_found, rows_read, counts_read, in_form, sizes_read}
+use Rattle.aig_text.proofs.Grammar.Sections.{sizes_limited, sections_are_read, bare}
 use Rattle.aig_text.proofs.Grammar.Headers.{TellsHeader, HasCounts, own_header, header_tells, header_is_found, heads}
 use Rattle.aig_text.proofs.Grammar.Headers.{limited, sizes_within_limit, definitions_counted, within_limits}
 use Rattle.aig_text.proofs.Grammar.Headers.{sizes_in_both}
 use Rattle.aig_text.proofs.Grammar.WholeTail.{right_of, tail_holds, good_symbols, own_tail}
 use Rattle.aig_text.proofs.Grammar.Tail.{TellsTail, with_tail, tail_tells}
-use Rattle.aig_text.proofs.Loops.Cutting.{pieces}
+use Rattle.aig_rows.proofs.Loops.Cutting.{pieces}
 
 -- what the lines of a text tell
 record TellCircuit (limit : ℕ) (ls : List Line) (c : Circuit) : Type 0 where
@@ -102,29 +104,11 @@ no_symbols h c ls rest f = subst (λ (d : Circuit). d.symbols ≡ []) f.circuit 
 -- a circuit in form stays so with good symbols
 stays_in_form : (c d : Circuit) (ss : List Symbol) (comment : Option (List ℕ)) → with_tail c ss comment ≡ d
     → IsWithinLimits d → IsInForm c → HasGoodSymbols d → IsInForm d
-stays_in_form c d ss comment is limits form good =
-    record {
-      limits = limits;
-      variables =
-          subst (λ (e : Circuit). AllByRecursion (IsVariableUpTo e.max_var) (defined_variables e)) is form.variables;
-      literals =
-          subst (λ (e : Circuit). AllByRecursion (λ n. n ≤ 2 * e.max_var + 1) (used_literals e)) is form.literals;
-      symbols = good;
-    }
+stays_in_form c d ss comment is limits form good = search rules
 
 limits_back : (c d : Circuit) (ss : List Symbol) (comment : Option (List ℕ)) → with_tail c ss comment ≡ d
     → IsWithinLimits d → IsWithinLimits c
-limits_back c d ss comment is limits =
-    let w : IsWithinLimits (with_tail c ss comment) = subst IsWithinLimits (sym is) limits in
-    record {
-      max_var = w.max_var;
-      inputs = w.inputs;
-      latches = w.latches;
-      literals = w.literals;
-      justice = w.justice;
-      sizes = w.sizes;
-      gates = w.gates;
-    }
+limits_back c d ss comment is limits = search (rules, with_tail)
 
 -- what the lines of a text tell is in form
 pub circuit_in_form : (limit : ℕ) (ls : List Line) (c : Circuit) → AllByRecursion IsOneLine ls

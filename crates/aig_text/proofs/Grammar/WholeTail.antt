@@ -1,17 +1,21 @@
 -- The tail of a circuit: what it tells besides, and how it is read again.
-use Rattle.std.proofs.Common.{◌≡◌, ℕ, ◌<◌, List, [], ◌∷◌, ◌++◌, get_or, Option, Ok, refl, sym, ap, subst, ◌∙◌}
-use Rattle.std.specs.List.{AllByRecursion, AllZip}
+use Rattle.std.proofs.lemmas.Grind.{common_steps}
+use Rattle.std.proofs.Common.{arith}
+use Rattle.std.proofs.Common.{rules}
+use Rattle.std.proofs.Common.{◌≡◌, ℕ, ◌<◌, List, [], ◌∷◌, ◌++◌, get_or, Ok, refl, sym, ap, subst, ◌∙◌}
+use Rattle.std.specs.List.{AllByRecursion}
 use Rattle.aig_circuit.specs.declared.circuit.Circuit.{Circuit}
 use Rattle.aig_circuit.specs.declared.circuit.Kind.{Kind}
-use Rattle.aig_circuit.specs.declared.circuit.Kind.TheVariants.{Input, Latch, Output, Bad, Constraint, Justice, Fairness}
+use Rattle.aig_circuit.specs.declared.circuit.Kind.TheVariants.{Input, Latch, Output, Bad, Constraint, Justice}
+use Rattle.aig_circuit.specs.declared.circuit.Kind.TheVariants.{Fairness}
 use Rattle.aig_circuit.specs.declared.circuit.Symbol.{Symbol}
 use Rattle.aig_core.specs.declared.names.Names.{Names}
 use Rattle.aig_core.specs.Names.{nothing_named}
-use Rattle.aig_circuit.specs.Wellformed.{HasGoodSymbols, NameApart, IsAmong, count_of}
-use Rattle.aig_text.specs.Lines.{Line}
-use Rattle.aig_text.specs.Rows.{Header}
-use Rattle.aig_text.specs.Laws.{IsOneLine}
-use Rattle.aig_text.specs.Tail.{IsSymbolLine, IsComment, AreTailLines}
+use Rattle.aig_circuit.specs.Wellformed.{HasGoodSymbols, count_of}
+use Rattle.aig_rows.specs.Lines.{Line}
+use Rattle.aig_text.specs.Sections.{Header}
+use Rattle.aig_rows.specs.Laws.{IsOneLine}
+use Rattle.aig_text.specs.Tail.{AreTailLines}
 use Rattle.aig_text.specs.Reading.{tail_at, count_named}
 use Rattle.aig_text.proofs.Grammar.Headers.{HasCounts, own_header}
 use Rattle.aig_text.proofs.Grammar.Sections.{bare}
@@ -48,31 +52,13 @@ module _ (h : Header) (before : Names) (c d : Circuit) (ls : List Line) (t : Tel
   symbols_found = ap (λ (ss : List Symbol). ss ++ t.symbols) (sym none) ∙ ap (λ (e : Circuit). e.symbols) t.circuit
 
   pub tail_holds : AreTailLines ls d
-  tail_holds = record {
-    named = t.named;
-    rest = t.rest;
-    are = t.are;
-    symbols = subst (λ (ss : List Symbol). AllZip IsSymbolLine t.named ss) symbols_found t.spelled;
-    comment =
-        subst (λ (o : Option (List ℕ)). IsComment t.rest o) (ap (λ (e : Circuit). e.comment) t.circuit) t.is_comment;
-  }
+  tail_holds = search (rules, symbols_found)
 
 -- the symbols that lines tell are good
 pub good_symbols : (h : Header) (c d : Circuit) (ls : List Line) → TellsTail h nothing_named c d ls → c.symbols ≡ []
     → HasCounts h d → AllByRecursion IsOneLine ls → HasGoodSymbols d
 good_symbols h c d ls t none counts one =
-    let named : AllByRecursion IsOneLine t.named =
-    left_of IsOneLine t.named t.rest (subst (λ (ks : List Line). AllByRecursion IsOneLine ks) t.are one) in
-    let symbols : t.symbols ≡ d.symbols = symbols_found h nothing_named c d ls t none in
-    record {
-      positions =
-          subst (λ (ss : List Symbol). AllByRecursion (λ (s : Symbol). s.position < count_of d s.kind) ss) symbols
-          (placed h d counts t.symbols (new_placed h nothing_named t.symbols t.new));
-      apart = subst NameApart symbols (new_apart h t.symbols t.new);
-      lines =
-          subst (λ (ss : List Symbol). AllByRecursion (λ (s : Symbol). ¬ IsAmong 10 s.name) ss) symbols
-          (names_in_lines t.named t.symbols t.spelled named);
-    }
+    grind (arith, common_steps, left_of, symbols_found, placed, new_placed, new_apart, names_in_lines)
 
 own_count : (limit : ℕ) (c : Circuit) (k : Kind) → count_of c k ≡ count_named (own_header limit c) k
 own_count limit c Input = refl

@@ -1,18 +1,21 @@
 -- Symbol lines are judged by what is kept of their positions as by the positions.
-use Rattle.std.proofs.Common.{◌≡◌, ◌<◌, ◌≤◌, ◌^◌, ℕ, List, Bool, true, false, cond, refl, sym, ap, subst, ◌∙◌, arith}
-use Rattle.std.proofs.Common.{inl, inr, Option, Some, None, Ok, Err}
-use Rattle.std.specs.Prelude.{nat_le, not}
+use Rattle.std.proofs.Common.{rules}
+use Rattle.std.proofs.Common.{◌≡◌, ◌<◌, ◌≤◌, ◌^◌, ℕ, List, Bool, true, false, cond, refl, ap, subst, ◌∙◌, arith}
+use Rattle.std.proofs.Common.{Option, Some, None, Ok, Err}
+use Rattle.std.specs.Prelude.{nat_le}
 use Rattle.std.proofs.lemmas.Bool.{cases_lt, le-leb, lt-leb}
 use Rattle.aig_core.specs.declared.names.Names.{Names}
 use Rattle.aig_circuit.specs.declared.circuit.Kind.{Kind}
 use Rattle.aig_circuit.specs.declared.circuit.Symbol.{Symbol}
 use Rattle.aig_core.specs.Names.{is_named}
-use Rattle.aig_text.specs.declared.fault.ReadKind.TheVariants as kinds
-use Rattle.aig_text.specs.Rows.{Header}
+use Rattle.aig_rows.specs.declared.fault.ReadKind.TheVariants as kinds
+use Rattle.aig_text.specs.Sections.{Header}
 use Rattle.aig_text.specs.Scanning.{symbol}
-use Rattle.aig_text.specs.Reading.{count_named, unless_wrong, checked_symbol}
-use Rattle.aig_text.specs.Parts.Kept.{kept, kept_symbol}
-use Rattle.aig_text.proofs.Kept.Numbers.{kept_small, kept_large}
+use Rattle.aig_text.specs.Reading.{count_named, checked_symbol}
+use Rattle.aig_rows.specs.Reading.{unless_wrong}
+use Rattle.aig_text.specs.Parts.Kept.{kept_symbol}
+use Rattle.aig_rows.specs.Kept.{kept}
+use Rattle.aig_rows.proofs.Kept.Numbers.{kept_small, kept_large}
 
 -- the symbol behind what is kept of it
 record Behind (o : Option Symbol) (k : Symbol) : Type 0 where
@@ -28,17 +31,10 @@ behind (Some s) k h =
 
 -- what is kept of a number below the bound is the number
 small_behind : (n k : ℕ) → kept n ≡ k → k < 2 ^ 33 → n ≡ k
-small_behind n k h small = elim (cases_lt n (2 ^ 36)) [
-  | inl l ↦ sym (kept_small n l) ∙ h
-  | inr l ↦ let large : 2 ^ 36 ≤ k = subst (λ m. 2 ^ 36 ≤ m) (sym (kept_large n l) ∙ h) (omega arith) in
-      absurd (omega arith)
-]
+small_behind n k h small = search (rules, cases_lt, kept_small, kept_large)
 
 far_behind : (count n k : ℕ) → kept n ≡ k → count < 2 ^ 33 → count ≤ k → count ≤ n
-far_behind count n k h small far = elim (cases_lt n (2 ^ 36)) [
-  | inl l ↦ let same : n ≡ k = sym (kept_small n l) ∙ h in omega arith
-  | inr l ↦ omega arith
-]
+far_behind count n k h small far = search (rules, cases_lt, kept_small)
 
 module _ (h : Header) (before : Names) where
   pub no_symbol : (o : Option Symbol) → kept_symbol o ≡ None → checked_symbol h before o ≡ Err kinds.BadSymbol
@@ -61,11 +57,7 @@ module _ (h : Header) (before : Names) where
   pub symbol_far : (o : Option Symbol) (kind : Kind) (position : ℕ) (name : List ℕ)
       → kept_symbol o ≡ Some (symbol kind position name) → count_named h kind < 2 ^ 33 → count_named h kind ≤ position
       → checked_symbol h before o ≡ Err kinds.SymbolRange
-  symbol_far o kind position name e small far =
-      let b = behind o (symbol kind position name) e in
-      ap (checked_symbol h before) b.is
-      ∙ judged_far (symbol kind b.position name)
-      (le-leb (count_named h kind) b.position (far_behind (count_named h kind) b.position position b.kept_is small far))
+  symbol_far o kind position name e small far = search (rules, behind, judged_far, le-leb, far_behind)
 
   near : (o : Option Symbol) (kind : Kind) (position : ℕ) (name : List ℕ)
       → kept_symbol o ≡ Some (symbol kind position name) → count_named h kind < 2 ^ 33 → position < count_named h kind
@@ -87,11 +79,3 @@ module _ (h : Header) (before : Names) where
   symbol_right o kind position name e small close new =
       ap (checked_symbol h before) (near o kind position name e small close)
       ∙ judged (symbol kind position name) false false (lt-leb (count_named h kind) position close) new
-
-pub not_false : (b : Bool) → not b ≡ false → b ≡ true
-not_false true h = refl
-not_false false h = cc
-
-pub not_true : (b : Bool) → not b ≡ true → b ≡ false
-not_true true h = cc
-not_true false h = refl

@@ -1,18 +1,19 @@
 -- Reading the tail line by line.
-use Rattle.std.proofs.Common.{◌≡◌, ◌+◌, ℕ, List, [], ◌∷◌, length, true, false, Result, Ok, Err, refl, ap, ◌∙◌, sym}
-use Rattle.std.proofs.Common.{◌⊎◌, inl, inr}
+use Rattle.std.proofs.Common.{◌≡◌, ◌+◌, ℕ, List, [], ◌∷◌, length, true, false, Result, Ok, Err, refl, ap, ◌∙◌, sym, ◌⊎◌}
+use Rattle.std.proofs.Common.{inl, inr}
 use Rattle.std.specs.Prelude.{OnOk, IfErr}
 use Rattle.aig_core.specs.declared.names.Names.{Names}
 use Rattle.aig_circuit.specs.declared.circuit.Circuit.{Circuit}
 use Rattle.aig_circuit.specs.declared.circuit.Symbol.{Symbol}
 use Rattle.aig_core.specs.Names.{with_name}
-use Rattle.aig_text.specs.declared.fault.ReadFault.{ReadFault}
-use Rattle.aig_text.specs.Lines.{Line, lines_of}
-use Rattle.aig_text.specs.Rows.{Header}
+use Rattle.aig_rows.specs.declared.fault.ReadFault.{ReadFault}
+use Rattle.aig_rows.specs.Lines.{Line, lines_of}
+use Rattle.aig_text.specs.Sections.{Header}
 use Rattle.aig_text.specs.Scanning.{symbol_at, is_comment_line}
-use Rattle.aig_text.specs.Reading.{at_line, checked_symbol, with_comment, with_symbol, tail_at, want_of_memory}
-use Rattle.aig_text.specs.Outcomes.{GivesOrMemory}
-use Rattle.aig_text.proofs.Loops.Cutting.{no_lines, pieces}
+use Rattle.aig_text.specs.Reading.{checked_symbol, with_comment, with_symbol, tail_at}
+use Rattle.aig_rows.specs.Reading.{at_line, want_of_memory}
+use Rattle.aig_rows.specs.Outcomes.{GivesOrMemory}
+use Rattle.aig_rows.proofs.Loops.Cutting.{no_lines, pieces}
 
 module _ (h : Header) (before : Names) (c : Circuit) (n : ℕ) where
   pub no_tail : (bytes : List ℕ) → lines_of bytes ≡ [] → tail_at h before c n (lines_of bytes) ≡ Ok c

@@ -2,10 +2,11 @@
 use Rattle.std.proofs.Common.{◌≡◌, ℕ, List, Ok, Err, refl, ◌⊎◌, inl, inr}
 use Rattle.aig_circuit.specs.declared.circuit.Circuit.{Circuit}
 use Rattle.aig_core.specs.Names.{nothing_named}
-use Rattle.aig_text.specs.declared.fault.ReadFault.{ReadFault}
-use Rattle.aig_text.specs.Lines.{Line, Ahead, ahead}
-use Rattle.aig_text.specs.Rows.{ascii_word, Header, sections, in_ascii}
-use Rattle.aig_text.specs.Reading.{header_at, sections_at, empty_circuit, tail_at, circuit_at, want_of_memory}
+use Rattle.aig_rows.specs.declared.fault.ReadFault.{ReadFault}
+use Rattle.aig_rows.specs.Lines.{Line, Ahead, ahead}
+use Rattle.aig_text.specs.Sections.{ascii_word, Header, sections, in_ascii}
+use Rattle.aig_text.specs.Reading.{header_at, sections_at, empty_circuit, tail_at, circuit_at}
+use Rattle.aig_rows.specs.Reading.{want_of_memory}
 
 pub no_header : (limit : ℕ) (ls : List Line) (e : ReadFault) → header_at ascii_word limit (ahead 1 ls) ≡ Err e
     → circuit_at limit ls ≡ Err e

@@ -3,7 +3,7 @@ use Rattle.std.specs.Prelude.{◌≡◌, ℕ, List, length}
 use Rattle.std.specs.List.{flat_map}
 use Rattle.aig_circuit.specs.declared.circuit.Gate.{Gate}
 use Rattle.aig_text.specs.AsciiText.{numbers_text}
-use Rattle.aig_text.specs.Rows.{gate_row, input_row, literal_row}
+use Rattle.aig_rows.specs.Rows.{gate_row, input_row, literal_row}
 use Rattle.aig_unroll.specs.Unrolled.{frame_size}
 use Rattle.aig_unroll.specs.Parts.Frames.{Frame}
 

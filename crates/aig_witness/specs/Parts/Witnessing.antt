@@ -9,8 +9,8 @@ use Rattle.aig_circuit.specs.declared.value.Val.{Val}
 use Rattle.aig_circuit.specs.declared.value.Val.TheVariants.{Zero, One, X}
 use Rattle.aig_meaning.specs.Meaning.{IsStepAssignment, Row, literal_value, next_literals}
 use Rattle.aig_meaning.specs.Trace.{IsTrace, state_after}
-use Rattle.aig_text.specs.Lines.{Line}
-use Rattle.aig_text.specs.Spelling.{is_digit, value_of as number_of}
+use Rattle.aig_rows.specs.Lines.{Line}
+use Rattle.aig_rows.specs.Spelling.{is_digit, value_of as number_of}
 use Rattle.aig_witness.specs.declared.checker.Due.{Due}
 use Rattle.aig_witness.specs.declared.checker.Due.TheVariants as due
 use Rattle.aig_step.specs.declared.fault.SimFault.{SimFault}

@@ -2,7 +2,7 @@ use Rattle.std.proofs.Common.{◌≡◌, ◌+◌, ◌++◌, List, [], ◌∷◌,
 use Rattle.std.specs.List.{AllZip}
 use Rattle.std.proofs.lemmas.List.{take_more}
 use Rattle.aig_circuit.specs.declared.circuit.Circuit.{Circuit}
-use Rattle.aig_text.proofs.Grammar.Sections.{zips_joined}
+use Rattle.aig_rows.proofs.Grammar.Entries.{zips_joined}
 use Rattle.aig_lanes.specs.declared.run.Run.{Run}
 use Rattle.aig_lanes.specs.declared.run.Trace.{Trace}
 use Rattle.aig_lanes.specs.Runs.{IsTraceOf}

@@ -1,7 +1,7 @@
 use Rattle.std.proofs.Common.{rules}
 use Rattle.std.proofs.Common.{◌∙◌}
 use Rattle.std.proofs.lemmas.Result.{err_from_is_err_and}
-use Rattle.aig_text.specs.Lines.{lines_of}
+use Rattle.aig_rows.specs.Lines.{lines_of}
 use Rattle.aig_binary.proofs.Grammar.Accepted.{read_is_ordered, read_is_well_formed, reading_is_accepted}
 use Rattle.aig_binary.proofs.Grammar.Faults.{line_fault, memory_only, one_circuit}
 use Rattle.aig_binary.proofs.reader.read_binary.Goals as goal

@@ -1,7 +1,7 @@
 use Rattle.std.proofs.Common.{rules}
 use Rattle.std.proofs.Common.{sym}
 use Rattle.std.proofs.lemmas.Result.{err_from_is_err_and}
-use Rattle.aig_text.specs.Lines.{lines_of}
+use Rattle.aig_rows.specs.Lines.{lines_of}
 use Rattle.aig_binary.proofs.Stages.{no_header, not_filled, no_sections, no_gates, then_tail}
 use Rattle.aig_binary.proofs.reader.read_circuit.Goals as goal
 

@@ -1,8 +1,8 @@
 use Rattle.std.proofs.Common.{rules}
 use Rattle.std.proofs.Common.{◌+◌}
 use Rattle.aig_circuit.specs.Literal.{literal_of}
-use Rattle.aig_text.specs.Rows.{next_form}
-use Rattle.aig_text.specs.Reading.{rows_at}
+use Rattle.aig_rows.specs.Rows.{next_form}
+use Rattle.aig_rows.specs.Reading.{rows_at}
 use Rattle.aig_binary.proofs.Stages.{nexts_make_latches, found_count}
 use Rattle.aig_binary.proofs.reader.read_latches.Goals as goal
 

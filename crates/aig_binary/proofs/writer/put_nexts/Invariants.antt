@@ -3,7 +3,7 @@ use Rattle.std.specs.List.{flat_map}
 use Rattle.aig_io.specs.Output.{Put}
 use Rattle.aig_circuit.specs.declared.circuit.Latch.{Latch}
 use Rattle.aig_text.specs.AsciiText.{row_text}
-use Rattle.aig_text.specs.Rows.{next_row}
+use Rattle.aig_rows.specs.Rows.{next_row}
 use Rattle.aig_binary.proofs.writer.put_nexts.Given as goal
 
 abbrev pub invariant-loop-latch : goal.invariant-loop-latch

@@ -1,5 +1,5 @@
 use Rattle.std.proofs.Common.{◌≡◌, ap, refl, None, Result, Ok, Err}
-use Rattle.aig_text.specs.declared.fault.ReadFault.{ReadFault}
+use Rattle.aig_rows.specs.declared.fault.ReadFault.{ReadFault}
 use Rattle.aig_text.specs.Reading.{reading, fault_of}
 use Rattle.aig_text.proofs.Grammar.Text.{reading_is_accepted, accepted_is_read}
 use Rattle.aig_text.proofs.laws.faulty_or_accepted.Goals as goal

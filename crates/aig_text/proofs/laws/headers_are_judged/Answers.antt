@@ -1,12 +1,12 @@
 use Rattle.std.proofs.Common.{length, drop, min, Some, refl, arith}
 use Rattle.aig_circuit.specs.declared.circuit.TheConstants.{LARGEST}
-use Rattle.aig_text.specs.declared.fault.ReadKind.TheVariants as kinds
+use Rattle.aig_rows.specs.declared.fault.ReadKind.TheVariants as kinds
 use Rattle.aig_text.specs.declared.header_line.TheConstants.{HEADER_LEAST, HEADER_NUMBERS}
-use Rattle.aig_text.specs.Scanning.{more_numbers_at}
+use Rattle.aig_rows.specs.Scanning.{more_numbers_at}
 use Rattle.aig_text.specs.Reading.{header_within, header_of}
 use Rattle.aig_text.specs.Laws.{HoldsHeader}
-use Rattle.aig_text.proofs.Grammar.NumberLines.{header_reads, header_is_read}
-use Rattle.aig_text.proofs.Grammar.Judged.{by_scanner}
+use Rattle.aig_text.proofs.Grammar.HeaderLines.{header_reads, header_is_read}
+use Rattle.aig_rows.proofs.Grammar.Judged.{by_scanner}
 use Rattle.aig_text.proofs.laws.headers_are_judged.Goals as goal
 
 pub returns : goal.returns

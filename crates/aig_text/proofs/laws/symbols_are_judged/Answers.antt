@@ -1,10 +1,11 @@
 use Rattle.std.proofs.Common.{refl}
-use Rattle.aig_text.specs.declared.fault.ReadKind.TheVariants as kinds
+use Rattle.aig_rows.specs.declared.fault.ReadKind.TheVariants as kinds
 use Rattle.aig_text.specs.Scanning.{symbol_at}
 use Rattle.aig_text.specs.Tail.{IsSymbolLine}
-use Rattle.aig_text.specs.Reading.{checked_symbol, unless_wrong, fault_in_symbol}
+use Rattle.aig_text.specs.Reading.{checked_symbol, fault_in_symbol}
+use Rattle.aig_rows.specs.Reading.{unless_wrong}
 use Rattle.aig_text.proofs.Grammar.Symbols.{symbol_reads, symbol_is_read}
-use Rattle.aig_text.proofs.Grammar.Judged.{by_scanner}
+use Rattle.aig_rows.proofs.Grammar.Judged.{by_scanner}
 use Rattle.aig_text.proofs.laws.symbols_are_judged.Goals as goal
 
 pub returns : goal.returns

@@ -1,6 +1,6 @@
 use Rattle.std.proofs.Common.{◌∙◌, sym}
-use Rattle.aig_text.specs.declared.fault.ReadFault.{ReadFault}
-use Rattle.aig_text.proofs.Steps.{ok_same}
+use Rattle.aig_rows.specs.declared.fault.ReadFault.{ReadFault}
+use Rattle.aig_rows.proofs.Steps.{ok_same}
 use Rattle.aig_text.proofs.Grammar.Text.{accepted_is_read}
 use Rattle.aig_text.proofs.laws.texts_are_unambiguous.Goals as goal
 

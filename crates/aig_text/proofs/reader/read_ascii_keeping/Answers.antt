@@ -1,8 +1,9 @@
+use Rattle.std.proofs.Common.{rules}
 use Rattle.std.proofs.Common.{◌∙◌}
 use Rattle.std.proofs.lemmas.Result.{err_from_is_err_and}
-use Rattle.aig_text.specs.Lines.{lines_of}
+use Rattle.aig_rows.specs.Lines.{lines_of}
 use Rattle.aig_text.proofs.Grammar.Text.{circuit_in_form, reading_is_accepted}
-use Rattle.aig_text.proofs.Loops.Cutting.{pieces}
+use Rattle.aig_rows.proofs.Loops.Cutting.{pieces}
 use Rattle.aig_text.proofs.Grammar.Faults.{sound, line_fault, structural_fault, memory_only, one_circuit}
 use Rattle.aig_text.proofs.reader.read_ascii_keeping.Goals as goal
 
@@ -26,12 +27,7 @@ check_keeping-requires c =
     }
 
 pub returns-in-Ok-clause-ok : goal.returns-in-Ok-clause-ok
-returns-in-Ok-clause-ok c =
-    rw c.in-Ok.ensures.ok (
-    reading_is_accepted c.args.limits.max_var c.args.bytes.now c.in_ok-circuit.circuit
-    (sound c.args.limits.max_var c.args.bytes.now c.in_ok-circuit.circuit c.in_ok-circuit.ensures
-    c.in-Ok.ensures.ok_faultless)
-    )
+returns-in-Ok-clause-ok c = search (rules, reading_is_accepted, sound)
 
 pub returns-in-Ok-clause-only : goal.returns-in-Ok-clause-only
 returns-in-Ok-clause-only c = λ net is.
@@ -49,7 +45,4 @@ returns-in-Err-clause-only c = λ net is.
     )
 
 pub returns-in-Err-clause-fault : goal.returns-in-Err-clause-fault
-returns-in-Err-clause-fault c =
-    rw c.kind_of_fault.ensures
-    (structural_fault c.args.limits.max_var c.args.bytes.now c.in_ok-circuit.circuit c.in-Err.refused.1
-    c.in_ok-circuit.ensures c.in-Err.ensures.fault)
+returns-in-Err-clause-fault c = search (rules, structural_fault)

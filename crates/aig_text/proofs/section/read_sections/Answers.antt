@@ -1,6 +1,6 @@
 use Rattle.std.proofs.Common.{◌∙◌}
-use Rattle.aig_text.specs.Rows.{in_ascii}
-use Rattle.aig_text.proofs.Loops.Rows.{sections_more, sections_wrong, sections_done}
+use Rattle.aig_text.specs.Sections.{in_ascii}
+use Rattle.aig_text.proofs.Loops.Sections.{sections_more, sections_wrong, sections_done}
 use Rattle.aig_text.proofs.section.read_sections.Goals as goal
 
 pub returns-in-Err : goal.returns-in-Err

@@ -1,6 +1,6 @@
 use Rattle.std.proofs.Common.{◌≡◌, ◌≤◌, drop}
 use Rattle.std.specs.List.{sum}
-use Rattle.aig_text.specs.Rows.{sections, in_ascii}
+use Rattle.aig_text.specs.Sections.{sections, in_ascii}
 use Rattle.aig_text.specs.Reading.{sections_at}
 use Rattle.aig_text.proofs.section.read_sections.Given as goal
 

@@ -1,6 +1,6 @@
 use Rattle.std.proofs.Common.{ap, ◌∙◌}
 use Rattle.std.specs.List.{sum}
-use Rattle.aig_text.proofs.Loops.Rows.{sizes_read}
+use Rattle.aig_rows.proofs.Loops.Rows.{sizes_read}
 use Rattle.aig_text.proofs.section.read_sizes.Goals as goal
 
 pub returns-clause-sizes : goal.returns-clause-sizes

@@ -1,18 +1,12 @@
-use Rattle.std.proofs.Common.{◌∙◌, sym, arith}
+use Rattle.std.proofs.Common.{rules}
+use Rattle.std.proofs.Common.{◌∙◌, sym}
 use Rattle.std.proofs.lemmas.Result.{err_from_is_err_and}
-use Rattle.aig_text.specs.Lines.{line}
+use Rattle.aig_rows.specs.Lines.{line}
 use Rattle.aig_text.proofs.Loops.Tail.{no_tail, comment_tail, wrong_symbol, one_symbol, done_or_memory}
 use Rattle.aig_text.proofs.tail_lines.read_tail_lines.Goals as goal
 
 pub returns-then-is_comment_line : goal.returns-then-is_comment_line
-returns-then-is_comment_line c =
-    let at = c.loop-line in
-    let first = line c.in-Some.line.text.now c.in-Some.line.ended in
-    done_or_memory c.put_comment.result _ _ _
-    (sym at.invariant.0
-    ∙ comment_tail c.args.header.now at.names at.circuit at.number at.rest.now c.in-Some.after.now first
-    c.in-Some.ensures.lines (sym c.is_comment_line.ensures ∙ c.if-is_comment_line.true))
-    c.put_comment.ensures.ok c.put_comment.ensures.err
+returns-then-is_comment_line c = search (rules, done_or_memory, comment_tail)
 
 pub returns-in_err-symbol : goal.returns-in_err-symbol
 returns-in_err-symbol c =
@@ -26,16 +20,7 @@ returns-in_err-symbol c =
     )
 
 pub loop-line-preserved : goal.loop-line-preserved
-loop-line-preserved c =
-    let at = c.loop-line in
-    let first = line c.in-Some.line.text.now c.in-Some.line.ended in (
-      rw (c.in_ok-symbol.ensures.named, c.in_ok-put_symbol.ensures.ok) (
-          one_symbol c.args.header.now at.names at.circuit at.number at.rest.now c.in-Some.after.now first
-          c.in_ok-symbol.symbol c.in-Some.ensures.lines (sym c.is_comment_line.ensures ∙ c.if-is_comment_line.false)
-          c.in_ok-symbol.ensures.symbol
-          ∙ at.invariant.0),
-      omega (arith, at.invariant.1, c.in-Some.ensures.shorter),
-    )
+loop-line-preserved c = search (rules, one_symbol)
 
 pub returns : goal.returns
 returns c = sym c.loop-line.invariant.0 ∙ no_tail _ _ _ _ c.loop-line.rest.now c.in_default.ensures.lines

@@ -2,7 +2,7 @@ use Rattle.std.proofs.Common.{◌+◌, ◌∙◌, ap, sym}
 use Rattle.aig_unroll.specs.Unrolled.{bad_at}
 use Rattle.aig_unroll.specs.Parts.Frames.{Frame}
 use Rattle.aig_text.specs.AsciiText.{numbers_text}
-use Rattle.aig_text.specs.Rows.{literal_row}
+use Rattle.aig_rows.specs.Rows.{literal_row}
 use Rattle.aig_unroll.proofs.Written.{frame_more}
 use Rattle.aig_unroll.proofs.writing.put_bad_lines.Goals as goal
 

@@ -3,7 +3,7 @@ use Rattle.aig_unroll.specs.Unrolled.{gates_at}
 use Rattle.aig_unroll.specs.Parts.Frames.{Frame}
 use Rattle.aig_circuit.specs.declared.circuit.Gate.{Gate}
 use Rattle.aig_text.specs.AsciiText.{numbers_text}
-use Rattle.aig_text.specs.Rows.{gate_row}
+use Rattle.aig_rows.specs.Rows.{gate_row}
 use Rattle.aig_unroll.proofs.Written.{frame_more}
 use Rattle.aig_unroll.proofs.writing.put_gate_lines.Goals as goal
 

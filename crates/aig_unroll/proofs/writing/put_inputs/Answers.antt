@@ -1,5 +1,5 @@
 use Rattle.aig_text.specs.AsciiText.{numbers_text}
-use Rattle.aig_text.specs.Rows.{input_row}
+use Rattle.aig_rows.specs.Rows.{input_row}
 use Rattle.aig_unroll.proofs.Written.{variable_more}
 use Rattle.aig_unroll.proofs.writing.put_inputs.Goals as goal
 

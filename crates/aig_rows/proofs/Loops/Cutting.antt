@@ -1,0 +1,59 @@
+-- Where a text is cut into lines: where memchr finds the first line feed, the first line ends.
+use Rattle.std.proofs.Common.{rules}
+use Rattle.std.proofs.lemmas.Bool.{false_from_ne_true}
+use Rattle.std.proofs.Common.{◌≡◌, ◌≢◌, ◌<◌, ℕ, zero, suc, List, [], ◌∷◌, true, false, take, drop, length}
+use Rattle.std.proofs.Common.{get_or, Some, None, refl, ap, arith, eqb}
+use Rattle.memchr.specs.Find.{IsFirstByte, is_byte}
+use Rattle.std.proofs.lemmas.Bool.Decides.{eqb_tells}
+use Rattle.aig_rows.specs.Lines.{Line, line, lines_of, begun_by}
+use Rattle.aig_rows.specs.Laws.{AreLines}
+
+cut : (bs : List ℕ) (at : ℕ) → at < length bs → ((k : ℕ) → k < at → eqb (get_or bs k 0) 10 ≡ false)
+    → eqb (get_or bs at 0) 10 ≡ true
+    → lines_of bs ≡ line (take at bs) true ∷ lines_of (drop 1 (drop at bs))
+unfolding lines_of
+cut [] at l before here = absurd (omega arith)
+cut (b ∷ bs) zero l before here = rw here refl
+cut (b ∷ bs) (suc n) l before here =
+    let first : eqb b 10 ≡ false = before 0 (omega arith) in
+    rw (first, cut bs n (omega arith) (λ k m. before (suc k) (omega arith)) here) refl
+
+uncut : (b : ℕ) (bs : List ℕ) → ((k : ℕ) → k < length (b ∷ bs) → eqb (get_or (b ∷ bs) k 0) 10 ≡ false)
+    → lines_of (b ∷ bs) ≡ line (b ∷ bs) false ∷ []
+unfolding lines_of
+uncut b [] free = let first : eqb b 10 ≡ false = free 0 (omega arith) in rw first refl
+uncut b (c ∷ bs) free =
+    let first : eqb b 10 ≡ false = free 0 (omega arith) in
+    rw first (ap (begun_by b) (uncut c bs (λ k m. free (suc k) (omega arith))))
+
+pub line_some : (bs : List ℕ) (at : ℕ) → IsFirstByte (is_byte 10) bs (Some at)
+    → lines_of bs ≡ line (take at bs) true ∷ lines_of (drop 1 (drop at bs))
+line_some bs at h = cut bs at (omega (arith, h.0.high)) (λ k l. false_from_ne_true _ (h.0.before k (omega arith) l)) h.1
+
+pub line_none : (bs : List ℕ) → 0 < length bs → IsFirstByte (is_byte 10) bs None
+    → lines_of bs ≡ line bs false ∷ lines_of []
+unfolding lines_of
+line_none [] l h = absurd (omega arith)
+line_none (b ∷ bs) l h = uncut b bs (λ k m. false_from_ne_true _ (h k (omega arith) m))
+
+pub no_lines : (bs : List ℕ) → length bs ≡ 0 → lines_of bs ≡ []
+unfolding lines_of
+no_lines [] h = refl
+no_lines (b ∷ bs) h = absurd (omega arith)
+
+-- the pieces of a text
+begun : (b : ℕ) (bs : List ℕ) (ls : List Line) → b ≢ 10 → AreLines bs ls → AreLines (b ∷ bs) (begun_by b ls)
+begun b bs [] h a = record { joined = ap (λ (t : List ℕ). b ∷ t) a.joined; one_each = ((h, tt), tt); ended = λ _ e. cc }
+begun b bs (l ∷ []) h a = search rules
+begun b bs (l ∷ m ∷ ls) h a = search rules
+
+ended_line : (bs : List ℕ) (ls : List Line) → AreLines bs ls → AreLines (10 ∷ bs) (line [] true ∷ ls)
+ended_line bs [] a =
+    record { joined = ap (λ (t : List ℕ). 10 ∷ t) a.joined; one_each = (tt, a.one_each); ended = λ e. cc }
+ended_line bs (l ∷ ls) a =
+    record { joined = ap (λ (t : List ℕ). 10 ∷ t) a.joined; one_each = (tt, a.one_each); ended = (refl, a.ended) }
+
+pub pieces : (text : List ℕ) → AreLines text (lines_of text)
+unfolding lines_of
+pieces [] = record { joined = refl; one_each = tt; ended = tt }
+pieces (b ∷ bs) = search (rules, ended_line, begun, eqb_tells, pieces bs)

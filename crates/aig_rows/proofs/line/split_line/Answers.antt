@@ -1,0 +1,17 @@
+use Rattle.aig_rows.proofs.Loops.Cutting.{line_some, line_none, no_lines}
+use Rattle.std.proofs.Common.{◌≢◌, length, arith, sym, ◌∙◌}
+use Rattle.std.proofs.lemmas.Bool.{eqb-true, eqb-false}
+use Rattle.aig_rows.proofs.line.split_line.Goals as goal
+
+pub returns-then-is_empty-clause-lines : goal.returns-then-is_empty-clause-lines
+returns-then-is_empty-clause-lines c = no_lines _ (eqb-true _ _ (sym c.is_empty.ensures ∙ c.if-is_empty.true))
+
+pub returns-in-Some-clause-lines : goal.returns-in-Some-clause-lines
+returns-in-Some-clause-lines c =
+    rw (c.split_at-in-Some.ensures.back, c.split_at.ensures.back, c.split_at.ensures.front)
+    (line_some _ _ c.in-Some.ensures)
+
+pub returns-in-None-clause-lines : goal.returns-in-None-clause-lines
+returns-in-None-clause-lines c =
+    let some : length c.args.bytes.now ≢ 0 = eqb-false _ _ (sym c.is_empty.ensures ∙ c.if-is_empty.false) in
+    line_none _ (omega arith) c.in-None.ensures

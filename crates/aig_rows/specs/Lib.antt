@@ -1,0 +1,11 @@
+pub mod Lines
+pub mod Spelling
+pub mod Rows
+pub mod Scanning
+pub mod CanonicalNumber
+pub mod Reading
+pub mod Outcomes
+pub mod Kept
+pub mod Messages
+pub mod Laws
+pub mod Parts

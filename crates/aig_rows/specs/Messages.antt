@@ -1,0 +1,44 @@
+-- The words in which a fault is reported (this project's profile).
+use Rattle.std.specs.Prelude.{◌++◌, ℕ, List, [], Option, None, Some, codes, decimal}
+use Rattle.aig_rows.specs.declared.message.Message.{Message}
+use Rattle.aig_rows.specs.declared.fault.Place.{Place}
+use Rattle.aig_rows.specs.declared.fault.Place.TheVariants.{Line, Gate, Whole}
+use Rattle.aig_rows.specs.declared.fault.ReadKind.{ReadKind}
+use Rattle.aig_rows.specs.declared.fault.ReadKind.TheVariants as kinds
+use Rattle.aig_rows.specs.declared.fault.ReadFault.{ReadFault}
+
+-- the digits of a number, where there is one
+abbrev pub number_text : Option ℕ → List ℕ
+number_text None = []
+number_text (Some n) = decimal n
+
+abbrev pub message_text : Message → List ℕ
+message_text m = m.before.now ++ (number_text m.number ++ m.after.now)
+
+-- where a text is wrong
+abbrev pub place_text : Place → List ℕ
+place_text (Line n) = codes "line " ++ (decimal n ++ codes ": ")
+place_text (Gate n) = codes "gate " ++ (decimal n ++ codes ": ")
+place_text Whole = []
+
+-- what is wrong there
+abbrev pub kind_text : ReadKind → List ℕ
+kind_text kinds.NotAiger = codes "not an AIGER file"
+kind_text kinds.BadHeader = codes "bad header"
+kind_text kinds.TooLarge = codes "number above the limit"
+kind_text kinds.BadLine = codes "bad line"
+kind_text kinds.NotVariable = codes "not a variable"
+kind_text kinds.LiteralRange = codes "literal out of range"
+kind_text kinds.BadReset = codes "bad reset"
+kind_text kinds.Truncated = codes "file ends too early"
+kind_text kinds.BadDelta = codes "bad delta"
+kind_text kinds.BadSymbol = codes "bad symbol line"
+kind_text kinds.SymbolRange = codes "symbol position out of range"
+kind_text kinds.SymbolTwice = codes "symbol given twice"
+kind_text (kinds.Redefined variable) = codes "variable " ++ (decimal variable ++ codes " defined twice")
+kind_text (kinds.Undefined literal) = codes "literal " ++ (decimal literal ++ codes " not defined")
+kind_text (kinds.Cyclic literal) = codes "gate " ++ (decimal literal ++ codes " depends on a cycle")
+kind_text kinds.OutOfMemory = codes "out of memory"
+
+abbrev pub fault_text : ReadFault → List ℕ
+fault_text fault = place_text fault.place ++ kind_text fault.kind

@@ -1,0 +1,46 @@
+-- How what a function of the reader returned is compared with what is read: seen by a view, and unless memory was
+-- refused.
+use Rattle.std.specs.Prelude.{◌≡◌, ◌+◌, ◌*◌, ◌≤◌, ◌++◌, ◌⊎◌, ℕ, List, map, slice_index, Option, None, Some, Result, Ok}
+use Rattle.std.specs.Prelude.{Err, get_or, ⊤}
+use Rattle.aig_rows.specs.declared.row.Role.TheVariants as roles
+use Rattle.aig_rows.specs.Rows.{Role, Form}
+use Rattle.aig_rows.specs.declared.fault.ReadFault.{ReadFault}
+use Rattle.aig_rows.specs.Reading.{want_of_memory, Found}
+
+-- What a function returned, seen by view, is what reading gives.
+abbrev pub Gives : {X Y : Type 0} → (X → Y) → Option X → Option Y → Type 0
+Gives view None read = read ≡ None
+Gives view (Some x) read = read ≡ Some (view x)
+
+-- The same, where reading may fail.
+abbrev pub GivesOrFails : {X Y E : Type 0} → (X → Y) → Result X E → Result Y E → Type 0
+GivesOrFails view (Ok x) read = read ≡ Ok (view x)
+GivesOrFails view (Err e) read = read ≡ Err e
+
+-- The same, unless memory was refused.
+abbrev pub GivesOrMemory : {X Y : Type 0} → (X → Y) → Result X ReadFault → Result Y ReadFault → Type 0
+GivesOrMemory view (Ok x) read = read ≡ Ok (view x)
+GivesOrMemory view (Err e) read = (e ≡ want_of_memory) ⊎ (read ≡ Err e)
+
+-- what the next row means, and what is ahead behind it
+abbrev pub row_meant : {A : Type 0} → (List ℕ → A) → Found (List ℕ) → Found A
+row_meant tell (Ok x) = Ok (tell x.0, x.1)
+row_meant tell (Err e) = Err e
+
+-- what rows mean behind what was found before, and what is ahead behind them
+abbrev pub rows_meant : {A : Type 0} → (List ℕ → A) → List A → Found (List (List ℕ)) → Found (List A)
+rows_meant tell found (Ok x) = Ok (found ++ map tell x.0, x.1)
+rows_meant tell found (Err e) = Err e
+
+-- a number is not above the largest literal, unless it is a reset
+abbrev pub IsBounded : ℕ → Role → ℕ → Type 0
+IsBounded bound roles.Definition n = n ≤ 2 * bound + 1
+IsBounded bound roles.Literal n = n ≤ 2 * bound + 1
+IsBounded bound roles.Reset n = ⊤
+IsBounded bound roles.Size n = n ≤ 2 * bound + 1
+
+-- no number of a row is above the largest literal, unless it is a reset, also where a number is left out
+abbrev pub AreBounded : Form → ℕ → ℕ → List ℕ → Type 0
+AreBounded form bound first others =
+    IsBounded bound form.first first
+    × ((k : ℕ) → IsBounded bound (get_or form.others k roles.Reset) (slice_index others k))

@@ -1,0 +1,92 @@
+//! Rows one after another.
+ghost use Rattle.std.specs.Prelude.{◌≡◌, ◌^◌, ◌≤◌, ◌∷◌, [], IfOk, OnErr};
+ghost use Rattle.aig_circuit.specs.declared.circuit.TheConstants.{LARGEST as largest_index};
+ghost use Rattle.aig_rows.specs.Rows.{next_form, next_of};
+ghost use Rattle.aig_rows.specs.Outcomes.{AreBounded, GivesOrFails, GivesOrMemory, rows_meant};
+ghost use Rattle.aig_rows.specs.Reading.{row_at, rows_at};
+
+use crate::fault::ReadFault;
+use crate::line::Cursor;
+use crate::row::{FromRow, NextState, RowForm, next_row};
+use aig_circuit::Listing;
+use std::alloc::Global;
+
+/// The numbers of the row of this form that the next line holds. Goes behind that line, unless it is not right.
+pub fn numbers<const N: usize>(
+    form: RowForm<N>,
+    at: &mut Cursor,
+    bound: u32,
+    carried: u64,
+) -> Result<(u64, [u64; N]), ReadFault>
+    requires bound { bound ≤ largest_index }
+    requires carried { carried ≤ 2 ^ 35 }
+    ensures row { GivesOrFails (λ x. (x.0 ∷ x.1, at.new)) result (row_at form.entry bound carried at.old) }
+    ensures bounded { IfOk result (λ x. AreBounded form.entry bound x.0 x.1) }
+    ensures err { OnErr result (at.new ≡ at.old) }
+{
+    next_row::<N>(form, at, bound, carried)
+}
+
+/// Adds the entries of the next `count` lines, which are judged beside `bound` and what is carried to the first, and
+/// moves behind them.
+#[inline(never)]
+pub fn read_rows<T: FromRow>(
+    found: &mut Listing<T>,
+    count: u32,
+    bound: u32,
+    start: u64,
+    at: &mut Cursor,
+) -> Result<(), ReadFault>
+    requires bound { bound ≤ largest_index }
+    requires start { start ≤ 2 ^ 33 }
+    ensures rows { GivesOrMemory (λ _. (found.new, at.new)) result
+        (rows_meant T.meant_by found.old (rows_at T.form bound start count at.old)) }
+    ensures err { OnErr result (at.new ≡ at.old) }
+{
+    // Out of the cursor, so that both can stay in registers; only where a row is read slowly, one is lent.
+    let mut rest = at.rest;
+    let mut number = at.number;
+    let mut carried = start;
+    for _ in 0..count {
+        let row = match T::read_short(rest, bound, carried) {
+            Some(found) => {
+                rest = found.1;
+                number += 1;
+                found.0
+            }
+            None => {
+                let mut from = Cursor { rest, number };
+                let row = T::read_row(&mut from, bound, carried)?;
+                rest = from.rest;
+                number = from.number;
+                row
+            }
+        };
+        carried = row.carry(carried);
+        found.push(row)?;
+    }
+    *at = Cursor { rest, number };
+    Ok(())
+}
+
+/// What so many latches become and start at, as a binary file lists them, one on each line; the first latch has this
+/// literal. Goes behind these lines, unless one is not right.
+pub fn next_states(
+    alloc: Global,
+    count: u32,
+    own: u64,
+    at: &mut Cursor,
+    max_var: u32,
+) -> Result<Listing<NextState>, ReadFault>
+    requires max_var { max_var ≤ largest_index }
+    requires own { own ≤ 2 ^ 33 }
+    ensures states { GivesOrMemory (λ found. (found, at.new)) result
+        (rows_meant next_of [] (rows_at next_form max_var own count at.old)) }
+    ensures err { OnErr result (at.new ≡ at.old) }
+{
+    let mut found = Listing::new(alloc);
+    match read_rows::<NextState>(&mut found, count, max_var, own, at) {
+        Ok(()) => Ok(found),
+        Err(fault) => Err(fault),
+    }
+}

@@ -1,5 +1,0 @@
-use Rattle.core.proofs.slice.Flagged.{flags_from_ten}
-use Rattle.aig_text.proofs.word.flags_from_ten.Goals as goal
-
-pub returns : goal.returns
-returns c = flags_from_ten c.args.word
