@@ -1,4 +1,5 @@
-use Rattle.std.proofs.Common.{◌≡◌, ◌∙◌, ◌<◌, ap, sym, subst, length, get_or, arith, false}
+use Rattle.std.proofs.Common.{rules}
+use Rattle.std.proofs.Common.{◌≡◌, ◌∙◌, ◌<◌, sym, subst, length, get_or, arith, false}
 use Rattle.std.proofs.lemmas.List.{get_or_default}
 use Rattle.aig_topo.specs.Cycle.{needs_in, comes_to_end}
 use Rattle.aig_topo.proofs.Ordering.DepthFirst.{few, last_met, met_below, trapped}
@@ -13,26 +14,10 @@ open_operand-requires-clause-there c =
     before c.in-Some.gate c.in-Some.ensures.some)
 
 pub loop-gate-smaller-in_default-open_operand : goal.loop-gate-smaller-in_default-open_operand
-loop-gate-smaller-in_default-open_operand c =
-    omega (
-      arith,
-      few c.leave.new.self.states.items c.leave.ensures.search.searching.small,
-      c.leave.ensures.by_one,
-      c.leave.ensures.search.searching.as_many,
-      c.loop-gate.invariant.search.searching.as_many,
-      ap length c.leave.ensures.operands,
-    )
+loop-gate-smaller-in_default-open_operand c = search (rules, few)
 
 pub loop-gate-smaller : goal.loop-gate-smaller
-loop-gate-smaller c =
-    omega (
-      arith,
-      few c.enter-in-Some.new.self.states.items c.in_ok-enter-2.ensures.search.searching.small,
-      c.in_ok-enter-2.ensures.by_one,
-      c.in_ok-enter-2.ensures.search.searching.as_many,
-      c.loop-gate.invariant.search.searching.as_many,
-      ap length c.in_ok-enter-2.ensures.operands,
-    )
+loop-gate-smaller c = search (rules, few)
 
 pub returns-then-index-eq-MET-clause-cyclic : goal.returns-then-index-eq-MET-clause-cyclic
 returns-then-index-eq-MET-clause-cyclic c = λ _ n.

@@ -20,11 +20,4 @@ returns-clause-search c =
     }
 
 pub returns-clause-by_one : goal.returns-clause-by_one
-returns-clause-by_one c =
-    let pairs = c.args.self.now.operands.items in
-    let states = c.args.self.now.states.items in
-    let way = c.args.self.now.way.items in
-    let before = c.requires.search.searching in
-    let there : c.args.gate < length pairs = met_below (length pairs) (needs_in pairs) states way before c.args.gate
-    (last_met (length pairs) (needs_in pairs) states way before c.args.gate c.requires.at_end) in
-    one_step_out (length pairs) (needs_in pairs) states way before c.args.gate there c.requires.at_end c.requires.served
+returns-clause-by_one c = search (rules, met_below, last_met, one_step_out)

@@ -1,3 +1,4 @@
+use Rattle.std.proofs.Common.{rules}
 use Rattle.std.proofs.Common.{◌≡◌, ◌≤◌, ◌∙◌, ◌+◌, ◌++◌, ◌∷◌, [], ℕ, List, Some, None, sym, ap, subst, arith}
 use Rattle.std.proofs.Common.{length, inl, refl, false}
 use Rattle.std.proofs.lemmas.List.{length-append}
@@ -43,37 +44,17 @@ loop-next-init g c =
 
 -- there are as many gates as at first
 pub place-requires-clause-there : goal.place-requires-clause-there
-place-requires-clause-there g c =
-    omega (
-      arith,
-      (c.loop-next.invariant.waits.waits.ready c.in-Some.next c.in-Some.ensures.first).0,
-      c.requires.1.1.0,
-      c.loop-next.invariant.room.placed,
-      c.loop-next.invariant.size,
-    )
+place-requires-clause-there g c = search rules
 
 pub place-requires-clause-left : goal.place-requires-clause-left
 place-requires-clause-left g c =
     (c.loop-next.invariant.waits.waits.ready c.in-Some.next c.in-Some.ensures.first).1
 
 pub serve-requires-clause-room : goal.serve-requires-clause-room
-serve-requires-clause-room g c =
-    let r = c.loop-next.invariant.room in record {
-      few = r.few;
-      there = r.there;
-      placed = ap (λ (p : Placement). p.room) c.place.ensures ∙ r.placed;
-      ready = omega (arith, r.ready, c.in-Some.ensures.room);
-      lists = r.lists;
-    }
+serve-requires-clause-room g c = search rules
 
 pub serve-requires-clause-there : goal.serve-requires-clause-there
-serve-requires-clause-there g c =
-    omega (
-      arith,
-      (c.loop-next.invariant.waits.waits.ready c.in-Some.next c.in-Some.ensures.first).0,
-      c.requires.1.1.0,
-      c.loop-next.invariant.size,
-    )
+serve-requires-clause-there g c = search rules
 
 pub serve-requires-clause-placed : goal.serve-requires-clause-placed
 serve-requires-clause-placed g c =

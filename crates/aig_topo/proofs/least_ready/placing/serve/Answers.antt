@@ -1,9 +1,9 @@
-use Rattle.std.proofs.Common.{◌≡◌, ◌≢◌, ◌<◌, ◌∙◌, [], ◌∷◌, ℕ, List, Some, None, sym, ap, inl, subst, arith, length}
-use Rattle.std.specs.List.{AllByRecursion}
+use Rattle.std.proofs.Common.{rules}
+use Rattle.std.proofs.Common.{◌≡◌, ◌≢◌, ◌∙◌, [], ◌∷◌, ℕ, List, Some, sym, ap, inl, subst, length}
 use Rattle.aig_topo.specs.declared.least_ready.lists.Row.{Row}
 use Rattle.aig_circuit.specs.Wellformed.{IsAmong}
 use Rattle.aig_topo.specs.Lists.{links_in, list_in}
-use Rattle.aig_topo.specs.Placing.{linked, rest_by, IsRoomy, AreApart, AreThere, RowsWait}
+use Rattle.aig_topo.specs.Placing.{linked, rest_by, IsRoomy, AreApart}
 use Rattle.aig_topo.specs.Placing.{Suffices}
 use Rattle.aig_topo.specs.Ready.{has, room}
 use Rattle.aig_topo.proofs.Ordering.Placing.{apart_too, gone}
@@ -22,16 +22,7 @@ enter-requires-clause-asked c =
     rw long (rw is (rest_there rows c.loop-user.invariant.room.there c.in-Some.user))
 
 pub enter-requires-clause-room : goal.enter-requires-clause-room
-enter-requires-clause-room c =
-    let r = c.loop-user.invariant.room in
-    let long : length c.pop.new.self.rows.items ≡ length c.loop-user.lists.rows.items =
-    as_many c.loop-user.lists.rows.items c.pop.new.self.rows.items c.pop.ensures.needs in record {
-      few = omega (arith, r.few, long);
-      there = subst AreThere (sym c.pop.ensures.needs) r.there;
-      placed = omega (arith, r.placed, long);
-      ready = omega (arith, r.ready, long);
-      lists = c.pop.ensures.lists;
-    }
+enter-requires-clause-room c = search (rules, as_many)
 
 pub enter-requires-clause-apart : goal.enter-requires-clause-apart
 enter-requires-clause-apart c =
@@ -40,24 +31,10 @@ enter-requires-clause-apart c =
     c.in-Some.ensures.first c.pop.ensures.others c.loop-user.invariant.apart
 
 pub enter-requires-clause-there : goal.enter-requires-clause-there
-enter-requires-clause-there c =
-    let rows : List Row = c.loop-user.lists.rows.items in
-    let below : AllByRecursion (λ g. g < length (links_in rows))
-    (c.in-Some.user ∷ list_in c.pop.new.self.rows.items c.args.gate) =
-    subst (AllByRecursion (λ g. g < length (links_in rows))) c.in-Some.ensures.first
-    (c.loop-user.invariant.room.lists.below c.args.gate) in
-    omega (
-      arith,
-      below.0,
-      as_many_links rows,
-      as_many rows c.pop.new.self.rows.items c.pop.ensures.needs,
-    )
+enter-requires-clause-there c = search (rules, as_many_links, as_many)
 
 pub enter-requires-clause-nowhere : goal.enter-requires-clause-nowhere
-enter-requires-clause-nowhere c =
-    gone (λ _. []) c.args.placed.now.list (links_in c.loop-user.lists.rows.items)
-    (links_in c.pop.new.self.rows.items) c.args.gate c.in-Some.user c.loop-user.invariant.room.lists
-    c.in-Some.ensures.first c.pop.ensures.others c.loop-user.invariant.apart
+enter-requires-clause-nowhere c = search (rules, gone)
 
 pub loop-user-preserved : goal.loop-user-preserved
 loop-user-preserved c =
@@ -90,12 +67,7 @@ loop-user-preserved c =
     }
 
 pub loop-user-smaller : goal.loop-user-smaller
-loop-user-smaller c =
-    omega (
-      arith,
-      ap length c.in-Some.ensures.first,
-      ap length (c.enter.ensures.of_placed c.args.gate c.requires.placed),
-    )
+loop-user-smaller c = search rules
 
 pub returns-clause-size : goal.returns-clause-size
 returns-clause-size c = ap length c.in_default.ensures.same ∙ c.loop-user.invariant.size
@@ -110,8 +82,4 @@ returns-clause-apart c =
     subst (λ rows. AreApart (links_in rows)) (sym c.in_default.ensures.same) c.loop-user.invariant.apart
 
 pub returns-clause-waits : goal.returns-clause-waits
-returns-clause-waits c = λ needs seen wait.
-    subst (λ rows. RowsWait needs rows c.args.placed.now.list (has c.loop-user.ready) seen None None)
-    (sym c.in_default.ensures.same)
-    (rows_served needs c.args.placed.now.list c.loop-user.lists.rows.items (has c.loop-user.ready) seen c.args.gate
-    c.in_default.ensures.none (c.loop-user.invariant.waits needs seen wait))
+returns-clause-waits c = search (rules, rows_served)

@@ -1,21 +1,10 @@
-use Rattle.std.proofs.Common.{arith, ◌/◌}
+use Rattle.std.proofs.Common.{rules}
 use Rattle.std.proofs.lemmas.List.{length-set}
 use Rattle.aig_topo.proofs.Ordering.Trees.{to_tell, what_to_tell, lowest_put}
 use Rattle.aig_topo.proofs.least_ready.ready.+tell.Goals as goal
 
 pub tell-requires : goal.tell-requires
-tell-requires t c = (
-  omega (arith, c.if-at-eq0.false),
-  (
-    omega (arith, c.requires.there, length-set c.args.words.now (c.args.bit / 64) c.with_bit-after.result),
-    (
-      to_tell c.args.words.now c.args.bit c.args.on c.with_bit-after.result c.requires.there c.with_bit-after.ensures
-          c.requires.told c.requires.below c.if-at-eq0.false,
-      λ l. what_to_tell c.args.words.now c.args.bit c.args.on c.with_bit-after.result c.requires.there
-          c.with_bit-after.ensures c.requires.told c.requires.below c.if-at-eq0.false,
-    ),
-  ),
-)
+tell-requires t c = search (rules, length-set, to_tell, what_to_tell)
 
 pub returns-clause-lowest : goal.returns-clause-lowest
 returns-clause-lowest t c =

@@ -1,3 +1,4 @@
+use Rattle.std.proofs.lemmas.Grind.{common_steps}
 use Rattle.std.proofs.Common.{arith, refl, ◌<◌, ◌≤◌, ◌≡◌, ◌+◌, ◌*◌, get_or, subst}
 use Rattle.std.proofs.Math.Facts.{Fits-lt-pow}
 use Rattle.std.specs.Int.{w64, trailing_zeros}
@@ -10,12 +11,7 @@ loop-init c = at_top c.args.words.now (first_bit c.args.levels) c.args.levels c.
     (λ i. Fits-lt-pow (c.type_inv.words i)) c.requires.some _ refl
 
 pub overflow_add-below : goal.overflow_add-below
-overflow_add-below c = omega (
-  arith,
-  c.requires.tree.few,
-  there_below c.args.words.now (first_bit c.args.levels) c.args.levels c.requires.tree
-      (λ i. Fits-lt-pow (c.type_inv.words i)) c.loop.counter c.loop.bit c.loop-test.true c.loop.invariant,
-)
+overflow_add-below c = grind (arith, common_steps, there_below)
 
 pub bounds-words-below : goal.bounds-words-below
 bounds-words-below c = there_below c.args.words.now (first_bit c.args.levels) c.args.levels c.requires.tree

@@ -1,4 +1,5 @@
-use Rattle.std.proofs.Common.{◌<◌, ◌∙◌, ◌++◌, ◌∷◌, [], ap, ap₂, length, take, sym, subst, arith}
+use Rattle.std.proofs.Common.{rules}
+use Rattle.std.proofs.Common.{◌<◌, length, take, sym, subst, arith}
 use Rattle.std.proofs.lemmas.List.{length-set}
 use Rattle.aig_circuit.specs.Wellformed.{IsAmong}
 use Rattle.aig_topo.specs.Placed.{Placement}
@@ -28,13 +29,4 @@ invariant_of-self c =
     c.self.invariant there new c.index_mut-2.result.now c.index_mut-2.ensures.value
 
 pub returns : goal.returns
-returns c =
-    let there : c.args.gate < length c.self.inside.positions.items =
-    subst (λ (p : Placement). c.args.gate < p.room) (sym c.self.view_is) c.requires.there in
-    let new : ¬ IsAmong c.args.gate (take c.self.inside.count c.self.inside.positions.items) =
-    subst (λ (p : Placement). ¬ IsAmong c.args.gate p.list) (sym c.self.view_is) c.requires.left in
-    ap₂ (λ list room. record { list = list; room = room })
-    (one_more c.self.inside.positions.items c.self.inside.marks.items c.self.inside.count c.args.gate
-    c.self.invariant there new)
-    (length-set c.self.inside.positions.items c.self.inside.count c.args.gate)
-    ∙ ap (λ (p : Placement). record { list = p.list ++ c.args.gate ∷ []; room = p.room }) c.self.view_is
+returns c = search (rules, one_more, length-set)

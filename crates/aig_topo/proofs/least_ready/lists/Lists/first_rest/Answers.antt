@@ -1,3 +1,4 @@
+use Rattle.std.proofs.Common.{rules}
 use Rattle.std.proofs.Common.{◌≡◌, ◌-◌, ◌<◌, ◌∙◌, ℕ, suc, List, ap, length, get_or, subst, arith}
 use Rattle.std.proofs.lemmas.List.{get_or_default}
 use Rattle.aig_topo.specs.declared.least_ready.lists.Row.{Row}
@@ -8,19 +9,10 @@ use Rattle.aig_topo.proofs.Ordering.Rows.{as_many_needs, read_needs, first_there
 use Rattle.aig_topo.proofs.least_ready.lists.Lists.first_rest.Goals as goal
 
 pub index-requires-2 : goal.index-requires-2
-index-requires-2 c =
-    omega (
-      arith,
-      first_there c.args.self.now.rows.items c.args.list c.index.result.now c.requires.there c.index.ensures
-          c.requires.lists (omega (arith, c.if-first-eq0.false)),
-      c.args.self.now.rows.ok.0,
-    )
+index-requires-2 c = search (rules, first_there)
 
 pub returns-then-first-eq0 : goal.returns-then-first-eq0
-returns-then-first-eq0 c = λ u us are.
-    let is = first_is c.args.self.now.rows.items c.args.list c.index.result.now c.requires.there c.index.ensures
-    c.requires.lists u us are in
-    absurd (omega (arith, is, c.if-first-eq0.true))
+returns-then-first-eq0 c = search (rules, first_is)
 
 pub returns : goal.returns
 returns c = λ u us are.

@@ -1,6 +1,7 @@
-use Rattle.std.proofs.Common.{◌≡◌, ◌∙◌, ◌+◌, ◌-◌, ◌*◌, ◌||◌, ap, sym, subst, arith, length, eqb, ◌<◌}
+use Rattle.std.proofs.Common.{rules}
+use Rattle.std.proofs.Common.{◌+◌, ◌-◌, ◌*◌, ap, sym, subst, arith, length, ◌<◌}
 use Rattle.std.proofs.Common.{true, List, ℕ, Some}
-use Rattle.aig_topo.specs.Ready.{Tree, IsReady, has, room, is_in_tree, is_least}
+use Rattle.aig_topo.specs.Ready.{Tree, IsReady, has, room}
 use Rattle.aig_topo.proofs.Ordering.Trees.{still_tree}
 use Rattle.aig_topo.proofs.Ordering.LeastApart.{written_back, same_ready, same_gates, gate_put, there_already, is_added}
 use Rattle.aig_topo.proofs.Ordering.LeastApart.{stays_ready}
@@ -8,21 +9,11 @@ use Rattle.aig_topo.proofs.least_ready.ready.Ready.insert.Goals as goal
 
 pub returns-in_default-clause-ready : goal.returns-in_default-clause-ready
 unfolding has
-returns-in_default-clause-ready c = λ g.
-    ap (λ o. eqb g c.args.gate || (is_least o g || is_in_tree c.self.inside.words.items c.self.inside.first g))
-    (sym c.in_default.is)
-    ∙ ap (λ (t : Tree). eqb g c.args.gate || has t g) c.self.view_is
+returns-in_default-clause-ready c = search rules
 
 pub returns-then-gate-least-clause-ready : goal.returns-then-gate-least-clause-ready
 unfolding has
-returns-then-gate-least-clause-ready c = λ g.
-    let now_is :
-    (eqb g c.args.gate || is_in_tree c.self.inside.words.items c.self.inside.first g) ≡ has c.args.self.now g =
-    ap (λ n. eqb g n || is_in_tree c.self.inside.words.items c.self.inside.first g) c.if-gate-least.true
-    ∙ ap (λ o. is_least o g || is_in_tree c.self.inside.words.items c.self.inside.first g) (sym c.in-Some.is)
-    ∙ ap (λ (t : Tree). has t g) c.self.view_is in
-    subst (λ b. b ≡ (eqb g c.args.gate || b)) now_is
-    (there_already (eqb g c.args.gate) (is_in_tree c.self.inside.words.items c.self.inside.first g))
+returns-then-gate-least-clause-ready c = search (rules, there_already)
 
 pub invariant_of-self-2 : goal.invariant_of-self-2
 invariant_of-self-2 c =
@@ -44,17 +35,4 @@ invariant_of-self-2 c =
 
 pub returns-clause-ready : goal.returns-clause-ready
 unfolding has
-returns-clause-ready c = λ g.
-    let words : List ℕ = c.deref_mut.result.now in
-    let new : List ℕ = c.tell.new.words in
-    let ready : IsReady (Some c.in-Some.least) words c.self.inside.first c.self.inside.levels =
-    same_ready c.in-Some.least _ words _ _ _ c.in-Some.is c.deref_mut.ensures.value c.self.invariant in
-    let now_is : (eqb g c.in-Some.least || is_in_tree words c.self.inside.first g) ≡ has c.args.self.now g =
-    same_gates c.in-Some.least _ words _ c.self.inside.first g c.in-Some.is c.deref_mut.ensures.value
-    ∙ ap (λ (t : Tree). has t g) c.self.view_is in
-    ap (λ ws. eqb g c.min.result || is_in_tree ws c.self.inside.first g) (written_back new c.self.inside.words.items
-    c.self.inside.words.len (omega (arith, c.deref_mut.ensures.len, c.tell.auto.words)))
-    ∙ is_added words new c.self.inside.first c.self.inside.levels c.in-Some.least c.args.gate c.min.result c.max.result
-    ready c.if-gate-least.false c.min.ensures c.max.ensures
-    (gate_put words new c.self.inside.first c.max.result ready.tree.within c.tell.ensures.lowest) g
-    ∙ ap (λ b. eqb g c.args.gate || b) now_is
+returns-clause-ready c = search (rules, same_ready, same_gates, written_back, is_added, gate_put)

@@ -1,10 +1,10 @@
+use Rattle.std.proofs.Common.{rules}
 use Rattle.std.proofs.Common.{◌≡◌, ◌∙◌, ◌*◌, ◌/◌, ◌+◌, ap, sym, arith, length, cond, eqb, get_or, None}
 use Rattle.std.specs.Prelude.{replicate}
 use Rattle.std.specs.List.{count_by}
 use Rattle.std.specs.Option.{option_to_list}
 use Rattle.std.proofs.lemmas.List.{length-replicate, take_all}
 use Rattle.aig_topo.specs.declared.operands.Operands.{Operands}
-use Rattle.aig_topo.specs.Operands.{operands_at}
 use Rattle.aig_topo.specs.Users.{uses}
 use Rattle.aig_topo.proofs.Ordering.Chains.{zeros, no_uses, left_is_there, right_is_there, one_gate_more}
 use Rattle.aig_topo.proofs.least_ready.users.Users.new.Goals as goal
@@ -53,7 +53,4 @@ loop-gate-preserved c =
     }
 
 pub returns-clause-uses : goal.returns-clause-uses
-returns-clause-uses c = λ g u.
-    c.loop-gate.invariant.uses g u
-    ∙ ap (λ os. count_by (λ h. eqb h g) (operands_at os u))
-    (take_all c.loop-gate.gate c.args.operands.now c.loop-gate-test.false)
+returns-clause-uses c = search (rules, take_all)
