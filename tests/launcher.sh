@@ -3,38 +3,65 @@
 
 tree=$work/tree
 out=$tree/crates/aiger/out
-mkdir -p "$tree"/crates/{low,aiger,beside}/{src,specs} "$tree/release"
+mkdir -p "$tree"/crates/{low,next,aiger,beside}/{src,specs} "$tree/release"
 cp "$top"/{aiger,prove} "$tree"
 cp "$top"/release/{state.sh,make,deb} "$tree/release"
-printf '# crates\naiger: low std\nbeside: low\nlow: thiserror\n' > "$tree/crates.txt"
-printf '// one\n' | tee "$tree"/crates/{low,aiger,beside}/src/lib.rt > "$tree/crates/low/specs/More.antt"
+printf '# crates\naiger: low next std\nbeside: low\nlow: thiserror\nnext:\n' > "$tree/crates.txt"
+printf '// one\n' | tee "$tree"/crates/{low,next,aiger,beside}/src/lib.rt > "$tree/crates/low/specs/More.antt"
+echo 'Handles allowed: none.' > "$tree/HANDLES"
+echo 'aag 0 0 0 0 0' > "$tree/crates/aiger/stdin"
+# each copy of the sources that prove makes lies here, while it proves
+export TMPDIR=$work/copies
+mkdir "$TMPDIR"
 
-# The files slow and broken name a crate. The first is held up by the file held, in a process of its own.
+# The files slow, broken and kept name crates. The first is held up by the file held, in a process of its own, so that it is
+# proved after what it can be proved beside. The file stray says what else goes wrong.
 cat > "$work/rt" << 'RT'
 #!/usr/bin/env bash
 here=$(dirname "$0")
-name=${PWD##*/}
 [ "$1" != version ] || { echo 'a kit'; exit; }
-is_named() { [ "$(cat "$here/$1" 2> /dev/null)" = "$name" ]; }
+is_named() { grep -qx "$name" "$here/$1" 2> /dev/null; }
+stray=$(cat "$here/stray" 2> /dev/null)
 echo "$*" >> "$here/calls"
-echo "rt: chose --jobs 4 for $name"
-echo 'so far: 0 of 2 functions checked; the verdict comes last'
-if is_named slow; then
-    ( echo "$BASHPID" > "$here/pid"; while [ -e "$here/held" ]; do sleep 0.02; done )
+find . -type f | LC_ALL=C sort > "$here/copied"
+cp crates.txt "$here/lines"
+echo $$ > "$here/rt_pid"
+[ "$stray" != stop ] || { echo 'rt: HANDLES is one line' >&2; echo '0 passed, 1 failed'; exit 2; }
+order='low next aiger'
+[ "$(cat "$here/slow" 2> /dev/null)" != low ] || order='next low aiger'
+failed=
+for name in $order; do
+    if is_named slow; then
+        ( echo "$BASHPID" > "$here/pid"; while [ -e "$here/held" ]; do sleep 0.02; done ) > /dev/null 2>&1
+    fi
+    if [ "$name" = aiger ] && [ -n "$failed" ]; then
+        echo "rt: aiger NOT PROVED: its library ${failed%% *} failed"
+    elif is_named kept; then
+        echo "rt: $name is kept: an earlier run on this machine proved the same files over the same libraries"
+    elif is_named broken; then
+        echo "== $name"
+        echo 'so far: 1 of 2 functions checked; the verdict comes last'
+        echo "note: src/$name.rt:64:5: it is not proved that what the function ensures holds"
+        echo "fn $name::first: no proof: expected answers in ./proofs/first/Answers.antt"
+        echo 'help: write ./proofs/first/Answers.antt with these lines'
+        echo "fn $name::second: no proof: it calls \`$name::first\`, which is not proved"
+        echo 'logic=not-proved'
+        echo "rt: $name NOT PROVED"
+        failed+="$name "
+    else
+        printf '== %s\nfn %s::first: proved\nlogic=proved functions=2\nrt: %s proved\n' "$name" "$name" "$name"
+    fi
+done
+if [ -z "$failed" ] && [ "$stray" != 'no program' ]; then
+    mkdir -p crates/aiger/out && cp "$here/program" crates/aiger/out/aiger
 fi
-if is_named broken; then
-    echo 'note: src/lib.rt:64:5: it is not proved that what the function ensures holds'
-    echo "fn $name::first: no proof: expected answers in ./proofs/first/Answers.antt"
-    echo 'help: write ./proofs/first/Answers.antt with these lines'
-    echo "fn $name::second: no proof: it calls \`$name::first\`, which is not proved"
-    echo "crate $name: modules loaded=5780 checked=0"
-    echo 'logic=not-proved'
-    exit 1
+if [ "$stray" = run ]; then
+    failed='aiger (run)'
+    echo 'rt: aiger: the program ended with status 1, and not 0'
 fi
-echo "fn $name::first: proved"
-echo "crate $name: modules loaded=5773 checked=7"
-echo 'logic=proved functions=2'
-[ "$1" = lib ] || { mkdir -p out && cp --remove-destination "$here/program" out/aiger; }
+[ "$stray" != note ] || echo 'rt: note: the disk has 2000 MB left'
+[ -z "$failed" ] || { echo "rt: FAILED: $failed"; echo '2 passed, 1 failed'; exit 1; }
+echo '3 passed, 0 failed'
 RT
 chmod +x "$work/rt"
 cp "$program" "$work/program"
@@ -46,15 +73,13 @@ edit() { echo '// more' >> "$tree/crates/low/src/lib.rt" && look_again; }
 on_the_path() { ( unset RT; export PATH=$1:/usr/bin:/bin && shift && exec "$@" ); }
 without_kit() { look_again && on_the_path "$work/none" "$tree/aiger" "$@"; }
 begins='aiger: proving and linking the program from its sources: half an hour on four cores the first time ..
-aiger: proving 1 of 2: low ..
-aiger:   0 of 2 functions checked
 '
-proves_it="${begins}aiger: low is proved
-aiger: proving 2 of 2: aiger ..
-aiger:   0 of 2 functions checked
-aiger: aiger is proved
+links_it="aiger: 3 of 3: aiger is proved
 aiger: the program is linked: $out/aiger
 "
+proves_it="${begins}aiger: 1 of 3: low is proved
+aiger: 2 of 3: next is proved
+$links_it"
 proves="${proves_it}aiger: the released program is of other sources\n"
 needs_kit='aiger: cannot prove and link the program: rt of the Rattle kit is not on the PATH\n'
 
@@ -193,8 +218,14 @@ sed -i 's/^program ./program x/' "$tree/release/MANIFEST"
 edit
 wants "$small" "$proves" 0
 check 'a changed source is proved' launch aigtoaig --ascii < "$work/small"
-wants 'lib\nrun -- aigtoaig --ascii\n' '' 0
+wants 'ci\n' '' 0
 check 'what it asks of rt' cat "$work/calls"
+copied='./HANDLES\n./crates.txt\n./crates/aiger/src/lib.rt\n./crates/aiger/stdin\n'
+copied+='./crates/low/specs/More.antt\n./crates/low/src/lib.rt\n./crates/low/src/lib.rt~\n./crates/next/src/lib.rt\n'
+wants "$copied" '' 0
+check 'what it copies' cat "$work/copied"
+wants 'aiger: low next std\nlow: thiserror\nnext:\n' '' 0
+check 'the lines of crates.txt that it copies' cat "$work/lines"
 wants "$small" '' 0
 check 'the launch after it' launch aigtoaig --ascii < "$work/small"
 again="\n\nUsage: aiger <COMMAND>\n\nFor more information, try '--help'.\n"
@@ -323,17 +354,52 @@ cp "$program" "$work/program"
 sed -i 's/^program ./program x/' "$tree/release/MANIFEST"
 edit
 
-# --- a proof that fails ---
+# --- a proof that fails, and what else rt may say ---
+faults_of() {
+    printf 'aiger: %s is not proved:\naiger:   src/%s.rt:64:5: it is not proved that what the function ensures holds\n' "$1" "$1"
+    printf 'aiger:   fn %s::first: no proof: expected answers in ./proofs/first/Answers.antt\n' "$1"
+}
 echo low > "$work/broken"
-wants '' "${begins}aiger:   src/lib.rt:64:5: it is not proved that what the function ensures holds
-aiger:   fn low::first: no proof: expected answers in ./proofs/first/Answers.antt
-aiger: low is not proved; the output of rt is in $out/prove.log
-" 125
+wants '' "$begins$(faults_of low)
+aiger: 1 of 3: next is proved
+aiger: not proved: low; the output of rt is in $out/prove.log\n" 125
 check 'a crate without a proof' launch aigtoaig --ascii < "$work/small"
 check 'and once more' launch aigtoaig --ascii < "$work/small"
+wants '== low\n== next\n' '' 0
+check 'the whole output of rt is in its log' grep '^==' "$out/prove.log"
+echo next >> "$work/broken"
+wants '' "$begins$(faults_of low)\n$(faults_of next)
+aiger: not proved: low next; the output of rt is in $out/prove.log\n" 125
+check 'two crates without a proof' launch aigtoaig --ascii < "$work/small"
 rm "$work/broken"
-wants "$small" "$proves" 0
-check 'and once it is mended' launch aigtoaig --ascii < "$work/small"
+# goes_wrong NAME WAY ERRORS: what is said where rt ends otherwise in this way
+goes_wrong() {
+    echo "$2" > "$work/stray"
+    wants '' "$begins$3; its output is in $out/prove.log\n" 125
+    check "$1" launch aigtoaig --ascii < "$work/small"
+    rm "$work/stray"
+}
+not_linked='aiger: the program is not linked: rt ended with status'
+proved="${proves_it%aiger: the program is linked*}"
+goes_wrong 'an rt that does not begin' stop \
+    "aiger:   rt: HANDLES is one line\naiger:   0 passed, 1 failed\n$not_linked 2"
+goes_wrong 'a program that does not run as it should' run "${proved#"$begins"}aiger:   rt: aiger: the program ended with status \
+1, and not 0\naiger:   rt: FAILED: aiger (run)\naiger:   2 passed, 1 failed\n$not_linked 1"
+goes_wrong 'an rt that links no program' 'no program' "${proved#"$begins"}aiger:   3 passed, 0 failed\n$not_linked 0"
+wants '' 'aiger: cannot copy the sources to a temporary folder\n' 125
+check 'no folder for the copy' env TMPDIR="$work/none" RT="$work/rt" "$tree/prove"
+echo note > "$work/stray"
+printf '%s\n' low next > "$work/kept"
+wants "$small" "${begins}aiger: 1 of 3: low is unchanged since it was proved
+aiger: 2 of 3: next is unchanged since it was proved
+aiger: 3 of 3: aiger is proved
+aiger:   note: the disk has 2000 MB left
+aiger: the program is linked: $out/aiger
+aiger: the released program is of other sources\n" 0
+check 'and once it is mended, what rt keeps and notes' launch aigtoaig --ascii < "$work/small"
+rm "$work/stray" "$work/kept"
+wants '' '' 0
+check 'no copy is left' ls -A "$TMPDIR"
 
 # --- a standard error that takes nothing decides no status ---
 for way in errors_closed errors_full; do
@@ -361,9 +427,14 @@ hold() {
         < "$work/small" > "$work/out" 2> "$work/err" &   # whoever runs this may ignore them, as nohup does
     held=$!
     wait_for test -s "$work/pid"
+    wait_for grep -q next "$work/err"
 }
 let_go() { rm -f "$work/slow" "$work/held"; }
 is_gone() { ! kill -0 "$(cat "$work/pid")" 2> /dev/null; }
+is_clean() { [ -z "$(ls -A "$TMPDIR")" ]; }
+# what is said till then, and after it
+holds="${begins}aiger: 1 of 3: next is proved\n"
+goes_on="${holds}aiger: 2 of 3: low is proved\naiger: 3 of 3: aiger is proved\n"
 
 # a terminal sends a signal to all of a job: to the launcher, and to prove, which it waits for
 set -m   # without it what is in the background ignores SIGINT
@@ -372,12 +443,14 @@ for signal in INT TERM HUP; do
         hold "$tree/$way"
         kill -s "$signal" -- "-$held"
         wait_for is_gone
+        wait_for is_clean
         left=
         is_gone || left=', and left a process'
+        is_clean || left+=', and left a copy'
         let_go   # so that what goes on proving ends too
         wait "$held" 2> /dev/null
         ended=$?$left
-        wants '' "$begins" $((128 + $(kill -l "$signal")))
+        wants '' "$holds" $((128 + $(kill -l "$signal")))
         judge "SIG$signal to $way while it proves" "$ended"
     done
 done
@@ -388,26 +461,35 @@ with_rt "$work/rt" "$tree/aiger" aigtoaig --ascii < "$work/small" > "$work/out2"
 second=$!
 wait_for test -s "$work/err2"
 let_go
-wants "$small" "$proves" 0
+wants "$small" "${goes_on}aiger: the program is linked: $out/aiger\naiger: the released program is of other sources\n" 0
 wait "$held"
-judge 'the first of two launches' $?
+judge 'the first of two launches, and two crates proved side by side' $?
 wants "$small" 'aiger: waiting for another call that is proving the program ..\n' 0
 wait "$second"
 ended=$?
 mv "$work/out2" "$work/out"
 mv "$work/err2" "$work/err"
 judge 'the second waits, and then runs' "$ended"
-wants 'lib\nrun -- aigtoaig --ascii\n' '' 0
+wants 'ci\n' '' 0
 check 'two launches prove once' cat "$work/calls"
 
 hold "$tree/aiger" aigtoaig --ascii
 edit
 let_go
-wants '' "${proves_it%the program is linked*}the sources changed while they were being proved: run this again\n" 125
+wants '' "${goes_on}aiger: the sources changed while they were being proved: run this again\n" 125
 wait "$held"
 judge 'an edit while it proves' $?
 wants "$small" "$proves" 0
 check 'and the launch after it' launch aigtoaig --ascii < "$work/small"
+
+hold "$tree/aiger" aigtoaig --ascii
+kill -s KILL "$(cat "$work/rt_pid")"
+wants '' "$holds$not_linked 137; its output is in $out/prove.log\n" 125
+wait "$held"
+judge 'an rt that is killed' $?
+let_go
+wants '' '' 0
+check 'no copy is left of these' ls -A "$TMPDIR"
 
 # --- what the program is told of memory ---
 unasked() { ( unset GLIBC_TUNABLES && "$@" ); }
