@@ -6,7 +6,7 @@ use Rattle.std.proofs.lemmas.List.{drop-append-le, take-append-le, length-drop, 
 use Rattle.std.proofs.lemmas.List.{drop_at, take_all}
 use Rattle.aig_circuit.specs.declared.circuit.Kind.{Kind}
 use Rattle.aig_circuit.specs.declared.circuit.Symbol.{Symbol}
-use Rattle.aig_circuit.specs.declared.symbols.Row.{Row}
+use Rattle.aig_circuit.specs.declared.symbols.StoredSymbol.{StoredSymbol}
 use Rattle.aig_circuit.specs.Symbols.{symbol_in, symbols_in, IsWithin, AreWithin}
 
 -- what holds anyway holds on an error
@@ -25,25 +25,27 @@ same_name bytes more start end rising within =
     ∙ take-append-le (end - start) (drop start bytes) more
     (let left = length-drop start bytes in omega (arith, left, rising, within))
 
-same_symbol : (bytes more : List ℕ) (row : Row) → IsWithin (length bytes) row
+same_symbol : (bytes more : List ℕ) (row : StoredSymbol) → IsWithin (length bytes) row
     → symbol_in (bytes ++ more) row ≡ symbol_in bytes row
 same_symbol bytes more row h =
     ap (symbol_of row.kind row.position) (same_name bytes more row.start row.end h.0 h.1)
 
 -- nor the symbols before them
-pub same_symbols : (bytes more : List ℕ) (rows : List Row) → AreWithin bytes rows
+pub same_symbols : (bytes more : List ℕ) (rows : List StoredSymbol) → AreWithin bytes rows
     → symbols_in (bytes ++ more) rows ≡ symbols_in bytes rows
 same_symbols bytes more [] h = refl
 same_symbols bytes more (row ∷ rows) h =
     ap₂ (λ s ss. s ∷ ss) (same_symbol bytes more row h.0) (same_symbols bytes more rows h.1)
 
 -- names stay within the bytes where these grow
-pub still_within : (bytes more : List ℕ) (rows : List Row) → AreWithin bytes rows → AreWithin (bytes ++ more) rows
+pub still_within : (bytes more : List ℕ) (rows : List StoredSymbol) → AreWithin bytes rows
+    → AreWithin (bytes ++ more) rows
 still_within bytes more [] h = tt
 still_within bytes more (row ∷ rows) h =
     ((h.0.0, let all = length-append bytes more in omega (arith, all, h.0.1)), still_within bytes more rows h.1)
 
-one_within : (bytes : List ℕ) (rows : List Row) (row : Row) → AreWithin bytes rows → IsWithin (length bytes) row
+one_within : (bytes : List ℕ) (rows : List StoredSymbol) (row : StoredSymbol) → AreWithin bytes rows
+    → IsWithin (length bytes) row
     → AreWithin bytes (rows ++ row ∷ [])
 one_within bytes [] row h one = (one, tt)
 one_within bytes (r ∷ rows) row h one = (h.0, one_within bytes rows row h.1 one)
@@ -54,11 +56,11 @@ own_name bytes name =
     ∙ take_all (length (bytes ++ name) - length bytes) name
     (let all = length-append bytes name in omega (arith, all))
 
-abbrev row_of : Kind → ℕ → ℕ → ℕ → Row
+abbrev row_of : Kind → ℕ → ℕ → ℕ → StoredSymbol
 row_of kind position start end = record { kind = kind; position = position; start = start; end = end }
 
 -- one row more, of a name that is put behind the bytes
-module _ (kind : Kind) (position : ℕ) (bytes name : List ℕ) (rows : List Row) (within : AreWithin bytes rows)
+module _ (kind : Kind) (position : ℕ) (bytes name : List ℕ) (rows : List StoredSymbol) (within : AreWithin bytes rows)
     (start end : ℕ) (begins : start ≡ length bytes) (ends : end ≡ length (bytes ++ name)) where
   pub last_within : AreWithin (bytes ++ name) (rows ++ row_of kind position start end ∷ [])
   last_within =

@@ -11,7 +11,7 @@ use std::marker::Model;
 
 /// A symbol whose name stands among others.
 #[derive(Clone, Copy)]
-struct Row {
+struct StoredSymbol {
     kind: Kind,
     position: u32,
     /// Where the name begins.
@@ -25,7 +25,7 @@ struct Row {
 pub struct Symbols {
     /// The names, one behind the other. Where memory ran out once, a name may stand here that no row has.
     bytes: Vec<u8>,
-    rows: Vec<Row>,
+    rows: Vec<StoredSymbol>,
 }
 
 impl Model for Symbols {
@@ -74,7 +74,7 @@ impl<'a> PartialEq for BorrowedSymbol<'a> {
 #[derive(Drop)]
 pub struct EachSymbol<'a> {
     bytes: &'a [u8],
-    rows: &'a [Row],
+    rows: &'a [StoredSymbol],
 }
 
 impl<'a> Model for EachSymbol<'a> {
@@ -155,7 +155,7 @@ impl Symbols {
     {
         let start = self.bytes.len();
         self.bytes.extend_from_slice(symbol.name)?;
-        self.rows.push(Row {
+        self.rows.push(StoredSymbol {
             kind: symbol.kind,
             position: symbol.position,
             start,

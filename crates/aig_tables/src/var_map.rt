@@ -6,7 +6,7 @@ ghost use Rattle.std.specs.Coded.{coded_ℕ};
 ghost use Rattle.aig_tables.specs.VarMap.{with_new};
 ghost use Rattle.aig_tables.specs.Parts.Places.{map_of, kept_at};
 
-use crate::var_map::places::{Kept, Places};
+use crate::var_map::places::{MapValue, Places};
 use crate::var_map::spread::Spread;
 use aig_circuit::{Circuit, Var};
 use std::alloc::{AllocError, Global};
@@ -29,12 +29,12 @@ const BITS_PER_DEFINITION: usize = 32;
 /// place; where it is farther above, each that a circuit defines. Otherwise few variables of large indices take little
 /// memory.
 #[derive(Drop)]
-pub struct VarMap<T: Kept> {
+pub struct VarMap<T: MapValue> {
     places: T::Table,
     spread: Spread<T>,
 }
 
-impl<T: Kept> Model for VarMap<T> {
+impl<T: MapValue> Model for VarMap<T> {
     ghost Value = { map.FinMap nat_cmp T };
 
     ghost coded = { map.code coded_ℕ T.code };
@@ -42,7 +42,7 @@ impl<T: Kept> Model for VarMap<T> {
     ghost view = { λ a. map_of (kept_at (T.Table.covered a.places) (T.Table.held a.places) a.spread) };
 }
 
-impl<T: Kept> VarMap<T> {
+impl<T: MapValue> VarMap<T> {
     /// An empty map that is fast for about so many variables, of indices up to the largest one. Its memory grows with
     /// their number, and not with the largest index.
     pub fn new(alloc: Global, expected: usize, largest: u32) -> Result<Self, AllocError>

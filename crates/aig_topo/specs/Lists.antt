@@ -2,7 +2,7 @@
 -- a gate's position, or 0 at the end of a list.
 use Rattle.std.specs.Prelude.{ℕ, zero, suc, ◌≡◌, ◌<◌, List, [], ◌∷◌, map, length, slice_index_or}
 use Rattle.std.specs.List.{AllByRecursion}
-use Rattle.aig_topo.specs.declared.least_ready.lists.Row.{Row}
+use Rattle.aig_topo.specs.declared.least_ready.lists.GateNode.{GateNode}
 use Rattle.aig_topo.specs.declared.least_ready.needs.Needs.{Needs}
 use Rattle.aig_circuit.specs.Wellformed.{AreDistinct}
 
@@ -12,19 +12,19 @@ pub record Link : Type 0 where
   pub first : ℕ
 
 -- what a gate needs that was not looked at
-abbrev pub needs_in_row : Row → Needs
+abbrev pub needs_in_row : GateNode → Needs
 needs_in_row row = record { left = row.next; right = row.rest }
 
 -- the links of a gate
-abbrev pub links_in_row : Row → Link
+abbrev pub links_in_row : GateNode → Link
 links_in_row row = record { next = row.next; first = row.first }
 
 -- what the gates need that were not looked at
-abbrev pub needs_in : List Row → List Needs
+abbrev pub needs_in : List GateNode → List Needs
 needs_in rows = map needs_in_row rows
 
 -- the links of all gates
-abbrev pub links_in : List Row → List Link
+abbrev pub links_in : List GateNode → List Link
 links_in rows = map links_in_row rows
 
 abbrev pub no_link : Link
@@ -49,7 +49,7 @@ abbrev pub list_of : List Link → ℕ → List ℕ
 list_of links gate = gates_up_to (length links) links (first_of links gate)
 
 -- the same in a table of rows
-abbrev pub list_in : List Row → ℕ → List ℕ
+abbrev pub list_in : List GateNode → ℕ → List ℕ
 list_in rows gate = list_of (links_in rows) gate
 
 -- a link leads to these gates, and then to an end

@@ -4,7 +4,7 @@ use Rattle.std.specs.Prelude.{Some, map, length, slice_index_or}
 use Rattle.std.specs.List.{AllByRecursion, find}
 use Rattle.aig_circuit.specs.declared.circuit.Gate.{Gate}
 use Rattle.aig_circuit.specs.declared.circuit.TheConstants.{LARGEST}
-use Rattle.aig_topo.specs.declared.least_ready.lists.Row.{Row}
+use Rattle.aig_topo.specs.declared.least_ready.lists.GateNode.{GateNode}
 use Rattle.aig_topo.specs.declared.least_ready.needs.Needs.{Needs}
 use Rattle.aig_circuit.specs.Literal.{variable_of}
 use Rattle.aig_circuit.specs.Wellformed.{IsAmong}
@@ -45,14 +45,14 @@ abbrev pub first_missing : List ℕ → List ℕ → Option ℕ
 first_missing list needs = find (λ h. not (has_gate list h)) needs
 
 -- what the gate of a position needs, by its row, if it was not looked at
-abbrev pub needs_by : List Row → ℕ → List ℕ
+abbrev pub needs_by : List GateNode → ℕ → List ℕ
 needs_by rows = needs_at (needs_in rows)
 
 abbrev pub no_needs : Needs
 no_needs = record { left = 0; right = 0 }
 
 -- what a gate that waits needs beside the one that it waits for, by its row
-abbrev pub rest_by : List Row → ℕ → List ℕ
+abbrev pub rest_by : List GateNode → ℕ → List ℕ
 rest_by rows gate = linked (slice_index_or (needs_in rows) gate no_needs).right
 
 -- a list has all that another one has
@@ -64,7 +64,7 @@ abbrev pub Suffices : (list needs asked : List ℕ) → Type 0
 Suffices list needs asked = (more : List ℕ) → HasAll list more → first_missing more needs ≡ first_missing more asked
 
 -- What each step needs of a table of rows: places for the gates that are placed, and bits for those that are ready.
-pub record IsRoomy (rows : List Row) (places bits : ℕ) : Type 0 where
+pub record IsRoomy (rows : List GateNode) (places bits : ℕ) : Type 0 where
   pub few : length rows ≤ LARGEST
   pub there : AreThere (needs_in rows)
   pub placed : places ≡ length rows
@@ -91,7 +91,7 @@ pub record Waits (needs : ℕ → List ℕ) (list : List ℕ) (links : List Link
 
 -- The same by a table of rows. Of a gate that waits the row has what else it needs, beside the gate that it waits for
 -- and what is listed; of one that was not looked at, all that it needs.
-pub record RowsWait (needs : ℕ → List ℕ) (rows : List Row) (list : List ℕ) (has : ℕ → Bool) (seen : ℕ)
+pub record RowsWait (needs : ℕ → List ℕ) (rows : List GateNode) (list : List ℕ) (has : ℕ → Bool) (seen : ℕ)
     (served out : Option ℕ) : Type 0 where
   pub waits : Waits needs list (links_in rows) has seen served out
   pub behind : (m u : ℕ) → IsAmong u (list_in rows m) → Suffices (list ++ m ∷ []) (needs u) (rest_by rows u)

@@ -40,7 +40,7 @@ struct Search {
 }
 
 /// The place of a literal's gate, or that of none.
-fn place(index: &VarMap<u32>, literal: Lit, none: u32) -> u32
+fn operand_position(index: &VarMap<u32>, literal: Lit, none: u32) -> u32
     ensures { result ≡ unwrap_or (get index.now (variable_of literal)) none }
 {
     index.get(literal.var()).unwrap_or(none)
@@ -57,8 +57,8 @@ fn all_pairs(alloc: Global, circuit: &Circuit) -> Result<Vec<Pair>, AllocError>
     let mut all = Vec::with_capacity(alloc, gates.len())?;
     for gate in gates {
         all.push(Pair {
-            left: place(&index, gate.left, none),
-            right: place(&index, gate.right, none),
+            left: operand_position(&index, gate.left, none),
+            right: operand_position(&index, gate.right, none),
         })?;
     }
     Ok(all)

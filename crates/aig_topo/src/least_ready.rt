@@ -4,7 +4,7 @@ ghost use Rattle.aig_topo.specs.Order.{IsLeastReadyOrder, gate_operands, left_ov
 ghost use Rattle.aig_topo.specs.Ready.{has, room};
 
 use crate::least_ready::ready::Ready;
-use crate::least_ready::serve::serve;
+use crate::least_ready::release::release_users;
 use crate::least_ready::users::Users;
 use crate::operands::all_operands;
 use crate::order::Order;
@@ -15,7 +15,7 @@ mod lists;
 mod needs;
 mod placing;
 mod ready;
-mod serve;
+mod release;
 mod users;
 
 pub use crate::least_ready::placing::place_gates;
@@ -54,7 +54,7 @@ pub fn gate_order(alloc: Global, circuit: &Circuit) -> Result<Order, OutOfMemory
     let mut ready = all_ready(alloc, &order, circuit.gates.len() as u32)?;
     while let Some(gate) = ready.pop_first() {
         order.take(gate);
-        serve(&users, gate, &mut order, &mut ready);
+        release_users(&users, gate, &mut order, &mut ready);
     }
     Ok(order)
 }

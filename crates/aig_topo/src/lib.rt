@@ -9,7 +9,7 @@
 //! - `order`: an order of gates that is being made. No other code sees its fields.
 //! - `placed`: gates that are placed, one after the other. No other code sees its fields.
 //! - `least_ready`: the least ready order. `gate_order` counts what each gate waits for (`users`,
-//!   `serve`). `place_gates` lets each gate wait for one gate (`placing`, `needs`, `lists`). Both
+//!   `release`). `place_gates` lets each gate wait for one gate (`placing`, `needs`, `lists`). Both
 //!   take the least gate of a set (`ready`).
 //!
 //! Definitions (`specs/`); the one that matters most is `IsLeastReadyOrder`:

@@ -1,5 +1,5 @@
 //! Gates that are placed, one after the other. No module stands in this one: its fields are private, so gates are placed
-//! by `place` alone.
+//! by `push` alone.
 ghost use Rattle.std.specs.Prelude.{◌≡◌, ◌+◌, ◌<◌, ◌≤◌, ℕ, [], ◌∷◌, ◌++◌, IfOk};
 ghost use Rattle.std.specs.Option.{IfSome, IfNone};
 ghost use Rattle.aig_circuit.specs.Wellformed.{IsAmong};
@@ -62,7 +62,7 @@ impl Placed {
 
     /// Places a gate behind the others.
     #[inline(always)]
-    pub(crate) fn place(&mut self, gate: u32)
+    pub(crate) fn push(&mut self, gate: u32)
         requires there { gate < self.old.room }
         requires left { ¬ IsAmong gate self.old.list }
         ensures { self.new ≡ record self.old { list = self.old.list ++ gate ∷ [] } }

@@ -4,7 +4,7 @@ ghost use Rattle.std.proofs.Common.{refl};
 ghost use Rattle.std.proofs.lemmas.Bool.{ltb-true};
 ghost use Rattle.aig_tables.specs.Parts.Places.{mark_of};
 
-use crate::var_map::places::{Kept, Places};
+use crate::var_map::places::{MapValue, Places};
 use aig_circuit::Circuit;
 use std::alloc::{AllocError, Global};
 
@@ -14,7 +14,7 @@ pub struct Bits {
     words: Vec<u64>,
 }
 
-impl Kept for () {
+impl MapValue for () {
     type Table = Bits;
 
     const PLACES_PER_VARIABLE: usize = 32;

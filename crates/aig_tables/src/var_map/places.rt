@@ -50,7 +50,7 @@ pub trait Places {
 }
 
 /// What a map may have of variables, and the places for it.
-pub trait Kept: Copy + Default {
+pub trait MapValue: Copy + Default {
     /// The places.
     type Table: Places<Item = Self> + Drop;
 

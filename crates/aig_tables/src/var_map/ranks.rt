@@ -99,7 +99,7 @@ impl Ranks {
 
     /// The place of an announced index.
     #[inline(always)]
-    pub(super) fn place(&self, index: usize) -> usize
+    pub(super) fn rank(&self, index: usize) -> usize
         requires { is_announced self.now.words.items index ≡ true }
         ensures { result ≡ rank_of self.now.words.items index }
     {

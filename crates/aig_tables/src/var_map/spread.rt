@@ -8,7 +8,7 @@ ghost use Rattle.aig_tables.specs.VarMap.{with_new};
 ghost use Rattle.aig_tables.specs.Parts.Places.{bucket_of, map_of, spread_at, IsSpread};
 
 use crate::var_map::bucket::Bucket;
-use crate::var_map::places::Kept;
+use crate::var_map::places::MapValue;
 use aig_circuit::Var;
 use std::alloc::{AllocError, Global};
 use std::collections::BTreeMap;
@@ -26,12 +26,12 @@ const MULTIPLIER: u32 = 2_654_435_769;
 /// Values of variables in buckets by a fixed multiplier, and in a tree where a bucket has no room. So indices that are
 /// chosen against the multiplier take the time of the tree.
 #[derive(Drop)]
-pub(super) struct Spread<T: Kept> {
+pub(super) struct Spread<T: MapValue> {
     buckets: Vec<Bucket<T>>,
     others: BTreeMap<Var, T>,
 }
 
-impl<T: Kept> Model for Spread<T> {
+impl<T: MapValue> Model for Spread<T> {
     ghost Value = { map.FinMap nat_cmp T };
 
     ghost coded = { map.code coded_ℕ T.code };
@@ -53,7 +53,7 @@ fn bucket_of(count: usize, index: u32) -> usize
 }
 
 /// So many empty buckets.
-fn empty_buckets<T: Kept>(alloc: Global, count: usize) -> Result<Vec<Bucket<T>>, AllocError>
+fn empty_buckets<T: MapValue>(alloc: Global, count: usize) -> Result<Vec<Bucket<T>>, AllocError>
     ensures { IfOk result (λ buckets. buckets.items ≡ replicate count []) }
 {
     let any = T::default();
@@ -64,7 +64,7 @@ fn empty_buckets<T: Kept>(alloc: Global, count: usize) -> Result<Vec<Bucket<T>>,
     Ok(buckets)
 }
 
-impl<T: Kept> Spread<T> {
+impl<T: MapValue> Spread<T> {
     /// An empty map that is fast for about so many variables.
     pub(super) fn new(alloc: Global, expected: usize) -> Result<Self, AllocError>
         ensures { IfOk result (λ values. values ≡ map.empty) }

@@ -4,7 +4,7 @@ ghost use Rattle.std.proofs.Common.{refl};
 ghost use Rattle.std.proofs.lemmas.Bool.{ltb-true};
 ghost use Rattle.aig_tables.specs.Parts.Places.{has_place, place_of, number_of};
 
-use crate::var_map::places::{Kept, Places};
+use crate::var_map::places::{MapValue, Places};
 use crate::var_map::ranks::Ranks;
 use aig_circuit::Circuit;
 use std::alloc::{AllocError, Global};
@@ -18,7 +18,7 @@ pub struct Table {
     ghost room: { ranks.count ≤ length places.items },
 }
 
-impl Kept for u32 {
+impl MapValue for u32 {
     type Table = Table;
 
     const PLACES_PER_VARIABLE: usize = 10;
@@ -29,7 +29,7 @@ impl Kept for u32 {
 impl Table {
     /// The place of an index.
     #[inline(always)]
-    fn place(&self, index: usize) -> usize
+    fn slot(&self, index: usize) -> usize
         requires { has_place self.now.ranks.words.items self.now.places.items index ≡ true }
         ensures place { result ≡ place_of self.now.ranks.words.items index }
         ensures below { result < length self.now.places.items }
@@ -37,7 +37,7 @@ impl Table {
         if self.ranks.is_empty() {
             index
         } else {
-            self.ranks.place(index)
+            self.ranks.rank(index)
         }
     }
 }
@@ -75,12 +75,12 @@ impl Places for Table {
 
     #[inline(always)]
     fn get(&self, index: usize) -> Option<u32> {
-        self.places[self.place(index)].checked_sub(1)
+        self.places[self.slot(index)].checked_sub(1)
     }
 
     #[inline(always)]
     fn insert(&mut self, index: usize, value: u32) -> bool {
-        let place = self.place(index);
+        let place = self.slot(index);
         let is_new = self.places[place] == 0;
         if is_new {
             self.places[place] = value + 1;

@@ -8,7 +8,7 @@ use Rattle.std.proofs.lemmas.Bool.{cases_lt}
 use Rattle.std.proofs.lemmas.Bool.Decides.{eqb_tells}
 use Rattle.std.proofs.lemmas.List.{get_or-map, get_or-set_other, get_or-set_same, get_or_past, length-map, length-set}
 use Rattle.std.proofs.lemmas.List.{map-set, set-get_or}
-use Rattle.aig_topo.specs.declared.least_ready.lists.Row.{Row}
+use Rattle.aig_topo.specs.declared.least_ready.lists.GateNode.{GateNode}
 use Rattle.aig_topo.specs.declared.least_ready.needs.Needs.{Needs}
 use Rattle.aig_topo.specs.Lists.{Link, needs_in, needs_in_row, links_in, links_in_row, first_of, list_in, LeadsTo}
 use Rattle.aig_topo.specs.Lists.{AreLists}
@@ -16,7 +16,7 @@ use Rattle.aig_topo.specs.Placing.{linked, under, needs_by, rest_by, no_needs, A
 use Rattle.aig_topo.proofs.Ordering.Lists.{read_first, front_below}
 
 -- the row of a gate that needs this and was not looked at
-abbrev pub row_of : Needs → Row
+abbrev pub row_of : Needs → GateNode
 row_of needs = record { next = needs.left; rest = needs.right; first = 0 }
 
 pub needs_of_rows : (all : List Needs) → needs_in (map row_of all) ≡ all
@@ -31,18 +31,19 @@ first_of_rows (n ∷ ns) zero = refl
 first_of_rows (n ∷ ns) (suc k) = first_of_rows ns k
 
 -- there are as many of each part
-pub as_many_needs : (rows : List Row) → length (needs_in rows) ≡ length rows
+pub as_many_needs : (rows : List GateNode) → length (needs_in rows) ≡ length rows
 as_many_needs rows = length-map rows needs_in_row
 
-pub as_many_links : (rows : List Row) → length (links_in rows) ≡ length rows
+pub as_many_links : (rows : List GateNode) → length (links_in rows) ≡ length rows
 as_many_links rows = length-map rows links_in_row
 
 -- tables with the same needs are as long
-pub as_many : (rows more : List Row) → needs_in more ≡ needs_in rows → length more ≡ length rows
+pub as_many : (rows more : List GateNode) → needs_in more ≡ needs_in rows → length more ≡ length rows
 as_many rows more same = sym (as_many_needs more) ∙ ap length same ∙ as_many_needs rows
 
 -- what an index reads is what each table has there
-module _ (rows : List Row) (at : ℕ) (row : Row) (there : at < length rows) (is : row ≡ get_or rows at row) where
+module _ (rows : List GateNode) (at : ℕ) (row : GateNode) (there : at < length rows)
+    (is : row ≡ get_or rows at row) where
   pub read_needs : needs_in_row row ≡ get_or (needs_in rows) at (needs_in_row row)
   read_needs = ap needs_in_row is ∙ sym (get_or-map needs_in_row rows at row (needs_in_row row) there)
 
@@ -50,7 +51,7 @@ module _ (rows : List Row) (at : ℕ) (row : Row) (there : at < length rows) (is
   read_link = ap links_in_row is ∙ sym (get_or-map links_in_row rows at row (links_in_row row) there)
 
   -- another first gate leaves what gates need
-  pub same_needs_in : (changed : Row) → needs_in_row changed ≡ needs_in_row row
+  pub same_needs_in : (changed : GateNode) → needs_in_row changed ≡ needs_in_row row
       → needs_in (put rows at changed) ≡ needs_in rows
   same_needs_in changed same =
       map-set needs_in_row rows at changed
@@ -58,16 +59,17 @@ module _ (rows : List Row) (at : ℕ) (row : Row) (there : at < length rows) (is
       ∙ set-get_or (needs_in rows) at (needs_in_row row)
 
 -- what each table has once one row is changed
-pub needs_then : (rows : List Row) (at : ℕ) (changed : Row)
+pub needs_then : (rows : List GateNode) (at : ℕ) (changed : GateNode)
     → needs_in (put rows at changed) ≡ put (needs_in rows) at (needs_in_row changed)
 needs_then rows at changed = map-set needs_in_row rows at changed
 
-pub links_then : (rows : List Row) (at : ℕ) (changed : Row)
+pub links_then : (rows : List GateNode) (at : ℕ) (changed : GateNode)
     → links_in (put rows at changed) ≡ put (links_in rows) at (links_in_row changed)
 links_then rows at changed = map-set links_in_row rows at changed
 
 -- the first link of a list, as it is read, leads into the table
-module _ (rows : List Row) (at : ℕ) (row : Row) (there : at < length rows) (is : row ≡ get_or rows at row) where
+module _ (rows : List GateNode) (at : ℕ) (row : GateNode) (there : at < length rows)
+    (is : row ≡ get_or rows at row) where
   pub first_read : first_of (links_in rows) at ≡ row.first
   first_read =
       read_first (links_in rows) at (links_in_row row) (omega (arith, there, as_many_links rows))
@@ -102,7 +104,7 @@ second_part : (P : ℕ → Type 0) (xs ys : List ℕ) → AllByRecursion P (xs +
 second_part P [] ys all = all
 second_part P (x ∷ xs) ys all = second_part P xs ys all.1
 
-pub rest_there : (rows : List Row) → AreThere (needs_in rows) → (u : ℕ)
+pub rest_there : (rows : List GateNode) → AreThere (needs_in rows) → (u : ℕ)
     → AllByRecursion (λ h. h < length rows) (rest_by rows u)
 rest_there rows there u =
     let all : List Needs = needs_in rows in
@@ -117,7 +119,7 @@ rest_there rows there u =
     (cases_lt u (length all)))
 
 -- where another is asked of one gate
-module _ (rows more : List Row) (gate : ℕ) (n : Needs) (now : needs_in more ≡ put (needs_in rows) gate n) where
+module _ (rows more : List GateNode) (gate : ℕ) (n : Needs) (now : needs_in more ≡ put (needs_in rows) gate n) where
   pub as_many_then : length more ≡ length rows
   as_many_then =
       sym (as_many_needs more) ∙ ap length now ∙ length-set (needs_in rows) gate n ∙ as_many_needs rows

@@ -6,7 +6,7 @@ use Rattle.std.proofs.Common.{Option, None, Some, get_or, refl, sym, ap, subst, 
 use mathlib.Core.Bool.{not, ◌||◌, ◌&&◌}
 use Rattle.std.specs.List.{AllByRecursion}
 use Rattle.std.proofs.Math.ListN.{set as put}
-use Rattle.aig_topo.specs.declared.least_ready.lists.Row.{Row}
+use Rattle.aig_topo.specs.declared.least_ready.lists.GateNode.{GateNode}
 use Rattle.aig_topo.specs.declared.least_ready.needs.Needs.{Needs}
 use Rattle.aig_circuit.specs.Wellformed.{IsAmong}
 use Rattle.aig_topo.specs.Placed.{has_gate}
@@ -68,9 +68,9 @@ has_one_more list more g there has_all h a =
     ⊎_elim (λ (b : IsAmong h list). has_all h b) (λ (e : h ≡ g). subst (λ z. IsAmong z more) (sym e) there)
     (in_longer list g h a)
 
-module _ (needs : ℕ → List ℕ) (list : List ℕ) (rows : List Row) where
+module _ (needs : ℕ → List ℕ) (list : List ℕ) (rows : List GateNode) where
   -- a gate is put into the list of the first that it needs and that is not listed
-  module _ (new : List Row) (gate m rest first : ℕ) (asked : List ℕ)
+  module _ (new : List GateNode) (gate m rest first : ℕ) (asked : List ℕ)
       (missing : first_missing list asked ≡ Some m)
       (behind : Suffices (list ++ m ∷ []) asked (linked rest))
       (front : list_in new m ≡ gate ∷ list_in rows m)
@@ -110,7 +110,7 @@ module _ (needs : ℕ → List ℕ) (list : List ℕ) (rows : List Row) where
   rows_wait_no_more has now gate asked missing told seen served enough wait = search (rules, waits_no_more)
 
   -- the first gate is taken out of the list of one that is listed
-  module _ (new : List Row) (list_at u : ℕ) (lists : AreLists (links_in rows))
+  module _ (new : List GateNode) (list_at u : ℕ) (lists : AreLists (links_in rows))
       (front : list_in rows list_at ≡ u ∷ list_in new list_at)
       (others : (k : ℕ) → k ≢ list_at → list_in new k ≡ list_in rows k)
       (same : needs_in new ≡ needs_in rows) where
@@ -160,7 +160,7 @@ module _ (needs : ℕ → List ℕ) (list : List ℕ) (rows : List Row) where
   rows_placed has seen wait count g few ready least popped rest = search (rules, is_placed, has_one_more, at_end, among_first)
 
 -- at first no gate was looked at
-pub rows_at_first : (rows : List Row) (has : ℕ → Bool) → ((k : ℕ) → list_in rows k ≡ [])
+pub rows_at_first : (rows : List GateNode) (has : ℕ → Bool) → ((k : ℕ) → list_in rows k ≡ [])
     → ((g : ℕ) → has g ≡ false) → RowsWait (needs_by rows) rows [] has 0 None None
 rows_at_first rows has empty none = record {
   waits = nothing_yet (needs_by rows) (links_in rows) has empty none;

@@ -10,12 +10,13 @@ use crate::operands::gate_index;
 use aig_circuit::{Circuit, LARGEST};
 use std::alloc::{AllocError, Global};
 
-/// All that is asked of a gate where it is entered or served. It stands together, since gates are served in any order:
-/// what stands apart comes from memory apart. What a gate needs is asked for in full once, where it is looked at; from
-/// then on the row has what is left to ask, and the link of the list in which the gate waits takes the other place. So
-/// a row has 12 bytes, and more of them are in the cache. Each number is one more than a position, or 0 for none.
+/// All that is asked of a gate where it is entered or released. It stands together, since gates are released in any
+/// order: what stands apart comes from memory apart. What a gate needs is asked for in full once, where it is looked
+/// at; from then on the node has what is left to ask, and the link of the list in which the gate waits takes the other
+/// place. So a node has 12 bytes, and more of them are in the cache. Each number is one more than a position, or 0 for
+/// none.
 #[derive(Clone, Copy)]
-struct Row {
+struct GateNode {
     /// What the left operand needs; once the gate waits, the gate behind it in its list.
     next: u32,
     /// What the right operand needs; once the gate waits, what it needs beside the gate that it waits for.
@@ -28,7 +29,7 @@ struct Row {
 /// table has them all.
 #[derive(Drop)]
 pub(super) struct Lists {
-    rows: Vec<Row>,
+    rows: Vec<GateNode>,
 }
 
 impl Lists {
@@ -45,7 +46,7 @@ impl Lists {
         let mut rows = Vec::with_capacity(alloc, gates.len())?;
         for gate in gates {
             let needs = look_up(&index, gate);
-            rows.push(Row {
+            rows.push(GateNode {
                 next: needs.left,
                 rest: needs.right,
                 first: 0,

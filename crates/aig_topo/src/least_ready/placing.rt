@@ -95,7 +95,7 @@ fn enter(gate: u32, asked: Needs, placed: &Placed, lists: &mut Lists, ready: &mu
 /// Enters again each gate that waited for this one. What the next of them needs beside is read before one is entered,
 /// so that it comes from memory meanwhile.
 #[inline(always)]
-fn serve(gate: u32, placed: &Placed, lists: &mut Lists, ready: &mut Ready)
+fn release_waiting(gate: u32, placed: &Placed, lists: &mut Lists, ready: &mut Ready)
     requires room { IsRoomy lists.old.rows.items placed.now.room (room ready.old) }
     requires apart { AreApart (links_in lists.old.rows.items) }
     requires there { gate < length lists.old.rows.items }
@@ -136,8 +136,8 @@ fn look_at(gate: u32, placed: &mut Placed, lists: &mut Lists, ready: &mut Ready)
 {
     enter(gate, lists.needs(gate), placed, lists, ready);
     while let Some(next) = ready.pop_first() {
-        placed.place(next);
-        serve(next, placed, lists, ready);
+        placed.push(next);
+        release_waiting(next, placed, lists, ready);
     }
 }
 

@@ -37,8 +37,8 @@ pub take-requires-clause-left : goal.take-requires-clause-left
 take-requires-clause-left c =
     (is_ready _ _ _ _ _ _ _ c.loop-gate.invariant.stands c.in-Some.gate c.in-Some.ensures.first).0.left
 
-pub serve-requires-clause-waiting : goal.serve-requires-clause-waiting
-serve-requires-clause-waiting c = λ u.
+pub release_users-requires-clause-waiting : goal.release_users-requires-clause-waiting
+release_users-requires-clause-waiting c = λ u.
     let gates : List Gate = c.args.circuit.now.gates in
     let gate : ℕ = c.in-Some.gate in
     let ops_are : c.as_slice.result.now ≡ map (operands_of gates) gates = c.as_slice.ensures.value
@@ -67,39 +67,42 @@ loop-gate-preserved c =
     let ops_are : c.as_slice.result.now ≡ map (operands_of gates) gates = c.as_slice.ensures.value
     ∙ c.in_ok-operands.ensures in
     let same : c.take.new.self.waiting ≡ order.waiting = ap (λ (p : Progress). p.waiting) c.take.ensures in
-    let list : c.serve.new.order.list ≡ order.list ++ gate ∷ [] = c.serve.ensures.list
+    let list : c.release_users.new.order.list ≡ order.list ++ gate ∷ [] =
+    c.release_users.ensures.list
     ∙ ap (λ (p : Progress). p.list) c.take.ensures in
     let steps : c.take.new.self.steps ≡ order.steps + 1 = ap (λ (p : Progress). p.steps) c.take.ensures in
     record {
-      stands = subst (λ l. Stands (length gates) (gate_operands gates) l c.serve.new.order.waiting
-          (has c.serve.new.ready) c.serve.new.order.steps total) (sym list) (
+      stands = subst (λ l. Stands (length gates) (gate_operands gates) l c.release_users.new.order.waiting
+          (has c.release_users.new.ready) c.release_users.new.order.steps total) (sym list) (
           goes_on (length gates) (gate_operands gates) order.list order.waiting (has c.loop-gate.ready) order.steps
           total c.loop-gate.invariant.stands gate c.in-Some.ensures.first c.in-Some.ensures.least
           (has c.pop_first.new.self)
-          c.in-Some.ensures.rest c.serve.new.order.waiting (has c.serve.new.ready)
+          c.in-Some.ensures.rest c.release_users.new.order.waiting (has c.release_users.new.ready)
           (uses c.in_ok-users.users.heads.items c.in_ok-users.users.links.items gate)
           (λ u. c.in_ok-users.ensures.uses gate u
           ∙ ap (count_by (λ h. eqb h gate)) (same_operands gates c.as_slice.result.now ops_are u))
-          (λ u. c.serve.ensures.waiting u ∙ ap (λ w. get_or w u 0) same)
-          (λ u. c.serve.ensures.ready u
+          (λ u. c.release_users.ensures.waiting u ∙ ap (λ w. get_or w u 0) same)
+          (λ u. c.release_users.ensures.ready u
           ∙ ap (λ w. has c.pop_first.new.self u ||
-          (ltb 0 (get_or w u 0) && eqb (get_or c.serve.new.order.waiting u 0) 0)) same)
-          c.serve.new.order.steps (c.serve.ensures.steps ∙ ap₂ (λ n w. n + sum w) steps same)
-          (c.serve.ensures.as_many ∙ ap length same)
+          (ltb 0 (get_or w u 0) && eqb (get_or c.release_users.new.order.waiting u 0) 0)) same)
+          c.release_users.new.order.steps (c.release_users.ensures.steps ∙ ap₂ (λ n w. n + sum w) steps same)
+          (c.release_users.ensures.as_many ∙ ap length same)
           );
-      room = omega (arith, c.serve.ensures.room, c.in-Some.ensures.room, c.loop-gate.invariant.room);
+      room = omega (arith, c.release_users.ensures.room, c.in-Some.ensures.room, c.loop-gate.invariant.room);
     }
 
 pub loop-gate-smaller : goal.loop-gate-smaller
 loop-gate-smaller c =
     let gates : List Gate = c.args.circuit.now.gates in
-    let list : c.serve.new.order.list ≡ c.loop-gate.order.list ++ c.in-Some.gate ∷ [] = c.serve.ensures.list
+    let list : c.release_users.new.order.list ≡ c.loop-gate.order.list ++ c.in-Some.gate ∷ [] =
+    c.release_users.ensures.list
     ∙ ap (λ (p : Progress). p.list) c.take.ensures in
-    let one_longer : length c.serve.new.order.list ≡ length c.loop-gate.order.list + 1 = ap length list
+    let one_longer : length c.release_users.new.order.list ≡ length c.loop-gate.order.list + 1 = ap length list
     ∙ length-append c.loop-gate.order.list (c.in-Some.gate ∷ []) in
-    let fits : length c.serve.new.order.list ≤ length gates =
-    no_longer (length gates) (gate_operands gates) c.serve.new.order.list (loop-gate-preserved c).stands.in_turn in
-    let less : length gates - length c.serve.new.order.list < length gates - length c.loop-gate.order.list =
+    let fits : length c.release_users.new.order.list ≤ length gates =
+    no_longer (length gates) (gate_operands gates) c.release_users.new.order.list
+    (loop-gate-preserved c).stands.in_turn in
+    let less : length gates - length c.release_users.new.order.list < length gates - length c.loop-gate.order.list =
     omega (arith, one_longer, fits) in
     less
 

@@ -1,6 +1,6 @@
 use Rattle.std.proofs.Common.{◌≡◌, ◌<◌, ℕ, List, sym, arith, length}
 use Rattle.std.specs.List.{AllByRecursion}
-use Rattle.aig_topo.specs.declared.least_ready.lists.Row.{Row}
+use Rattle.aig_topo.specs.declared.least_ready.lists.GateNode.{GateNode}
 use Rattle.aig_topo.specs.declared.least_ready.needs.Needs.{Needs}
 use Rattle.aig_topo.specs.Lists.{links_in, first_of}
 use Rattle.aig_topo.specs.Placing.{linked, under}
@@ -28,8 +28,8 @@ returns-in-Some-clause-size c =
 pub returns-in-Some-clause-room : goal.returns-in-Some-clause-room
 returns-in-Some-clause-room c =
     let r = c.requires.room in
-    let rows : List Row = c.args.lists.now.rows.items in
-    let more : List Row = c.push.new.self.rows.items in
+    let rows : List GateNode = c.args.lists.now.rows.items in
+    let more : List GateNode = c.push.new.self.rows.items in
     let first : ℕ = first_of (links_in rows) c.in-Some.other.gate in
     let n : Needs = record { left = first; right = c.in-Some.other.rest } in
     let long : length more ≡ length rows = as_many_then rows more c.args.gate n c.push.ensures.needs in

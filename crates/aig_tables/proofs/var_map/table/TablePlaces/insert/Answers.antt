@@ -8,7 +8,7 @@ returns-then-is_new-clause-held c =
     let table = c.args.self.now in
     let ranks = table.ranks in
     let places = table.places.items in
-    let place = c.place-place in
+    let place = c.slot-place in
     let none = sym (get_or_read places place.result c.index.result.now place.ensures.below c.index.ensures 0)
     ∙ c.if-is_new.true in
     rw place.ensures.place

@@ -1,7 +1,7 @@
 use Rattle.std.proofs.Common.{rules}
 use Rattle.std.proofs.Common.{◌≡◌, ◌-◌, ◌<◌, ◌∙◌, ℕ, suc, List, ap, length, get_or, subst, arith}
 use Rattle.std.proofs.lemmas.List.{get_or_default}
-use Rattle.aig_topo.specs.declared.least_ready.lists.Row.{Row}
+use Rattle.aig_topo.specs.declared.least_ready.lists.GateNode.{GateNode}
 use Rattle.aig_topo.specs.declared.least_ready.needs.Needs.{Needs}
 use Rattle.aig_topo.specs.Lists.{needs_in, needs_in_row}
 use Rattle.aig_topo.specs.Placing.{linked, no_needs, rest_by}
@@ -16,9 +16,9 @@ returns-then-first-eq0 c = search (rules, first_is)
 
 pub returns : goal.returns
 returns c = λ u us are.
-    let rows : List Row = c.args.self.now.rows.items in
+    let rows : List GateNode = c.args.self.now.rows.items in
     let at : ℕ = c.index.result.now.first - 1 in
-    let row : Row = c.index-2.result.now in
+    let row : GateNode = c.index-2.result.now in
     let is : c.index.result.now.first ≡ suc u =
     first_is rows c.args.list c.index.result.now c.requires.there c.index.ensures c.requires.lists u us are in
     let there : at < length rows =

@@ -3,7 +3,7 @@ use Rattle.std.specs.FinMap.{get}
 use Rattle.std.proofs.lemmas.List.{take_all}
 use Rattle.std.proofs.lemmas.Simd.{map-map}
 use Rattle.aig_circuit.specs.declared.circuit.Gate.{Gate}
-use Rattle.aig_topo.specs.declared.least_ready.lists.Row.{Row}
+use Rattle.aig_topo.specs.declared.least_ready.lists.GateNode.{GateNode}
 use Rattle.aig_topo.specs.Lists.{needs_in, links_in, first_of}
 use Rattle.aig_topo.specs.Placing.{needs_of}
 use Rattle.aig_topo.proofs.Ordering.Lists.{all_empty, empty_lists}
@@ -12,7 +12,7 @@ use Rattle.aig_topo.proofs.Ordering.Rows.{row_of, needs_of_rows, first_of_rows}
 use Rattle.aig_topo.proofs.least_ready.lists.Lists.new.Goals as goal
 
 -- what the rows of all gates say, once the first so many are all of them
-module _ (gates : List Gate) (n : ℕ) (rows : List Row)
+module _ (gates : List Gate) (n : ℕ) (rows : List GateNode)
     (are : rows ≡ map (λ g. row_of (needs_of gates g)) (take n gates)) (enough : length gates ≤ n)
   where
     all_rows : rows ≡ map row_of (map (needs_of gates) gates)

@@ -1,5 +1,5 @@
 use Rattle.std.proofs.Common.{◌≡◌, ◌-◌, ◌<◌, ◌∙◌, ℕ, suc, List, length, refl, sym, subst, arith}
-use Rattle.aig_topo.specs.declared.least_ready.lists.Row.{Row}
+use Rattle.aig_topo.specs.declared.least_ready.lists.GateNode.{GateNode}
 use Rattle.aig_topo.specs.Lists.{Link, links_in, links_in_row, first_of}
 use Rattle.aig_topo.proofs.Ordering.Lists.{nothing_there, read_next, have_less, HaveLess}
 use Rattle.aig_topo.proofs.Ordering.Rows.{as_many_links, read_link, same_needs_in, links_then, first_read, first_there}
@@ -22,12 +22,12 @@ index-requires-2 c =
 
 pub returns : goal.returns
 returns c =
-    let rows : List Row = c.args.self.now.rows.items in
+    let rows : List GateNode = c.args.self.now.rows.items in
     let links : List Link = links_in rows in
     let gate : ℕ = c.index.result.now.first - 1 in
-    let list_row : Row = c.index_mut.result.now in
-    let gate_row : Row = c.index-2.result.now in
-    let front : Row = record { next = list_row.next; rest = list_row.rest; first = gate_row.next } in
+    let list_row : GateNode = c.index_mut.result.now in
+    let gate_row : GateNode = c.index-2.result.now in
+    let front : GateNode = record { next = list_row.next; rest = list_row.rest; first = gate_row.next } in
     let changed : Link = links_in_row front in
     let is : first_of links c.args.list ≡ c.index.result.now.first =
     first_read rows c.args.list c.index.result.now c.requires.list c.index.ensures in

@@ -1,7 +1,7 @@
 use Rattle.std.proofs.Common.{◌≡◌, ◌<◌, ◌∙◌, ◌+◌, List, ap, sym, subst, arith, length, get_or, refl}
 use Rattle.std.proofs.Math.ListN.{set as put}
 use Rattle.std.proofs.lemmas.List.{length-set}
-use Rattle.aig_topo.specs.declared.least_ready.lists.Row.{Row}
+use Rattle.aig_topo.specs.declared.least_ready.lists.GateNode.{GateNode}
 use Rattle.aig_topo.specs.Lists.{Link, needs_in, links_in, links_in_row}
 use Rattle.aig_topo.proofs.Ordering.Lists.{read_first, read_next, have_more, HaveMore}
 use Rattle.aig_topo.proofs.Ordering.Rows.{as_many_links, read_link, first_read, same_needs_in, needs_then, links_then}
@@ -9,16 +9,16 @@ use Rattle.aig_topo.proofs.least_ready.lists.Lists.push.Goals as goal
 
 pub returns : goal.returns
 returns c =
-    let rows : List Row = c.args.self.now.rows.items in
+    let rows : List GateNode = c.args.self.now.rows.items in
     let links : List Link = links_in rows in
-    let first_row : Row = c.index.result.now in
-    let gate_row : Row = c.index_mut-row.result.now in
-    let list_row : Row = c.index_mut.result.now in
-    let changed : Row = record { next = first_row.first; rest = c.args.rest; first = gate_row.first } in
+    let first_row : GateNode = c.index.result.now in
+    let gate_row : GateNode = c.index_mut-row.result.now in
+    let list_row : GateNode = c.index_mut.result.now in
+    let changed : GateNode = record { next = first_row.first; rest = c.args.rest; first = gate_row.first } in
     let behind : Link = links_in_row changed in
-    let front : Row = record { next = list_row.next; rest = list_row.rest; first = c.args.gate + 1 } in
+    let front : GateNode = record { next = list_row.next; rest = list_row.rest; first = c.args.gate + 1 } in
     let before : Link = links_in_row front in
-    let one : List Row = put rows c.args.gate changed in
+    let one : List GateNode = put rows c.args.gate changed in
     let links_one : links_in one ≡ put links c.args.gate behind = links_then rows c.args.gate changed in
     let there : c.args.list < length one =
     omega (arith, c.requires.list, length-set rows c.args.gate changed) in

@@ -4,7 +4,7 @@ use Rattle.std.specs.Prelude.{nat_lt}
 use Rattle.std.specs.List.{count_by, slice_index, sum}
 use Rattle.aig_topo.specs.Users.{users_from, uses}
 use Rattle.aig_topo.specs.Ready.{has, room}
-use Rattle.aig_topo.proofs.least_ready.serve.serve.Given as goal
+use Rattle.aig_topo.proofs.least_ready.release.release_users.Given as goal
 
 abbrev pub invariant-loop-user : goal.invariant-loop-user
 invariant-loop-user l = record {

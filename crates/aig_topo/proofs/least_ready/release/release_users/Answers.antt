@@ -8,7 +8,7 @@ use Rattle.aig_topo.specs.Users.{users_from, uses}
 use Rattle.aig_topo.specs.Ready.{has}
 use Rattle.aig_topo.proofs.Ordering.Served.{one_use, no_use, waits, there, never_more, still_waits, one_step, ready_now}
 use Rattle.aig_topo.proofs.Ordering.Served.{not_yet_ready}
-use Rattle.aig_topo.proofs.least_ready.serve.serve.Goals as goal
+use Rattle.aig_topo.proofs.least_ready.release.release_users.Goals as goal
 
 pub count_down-requires-clause-there : goal.count_down-requires-clause-there
 count_down-requires-clause-there c =

@@ -4,7 +4,7 @@ use Rattle.std.proofs.lemmas.List.{length-set}
 use Rattle.aig_circuit.specs.Wellformed.{IsAmong}
 use Rattle.aig_topo.specs.Placed.{Placement}
 use Rattle.aig_topo.proofs.Ordering.Placements.{place_left, one_more, is_placement}
-use Rattle.aig_topo.proofs.placed.Placed.place.Goals as goal
+use Rattle.aig_topo.proofs.placed.Placed.push.Goals as goal
 
 pub index_mut-requires : goal.index_mut-requires
 index_mut-requires c =

@@ -9,7 +9,7 @@ use crate::least_ready::users::Users;
 use crate::order::Order;
 
 /// Counts down the users of a gate, and adds those to the ready ones that wait for nothing then.
-pub(super) fn serve(users: &Users, gate: u32, order: &mut Order, ready: &mut Ready)
+pub(super) fn release_users(users: &Users, gate: u32, order: &mut Order, ready: &mut Ready)
     requires links { LinksFall users.now.links.items }
     requires room { length order.old.waiting ≤ room ready.old }
     requires waiting { (u : ℕ) → used_by users.now gate u ≤ slice_index order.old.waiting u }

@@ -2,7 +2,7 @@ use Rattle.std.proofs.Common.{◌≡◌, ℕ, List, ◌∷◌, Some, None, lengt
 use Rattle.aig_topo.specs.Lists.{links_in, list_in}
 use Rattle.aig_topo.specs.Placing.{linked, rest_by, IsRoomy, AreApart, RowsWait}
 use Rattle.aig_topo.specs.Ready.{has, room}
-use Rattle.aig_topo.proofs.least_ready.placing.serve.Given as goal
+use Rattle.aig_topo.proofs.least_ready.placing.release_waiting.Given as goal
 
 abbrev pub invariant-loop-user : goal.invariant-loop-user
 invariant-loop-user l = record {

@@ -5,7 +5,7 @@ use Rattle.std.proofs.lemmas.List.{get_or_read}
 use Rattle.std.proofs.lemmas.Nat.{one_shl, and_mask}
 use Rattle.aig_tables.specs.declared.var_map.ranks.Word.{Word}
 use Rattle.aig_tables.proofs.Tables.Ranks.{has_word}
-use Rattle.aig_tables.proofs.var_map.ranks.Ranks.place.Goals as goal
+use Rattle.aig_tables.proofs.var_map.ranks.Ranks.rank.Goals as goal
 
 pub returns : goal.returns
 returns c =

@@ -1,6 +1,6 @@
 use Rattle.std.proofs.Common.{rules}
 use Rattle.std.proofs.Common.{◌≡◌, ◌≢◌, ◌∙◌, [], ◌∷◌, ℕ, List, Some, sym, ap, inl, subst, length}
-use Rattle.aig_topo.specs.declared.least_ready.lists.Row.{Row}
+use Rattle.aig_topo.specs.declared.least_ready.lists.GateNode.{GateNode}
 use Rattle.aig_circuit.specs.Wellformed.{IsAmong}
 use Rattle.aig_topo.specs.Lists.{links_in, list_in}
 use Rattle.aig_topo.specs.Placing.{linked, rest_by, IsRoomy, AreApart}
@@ -9,11 +9,11 @@ use Rattle.aig_topo.specs.Ready.{has, room}
 use Rattle.aig_topo.proofs.Ordering.Placing.{apart_too, gone}
 use Rattle.aig_topo.proofs.Ordering.Rows.{as_many, as_many_links, rest_there}
 use Rattle.aig_topo.proofs.Ordering.Waiting.{rows_taken_out, rest_suffices, rows_served}
-use Rattle.aig_topo.proofs.least_ready.placing.serve.Goals as goal
+use Rattle.aig_topo.proofs.least_ready.placing.release_waiting.Goals as goal
 
 pub enter-requires-clause-asked : goal.enter-requires-clause-asked
 enter-requires-clause-asked c =
-    let rows : List Row = c.loop-user.lists.rows.items in
+    let rows : List GateNode = c.loop-user.lists.rows.items in
     let long : length c.pop.new.self.rows.items ≡ length rows =
     as_many rows c.pop.new.self.rows.items c.pop.ensures.needs in
     let is : linked c.loop-user.ahead ≡ rest_by rows c.in-Some.user =
@@ -38,8 +38,8 @@ enter-requires-clause-nowhere c = search (rules, gone)
 
 pub loop-user-preserved : goal.loop-user-preserved
 loop-user-preserved c =
-    let rows : List Row = c.loop-user.lists.rows.items in
-    let popped : List Row = c.pop.new.self.rows.items in
+    let rows : List GateNode = c.loop-user.lists.rows.items in
+    let popped : List GateNode = c.pop.new.self.rows.items in
     let user : ℕ = c.in-Some.user in
     let is : linked c.loop-user.ahead ≡ rest_by rows user =
     c.loop-user.invariant.ahead user (list_in popped c.args.gate) c.in-Some.ensures.first in record {
