@@ -173,7 +173,7 @@ impl BlockBits {
 
     /// The bits for a step in a lane, if it has that; none are set where it has not.
     #[inline(always)]
-    pub(crate) fn word(&self, lane: usize, step: usize) -> InputWord
+    pub(crate) fn input_word(&self, lane: usize, step: usize) -> InputWord
         requires { lane < 256 }
         ensures { result ≡ word_at lane step self.now }
     {

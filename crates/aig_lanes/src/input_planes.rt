@@ -32,7 +32,7 @@ fn rows_at(bits: &BlockBits, step: usize, lane: usize) -> ([u64; 8], [u64; 8])
     let mut ones = [0; 8];
     let mut zeros = [0; 8];
     for r in 0..8 {
-        let word = bits.word(lane + r, step);
+        let word = bits.input_word(lane + r, step);
         ones[r] = word.one;
         zeros[r] = word.zero;
     }

@@ -10,7 +10,7 @@
 //! - `group`: 256 runs of any lengths.
 //! - `vectors`: the steps of runs where they stand in a stimulus.
 //! - `input_bits`, `input_planes`: inputs as bits, and those of a step put into planes.
-//! - `octets`, `turned`, `sheets`, `shown`: planes turned into the characters of each lane.
+//! - `byte_rows`, `transposed`, `sheets`, `shown`: planes transposed into the characters of each lane.
 //!
 //! Definitions (`specs/`); those that matter most are `IsRunOf` and `IsTraceOf`:
 //! - `Runs`: runs and their traces.
@@ -19,18 +19,18 @@
 //! Lemmas (`proofs/`), beside the folders that are named after modules: `Side` (runs side by side).
 #![tactic(auto)]
 
+mod byte_rows;
 mod group;
 mod input_bits;
 mod input_planes;
 mod lane_row;
 mod lane_step;
 mod lanes;
-mod octets;
 mod planes;
 mod run;
 mod sheets;
 mod shown;
-mod turned;
+mod transposed;
 mod vectors;
 
 pub use crate::group::{fill_table, new_table, trace_group};

@@ -5,12 +5,12 @@ ghost use Rattle.std.specs.Prelude.{take};
 ghost use Rattle.std.specs.List.{All};
 ghost use Rattle.aig_lanes.specs.declared.run.Run.{Run as RunRecord};
 ghost use Rattle.aig_lanes.specs.Parts.Lanes.{bit_in};
-ghost use Rattle.aig_lanes.specs.Parts.Sheets.{HasStep, HoldsSteps, IsSheet, OctetText, character_by, eight_at};
-ghost use Rattle.aig_lanes.specs.Parts.Sheets.{octet_text, overwritten, step_in, text_in};
+ghost use Rattle.aig_lanes.specs.Parts.Sheets.{BytesText, HasStep, HoldsSteps, IsSheet, character_by, eight_at};
+ghost use Rattle.aig_lanes.specs.Parts.Sheets.{bytes_text, overwritten, step_in, text_in};
 
-use crate::octets::Octet;
+use crate::byte_rows::ByteRows;
 use crate::planes::Plane;
-use crate::turned::turned;
+use crate::transposed::transposed;
 use crate::vectors::{RunGroup, Vectors};
 use aig_core::OutOfMemory;
 use std::alloc::Global;
@@ -45,18 +45,18 @@ pub(crate) fn longest_in(groups: &[RunGroup], octet: usize) -> usize
     longest
 }
 
-/// Octets for all lanes, each of so many literals for each step of the longest run in its lanes, and for so many steps
-/// more.
-fn new_octets(
+/// Rows of bytes for all lanes, each of so many literals for each step of the longest run in its lanes, and for so
+/// many steps more.
+fn new_byte_rows(
     alloc: Global,
     width: usize,
     more: usize,
     groups: &[RunGroup],
-) -> Result<Vec<Octet>, OutOfMemory>
-    ensures is { IfOk result (λ octets. IsSheet octets.items) }
-    ensures room { IfOk result (λ octets. All (HoldsSteps width more octets.items) groups.now) }
+) -> Result<Vec<ByteRows>, OutOfMemory>
+    ensures is { IfOk result (λ byte_rows. IsSheet byte_rows.items) }
+    ensures room { IfOk result (λ byte_rows. All (HoldsSteps width more byte_rows.items) groups.now) }
 {
-    let mut octets = Vec::with_capacity(alloc, 32)?;
+    let mut byte_rows = Vec::with_capacity(alloc, 32)?;
     for octet in 0..32usize {
         let Some(steps) = longest_in(groups, octet).checked_add(more) else {
             return Err(OutOfMemory);
@@ -64,25 +64,25 @@ fn new_octets(
         let Some(count) = steps.checked_mul(width) else {
             return Err(OutOfMemory);
         };
-        octets.push(Octet::new(alloc, count)?)?;
+        byte_rows.push(ByteRows::new(alloc, count)?)?;
     }
-    Ok(octets)
+    Ok(byte_rows)
 }
 
-/// Puts the bytes of eight literals for each octet, from a place on, as far as there are places.
+/// Puts the bytes of eight literals for each eight of lanes, from a place on, as far as there are places.
 #[inline(always)]
-fn put_bytes(octets: &mut [Octet], at: usize, ones: &[u8; 256], zeros: &[u8; 256])
-    requires { length octets.old ≡ 32 }
-    ensures text { (k j : ℕ) (d : OctetText) → k < 32 → octet_text j (slice_index_or octets.new k d)
-        ≡ overwritten at (octet_text j (eight_at k ones.now zeros.now))
-        (octet_text j (slice_index_or octets.old k d)) }
-    ensures size { length octets.new ≡ 32 }
+fn put_bytes(byte_rows: &mut [ByteRows], at: usize, ones: &[u8; 256], zeros: &[u8; 256])
+    requires { length byte_rows.old ≡ 32 }
+    ensures text { (k j : ℕ) (d : BytesText) → k < 32 → bytes_text j (slice_index_or byte_rows.new k d)
+        ≡ overwritten at (bytes_text j (eight_at k ones.now zeros.now))
+        (bytes_text j (slice_index_or byte_rows.old k d)) }
+    ensures size { length byte_rows.new ≡ 32 }
     ensures ones { length ones.now ≡ 256 }
     ensures zeros { length zeros.now ≡ 256 }
 {
     for k in 0..32 {
         let from = 8 * k;
-        octets[k].put(at, &ones[from..from + 8], &zeros[from..from + 8]);
+        byte_rows[k].put(at, &ones[from..from + 8], &zeros[from..from + 8]);
     }
 }
 
@@ -90,7 +90,7 @@ fn put_bytes(octets: &mut [Octet], at: usize, ones: &[u8; 256], zeros: &[u8; 256
 #[derive(Drop)]
 pub(crate) struct Sheet {
     width: usize,
-    octets: Vec<Octet>,
+    byte_rows: Vec<ByteRows>,
 }
 
 impl Model for Sheet {
@@ -98,9 +98,9 @@ impl Model for Sheet {
 
     ghost Value = { SheetText };
 
-    ghost view = { λ s. record { width = s.width; octets = s.octets.items } };
+    ghost view = { λ s. record { width = s.width; byte_rows = s.byte_rows.items } };
 
-    ghost invariant = { λ s. IsSheet s.octets.items };
+    ghost invariant = { λ s. IsSheet s.byte_rows.items };
 }
 
 impl Sheet {
@@ -112,11 +112,11 @@ impl Sheet {
         groups: &[RunGroup],
     ) -> Result<Self, OutOfMemory>
         ensures width { IfOk result (λ sheet. sheet.width ≡ width) }
-        ensures room { IfOk result (λ sheet. All (HoldsSteps width more sheet.octets) groups.now) }
+        ensures room { IfOk result (λ sheet. All (HoldsSteps width more sheet.byte_rows) groups.now) }
     {
         Ok(Sheet {
             width,
-            octets: new_octets(alloc, width, more, groups)?,
+            byte_rows: new_byte_rows(alloc, width, more, groups)?,
         })
     }
 
@@ -141,7 +141,12 @@ impl Sheet {
         ensures front { (l : ℕ) → l < 256 → take at (text_in l self.new) ≡ take at (text_in l self.old) }
         ensures long { (l : ℕ) → length (text_in l self.new) ≡ length (text_in l self.old) }
     {
-        put_bytes(&mut self.octets, at, &turned(planes, 0), &turned(planes, 1));
+        put_bytes(
+            &mut self.byte_rows,
+            at,
+            &transposed(planes, 0),
+            &transposed(planes, 1),
+        );
     }
 
     /// Writes the characters of a step in a lane from a place on, and answers where they end.
@@ -155,7 +160,7 @@ impl Sheet {
         ensures size { length line.new ≡ length line.old }
         ensures text { take result line.new ≡ take at line.old ++ step_in step lane self.now }
     {
-        self.octets[lane / 8].write(line, at, step * self.width, self.width, lane % 8);
+        self.byte_rows[lane / 8].write(line, at, step * self.width, self.width, lane % 8);
         at + self.width
     }
 

@@ -19,9 +19,9 @@ use Rattle.std.proofs.lemmas.Simd.{get_or-zip2, get_or_narrower, length-zip2}
 use Rattle.aig_circuit.specs.declared.value.Val.{Val}
 use Rattle.aig_circuit.specs.declared.value.Val.TheVariants.{Zero}
 use Rattle.aig_lanes.specs.Parts.Lanes.{IsPair, bit_in}
-use Rattle.aig_lanes.specs.Parts.Sheets.{OctetText, byte_at, character_by, eight_at, octet_text, overwritten}
+use Rattle.aig_lanes.specs.Parts.Sheets.{BytesText, byte_at, bytes_text, character_by, eight_at, overwritten}
 use Rattle.aig_step.specs.TraceText.{character_of, values_text}
-use Rattle.aig_lanes.proofs.Side.Sheets.{byte_bit, octet_of, text_long, zip_drop, zip_take}
+use Rattle.aig_lanes.proofs.Side.Sheets.{byte_bit, rows_with, text_long, zip_drop, zip_take}
 use borrow.Rule.Slice.PartMut.{put_mid}
 
 -- two lists, each with another behind it
@@ -65,15 +65,15 @@ overwritten_whole at n cs text is room =
 
 -- bytes are put over both lists
 pub texts_overwritten : (place at : ℕ) (ones zeros highs lows : List ℕ) → length ones ≡ length zeros
-    → length highs ≡ length lows → octet_text place (octet_of (overwritten at highs ones) (overwritten at lows zeros))
-    ≡ overwritten at (octet_text place (octet_of highs lows)) (octet_text place (octet_of ones zeros))
+    → length highs ≡ length lows → bytes_text place (rows_with (overwritten at highs ones) (overwritten at lows zeros))
+    ≡ overwritten at (bytes_text place (rows_with highs lows)) (bytes_text place (rows_with ones zeros))
 texts_overwritten place at ones zeros highs lows same same_too =
-    search (rules, length-take, octet_of, zip_append, zip_take, zip_drop, length-zip2)
+    search (rules, length-take, rows_with, zip_append, zip_take, zip_drop, length-zip2)
 
 -- there is a character for each literal of what an octet holds
-pub text_size : (place : ℕ) (o now : OctetText) → o ≡ now → length o.ones ≡ length o.zeros
-    → length (octet_text place now) ≡ length o.ones
-text_size place o now is same = ap (λ (x : OctetText). length (octet_text place x)) (sym is) ∙ text_long place o same
+pub text_size : (place : ℕ) (o now : BytesText) → o ≡ now → length o.ones ≡ length o.zeros
+    → length (bytes_text place now) ≡ length o.ones
+text_size place o now is same = ap (λ (x : BytesText). length (bytes_text place x)) (sym is) ∙ text_long place o same
 
 -- the characters of one octet, where there are eight bytes for each
 module _ (octet place : ℕ) (ones zeros : List ℕ) (all : length ones ≡ 256) (all_too : length zeros ≡ 256)
@@ -82,11 +82,11 @@ module _ (octet place : ℕ) (ones zeros : List ℕ) (all : length ones ≡ 256)
   eight bytes long =
       length-take-le 8 (drop (8 * octet) bytes) (omega (arith, length-drop (8 * octet) bytes, long, below))
 
-  pub eight_long : length (octet_text place (eight_at octet ones zeros)) ≡ 8
+  pub eight_long : length (bytes_text place (eight_at octet ones zeros)) ≡ 8
   eight_long =
       text_long place (eight_at octet ones zeros) (eight ones all ∙ sym (eight zeros all_too)) ∙ eight ones all
 
-  pub eight_character : (k : ℕ) → k < 8 → get_or (octet_text place (eight_at octet ones zeros)) k 0
+  pub eight_character : (k : ℕ) → k < 8 → get_or (bytes_text place (eight_at octet ones zeros)) k 0
       ≡ character_by (bit_at (get_or ones (8 * octet + k) 0) place) (bit_at (get_or zeros (8 * octet + k) 0) place)
   eight_character k in_eight =
       let by = λ (high low : ℕ). character_by (bit_at high place) (bit_at low place) in

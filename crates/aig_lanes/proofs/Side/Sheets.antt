@@ -12,7 +12,7 @@ use Rattle.aig_circuit.specs.declared.value.Val.{Val}
 use Rattle.aig_circuit.specs.declared.value.Val.TheVariants.{Zero, One, X}
 use Rattle.aig_lanes.specs.Parts.Lanes.{IsPair, bit_in}
 use Rattle.std.proofs.lemmas.Simd.{length-zip2}
-use Rattle.aig_lanes.specs.Parts.Sheets.{OctetText, character_by, octet_text}
+use Rattle.aig_lanes.specs.Parts.Sheets.{BytesText, bytes_text, character_by}
 use Rattle.aig_lanes.proofs.Side.Vectors.{one_more}
 use Rattle.aig_step.specs.TraceText.{character_of}
 
@@ -72,12 +72,12 @@ some_bit byte bit place is some =
 pub shifted_byte : (k : ℕ) → k < 8 → 1 * 2 ^ k % 256 ≡ 2 ^ k
 shifted_byte k below = let small : 2 ^ k < 2 ^ 8 = pow_below k 8 below in omega (arith, small)
 
-abbrev pub octet_of : List ℕ → List ℕ → OctetText
-octet_of ones zeros = record { ones = ones; zeros = zeros }
+abbrev pub rows_with : List ℕ → List ℕ → BytesText
+rows_with ones zeros = record { ones = ones; zeros = zeros }
 
 -- there is a character for each literal
-pub text_long : (place : ℕ) (o : OctetText) → length o.ones ≡ length o.zeros
-    → length (octet_text place o) ≡ length o.ones
+pub text_long : (place : ℕ) (o : BytesText) → length o.ones ≡ length o.zeros
+    → length (bytes_text place o) ≡ length o.ones
 text_long place o same =
     length-zip2 (λ (high low : ℕ). character_by (bit_at high place) (bit_at low place)) o.ones o.zeros same
 

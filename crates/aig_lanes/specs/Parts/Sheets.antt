@@ -10,13 +10,13 @@ abbrev pub character_by : ℕ → ℕ → ℕ
 character_by high low = if high == 0 then 48 else if low == 0 then 49 else 120
 
 -- for each literal a byte with a bit for each of eight lanes, whether it may be 1 there, and one whether it may be 0
-pub record OctetText : Type 0 where
+pub record BytesText : Type 0 where
   pub ones : List ℕ
   pub zeros : List ℕ
 
 -- the characters of literals in one of eight lanes
-abbrev pub octet_text : ℕ → OctetText → List ℕ
-octet_text place o = zip2 (λ (high low : ℕ). character_by (bit_at high place) (bit_at low place)) o.ones o.zeros
+abbrev pub bytes_text : ℕ → BytesText → List ℕ
+bytes_text place o = zip2 (λ (high low : ℕ). character_by (bit_at high place) (bit_at low place)) o.ones o.zeros
 
 -- a text with these characters from a place on, as far as it has places
 abbrev pub overwritten : ℕ → (characters text : List ℕ) → List ℕ
@@ -27,21 +27,22 @@ overwritten at characters text =
 abbrev pub byte_at : ℕ → List (List ℕ) → ℕ
 byte_at place rows = slice_index_or (slice_index_or rows (place / 32) []) (place % 32) 0
 
--- the bytes of one octet, where there are eight for each
-abbrev pub eight_at : ℕ → (ones zeros : List ℕ) → OctetText
+-- the bytes of eight lanes, where there are eight for each eight of lanes
+abbrev pub eight_at : ℕ → (ones zeros : List ℕ) → BytesText
 eight_at octet ones zeros = record { ones = take 8 (drop (8 * octet) ones); zeros = take 8 (drop (8 * octet) zeros) }
 
--- octets for all lanes, with so many literals for each step
+-- rows of bytes for all lanes, with so many literals for each step
 pub record SheetText : Type 0 where
   pub width : ℕ
-  pub octets : List OctetText
+  pub byte_rows : List BytesText
 
 -- the characters of literals in a lane, those of one step behind those of the step before it
-abbrev pub lane_text : ℕ → List OctetText → List ℕ
-lane_text lane octets = octet_text (lane % 8) (slice_index_or octets (lane / 8) (record { ones = []; zeros = [] }))
+abbrev pub lane_text : ℕ → List BytesText → List ℕ
+lane_text lane byte_rows =
+    bytes_text (lane % 8) (slice_index_or byte_rows (lane / 8) (record { ones = []; zeros = [] }))
 
 abbrev pub text_in : ℕ → SheetText → List ℕ
-text_in lane sheet = lane_text lane sheet.octets
+text_in lane sheet = lane_text lane sheet.byte_rows
 
 -- the characters of a step in a lane
 abbrev pub step_in : (step lane : ℕ) → SheetText → List ℕ
@@ -51,11 +52,11 @@ step_in step lane sheet = take sheet.width (drop (step * sheet.width) (text_in l
 abbrev pub HasStep : (step lane : ℕ) → SheetText → Type 0
 HasStep step lane sheet = step * sheet.width + sheet.width ≤ length (text_in lane sheet)
 
--- there are as many octets as there are eights of lanes
-abbrev pub IsSheet : List OctetText → Type 0
-IsSheet octets = length octets ≡ 32
+-- there are rows of bytes for each eight of lanes
+abbrev pub IsSheet : List BytesText → Type 0
+IsSheet byte_rows = length byte_rows ≡ 32
 
 -- in the lane of each run there are places for so many literals for each step, and for so many steps more
-abbrev pub HoldsSteps : (width more : ℕ) → List OctetText → List Run → Type 0
-HoldsSteps width more octets runs = (l : ℕ) (d : Run) → l < 256 → l < length runs
-    → (length (slice_index_or runs l d).steps + more) * width ≤ length (lane_text l octets)
+abbrev pub HoldsSteps : (width more : ℕ) → List BytesText → List Run → Type 0
+HoldsSteps width more byte_rows runs = (l : ℕ) (d : Run) → l < 256 → l < length runs
+    → (length (slice_index_or runs l d).steps + more) * width ≤ length (lane_text l byte_rows)

@@ -4,26 +4,26 @@ use Rattle.std.proofs.Common.{length, sym}
 use Rattle.std.proofs.lemmas.Bool.{cases_lt}
 use Rattle.std.proofs.lemmas.List.{get_or_past, with_items_is}
 use Rattle.aig_lanes.specs.Parts.Lanes.{bit_in}
-use Rattle.aig_lanes.specs.Parts.Sheets.{OctetText, character_by, eight_at, lane_text, octet_text, text_in}
+use Rattle.aig_lanes.specs.Parts.Sheets.{BytesText, bytes_text, character_by, eight_at, lane_text, text_in}
 use Rattle.aig_lanes.proofs.Side.Eights.{eight_character, eight_long, overwritten_at, overwritten_front}
 use Rattle.aig_lanes.proofs.Side.Eights.{overwritten_size}
-use Rattle.aig_lanes.proofs.Side.Sheets.{octet_of}
+use Rattle.aig_lanes.proofs.Side.Sheets.{rows_with}
 use Rattle.aig_lanes.proofs.sheets.Sheet.put.Goals as goal
 
 pub returns-clause-text : goal.returns-clause-text
 returns-clause-text c = λ l k below in_eight room.
     let at = c.args.at in
     let inside = c.self.inside in
-    let new = c.put_bytes.new.octets in
+    let new = c.put_bytes.new.byte_rows in
     let old = c.deref_mut.result.now in
-    let cs = octet_text (l % 8) (eight_at (l / 8) c.turned.result c.turned-2.result) in
+    let cs = bytes_text (l % 8) (eight_at (l / 8) c.transposed.result c.transposed-2.result) in
     let size : length old ≡ 32 = ap length c.deref_mut.ensures.value ∙ c.self.invariant in
-    let items = with_items_is inside.octets new (c.put_bytes.ensures.size ∙ sym size ∙ c.deref_mut.ensures.len) in
+    let items = with_items_is inside.byte_rows new (c.put_bytes.ensures.size ∙ sym size ∙ c.deref_mut.ensures.len) in
     let before : lane_text l old ≡ text_in l c.args.self.now =
     ap (lane_text l) c.deref_mut.ensures.value ∙ ap (text_in l) c.self.view_is in
-    let put = c.put_bytes.ensures.text (l / 8) (l % 8) (octet_of [] []) (omega (arith, below)) in
-    let ones = c.turned.result in
-    let zeros = c.turned-2.result in
+    let put = c.put_bytes.ensures.text (l / 8) (l % 8) (rows_with [] []) (omega (arith, below)) in
+    let ones = c.transposed.result in
+    let zeros = c.transposed-2.result in
     let all = c.put_bytes.ensures.ones in
     let all_too = c.put_bytes.ensures.zeros in
     let octet : l / 8 < 32 = omega (arith, below) in
@@ -32,19 +32,19 @@ returns-clause-text c = λ l k below in_eight room.
     let first : 2 * k + 0 ≡ 2 * k = omega arith in
     let planes = c.args.planes.now in
     let wide = eight_long (l / 8) (l % 8) ones zeros all all_too octet in
-    ap (λ (os : List OctetText). get_or (lane_text l os) (at + k) 0) items
+    ap (λ (os : List BytesText). get_or (lane_text l os) (at + k) 0) items
     ∙ ap (λ (t : List ℕ). get_or t (at + k) 0) put
     ∙ overwritten_at at k cs (lane_text l old) (omega (arith, wide, in_eight))
     (omega (arith, room, ap (λ (t : List ℕ). length t) before))
     ∙ eight_character (l / 8) (l % 8) ones zeros all all_too octet k in_eight
     ∙ ap₂ character_by
-    (c.turned.ensures (l / 8) k (l % 8) octet in_eight place
+    (c.transposed.ensures (l / 8) k (l % 8) octet in_eight place
     ∙ ap₂ (λ (m n : ℕ). bit_in m (get_or planes n [])) lane first)
-    (c.turned-2.ensures (l / 8) k (l % 8) octet in_eight place
+    (c.transposed-2.ensures (l / 8) k (l % 8) octet in_eight place
     ∙ ap (λ (m : ℕ). bit_in m (get_or planes (2 * k + 1) [])) lane)
 
 pub returns-clause-front : goal.returns-clause-front
-returns-clause-front c = search (rules, with_items_is, octet_of, overwritten_front)
+returns-clause-front c = search (rules, with_items_is, rows_with, overwritten_front)
 
 pub returns-clause-long : goal.returns-clause-long
-returns-clause-long c = search (rules, with_items_is, cases_lt, octet_of, overwritten_size, get_or_past)
+returns-clause-long c = search (rules, with_items_is, cases_lt, rows_with, overwritten_size, get_or_past)
