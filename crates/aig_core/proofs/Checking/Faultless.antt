@@ -1,4 +1,5 @@
 -- A circuit without a fault is well formed, and a well-formed circuit has no fault.
+use Rattle.std.proofs.Common.{rules}
 use Rattle.std.proofs.Common.{◌≡◌, ℕ, List, [], ◌∷◌, eqb, Bool, true, false, cond, Option, None, Some, refl, sym, ap}
 use Rattle.std.proofs.Common.{subst, ◌∙◌, inl, inr, ⊎_elim}
 use Rattle.std.specs.Prelude.{◌⊎◌, ◌↔◌, ◌≢◌, IsTrue}
@@ -12,7 +13,6 @@ use Rattle.std.specs.FinSet as set
 use Rattle.std.specs.FinSet.{FinSet, contains-insert, contains-empty}
 use Rattle.aig_core.specs.declared.fault.CheckFault.{CheckFault}
 use Rattle.aig_circuit.specs.declared.circuit.Circuit.{Circuit}
-use Rattle.aig_circuit.specs.Literal.{variable_of}
 use Rattle.aig_circuit.specs.Wellformed.{IsAmong, AreDistinct, IsKnown, HasRank, IsWellFormed, defined_variables}
 use Rattle.aig_circuit.specs.Wellformed.{used_literals}
 use Rattle.aig_circuit.specs.Form.{IsInForm}
@@ -50,12 +50,7 @@ was_there s x y h =
 -- the first of no repeat is new, and no other is a repeat
 pub no_repeat : (s : FinSet nat_cmp) (x : ℕ) (xs : List ℕ) → first_repeat s (x ∷ xs) ≡ None → (set.contains s x ≡ false)
     × (first_repeat (set.insert s x) xs ≡ None)
-no_repeat s x xs h =
-    elim (set.contains s x) as (λ b. cond b (Some x) (first_repeat (set.insert s x) xs) ≡ None
-    → (b ≡ false) × (first_repeat (set.insert s x) xs ≡ None)) [
-      | true ↦ λ e. cc
-      | false ↦ λ e. (refl, e)
-    ] h
+no_repeat s x xs h = search rules
 
 pub apart : (s : FinSet nat_cmp) (xs : List ℕ) → first_repeat s xs ≡ None → (y : ℕ) → set.contains s y ≡ true
     → ¬ IsAmong y xs
@@ -102,14 +97,7 @@ told_once xs none = (λ _. distinct set.empty xs none, λ _. refl)
 
 pub told_twice : (v : ℕ) (xs : List ℕ) → IsFault (Redefined v) (first_redefinition set.empty xs)
     → IsTrue false ↔ AreDistinct xs
-told_twice v xs told = (
-  λ is. cc,
-  λ once.
-      let none : first_repeat set.empty xs ≡ None = nothing_repeats set.empty xs once (λ y _ h. none_in_empty y h) in
-      let told_none : IsFault (Redefined v) None =
-      subst (λ o. IsFault (Redefined v) (option_map Redefined o)) none told in
-      absurd (told_of_none (Redefined v) (λ is. cc) told_none),
-)
+told_twice v xs told = search (rules, nothing_repeats, none_in_empty, told_of_none)
 
 -- what the set of all has was there before or stands in the list
 pub found : (s : FinSet nat_cmp) (xs : List ℕ) (y : ℕ) → set.contains (with_all s xs) y ≡ true
@@ -133,20 +121,10 @@ taken s (x ∷ xs) y a =
     (taken (set.insert s x) xs y) a
 
 pub known_is : (vars : List ℕ) (lit : ℕ) → is_known (with_all set.empty vars) lit ≡ true → IsKnown vars lit
-known_is vars lit h =
-    elim (eqb (variable_of lit) 0) as (λ b. eqb (variable_of lit) 0 ≡ b
-    → (b || set.contains (with_all set.empty vars) (variable_of lit)) ≡ true → IsKnown vars lit) [
-      | true ↦ λ e _. inl ((Decides-eqb (variable_of lit) 0).0 e)
-      | false ↦ λ _ e. ⊎_elim (λ (n : set.contains (set.empty {R = nat_cmp}) (variable_of lit) ≡ true).
-          absurd (none_in_empty _ n)) (λ (a : IsAmong (variable_of lit) vars). inr a)
-          (found set.empty vars (variable_of lit) e)
-    ] refl h
+known_is vars lit h = search (rules, none_in_empty, found)
 
 pub known_told : (vars : List ℕ) (lit : ℕ) → IsKnown vars lit → is_known (with_all set.empty vars) lit ≡ true
-known_told vars lit k =
-    ⊎_elim (λ (e : variable_of lit ≡ 0). ap (λ b. b || set.contains (with_all set.empty vars) (variable_of lit))
-    ((Decides-eqb (variable_of lit) 0).1 e))
-    (λ (a : IsAmong (variable_of lit) vars). or_true _ _ (taken set.empty vars (variable_of lit) a)) k
+known_told vars lit k = search (rules, or_true, taken)
 
 pub all_known : (vars lits : List ℕ) → first_unknown (with_all set.empty vars) lits ≡ None
     → AllByRecursion (IsKnown vars) lits
@@ -185,18 +163,7 @@ ranked_where_none_cyclic c once none =
 
 -- a circuit in form without a fault is well formed
 pub well_formed : (c : Circuit) → IsInForm c → first_structural_fault c ≡ None → IsWellFormed c
-well_formed c form h =
-    let n = nothing_told (first_repeat set.empty (defined_variables c))
-    (first_unknown (with_all set.empty (defined_variables c)) (used_literals c)) (first_cyclic c.gates) h in
-    let once : AreDistinct (defined_variables c) = distinct set.empty (defined_variables c) n.0 in
-    record {
-      limits = form.limits;
-      in_range = form.variables;
-      once = once;
-      known = all_known (defined_variables c) (used_literals c) n.1;
-      symbols = form.symbols;
-      ranked = ranked_where_none_cyclic c once n.2;
-    }
+well_formed c form h = search (rules, nothing_told, distinct, all_known, ranked_where_none_cyclic)
 
 -- a well-formed circuit has no fault
 pub faultless : (c : Circuit) → IsWellFormed c → first_structural_fault c ≡ None

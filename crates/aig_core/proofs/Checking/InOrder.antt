@@ -1,8 +1,9 @@
 -- Where gates stand after those that they use, no gate depends on a cycle and each operand is known.
-use Rattle.std.proofs.Common.{◌≡◌, ◌<◌, ◌≤◌, ◌*◌, ℕ, zero, suc, List, [], ◌∷◌, ◌++◌, Bool, true, false, ◌||◌, not, cond}
+use Rattle.std.proofs.Common.{rules}
+use Rattle.std.proofs.Common.{◌≡◌, ◌<◌, ◌≤◌, ℕ, zero, suc, List, [], ◌∷◌, ◌++◌, Bool, true, false, ◌||◌, cond}
 use Rattle.std.proofs.Common.{eqb, Option, None, Some, length, map, refl, sym, ap, subst, ◌∙◌, ⊎_elim, arith}
-use Rattle.std.specs.List.{concat, list_all, flat_map}
-use Rattle.std.specs.Option.{is_none, option_map, option_or}
+use Rattle.std.specs.List.{concat, flat_map}
+use Rattle.std.specs.Option.{is_none, option_or}
 use Rattle.std.specs.Ordering.{nat_cmp}
 use Rattle.std.specs.FinSet as set
 use Rattle.std.specs.FinSet.{FinSet}
@@ -12,9 +13,9 @@ use Rattle.aig_circuit.specs.declared.circuit.Circuit.{Circuit}
 use Rattle.aig_circuit.specs.declared.circuit.Latch.{Latch}
 use Rattle.aig_circuit.specs.declared.circuit.Gate.{Gate}
 use Rattle.aig_circuit.specs.Literal.{variable_of}
-use Rattle.aig_circuit.specs.Wellformed.{IsAmong, IsVariableUpTo, operands, defined_variables, literal_lists, used_literals}
+use Rattle.aig_circuit.specs.Wellformed.{IsAmong, IsVariableUpTo, operands, defined_variables, literal_lists}
 use Rattle.aig_circuit.specs.Form.{IsInForm}
-use Rattle.aig_topo.specs.Order.{gate_operands, ends_within, depends_on_cycle, first_cyclic}
+use Rattle.aig_topo.specs.Order.{gate_operands, ends_within, first_cyclic}
 use Rattle.aig_core.specs.Fault.{first_repeat, first_unknown, first_structural_fault, with_all, is_known}
 use Rattle.aig_core.specs.Parts.InOrder.{are_in_order, has_gates_in_order}
 use Rattle.aig_circuit.proofs.Checking.Fitting.{each}
@@ -53,12 +54,7 @@ known_each s (x ∷ xs) none v some among =
 -- what is known is known with more variables too
 known_with_more : (s : FinSet nat_cmp) (vars : List ℕ) (lit : ℕ) → is_known s lit ≡ true
     → is_known (with_all s vars) lit ≡ true
-known_with_more s vars lit h =
-    elim (eqb (variable_of lit) 0) as (λ b. (b || set.contains s (variable_of lit)) ≡ true
-    → (b || set.contains (with_all s vars) (variable_of lit)) ≡ true) [
-      | true ↦ λ _. refl
-      | false ↦ λ e. kept s vars (variable_of lit) e
-    ] h
+known_with_more s vars lit h = search (rules, kept)
 
 none_unknown_with_more : (s : FinSet nat_cmp) (vars lits : List ℕ) → first_unknown s lits ≡ None
     → first_unknown (with_all s vars) lits ≡ None
@@ -112,11 +108,7 @@ module _ (gates : List Gate) (falls : (i j : ℕ) → i < length gates → IsAmo
       ends_there n j (omega (arith, before)) (omega (arith, before)))
 
   none_depends : first_cyclic gates ≡ None
-  none_depends = ap (option_map (λ (g : Gate). 2 * g.var)) (find_none (depends_on_cycle gates) gates (λ i there.
-      ap (λ xs. not (list_all (ends_within (length gates) gates) xs)) (sym (needed gates i there))
-      ∙ ap not (all_true (ends_within (length gates) gates) (gate_operands gates i)
-      (λ j used. let before : j < i = falls i j there used in
-      ends_there (length gates) j (omega (arith, before)) (omega (arith, before))))))
+  none_depends = search (rules, find_none, needed, all_true, ends_there)
 
 both_none : (o p : Option ℕ) → option_or o p ≡ None → (o ≡ None) × (p ≡ None)
 both_none None p h = (refl, h)
@@ -139,10 +131,7 @@ module _ (c : Circuit) (once : first_repeat set.empty (defined_variables c) ≡ 
       (sym (repeat_append set.empty before (variables c.gates)) ∙ once)).1
 
   none_cyclic : IsInForm c → first_cyclic c.gates ≡ None
-  none_cyclic form = none_depends c.gates (λ i j there used.
-      let over = over_one c.gates i j there used in
-      earlier (with_all set.empty before) c.gates gates_once in_order i j there over.0 (no_constant c form j over.0)
-      over.1)
+  none_cyclic form = search (rules, none_depends, over_one, earlier, gates_once, no_constant)
 
   gates_known : first_unknown (with_all set.empty (defined_variables c)) (flat_map operands c.gates) ≡ None
   gates_known =
@@ -153,9 +142,4 @@ module _ (c : Circuit) (once : first_repeat set.empty (defined_variables c) ≡ 
   pub in_order_faultless : IsInForm c
       → first_unknown (with_all set.empty (defined_variables c)) (map (λ (l : Latch). l.next) c.latches ++ concat (literal_lists c))
       ≡ None → first_structural_fault c ≡ None
-  in_order_faultless form ends =
-      let s : FinSet nat_cmp = with_all set.empty (defined_variables c) in
-      let known : first_unknown s (used_literals c) ≡ None =
-      unknown_append s (map (λ (l : Latch). l.next) c.latches ++ concat (literal_lists c)) (flat_map operands c.gates)
-      ∙ rw (ends, gates_known) refl in
-      rw (once, known, none_cyclic form) refl
+  in_order_faultless form ends = search (rules, unknown_append, gates_known, none_cyclic)

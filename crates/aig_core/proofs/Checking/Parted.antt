@@ -1,4 +1,5 @@
 -- Variables in parts: none stands in the list twice where none stands in a part twice.
+use Rattle.std.proofs.Common.{rules}
 use Rattle.std.proofs.Common.{◌≡◌, ◌%◌, ◌<◌, ◌∙◌, ◌++◌, ◌∷◌, ◌↔◌, ◌⊎◌, [], ℕ, Bool, List, true, false, cond}
 use Rattle.std.proofs.Common.{None, IsTrue, ap, arith, inl, inr, length, refl, slice_index_or, slice_set, subst, sym, take, ⊎_elim}
 use Rattle.std.specs.FinSet as set
@@ -121,10 +122,7 @@ one_more parts more all x are e =
 pub distinct_parts : (parts : List (List ℕ)) (all : List ℕ) (once : Bool) → AreParts parts all
     → (IsTrue once ↔ ((k : ℕ) → k < length parts → AreDistinct (slice_index_or parts k [])))
     → IsTrue once ↔ AreDistinct all
-distinct_parts parts all once are is = (
-  λ t. whole_distinct all (λ k low. subst AreDistinct (are.each k low) (is.0 t k (omega (arith, are.many)))),
-  λ d. is.1 (λ k low. subst AreDistinct (sym (are.each k (omega (arith, are.many)))) (part_distinct (is_in_part k) all d)),
-)
+distinct_parts parts all once are is = search (rules, whole_distinct, part_distinct)
 
 -- what the sections of a circuit define, put there one section after the other
 pub of_circuit : (c : Circuit) (parts : List (List ℕ)) (once : Bool)

@@ -1,5 +1,6 @@
 -- The first repeat, the first unknown literal and the first fault, without the set of what was seen.
-use Rattle.std.proofs.Common.{◌≡◌, ◌<◌, ◌≤◌, ◌*◌, ℕ, List, [], ◌∷◌, ◌++◌, Bool, true, false, cond, Option, None, Some}
+use Rattle.std.proofs.Common.{rules}
+use Rattle.std.proofs.Common.{◌≡◌, ◌<◌, ◌*◌, ℕ, List, [], ◌∷◌, ◌++◌, Bool, true, false, cond, Option, None, Some}
 use Rattle.std.proofs.Common.{length, refl, sym, ap, subst, ◌∙◌, ⊎_elim, ◌↔◌, arith, true≢false}
 use Rattle.std.specs.List.{AllByRecursion, position, position_or_len, slice_get}
 use Rattle.std.specs.Option.{option_map, option_or}
@@ -64,10 +65,7 @@ repeat_in s (y ∷ ys) x h =
     ] refl h
 
 repeat_out : (s : FinSet nat_cmp) (xs : List ℕ) (x : ℕ) → RepeatIn s xs x → first_repeat s xs ≡ Some x
-repeat_out s xs x r =
-    ap (first_repeat s) r.parts ∙ repeat_append s r.front (x ∷ r.rest)
-    ∙ ap (λ o. option_or o (first_repeat (with_all s r.front) (x ∷ r.rest))) r.none
-    ∙ ap (λ b. cond b (Some x) (first_repeat (set.insert (with_all s r.front) x) r.rest)) r.had
+repeat_out s xs x r = search (rules, repeat_append)
 
 pub no_repeat_where_distinct : (xs : List ℕ) → (first_repeat set.empty xs ≡ None) ↔ AreDistinct xs
 no_repeat_where_distinct xs =
@@ -126,10 +124,7 @@ unknown_in s (y ∷ ys) x h =
     ] refl h
 
 unknown_out : (s : FinSet nat_cmp) (xs : List ℕ) (x : ℕ) → UnknownIn s xs x → first_unknown s xs ≡ Some x
-unknown_out s xs x u =
-    ap (first_unknown s) u.parts ∙ unknown_append s u.front (x ∷ u.rest)
-    ∙ ap (λ o. option_or o (first_unknown s (x ∷ u.rest))) u.none
-    ∙ ap (λ b. cond b (first_unknown s u.rest) (Some x)) u.out
+unknown_out s xs x u = search (rules, unknown_append)
 
 pub none_unknown_where_known : (variables xs : List ℕ)
     → (first_unknown (with_all set.empty variables) xs ≡ None) ↔ AllByRecursion (IsKnown variables) xs
@@ -169,12 +164,7 @@ module _ (gates : List Gate) (list : List ℕ) (full : IsFull (length gates) (ga
   at_first_place literal h = ap (option_map own) (sym (find_at (depends_on_cycle gates) gates)) ∙ h
 
   is_there : (literal : ℕ) → first_cyclic gates ≡ Some literal → first_place < length gates
-  is_there literal h =
-      ⊎_elim (λ (there : first_place < length gates). there)
-      (λ (past : length gates ≤ first_place).
-      let none : slice_get gates first_place ≡ None = slice_get_past gates first_place past in
-      let both : None ≡ Some literal = ap (option_map own) (sym none) ∙ at_first_place literal h in cc)
-      (cases_lt first_place (length gates))
+  is_there literal h = search (rules, slice_get_past, at_first_place, cases_lt)
 
   pub left_out_where_cyclic : (literal : ℕ) → first_cyclic gates ≡ Some literal → IsFirstLeftOut gates list literal
   left_out_where_cyclic literal h =
@@ -262,19 +252,7 @@ module _ (c : Circuit) where
   -- where there is neither of the other two
   cyclic_where : (l : ℕ) → (first_structural_fault c ≡ Some (Cyclic l))
       ↔ (IsFullyDefined c × (first_cyclic c.gates ≡ Some l))
-  cyclic_where l = (
-    λ h. let is = is_cyclic repeat unknown (first_cyclic c.gates) l h in (
-      (
-        (no_repeat_where_distinct (defined_variables c)).0 is.0,
-        all_known (defined_variables c) (used_literals c) is.1,
-      ),
-      is.2,
-    ),
-    λ f.
-        ap (λ o. reported o unknown (first_cyclic c.gates)) ((no_repeat_where_distinct (defined_variables c)).1 f.0.0)
-        ∙ ap (λ o. reported None o (first_cyclic c.gates)) (none_unknown (defined_variables c) (used_literals c) f.0.1)
-        ∙ ap (λ o. reported None None o) f.1,
-  )
+  cyclic_where l = search (rules, is_cyclic, no_repeat_where_distinct, all_known, none_unknown)
 
   pub cyclic_exactly : (list : List ℕ) (l : ℕ) → IsLeastReadyOrder c list
       → (first_structural_fault c ≡ Some (Cyclic l)) ↔ (IsFullyDefined c × IsFirstLeftOut c.gates list l)

@@ -1,4 +1,6 @@
 -- Numbers one after another: the variables that a circuit in binary order defines.
+use Rattle.std.proofs.lemmas.Grind.{common_steps}
+use Rattle.std.proofs.Common.{rules}
 use Rattle.std.proofs.Common.{◌≡◌, ◌+◌, ◌*◌, ◌/◌, ◌<◌, ◌≤◌, ◌||◌, ℕ, zero, suc, List, [], ◌∷◌, ◌++◌, true, false, eqb}
 use Rattle.std.proofs.Common.{length, map, refl, sym, ap, ap₂, ◌∙◌, arith, inl, inr, ⊎_elim, add-one}
 use Rattle.std.specs.List.{AllByRecursion, list_any, range_with_len}
@@ -73,14 +75,7 @@ gates_define variable (g ∷ gs) o =
 
 -- a circuit whose variables are numbered in order defines all of them
 pub numbered_variables_are : (c : Circuit) → IsNumberedInOrder c → defined_variables c ≡ range_with_len 1 c.max_var
-numbered_variables_are c o =
-    let i = length c.inputs in
-    let l = length c.latches in
-    let next : 1 + i + l ≡ 1 + (i + l) = omega arith in
-    ap₂ (λ (xs ys : List ℕ). xs ++ ys) (ap₂ (λ (xs ys : List ℕ). xs ++ ys) o.inputs o.latches ∙ ranges_joined 1 i l)
-    (gates_define (1 + i + l) c.gates o.gates ∙ ap (λ (k : ℕ). range_with_len k (length c.gates)) next)
-    ∙ ranges_joined 1 (i + l) (length c.gates)
-    ∙ ap (range_with_len 1) (sym o.all)
+numbered_variables_are c o = grind (arith, common_steps, ranges_joined, gates_define)
 
 -- and one in binary order is such
 gates_numbered : (variable : ℕ) (gs : List Gate) → AreOrderedGates variable gs → AreNumberedGates variable gs
@@ -88,12 +83,7 @@ gates_numbered variable [] o = tt
 gates_numbered variable (g ∷ gs) o = (o.0, o.1, omega (arith, o.1, o.2), gates_numbered (suc variable) gs o.3)
 
 pub is_numbered : (c : Circuit) → IsInBinaryOrder c → IsNumberedInOrder c
-is_numbered c o = record {
-  inputs = o.inputs;
-  latches = o.latches;
-  gates = gates_numbered (1 + length c.inputs + length c.latches) c.gates o.gates;
-  all = o.all;
-}
+is_numbered c o = search (rules, gates_numbered)
 
 pub variables_are : (c : Circuit) → IsInBinaryOrder c → defined_variables c ≡ range_with_len 1 c.max_var
 variables_are c o = numbered_variables_are c (is_numbered c o)

@@ -1,4 +1,5 @@
 -- Sections whose variables are numbered on, and binary order.
+use Rattle.std.proofs.Common.{rules}
 use Rattle.std.proofs.Common.{◌≡◌, ◌+◌, ℕ, suc, List, [], ◌∷◌, length, map, refl, sym, ap, ap₂, ◌∙◌, arith, add-one}
 use Rattle.std.specs.List.{range_with_len}
 use Rattle.std.proofs.lemmas.List.{map-id}
@@ -57,29 +58,13 @@ first_from c inputs latches all = record {
 }
 
 pub by_sections : (c : Circuit) → AreSectionsInOrder c → IsInBinaryOrder c
-by_sections c h = record {
-  inputs = inputs_to c h.first;
-  latches = latches_to c h.first;
-  gates = gates_to (1 + length c.inputs + length c.latches) c.gates h.gates;
-  all = let all = h.first.all in omega arith;
-}
+by_sections c h = search (rules, inputs_to, latches_to, gates_to)
 
 pub all_sections : (c : Circuit) → IsInBinaryOrder c → AreSectionsInOrder c
-all_sections c h = record {
-  first = first_from c h.inputs h.latches h.all;
-  gates = gates_from (1 + length c.inputs + length c.latches) c.gates h.gates;
-}
+all_sections c h = search (rules, first_from, gates_from)
 
 pub by_numbered : (c : Circuit) → AreSectionsNumbered c → IsNumberedInOrder c
-by_numbered c h = record {
-  inputs = inputs_to c h.first;
-  latches = latches_to c h.first;
-  gates = numbered_gates_to (1 + length c.inputs + length c.latches) c.gates h.gates;
-  all = let all = h.first.all in omega arith;
-}
+by_numbered c h = search (rules, inputs_to, latches_to, numbered_gates_to)
 
 pub all_numbered : (c : Circuit) → IsNumberedInOrder c → AreSectionsNumbered c
-all_numbered c h = record {
-  first = first_from c h.inputs h.latches h.all;
-  gates = numbered_gates_from (1 + length c.inputs + length c.latches) c.gates h.gates;
-}
+all_numbered c h = search (rules, first_from, numbered_gates_from)

@@ -1,9 +1,9 @@
 -- A circuit in binary order is well formed, where its counts, its symbols and its literals are right.
+use Rattle.std.proofs.lemmas.Grind.{common_steps}
 use Rattle.std.proofs.Common.{◌≡◌, ◌+◌, ◌*◌, ◌/◌, ◌<◌, ◌≤◌, ℕ, suc, List, [], ◌∷◌, ◌++◌, length, map, sym, subst, arith}
 use Rattle.std.proofs.Common.{⊎_elim}
 use Rattle.std.specs.Prelude.{◌⊎◌}
 use Rattle.std.specs.List.{AllByRecursion, concat, range_with_len, flat_map}
-use Rattle.std.proofs.lemmas.List.Elements.{All-contains, All-from_recursion}
 use Rattle.aig_circuit.specs.declared.circuit.Latch.{Latch}
 use Rattle.aig_circuit.specs.declared.circuit.Gate.{Gate}
 use Rattle.aig_circuit.specs.declared.circuit.Circuit.{Circuit}
@@ -30,10 +30,7 @@ lower v left right w l r h =
 
 -- so the variable is a rank
 variable_ranks : (variable : ℕ) (gs : List Gate) → AreOrderedGates variable gs → IsRank (λ v. v) gs
-variable_ranks variable gs o = λ g h in_g in_h a.
-    let below : IsOverLower g =
-    All-contains IsOverLower gs g (All-from_recursion IsOverLower gs (all_over_lower variable gs o)) in_g in
-    lower g.var g.left g.right h.var below.0 below.1 a
+variable_ranks variable gs o = grind (arith, common_steps, all_over_lower, lower)
 
 operands_up_to : (variable m : ℕ) (gs : List Gate) → AreOrderedGates variable gs → variable + length gs ≤ m + 1
     → AllByRecursion (IsLiteralUpTo m) (flat_map operands gs)

@@ -1,9 +1,7 @@
-use Rattle.std.proofs.Common.{◌∙◌, ◌∷◌, [], ap}
+use Rattle.std.proofs.Common.{rules}
+use Rattle.std.proofs.Common.{◌∙◌}
 use Rattle.std.proofs.lemmas.Result.{err_from_is_err_and}
 use Rattle.aig_core.proofs.Checking.Sections.{told_of_gates, gates_repeat, all_seen}
-use Rattle.aig_circuit.specs.declared.circuit.Gate.{Gate}
-use Rattle.aig_circuit.specs.Wellformed.{operands}
-use Rattle.aig_core.specs.Parts.InOrder.{are_in_order}
 use Rattle.aig_core.proofs.checked.faults.definitions.Goals as goal
 
 pub returns-in_err-in_order-clause-err : goal.returns-in_err-in_order-clause-err
@@ -24,7 +22,4 @@ returns-clause-ok c =
     ∙ c.in_ok-in_order.ensures.ok
 
 pub returns-clause-in_order : goal.returns-clause-in_order
-returns-clause-in_order c =
-    c.in_ok-in_order.ensures.in_order
-    ∙ ap (λ before. are_in_order (λ (g : Gate). g.var ∷ []) operands before c.args.circuit.now.gates)
-    c.in_ok-variables.ensures.variables
+returns-clause-in_order c = search rules

@@ -1,3 +1,4 @@
+use Rattle.std.proofs.Common.{rules}
 use Rattle.std.proofs.lemmas.Result.{err_from_is_err_and}
 use Rattle.aig_core.proofs.Checking.Sections.{told_of_inputs, told_of_latches, all_before, none_before}
 use Rattle.aig_core.proofs.checked.faults.definitions_before_gates.Goals as goal
@@ -19,15 +20,7 @@ returns-in_err-define_all-2-clause-err c =
     _ c.in_err-define_all-2.ensures.err)
 
 pub returns-clause-variables : goal.returns-clause-variables
-returns-clause-variables c =
-    all_before c.args.circuit.now _
-    (rw (← c.in_ok-variables.ensures) c.in_ok-define_all.ensures.seen)
-    (rw (← c.in_ok-variables.ensures) c.in_ok-define_all.ensures.ok)
-    _ c.in_ok-define_all-2.ensures.seen
+returns-clause-variables c = search (rules, all_before)
 
 pub returns-clause-ok : goal.returns-clause-ok
-returns-clause-ok c =
-    none_before c.args.circuit.now _
-    (rw (← c.in_ok-variables.ensures) c.in_ok-define_all.ensures.seen)
-    (rw (← c.in_ok-variables.ensures) c.in_ok-define_all.ensures.ok)
-    c.in_ok-define_all-2.ensures.ok
+returns-clause-ok c = search (rules, none_before)
