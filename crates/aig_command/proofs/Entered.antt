@@ -12,6 +12,7 @@ use Rattle.clap.specs.Takes.{is_given}
 use Rattle.clap.specs.Walk.{Held, Names, answers_to, finished, nothing_held, settled, walk, walk_from}
 use Rattle.aig_command.specs.Aiger.{aiger}
 use Rattle.aig_command.specs.Asked.{asked_by, faults}
+use Rattle.aig_command.proofs.Read.{both}
 
 -- ---- a subcommand is met
 
@@ -71,10 +72,6 @@ is_entered words e =
 -- a subcommand that is met is known
 abbrev IsKnownIfMet : Option (Text × List Row) → Type 0
 IsKnownIfMet met = is_some met ≡ true → is_some (option_and_then asked_by met) ≡ true
-
-both : (a b : Bool) → (a && b) ≡ true → (a ≡ true) × (b ≡ true)
-both true b e = (refl, e)
-both false b e = absurd (true≢false (sym e))
 
 pick_known : (b : Bool) (s : Shape) (later : Option Shape) (rows : Shape → Text × List Row)
     → is_some (asked_by (rows s)) ≡ true → IsKnownIfMet (option_map rows later)

@@ -39,7 +39,7 @@ gives_next bs cs room ys n k fits same was =
     sym (ap (λ (xs : List ℕ). xs ++ drop (n + k) bs) front
     ∙ ap (λ (xs : List ℕ). take k (drop n bs) ++ xs) (sym (drop-drop k n bs)) ∙ take-append-drop k (drop n bs))
 
-consumes_twice : (a b c : Option (List ℕ)) (xs ys : List ℕ) → Consumes a b xs → Consumes b c ys
+pub consumes_twice : (a b c : Option (List ℕ)) (xs ys : List ℕ) → Consumes a b xs → Consumes b c ys
     → Consumes a c (xs ++ ys)
 consumes_twice None b c xs ys p q = tt
 consumes_twice (Some x) None c xs ys p q = absurd p

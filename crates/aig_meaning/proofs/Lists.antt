@@ -5,10 +5,7 @@ use Rattle.std.specs.List.{AllZip, AllByRecursion, Contains, flat_map}
 use Rattle.aig_circuit.specs.declared.circuit.Gate.{Gate}
 use Rattle.aig_circuit.specs.Wellformed.{IsAmong, AreDistinct, operands}
 use Rattle.aig_topo.proofs.Ordering.Cyclic.{among_last}
-
-pub among_front : (x : ℕ) (xs ys : List ℕ) → IsAmong x xs → IsAmong x (xs ++ ys)
-among_front x [] ys a = absurd a
-among_front x (z ∷ zs) ys a = ⊎_elim (λ (e : x ≡ z). inl e) (λ (b : IsAmong x zs). inr (among_front x zs ys b)) a
+use Rattle.aig_topo.proofs.Ordering.Placing.{among_first as among_front}
 
 pub distinct_front : (xs ys : List ℕ) → AreDistinct (xs ++ ys) → AreDistinct xs
 distinct_front [] ys d = tt

@@ -1,6 +1,6 @@
 -- Bytes that come, and that none do.
 use Rattle.std.proofs.Common.{◌≡◌, ◌≢◌, ◌==◌, ℕ, zero, suc, List, [], ◌∷◌, ◌++◌, true, false, Option, None, Some}
-use Rattle.std.proofs.Common.{length, take, refl, sym, ap, ◌∙◌, append_assoc, arith}
+use Rattle.std.proofs.Common.{length, take, refl, sym, ap, ◌∙◌, arith}
 use Rattle.std.proofs.lemmas.Bool.{eqb-false, eqb-true}
 use Rattle.std.specs.Io.KnownBytes.{Consumes, Keeps}
 
@@ -15,13 +15,6 @@ no_bytes (b ∷ bs) none = let long : length (b ∷ bs) ≡ 0 = eqb-true _ _ non
 pub some_bytes : (bytes : List ℕ) → (length bytes == 0) ≡ false → bytes ≢ []
 some_bytes bytes some none =
     let long : length bytes ≢ 0 = eqb-false _ _ some in long (ap length none)
-
-pub consumes_twice : (a b c : Option (List ℕ)) (xs ys : List ℕ) → Consumes a b xs → Consumes b c ys
-    → Consumes a c (xs ++ ys)
-consumes_twice None b c xs ys p q = tt
-consumes_twice (Some x) None c xs ys p q = absurd p
-consumes_twice (Some x) (Some y) None xs ys p q = absurd q
-consumes_twice (Some x) (Some y) (Some z) xs ys p q = p ∙ ap (λ (bs : List ℕ). xs ++ bs) q ∙ sym (append_assoc xs ys z)
 
 pub consumes_kept : (a b c : Option (List ℕ)) (xs : List ℕ) → Consumes a b xs → Keeps b c → Consumes a c xs
 consumes_kept None b c xs p q = tt

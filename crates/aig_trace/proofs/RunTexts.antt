@@ -11,6 +11,7 @@ use Rattle.aig_step.specs.declared.trace.Columns.{Columns}
 use Rattle.aig_step.specs.Stimulus.{Entry, Step, Stop, runs_of, stimulus, with_step}
 use Rattle.aig_step.specs.TraceText.{IsTraceText, last_stop, row_text, rows_text, run_text}
 use Rattle.aig_trace.specs.Parts.Progress.{Point, begin_of, Steps, Goes}
+use Rattle.aig_rows.proofs.Grammar.Rows.{or_yes as or_true}
 
 -- the text of runs, the first of which goes on from a point, and the point that they lead to
 abbrev Leads : Circuit → Columns → Point → List (List (List Val)) → List (List Val) → Point → List ℕ → Type 0
@@ -20,10 +21,6 @@ Leads c columns p [] unended q text =
 Leads c columns p (run ∷ runs) unended q text =
     (rows : List Row) × (rest : List ℕ) × Follow c p.state run rows × Leads c columns (begin_of c) runs unended q rest
     × (text ≡ run_text columns rows ++ rest)
-
-or_true : (a : Bool) → (a || true) ≡ true
-or_true true = refl
-or_true false = refl
 
 or_false : (a : Bool) → (a || false) ≡ a
 or_false true = refl

@@ -7,7 +7,7 @@ use Rattle.std.proofs.lemmas.Bool.{false≢true}
 use Rattle.std.specs.Io.KnownBytes.{Appends, Consumes, IsAtEnd, Keeps}
 use Rattle.aig_circuit.specs.declared.circuit.Circuit.{Circuit}
 use Rattle.aig_io.specs.Transfer.{TookBeginning}
-use Rattle.aig_io.proofs.KnownBytes.{appends_twice}
+use Rattle.aig_io.proofs.KnownBytes.{appends_twice, consumes_twice}
 use Rattle.aig_step.specs.declared.fault.SimFault.{SimFault}
 use Rattle.aig_step.specs.declared.fault.SimFault.TheVariants.{OutOfMemory, BadStimulus, BadWitness, ReadFailed}
 use Rattle.aig_step.specs.declared.fault.SimFault.TheVariants.{WriteFailed}
@@ -16,7 +16,7 @@ use Rattle.aig_step.specs.Outcome.{Came, Interrupted, NotSimulated, Simulated}
 use Rattle.aig_trace.specs.Parts.Streaming.{NotSent, Reached, SentAll, SentLines}
 use Rattle.aig_trace.specs.Parts.Tracing.{Reading}
 use Rattle.aig_trace.proofs.Taking.{none_bad_so_far, text_so_far}
-use Rattle.aig_step.proofs.Coming.{consumes_twice, consumes_kept}
+use Rattle.aig_step.proofs.Coming.{consumes_kept}
 
 begins : (a b c : Option (List ℕ)) (xs ys : List ℕ) → Appends a b xs → TookBeginning b c ys
     → TookBeginning a c (xs ++ ys)

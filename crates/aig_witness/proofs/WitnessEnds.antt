@@ -15,8 +15,9 @@ use Rattle.aig_step.specs.Stimulus.{judged_lines}
 use Rattle.aig_witness.specs.Witness.{Shape, first_bad_witness_line, shape_of, witness_of, wrong_line}
 use Rattle.aig_witness.specs.Parts.Witnessing.{Concluded, HasFollowed, IsAtLine, NamesWrongLine, ReachedLine}
 use Rattle.aig_witness.specs.Parts.Witnessing.{WitnessReading, Witnessing, verdict_of}
-use Rattle.aig_step.proofs.Coming.{consumes_kept, consumes_none, consumes_twice}
+use Rattle.aig_step.proofs.Coming.{consumes_kept, consumes_none}
 use Rattle.aig_witness.proofs.WitnessReading.{none_wrong_so_far}
+use Rattle.aig_io.proofs.KnownBytes.{consumes_twice}
 
 -- a claim that was followed to its end has its verdict
 pub concluded : (c : Circuit) (bytes : List ℕ) (w : Witnessing) (v : Verdict) → HasFollowed c bytes w

@@ -17,6 +17,7 @@ use Rattle.aig_witness.specs.Witness.{number_below, property_in, said_with, with
 use Rattle.aig_witness.specs.Parts.Witnessing.{digits_below, witness_room}
 use Rattle.aig_step.proofs.EntryTexts.{one_shorter, too_long_text}
 use Rattle.aig_witness.proofs.WitnessValues.{no_first_state}
+use Rattle.aig_witness.proofs.Witnessing.{both as two}
 
 abbrev spell : ℕ → ℕ → ℕ
 spell v b = 10 * v + (b - 48)
@@ -71,10 +72,6 @@ three true true true is = (refl, refl)
 three true true false is = cc
 three true false d is = cc
 three false b d is = cc
-
-two : (a b : Bool) → (a && b) ≡ true → (a ≡ true) × (b ≡ true)
-two true b is = (refl, is)
-two false b is = cc
 
 not_padding : (digit padding : Bool) → digit ≡ true → not (digit && padding) ≡ true → padding ≡ false
 not_padding true true is unpadded = cc

@@ -60,7 +60,7 @@ one_starts resets.One One is = refl
 one_starts resets.One X is = cc
 one_starts resets.Uninit v is = tt
 
-both : (a b : Bool) → (a && b) ≡ true → (a ≡ true) × (b ≡ true)
+pub both : (a b : Bool) → (a && b) ≡ true → (a ≡ true) × (b ≡ true)
 both true b is = (refl, is)
 both false b is = cc
 

@@ -17,14 +17,12 @@ use Rattle.aig_topo.proofs.Ordering.LeastReady.{among_or_not}
 use Rattle.aig_image.proofs.Numbering.Places.{no_place}
 use Rattle.aig_image.specs.declared.numbers.Numbers.{Numbers}
 use Rattle.aig_image.specs.Parts.Numbers.{number_of, number_in, AreNumbered}
+use Rattle.aig_topo.proofs.Ordering.Gates.{eqb_comm}
 
 -- the place in a list that grows
 pub number_push : (xs : List ℕ) (x v : ℕ)
     → number_in (xs ++ x ∷ []) v ≡ cond (eqb (number_in xs v) 0) (cond (eqb x v) (length xs + 1) 0) (number_in xs v)
 number_push xs x v = grind (arith, common_steps, position_or_len_push, prefix_len-le-length)
-
-eqb_comm : (a b : ℕ) → eqb a b ≡ eqb b a
-eqb_comm a b = grind arith
 
 -- where none was noted
 pub none_noted : (n : Numbers) → n.noted ≡ 0 → n.numbers ≡ empty → AreNumbered n []

@@ -54,7 +54,7 @@ same_rank rank flags gs ranks x y x_in y_in =
     (subst (λ (h : Gate). IsAmong b.1.var (map variable_of (operands h)) → rank b.1.var < rank h.var) a.3
     (λ among. ranks a.1 b.1 a.2 b.2 (same_uses a.0 a.1 b.1.var among)))
 
-as_many : (flags : List Bool) (gs : List Gate) → length (exchanged_by flags gs) ≡ length gs
+pub as_many : (flags : List Bool) (gs : List Gate) → length (exchanged_by flags gs) ≡ length gs
 as_many [] gs = refl
 as_many (e ∷ es) [] = refl
 as_many (e ∷ es) (g ∷ gs) = ap suc (as_many es gs)

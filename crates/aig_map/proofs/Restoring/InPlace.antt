@@ -12,6 +12,7 @@ use Rattle.aig_topo.proofs.Ordering.Ranked.{at, no_gate}
 use Rattle.aig_image.specs.Reordered.{exchanged_by, exchanged_if, taken}
 use Rattle.aig_image.proofs.Relabelling.Standing.{somewhere, same_place}
 use Rattle.aig_map.specs.Parts.Confirmed.{DifferWhereExchanged, HasTwoOperands, gate_in_place}
+use Rattle.aig_image.proofs.Relabelling.Exchanged.{as_many as as_many_exchanged}
 
 -- what is put at another position is not taken
 not_taken : (found : List Gate) (new : Gate) (at_new : ℕ) (positions : List ℕ) → ¬ IsAmong at_new positions
@@ -61,11 +62,6 @@ still_there zero es gs = refl
 still_there (suc k) [] gs = refl
 still_there (suc k) (e ∷ es) [] = refl
 still_there (suc k) (e ∷ es) (g ∷ gs) = still_there k es gs
-
-as_many_exchanged : (flags : List Bool) (gs : List Gate) → length (exchanged_by flags gs) ≡ length gs
-as_many_exchanged [] gs = refl
-as_many_exchanged (e ∷ es) [] = refl
-as_many_exchanged (e ∷ es) (g ∷ gs) = ap suc (as_many_exchanged es gs)
 
 -- a gate that is looked at, and then exchanged where its flag says so
 module _ (flags : List Bool) (gs found : List Gate) (k : ℕ) (g : Gate) (low : k < length flags)

@@ -65,7 +65,7 @@ zeros_end : (least most : ℕ) (ended : Bool) (bytes ns : List ℕ) → (eqb lea
 zeros_end least most ended bytes ns t is = search (rules, and_parts, eqb-true, no_more, length-zeros)
 
 -- one of two
-branches : {A : Type 0} (t : Bool) (x y z : A) → cond t x y ≡ z → ((t ≡ true) × (x ≡ z)) ⊎ ((t ≡ false) × (y ≡ z))
+pub branches : {A : Type 0} (t : Bool) (x y z : A) → cond t x y ≡ z → ((t ≡ true) × (x ≡ z)) ⊎ ((t ≡ false) × (y ≡ z))
 branches true x y z h = inl (refl, h)
 branches false x y z h = inr (refl, h)
 

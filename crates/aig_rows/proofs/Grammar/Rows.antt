@@ -5,7 +5,7 @@ use Rattle.std.proofs.Common.{get_or, Bool, Option, None, Some, Result, Ok, refl
 use Rattle.std.proofs.Common.{◌⊎◌, ◌||◌}
 use Rattle.std.specs.List.{AllZip}
 use Rattle.std.proofs.lemmas.Slice.Zip.{AllZip-long}
-use Rattle.std.proofs.lemmas.Bool.{ltb-false, ltb-true, lt-ltb, le-ltb, eqb-false, eqb-true, eq-eqb, ne_eqb, or_parts}
+use Rattle.std.proofs.lemmas.Bool.{ltb-false, lt-ltb, le-ltb, eqb-false, eq-eqb, ne_eqb, or_parts}
 use Rattle.std.proofs.lemmas.Bool.{or_from}
 use Rattle.std.proofs.Math.Dec.{ltb, eqb}
 use Rattle.aig_rows.specs.declared.fault.ReadFault.{ReadFault}
@@ -19,7 +19,7 @@ use Rattle.aig_rows.specs.Reading.{◌>>=◌, Found, at_line, is_no_variable, mi
 use Rattle.aig_rows.specs.Reading.{own_literal, carried_on, any_number, fault_in_row, unless_wrong, checked_row, row_of}
 use Rattle.aig_rows.specs.Reading.{line_found, row_at, rows_at}
 use Rattle.aig_rows.proofs.Steps.{both_ok, ok_at_line, ok_same}
-use Rattle.aig_rows.proofs.Kept.Checks.{right_parts}
+use Rattle.aig_rows.proofs.Kept.Checks.{right_parts, reset_is}
 use Rattle.aig_rows.proofs.Grammar.NumberLines.{row_reads, row_is_read}
 use Rattle.aig_rows.proofs.Grammar.Entries.{MayStand, IsGoodRow, AreGoodRows}
 
@@ -36,10 +36,7 @@ some_test true b h = inl refl
 some_test false true h = inr refl
 some_test false false h = cc
 
-reset_is : (own n : ℕ) → not (ltb n 2 || eqb n own) ≡ false → (n < 2) ⊎ (n ≡ own)
-reset_is own n h = search (rules, some_test, ltb-true, eqb-true)
-
-or_yes : (a : Bool) → (a || true) ≡ true
+pub or_yes : (a : Bool) → (a || true) ≡ true
 or_yes true = refl
 or_yes false = refl
 

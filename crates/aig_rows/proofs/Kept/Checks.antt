@@ -70,7 +70,7 @@ any_number_kept test h (r ∷ rs) [] = refl
 any_number_kept test h (r ∷ rs) (n ∷ ns) = ap₂ (λ (a b : Bool). a || b) (h r n) (any_number_kept test h rs ns)
 
 -- a number that passes each test is kept as it is
-reset_is : (own n : ℕ) → not (ltb n 2 || eqb n own) ≡ false → (n < 2) ⊎ (n ≡ own)
+pub reset_is : (own n : ℕ) → not (ltb n 2 || eqb n own) ≡ false → (n < 2) ⊎ (n ≡ own)
 reset_is own n h = search (rules, cases_Bool, ltb-true, eqb-true, not-false)
 
 small_number : (m c own : ℕ) (r : Role) (n : ℕ) → m ≤ LARGEST → own < 2 ^ 36 → exceeds m r n ≡ false

@@ -14,7 +14,7 @@ abbrev with_bit : ℕ → ℕ → ℕ
 with_bit word k = bit_or word (1 * 2 ^ k % 18446744073709551616)
 
 -- two numbers of one word and one place in it are one
-one_place : (i k : ℕ) → i / 64 ≡ k / 64 → i % 64 ≡ k % 64 → i ≡ k
+pub one_place : (i k : ℕ) → i / 64 ≡ k / 64 → i % 64 ≡ k % 64 → i ≡ k
 one_place i k p q = omega (arith, p, q)
 
 pub more_marks : (words : List ℕ) (k word : ℕ) → k / 64 < length words → word ≡ get_or words (k / 64) word

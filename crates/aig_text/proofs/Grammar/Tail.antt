@@ -24,6 +24,7 @@ use Rattle.aig_rows.proofs.Steps.{both_ok, ok_at_line, ok_same}
 use Rattle.aig_text.proofs.Grammar.Symbols.{symbol_reads, symbol_is_read, symbol_is_no_comment, comment_reads}
 use Rattle.aig_text.proofs.Grammar.Symbols.{comment_is_read}
 use Rattle.aig_text.proofs.Grammar.Named.{AreNew}
+use Rattle.aig_rows.proofs.Grammar.NumberLines.{branches as branch}
 
 -- the circuit with these symbols and this comment more
 abbrev pub with_tail : Circuit → List Symbol → Option (List ℕ) → Circuit
@@ -106,10 +107,6 @@ whole_tail h before c ls comment is = record {
 
 abbrev then_tail : Header → Names → Circuit → ℕ → List Line → Symbol → Result Circuit ReadFault
 then_tail h before c n ls s = tail_at h (with_name before s.kind s.position) (with_symbol c s) (n + 1) ls
-
-branch : {A : Type 0} (t : Bool) (x y z : A) → cond t x y ≡ z → ((t ≡ true) × (x ≡ z)) ⊎ ((t ≡ false) × (y ≡ z))
-branch true x y z h = inl (refl, h)
-branch false x y z h = inr (refl, h)
 
 -- where there is no comment before
 pub tail_tells : (h : Header) (before : Names) (c : Circuit) (n : ℕ) (ls : List Line) (d : Circuit) → c.comment ≡ None

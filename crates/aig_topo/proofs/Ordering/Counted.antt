@@ -1,14 +1,13 @@
 -- An order that takes a gate, or counts one down.
 use Rattle.std.proofs.Common.{rules}
-use Rattle.std.proofs.Common.{◌≡◌, ◌<◌, ◌≤◌, ◌+◌, ◌-◌, ◌*◌, ℕ, List, [], ◌∷◌, ◌++◌, length, take, get_or, ◌⊎◌, Option}
-use Rattle.std.proofs.Common.{None, Some, map, sym, ◌∙◌, inl, inr, ⊎_elim, arith}
+use Rattle.std.proofs.Common.{◌≡◌, ◌<◌, ◌≤◌, ◌+◌, ◌-◌, ◌*◌, ℕ, List, [], ◌∷◌, ◌++◌, length, take, get_or, ◌⊎◌}
+use Rattle.std.proofs.Common.{map, sym, ◌∙◌, inl, inr, ⊎_elim, arith}
 use Rattle.std.specs.List.{sum}
 use Rattle.std.proofs.Math.ListN.{set as put}
 use Rattle.std.proofs.lemmas.List.{take_more_set, length-take-le, length-set, length-map, length-replicate}
 use Rattle.std.proofs.lemmas.List.{get_or_default}
 use Rattle.std.proofs.lemmas.List.Sums.{sum_by-set, sum_by-cons}
 use Rattle.std.specs.Prelude.{replicate}
-use Rattle.std.specs.Option.{option_to_list}
 use Rattle.aig_circuit.specs.declared.circuit.TheConstants.{LARGEST}
 use Rattle.aig_topo.specs.declared.operands.Operands.{Operands}
 use Rattle.aig_topo.specs.Operands.{over}
@@ -16,6 +15,7 @@ use Rattle.aig_circuit.specs.Wellformed.{IsAmong, AreDistinct}
 use Rattle.aig_topo.specs.Progress.{IsCounted}
 use Rattle.aig_circuit.proofs.Checking.Fitting.{at_most_below}
 use Rattle.aig_circuit.proofs.Checking.InForm.{joined}
+use Rattle.aig_topo.proofs.Ordering.Steps.{two_at_most as two_told}
 
 -- a number in two lists joined is in one of them
 pub among_either : (x : ℕ) (xs ys : List ℕ) → IsAmong x (xs ++ ys) → IsAmong x xs ⊎ IsAmong x ys
@@ -58,12 +58,6 @@ module _ (positions : List ℕ) (taken : ℕ) (waiting : List ℕ) (steps : ℕ)
         below = rw as_long counted.below;
         paid = rw as_long (omega (arith, counted.paid, less, some, get_or_default waiting g n 0 there));
       }
-
-two_told : (a b : Option ℕ) → length (option_to_list a ++ option_to_list b) ≤ 2
-two_told None None = omega arith
-two_told None (Some y) = omega arith
-two_told (Some x) None = omega arith
-two_told (Some x) (Some y) = omega arith
 
 -- a gate waits for at most two operands
 at_most_two : (os : List Operands) → sum (map (λ (o : Operands). length (over o)) os) ≤ 2 * length os

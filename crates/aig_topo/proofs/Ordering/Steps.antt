@@ -149,7 +149,7 @@ steps_are c list waiting has steps stands =
       sum-map (λ (g : Gate). length (gates_under c.gates g)) c.gates,
     )
 
-two_at_most : (a b : Option ℕ) → length (option_to_list a ++ option_to_list b) ≤ 2
+pub two_at_most : (a b : Option ℕ) → length (option_to_list a ++ option_to_list b) ≤ 2
 two_at_most None None = omega arith
 two_at_most None (Some y) = omega arith
 two_at_most (Some x) None = omega arith

@@ -16,6 +16,7 @@ use Rattle.std.proofs.lemmas.Nat.Bits.{bit_at_clear_same, bit_at_clear_other}
 use Rattle.aig_tables.specs.Parts.Marks.{is_marked}
 use Rattle.aig_topo.specs.Ready.{Tells, IsTree, first_bit}
 use Rattle.aig_topo.proofs.Ordering.Chains.{zeros}
+use Rattle.aig_tables.proofs.Tables.Bits.{one_place}
 
 -- a word with a bit set, and one with a bit cleared
 pub bit_set : (word k i : ℕ) → k < 64
@@ -42,10 +43,6 @@ bit_cleared word k i within within_too =
 -- whether a word has any bit
 pub has_any : (word : ℕ) → not (eqb word 0) ≡ ltb 0 word
 has_any word = grind arith
-
--- two numbers of one word and one place in it are one
-one_place : (i k : ℕ) → i / 64 ≡ k / 64 → i % 64 ≡ k % 64 → i ≡ k
-one_place i k p q = omega (arith, p, q)
 
 -- a bit of the words that is set or cleared
 module _ (words : List ℕ) (k : ℕ) (on : Bool) (after : ℕ) (there : k / 64 < length words)

@@ -14,7 +14,8 @@ use Rattle.aig_unroll.specs.Unrolled.{at, chain_at, chain_behind, first_constrai
 use Rattle.aig_unroll.specs.Unrolled.{first_latches, latches_at, literal_in, next_of, resets_of, standing_for}
 use Rattle.aig_unroll.specs.Unrolled.{uninitialised}
 use Rattle.aig_unroll.proofs.Ordering.Frames.{next_gate}
-use Rattle.aig_unroll.proofs.Ordering.Rows.{all_mapped, by_order, in_row, read_anywhere}
+use Rattle.aig_unroll.proofs.Ordering.Rows.{by_order, in_row, read_anywhere}
+use Rattle.aig_rows.proofs.Grammar.Entries.{all_mapped}
 
 -- a literal is over a variable below n
 abbrev pub IsBelow : ℕ → ℕ → Type 0

@@ -21,7 +21,8 @@ use Rattle.aig_unroll.proofs.Ordering.Frames.{bad_length, gates_length, outputs_
 use Rattle.aig_unroll.proofs.Ordering.Gates.{frames_ordered}
 use Rattle.aig_unroll.proofs.Ordering.Lower.{IsBelow, all_at_below}
 use Rattle.aig_unroll.proofs.Ordering.Lower.{own_end}
-use Rattle.aig_unroll.proofs.Ordering.Rows.{all_mapped, all_rows, row_end}
+use Rattle.aig_unroll.proofs.Ordering.Rows.{all_rows, row_end}
+use Rattle.aig_rows.proofs.Grammar.Entries.{all_mapped}
 
 module _ (c : Circuit) (frames : ℕ) (good : IsWellFormed c) (ordered : IsInBinaryOrder c) where
   abbrev end : ℕ

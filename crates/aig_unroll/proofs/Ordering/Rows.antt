@@ -1,5 +1,5 @@
 -- Numbers in rows of equal length, lists that are made row by row, and choices by order.
-use Rattle.std.proofs.Common.{◌≡◌, ◌+◌, ◌*◌, ◌<◌, ◌≤◌, ℕ, zero, suc, List, [], ◌∷◌, ◌++◌, length, map, get_or}
+use Rattle.std.proofs.Common.{◌≡◌, ◌+◌, ◌*◌, ◌<◌, ◌≤◌, ℕ, zero, suc, List, [], ◌∷◌, ◌++◌, length, get_or}
 use Rattle.std.proofs.Common.{cond, leb, true, false, refl, sym, ap, ap₂, subst, ◌∙◌, ⊎_elim, length-append}
 use Rattle.std.proofs.Common.{append-nil, arith}
 use Rattle.std.specs.List.{AllByRecursion, flat_map, range_with_len}
@@ -76,12 +76,6 @@ all_rows P f rows s zero each fits = tt
 all_rows P f rows s (suc n) each fits =
     joined P (f s) (flat_map f (range_with_len (s + 1) n)) (each s (omega arith))
     (all_rows P f rows (s + 1) n each (omega arith))
-
--- what follows for each element's image
-pub all_mapped : {X Y : Type 0} (P : X → Type 0) (Q : Y → Type 0) (f : X → Y) → ((x : X) → P x → Q (f x))
-    → (xs : List X) → AllByRecursion P xs → AllByRecursion Q (map f xs)
-all_mapped P Q f weaker [] all = tt
-all_mapped P Q f weaker (x ∷ xs) all = (weaker x all.0, all_mapped P Q f weaker xs all.1)
 
 -- what holds of each element and of what is read outside holds of what is read anywhere
 pub read_anywhere : {X : Type 0} (P : X → Type 0) (d : X) → P d → (xs : List X) → AllByRecursion P xs → (i : ℕ)
