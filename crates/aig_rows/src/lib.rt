@@ -1,8 +1,8 @@
 //! Rows: lines of numbers, how they are spelled and what they mean; and why a text is refused.
 //!
 //! Others call `read_rows`, which adds what the next lines mean to a list; `Cursor`, a place in a text; `split_line`,
-//! `leading_number`, `more_numbers` and `ends_line`, to read other lines; and `ReadFault` with its `Message`. Callers of
-//! `aig_text` reach most of these by that name.
+//! `leading_number`, `more_numbers` and `ends_line`, to read other lines; and `ReadFault` with its `Message`. Callers
+//! of `aig_text` reach most of these by that name.
 //!
 //! Modules:
 //! - `line`: lines of a text, and the `Cursor` that goes over them.

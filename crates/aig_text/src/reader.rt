@@ -62,8 +62,10 @@ fn read_circuit(alloc: Global, bytes: &[u8], limits: Limits) -> Result<Circuit, 
 {
     let mut at = Cursor::new(bytes);
     let header = header(ASCII_WORD, &mut at, limits)?;
-    let circuit = read_numbered(alloc, &header, &mut at)?;
-    tail(alloc, &header, circuit, at)
+    match read_numbered(alloc, &header, &mut at) {
+        Ok(circuit) => tail(alloc, &header, circuit, at),
+        Err(fault) => Err(fault),
+    }
 }
 
 /// A structural fault as what is wrong with a text.

@@ -10,20 +10,18 @@ use Rattle.aig_text.proofs.reader.read_circuit.Goals as goal
 pub returns-in_err-header : goal.returns-in_err-header
 returns-in_err-header c = search (rules, err_from_is_err_and, no_header)
 
-pub returns-in_err-circuit : goal.returns-in_err-circuit
-returns-in_err-circuit c =
-    let h = err_from_is_err_and c.from_residual-in_err-circuit.result c.from_residual-in_err-circuit.ensures.1 in
-    rw (h.1, h.2) (
+pub returns-in-Err : goal.returns-in-Err
+returns-in-Err c =
     no_sections c.args.limits.max_var
-    (lines_of c.args.bytes.now) c.header.new.at c.in_ok-header.header c.in_err-circuit.field-0.0
-    (rw c.new-at.ensures at c.in_ok-header.ensures.header) c.in_err-circuit.ensures)
+    (lines_of c.args.bytes.now) c.header.new.at c.in_ok-header.header c.in-Err.fault
+    (rw c.new-at.ensures at c.in_ok-header.ensures.header) c.in-Err.ensures
 
-pub returns : goal.returns
-returns c =
+pub returns-in-Ok : goal.returns-in-Ok
+returns-in-Ok c =
     let after = c.read_numbered.new.at in
     let same : circuit_at c.args.limits.max_var (lines_of c.args.bytes.now)
-    ≡ tail_at c.in_ok-header.header nothing_named c.in_ok-circuit.circuit after.number after.lines =
+    ≡ tail_at c.in_ok-header.header nothing_named c.in-Ok.circuit after.number after.lines =
     then_tail c.args.limits.max_var
-    (lines_of c.args.bytes.now) c.header.new.at after c.in_ok-header.header c.in_ok-circuit.circuit
-    (rw c.new-at.ensures at c.in_ok-header.ensures.header) c.in_ok-circuit.ensures in
+    (lines_of c.args.bytes.now) c.header.new.at after c.in_ok-header.header c.in-Ok.circuit
+    (rw c.new-at.ensures at c.in_ok-header.ensures.header) c.in-Ok.ensures in
     rw same c.tail.ensures
