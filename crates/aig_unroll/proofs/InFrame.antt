@@ -1,7 +1,8 @@
 -- A frame: by its table stands what stands in the frame, and there is room for it.
-use Rattle.std.proofs.Common.{◌≡◌, ◌+◌, ◌-◌, ◌*◌, ◌%◌, ◌<◌, ◌≤◌, ℕ, zero, suc, List, [], ◌∷◌, length, map}
-use Rattle.std.proofs.Common.{add-one, get_or, refl, ap, ap₂, ◌∙◌, arith, leb, true, false}
-use Rattle.std.proofs.Common.{inl, inr, length-append}
+use Rattle.std.proofs.Common.{rules}
+use Rattle.std.proofs.Common.{◌≡◌, ◌+◌, ◌-◌, ◌*◌, ◌<◌, ◌≤◌, ℕ, zero, suc, List, [], ◌∷◌, length, map}
+use Rattle.std.proofs.Common.{add-one, get_or, refl, ap, ap₂, ◌∙◌, arith}
+use Rattle.std.proofs.Common.{length-append}
 use Rattle.std.proofs.Math.Nat.{suc-mul}
 use mathlib.Core.Path.{fun_ext}
 use Rattle.std.proofs.Math.Dec.{eqb-suc-zero}
@@ -28,10 +29,7 @@ use Rattle.aig_unroll.proofs.Ordering.Rows.{row_end}
 
 pub table_length : (first inputs : ℕ) (latches : List ℕ)
     → length (table first inputs latches) ≡ 1 + inputs + length latches
-table_length first inputs latches =
-    let front : length (map literal_of (range_with_len first inputs)) ≡ inputs =
-    length-map-range_with_len literal_of first inputs in
-    omega (arith, front, length-append (map literal_of (range_with_len first inputs)) latches)
+table_length first inputs latches = search (rules, length-map-range_with_len, length-append)
 
 -- with these for the latches
 module _ (c : Circuit) (frames t : ℕ) (latches : List ℕ) (all : length latches ≡ length c.latches) where
@@ -49,19 +47,7 @@ module _ (c : Circuit) (frames t : ℕ) (latches : List ℕ) (all : length latch
       → get_or (table (first_input c t) n latches) v 0 ≡ standing_for c frames t latches v
   in_table zero below = refl
   in_table (suc w) below =
-      let same : suc w - 1 ≡ w = omega arith in
-      let size : length front ≡ n = length-map-range_with_len literal_of (first_input c t) n in
-      elim (cases_lt w n) [
-        | inl input ↦
-            let there : w < length front = omega arith in
-            rw (eqb-suc-zero w, le-leb (suc w) n (omega arith), same)
-            (get_or_append_left front latches 0 w there
-            ∙ get_or-map-range_with_len literal_of (first_input c t) n w (first_input c t + w) 0 input refl)
-        | inr latch ↦
-            let before : leb (suc w) n ≡ false = lt-leb (suc w) n (omega arith) in
-            let up_to : leb (suc w) (n + m) ≡ true = le-leb (suc w) (n + m) (omega arith) in
-            rw (eqb-suc-zero w, before, up_to, same) (get_or-append_right front latches n w 0 size latch)
-      ]
+      search (rules, length-map-range_with_len, cases_lt, eqb-suc-zero, le-leb, get_or_append_left, get_or-map-range_with_len, lt-leb, get_or-append_right)
 
   -- and a gate's variable is one of the frame
   behind_table : (v : ℕ) → 1 + n + m ≤ v
@@ -72,26 +58,7 @@ module _ (c : Circuit) (frames t : ℕ) (latches : List ℕ) (all : length latch
 
   pub stands_as : (literal : ℕ) → stood (table (first_input c t) n latches) (first_gate c frames t) literal
       ≡ with_sign literal (standing_for c frames t latches (variable_of literal))
-  stands_as literal =
-      let v = variable_of literal in
-      let size : length (table (first_input c t) n latches) ≡ 1 + n + length latches =
-      table_length (first_input c t) n latches in
-      elim (cases_lt v (1 + n + m)) [
-        | inl below ↦
-            rw (lt-ltb v (length (table (first_input c t) n latches)) (omega arith))
-            (ap (with_sign literal) (in_table v below))
-        | inr behind ↦
-            rw (le-ltb v (length (table (first_input c t) n latches)) (omega arith), behind_table v behind, size)
-            (elim (cases_lt 0 (literal % 2)) [
-              | inl odd ↦
-                  let sign : literal % 2 ≡ 1 = omega arith in
-                  let even : (2 * (first_gate c frames t + (v - 1 - n - m))) % 2 ≡ 0 = omega arith in
-                  rw (sign, even) (omega arith)
-              | inr even ↦
-                  let sign : literal % 2 ≡ 0 = omega arith in
-                  rw sign (omega arith)
-            ])
-      ]
+  stands_as literal = search (rules, table_length, cases_lt, lt-ltb, in_table, le-ltb, behind_table)
 
 -- by the table of a frame stands what stands in the frame
 pub stands_in_frame : (c : Circuit) (frames t literal : ℕ)
@@ -120,18 +87,12 @@ gate_places : (v size places first : ℕ) (gates : List Gate) → v + length gat
     → first + size ≤ LARGEST + 1 + places
     → AreOrderedGates v gates → All (GateHasRoom places first) gates
 gate_places v size places first [] room fits ordered k d below = absurd (omega (arith, below))
-gate_places v size places first (g ∷ gs) room fits ordered zero d below = record {
-  left = omega (arith, room, fits, ordered.0, ordered.1);
-  right = omega (arith, room, fits, ordered.0, ordered.1, ordered.2);
-}
+gate_places v size places first (g ∷ gs) room fits ordered zero d below = search rules
 gate_places v size places first (g ∷ gs) room fits ordered (suc k) d below =
     gate_places (suc v) size places first gs (omega (arith, room)) fits ordered.3 k d (omega (arith, below))
 
 pub all_fit : (c : Circuit) (frames : ℕ) → ¬ IsTooLarge c frames → all_inputs c frames + frames * frame_size c ≤ LARGEST
-all_fit c frames fits = elim (cases_lt LARGEST (all_inputs c frames + frames * frame_size c)) [
-  | inl large ↦ absurd (fits (inl large))
-  | inr small ↦ small
-]
+all_fit c frames fits = search (rules, cases_lt)
 
 -- in a frame of a circuit that is not too large
 module _ (c : Circuit) (frames t : ℕ) (formed : IsWellFormed c) (ordered : IsInBinaryOrder c)
@@ -156,10 +117,7 @@ module _ (c : Circuit) (frames t : ℕ) (formed : IsWellFormed c) (ordered : IsI
   inputs_fit = omega (arith, row_end (length c.inputs) t frames within)
 
   known_has_room : (literal : ℕ) → IsKnown (defined_variables c) literal → HasRoom places here literal
-  known_has_room literal known =
-      let low : literal ≤ 2 * c.max_var + 1 =
-      known_in_range c.max_var (defined_variables c) formed.in_range literal known in
-      omega (arith, low, ordered.all, places_are, gates_fit)
+  known_has_room literal known = search (rules, known_in_range, places_are, gates_fit)
 
   all_have_room : (literals : List ℕ) → AreDefined c literals → AllByRecursion (HasRoom places here) literals
   all_have_room [] known = tt
@@ -208,11 +166,7 @@ chain_begins c frames (suc t) none =
 pub chain_before : (c : Circuit) (frames t : ℕ) → 0 < t → 0 < length c.constraints
     → chain_at c frames t ≡ literal_of (first_gate c frames t - length c.bad - 1)
 chain_before c frames zero later some = absurd (omega (arith, later))
-chain_before c frames (suc t) later some =
-    let more : suc t * frame_size c ≡ t * frame_size c + frame_size c = suc-mul t (frame_size c) in
-    let last : first_constraint c frames t + length c.constraints - 1 ≡ first_gate c frames (suc t) - length c.bad - 1 =
-    omega (arith, more, some) in
-    chain_last (first_constraint c frames t) (chain_at c frames t) c.constraints some ∙ ap literal_of last
+chain_before c frames (suc t) later some = search (rules, suc-mul, chain_last)
 
 -- The next frame: its inputs and gates are behind those of this one, and its latches have what stands for their next
 -- literals in this one.
@@ -226,26 +180,11 @@ module _ (c : Circuit) (frames t input gate : ℕ) (standing next : List ℕ)
       ∙ ap (latches_at c frames) behind
 
   new_input : input + length c.inputs ≡ first_input c (t + 1)
-  new_input =
-      let next : (t + 1) * length c.inputs ≡ t * length c.inputs + length c.inputs =
-      ap (λ n. n * length c.inputs) (add-one t) ∙ suc-mul t (length c.inputs) in
-      omega (arith, is.input_is, next)
+  new_input = search (rules, add-one, suc-mul)
 
   pub next_frame : IsFrame c frames (t + 1) (input + length c.inputs) (gate + frame_size c)
       (table (input + length c.inputs) (length c.inputs) latches) latches
-  next_frame =
-      let size : (t + 1) * frame_size c ≡ t * frame_size c + frame_size c =
-      ap (λ n. n * frame_size c) (add-one t) ∙ suc-mul t (frame_size c) in
-      record {
-        formed = is.formed;
-        ordered = is.ordered;
-        fits = is.fits;
-        within = more;
-        input_is = new_input;
-        gate_is = omega (arith, is.gate_is, size);
-        standing_is = ap₂ (λ n xs. table n (length c.inputs) xs) new_input new_latches;
-        next_room = ap length new_latches ∙ latches_length c frames (t + 1);
-      }
+  next_frame = search (rules, add-one, suc-mul, new_input, new_latches, latches_length)
 
 -- frame 0
 pub first_frame : (c : Circuit) (frames input gate : ℕ) (standing next : List ℕ) → IsWellFormed c → IsInBinaryOrder c
@@ -253,15 +192,4 @@ pub first_frame : (c : Circuit) (frames input gate : ℕ) (standing next : List 
     → gate ≡ input + frames * length c.inputs
     → standing ≡ table input (length c.inputs) (first_latches 1 (resets_of c)) → length next ≡ length c.latches
     → IsFrame c frames 0 input gate standing next
-first_frame c frames input gate standing next formed ordered fits some input_is gate_is standing_is next_room =
-    let first : input ≡ first_input c 0 = omega (arith, input_is) in
-    record {
-      formed = formed;
-      ordered = ordered;
-      fits = fits;
-      within = omega (arith, some);
-      input_is = first;
-      gate_is = omega (arith, input_is, gate_is);
-      standing_is = standing_is ∙ ap (λ n. table n (length c.inputs) (first_latches 1 (resets_of c))) first;
-      next_room = next_room;
-    }
+first_frame c frames input gate standing next formed ordered fits some input_is gate_is standing_is next_room = search rules

@@ -1,6 +1,7 @@
 -- What stands for a literal by a table.
-use Rattle.std.proofs.Common.{◌≡◌, ◌+◌, ◌-◌, ◌*◌, ◌%◌, ◌<◌, ℕ, List, length, get_or}
-use Rattle.std.proofs.Common.{ap, sym, ◌∙◌, arith, cond, inl, inr}
+use Rattle.std.proofs.Common.{rules}
+use Rattle.std.proofs.Common.{◌≡◌, ◌+◌, ◌*◌, ◌%◌, ◌<◌, ℕ, List, length, get_or}
+use Rattle.std.proofs.Common.{arith, inl, inr}
 use Rattle.std.specs.Int.Bits.{bit_and, bit_xor, xor_add_and, xor_zero_r}
 use Rattle.std.proofs.lemmas.Bool.{cases_lt, lt-ltb}
 use Rattle.std.proofs.lemmas.List.{get_or_default}
@@ -34,10 +35,4 @@ sign_carried literal stands =
 pub looked_up : (standing : List ℕ) (first literal variable stands : ℕ) → variable ≡ variable_of literal
     → variable < length standing → stands ≡ get_or standing variable stands
     → bit_xor stands (bit_and literal 1) ≡ stood standing first literal
-looked_up standing first literal variable stands same below is =
-    let there : variable_of literal < length standing = omega arith in
-    let here : stands ≡ get_or standing (variable_of literal) 0 =
-    is ∙ get_or_default standing variable stands 0 below ∙ ap (λ n. get_or standing n 0) same in
-    sign_carried literal stands ∙ ap (with_sign literal) here
-    ∙ ap (λ b. cond b (with_sign literal (get_or standing (variable_of literal) 0))
-    (2 * first + (literal - 2 * length standing))) (sym (lt-ltb (variable_of literal) (length standing) there))
+looked_up standing first literal variable stands same below is = search (rules, get_or_default, sign_carried, lt-ltb)

@@ -1,5 +1,6 @@
 -- The unrolled circuit, of the lists that were made.
-use Rattle.std.proofs.Common.{◌≡◌, ◌+◌, ◌*◌, ℕ, List, None, [], ap, arith, length}
+use Rattle.std.proofs.Common.{rules}
+use Rattle.std.proofs.Common.{◌≡◌, ◌+◌, ◌*◌, ℕ, List, ap, arith, length}
 use Rattle.std.specs.List.{flat_map, range_with_len}
 use Rattle.std.proofs.lemmas.List.FromFn.{length-range_with_len}
 use Rattle.aig_circuit.specs.declared.circuit.Circuit.{Circuit}
@@ -16,16 +17,4 @@ module _ (c : Circuit) (frames : ℕ) (inputs outputs bad : List ℕ) (gates : L
       → bad ≡ flat_map (bad_at c frames) (range_with_len 0 frames)
       → gates ≡ flat_map (gates_at c frames) (range_with_len 0 frames)
       → circuit_with inputs outputs bad gates ≡ unrolled c frames
-  is_unrolled outputs_are bad_are gates_are = λ i. record {
-    max_var = variables_are i;
-    inputs = inputs_are i;
-    latches = [];
-    outputs = outputs_are i;
-    bad = bad_are i;
-    constraints = [];
-    justice = record { sizes = []; literals = [] };
-    fairness = [];
-    gates = gates_are i;
-    symbols = [];
-    comment = None;
-  }
+  is_unrolled outputs_are bad_are gates_are = search (rules, variables_are)

@@ -1,5 +1,7 @@
 -- The text of an unrolled circuit, frame by frame.
-use Rattle.std.proofs.Common.{◌≡◌, ◌+◌, ◌*◌, ◌<◌, ℕ, List, [], ◌∷◌, ◌++◌, false, ap, arith, subst, sym, ◌∙◌}
+use Rattle.std.proofs.lemmas.Grind.{common_steps}
+use Rattle.std.proofs.Common.{rules}
+use Rattle.std.proofs.Common.{◌≡◌, ◌+◌, ◌*◌, ◌<◌, ℕ, List, [], ◌++◌, false, ap, arith, subst, sym, ◌∙◌}
 use Rattle.std.proofs.Common.{append-nil, append_assoc}
 use Rattle.std.specs.List.{All, flat_map, range_with_len}
 use Rattle.std.specs.Io.KnownBytes.{Appends}
@@ -9,12 +11,11 @@ use Rattle.aig_core.specs.BinaryOrder.{IsInBinaryOrder}
 use Rattle.aig_circuit.specs.Wellformed.{IsWellFormed}
 use Rattle.aig_core.proofs.Numbered.Ranges.{range_more}
 use Rattle.aig_io.specs.Output.{Out, Put}
-use Rattle.aig_io.specs.Transfer.{WentOut}
 use Rattle.aig_io.proofs.Puts.{put_twice}
 use Rattle.aig_text.specs.AsciiText.{ascii_text, header_text, line_text}
 use Rattle.aig_text.specs.Sections.{ascii_word, header_row, literal_rows_of, rows_of}
 use Rattle.aig_text.proofs.Written.{literal_sections_text, sections_text}
-use Rattle.aig_binary.specs.BinaryGrammar.{binary_rows_of, binary_word}
+use Rattle.aig_binary.specs.BinaryGrammar.{binary_word}
 use Rattle.aig_binary.specs.BinaryText.{HasDeltas, binary_text, gate_text}
 use Rattle.aig_binary.proofs.Written.{has_deltas, lines_text}
 use Rattle.aig_unroll.specs.Unrolled.{IsTooLarge, frame_size, gates_at, unrolled}
@@ -40,24 +41,12 @@ module _ {W : Type 0} where
   pub variable_more : (text : ℕ → List ℕ) (first n : ℕ) (a b c : Out W)
       → Put a b (flat_map text (range_with_len first n)) → Put b c (text (first + n))
       → Put a c (flat_map text (range_with_len first (n + 1)))
-  variable_more text first n a b c p q =
-      let before = range_with_len first n in
-      subst (λ (whole : List ℕ). Put a c whole)
-      (sym (ap (flat_map text) (range_more first n) ∙ flat_map-append text before ((first + n) ∷ [])
-      ∙ ap (λ (later : List ℕ). flat_map text before ++ later) (append-nil (text (first + n)))))
-      (put_twice a b c (flat_map text before) (text (first + n)) p q)
+  variable_more text first n a b c p q = search (rules, range_more, flat_map-append, append-nil, put_twice)
 
   -- An output of a text was finished, and the sink did not fail: it took the text.
   pub all_sent : (o a b c : Out W) (text : List ℕ) → a ≡ o → o.held ≡ [] → Put a b text → Put b c [] → c.held ≡ []
       → c.failed ≡ false → Appends o.taken c.taken text
-  all_sent o a b c text same empty put sent none good =
-      let out : WentOut a.taken c.taken a.held c.held (text ++ []) = ((put_twice a b c text [] put sent).went good).2 in
-      let nothing : a.held ≡ [] = ap (λ (x : Out W). x.held) same ∙ empty in
-      let whole : out.sent ≡ text =
-      sym (append-nil out.sent) ∙ ap (λ (left : List ℕ). out.sent ++ left) (sym none) ∙ sym out.order
-      ∙ ap (λ (held : List ℕ). held ++ (text ++ [])) nothing ∙ append-nil text in
-      subst (λ (x : Out W). Appends x.taken c.taken text) same
-      (subst (λ (bytes : List ℕ). Appends a.taken c.taken bytes) whole out.took)
+  all_sent o a b c text same empty put sent none good = grind (arith, common_steps, put_twice, append-nil)
 
 -- Whatever frame it is in, the unrolled circuit is the same.
 pub same_circuit : (f g : Frame) → g ≡ record f { frame = g.frame }
@@ -91,14 +80,7 @@ module _ (c : Circuit) (frames : ℕ) where
       ++ (literal_lines d.outputs ++ (literal_lines d.bad ++ flat_map gate_text d.gates))
       ≡ binary_text d
   unfolding binary_text
-  binary_parts =
-      let deltas : List ℕ = flat_map gate_text d.gates in
-      let rest : literal_lines d.outputs ++ (literal_lines d.bad ++ deltas)
-      ≡ flat_map line_text (binary_rows_of d) ++ (deltas ++ []) =
-      sym (append_assoc (literal_lines d.outputs) (literal_lines d.bad) deltas)
-      ∙ ap (λ (text : List ℕ). text ++ deltas) (literals_text ∙ lines_text d)
-      ∙ ap (λ (text : List ℕ). flat_map line_text (binary_rows_of d) ++ text) (sym (append-nil deltas)) in
-      ap (λ (text : List ℕ). header_text binary_word (header_row d) ++ text) rest
+  binary_parts = search (rules, append_assoc, literals_text, lines_text, append-nil)
 
   -- each gate of a frame has its deltas, as each gate of the unrolled circuit
   pub frame_has_deltas : IsWellFormed c → IsInBinaryOrder c → ¬ IsTooLarge c frames → (t : ℕ) → t < frames

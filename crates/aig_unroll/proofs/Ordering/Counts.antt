@@ -1,20 +1,17 @@
 -- The binary image of a circuit has as many of each as the circuit, so both unroll to circuits of one size.
-use Rattle.std.proofs.Common.{◌≡◌, ◌+◌, ◌*◌, ◌<◌, ℕ, List, length, map, sym, ap, ap₂, subst, ◌∙◌, inl, inr}
-use Rattle.std.proofs.Common.{⊎_elim, arith}
-use Rattle.std.specs.Prelude.{◌⊎◌}
+use Rattle.std.proofs.Common.{rules}
+use Rattle.std.proofs.Common.{◌≡◌, ◌+◌, ◌*◌, ℕ, List, length, map, sym, ap₂, subst}
+use Rattle.std.proofs.Common.{arith}
 use Rattle.std.proofs.lemmas.List.{length-map}
 use Rattle.std.proofs.lemmas.Simd.{map-map}
-use Rattle.aig_circuit.specs.declared.circuit.Latch.{Latch}
 use Rattle.aig_circuit.specs.declared.circuit.Gate.{Gate}
 use Rattle.aig_circuit.specs.declared.circuit.Circuit.{Circuit}
-use Rattle.aig_circuit.specs.declared.circuit.TheConstants.{LARGEST}
 use Rattle.aig_circuit.specs.Wellformed.{IsWellFormed}
 use Rattle.aig_core.specs.BinaryOrder.{IsInBinaryOrder}
 use Rattle.aig_topo.specs.Order.{IsLeastReadyOrder}
 use Rattle.aig_image.specs.Image.{IsBinaryImage, image_by}
-use Rattle.aig_image.specs.Relabelled.{relabelled_gate, relabelled_latch, relabelled_literal}
+use Rattle.aig_image.specs.Relabelled.{relabelled_gate}
 use Rattle.aig_image.specs.Renumbering.{in_new_order, renumbered}
-use Rattle.aig_image.specs.Reordered.{operands_sorted, taken}
 use Rattle.aig_image.proofs.Imaging.Members.{all_taken}
 use Rattle.aig_image.proofs.Imaging.Ordered.{image_is_ordered}
 use Rattle.aig_unroll.specs.Unrolled.{IsTooLarge, IsUnrolled, all_inputs, frame_size, resets_of, uninitialised}
@@ -38,16 +35,7 @@ module _ (c : Circuit) (order : List ℕ) (good : IsWellFormed c) (least : IsLea
   renamed_gates = map (relabelled_gate number) c.gates
 
   counts_kept : HasCountsOf c (image_by order c)
-  counts_kept = record {
-    resets = map-map (λ (l : Latch). l.reset) (relabelled_latch number) c.latches;
-    inputs = length-map c.inputs number;
-    latches = length-map c.latches (relabelled_latch number);
-    outputs = length-map c.outputs (relabelled_literal number);
-    bad = length-map c.bad (relabelled_literal number);
-    constraints = length-map c.constraints (relabelled_literal number);
-    gates =
-        length-map (taken renamed_gates order) operands_sorted ∙ length-map order _ ∙ all_taken c order good least;
-  }
+  counts_kept = search (rules, map-map, length-map, all_taken)
 
 pub image_counts : (c image : Circuit) → IsWellFormed c → IsBinaryImage c image → HasCountsOf c image
 image_counts c image good is = subst (HasCountsOf c) (sym is.2) (counts_kept c is.0 good is.1)
@@ -61,15 +49,7 @@ module _ (c image : Circuit) (frames : ℕ) (same : HasCountsOf c image) where
 
   -- so neither is too large where the other is not
   pub as_large : IsTooLarge image frames → IsTooLarge c frames
-  as_large =
-      let gates : frames * frame_size image ≡ frames * frame_size c = ap (λ n. frames * n) same_frame_size in
-      let outputs : frames * length image.outputs ≡ frames * length c.outputs = ap (λ n. frames * n) same.outputs in
-      let bads : frames * length image.bad ≡ frames * length c.bad = ap (λ n. frames * n) same.bad in
-      ⊎_elim (λ (h : LARGEST < all_inputs image frames + frames * frame_size image).
-      inl (omega (arith, h, same_inputs, gates)))
-      (λ (later : (LARGEST < frames * length image.outputs) ⊎ (LARGEST < frames * length image.bad)).
-      ⊎_elim (λ (h : LARGEST < frames * length image.outputs). inr (inl (omega (arith, h, outputs))))
-      (λ (h : LARGEST < frames * length image.bad). inr (inr (omega (arith, h, bads)))) later)
+  as_large = search (rules, same_frame_size, same_inputs)
 
 pub unrolled_is_ordered : (c d : Circuit) (frames : ℕ) → IsWellFormed c → IsUnrolled c frames d → ¬ IsTooLarge c frames
     → IsWellFormed d × IsInBinaryOrder d

@@ -1,5 +1,6 @@
 -- The frames of an unrolled circuit, one by one: how many gates each has.
-use Rattle.std.proofs.Common.{◌≡◌, ◌+◌, ◌*◌, ◌<◌, ℕ, zero, suc, List, [], ◌∷◌, ◌++◌, length, map, get_or}
+use Rattle.std.proofs.Common.{rules}
+use Rattle.std.proofs.Common.{◌≡◌, ◌+◌, ◌*◌, ◌<◌, ℕ, zero, suc, List, [], ◌∷◌, length, map, get_or}
 use Rattle.std.proofs.Common.{refl, ap, ◌∙◌, length-append, arith}
 use Rattle.std.specs.List.{flat_map, range_with_len}
 use Rattle.std.proofs.Math.Nat.{suc-mul}
@@ -64,24 +65,13 @@ module _ (c : Circuit) (frames : ℕ) where
 
   -- how many gates a frame has
   pub frame_length : (t : ℕ) → length (gates_at c frames t) ≡ frame_size c
-  frame_length t =
-      omega (
-        arith,
-        length-append (copies t) (chain t ++ guards t),
-        length-append (chain t) (guards t),
-        copies_length t,
-        chain_length t,
-        guards_length t,
-      )
+  frame_length t = search (rules, length-append, copies_length, chain_length, guards_length)
 
   -- where a frame's gates stand among those of all frames
   pub gate_stands : (n t i : ℕ) (d : Gate) → t < n → i < frame_size c
       → get_or (flat_map (gates_at c frames) (range_with_len 0 n)) (t * frame_size c + i) d
       ≡ get_or (gates_at c frames t) i d
-  gate_stands n t i d there below =
-      let here : 0 + t ≡ t = omega arith in
-      row_read (gates_at c frames) (frame_size c) frame_length 0 n t i d there below
-      ∙ ap (λ t. get_or (gates_at c frames t) i d) here
+  gate_stands n t i d there below = search (rules, row_read, frame_length)
 
   -- each frame has a literal for each latch
   pub latches_length : (t : ℕ) → length (latches_at c frames t) ≡ length c.latches
@@ -98,7 +88,4 @@ module _ (c : Circuit) (frames : ℕ) where
   outputs_length = rows_length (outputs_at c frames) (length c.outputs) (λ t. length-map c.outputs (at c frames t))
 
   pub bad_length : (s n : ℕ) → length (flat_map (bad_at c frames) (range_with_len s n)) ≡ n * length c.bad
-  bad_length =
-      rows_length (bad_at c frames) (length c.bad)
-      (λ t. length-map (range_with_len (first_bad c frames t) (length c.bad)) literal_of
-      ∙ length-range_with_len (first_bad c frames t) (length c.bad))
+  bad_length = search (rules, rows_length, length-map, length-range_with_len)

@@ -1,4 +1,5 @@
 -- The gates of all frames stand in binary order.
+use Rattle.std.proofs.Common.{rules}
 use Rattle.std.proofs.Common.{◌≡◌, ◌+◌, ◌*◌, ◌<◌, ◌≤◌, ℕ, zero, suc, List, [], ◌∷◌, ◌++◌, length, map, max, min, refl}
 use Rattle.std.proofs.Common.{sym, ap, subst, add-one, arith}
 use Rattle.std.specs.List.{AllByRecursion, flat_map, range_with_len}
@@ -44,25 +45,13 @@ pub chained_ordered : (v chain : ℕ) (xs : List ℕ) → IsBelow v chain → Al
     → AreOrderedGates v (chained v chain xs)
 chained_ordered v chain [] below all = tt
 chained_ordered v chain (x ∷ xs) below all =
-    let lower = lower_operands v chain x below all.0 in (
-      refl,
-      lower.0,
-      lower.1,
-      subst (λ n. AreOrderedGates n (chained (v + 1) (literal_of v) xs)) (add-one v)
-          (chained_ordered (v + 1) (literal_of v) xs (omega arith) (all_below_more v (v + 1) (omega arith) xs all.1)),
-    )
+    search (rules, lower_operands, add-one, all_below_more, chained_ordered (v + 1) (literal_of v) xs (omega arith) (all_below_more v (v + 1) (omega arith) xs all.1))
 
 pub guarded_ordered : (v chain : ℕ) (xs : List ℕ) → IsBelow v chain → AllByRecursion (IsBelow v) xs
     → AreOrderedGates v (guarded v chain xs)
 guarded_ordered v chain [] below all = tt
 guarded_ordered v chain (x ∷ xs) below all =
-    let lower = lower_operands v chain x below all.0 in (
-      refl,
-      lower.0,
-      lower.1,
-      subst (λ n. AreOrderedGates n (guarded (v + 1) chain xs)) (add-one v)
-          (guarded_ordered (v + 1) chain xs (omega arith) (all_below_more v (v + 1) (omega arith) xs all.1)),
-    )
+    search (rules, lower_operands, add-one, all_below_more, guarded_ordered (v + 1) chain xs (omega arith) (all_below_more v (v + 1) (omega arith) xs all.1))
 
 module _ (c : Circuit) (frames : ℕ) (ordered : AreOrderedGates (own_gates c) c.gates)
     (next_below : AllByRecursion (IsBelow (own_end c frames)) (next_of c))

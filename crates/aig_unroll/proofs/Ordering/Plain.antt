@@ -1,14 +1,15 @@
 -- Without bad states and constraints, and with all latches at 0 first, frames are copies of inputs, gates and outputs.
-use Rattle.std.proofs.Common.{◌≡◌, ◌+◌, ◌*◌, ℕ, suc, List, [], ◌∷◌, ◌++◌, length, map}
-use Rattle.std.proofs.Common.{refl, ap, ap₂, ◌∙◌, append-nil, arith}
+use Rattle.std.proofs.Common.{rules}
+use Rattle.std.proofs.Common.{◌≡◌, ◌+◌, ◌*◌, ℕ, List, [], ◌∷◌, length, map}
+use Rattle.std.proofs.Common.{refl, ap, ap₂, append-nil, arith}
 use Rattle.std.specs.List.{AllByRecursion, range_with_len}
 use Rattle.aig_circuit.specs.declared.circuit.Circuit.{Circuit}
 use Rattle.aig_circuit.specs.declared.circuit.Reset.{Reset}
 use Rattle.aig_circuit.specs.declared.circuit.Reset.TheVariants as resets
 use Rattle.aig_circuit.specs.Literal.{literal_of}
 use Rattle.aig_unroll.specs.Laws.{IsPlainlyUnrolled}
-use Rattle.aig_unroll.specs.Unrolled.{all_inputs, at, bad_at, chain_at, chained, copied, first_bad, first_constraint}
-use Rattle.aig_unroll.specs.Unrolled.{first_gate, frame_size, gates_at, guarded, resets_of, uninitialised, unrolled}
+use Rattle.aig_unroll.specs.Unrolled.{all_inputs, at, bad_at, copied, first_bad}
+use Rattle.aig_unroll.specs.Unrolled.{first_gate, frame_size, gates_at, resets_of, uninitialised, unrolled}
 use Rattle.aig_unroll.proofs.Ordering.Rows.{no_rows, same_rows}
 
 none_uninitialised : (rs : List Reset) → AllByRecursion (λ (r : Reset). r ≡ resets.Zero) rs → uninitialised rs ≡ 0
@@ -33,31 +34,10 @@ module _ (c : Circuit) (frames : ℕ) (zeros : AllByRecursion (λ (r : Reset). r
   start_is t = ap₂ (λ m n. 1 + m + t * n) inputs_are size_is
 
   gates_are : (t : ℕ) → gates_at c frames t ≡ copied (at c frames t) (start t) c.gates
-  gates_are t =
-      let copies = copied (at c frames t) (first_gate c frames t) c.gates in
-      ap₂
-      (λ (cs bs : List ℕ). copies
-      ++ (chained (first_constraint c frames t) (chain_at c frames t) (map (at c frames t) cs)
-      ++ guarded (first_bad c frames t) (chain_at c frames (suc t)) (map (at c frames t) bs)))
-      no_constraints no_bad
-      ∙ append-nil copies
-      ∙ ap (λ v. copied (at c frames t) v c.gates) (start_is t)
+  gates_are t = search (rules, append-nil, start_is)
 
   bad_is : (t : ℕ) → bad_at c frames t ≡ []
   bad_is t = ap (λ (bs : List ℕ). map literal_of (range_with_len (first_bad c frames t) (length bs))) no_bad
 
   pub plainly_unrolled : IsPlainlyUnrolled c frames (unrolled c frames)
-  plainly_unrolled = record {
-    max_var = ap₂ (λ m n. m + frames * n) inputs_are size_is ∙ omega arith;
-    inputs = ap (range_with_len 1) inputs_are;
-    latches = refl;
-    outputs = refl;
-    gates = same_rows (gates_at c frames) (λ t. copied (at c frames t) (start t) c.gates) gates_are
-        (range_with_len 0 frames);
-    bad = no_rows (bad_at c frames) bad_is (range_with_len 0 frames);
-    constraints = refl;
-    justice = refl;
-    fairness = refl;
-    symbols = refl;
-    comment = refl;
-  }
+  plainly_unrolled = search (rules, inputs_are, size_is, same_rows, gates_are, no_rows, bad_is)

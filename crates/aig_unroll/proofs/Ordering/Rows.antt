@@ -1,6 +1,7 @@
 -- Numbers in rows of equal length, lists that are made row by row, and choices by order.
+use Rattle.std.proofs.Common.{rules}
 use Rattle.std.proofs.Common.{◌≡◌, ◌+◌, ◌*◌, ◌<◌, ◌≤◌, ℕ, zero, suc, List, [], ◌∷◌, ◌++◌, length, get_or}
-use Rattle.std.proofs.Common.{cond, leb, true, false, refl, sym, ap, ap₂, subst, ◌∙◌, ⊎_elim, length-append}
+use Rattle.std.proofs.Common.{cond, leb, refl, ap, ap₂, ◌∙◌, length-append}
 use Rattle.std.proofs.Common.{append-nil, arith}
 use Rattle.std.specs.List.{AllByRecursion, flat_map, range_with_len}
 use Rattle.std.proofs.Math.Nat.{mul-le-mul_right, suc-mul}
@@ -24,11 +25,7 @@ row_end n t rows there =
 -- one row more
 pub one_row_more : {X : Type 0} (f : ℕ → List X) (n : ℕ)
     → flat_map f (range_with_len 0 (n + 1)) ≡ flat_map f (range_with_len 0 n) ++ f n
-one_row_more f n =
-    let last : 0 + n ≡ n = omega arith in
-    ap (flat_map f) (range_more 0 n ∙ ap (λ m. range_with_len 0 n ++ m ∷ []) last)
-    ∙ flat_map-append f (range_with_len 0 n) (n ∷ [])
-    ∙ ap (λ ys. flat_map f (range_with_len 0 n) ++ ys) (append-nil (f n))
+one_row_more f n = search (rules, range_more, flat_map-append, append-nil)
 
 -- rows of one length
 pub rows_length : {X : Type 0} (f : ℕ → List X) (size : ℕ) → ((t : ℕ) → length (f t) ≡ size) → (s n : ℕ)
@@ -43,13 +40,7 @@ rows_length f size same s (suc n) =
 pub row_read : {X : Type 0} (f : ℕ → List X) (size : ℕ) → ((t : ℕ) → length (f t) ≡ size) → (s n t i : ℕ) (d : X)
     → t < n → i < size → get_or (flat_map f (range_with_len s n)) (t * size + i) d ≡ get_or (f (s + t)) i d
 row_read f size same s zero t i d there below = absurd (omega arith)
-row_read f size same s (suc n) zero i d there below =
-    let rest = flat_map f (range_with_len (s + 1) n) in
-    let first : 0 * size + i ≡ i = omega arith in
-    let row : s ≡ s + 0 = omega arith in
-    ap (λ k. get_or (f s ++ rest) k d) first
-    ∙ get_or_append_left (f s) rest d i (omega (arith, same s))
-    ∙ ap (λ t. get_or (f t) i d) row
+row_read f size same s (suc n) zero i d there below = search (rules, get_or_append_left)
 row_read f size same s (suc n) (suc t) i d there below =
     let rest = flat_map f (range_with_len (s + 1) n) in
     let later : suc t * size + i ≡ length (f s) + (t * size + i) = omega (arith, same s, suc-mul t size) in
@@ -87,8 +78,4 @@ read_anywhere P d outside (x ∷ xs) all (suc i) = read_anywhere P d outside xs 
 -- a choice by the order of two numbers
 pub by_order : {X : Type 0} (P : X → Type 0) (a b : ℕ) (x y : X) → (a ≤ b → P x) → (b < a → P y)
     → P (cond (leb a b) x y)
-by_order P a b x y within above =
-    ⊎_elim
-    (λ (t : (leb a b ≡ true) × (a ≤ b)). subst P (sym (cond-true (leb a b) x y t.0)) (within t.1))
-    (λ (f : (leb a b ≡ false) × (b < a)). subst P (sym (cond-false (leb a b) x y f.0)) (above f.1))
-    (leb_tells a b)
+by_order P a b x y within above = search (rules, cond-true, cond-false, leb_tells)

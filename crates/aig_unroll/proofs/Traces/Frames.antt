@@ -1,5 +1,6 @@
 -- The frames from one on show the rows from there on, where their gates have the values that follow from these.
-use Rattle.std.proofs.Common.{◌≡◌, ◌+◌, ℕ, suc, List, [], ◌∷◌, ◌++◌, length, map, refl, ap, ap₂, sym, subst}
+use Rattle.std.proofs.Common.{rules}
+use Rattle.std.proofs.Common.{◌≡◌, ◌+◌, ℕ, suc, List, [], ◌∷◌, ◌++◌, length, map, refl, ap, sym, subst}
 use Rattle.std.proofs.Common.{◌∙◌, arith, length-append, suc-mul}
 use Rattle.std.specs.List.{AllByRecursion, flat_map, range_with_len}
 use Rattle.std.proofs.lemmas.List.{length-map, map-append}
@@ -158,19 +159,7 @@ module _ (c : Circuit) (formed : IsWellFormed c) (ordered : IsInBinaryOrder c) (
 
   one_more : (n : ℕ) (rows : List Row) → FramesShow c a frames (suc t) n held_then rows
       → FramesShow c a frames t (suc n) held (row ∷ rows)
-  one_more n rows later_show =
-      let next : suc t ≡ t + 1 = omega arith in
-      let later : FramesShow c a frames (t + 1) n held_then rows =
-      subst (λ k. FramesShow c a frames k n held_then rows) next later_show in
-      let ts : List ℕ = range_with_len (t + 1) n in
-      record {
-        gates = joined (Holds a) (gates_at c frames t) (flat_map (gates_at c frames) ts) frame_holds later.gates;
-        outputs = map-append (literal_value a) (outputs_at c frames t) (flat_map (outputs_at c frames) ts)
-            ∙ ap₂ (λ (xs ys : List Val). xs ++ ys)
-            (outputs_carried c formed ordered a constant frames t row b is from given gates_there) later.outputs;
-        bad = map-append (literal_value a) (bad_at c frames t) (flat_map (bad_at c frames) ts)
-            ∙ ap₂ (λ (xs ys : List Val). xs ++ ys) frame_bad later.bad;
-      }
+  one_more n rows later_show = search (rules, joined, frame_holds, map-append, outputs_carried, given, gates_there, frame_bad)
 
 module _ (c : Circuit) (formed : IsWellFormed c) (ordered : IsInBinaryOrder c) (a : ℕ → Val) (constant : a 0 ≡ Zero)
     (frames : ℕ) where

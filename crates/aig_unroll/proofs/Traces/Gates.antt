@@ -1,6 +1,6 @@
 -- The gates of a frame hold, where their variables have the values that these are to have.
-use Rattle.std.proofs.Common.{◌≡◌, ◌+◌, ℕ, List, [], ◌∷◌, length, map, refl, ap, ap₂, sym, ◌∙◌, ⊎_elim, suc, arith}
-use Rattle.std.specs.Prelude.{max, min}
+use Rattle.std.proofs.Common.{rules}
+use Rattle.std.proofs.Common.{◌≡◌, ◌+◌, ℕ, List, [], ◌∷◌, length, map, refl, ap, ap₂, sym, ◌∙◌, suc, arith}
 use Rattle.std.specs.List.{AllByRecursion}
 use Rattle.aig_circuit.specs.declared.circuit.Gate.{Gate}
 use Rattle.aig_circuit.specs.declared.value.Val.{Val}
@@ -27,12 +27,7 @@ chain_values_length held (x ∷ xs) = ap suc (chain_values_length (value_and hel
 module _ (a : ℕ → Val) where
   -- a gate holds whichever of its operands is the larger one
   gate_holds : (v x y : ℕ) → a v ≡ value_and (literal_value a x) (literal_value a y) → Holds a (gate_of v x y)
-  gate_holds v x y e =
-      ⊎_elim (λ (is : (max x y ≡ x) × (min x y ≡ y)). e ∙ ap₂ (λ l r. value_and (literal_value a l) (literal_value a r))
-      (sym is.0) (sym is.1))
-      (λ (is : (max x y ≡ y) × (min x y ≡ x)). e ∙ and_exchanged (literal_value a x) (literal_value a y)
-      ∙ ap₂ (λ l r. value_and (literal_value a l) (literal_value a r)) (sym is.0) (sym is.1))
-      (larger_first x y)
+  gate_holds v x y e = search (rules, and_exchanged, larger_first)
 
   -- gates of another assignment, by operands of the same values
   module _ (b : ℕ → Val) (f : ℕ → ℕ) where

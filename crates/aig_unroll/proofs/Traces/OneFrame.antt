@@ -1,7 +1,8 @@
 -- One frame: where the inputs and gates of a frame have the values of a row's assignment, and the literals of latches
 -- those of its state, each literal has in the frame the value that it has in the row.
-use Rattle.std.proofs.Common.{◌≡◌, ◌+◌, ◌-◌, ◌<◌, ◌≤◌, ℕ, zero, suc, List, [], ◌∷◌, length, map, get_or, refl, ap}
-use Rattle.std.proofs.Common.{ap₂, sym, subst, ◌∙◌, ⊎_elim, inl, inr, eqb, false, arith}
+use Rattle.std.proofs.Common.{rules}
+use Rattle.std.proofs.Common.{◌≡◌, ◌+◌, ◌<◌, ◌≤◌, ℕ, zero, suc, List, [], ◌∷◌, length, map, get_or, refl, ap}
+use Rattle.std.proofs.Common.{ap₂, sym, subst, ◌∙◌, ⊎_elim, arith}
 use Rattle.std.specs.List.{AllByRecursion, Contains}
 use Rattle.std.proofs.lemmas.Bool.{cases_lt, le-leb, lt-leb, ne_eqb}
 use Rattle.std.proofs.lemmas.List.{get_or-map, length-map}
@@ -86,29 +87,7 @@ module _ (c : Circuit) (formed : IsWellFormed c) (ordered : IsInBinaryOrder c) (
 
   standing_value : (v : ℕ) → v ≤ length c.inputs + length c.latches + length c.gates
       → literal_value a (standing v) ≡ b v
-  standing_value v most = elim (cases_lt 0 v) [
-    | inr none ↦
-        let is_zero : v ≡ 0 = omega arith in rw is_zero (constant ∙ sym is.assigned.constant)
-    | inl some ↦
-        let test : eqb v 0 ≡ false = ne_eqb v 0 (λ e. omega (arith, some, e)) in
-        elim (cases_lt (length c.inputs) v) [
-          | inr input ↦
-              let place : 1 + (v - 1) ≡ v = omega arith in
-              rw (test, le-leb v (length c.inputs) input) (at_input (v - 1) (omega arith) ∙ ap b place)
-          | inl later ↦ elim (cases_lt (length c.inputs + length c.latches) v) [
-            | inr latch ↦
-                let i : ℕ = v - 1 - length c.inputs in
-                let place : 1 + length c.inputs + i ≡ v = omega arith in
-                rw (test, lt-leb v (length c.inputs) later, le-leb v (length c.inputs + length c.latches) latch)
-                (at_latch i (omega arith) ∙ ap b place)
-            | inl gate ↦
-                let i : ℕ = v - 1 - length c.inputs - length c.latches in
-                let place : 1 + length c.inputs + length c.latches + i ≡ v = omega arith in
-                rw (test, lt-leb v (length c.inputs) later, lt-leb v (length c.inputs + length c.latches) gate)
-                (at_gate i (omega arith) ∙ ap b place)
-          ]
-        ]
-  ]
+  standing_value v most = search (rules, cases_lt, ne_eqb, le-leb, at_input, lt-leb, at_latch, at_gate)
 
   known_value : (l : ℕ) → IsDefined c l → literal_value a (at c frames t l) ≡ literal_value b l
   known_value l known =

@@ -1,4 +1,5 @@
 -- The rows of a trace side by side are the one row of the unrolled circuit.
+use Rattle.std.proofs.Common.{rules}
 use Rattle.std.proofs.Common.{◌≡◌, ◌+◌, ◌*◌, ℕ, List, [], ◌∷◌, ◌++◌, length, map, get_or, refl, ap, ap₂, sym}
 use Rattle.std.proofs.Common.{◌∙◌, subst, arith, length-append, suc-mul}
 use Rattle.std.specs.List.{AllZip, flat_map, range_with_len}
@@ -110,10 +111,7 @@ module _ (c : Circuit) (formed : IsWellFormed c) (ordered : IsInBinaryOrder c) (
       stand_back a 1 (first_input c 0) of_latches of_inputs (omega (arith, latches_length)) inputs_there
 
   shown : FramesShow c a frames 0 frames One rows
-  shown =
-      frames_show c formed ordered a refl frames 0 One first vectors rows trace.1
-      (latches_start a refl 1 (resets_of c) first trace.0 (stand_front a 1 of_latches of_inputs inputs_there))
-      refl given gates_there
+  shown = search (rules, frames_show, latches_start, stand_front, inputs_there, given, gates_there)
 
   inputs_are : map a (range_with_len 1 (all_inputs c frames)) ≡ inputs_side_by_side c first vectors
   inputs_are =
@@ -142,10 +140,7 @@ module _ (c : Circuit) (formed : IsWellFormed c) (ordered : IsInBinaryOrder c) (
 -- where latches start alike, the rows side by side are the same
 same_side_by_side : (b c : Circuit) → resets_of b ≡ resets_of c → (first : List Val) (vectors : List (List Val))
     (rows : List Row) → side_by_side b first vectors rows ≡ side_by_side c first vectors rows
-same_side_by_side b c e first vectors rows =
-    ap (λ (rs : List Reset). record (side_by_side c first vectors rows) {
-      inputs = uninitialised_values rs first ++ flat_map (λ (vector : List Val). vector) vectors;
-    }) e
+same_side_by_side b c e first vectors rows = search rules
 
 pub unrolling_keeps_traces : UnrollingKeepsTraces
 unrolling_keeps_traces c d first vectors rows good good_too unrolled_is trace others =

@@ -1,4 +1,5 @@
-use Rattle.std.proofs.Common.{◌≡◌, ◌*◌, ◌∙◌, ℕ, List, [], ap, arith, length}
+use Rattle.std.proofs.Common.{rules}
+use Rattle.std.proofs.Common.{◌≡◌, ◌*◌, ◌∙◌, ℕ, List, ap, length}
 use Rattle.std.specs.List.{flat_map, range_with_len}
 use Rattle.std.proofs.lemmas.List.{with_items_is}
 use Rattle.aig_circuit.specs.declared.circuit.Circuit.{Circuit}
@@ -9,25 +10,7 @@ use Rattle.aig_unroll.proofs.Whole.{is_unrolled, variables_are}
 use Rattle.aig_unroll.proofs.unrolling.unroll_image.Goals as goal
 
 pub circuit_of-requires : goal.circuit_of-requires
-circuit_of-requires c =
-    let circuit : Circuit = c.args.image in
-    let frames : ℕ = c.args.frames in
-    let inputs : List ℕ = c.in-Ok.inputs.items in
-    let kept : length c.put_frames.new.gates ≡ c.in-Ok.gates.len =
-    c.put_frames.auto.gates ∙ c.deref_mut-in-Ok-2.ensures.len in
-    let gates = with_items_is c.in-Ok.gates c.put_frames.new.gates kept in
-    let inputs_are : inputs ≡ range_with_len 1 (all_inputs circuit frames) =
-    c.in-Ok.ensures.inputs
-    ∙ ap (λ (k : Frame). range_with_len 1 (all_inputs k.circuit k.frames)) c.in_ok-copies.ensures in
-    let size : length c.put_frames.new.gates ≡ frames * frame_size circuit =
-    c.put_frames.auto.gates ∙ ap length c.deref_mut-in-Ok-2.ensures.value ∙ c.in-Ok.ensures.gates
-    ∙ ap (λ (k : Frame). k.frames * frame_size k.circuit) c.in_ok-copies.ensures in
-    omega (
-      arith,
-      ap length gates,
-      variables_are circuit frames inputs [] [] c.put_frames.new.gates inputs_are size,
-      all_fit circuit frames c.requires.fits,
-    )
+circuit_of-requires c = search (rules, with_items_is, variables_are, all_fit)
 
 pub returns-in-Ok : goal.returns-in-Ok
 returns-in-Ok c =

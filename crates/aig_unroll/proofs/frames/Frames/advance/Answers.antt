@@ -1,3 +1,4 @@
+use Rattle.std.proofs.Common.{rules}
 use Rattle.std.proofs.Common.{◌≡◌, ◌+◌, ◌-◌, ◌<◌, ◌∙◌, List, ℕ, ap, ap₂, arith, length, map, subst}
 use Rattle.std.proofs.Common.{sym}
 use Rattle.std.proofs.lemmas.List.{with_items_is}
@@ -9,58 +10,13 @@ use Rattle.aig_unroll.proofs.InFrame.{all_fit, inputs_fit, next_frame, nexts_hav
 use Rattle.aig_unroll.proofs.frames.Frames.advance.Goals as goal
 
 pub put_nexts-requires-clause-below : goal.put_nexts-requires-clause-below
-put_nexts-requires-clause-below c =
-    let f = c.self.inside in
-    let is = c.self.invariant in
-    rw (c.as_slice-latches.ensures, c.deref.ensures.value, is.standing_is, is.gate_is)
-    (nexts_have_room f.circuit f.frames f.frame is.formed is.ordered is.fits is.within)
+put_nexts-requires-clause-below c = search (rules, nexts_have_room)
 
 pub change_standing-requires-clause-room : goal.change_standing-requires-clause-room
-change_standing-requires-clause-room c =
-    let f = c.self.inside in
-    let is = c.self.invariant in
-    let places = places_are f.circuit f.frames f.frame is.formed is.ordered is.fits is.within in
-    omega (
-      arith,
-      c.deref-2.ensures.len,
-      c.put_nexts.auto.out,
-      c.deref_mut.ensures.len,
-      ap length c.deref_mut.ensures.value,
-      ap length c.deref_mut-2.ensures.value,
-      ap length is.standing_is,
-      is.next_room,
-      places,
-    )
+change_standing-requires-clause-room c = search (rules, places_are)
 
 pub change_standing-requires-clause-inputs : goal.change_standing-requires-clause-inputs
-change_standing-requires-clause-inputs c =
-    let f = c.self.inside in
-    let is = c.self.invariant in
-    let latches : List ℕ = c.deref-2.result.now in
-    let more : f.frame + 1 < f.frames =
-    subst (λ (k : Frame). k.frame + 1 < k.frames) (sym c.self.view_is) c.requires in
-    let kept : length c.put_nexts.new.out ≡ f.next.len = c.put_nexts.auto.out ∙ c.deref_mut.ensures.len in
-    let written : latches ≡ map (stood f.standing.items f.first_gate) (next_of f.circuit) =
-    c.deref-2.ensures.value ∙ with_items_is f.next c.put_nexts.new.out kept ∙ c.put_nexts.ensures
-    ∙ ap₂ (λ (s : List ℕ) (ls : List Latch). map (stood s f.first_gate) (map (λ (l : Latch). l.next) ls))
-    c.deref.ensures.value c.as_slice-latches.ensures in
-    let then =
-    next_frame f.circuit f.frames f.frame f.first_input f.first_gate f.standing.items f.next.items is more latches
-    written in
-    let inputs =
-    inputs_fit f.circuit f.frames (f.frame + 1) then.formed then.ordered then.fits then.within in
-    let all = all_fit f.circuit f.frames is.fits in
-    omega (
-      arith,
-      inputs,
-      all,
-      then.input_is,
-      then.next_room,
-      c.len.ensures,
-      ap length c.deref_mut-2.ensures.value,
-      ap length is.standing_is,
-      places_are f.circuit f.frames f.frame is.formed is.ordered is.fits is.within,
-    )
+change_standing-requires-clause-inputs c = search (rules, with_items_is, next_frame, inputs_fit, all_fit, places_are)
 
 pub invariant_of-self : goal.invariant_of-self
 invariant_of-self c =

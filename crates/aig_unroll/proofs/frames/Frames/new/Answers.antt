@@ -1,10 +1,9 @@
-use Rattle.std.proofs.Common.{◌≡◌, ◌+◌, ◌*◌, ◌∙◌, List, ap, ap₂, arith, map, subst, sym}
+use Rattle.std.proofs.Common.{◌≡◌, ◌+◌, ◌*◌, ◌∙◌, List, ap, map, subst, sym}
 use Rattle.aig_circuit.specs.declared.circuit.Circuit.{Circuit}
 use Rattle.aig_circuit.specs.declared.circuit.Latch.{Latch}
 use Rattle.aig_core.specs.BinaryOrder.{IsInBinaryOrder}
 use Rattle.aig_circuit.specs.Wellformed.{IsWellFormed}
-use Rattle.aig_unroll.specs.Unrolled.{IsTooLarge, first_latches, uninitialised}
-use Rattle.aig_unroll.specs.Parts.Frames.{table}
+use Rattle.aig_unroll.specs.Unrolled.{IsTooLarge, uninitialised}
 use Rattle.aig_unroll.proofs.InFrame.{first_frame}
 use Rattle.aig_unroll.proofs.frames.Frames.new.Goals as goal
 

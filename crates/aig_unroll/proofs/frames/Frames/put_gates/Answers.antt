@@ -1,3 +1,4 @@
+use Rattle.std.proofs.Common.{rules}
 use Rattle.std.proofs.Common.{◌≡◌, ◌∙◌, ℕ, List, ap, ap₂, subst, sym}
 use Rattle.std.specs.List.{All}
 use Rattle.aig_circuit.specs.declared.circuit.Gate.{Gate}
@@ -17,18 +18,10 @@ put_parts-requires-clause-gates c =
     (gates_have_room f.circuit f.frames f.frame is.formed is.ordered is.fits is.within)
 
 pub put_parts-requires-clause-constraints : goal.put_parts-requires-clause-constraints
-put_parts-requires-clause-constraints c =
-    let f = c.self.inside in
-    let is = c.self.invariant in
-    rw (c.as_slice-standing.ensures.value, is.standing_is, is.gate_is)
-    (constraints_have_room f.circuit f.frames f.frame is.formed is.ordered is.fits is.within)
+put_parts-requires-clause-constraints c = search (rules, constraints_have_room)
 
 pub put_parts-requires-clause-bad : goal.put_parts-requires-clause-bad
-put_parts-requires-clause-bad c =
-    let f = c.self.inside in
-    let is = c.self.invariant in
-    rw (c.as_slice-standing.ensures.value, is.standing_is, is.gate_is)
-    (bad_has_room f.circuit f.frames f.frame is.formed is.ordered is.fits is.within)
+put_parts-requires-clause-bad c = search (rules, bad_has_room)
 
 pub returns-clause-gates : goal.returns-clause-gates
 returns-clause-gates c =

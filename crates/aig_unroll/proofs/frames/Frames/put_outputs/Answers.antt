@@ -1,3 +1,4 @@
+use Rattle.std.proofs.Common.{rules}
 use Rattle.std.proofs.Common.{ap, ap₂, map, ◌∙◌}
 use Rattle.aig_unroll.specs.Unrolled.{outputs_at}
 use Rattle.aig_unroll.specs.Parts.Frames.{Frame}
@@ -6,11 +7,7 @@ use Rattle.aig_unroll.proofs.InFrame.{outputs_have_room, stands_at}
 use Rattle.aig_unroll.proofs.frames.Frames.put_outputs.Goals as goal
 
 pub put_literals-requires-clause-below : goal.put_literals-requires-clause-below
-put_literals-requires-clause-below c =
-    let f = c.self.inside in
-    let is = c.self.invariant in
-    rw (c.as_slice.ensures, c.as_slice-standing.ensures.value, is.standing_is, is.gate_is)
-    (outputs_have_room f.circuit f.frames f.frame is.formed is.ordered is.fits is.within)
+put_literals-requires-clause-below c = search (rules, outputs_have_room)
 
 pub returns : goal.returns
 returns c =

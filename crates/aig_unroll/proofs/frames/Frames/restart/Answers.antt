@@ -1,3 +1,4 @@
+use Rattle.std.proofs.Common.{rules}
 use Rattle.std.proofs.Common.{◌≡◌, ◌+◌, ◌*◌, ◌∙◌, List, ap, ap₂, arith, length, map}
 use Rattle.std.proofs.lemmas.List.{with_items_is}
 use Rattle.aig_circuit.specs.declared.circuit.Latch.{Latch}
@@ -26,14 +27,4 @@ invariant_of-self c =
     is.next_room
 
 pub put_standing-requires-clause-room : goal.put_standing-requires-clause-room
-put_standing-requires-clause-room c =
-    let f = c.self.inside in
-    let is = c.self.invariant in
-    omega (
-      arith,
-      ap length c.deref_mut.ensures.value,
-      ap length is.standing_is,
-      places_are f.circuit f.frames f.frame is.formed is.ordered is.fits is.within,
-      c.len-inputs.ensures,
-      ap length c.as_slice-latches.ensures,
-    )
+put_standing-requires-clause-room c = search (rules, places_are)
