@@ -1,7 +1,6 @@
 -- The gates of all frames stand in binary order.
-use Rattle.std.proofs.Common.{rules}
 use Rattle.std.proofs.Common.{◌≡◌, ◌+◌, ◌*◌, ◌<◌, ◌≤◌, ℕ, zero, suc, List, [], ◌∷◌, ◌++◌, length, map, max, min, refl}
-use Rattle.std.proofs.Common.{sym, ap, subst, add-one, arith}
+use Rattle.std.proofs.Common.{sym, ap, subst, add-one, arith, rules}
 use Rattle.std.specs.List.{AllByRecursion, flat_map, range_with_len}
 use Rattle.aig_circuit.specs.declared.circuit.Gate.{Gate}
 use Rattle.aig_circuit.specs.declared.circuit.Circuit.{Circuit}

@@ -1,6 +1,5 @@
 -- Without bad states and constraints, and with all latches at 0 first, frames are copies of inputs, gates and outputs.
-use Rattle.std.proofs.Common.{rules}
-use Rattle.std.proofs.Common.{◌≡◌, ◌+◌, ◌*◌, ℕ, List, [], ◌∷◌, length, map}
+use Rattle.std.proofs.Common.{◌≡◌, ◌+◌, ◌*◌, ℕ, List, [], ◌∷◌, length, map, rules}
 use Rattle.std.proofs.Common.{refl, ap, ap₂, append-nil, arith}
 use Rattle.std.specs.List.{AllByRecursion, range_with_len}
 use Rattle.aig_circuit.specs.declared.circuit.Circuit.{Circuit}

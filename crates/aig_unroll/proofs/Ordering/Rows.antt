@@ -1,6 +1,5 @@
 -- Numbers in rows of equal length, lists that are made row by row, and choices by order.
-use Rattle.std.proofs.Common.{rules}
-use Rattle.std.proofs.Common.{◌≡◌, ◌+◌, ◌*◌, ◌<◌, ◌≤◌, ℕ, zero, suc, List, [], ◌∷◌, ◌++◌, length, get_or}
+use Rattle.std.proofs.Common.{◌≡◌, ◌+◌, ◌*◌, ◌<◌, ◌≤◌, ℕ, zero, suc, List, [], ◌∷◌, ◌++◌, length, get_or, rules}
 use Rattle.std.proofs.Common.{cond, leb, refl, ap, ap₂, ◌∙◌, length-append}
 use Rattle.std.proofs.Common.{append-nil, arith}
 use Rattle.std.specs.List.{AllByRecursion, flat_map, range_with_len}

@@ -1,6 +1,5 @@
 -- Values of literals: of variables, of negations, and of what stands for a literal.
-use Rattle.std.proofs.Common.{rules}
-use Rattle.std.proofs.Common.{◌≡◌, ◌+◌, ◌%◌, ℕ, List, [], ◌∷◌, length, map, refl, ap₂}
+use Rattle.std.proofs.Common.{◌≡◌, ◌+◌, ◌%◌, ℕ, List, [], ◌∷◌, length, map, refl, ap₂, rules}
 use Rattle.std.proofs.Common.{◌∙◌, cond, eqb}
 use Rattle.std.specs.List.{range_with_len}
 use Rattle.std.proofs.lemmas.Bool.{cases_lt}

@@ -1,6 +1,5 @@
 -- The rows of a trace side by side are the one row of the unrolled circuit.
-use Rattle.std.proofs.Common.{rules}
-use Rattle.std.proofs.Common.{◌≡◌, ◌+◌, ◌*◌, ℕ, List, [], ◌∷◌, ◌++◌, length, map, get_or, refl, ap, ap₂, sym}
+use Rattle.std.proofs.Common.{◌≡◌, ◌+◌, ◌*◌, ℕ, List, [], ◌∷◌, ◌++◌, length, map, get_or, refl, ap, ap₂, sym, rules}
 use Rattle.std.proofs.Common.{◌∙◌, subst, arith, length-append, suc-mul}
 use Rattle.std.specs.List.{AllZip, flat_map, range_with_len}
 use Rattle.std.proofs.lemmas.List.Elements.{All-contains, All-from_recursion}

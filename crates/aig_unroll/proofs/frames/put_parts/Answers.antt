@@ -1,5 +1,4 @@
-use Rattle.std.proofs.Common.{rules}
-use Rattle.std.proofs.Common.{length-append}
+use Rattle.std.proofs.Common.{length-append, rules}
 use Rattle.std.proofs.lemmas.List.{length-drop, length-take}
 use Rattle.aig_unroll.proofs.Placed.{three_put}
 use Rattle.aig_unroll.proofs.frames.put_parts.Goals as goal
