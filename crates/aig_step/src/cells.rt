@@ -201,7 +201,7 @@ fn evaluate(pairs: &[Pair], codes: &mut [u8])
 }
 
 /// Puts values, from this place on.
-fn place(codes: &mut [u8], first: usize, given: &[Code])
+fn put_codes(codes: &mut [u8], first: usize, given: &[Code])
     requires coded { AreCodes codes.old }
     requires room { first + length given.now ≤ length (values_of_bytes codes.old) }
     ensures { codes.new ≡ bytes_of_values (placed first given.now (values_of_bytes codes.old)) }
@@ -274,11 +274,11 @@ impl Table {
     }
 
     /// Puts values, from this place on.
-    pub(crate) fn place(&mut self, first: usize, given: &[Code])
+    pub(crate) fn put_codes(&mut self, first: usize, given: &[Code])
         requires { first + length given.now ≤ length self.old }
         ensures { self.new ≡ placed first given.now self.old }
     {
-        place(&mut self.codes, first, given);
+        put_codes(&mut self.codes, first, given);
     }
 
     /// Puts the values that characters stand for, from this place on, and answers whether each character stands for

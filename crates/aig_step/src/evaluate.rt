@@ -32,7 +32,7 @@ pub(crate) fn pairs_of(alloc: Global, gates: &[Gate]) -> Result<Vec<Pair>, Alloc
 }
 
 /// Puts values into the table, from this place on.
-pub(crate) fn place(first: usize, given: &[Val], values: &mut Table)
+pub(crate) fn put_values(first: usize, given: &[Val], values: &mut Table)
     requires { first + length given.now ≤ length values.old }
     ensures { values.new ≡ placed first given.now values.old }
 {

@@ -10,7 +10,7 @@
 //! - `machine`: a circuit in binary order that is kept to be run.
 //! - `simulator`: `Simulator`, with its state and the row of its last step.
 //! - `stimulus`: what the lines of a stimulus say.
-//! - `kept`: the beginning of a line that has not ended yet.
+//! - `partial_line`: the beginning of a line that has not ended yet.
 //! - `trace`: the line of a step.
 //! - `fault`: why a simulation ended early.
 //!
@@ -28,8 +28,8 @@
 mod cells;
 mod evaluate;
 mod fault;
-mod kept;
 mod machine;
+mod partial_line;
 mod simulator;
 mod stimulus;
 mod trace;
@@ -37,8 +37,8 @@ mod trace;
 pub use crate::cells::{Code, Table};
 pub use crate::evaluate::{Pair, put_reset_state, reset_value, show_next};
 pub use crate::fault::SimFault;
-pub use crate::kept::Kept;
 pub use crate::machine::Machine;
+pub use crate::partial_line::PartialLine;
 pub use crate::simulator::{Row, Simulator};
 pub use crate::stimulus::{is_stop, without_return};
 pub use crate::trace::{Columns, write_row, write_text};

@@ -8,7 +8,7 @@ ghost use Rattle.aig_step.specs.Parts.Machines.{CanRun, ShowsBelow, circuit_of, 
 ghost use Rattle.aig_step.specs.Parts.Tables.{placed, read_from};
 
 use crate::cells::{Code, Table};
-use crate::evaluate::{Pair, pairs_of, place};
+use crate::evaluate::{Pair, pairs_of, put_values};
 use aig_core::{Checked, Circuit, Justice, Listing, Ordered, OutOfMemory, Symbols, Val};
 use aig_image::to_binary;
 use std::alloc::Global;
@@ -101,7 +101,7 @@ impl Machine {
         // That there are not too many inputs to count one more is known by this read.
         let _largest = self.parts.max_var;
         let pairs = self.pairs.as_slice();
-        values.place(1 + self.parts.inputs.len(), state);
+        values.put_codes(1 + self.parts.inputs.len(), state);
         values.evaluate(pairs);
     }
 
@@ -116,7 +116,7 @@ impl Machine {
         // That the table has room for the inputs is known by this read.
         let _parts = &self.parts;
         values.put(0, Val::Zero);
-        place(1, given, values);
+        put_values(1, given, values);
         self.evaluate(state, values);
     }
 

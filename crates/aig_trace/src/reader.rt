@@ -10,7 +10,7 @@ ghost use Rattle.aig_trace.specs.Parts.Tracing.{Advanced, Finished, FoundBad, Is
 use crate::gathered::Gathered;
 use crate::tracer::Tracer;
 use aig_core::{Checked, Sink};
-use aig_step::{Columns, Kept, SimFault, without_return};
+use aig_step::{Columns, PartialLine, SimFault, without_return};
 use memchr::memchr;
 use std::alloc::Global;
 use std::marker::Model;
@@ -20,7 +20,7 @@ use std::marker::Model;
 pub struct Reader {
     tracer: Tracer,
     /// The beginning of the line that has not ended yet.
-    kept: Kept,
+    kept: PartialLine,
     /// The number of that line, counted from 1; after a bad line the number of that.
     number: u64,
 }
@@ -45,7 +45,7 @@ impl Reader {
         ensures fresh { IfOk result (λ r. IsFresh checked.now columns r) }
         ensures err { IfErr result (λ e. e ≡ IsOutOfMemory) }
     {
-        let kept = Kept::new(alloc, checked.circuit().inputs.len() + 3)?;
+        let kept = PartialLine::new(alloc, checked.circuit().inputs.len() + 3)?;
         let tracer = Tracer::new(alloc, checked, columns)?;
         Ok(Reader {
             tracer,

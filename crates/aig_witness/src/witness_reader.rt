@@ -10,7 +10,7 @@ ghost use Rattle.aig_witness.specs.Parts.Witnessing.{HasFollowed, IsAtLine, verd
 use crate::checker::Checker;
 use crate::verdict::Verdict;
 use aig_core::{Checked, OutOfMemory};
-use aig_step::{Kept, without_return};
+use aig_step::{PartialLine, without_return};
 use memchr::memchr;
 use std::alloc::Global;
 use std::marker::Model;
@@ -20,7 +20,7 @@ use std::marker::Model;
 pub(crate) struct WitnessReader {
     checker: Checker,
     /// The beginning of the line that has not ended yet.
-    kept: Kept,
+    kept: PartialLine,
     /// The number of that line, counted from 1; after a wrong line the number of that.
     number: u64,
 }
@@ -47,7 +47,7 @@ impl WitnessReader {
         ensures number { IfOk result (λ r. r.number ≡ 1) }
     {
         let checker = Checker::new(alloc, checked)?;
-        let kept = Kept::new(alloc, checker.room())?;
+        let kept = PartialLine::new(alloc, checker.room())?;
         Ok(WitnessReader {
             checker,
             kept,

@@ -7,8 +7,8 @@ use Rattle.aig_step.specs.Parts.Tables.{placed}
 use Rattle.aig_step.proofs.Running.Tables.{placed_length}
 use Rattle.aig_step.proofs.machine.Machine.assign.Goals as goal
 
-pub place-requires : goal.place-requires
-place-requires c =
+pub put_values-requires : goal.put_values-requires
+put_values-requires c =
     let inputs : length c.self.inside.parts.inputs ≡ length c.args.self.now.inputs =
     ap (λ (k : Circuit). length k.inputs) c.self.view_is in
     let largest : c.self.inside.parts.max_var ≡ c.args.self.now.max_var =
@@ -19,15 +19,15 @@ place-requires c =
 
 pub evaluate-requires-clause-room : goal.evaluate-requires-clause-room
 evaluate-requires-clause-room c =
-    ap length c.place.ensures ∙ placed_length 1 c.args.given.now c.put.new.self
+    ap length c.put_values.ensures ∙ placed_length 1 c.args.given.now c.put.new.self
     ∙ ap length c.put.ensures.value ∙ length-set c.args.values.now 0 Zero ∙ c.requires.room
 
 pub returns-clause-room : goal.returns-clause-room
 returns-clause-room c =
-    c.evaluate.ensures.room ∙ ap length c.place.ensures ∙ placed_length 1 c.args.given.now c.put.new.self
+    c.evaluate.ensures.room ∙ ap length c.put_values.ensures ∙ placed_length 1 c.args.given.now c.put.new.self
     ∙ ap length c.put.ensures.value ∙ length-set c.args.values.now 0 Zero
 
 pub returns-clause-assigned : goal.returns-clause-assigned
 returns-clause-assigned c =
     c.evaluate.ensures.assigned c.args.given.now c.args.values.now c.requires.each_input
-    (c.place.ensures ∙ ap (λ (vs : List Val). placed 1 c.args.given.now vs) c.put.ensures.value)
+    (c.put_values.ensures ∙ ap (λ (vs : List Val). placed 1 c.args.given.now vs) c.put.ensures.value)

@@ -13,8 +13,8 @@ pub evaluate-requires-clause-room : goal.evaluate-requires-clause-room
 evaluate-requires-clause-room c =
     let largest : c.self.inside.parts.max_var ≡ c.args.self.now.max_var =
     ap (λ (k : Circuit). k.max_var) c.self.view_is in
-    let size : length c.place.new.self ≡ length c.args.values.now =
-    ap length c.place.ensures ∙ placed_length (1 + c.len.result) c.args.state.now c.args.values.now in
+    let size : length c.put_codes.new.self ≡ length c.args.values.now =
+    ap length c.put_codes.ensures ∙ placed_length (1 + c.len.result) c.args.state.now c.args.values.now in
     let pairs : length c.as_slice-pairs.result.now ≡ length c.self.inside.pairs.items =
     ap length c.as_slice-pairs.ensures.value in
     omega (arith, largest, size, pairs, c.requires.room, c.self.invariant.size)
@@ -23,20 +23,20 @@ pub evaluate-requires-clause-below : goal.evaluate-requires-clause-below
 evaluate-requires-clause-below c =
     let largest : c.self.inside.parts.max_var ≡ c.args.self.now.max_var =
     ap (λ (k : Circuit). k.max_var) c.self.view_is in
-    let size : length c.place.new.self ≡ length c.args.values.now =
-    ap length c.place.ensures ∙ placed_length (1 + c.len.result) c.args.state.now c.args.values.now in
-    let room : first_gate c.self.inside.parts + length c.self.inside.pairs.items ≤ length c.place.new.self =
+    let size : length c.put_codes.new.self ≡ length c.args.values.now =
+    ap length c.put_codes.ensures ∙ placed_length (1 + c.len.result) c.args.state.now c.args.values.now in
+    let room : first_gate c.self.inside.parts + length c.self.inside.pairs.items ≤ length c.put_codes.new.self =
     omega (arith, largest, size, c.requires.room, c.self.invariant.size) in
     rw c.as_slice-pairs.ensures.value
-    (pairs_below (first_gate c.self.inside.parts) (length c.place.new.self) c.self.inside.pairs.items room
+    (pairs_below (first_gate c.self.inside.parts) (length c.put_codes.new.self) c.self.inside.pairs.items room
     c.self.invariant.gates)
 
 pub returns-clause-room : goal.returns-clause-room
 returns-clause-room c =
     ap length c.evaluate.ensures
-    ∙ evaluated_length (length c.place.new.self - length c.as_slice-pairs.result.now) c.as_slice-pairs.result.now
-    c.place.new.self
-    ∙ ap length c.place.ensures ∙ placed_length (1 + c.len.result) c.args.state.now c.args.values.now
+    ∙ evaluated_length (length c.put_codes.new.self - length c.as_slice-pairs.result.now) c.as_slice-pairs.result.now
+    c.put_codes.new.self
+    ∙ ap length c.put_codes.ensures ∙ placed_length (1 + c.len.result) c.args.state.now c.args.values.now
 
 pub returns-clause-assigned : goal.returns-clause-assigned
 returns-clause-assigned c given table long was =
@@ -48,14 +48,14 @@ returns-clause-assigned c given table long was =
     let latches : length parts.latches ≡ length c.args.self.now.latches =
     ap (λ (k : Circuit). length k.latches) c.self.view_is in
     let count : c.len.result ≡ length given = c.len.ensures ∙ inputs ∙ sym long in
-    let size : length c.place.new.self ≡ length c.args.values.now =
-    ap length c.place.ensures ∙ placed_length (1 + c.len.result) c.args.state.now c.args.values.now in
+    let size : length c.put_codes.new.self ≡ length c.args.values.now =
+    ap length c.put_codes.ensures ∙ placed_length (1 + c.len.result) c.args.state.now c.args.values.now in
     let before : length table ≡ length c.args.values.now =
     sym (ap length was ∙ placed_length 1 given (set table 0 Zero) ∙ length-set table 0 Zero) in
-    let first : length c.place.new.self - length pairs ≡ first_gate parts =
+    let first : length c.put_codes.new.self - length pairs ≡ first_gate parts =
     omega (arith, largest, size, c.requires.room, c.self.invariant.size) in
-    let begun : c.place.new.self ≡ placed (1 + length given) c.args.state.now (placed 1 given (set table 0 Zero)) =
-    c.place.ensures ∙ rw (count, was) refl in
+    let begun : c.put_codes.new.self ≡ placed (1 + length given) c.args.state.now (placed 1 given (set table 0 Zero)) =
+    c.put_codes.ensures ∙ rw (count, was) refl in
     let full : c.evaluate.new.self ≡ filled parts pairs given c.args.state.now table =
     c.evaluate.ensures ∙ rw (c.as_slice-pairs.ensures.value, first, begun) refl in
     subst (λ (k : Circuit). IsStepAssignment k c.args.state.now given (read_from c.evaluate.new.self)) c.self.view_is

@@ -1,7 +1,7 @@
 use Rattle.std.specs.Prelude.{◌≡◌, ◌+◌, length, drop}
 use Rattle.aig_step.specs.Parts.Cells.{AreCodes, values_of_bytes}
 use Rattle.aig_step.specs.Parts.Tables.{placed}
-use Rattle.aig_step.proofs.cells.place.Given as goal
+use Rattle.aig_step.proofs.cells.put_codes.Given as goal
 
 abbrev pub invariant-loop-value : goal.invariant-loop-value
 invariant-loop-value l =

@@ -7,12 +7,12 @@ use std::marker::Model;
 
 /// The first bytes of a line whose end has not come yet: all of them, or as many as there is room for.
 #[derive(Drop)]
-pub struct Kept {
+pub struct PartialLine {
     bytes: Vec<u8>,
     len: usize,
 }
 
-impl Model for Kept {
+impl Model for PartialLine {
     ghost use Rattle.std.specs.Prelude.{◌≤◌, take, length};
     ghost use Rattle.aig_step.specs.Parts.Lines.{Keeping};
 
@@ -23,12 +23,12 @@ impl Model for Kept {
     ghost invariant = { λ k. k.len ≤ length k.bytes.items };
 }
 
-impl Kept {
+impl PartialLine {
     /// Nothing, with room for so many bytes.
     pub fn new(alloc: Global, room: usize) -> Result<Self, AllocError>
         ensures { IfOk result (λ kept. kept ≡ record { bytes = []; room = room }) }
     {
-        Ok(Kept {
+        Ok(PartialLine {
             bytes: vec![in alloc; 0; room]?,
             len: 0,
         })

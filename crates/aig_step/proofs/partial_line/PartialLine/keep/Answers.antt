@@ -3,7 +3,7 @@ use Rattle.std.proofs.lemmas.List.{with_items_is}
 use borrow.Rule.Slice.PartMut.{post_of, same_len_mid}
 use Rattle.aig_step.specs.Parts.Lines.{Keeping, keeping_more}
 use Rattle.aig_step.proofs.LineBytes.{kept_more}
-use Rattle.aig_step.proofs.kept.Kept.keep.Goals as goal
+use Rattle.aig_step.proofs.partial_line.PartialLine.keep.Goals as goal
 
 abbrev keeping : List ℕ → ℕ → Keeping
 keeping bytes room = record { bytes = bytes; room = room }

@@ -1,6 +1,6 @@
 use Rattle.std.specs.Prelude.{◌≡◌, ◌+◌, length, drop}
 use Rattle.aig_step.specs.Parts.Tables.{placed}
-use Rattle.aig_step.proofs.evaluate.place.Given as goal
+use Rattle.aig_step.proofs.evaluate.put_values.Given as goal
 
 abbrev pub invariant-loop-value : goal.invariant-loop-value
 invariant-loop-value l =

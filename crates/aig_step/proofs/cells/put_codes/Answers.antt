@@ -5,7 +5,7 @@ use Rattle.aig_step.specs.Parts.Cells.{bytes_of_values, values_of_bytes}
 use Rattle.aig_step.specs.Parts.Tables.{placed}
 use Rattle.aig_step.proofs.Running.Cells.{are_codes, codes_length, values_are}
 use Rattle.aig_step.proofs.Running.Tables.{placed_on}
-use Rattle.aig_step.proofs.cells.place.Goals as goal
+use Rattle.aig_step.proofs.cells.put_codes.Goals as goal
 
 pub overflow_add-at : goal.overflow_add-at
 overflow_add-at c = grind (arith, codes_length c.loop-value.codes c.loop-value.invariant.0)
