@@ -125,6 +125,8 @@ fn symbols_and_comments_are_written(rt: HostRuntime) -> Result<(), Fail> {
 #[test]
 fn symbols_and_comments_come_back(rt: HostRuntime) -> Result<(), Fail> {
     let checked = made_by_hand(rt.alloc())?;
-    assert!(rt; is_circuit_of(rt.alloc(), checked.circuit(), BY_HAND)?);
+    let comes_back = is_circuit_of(rt.alloc(), checked.circuit(), BY_HAND);
+    drop(checked);
+    assert!(rt; comes_back?);
     Ok(())
 }

@@ -125,6 +125,14 @@ fn with_part(alloc: Global, circuit: &mut Circuit, part: &str) -> Result<(), Fai
     Ok(())
 }
 
+/// Whether a circuit is in form with the parts of a row.
+fn in_form_with_parts(alloc: Global, circuit: &mut Circuit, parts: &str) -> Result<bool, Fail> {
+    for part in parts.split(',') {
+        with_part(alloc, circuit, part)?;
+    }
+    Ok(circuit.in_form())
+}
+
 /// What a symbol with this letter names.
 fn kind_of(letter: u8) -> Kind {
     match letter {
@@ -160,6 +168,12 @@ pub(crate) fn symbols_of(alloc: Global, text: &str) -> Result<Symbols, Fail> {
     Ok(symbols)
 }
 
+/// Whether a circuit is in form with the symbols of a text.
+fn in_form_with_symbols(alloc: Global, circuit: &mut Circuit, text: &str) -> Result<bool, Fail> {
+    circuit.symbols = symbols_of(alloc, text)?;
+    Ok(circuit.in_form())
+}
+
 #[test]
 fn variables_and_literals(rt: HostRuntime) -> Result<(), Fail> {
     for row in SECTIONS.lines() {
@@ -175,10 +189,9 @@ fn properties(rt: HostRuntime) -> Result<(), Fail> {
     for row in PROPERTIES.split(';') {
         let (parts, answer) = row.split_once(':').ok_or("a row has an answer")?;
         let mut circuit = empty_circuit(rt.alloc(), 4);
-        for part in parts.split(',') {
-            with_part(rt.alloc(), &mut circuit, part)?;
-        }
-        assert!(rt; circuit.in_form() == (answer == "yes"), "{row}");
+        let in_form = in_form_with_parts(rt.alloc(), &mut circuit, parts);
+        drop(circuit);
+        assert!(rt; in_form? == (answer == "yes"), "{row}");
     }
     Ok(())
 }
@@ -191,8 +204,9 @@ fn symbols(rt: HostRuntime) -> Result<(), Fail> {
     for row in SYMBOLS.split(';') {
         let (symbols, answer) = row.split_once(':').ok_or("a row has an answer")?;
         let mut circuit = circuit_of(rt.alloc(), NAMELESS)?;
-        circuit.symbols = symbols_of(rt.alloc(), symbols)?;
-        assert!(rt; circuit.in_form() == (answer == "yes"), "{row}");
+        let in_form = in_form_with_symbols(rt.alloc(), &mut circuit, symbols);
+        drop(circuit);
+        assert!(rt; in_form? == (answer == "yes"), "{row}");
     }
     Ok(())
 }

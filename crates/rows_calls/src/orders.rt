@@ -63,13 +63,17 @@ fn is_placed(alloc: Global, circuit: &Circuit, list: &[u32]) -> Result<bool, Fai
     Ok(placed.list() == list)
 }
 
-/// Whether the gates of a row have the order of its answer.
+/// Whether the gates of a row have the order of its answer, and none before.
 fn is_answered(alloc: Global, circuit: &Circuit, answer: &str) -> Result<bool, Fail> {
     let numbers = numbers_of(alloc, answer)?;
     let [list @ .., steps] = numbers.as_slice() else {
         return Err("an answer has the steps")?;
     };
-    Ok(has_order(alloc, circuit, list, *steps)? && is_placed(alloc, circuit, list)?)
+    Ok(
+        begins_empty(alloc, circuit)?
+            && has_order(alloc, circuit, list, *steps)?
+            && is_placed(alloc, circuit, list)?,
+    )
 }
 
 #[test]
@@ -77,8 +81,9 @@ fn orders_of_gates(rt: HostRuntime) -> Result<(), Fail> {
     for row in ORDERS.split(';') {
         let (gates, answer) = row.split_once(':').ok_or("a row has an answer")?;
         let circuit = circuit_with(rt.alloc(), gates_of(rt.alloc(), gates)?)?;
-        assert!(rt; begins_empty(rt.alloc(), &circuit)?, "{row}");
-        assert!(rt; is_answered(rt.alloc(), &circuit, answer)?, "{row}");
+        let is_answered = is_answered(rt.alloc(), &circuit, answer);
+        drop(circuit);
+        assert!(rt; is_answered?, "{row}");
     }
     Ok(())
 }
