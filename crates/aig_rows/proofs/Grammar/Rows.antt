@@ -30,12 +30,6 @@ variable_is n h = search (rules, or_parts, eqb-false, ltb-false)
 is_variable : (n : ℕ) → n % 2 ≡ 0 → 2 ≤ n → is_no_variable n ≡ false
 is_variable n e h = or_from (eqb (n % 2) 1) (ltb n 2) (ne_eqb (n % 2) 1 (λ odd. omega arith)) (le-ltb n 2 h)
 
--- a reset is 0, 1 or the variable's own literal where the test does not refuse it
-some_test : (a b : Bool) → not (a || b) ≡ false → (a ≡ true) ⊎ (b ≡ true)
-some_test true b h = inl refl
-some_test false true h = inr refl
-some_test false false h = cc
-
 pub or_yes : (a : Bool) → (a || true) ≡ true
 or_yes true = refl
 or_yes false = refl
