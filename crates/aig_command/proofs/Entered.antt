@@ -1,15 +1,15 @@
 -- A command line that `clap` takes has a subcommand that is one of ours.
+use Rattle.std.proofs.Common.{rules}
 use Rattle.std.proofs.Common.{◌≡◌, ◌&&◌, Bool, Option, Some, None, List, [], ◌∷◌, ap, cond, drop, false}
 use Rattle.std.proofs.Common.{is_some, not, option_map, refl, sym, true, true≢false}
 use Rattle.std.specs.Prelude.{option_and_then}
 use Rattle.std.specs.List.{find, list_all, list_any}
-use Rattle.clap.specs.Words.{Kinds, Row, Rule, Text, subcommand_of}
+use Rattle.clap.specs.Words.{Kinds, Row, Text, subcommand_of}
 use Rattle.clap.specs.Facts.{explicit_source}
-use Rattle.clap.specs.Faults.{check_fault, defaults_fault, entered_fault, level_fault, settle_fault, walk_fault}
+use Rattle.clap.specs.Faults.{check_fault, entered_fault, level_fault}
 use Rattle.clap.specs.Kinds.{check_kinds, or_else}
 use Rattle.clap.specs.Simple.{App, Shape, built, entered, label_of, names_of, rows_at}
-use Rattle.clap.specs.Takes.{is_given}
-use Rattle.clap.specs.Walk.{Held, Names, answers_to, finished, nothing_held, settled, walk, walk_from}
+use Rattle.clap.specs.Walk.{Held, Names, answers_to, finished, nothing_held, walk}
 use Rattle.aig_command.specs.Aiger.{aiger}
 use Rattle.aig_command.specs.Asked.{asked_by, faults}
 use Rattle.aig_command.proofs.Read.{both}
@@ -28,15 +28,7 @@ second_empty (k ∷ ks) b e = absurd (true≢false (sym (ap is_none e)))
 last_check : (s : Shape) (names : Names) (h : Held) (words : List Text) (has : Bool) (below : Kinds)
     → level_fault s names h words has below ≡ []
     → check_fault s (finished s.rules (walk s.rules names h words).held) has ≡ []
-last_check s names h words has below e =
-    let end : Held = (walk s.rules names h words).held in
-    let last : Kinds = check_fault s (finished s.rules end) has in
-    let from_defaults : Kinds = or_else (defaults_fault (settled s.rules end).rows s.rules) last in
-    let from_settling : Kinds = or_else (settle_fault s.rules s.args_override_self end) from_defaults in
-    second_empty (defaults_fault (settled s.rules end).rows s.rules) last
-    (second_empty (settle_fault s.rules s.args_override_self end) from_defaults
-    (second_empty below from_settling
-    (second_empty (walk_fault s names (walk_from h) words) (or_else below from_settling) e)))
+last_check s names h words has below e = search (rules, second_empty)
 
 missing : (help none more : Bool) → help ≡ false → none ≡ true → check_kinds help none more ≡ [] → ⊥
 missing true none more p q e = true≢false p
@@ -50,11 +42,7 @@ none_given rows = not (list_any (λ (r : Row). explicit_source r.source) rows)
 needs_subcommand : (s : Shape) (rows : List Row) (has : Bool) → s.arg_required_else_help ≡ false
     → s.subcommand_required ≡ true → check_fault s rows has ≡ [] → has ≡ true
 needs_subcommand s rows true quiet required e = refl
-needs_subcommand s rows false quiet required e =
-    let lacking : Bool = list_any (λ (a : Rule). a.required && not (is_given a.id rows)) s.rules in
-    absurd (missing (s.arg_required_else_help && none_given rows) s.subcommand_required
-    (not (s.subcommand_negates_reqs && false) && lacking)
-    (ap (λ (b : Bool). b && none_given rows) quiet) required e)
+needs_subcommand s rows false quiet required e = search (rules, missing)
 
 abbrev stop_at : List Text → Option (Text × List Text)
 stop_at words = (walk (built aiger).top.rules (names_of (built aiger)) nothing_held (drop 1 words)).stopped

@@ -1,4 +1,5 @@
 -- What the getters read.
+use Rattle.std.proofs.Common.{rules}
 use Rattle.std.proofs.Common.{◌≡◌, ◌∙◌, ◌&&◌, ℕ, Bool, Option, Some, None, Result, List, [], ◌∷◌}
 use Rattle.std.proofs.Common.{ap, cond, false, length, refl, sym, true, true≢false}
 use Rattle.std.specs.Prelude.{◌^◌, codes, nat_lt, option_and_then, option_map, unwrap_or}
@@ -8,7 +9,7 @@ use Rattle.std.specs.Option.{option_map_or}
 use Rattle.std.specs.Char.{digit_value}
 use Rattle.std.specs.Str.{bytes_eq}
 use Rattle.std.specs.Str.Parse.{AllDigits, ExplainsUnsignedError, HasUnsignedDigitsIfOk, ParsesBool, ParsesUnsigned}
-use Rattle.std.specs.Str.Parse.{digits_value, without_leading_plus}
+use Rattle.std.specs.Str.Parse.{digits_value}
 use Rattle.std.specs.declared.num.ParseIntError.{ParseIntError}
 use Rattle.std.proofs.lemmas.Slice.Eq.{bytes_eq-Decides}
 use Rattle.std.proofs.lemmas.Bool.{lt-ltb, ltb-true}
@@ -20,11 +21,7 @@ use Rattle.aig_command.specs.Asked.{file, number_in}
 -- ---- options
 
 unequal : (xs ys : Text) → (xs ≡ ys → ⊥) → bytes_eq xs ys ≡ false
-unequal xs ys differ = go (bytes_eq xs ys) refl
-  where
-    go : (b : Bool) → bytes_eq xs ys ≡ b → b ≡ false
-    go true e = absurd (differ ((bytes_eq-Decides xs ys).0 e))
-    go false e = refl
+unequal xs ys differ = search (rules, bytes_eq-Decides)
 
 read_flag : (E : Type 0) (text : Text) (r : Option Bool) → ReadsOne {E = E} ParsesBool text r
     → unwrap_or r false ≡ bytes_eq text (codes "true")
@@ -63,19 +60,8 @@ abbrev gives : List ℕ → Result ℕ ParseIntError → Type 0
 gives bs r = ParsesUnsigned 32 10 bs r × ExplainsUnsignedError 10 bs r × HasUnsignedDigitsIfOk bs r
 
 read_number : (text : Text) (r : Option ℕ) → ReadsOne gives text r → r ≡ number_in text
-read_number text (Some n) h =
-    let ds = without_leading_plus text in
-    rw (lt-ltb 0 (length ds) h.0.0.0.0, digits_pass ds h.0.0.0.1, lt-ltb (digits_value 10 ds) (2 ^ 32) h.0.0.1)
-    (ap Some h.0.1)
-read_number text None h = go (is_number (without_leading_plus text)) refl
-  where
-    go : (b : Bool) → is_number (without_leading_plus text) ≡ b
-        → None ≡ cond b (Some (digits_value 10 (without_leading_plus text))) None
-    go false t = refl
-    go true t =
-        let outer = both _ _ t in
-        let inner = both _ _ outer.0 in
-        absurd (h.1.0 ((ltb-true _ _ inner.0, digits_from (without_leading_plus text) inner.1), ltb-true _ _ outer.1))
+read_number text (Some n) h = search (rules, lt-ltb, digits_pass)
+read_number text None h = search (rules, both, ltb-true, digits_from)
 
 -- the option that is read as a number, and is this one where there is none
 pub number_is : (otherwise : ℕ) (o : Option Text) (r : Option ℕ) → (o ≡ None → r ≡ None)
