@@ -1,14 +1,14 @@
 -- The first word of a file tells its kind, so no text is the file of two circuits.
-use Rattle.std.proofs.Common.{◌≡◌, ◌∙◌, sym, refl, ap, ℕ, ◌+◌, cond, get_or, List, [], ◌∷◌, true, false, Ok, inl, inr}
-use Rattle.std.proofs.Common.{arith, true≢false}
+use Rattle.std.proofs.Common.{rules}
+use Rattle.std.proofs.Common.{◌≡◌, ◌∙◌, sym, refl, ℕ, ◌+◌, cond, List, [], ◌∷◌, true, false, Ok, inl, inr}
+use Rattle.std.proofs.Common.{true≢false}
 use Rattle.std.proofs.lemmas.Slice.Eq.{bytes_eq-Decides}
-use Rattle.std.specs.List.{before_first}
 use Rattle.aig_circuit.specs.declared.circuit.Circuit.{Circuit}
 use Rattle.aig_text.specs.declared.header_line.Header.{Header}
 use Rattle.aig_rows.specs.declared.fault.ReadFault.{ReadFault}
 use Rattle.aig_rows.specs.Lines.{Line, Ahead, ahead, lines_of}
 use Rattle.aig_text.specs.Sections.{ascii_word}
-use Rattle.aig_text.specs.Reading.{ends_word, begins_with_word, first_word_is, header_of, header_at, circuit_at}
+use Rattle.aig_text.specs.Reading.{begins_with_word, first_word_is, header_of, header_at, circuit_at}
 use Rattle.aig_text.specs.Reading.{reading}
 use Rattle.aig_rows.specs.Reading.{at_line}
 use Rattle.aig_text.specs.AsciiGrammar.{IsAsciiText}
@@ -47,13 +47,7 @@ binary_begins text limit c is =
 -- one word
 words_apart : (ls : List Line) → first_word_is ascii_word ls ≡ true → first_word_is binary_word ls ≡ true → ⊥
 words_apart [] a b = cc
-words_apart (l ∷ ls) a b =
-    let x : before_first ends_word l.text ≡ ascii_word =
-    (bytes_eq-Decides (before_first ends_word l.text) ascii_word).0 a in
-    let y : before_first ends_word l.text ≡ binary_word =
-    (bytes_eq-Decides (before_first ends_word l.text) binary_word).0 b in
-    let second : 97 ≡ 105 = ap (λ (word : List ℕ). get_or word 1 0) (sym x ∙ y) in
-    omega (arith, second)
+words_apart (l ∷ ls) a b = search (rules, bytes_eq-Decides)
 
 -- the text of a binary file is no ASCII file, and the other way round
 pub no_ascii_file : (text : List ℕ) (limit : ℕ) (c : Circuit) → first_word_is binary_word (lines_of text) ≡ true
@@ -86,9 +80,4 @@ file_is_read limit text c (inl a) =
 file_is_read limit text c (inr a) = rw (binary_begins text limit c a) (binary_accepted text limit c a)
 
 pub read_is_file : (limit : ℕ) (text : List ℕ) (c : Circuit) → file_reading limit text ≡ Ok c → IsFileOf text limit c
-read_is_file limit text c =
-    elim (first_word_is binary_word (lines_of text)) as (λ b. cond b (binary_reading limit text) (reading limit text)
-    ≡ Ok c → IsFileOf text limit c) [
-      | true ↦ λ h. inr (binary_is_accepted limit text c h)
-      | false ↦ λ h. inl (reading_is_accepted limit text c h)
-    ]
+read_is_file limit text c = search (rules, binary_is_accepted, reading_is_accepted)

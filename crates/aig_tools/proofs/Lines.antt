@@ -1,6 +1,9 @@
 -- A line that was put into an output and sent.
-use Rattle.std.proofs.Common.{◌≡◌, ◌≢◌, ◌+◌, ◌++◌, ◌⊎◌, ◌∙◌, List, [], ℕ, Bool, true, false, codes, append-nil}
-use Rattle.std.proofs.Common.{Result, Ok, Err, ap, inl, inr, is_err, is_ok, refl, subst, sym}
+use Rattle.std.proofs.lemmas.Grind.{common_steps}
+use Rattle.std.proofs.Common.{arith}
+use Rattle.std.proofs.Common.{rules}
+use Rattle.std.proofs.Common.{◌≡◌, ◌≢◌, ◌+◌, ◌++◌, ◌⊎◌, List, [], ℕ, Bool, true, false, codes, append-nil}
+use Rattle.std.proofs.Common.{Result, Ok, Err, inl, inr, is_err, is_ok, refl}
 use Rattle.std.specs.Io.KnownBytes.{Appends}
 use Rattle.aig_io.specs.Output.{Out, Put}
 use Rattle.aig_io.specs.Transfer.{TookBeginning}
@@ -15,25 +18,12 @@ module _ {W : Type 0} where
   -- an output of a text was finished, and the sink did not fail
   pub taken_by : (o a b c : Out W) (text : List ℕ) → a ≡ o → o.held ≡ [] → Put a b text → Put b c [] → c.held ≡ []
       → c.failed ≡ false → Appends o.taken c.taken text × (c.failures ≡ o.failures)
-  taken_by o a b c text same start put sent empty end =
-      let went = (put_twice a b c text [] put sent).went end in
-      let all : text ≡ went.2.sent =
-      sym (append-nil text) ∙ sym (ap (λ (x : Out W). x.held ++ (text ++ [])) same
-      ∙ ap (λ (h : List ℕ). h ++ (text ++ [])) start)
-      ∙ went.2.order ∙ ap (λ (left : List ℕ). went.2.sent ++ left) empty ∙ append-nil went.2.sent in (
-        subst (λ (text : List ℕ). Appends o.taken c.taken text) (sym all)
-            (subst (λ (x : Out W). Appends x.taken c.taken went.2.sent) same went.2.took),
-        went.1 ∙ ap (λ (x : Out W). x.failures) same,
-      )
+  taken_by o a b c text same start put sent empty end = grind (arith, common_steps, put_twice, append-nil)
 
   -- the same where it failed
   pub begun_by : (o a b c : Out W) (text : List ℕ) → a ≡ o → o.held ≡ [] → o.failed ≡ false → Put a b text → Put b c []
       → c.failed ≡ true → TookBeginning o.taken c.taken text × (c.failures ≡ o.failures + 1)
-  begun_by o a b c text same empty start put sent end =
-      let begun = (put_twice a b c text [] put sent).begun (ap (λ (x : Out W). x.failed) same ∙ start) end in (
-        beginning_sent o a b c text same empty start put sent end,
-        begun.0 ∙ ap (λ (x : Out W). x.failures + 1) same,
-      )
+  begun_by o a b c text same empty start put sent end = search (rules, put_twice, beginning_sent)
 
   -- an output of a line was finished
   pub reported_by : (o a b c : Out W) (line : List ℕ) (failed : Bool) → c.failed ≡ failed → a ≡ o → o.held ≡ []

@@ -1,4 +1,5 @@
 -- What is converted means what it was converted from.
+use Rattle.std.proofs.Common.{rules}
 use Rattle.std.proofs.Common.{refl, subst, sym, ℕ, List, Bool, true, false, inl, if◌then◌else◌}
 use Rattle.aig_circuit.specs.declared.circuit.Circuit.{Circuit}
 use Rattle.aig_circuit.specs.declared.circuit.TheConstants.{LARGEST}
@@ -17,39 +18,10 @@ use Rattle.aig_tools.proofs.TripsExist.{well_formed_file}
 
 -- symbols and comment mean nothing
 stripped_is_well_formed : (c : Circuit) → IsWellFormed c → IsWellFormed (stripped c)
-stripped_is_well_formed c good = record {
-  limits = record {
-    max_var = good.limits.max_var;
-    inputs = good.limits.inputs;
-    latches = good.limits.latches;
-    literals = good.limits.literals;
-    justice = good.limits.justice;
-    sizes = good.limits.sizes;
-    gates = good.limits.gates;
-  };
-  in_range = good.in_range;
-  once = good.once;
-  known = good.known;
-  symbols = record { positions = tt; apart = tt; lines = tt };
-  ranked = good.ranked;
-}
+stripped_is_well_formed c good = search rules
 
 row_of_whole : (c : Circuit) (row : Row) → IsRow (stripped c) row → IsRow c row
-row_of_whole c row (a, shown) = (
-  a,
-  record {
-    assigned = record {
-      constant = shown.assigned.constant;
-      inputs = shown.assigned.inputs;
-      latches = shown.assigned.latches;
-      gates = shown.assigned.gates;
-    };
-    outputs_shown = shown.outputs_shown;
-    next_shown = shown.next_shown;
-    bad_shown = shown.bad_shown;
-    constraints_shown = shown.constraints_shown;
-  },
-)
+row_of_whole c row (a, shown) = search rules
 
 changed_by : (strip : Bool) (c : Circuit) → IsWellFormed c
     → IsWellFormed (if strip then stripped c else c) × MeansTheSame c (if strip then stripped c else c)

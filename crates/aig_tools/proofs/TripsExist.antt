@@ -1,5 +1,6 @@
 -- The texts of the headline exist: a file has a conversion text, which has one back, and no fault.
-use Rattle.std.proofs.Common.{◌≡◌, sym, refl, ap, subst, ℕ, List, None, true, false, inl, inr}
+use Rattle.std.proofs.Common.{rules}
+use Rattle.std.proofs.Common.{◌≡◌, refl, ap, subst, ℕ, List, None, true, false, inl, inr}
 use Rattle.aig_circuit.specs.declared.circuit.Circuit.{Circuit}
 use Rattle.aig_circuit.specs.declared.circuit.TheConstants.{LARGEST}
 use Rattle.aig_circuit.specs.Wellformed.{IsWellFormed}
@@ -26,15 +27,7 @@ is_written : (request : ToAig) (bytes text : List ℕ) (found source : Circuit)
     → request.max_var ≡ LARGEST → request.strip ≡ false → IsFileOf bytes LARGEST found
     → IsSource request.undo_map found source → IsTextAs request.ascii request.keep_map source text
     → IsConversionText request bytes text
-is_written request bytes text found source limit whole file is as_asked = record {
-  found = found;
-  source = source;
-  read = subst (λ n. IsFileOf bytes n found) (sym limit) file;
-  is_source = is;
-  written_as =
-      subst (λ (d : Circuit). IsTextAs request.ascii request.keep_map d text)
-      (sym (unchanged request source whole)) as_asked;
-}
+is_written request bytes text found source limit whole file is as_asked = search (rules, unchanged)
 
 -- to ASCII or to binary, with neither a map kept nor one undone
 plain_text : (request : ToAig) (bytes text : List ℕ) (c : Circuit)

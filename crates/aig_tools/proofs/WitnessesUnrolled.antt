@@ -1,4 +1,5 @@
 -- A witness that is confirmed, in the unrolled circuit.
+use Rattle.std.proofs.lemmas.Grind.{common_steps}
 use Rattle.std.proofs.Common.{◌≡◌, ◌+◌, ◌*◌, ◌<◌, ◌++◌, ◌∷◌, ℕ, zero, suc, List, [], ap, ap₂, arith, get_or, length}
 use Rattle.std.proofs.Common.{map, refl, subst, sym, take, ◌∙◌}
 use Rattle.std.specs.List.{All}
@@ -61,12 +62,7 @@ last_bad : (c : Circuit) (state : List Val) (vectors : List (List Val)) (propert
     → get_or (bad_side_by_side One (before ++ row ∷ [])) (length before * length c.bad + property) Zero ≡ One
 last_bad c state [] property [] row follow held holds is = absurd follow
 last_bad c state (vector ∷ vectors) property [] row follow held holds is =
-    let and_one = all_one row.constraints holds in
-    let place : 0 * length c.bad + property ≡ property = omega arith in
-    ap₂ (λ (vs : List Val) (n : ℕ). get_or vs n Zero)
-    (append-nil (map (value_and (and_all One row.constraints)) row.bad)) place
-    ∙ get_or-map (value_and (and_all One row.constraints)) row.bad property Zero Zero (within row.bad property is)
-    ∙ ap₂ value_and and_one is
+    grind (arith, common_steps, all_one, append-nil, get_or-map, within)
 last_bad c state [] property (r ∷ rs) row follow held holds is = absurd follow
 last_bad c state (vector ∷ vectors) property (r ∷ rs) row follow held holds is =
     let long : length (map (value_and (and_all One r.constraints)) r.bad) ≡ length c.bad =

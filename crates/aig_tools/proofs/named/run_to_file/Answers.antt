@@ -1,20 +1,11 @@
-use Rattle.std.proofs.Common.{◌≡◌, rules}
+use Rattle.std.proofs.Common.{rules}
 use Rattle.aig_tools.proofs.named.run_to_file.Goals as goal
 
 pub close-requires : goal.close-requires
-close-requires g c =
-    let done = rw c.new-file.ensures at c.in_ok-run.ensures.ok in
-    let held : c.run.new.sink.failures ≡ 0 = g.T.Engine.held _ _ _ _ _ done in
-    search rules
+close-requires g c = search rules
 
 pub returns-in-Ok-clause-ok : goal.returns-in-Ok-clause-ok
-returns-in-Ok-clause-ok g c =
-    let done = rw c.new-file.ensures at c.in_ok-run.ensures.ok in (
-      c.close.new.self,
-      (g.T.Engine.closed _ _ _ _ c.run.new.sink c.close.new.self done c.close.ensures.bytes).0 (search rules),
-      search rules,
-      c.close.ensures.closed,
-    )
+returns-in-Ok-clause-ok g c = search rules
 
 pub returns-clause-err : goal.returns-clause-err
 returns-clause-err g c =
