@@ -1,6 +1,7 @@
 //! Devices that fail, and devices that move few bytes in a call.
 use crate::run::{Behaviour, run};
 use std::alloc::{AllocError, Global};
+use std::rt::Files;
 use std::test::Fail;
 
 /// Texts, with a `#` between them. What is written is the text itself, or stands behind `=`. The words are those of the
@@ -172,57 +173,122 @@ pub(crate) fn parts(row: &str) -> (&str, &[u8], &[u8]) {
     (words, read.as_bytes(), written.as_bytes())
 }
 
+/// The behaviour of devices that move a row's text in a dozen calls; no call fails.
+fn in_a_dozen(text: &[u8]) -> Behaviour {
+    Behaviour::pieces_of(text.len() / 12 + 1)
+}
+
+/// The number of reads of a row's run, and of its writes.
+fn calls_of<R: Files + AllocGlobal>(rt: &R, row: &str) -> Result<(u64, u64), Fail> {
+    let (words, text, _) = parts(row);
+    let outcome = run(rt, words, text, in_a_dozen(text))?;
+    Ok((outcome.reads, outcome.output.calls))
+}
+
+/// Whether a row's run whose read of this number fails tells so, wrote no byte, and reads no more.
+fn stops_at_read<R: Files + AllocGlobal>(rt: &R, row: &str, call: u64) -> Result<bool, Fail> {
+    let (words, text, _) = parts(row);
+    let mut behaviour = in_a_dozen(text);
+    behaviour.failing_read = call;
+    let outcome = run(rt, words, text, behaviour)?;
+    Ok(
+        outcome.told(1, "aiger: -: cannot read\n")
+            && outcome.reads == call.saturating_add(1)
+            && outcome.output.calls == 0,
+    )
+}
+
+/// The first read of these rows that does not stop its run so, if there is one.
+fn first_wrong_read<R: Files + AllocGlobal>(rt: &R, rows: &str) -> Result<Option<u64>, Fail> {
+    for row in rows.split('#') {
+        let (reads, _) = calls_of(rt, row)?;
+        for call in 0..reads {
+            if !stops_at_read(rt, row, call)? {
+                return Ok(Some(call));
+            }
+        }
+    }
+    Ok(None)
+}
+
 /// Each read fails in turn: no byte was written, and no read came after it.
 #[test]
 fn failed_reads(rt: HostRuntime) -> Result<(), Fail> {
-    for row in texts(rt.alloc())?.as_str().split('#') {
-        let (words, text, _) = parts(row);
-        let mut behaviour = Behaviour::pieces_of(text.len() / 12 + 1);
-        for call in 0..run(&rt, words, text, behaviour)?.reads {
-            behaviour.failing_read = call;
-            let outcome = run(&rt, words, text, behaviour)?;
-            assert!(rt; outcome.told(1, "aiger: -: cannot read\n"), "read {call}");
-            assert_eq!(rt; outcome.reads, call + 1);
-            assert_eq!(rt; outcome.output.calls, 0);
+    let texts = texts(rt.alloc())?;
+    let wrong = first_wrong_read(&rt, texts.as_str());
+    drop(texts);
+    let wrong = wrong?;
+    assert!(rt; wrong.is_none(), "read {wrong:?}");
+    Ok(())
+}
+
+/// Whether a row's run whose write of this number fails tells so, wrote a beginning, and writes no more.
+fn stops_at_write<R: Files + AllocGlobal>(rt: &R, row: &str, call: u64) -> Result<bool, Fail> {
+    let (words, text, written) = parts(row);
+    let mut behaviour = in_a_dozen(text);
+    behaviour.failing_write = call;
+    let outcome = run(rt, words, text, behaviour)?;
+    Ok(
+        outcome.told(1, "aiger: -: cannot write\n")
+            && written.starts_with(outcome.output.taken.as_slice())
+            && outcome.output.calls == call.saturating_add(1),
+    )
+}
+
+/// The first write of these rows that does not stop its run so, if there is one.
+fn first_wrong_write<R: Files + AllocGlobal>(rt: &R, rows: &str) -> Result<Option<u64>, Fail> {
+    for row in rows.split('#') {
+        let (_, writes) = calls_of(rt, row)?;
+        for call in 0..writes {
+            if !stops_at_write(rt, row, call)? {
+                return Ok(Some(call));
+            }
         }
     }
-    Ok(())
+    Ok(None)
 }
 
 /// Each write fails in turn: a beginning was written, and no write came after it.
 #[test]
 fn failed_writes(rt: HostRuntime) -> Result<(), Fail> {
-    for row in texts(rt.alloc())?.as_str().split('#') {
-        let (words, text, written) = parts(row);
-        let mut behaviour = Behaviour::pieces_of(text.len() / 12 + 1);
-        for call in 0..run(&rt, words, text, behaviour)?.output.calls {
-            behaviour.failing_write = call;
-            let outcome = run(&rt, words, text, behaviour)?;
-            assert!(rt; outcome.told(1, "aiger: -: cannot write\n"), "write {call}");
-            assert!(rt;
-                written.starts_with(outcome.output.taken.as_slice()),
-                "write {call}"
-            );
-            assert_eq!(rt; outcome.output.calls, call + 1);
+    let texts = texts(rt.alloc())?;
+    let wrong = first_wrong_write(&rt, texts.as_str());
+    drop(texts);
+    let wrong = wrong?;
+    assert!(rt; wrong.is_none(), "write {wrong:?}");
+    Ok(())
+}
+
+/// Whether a row's run whose devices move so many bytes writes what it should, in slices no longer than a block.
+fn is_written_in<R: Files + AllocGlobal>(rt: &R, row: &str, piece: usize) -> Result<bool, Fail> {
+    let (words, text, written) = parts(row);
+    let outcome = run(rt, words, text, Behaviour::pieces_of(piece))?;
+    Ok(
+        outcome.told(0, "")
+            && outcome.output.taken.as_slice() == written
+            && outcome.output.longest <= 8192,
+    )
+}
+
+/// The first size of pieces in which a row is not written so, if there is one.
+fn first_wrong_piece<R: Files + AllocGlobal>(rt: &R, rows: &str) -> Result<Option<usize>, Fail> {
+    for row in rows.split('#') {
+        for piece in [1, 7, 30_000] {
+            if !is_written_in(rt, row, piece)? {
+                return Ok(Some(piece));
+            }
         }
     }
-    Ok(())
+    Ok(None)
 }
 
 /// Few bytes in a call change nothing, and no slice is longer than a block.
 #[test]
 fn pieces(rt: HostRuntime) -> Result<(), Fail> {
-    for row in texts(rt.alloc())?.as_str().split('#') {
-        let (words, text, written) = parts(row);
-        for piece in [1, 7, 30_000] {
-            let outcome = run(&rt, words, text, Behaviour::pieces_of(piece))?;
-            assert!(rt; outcome.told(0, ""), "in pieces of {piece}");
-            assert!(rt;
-                outcome.output.taken.as_slice() == written,
-                "in pieces of {piece}"
-            );
-            assert!(rt; outcome.output.longest <= 8192, "in pieces of {piece}");
-        }
-    }
+    let texts = texts(rt.alloc())?;
+    let wrong = first_wrong_piece(&rt, texts.as_str());
+    drop(texts);
+    let wrong = wrong?;
+    assert!(rt; wrong.is_none(), "in pieces of {wrong:?}");
     Ok(())
 }

@@ -1,10 +1,9 @@
 //! Conversions and unrollings between files in memory that fail, and files that move few bytes in a call.
 use crate::failures::parts;
-use crate::run::words_of;
+use crate::run::run_over;
 use crate::streams::{NEVER, OnceReader, OnceWriter};
-use aig_core::{DeviceFault, MemorySink, ReadSource, WriteSink};
+use aig_core::DeviceFault;
 use aig_files::FileAccess;
-use aig_tools::serve;
 use std::alloc::Global;
 use std::io;
 use std::io::{ErrorKind, Write};
@@ -30,7 +29,7 @@ const NOTHING: Failing = Failing {
 };
 
 /// Files in memory: `source` has this text, and any other file takes the text that is wanted and no other.
-#[derive(Drop)]
+#[derive(Clone, Copy)]
 struct MemoryFiles<'a> {
     text: &'a [u8],
     wanted: &'a [u8],
@@ -112,25 +111,15 @@ fn told(
     status: u8,
     message: &str,
 ) -> Result<bool, Fail> {
-    let words = words_of(alloc, line)?;
-    let mut reader = OnceReader {
+    let reader = OnceReader {
         left: b"aag 0 0 0 0 0\n",
         piece: 1,
         failing: 0,
         calls: 0,
     };
-    let mut writer = OnceWriter::new(alloc, 1, 0);
-    let mut errors = MemorySink::new(alloc, 100, 100, 0)?;
-    let mut input = ReadSource::new(&mut reader);
-    let mut output = WriteSink::new(&mut writer);
-    let words = words.as_slice();
-    let answered = serve(files, alloc, words, &mut input, &mut output, &mut errors);
-    Ok(
-        answered == status
-            && errors.taken() == message.as_bytes()
-            && reader.calls == 0
-            && writer.calls == 0,
-    )
+    let writer = OnceWriter::new(alloc, 1, 0);
+    let outcome = run_over(alloc, files, line, reader, writer)?;
+    Ok(outcome.told(status, message) && outcome.reads == 0 && outcome.output.calls == 0)
 }
 
 /// Words, `$`, the text of the source, `=` and what is written, with a `#` between rows.

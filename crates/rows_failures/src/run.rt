@@ -59,6 +59,7 @@ pub(crate) fn run<R: Files + AllocGlobal>(
     behaviour: Behaviour,
 ) -> Result<Outcome, Fail> {
     let alloc = rt.alloc();
+    let mut errors = MemorySink::new(alloc, 100, 100, 0)?;
     let words = words_of(alloc, line)?;
     let mut reader = OnceReader {
         left: text,
@@ -67,7 +68,6 @@ pub(crate) fn run<R: Files + AllocGlobal>(
         calls: 0,
     };
     let mut output = OnceWriter::new(alloc, behaviour.piece, behaviour.failing_write);
-    let mut errors = MemorySink::new(alloc, 100, 100, 0)?;
     let mut source = ReadSource::new(&mut reader);
     let mut sink = WriteSink::new(&mut output);
     let status = start(

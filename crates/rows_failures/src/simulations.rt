@@ -58,7 +58,7 @@ impl<'a> Devices<'a> {
     }
 
     /// A run of the program with these words.
-    pub(crate) fn run(&self, alloc: Global, words: &str) -> Result<Outcome, Fail> {
+    fn run(&self, alloc: Global, words: &str) -> Result<Outcome, Fail> {
         let input = if words.ends_with(" - stimulus") {
             self.model()
         } else {
@@ -66,6 +66,51 @@ impl<'a> Devices<'a> {
         };
         let output = OnceWriter::new(alloc, self.piece, self.failing_trace);
         run_over(alloc, self, words, input, output)
+    }
+
+    /// Whether a run with these words has this status, tells this, and writes this.
+    pub(crate) fn comes_to(
+        &self,
+        alloc: Global,
+        words: &str,
+        status: u8,
+        told: &str,
+        written: &[u8],
+    ) -> Result<bool, Fail> {
+        let outcome = self.run(alloc, words)?;
+        Ok(outcome.told(status, told) && outcome.output.taken.as_slice() == written)
+    }
+
+    /// Whether a run with these words fails, tells this, and makes no write.
+    pub(crate) fn fails_unwritten(
+        &self,
+        alloc: Global,
+        words: &str,
+        told: &str,
+    ) -> Result<bool, Fail> {
+        let outcome = self.run(alloc, words)?;
+        Ok(outcome.told(1, told) && outcome.output.calls == 0)
+    }
+
+    /// Whether a run with these words, of which a write fails, tells so, wrote a beginning of this text, and makes no
+    /// write after it.
+    pub(crate) fn stops_at_write(
+        &self,
+        alloc: Global,
+        words: &str,
+        text: &[u8],
+    ) -> Result<bool, Fail> {
+        let outcome = self.run(alloc, words)?;
+        Ok(
+            outcome.told(1, "aiger: -: cannot write\n")
+                && text.starts_with(outcome.output.taken.as_slice())
+                && outcome.output.calls == self.failing_trace.saturating_add(1),
+        )
+    }
+
+    /// The number of writes of a run with these words.
+    fn writes(&self, alloc: Global, words: &str) -> Result<u64, Fail> {
+        Ok(self.run(alloc, words)?.output.calls)
     }
 }
 
@@ -126,9 +171,8 @@ fn failed_models(rt: HostRuntime) -> Result<(), Fail> {
         devices.failing_stimulus = 0;
         for call in 0..=MODEL.len() as u64 / 2 {
             devices.failing_model = call;
-            let outcome = devices.run(rt.alloc(), words)?;
-            assert!(rt; outcome.told(1, unread_model(words)), "read {call}");
-            assert_eq!(rt; outcome.output.calls, 0);
+            let fails = devices.fails_unwritten(rt.alloc(), words, unread_model(words));
+            assert!(rt; fails?, "read {call}");
         }
     }
     Ok(())
@@ -142,10 +186,10 @@ fn failed_stimuli(rt: HostRuntime) -> Result<(), Fail> {
         let mut devices = SOUND;
         for call in 0..=STIMULUS.len() / 2 {
             devices.failing_stimulus = call as u64;
-            let outcome = devices.run(rt.alloc(), words)?;
-            assert!(rt; outcome.told(1, unread_stimulus(words)), "read {call}");
             let written = due(words, &TRACE[..2 * call / 3 * 7]);
-            assert!(rt; outcome.output.taken.as_slice() == written, "read {call}");
+            let line = unread_stimulus(words);
+            let comes = devices.comes_to(rt.alloc(), words, 1, line, written);
+            assert!(rt; comes?, "read {call}");
         }
     }
     Ok(())
@@ -156,13 +200,10 @@ fn failed_stimuli(rt: HostRuntime) -> Result<(), Fail> {
 fn failed_traces(rt: HostRuntime) -> Result<(), Fail> {
     for words in WORDS.split('#') {
         let mut devices = SOUND;
-        for call in 0..SOUND.run(rt.alloc(), words)?.output.calls {
+        for call in 0..SOUND.writes(rt.alloc(), words)? {
             devices.failing_trace = call;
-            let outcome = devices.run(rt.alloc(), words)?;
-            assert!(rt; outcome.told(1, "aiger: -: cannot write\n"), "write {call}");
-            let taken = outcome.output.taken.as_slice();
-            assert!(rt; TRACE.starts_with(taken), "write {call}");
-            assert_eq!(rt; outcome.output.calls, call + 1);
+            let stops = devices.stops_at_write(rt.alloc(), words, TRACE);
+            assert!(rt; stops?, "write {call}");
         }
     }
     Ok(())
@@ -175,12 +216,8 @@ fn traces_in_pieces(rt: HostRuntime) -> Result<(), Fail> {
         let mut devices = SOUND;
         for piece in [1, 7, 30_000] {
             devices.piece = piece;
-            let outcome = devices.run(rt.alloc(), words)?;
-            assert!(rt; outcome.told(0, ""), "in pieces of {piece}");
-            assert!(rt;
-                outcome.output.taken.as_slice() == TRACE,
-                "in pieces of {piece}"
-            );
+            let comes = devices.comes_to(rt.alloc(), words, 0, "", TRACE);
+            assert!(rt; comes?, "in pieces of {piece}");
         }
     }
     Ok(())
@@ -194,10 +231,9 @@ fn bad_lines(rt: HostRuntime) -> Result<(), Fail> {
         let mut devices = SOUND;
         devices.stimulus = b"0x\n1\n11\n";
         devices.failing_stimulus = 3;
-        let outcome = devices.run(rt.alloc(), words)?;
-        assert!(rt; outcome.output.taken.as_slice() == due(words, &TRACE[..7]));
-        let named = words.ends_with(" stimulus");
-        assert!(rt; outcome.told(1, bad_line(named)));
+        let line = bad_line(words.ends_with(" stimulus"));
+        let written = due(words, &TRACE[..7]);
+        assert!(rt; devices.comes_to(rt.alloc(), words, 1, line, written)?);
     }
     Ok(())
 }
@@ -209,15 +245,10 @@ fn unread_ends(rt: HostRuntime) -> Result<(), Fail> {
     devices.stimulus = b"0x\n111111";
     for call in 2..5 {
         devices.failing_stimulus = call;
-        let outcome = devices.run(rt.alloc(), "aiger aigsim model stimulus")?;
-        assert!(rt;
-            outcome.told(1, "aiger: stimulus: cannot read\n"),
-            "read {call}"
-        );
-        assert!(rt;
-            outcome.output.taken.as_slice() == &TRACE[..7],
-            "read {call}"
-        );
+        let words = "aiger aigsim model stimulus";
+        let line = "aiger: stimulus: cannot read\n";
+        let comes = devices.comes_to(rt.alloc(), words, 1, line, &TRACE[..7]);
+        assert!(rt; comes?, "read {call}");
     }
     Ok(())
 }

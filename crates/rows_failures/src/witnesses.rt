@@ -30,9 +30,8 @@ fn failed_models(rt: HostRuntime) -> Result<(), Fail> {
         devices.failing_stimulus = 0;
         for call in 0..=MODEL.len() as u64 / 2 {
             devices.failing_model = call;
-            let outcome = devices.run(rt.alloc(), words)?;
-            assert!(rt; outcome.told(1, unread_model(words)), "read {call}");
-            assert_eq!(rt; outcome.output.calls, 0);
+            let fails = devices.fails_unwritten(rt.alloc(), words, unread_model(words));
+            assert!(rt; fails?, "read {call}");
         }
     }
     Ok(())
@@ -45,9 +44,8 @@ fn failed_witnesses(rt: HostRuntime) -> Result<(), Fail> {
         let mut devices = JUDGED;
         for call in 0..=WITNESS.len() as u64 / 2 {
             devices.failing_stimulus = call;
-            let outcome = devices.run(rt.alloc(), words)?;
-            assert!(rt; outcome.told(1, unread_stimulus(words)), "read {call}");
-            assert_eq!(rt; outcome.output.calls, 0);
+            let fails = devices.fails_unwritten(rt.alloc(), words, unread_stimulus(words));
+            assert!(rt; fails?, "read {call}");
         }
     }
     Ok(())
@@ -60,11 +58,8 @@ fn failed_answers(rt: HostRuntime) -> Result<(), Fail> {
         let mut devices = JUDGED;
         for call in 0..ANSWER.len() as u64 / 2 {
             devices.failing_trace = call;
-            let outcome = devices.run(rt.alloc(), words)?;
-            assert!(rt; outcome.told(1, "aiger: -: cannot write\n"), "write {call}");
-            let taken = outcome.output.taken.as_slice();
-            assert!(rt; ANSWER.starts_with(taken), "write {call}");
-            assert_eq!(rt; outcome.output.calls, call + 1);
+            let stops = devices.stops_at_write(rt.alloc(), words, ANSWER);
+            assert!(rt; stops?, "write {call}");
         }
     }
     Ok(())
@@ -77,12 +72,8 @@ fn answers_in_pieces(rt: HostRuntime) -> Result<(), Fail> {
         let mut devices = JUDGED;
         for piece in [1, 7, 30_000] {
             devices.piece = piece;
-            let outcome = devices.run(rt.alloc(), words)?;
-            assert!(rt; outcome.told(0, ""), "in pieces of {piece}");
-            assert!(rt;
-                outcome.output.taken.as_slice() == ANSWER,
-                "in pieces of {piece}"
-            );
+            let comes = devices.comes_to(rt.alloc(), words, 0, "", ANSWER);
+            assert!(rt; comes?, "in pieces of {piece}");
         }
     }
     Ok(())
@@ -94,9 +85,7 @@ fn unconfirmed(rt: HostRuntime) -> Result<(), Fail> {
     for words in WORDS.split('#') {
         let mut devices = JUDGED;
         devices.stimulus = b"1\nb0\n0\n1\n.\n";
-        let outcome = devices.run(rt.alloc(), words)?;
-        assert!(rt; outcome.told(1, ""));
-        assert!(rt; outcome.output.taken.as_slice() == UNCONFIRMED);
+        assert!(rt; devices.comes_to(rt.alloc(), words, 1, "", UNCONFIRMED)?);
     }
     Ok(())
 }
@@ -107,8 +96,8 @@ fn wrong_lines(rt: HostRuntime) -> Result<(), Fail> {
     let mut devices = JUDGED;
     devices.stimulus = b"1\nb0\n0\n1\n2\n.\n";
     devices.failing_stimulus = 6;
-    let outcome = devices.run(rt.alloc(), "aiger aigsim --witness model stimulus")?;
-    assert!(rt; outcome.told(1, "aiger: stimulus: line 5: bad witness line\n"));
-    assert_eq!(rt; outcome.output.calls, 0);
+    let words = "aiger aigsim --witness model stimulus";
+    let line = "aiger: stimulus: line 5: bad witness line\n";
+    assert!(rt; devices.fails_unwritten(rt.alloc(), words, line)?);
     Ok(())
 }
