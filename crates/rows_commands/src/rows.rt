@@ -297,12 +297,12 @@ fn shown_unrolling(alloc: Global, request: &Unroll) -> Result<String, AllocError
     format!(in alloc; "{frames} {ascii}{limit} {source} {destination}")
 }
 
-/// What is answered to arguments, as a row shows it.
-fn answer(alloc: Global, words: &[String]) -> Result<String, AllocError> {
-    match command(alloc, words) {
-        Ok(Command::ToAig(request)) => shown_conversion(alloc, &request),
-        Ok(Command::Sim(request)) => shown_simulation(alloc, &request),
-        Ok(Command::Unroll(request)) => shown_unrolling(alloc, &request),
+/// What came of arguments, as a row shows it.
+fn shown_answer(alloc: Global, answered: &Result<Command, Usage>) -> Result<String, AllocError> {
+    match answered {
+        Ok(Command::ToAig(request)) => shown_conversion(alloc, request),
+        Ok(Command::Sim(request)) => shown_simulation(alloc, request),
+        Ok(Command::Unroll(request)) => shown_unrolling(alloc, request),
         Ok(Command::Help(_)) => String::from_str(alloc, "help"),
         Ok(Command::Version(_)) => String::from_str(alloc, "version"),
         Err(Usage::Words(_)) => String::from_str(alloc, "words"),
@@ -310,12 +310,23 @@ fn answer(alloc: Global, words: &[String]) -> Result<String, AllocError> {
     }
 }
 
+/// What is answered to the arguments of a line.
+fn answered_to(alloc: Global, line: &str) -> Result<Result<Command, Usage>, AllocError> {
+    let words = words_of(alloc, line)?;
+    Ok(command(alloc, words.as_slice()))
+}
+
+/// What is answered to the arguments of a line, as a row shows it.
+fn answer(alloc: Global, line: &str) -> Result<String, AllocError> {
+    let answered = answered_to(alloc, line)?;
+    shown_answer(alloc, &answered)
+}
+
 /// Whether each row is answered as it says; the first that is not.
 fn first_wrong(alloc: Global, rows: &str) -> Result<Option<String>, Fail> {
     for row in rows.split(';') {
         let (line, wanted) = row.split_once(" => ").ok_or("a row has an answer")?;
-        let words = words_of(alloc, line)?;
-        let answer = answer(alloc, words.as_slice())?;
+        let answer = answer(alloc, line)?;
         if answer.as_str() != wanted {
             return Ok(Some(format!(in alloc; "{line} => {answer}")?));
         }
@@ -360,13 +371,20 @@ fn longest(text: &str) -> usize {
     longest
 }
 
-/// The help that a line asks for.
-fn help(alloc: Global, line: &str) -> Result<String, Fail> {
-    let words = words_of(alloc, line)?;
-    match command(alloc, words.as_slice()) {
-        Ok(Command::Help(text)) => Ok(text),
-        _ => Err("no help")?,
+/// The longest line of an answer that is help.
+fn longest_of_help(answered: &Result<Command, Usage>) -> Option<usize> {
+    match answered {
+        Ok(Command::Help(text)) => Some(longest(text.as_str())),
+        _ => None,
     }
+}
+
+/// The longest line of the help that a line asks for.
+fn longest_shown(alloc: Global, line: &str) -> Result<usize, Fail> {
+    let answered = answered_to(alloc, line)?;
+    let longest = longest_of_help(&answered);
+    drop(answered);
+    Ok(longest.ok_or("no help")?)
 }
 
 #[test]
@@ -378,8 +396,8 @@ fn help_fits_a_terminal(rt: HostRuntime) -> Result<(), Fail> {
         "aigunroll --help",
     ];
     for line in lines.iter() {
-        let text = help(rt.alloc(), line)?;
-        assert!(rt; longest(text.as_str()) <= 80, "{text}");
+        let longest = longest_shown(rt.alloc(), line)?;
+        assert!(rt; longest <= 80, "{line}");
     }
     Ok(())
 }
