@@ -6,7 +6,7 @@ ghost use Rattle.aig_lanes.specs.Parts.Groups.{Added};
 ghost use Rattle.aig_lanes.specs.Runs.{IsRunOf, IsTraceOf, row_of};
 ghost use Rattle.aig_step.specs.Showing.{IsShown};
 
-use aig_core::{Listing, OutOfMemory, Val};
+use aig_circuit::{Listing, OutOfMemory, Val};
 use aig_lanes::{FullRow, Run, Trace};
 use aig_step::{Row, Simulator};
 use std::alloc::{AllocError, Global};

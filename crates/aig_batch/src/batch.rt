@@ -4,7 +4,8 @@ ghost use Rattle.std.specs.List.{All, AllZip};
 ghost use Rattle.aig_lanes.specs.Runs.{IsRunOf, IsTraceOf};
 
 use crate::alone::trace_alone;
-use aig_core::{Checked, Listing, OutOfMemory};
+use aig_checked::Checked;
+use aig_circuit::{Listing, OutOfMemory};
 use aig_lanes::{Run, Trace, trace_group};
 use aig_step::{Machine, Simulator};
 use std::alloc::Global;

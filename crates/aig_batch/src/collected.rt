@@ -10,7 +10,8 @@ ghost use Rattle.aig_batch.specs.Parts.Judging.{IsJudged};
 
 use crate::entry::{begins_with_step, is_entry};
 use crate::line_feed::line_feed;
-use aig_core::{Checked, ROOM, Source};
+use aig_checked::Checked;
+use aig_io::{ROOM, Source};
 use aig_step::{SimFault, without_return};
 use std::alloc::Global;
 

@@ -6,7 +6,7 @@ ghost use Rattle.aig_lanes.specs.declared.run.Run.{Run as RunRecord};
 ghost use Rattle.aig_batch.specs.Parts.RunsRead.{HasNoBadLine, Says, entries_of_groups};
 
 use crate::runs_read::read_group;
-use aig_core::OutOfMemory;
+use aig_circuit::OutOfMemory;
 use aig_lanes::RunGroup;
 use std::alloc::Global;
 

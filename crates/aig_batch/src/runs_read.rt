@@ -6,7 +6,7 @@ ghost use Rattle.aig_lanes.specs.declared.run.Run.{Run as RunRecord};
 ghost use Rattle.aig_batch.specs.Parts.RunsRead.{HasNoBadLine, Says, entries_of_run};
 ghost use Rattle.memchr.specs.Find.{IsFirstByte, is_byte};
 
-use aig_core::OutOfMemory;
+use aig_circuit::OutOfMemory;
 use aig_lanes::{RunGroup, Vectors};
 use aig_step::{is_stop, without_return};
 use memchr::memchr;

@@ -14,7 +14,9 @@ ghost use Rattle.aig_step.specs.Parts.Lines.{line_size};
 ghost use Rattle.aig_batch.specs.Parts.RunsRead.{kept_texts, text_of_group};
 ghost use Rattle.aig_lanes.specs.Runs.{IsRunOf};
 
-use aig_core::{Checked, OutOfMemory, Sink};
+use aig_checked::Checked;
+use aig_circuit::OutOfMemory;
+use aig_io::Sink;
 use aig_lanes::{
     BlockBits, Plane, RunGroup, Shown, Vectors, assign_lanes, fill_bits, fill_table, longest,
     new_bits, new_table, put_reset_lanes, put_vectors, show_next_lanes,

@@ -23,7 +23,7 @@ use Rattle.aig_text.proofs.Grammar.Headers.{header_limited}
 use Rattle.aig_text.proofs.Grammar.Sections.{latches_up_to}
 use Rattle.aig_text.proofs.Canonical.Text.{entries_full, literal_rows_full, sizes_are_small, header_is_small}
 use Rattle.aig_text.proofs.Canonical.Text.{tail_is_good}
-use Rattle.aig_core.specs.BinaryOrder.{IsInBinaryOrder}
+use Rattle.aig_checked.specs.BinaryOrder.{IsInBinaryOrder}
 use Rattle.aig_binary.specs.BinaryGrammar.{IsBinaryText, SpellsGates, binary_word, binary_rows_of}
 use Rattle.aig_binary.specs.BinaryText.{HasDeltas, binary_text, gate_text}
 use Rattle.aig_binary.specs.Delta.{shortest_delta}

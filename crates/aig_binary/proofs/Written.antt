@@ -17,7 +17,7 @@ use Rattle.aig_text.specs.AsciiText.{line_text, row_text}
 use Rattle.aig_text.specs.Sections.{literal_rows_of}
 use Rattle.aig_rows.specs.Rows.{next_row}
 use Rattle.aig_binary.specs.BinaryGrammar.{binary_rows_of}
-use Rattle.aig_core.specs.BinaryOrder.{AreOrderedGates, IsInBinaryOrder}
+use Rattle.aig_checked.specs.BinaryOrder.{AreOrderedGates, IsInBinaryOrder}
 use Rattle.aig_binary.specs.BinaryText.{HasDeltas, gate_text}
 
 -- the gates of one piece more were put

@@ -12,7 +12,7 @@ use Rattle.aig_text.specs.AsciiGrammar.{IsHeaderLine}
 use Rattle.aig_text.specs.Tail.{AreTailLines}
 use Rattle.aig_text.specs.Sections.{listed_rows, in_binary, header_row}
 use Rattle.aig_rows.specs.Rows.{Row, IsRowLine}
-use Rattle.aig_core.specs.BinaryOrder.{IsInBinaryOrder}
+use Rattle.aig_checked.specs.BinaryOrder.{IsInBinaryOrder}
 use Rattle.aig_binary.specs.Delta.{IsDelta}
 
 -- the first word of a binary file

@@ -11,7 +11,7 @@ ghost use Rattle.aig_circuit.specs.declared.circuit.Latch.{Latch as LatchRecord}
 ghost use Rattle.aig_text.specs.AsciiText.{line_text, row_text};
 ghost use Rattle.aig_rows.specs.Rows.{next_row};
 ghost use Rattle.aig_binary.specs.BinaryGrammar.{binary_rows_of};
-ghost use Rattle.aig_core.specs.BinaryOrder.{IsInBinaryOrder};
+ghost use Rattle.aig_checked.specs.BinaryOrder.{IsInBinaryOrder};
 ghost use Rattle.aig_binary.specs.BinaryText.{HasDeltas, binary_text, gate_text};
 ghost use Rattle.aig_binary.specs.declared.delta.TheConstants.{LONGEST};
 

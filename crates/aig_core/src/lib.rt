@@ -1,40 +1,38 @@
-//! The check of circuits, and circuits in binary order. What a circuit is (`aig_circuit`), maps from variables
-//! (`aig_tables`), the order of gates (`aig_topo`) and the devices of `aig_io` are reached here too.
+//! The check of circuits. What a circuit is (`aig_circuit`), maps from variables (`aig_tables`), the order of gates
+//! (`aig_topo`), circuits that are well formed (`aig_checked`) and the devices of `aig_io` are reached here too.
 //!
 //! Others call `check` and `check_keeping`, which make a `Checked` of a `Circuit` or report its
-//! first fault; `Ordered`, a circuit in binary order; and `Names`, what symbols named so far.
+//! first fault; and `Names`, what symbols named so far.
 //!
 //! Modules:
-//! - `checked`: the check, with `faults` (the first fault), `distinct` (whether spread variables
-//!   are defined once) and `copies`.
+//! - `checks`: the check, with `faults` (the first fault) and `distinct` (whether spread variables
+//!   are defined once).
 //! - `fault`: why a circuit is refused.
 //! - `names`: what symbols named so far.
-//! - `ordered`: circuits in binary order, and the tests for it.
 //! - `laws`: facts about the definitions alone, each the contract of a function with an empty body.
 //!
-//! Definitions (`specs/`); the one that matters most is `IsInBinaryOrder`:
+//! Definitions (`specs/`); the one that matters most is `first_structural_fault`:
 //! - `Fault`: the first fault that `check` finds.
-//! - `BinaryOrder`: circuits in binary order. `Names`: what symbols name.
+//! - `Names`: what symbols name.
 //! - `Parts`: what only private functions cite.
 //! - `Laws`: what the definitions, also of the crates below, say of one another.
 //!
 //! Lemmas (`proofs/`), beside the folders that are named after modules: `Checking` (well-formedness
-//! and the first fault) and `Numbered` (binary order).
+//! and the first fault).
 #![tactic(auto)]
 
-mod checked;
+mod checks;
 mod fault;
 pub mod laws;
 mod names;
-mod ordered;
 
-pub use crate::checked::{
-    Checked, Keep, check, check_keeping, copy_comment, copy_justice, copy_symbols, is_defined_once,
-    same,
-};
+pub use crate::checks::{Keep, check, check_keeping, is_defined_once};
 pub use crate::fault::CheckFault;
 pub use crate::names::{NamedCounts, Names};
-pub use crate::ordered::{Ordered, is_in_binary_order, is_numbered_in_order};
+pub use aig_checked::{
+    Checked, Ordered, copy_comment, copy_justice, copy_symbols, is_in_binary_order,
+    is_numbered_in_order, same,
+};
 pub use aig_circuit::{
     BorrowedSymbol, Circuit, EachSymbol, Gate, Justice, Kind, LARGEST, Latch, Listing, Lit,
     OutOfMemory, Reset, Symbol, Symbols, Val, Var,

@@ -5,7 +5,7 @@ use Rattle.aig_circuit.specs.declared.circuit.Circuit.{Circuit}
 use Rattle.aig_circuit.specs.declared.value.Val.{Val}
 use Rattle.aig_circuit.specs.Wellformed.{IsAmong, IsVariableUpTo, IsWellFormed, defined_variables}
 use Rattle.aig_topo.specs.Order.{IsLeastReadyOrder}
-use Rattle.aig_core.specs.BinaryOrder.{IsInBinaryOrder}
+use Rattle.aig_checked.specs.BinaryOrder.{IsInBinaryOrder}
 use Rattle.aig_meaning.specs.Meaning.{IsStepAssignment, MeansTheSame, Row}
 use Rattle.aig_meaning.specs.Trace.{IsTrace}
 use Rattle.aig_image.specs.Renumbering.{in_new_order, renumbered}

@@ -2,7 +2,7 @@
 ghost use Rattle.std.specs.Prelude.{◌≡◌, ◌<◌, ◌↔◌, None, length, map, IfOk, IsTrue, OnOk};
 ghost use Rattle.std.specs.List.{AllByRecursion};
 ghost use Rattle.std.specs.Option.{unwrap_or};
-ghost use Rattle.aig_core.specs.BinaryOrder.{IsNumberedInOrder};
+ghost use Rattle.aig_checked.specs.BinaryOrder.{IsNumberedInOrder};
 ghost use Rattle.aig_circuit.specs.Wellformed.{IsWellFormed};
 ghost use Rattle.aig_topo.specs.Order.{IsLeastReadyOrder};
 ghost use Rattle.aig_image.specs.Image.{IsBinaryImage};
@@ -12,10 +12,9 @@ ghost use Rattle.aig_image.specs.Reordered.{taken, operands_sorted, with_operand
 
 use crate::labelling::relabel;
 use crate::numbers::Numbers;
-use aig_core::{
-    Checked, Circuit, Gate, Listing, Lit, Ordered, OutOfMemory, Placed, is_numbered_in_order,
-    place_gates,
-};
+use aig_checked::{Checked, Ordered, is_numbered_in_order};
+use aig_circuit::{Circuit, Gate, Listing, Lit, OutOfMemory};
+use aig_topo::{Placed, place_gates};
 use std::alloc::Global;
 
 /// What makes the binary image of a circuit.
@@ -169,7 +168,7 @@ fn into_image(alloc: Global, checked: Checked) -> Result<Ordered, OutOfMemory>
 
 /// The binary image of a circuit: the same circuit with its variables renumbered, inputs first, then latches, then
 /// gates in the least ready order; the larger operand of each gate comes first. It fails only if an allocation fails.
-pub fn to_binary(alloc: Global, checked: &Checked) -> Result<Ordered, OutOfMemory>
+pub fn binary_image(alloc: Global, checked: &Checked) -> Result<Ordered, OutOfMemory>
     ensures { IfOk result (λ o. IsBinaryImage checked.now o) }
 {
     let renumbering = Renumbering::new(alloc, checked)?;

@@ -3,7 +3,7 @@ ghost use Rattle.std.specs.Prelude.{◌≡◌, ℕ, map};
 ghost use Rattle.aig_image.specs.Relabelled.{FitIntoLiterals, relabelled};
 ghost use Rattle.aig_image.specs.Relabelled.{relabelled_literal, relabelled_latch, relabelled_gate, relabelled_justice};
 
-use aig_core::{Circuit, Gate, Justice, Latch, Listing, Lit, Var};
+use aig_circuit::{Circuit, Gate, Justice, Latch, Listing, Lit, Var};
 
 /// What has a label for each variable: another variable.
 pub trait Labels {

@@ -33,6 +33,6 @@ mod labelling;
 pub mod laws;
 mod numbers;
 
-pub use crate::image::{Renumbering, into_binary, sort_operands, to_binary};
+pub use crate::image::{Renumbering, binary_image, into_binary, sort_operands};
 pub use crate::labelling::{Labels, NamesVariables, relabel};
 pub use crate::numbers::{Defines, Numbers};

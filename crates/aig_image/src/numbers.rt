@@ -10,7 +10,8 @@ ghost use Rattle.aig_image.specs.Relabelled.{FitIntoLiterals};
 ghost use Rattle.aig_image.specs.Parts.InOrder.{StandInOrder};
 
 use crate::labelling::Labels;
-use aig_core::{Circuit, Gate, LARGEST, Latch, Lit, Var, VarMap};
+use aig_circuit::{Circuit, Gate, LARGEST, Latch, Lit, Var};
+use aig_tables::VarMap;
 use std::alloc::{AllocError, Global};
 
 /// What defines a variable.

@@ -3,7 +3,7 @@ ghost use Rattle.std.specs.Prelude.{◌≡◌, ◌+◌, ◌++◌, ◌<◌, ◌�
 ghost use Rattle.std.specs.Int.{bit_at};
 ghost use Rattle.aig_lanes.specs.Parts.Sheets.{bytes_text, character_by, overwritten};
 
-use aig_core::OutOfMemory;
+use aig_circuit::OutOfMemory;
 use std::alloc::Global;
 use std::marker::Model;
 

@@ -15,7 +15,7 @@ use crate::lane_step::{put_inputs, put_reset_lanes, show_next_lanes};
 use crate::lanes::assign_lanes;
 use crate::planes::{Plane, plane_of};
 use crate::run::{Run, Trace};
-use aig_core::{Latch, Listing, OutOfMemory};
+use aig_circuit::{Latch, Listing, OutOfMemory};
 use aig_step::Machine;
 use std::alloc::Global;
 

@@ -9,7 +9,7 @@ ghost use Rattle.aig_lanes.specs.Parts.InputBits.{SameRooms, TellsOther, word_at
 
 use crate::sheets::longest_in;
 use crate::vectors::{RunGroup, Vectors};
-use aig_core::OutOfMemory;
+use aig_circuit::OutOfMemory;
 use std::alloc::Global;
 use std::marker::Model;
 use std::simd::prelude::*;

@@ -14,7 +14,7 @@ ghost use Rattle.aig_step.specs.TraceText.{values_text};
 use crate::input_bits::BlockBits;
 use crate::lanes::{put_all, put_pair};
 use crate::planes::Plane;
-use aig_core::Val;
+use aig_circuit::Val;
 use std::simd::Simd;
 use std::simd::prelude::*;
 

@@ -16,7 +16,7 @@ ghost use Rattle.aig_lanes.specs.Runs.{row_of};
 use crate::lanes::value_of_lane;
 use crate::planes::{Plane, value_in};
 use crate::run::{FullRow, Run, Trace};
-use aig_core::{Circuit, Latch, Listing, Lit, OutOfMemory, Val};
+use aig_circuit::{Circuit, Latch, Listing, Lit, OutOfMemory, Val};
 use std::alloc::{AllocError, Global};
 
 /// The values of literals in a lane.

@@ -13,7 +13,7 @@ ghost use Rattle.aig_step.specs.Parts.Tables.{IsLiteralBelow, placed, read_from}
 use crate::lanes::{planes_of, put_all, put_pair, put_vector};
 use crate::planes::Plane;
 use crate::run::Run;
-use aig_core::{Latch, Val};
+use aig_circuit::{Latch, Val};
 use aig_step::reset_value;
 
 /// Writes the state by the resets, in each lane.

@@ -10,7 +10,7 @@ ghost use Rattle.aig_lanes.specs.Parts.Lanes.{IsLane, IsPair, may_be_one};
 ghost use Rattle.aig_step.specs.Parts.Tables.{IsLiteralBelow, IsPairBelow, evaluated, placed, read_from};
 
 use crate::planes::{Plane, plane_of, value_in, with_bit};
-use aig_core::{Lit, Val};
+use aig_circuit::{Lit, Val};
 use aig_step::{Machine, Pair};
 
 /// Whether a literal with this value may be 1, and whether its negation may be.

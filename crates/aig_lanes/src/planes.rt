@@ -3,7 +3,7 @@ ghost use Rattle.std.specs.Prelude.{◌≡◌, ◌≢◌, ◌%◌, ◌^◌, ◌<
 ghost use Rattle.aig_circuit.specs.declared.value.Val.{Val as Value};
 ghost use Rattle.aig_lanes.specs.Parts.Lanes.{IsPair, IsPlane, bit_in};
 
-use aig_core::Val;
+use aig_circuit::Val;
 use std::simd::Simd;
 
 /// A bit for each lane.

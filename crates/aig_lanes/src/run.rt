@@ -2,7 +2,8 @@
 ghost use Rattle.std.specs.Prelude.{◌↔◌, IsTrue};
 ghost use Rattle.aig_lanes.specs.Runs.{IsRunOf};
 
-use aig_core::{Checked, Listing, Val};
+use aig_checked::Checked;
+use aig_circuit::{Listing, Val};
 
 /// A run from the reset state: the values of the inputs in each step.
 #[derive(Drop)]

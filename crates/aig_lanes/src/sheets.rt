@@ -12,7 +12,7 @@ use crate::byte_rows::ByteRows;
 use crate::planes::Plane;
 use crate::transposed::transposed;
 use crate::vectors::{RunGroup, Vectors};
-use aig_core::OutOfMemory;
+use aig_circuit::OutOfMemory;
 use std::alloc::Global;
 use std::marker::Model;
 

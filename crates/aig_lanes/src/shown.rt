@@ -16,7 +16,7 @@ use crate::lanes::planes_of;
 use crate::planes::{Plane, plane_of};
 use crate::sheets::Sheet;
 use crate::vectors::RunGroup;
-use aig_core::{Circuit, Lit, OutOfMemory};
+use aig_circuit::{Circuit, Lit, OutOfMemory};
 use aig_step::{Columns, write_text};
 use std::alloc::Global;
 

@@ -5,7 +5,7 @@ use Rattle.std.specs.List.{range_with_len, find}
 use Rattle.std.specs.Option.{option_map, unwrap_or}
 use Rattle.aig_circuit.specs.declared.circuit.Circuit.{Circuit}
 use Rattle.aig_circuit.specs.Wellformed.{AreDistinct, IsWellFormed}
-use Rattle.aig_core.specs.BinaryOrder.{IsInBinaryOrder}
+use Rattle.aig_checked.specs.BinaryOrder.{IsInBinaryOrder}
 use Rattle.aig_image.specs.Renumbering.{source_variable}
 use Rattle.aig_image.specs.Reordered.{restored}
 use Rattle.aig_map.specs.declared.fault.MapFault.{MapFault}

@@ -6,7 +6,7 @@ ghost use Rattle.std.specs.Option.{IfSome};
 ghost use Rattle.aig_circuit.specs.declared.circuit.TheConstants.{LARGEST};
 ghost use Rattle.aig_topo.specs.Order.{IsLeastReadyOrder};
 ghost use Rattle.aig_circuit.specs.Wellformed.{AreDistinct, defined_variables};
-ghost use Rattle.aig_core.specs.BinaryOrder.{IsInBinaryOrder};
+ghost use Rattle.aig_checked.specs.BinaryOrder.{IsInBinaryOrder};
 ghost use Rattle.aig_map.specs.declared.map_block.MappedGate.{MappedGate as MappedGateRecord};
 ghost use Rattle.aig_map.specs.MapReading.{HasCountsOf, IsWithinBounds};
 ghost use Rattle.aig_map.specs.Undone.{places_recorded, undone};

@@ -1,10 +1,12 @@
-//! Conversion of circuits to binary order with a map, and back.
+//! Conversion of circuits to binary order, and back.
 //!
-//! Others call `to_binary_with_map` and `into_binary_with_map`, which make the binary image with a
-//! map block at the front of its comment, and `undo`, which makes the source again by that block.
+//! Others call `to_binary` and `into_binary`, which make the binary image; `to_binary_with_map` and
+//! `into_binary_with_map`, which put a map block at the front of its comment; and `undo`, which makes the source again by
+//! that block.
 //! What is recorded, and how it is written and read, stands in `aig_map`.
 //!
 //! Modules:
+//! - `plain`: the image alone.
 //! - `mapped`: the image with its block.
 //! - `undoing`: `undo`.
 //! - `laws`: facts about the definitions alone, each the contract of a function with an empty body.
@@ -17,9 +19,11 @@
 
 pub mod laws;
 mod mapped;
+mod plain;
 mod undoing;
 
 pub use crate::mapped::{into_binary_with_map, to_binary_with_map};
+pub use crate::plain::to_binary;
 pub use crate::undoing::undo;
-pub use aig_image::{into_binary, to_binary};
+pub use aig_image::into_binary;
 pub use aig_map::MapFault;

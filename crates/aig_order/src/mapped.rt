@@ -2,7 +2,7 @@
 ghost use Rattle.std.specs.Prelude.{◌≡◌, ◌+◌, ◌≤◌, None, Some, IfOk, length, min};
 ghost use Rattle.aig_circuit.specs.declared.circuit.TheConstants.{LARGEST};
 ghost use Rattle.aig_circuit.specs.Wellformed.{IsWellFormed};
-ghost use Rattle.aig_core.specs.BinaryOrder.{IsNumberedInOrder};
+ghost use Rattle.aig_checked.specs.BinaryOrder.{IsNumberedInOrder};
 ghost use Rattle.aig_image.specs.Parts.Numbers.{number_of, IsRenumberingOf};
 ghost use Rattle.aig_image.specs.Relabelled.{FitIntoLiterals, relabelled};
 ghost use Rattle.aig_image.specs.Reordered.{with_operands_sorted};

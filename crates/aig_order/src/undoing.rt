@@ -3,7 +3,7 @@ ghost use Rattle.std.specs.Prelude.{◌≡◌, ◌↔◌, ◌⊎◌, IfOk, IfErr
 ghost use Rattle.aig_circuit.specs.declared.circuit.Circuit.{Circuit as CircuitRecord};
 ghost use Rattle.aig_circuit.specs.Wellformed.{AreDistinct, IsWellFormed, defined_variables};
 ghost use Rattle.aig_map.specs.declared.fault.MapFault.TheVariants.{Forged as IsForged, OutOfMemory as IsOutOfMemory};
-ghost use Rattle.aig_core.specs.BinaryOrder.{IsInBinaryOrder};
+ghost use Rattle.aig_checked.specs.BinaryOrder.{IsInBinaryOrder};
 ghost use Rattle.aig_map.specs.MapBlock.{IsMappedImage};
 ghost use Rattle.aig_map.specs.MapReading.{block_reading};
 ghost use Rattle.aig_map.specs.Parts.Confirmed.{ExchangesDiffer};

@@ -7,6 +7,5 @@ pub use Rattle.aig_step.specs.Messages
 pub use Rattle.aig_lanes.specs.Runs
 pub use Rattle.aig_batch.specs.Batched
 pub use Rattle.aig_witness.specs.Witness
+pub use Rattle.aig_witness.specs.WitnessText
 pub use Rattle.aig_witness.specs.Confirming
-pub mod WitnessText
-pub mod Laws

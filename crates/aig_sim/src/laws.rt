@@ -1,22 +1,4 @@
 //! Laws: facts about the definitions alone, each the contract of a function with an empty body.
-ghost use Rattle.aig_sim.specs.Laws.{OneTraceText, SameMeaningSameText, KnownCharactersStay, WitnessFilesAreRead};
 
-/// A stimulus has exactly one trace text over a well-formed circuit.
-pub fn one_trace_text()
-    ensures { OneTraceText }
-{}
-
-/// Circuits that mean the same have the same trace texts.
-pub fn same_meaning_same_text()
-    ensures { SameMeaningSameText }
-{}
-
-/// Where x in a stimulus becomes 0 or 1, each 0 and each 1 of the trace text stays.
-pub fn known_characters_stay()
-    ensures { KnownCharactersStay }
-{}
-
-/// What is read of a witness file, line by line, is what the file as a whole says.
-pub fn witness_files_are_read()
-    ensures { WitnessFilesAreRead }
-{}
+pub use aig_trace::laws::{known_characters_stay, one_trace_text, same_meaning_same_text};
+pub use aig_witness::laws::witness_files_are_read;

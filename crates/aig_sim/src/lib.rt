@@ -12,13 +12,10 @@
 //! - `aig_witness`: `confirm`.
 //!
 //! Modules:
-//! - `laws`: facts about the definitions alone, each the contract of a function with an empty body.
+//! - `laws`: the laws of these crates.
 //!
-//! Definitions (`specs/`); those that matter most are `stimulus`, `IsTraceText`, `Simulated`,
-//! `Stepped`, `IsTraceOf` and `IsVerdict`. What the public contracts of the five crates cite is
-//! here too, and beside it:
-//! - `WitnessText`: a witness file as a whole.
-//! - `Laws`: what the definitions say of one another.
+//! Definitions (`specs/`): what the public contracts of the five crates cite is here too. Those that matter most are
+//! `stimulus`, `IsTraceText`, `Simulated`, `Stepped`, `IsTraceOf` and `IsVerdict`.
 #![tactic(auto)]
 
 pub mod laws;

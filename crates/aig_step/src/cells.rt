@@ -11,7 +11,7 @@ ghost use Rattle.aig_step.specs.Parts.Cells.{AreCodes, bytes_of_values, values_o
 ghost use Rattle.aig_step.specs.Parts.Tables.{IsLiteralBelow, IsPairBelow, evaluated, placed, read_from};
 
 use crate::evaluate::Pair;
-use aig_core::{Lit, Val};
+use aig_circuit::{Lit, Val};
 use std::alloc::{AllocError, Global};
 use std::marker::Model;
 

@@ -7,7 +7,7 @@ ghost use Rattle.aig_meaning.specs.Trace.{reset_value as value_after_reset};
 ghost use Rattle.aig_step.specs.Parts.Tables.{IsLiteralBelow, pair_of, placed, read_from};
 
 use crate::cells::{Code, Table};
-use aig_core::{Gate, Latch, Lit, Reset, Val};
+use aig_circuit::{Gate, Latch, Lit, Reset, Val};
 use std::alloc::{AllocError, Global};
 
 /// The operands of a gate. Its variable is the one behind that of the gate before it.

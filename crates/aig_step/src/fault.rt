@@ -4,7 +4,7 @@ ghost use Rattle.aig_rows.specs.Messages.{message_text};
 ghost use Rattle.aig_step.specs.Messages.{sim_fault_text};
 ghost use Rattle.aig_step.specs.declared.fault.SimFault.TheVariants.{OutOfMemory as IsOutOfMemory};
 
-use aig_core::OutOfMemory;
+use aig_circuit::OutOfMemory;
 use aig_rows::Message;
 use std::alloc::{AllocError, AllocFailed};
 use std::error::Error;

@@ -9,8 +9,9 @@ ghost use Rattle.aig_step.specs.Parts.Tables.{placed, read_from};
 
 use crate::cells::{Code, Table};
 use crate::evaluate::{Pair, pairs_of, put_values};
-use aig_core::{Checked, Circuit, Justice, Listing, Ordered, OutOfMemory, Symbols, Val};
-use aig_image::to_binary;
+use aig_checked::{Checked, Ordered};
+use aig_circuit::{Circuit, Justice, Listing, OutOfMemory, Symbols, Val};
+use aig_image::binary_image;
 use std::alloc::Global;
 use std::marker::Model;
 
@@ -70,7 +71,7 @@ impl Machine {
     {
         // That the circuit is well formed is known by this call.
         let _circuit = checked.circuit();
-        let image = to_binary(alloc, checked)?;
+        let image = binary_image(alloc, checked)?;
         Machine::of_ordered(alloc, image)
     }
 

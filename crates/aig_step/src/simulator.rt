@@ -9,7 +9,8 @@ use crate::cells::{Code, Table};
 use crate::evaluate::{put_reset_state, show, show_codes, show_next};
 use crate::fault::SimFault;
 use crate::machine::Machine;
-use aig_core::{Checked, Circuit, OutOfMemory, Val};
+use aig_checked::Checked;
+use aig_circuit::{Circuit, OutOfMemory, Val};
 use std::alloc::Global;
 use std::marker::Model;
 

@@ -10,7 +10,7 @@ ghost use Rattle.aig_step.specs.Parts.Tables.{IsLiteralBelow, read_from};
 
 use crate::cells::{Code, Table, look_up};
 use crate::evaluate::show_next;
-use aig_core::{Circuit, Lit};
+use aig_circuit::{Circuit, Lit};
 
 /// Which columns a line of a trace has beside state, inputs, outputs and next state.
 #[derive(Clone, Copy, PartialEq)]

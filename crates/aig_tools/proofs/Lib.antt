@@ -1,9 +1,1 @@
-pub mod Files
-pub mod Trips
-pub mod TripsExist
-pub mod Meant
-pub mod Traces
-pub mod Lines
 pub mod Sources
-pub mod Unrollings
-pub mod WitnessesUnrolled

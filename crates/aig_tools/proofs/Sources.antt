@@ -1,7 +1,7 @@
 -- What holds of a file, or of a stream, holds of the source that a request names.
 use Rattle.std.proofs.Common.{◌≡◌, ℕ, List, Option, None, Some, subst, sym}
 use Rattle.aig_files.specs.Named.{FileSource, unread}
-use Rattle.aig_tools.specs.Devices.{FilesByName, OfSource, SourceUse, use_of_file_source}
+use Rattle.aig_engines.specs.Devices.{FilesByName, OfSource, SourceUse, use_of_file_source}
 
 pub of_file : {R : Type 0} (files : FilesByName) (named : Option (List ℕ)) (name : List ℕ) (source : SourceUse R)
     (P : (S : Type 0) → SourceUse S → Type 0) → named ≡ Some name

@@ -12,12 +12,12 @@ use Rattle.aig_command.specs.declared.usage.Usage.{Usage}
 use Rattle.aig_command.specs.declared.usage.Usage.TheVariants as usages
 use Rattle.aig_witness.specs.declared.verdict.Verdict.{Verdict}
 use Rattle.aig_witness.specs.declared.verdict.Verdict.TheVariants.{Confirmed, NotConfirmed}
-use Rattle.aig_tools.specs.declared.fault.ToolFault.{ToolFault}
-use Rattle.aig_tools.specs.Devices.{FilesByName, SinkUse, SourceUse}
-use Rattle.aig_tools.specs.Messages.{error_line, line_of, IsReported, simulation_error_line, usage_text}
-use Rattle.aig_tools.specs.Outcome.{Done, IsUnusedWhere, NotDone}
+use Rattle.aig_engines.specs.declared.fault.ToolFault.{ToolFault}
+use Rattle.aig_engines.specs.Devices.{FilesByName, SinkUse, SourceUse}
+use Rattle.aig_engines.specs.Messages.{error_line, line_of, IsReported, simulation_error_line, usage_text}
+use Rattle.aig_engines.specs.Outcome.{Done, IsUnusedWhere, NotDone}
 use Rattle.aig_tools.specs.SimulationOutcome.{IsUnusedWhereBoth, SimulationDone, SimulationNotDone}
-use Rattle.aig_tools.specs.UnrollingOutcome.{UnrollingDone, UnrollingNotDone}
+use Rattle.aig_engines.specs.UnrollingOutcome.{UnrollingDone, UnrollingNotDone}
 
 -- what is answered to the words
 abbrev pub IsAnswered : List (List ℕ) → Result Command Usage → Type 0

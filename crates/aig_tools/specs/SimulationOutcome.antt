@@ -11,12 +11,12 @@ use Rattle.aig_step.specs.declared.fault.SimFault.TheVariants as sim_faults
 use Rattle.aig_batch.specs.Batched.{NotBatched}
 use Rattle.aig_step.specs.Outcome.{NotSimulated, sink_failures, source_failures}
 use Rattle.aig_witness.specs.declared.verdict.Verdict.{Verdict}
-use Rattle.aig_tools.specs.declared.fault.ToolFault.{ToolFault}
-use Rattle.aig_tools.specs.declared.fault.ToolFault.TheVariants as faults
-use Rattle.aig_tools.specs.Devices.{FilesByName, IsSentInBlocks, OfSource, SinkUse, SourceUse}
-use Rattle.aig_tools.specs.Reading.{HasRead, NotRead}
-use Rattle.aig_tools.specs.Simulation.{columns_of, IsSimulationText}
-use Rattle.aig_tools.specs.WitnessOutcome.{Answered, NotAnswered}
+use Rattle.aig_engines.specs.declared.fault.ToolFault.{ToolFault}
+use Rattle.aig_engines.specs.declared.fault.ToolFault.TheVariants as faults
+use Rattle.aig_engines.specs.Devices.{FilesByName, IsSentInBlocks, OfSource, SinkUse, SourceUse}
+use Rattle.aig_engines.specs.Reading.{HasRead, NotRead}
+use Rattle.aig_engines.specs.Simulation.{columns_of, IsSimulationText}
+use Rattle.aig_engines.specs.WitnessOutcome.{Answered, NotAnswered}
 
 -- Model and stimulus gave all their bytes, the sink took the simulation text of them, and none of the three failed.
 pub record Traced {M R W : Type 0} (request : Sim)

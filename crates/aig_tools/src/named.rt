@@ -3,21 +3,19 @@ ghost use Rattle.std.specs.Prelude.{◌≡◌, ◌-◌, ◌≤◌, ◌^◌, ◌<
 ghost use Rattle.aig_io.specs.declared.block.TheConstants.{ROOM};
 ghost use Rattle.aig_command.specs.Answer.{name_of};
 ghost use Rattle.aig_files.specs.Named.{FileSink, unwritten};
-ghost use Rattle.aig_tools.specs.Devices.{DoneBetween, files_by_name, IsSentInBlocks, NotDoneBetween, OfSink};
-ghost use Rattle.aig_tools.specs.Devices.{sink_use, source_use, use_of_file_sink};
-ghost use Rattle.aig_tools.specs.Outcome.{IsUnusedWhere};
+ghost use Rattle.aig_engines.specs.Devices.{DoneBetween, files_by_name, IsSentInBlocks, NotDoneBetween, OfSink};
+ghost use Rattle.aig_engines.specs.Devices.{sink_use, source_use, use_of_file_sink};
+ghost use Rattle.aig_engines.specs.Outcome.{IsUnusedWhere};
 ghost use Rattle.aig_tools.specs.SimulationOutcome.{DoneAs, IsUnusedWhereBoth, NotDoneAs, SimulationDone};
 ghost use Rattle.aig_tools.specs.SimulationOutcome.{SimulationNotDone};
 ghost use Rattle.aig_command.specs.Answer.{HasOneStandardInput, IsWitnessAlone};
 
-use crate::engine::Engine;
-use crate::fault::ToolFault;
 use crate::simulation::run_sim;
-use crate::witness::run_witness;
 use aig_command::Sim;
 use aig_core::{Sink, Source};
+use aig_engines::{Engine, ToolFault, run_witness};
 use aig_files::{FileAccess, NamedSink, NamedSource};
-use aig_sim::Verdict;
+use aig_witness::Verdict;
 use std::alloc::Global;
 
 /// Does what a request asks for, from a source to the file with a name, and closes that.

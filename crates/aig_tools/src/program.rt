@@ -3,20 +3,19 @@ ghost use Rattle.std.specs.Prelude.{◌≡◌, ◌-◌, ◌^◌, ◌<◌, ◌≤
 ghost use Rattle.aig_io.specs.declared.block.TheConstants.{ROOM};
 ghost use Rattle.aig_command.specs.Answer.{texts};
 ghost use Rattle.aig_tools.specs.Ending.{done_status, Ends, EndsBetween, SimulationEnds, status_of, TextEnds};
-ghost use Rattle.aig_tools.specs.Devices.{DoneBetween, files_by_name, NotDoneBetween, sink_use, source_use};
-ghost use Rattle.aig_tools.specs.Messages.{memory_line, IsReported, usage_text, words_line};
+ghost use Rattle.aig_engines.specs.Devices.{DoneBetween, files_by_name, NotDoneBetween, sink_use, source_use};
+ghost use Rattle.aig_engines.specs.Messages.{memory_line, IsReported, usage_text, words_line};
 ghost use Rattle.aig_command.specs.Answer.{HasOneStandardInput, IsWitnessAlone};
 
-use crate::engine::Engine;
-use crate::message::{
-    report_error, report_memory, report_simulation_error, report_unwritten, report_usage,
-    report_words,
-};
 use crate::named::{run_between, run_model};
 use aig_command::{Command, Sim, Usage, command};
 use aig_core::{Output, Sink, Source};
+use aig_engines::{
+    Engine, report_error, report_memory, report_simulation_error, report_unwritten, report_usage,
+    report_words,
+};
 use aig_files::{FileAccess, HostFiles};
-use aig_sim::Verdict;
+use aig_witness::Verdict;
 use std::alloc::Global;
 use std::rt::Files;
 

@@ -4,15 +4,16 @@ ghost use Rattle.aig_io.specs.declared.block.TheConstants.{ROOM};
 ghost use Rattle.aig_step.specs.declared.fault.SimFault.TheVariants.{OutOfMemory, WriteFailed};
 ghost use Rattle.aig_batch.specs.Batched.{NotBatched};
 ghost use Rattle.aig_step.specs.Outcome.{NotSimulated, Simulated, sink_failures, source_failures};
-ghost use Rattle.aig_tools.specs.Devices.{sink_use, source_use};
-ghost use Rattle.aig_tools.specs.Simulation.{columns_of};
+ghost use Rattle.aig_engines.specs.Devices.{sink_use, source_use};
+ghost use Rattle.aig_engines.specs.Simulation.{columns_of};
 ghost use Rattle.aig_tools.specs.SimulationOutcome.{NotTraced, Traced};
 
-use crate::fault::ToolFault;
-use crate::file::read_circuit;
+use aig_batch::simulate_batched;
 use aig_command::Sim;
 use aig_core::{Checked, Keep, Sink, Source};
-use aig_sim::{Columns, SimFault, simulate, simulate_batched};
+use aig_engines::{ToolFault, read_circuit};
+use aig_step::{Columns, SimFault};
+use aig_trace::simulate;
 use std::alloc::Global;
 
 /// The columns that the request asks for.

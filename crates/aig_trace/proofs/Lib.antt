@@ -7,3 +7,8 @@ pub mod Taking
 pub mod Gathering
 pub mod Sending
 pub mod Streams
+pub mod KnownLines
+pub mod KnownTexts
+pub mod LongEnough
+pub mod OneText
+pub mod SameTexts

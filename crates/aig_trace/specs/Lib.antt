@@ -2,3 +2,4 @@ pub use Rattle.aig_step.specs.Stimulus
 pub use Rattle.aig_step.specs.TraceText
 pub use Rattle.aig_step.specs.Outcome
 pub mod Parts
+pub mod Laws

@@ -12,7 +12,8 @@ ghost use Rattle.aig_step.specs.Parts.Lines.{line_size, row_read};
 ghost use Rattle.aig_step.specs.Parts.Machines.{ShowsBelow};
 ghost use Rattle.aig_step.specs.Parts.Tables.{read_from};
 
-use aig_core::{Circuit, DeviceFault, Output, ROOM, Sink};
+use aig_circuit::Circuit;
+use aig_io::{DeviceFault, Output, ROOM, Sink};
 use aig_step::{Code, Columns, Table, write_row};
 use std::marker::Model;
 

@@ -7,12 +7,14 @@
 //! - `gathered`: lines that are gathered before an output.
 //! - `tracer`, `reader`: a line and what is written for it; bytes as they come.
 //! - `stream`: `simulate`.
+//! - `laws`: facts about the definitions alone, each the contract of a function with an empty body.
 //!
-//! Definitions (`specs/`): `Parts`, what only functions inside the simulator cite. What is promised
-//! of `simulate` stands in `Outcome` of `aig_step`.
+//! Definitions (`specs/`): `Laws`, what the definitions of a trace's text say of one another; `Parts`, what only
+//! functions inside the simulator cite. What is promised of `simulate` stands in `Outcome` of `aig_step`.
 #![tactic(auto)]
 
 mod gathered;
+pub mod laws;
 mod reader;
 mod stream;
 mod tracer;

@@ -9,7 +9,8 @@ ghost use Rattle.aig_trace.specs.Parts.Tracing.{Advanced, Finished, FoundBad, Is
 
 use crate::gathered::Gathered;
 use crate::tracer::Tracer;
-use aig_core::{Checked, Sink};
+use aig_checked::Checked;
+use aig_io::Sink;
 use aig_step::{Columns, PartialLine, SimFault, without_return};
 use memchr::memchr;
 use std::alloc::Global;

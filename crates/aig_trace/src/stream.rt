@@ -11,7 +11,8 @@ ghost use Rattle.aig_trace.specs.Parts.Tracing.{IsAt};
 
 use crate::gathered::Gathered;
 use crate::reader::Reader;
-use aig_core::{Checked, ROOM, Sink, Source};
+use aig_checked::Checked;
+use aig_io::{ROOM, Sink, Source};
 use aig_step::{Columns, SimFault};
 use std::alloc::Global;
 

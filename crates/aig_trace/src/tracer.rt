@@ -10,7 +10,9 @@ ghost use Rattle.aig_trace.specs.Parts.Progress.{begin_of};
 ghost use Rattle.aig_trace.specs.Parts.Tracing.{IsSameTracer, PutSome, TookLine, TookStep, point_of};
 
 use crate::gathered::Gathered;
-use aig_core::{Checked, Circuit, OutOfMemory, Sink, Val};
+use aig_checked::Checked;
+use aig_circuit::{Circuit, OutOfMemory, Val};
+use aig_io::Sink;
 use aig_step::{Code, Columns, Machine, SimFault, Table, is_stop, put_reset_state};
 use std::alloc::Global;
 use std::marker::Model;

@@ -13,7 +13,7 @@ use Rattle.aig_circuit.specs.declared.circuit.Circuit.{Circuit}
 use Rattle.aig_circuit.specs.declared.circuit.Gate.{Gate}
 use Rattle.aig_circuit.specs.declared.circuit.Latch.{Latch}
 use Rattle.aig_circuit.specs.declared.circuit.TheConstants.{LARGEST}
-use Rattle.aig_core.specs.BinaryOrder.{AreOrderedGates, IsInBinaryOrder}
+use Rattle.aig_checked.specs.BinaryOrder.{AreOrderedGates, IsInBinaryOrder}
 use Rattle.aig_circuit.specs.Literal.{literal_of, variable_of}
 use Rattle.aig_circuit.specs.Wellformed.{IsKnown, IsWellFormed, defined_variables}
 use Rattle.aig_circuit.proofs.Checking.Fitting.{known_in_range}

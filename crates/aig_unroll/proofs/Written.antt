@@ -6,9 +6,9 @@ use Rattle.std.specs.List.{All, flat_map, range_with_len}
 use Rattle.std.specs.Io.KnownBytes.{Appends}
 use Rattle.std.proofs.lemmas.List.Concat.{flat_map-append}
 use Rattle.aig_circuit.specs.declared.circuit.Circuit.{Circuit}
-use Rattle.aig_core.specs.BinaryOrder.{IsInBinaryOrder}
+use Rattle.aig_checked.specs.BinaryOrder.{IsInBinaryOrder}
 use Rattle.aig_circuit.specs.Wellformed.{IsWellFormed}
-use Rattle.aig_core.proofs.Numbered.Ranges.{range_more}
+use Rattle.aig_checked.proofs.Numbered.Ranges.{range_more}
 use Rattle.aig_io.specs.Output.{Out, Put}
 use Rattle.aig_io.proofs.Puts.{put_twice}
 use Rattle.aig_text.specs.AsciiText.{ascii_text, header_text, line_text}

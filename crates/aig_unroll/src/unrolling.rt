@@ -12,7 +12,7 @@ use crate::frames::{Frames, count_uninitialised};
 use aig_core::{
     Checked, Circuit, Gate, Justice, LARGEST, Listing, Lit, Ordered, OutOfMemory, Symbols, Var,
 };
-use aig_image::to_binary;
+use aig_image::binary_image;
 use std::alloc::{AllocError, Global};
 
 /// Whether the unrolled circuit would be too large. Each bad state has a gate, so there are never too many of these
@@ -197,7 +197,7 @@ pub fn unroll(alloc: Global, checked: &Checked, frames: u32) -> Result<Ordered, 
     ensures err { IfErr result (NotUnrolled checked.now frames) }
 {
     check_supported(checked.circuit(), frames)?;
-    let image = to_binary(alloc, checked)?;
+    let image = binary_image(alloc, checked)?;
     let circuit = unroll_image(alloc, image, frames)?;
     Ok(Ordered::from_well_ordered(circuit))
 }

@@ -5,3 +5,4 @@ pub mod WitnessReading
 pub mod WitnessRoom
 pub mod WitnessValues
 pub mod Witnessing
+pub mod WitnessTexts

@@ -3,3 +3,5 @@ pub use Rattle.aig_step.specs.Outcome
 pub mod Witness
 pub mod Confirming
 pub mod Parts
+pub mod WitnessText
+pub mod Laws

@@ -15,7 +15,8 @@ ghost use Rattle.aig_witness.specs.Parts.Witnessing.{TookProperty, are_ones, is_
 use crate::search::Search;
 use crate::verdict::Verdict;
 use crate::witness_line::{is_version, property_in, read_first_state};
-use aig_core::{Checked, Circuit, Lit, OutOfMemory, Val};
+use aig_checked::Checked;
+use aig_circuit::{Circuit, Lit, OutOfMemory, Val};
 use aig_step::{Code, Machine, Table, is_stop, show_next};
 use std::alloc::Global;
 use std::marker::Model;

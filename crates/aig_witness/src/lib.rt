@@ -6,13 +6,16 @@
 //! - `witness_line`, `witness_reader`: what single lines say; bytes as they come.
 //! - `checker`, `search`: the steps for the lines; the first step that confirms the claim.
 //! - `verdict`, `witness`: what is found; `confirm`.
+//! - `laws`: facts about the definitions alone, each the contract of a function with an empty body.
 //!
 //! Definitions (`specs/`); the one that matters most is `IsVerdict`:
 //! - `Witness`, `Confirming`: witness files, and what came of judging one.
+//! - `WitnessText`: a witness file as a whole. `Laws`: what the definitions say of one another.
 //! - `Parts`: what only private functions cite.
 #![tactic(auto)]
 
 mod checker;
+pub mod laws;
 mod search;
 mod verdict;
 mod witness;

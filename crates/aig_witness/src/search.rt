@@ -3,7 +3,7 @@ ghost use Rattle.std.specs.Prelude.{◌≡◌, ◌-◌, ◌^◌, ◌<◌};
 ghost use Rattle.aig_witness.specs.Parts.Witnessing.{looked, verdict_of};
 
 use crate::verdict::Verdict;
-use aig_core::Lit;
+use aig_circuit::Lit;
 
 /// What is looked for, and what was found so far.
 #[derive(Clone, Copy)]

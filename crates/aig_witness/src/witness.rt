@@ -8,7 +8,8 @@ ghost use Rattle.aig_witness.specs.Parts.Witnessing.{Concluded, IsAtLine, NamesW
 
 use crate::verdict::Verdict;
 use crate::witness_reader::WitnessReader;
-use aig_core::{Checked, ROOM, Source};
+use aig_checked::Checked;
+use aig_io::{ROOM, Source};
 use aig_step::SimFault;
 use std::alloc::Global;
 

@@ -8,7 +8,7 @@ ghost use Rattle.aig_step.specs.Stimulus.{value_of, values_of};
 ghost use Rattle.aig_witness.specs.Witness.{first_state_in, may_start_at, may_start_in, number_below, property_in};
 ghost use Rattle.aig_witness.specs.Parts.Witnessing.{digits_below};
 
-use aig_core::{Latch, Reset, Val};
+use aig_circuit::{Latch, Reset, Val};
 use aig_step::Code;
 
 /// Whether the text is the first line.

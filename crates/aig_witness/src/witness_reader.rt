@@ -9,7 +9,8 @@ ghost use Rattle.aig_witness.specs.Parts.Witnessing.{HasFollowed, IsAtLine, verd
 
 use crate::checker::Checker;
 use crate::verdict::Verdict;
-use aig_core::{Checked, OutOfMemory};
+use aig_checked::Checked;
+use aig_circuit::OutOfMemory;
 use aig_step::{PartialLine, without_return};
 use memchr::memchr;
 use std::alloc::Global;

@@ -17,10 +17,10 @@ use Rattle.aig_text.proofs.Grammar.Headers.{HasCounts, heads, limited, sizes_wit
 use Rattle.aig_rows.proofs.Grammar.Pieces.{lines_again, first_ended, ended_before, bytes_joined}
 use Rattle.aig_text.proofs.Grammar.Tail.{with_tail}
 use Rattle.aig_text.proofs.Grammar.WholeTail.{left_of, tail_holds, good_symbols}
-use Rattle.aig_core.specs.BinaryOrder.{IsInBinaryOrder}
+use Rattle.aig_checked.specs.BinaryOrder.{IsInBinaryOrder}
 use Rattle.aig_binary.specs.BinaryGrammar.{binary_word, binary_rows_of, SpellsGates, EndsBefore, IsBinaryText}
 use Rattle.aig_binary.specs.BinaryReading.{binary_at, binary_reading}
-use Rattle.aig_core.proofs.Numbered.WellOrdered.{HasLiteralsUpTo, well_formed}
+use Rattle.aig_checked.proofs.Numbered.WellOrdered.{HasLiteralsUpTo, well_formed}
 use Rattle.aig_binary.proofs.Grammar.Numbered.{numbered_circuit, rows_are, literals_are, sizes_within}
 use Rattle.aig_binary.proofs.Grammar.Numbered.{counts_are, order_is}
 use Rattle.aig_binary.proofs.Grammar.Found.{TellsBinary, binary_found}

@@ -13,7 +13,7 @@ use Rattle.aig_rows.specs.declared.fault.ReadFault.{ReadFault}
 use Rattle.aig_rows.specs.Reading.{◌>>=◌}
 use Rattle.aig_rows.proofs.Steps.{both_ok, ok_same, passed}
 use Rattle.aig_binary.specs.Delta.{IsDelta, delta_at}
-use Rattle.aig_core.specs.BinaryOrder.{AreOrderedGates}
+use Rattle.aig_checked.specs.BinaryOrder.{AreOrderedGates}
 use Rattle.aig_binary.specs.BinaryGrammar.{SpellsGate, SpellsGates}
 use Rattle.aig_binary.specs.BinaryReading.{no_delta, lowered, lowered_at, gate_at, at_gate, gates_at}
 use Rattle.aig_binary.proofs.Deltas.Reading.{delta_is, delta_read}

@@ -9,8 +9,8 @@ use Rattle.aig_circuit.specs.declared.circuit.Gate.{Gate}
 use Rattle.aig_circuit.specs.declared.circuit.Circuit.{Circuit}
 use Rattle.aig_circuit.specs.Literal.{literal_of}
 use Rattle.aig_circuit.specs.Form.{IsLiteralUpTo}
-use Rattle.aig_core.specs.BinaryOrder.{AreOrderedGates, IsInBinaryOrder}
-use Rattle.aig_core.proofs.Numbered.WellOrdered.{HasLiteralsUpTo}
+use Rattle.aig_checked.specs.BinaryOrder.{AreOrderedGates, IsInBinaryOrder}
+use Rattle.aig_checked.proofs.Numbered.WellOrdered.{HasLiteralsUpTo}
 use Rattle.aig_text.specs.declared.header_line.Header.{Header}
 use Rattle.aig_text.specs.Sections.{latches_from, sections, in_ascii, in_binary}
 use Rattle.aig_rows.specs.Rows.{Row, row, next_form, next_row}

@@ -12,7 +12,7 @@ use Rattle.aig_circuit.specs.declared.circuit.Circuit.{Circuit}
 use Rattle.aig_circuit.specs.Literal.{literal_of}
 use Rattle.aig_core.specs.Names.{nothing_named}
 use Rattle.aig_circuit.specs.Form.{IsInForm, IsLiteralUpTo}
-use Rattle.aig_core.specs.BinaryOrder.{IsInBinaryOrder}
+use Rattle.aig_checked.specs.BinaryOrder.{IsInBinaryOrder}
 use Rattle.aig_circuit.proofs.Makers.{latch}
 use Rattle.aig_circuit.proofs.Checking.Fitting.{well_formed_in_form}
 use Rattle.aig_text.specs.declared.header_line.Header.{Header}

@@ -1,7 +1,7 @@
 -- Variables in parts, by what is left where they are divided by the number of parts. Only private functions cite this.
 use Rattle.std.specs.Prelude.{◌≡◌, ◌==◌, ◌%◌, ◌<◌, ℕ, Bool, List, [], length, slice_index_or}
 use Rattle.std.specs.List.{filter}
-use Rattle.aig_core.specs.declared.checked.distinct.TheConstants.{PARTS}
+use Rattle.aig_core.specs.declared.checks.distinct.TheConstants.{PARTS}
 
 -- whether a variable belongs to a part
 abbrev pub is_in_part : ℕ → ℕ → Bool

@@ -10,7 +10,7 @@ use Rattle.aig_topo.proofs.Ordering.Counted.{among_either}
 use Rattle.aig_topo.proofs.Ordering.Cyclic.{among_last}
 use Rattle.aig_circuit.proofs.Checking.Fitting.{each}
 use Rattle.aig_topo.proofs.Ordering.Ranked.{at, needed_by, variables}
-use Rattle.aig_core.specs.BinaryOrder.{AreOrderedGates}
+use Rattle.aig_checked.specs.BinaryOrder.{AreOrderedGates}
 use Rattle.aig_image.specs.Relabelled.{relabelled_gate}
 use Rattle.aig_image.specs.Reordered.{operands_sorted}
 use Rattle.aig_image.specs.Reordered.{taken}

@@ -10,7 +10,7 @@ use Rattle.aig_topo.proofs.Ordering.Counted.{among_either}
 use Rattle.aig_topo.proofs.Ordering.Cyclic.{among_last}
 use Rattle.aig_circuit.proofs.Checking.Fitting.{each, at_most, at_most_below}
 use Rattle.aig_topo.proofs.Ordering.Ranked.{variables, stands_there, distinct_back, rank_exactly_where_all_are_ordered}
-use Rattle.aig_core.proofs.Numbered.Ranges.{at_least_below}
+use Rattle.aig_checked.proofs.Numbered.Ranges.{at_least_below}
 use Rattle.aig_topo.proofs.Ordering.Steps.{all_of}
 use Rattle.aig_image.specs.Reordered.{ArePlaces, positions_of}
 use Rattle.aig_image.specs.Renumbering.{in_new_order}

@@ -10,8 +10,8 @@ use Rattle.aig_circuit.specs.Literal.{variable_of}
 use Rattle.aig_circuit.specs.Wellformed.{IsAmong}
 use Rattle.aig_topo.specs.Order.{IsLeastReadyOrder, IsReady, TakesLeast, IsFull, gate_operands}
 use Rattle.aig_topo.proofs.Ordering.Ranked.{at, over_one, all_served}
-use Rattle.aig_core.specs.BinaryOrder.{AreNumberedGates, AreOrderedGates, IsInBinaryOrder, IsNumberedInOrder}
-use Rattle.aig_core.proofs.Numbered.Ranges.{among, is_numbered}
+use Rattle.aig_checked.specs.BinaryOrder.{AreNumberedGates, AreOrderedGates, IsInBinaryOrder, IsNumberedInOrder}
+use Rattle.aig_checked.proofs.Numbered.Ranges.{among, is_numbered}
 
 -- where each gate needs only those before it, they are taken one after another
 module _ (count : ℕ) (needs : ℕ → List ℕ) (falls : (g h : ℕ) → g < count → IsAmong h (needs g) → h < g) where

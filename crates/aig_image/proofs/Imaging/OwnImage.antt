@@ -7,10 +7,10 @@ use Rattle.std.proofs.lemmas.List.FromFn.{length-range_with_len}
 use Rattle.std.proofs.lemmas.Simd.{pick_l_whole}
 use Rattle.aig_circuit.specs.declared.circuit.Gate.{Gate}
 use Rattle.aig_circuit.specs.declared.circuit.Circuit.{Circuit}
-use Rattle.aig_core.specs.BinaryOrder.{IsInBinaryOrder, IsNumberedInOrder}
+use Rattle.aig_checked.specs.BinaryOrder.{IsInBinaryOrder, IsNumberedInOrder}
 use Rattle.aig_circuit.specs.Wellformed.{IsVariableUpTo, IsWellFormed, defined_variables}
 use Rattle.aig_circuit.proofs.Checking.Fitting.{all_weaker}
-use Rattle.aig_core.proofs.Numbered.Ranges.{is_numbered, numbered_variables_are}
+use Rattle.aig_checked.proofs.Numbered.Ranges.{is_numbered, numbered_variables_are}
 use Rattle.aig_topo.proofs.Ordering.Ranked.{no_gate, variables}
 use Rattle.aig_image.specs.Image.{IsBinaryImage}
 use Rattle.aig_image.specs.Relabelled.{relabelled}

@@ -16,7 +16,7 @@ use Rattle.aig_topo.proofs.Ordering.Cyclic.{among_last}
 use Rattle.aig_circuit.proofs.Checking.Fitting.{each, all_weaker}
 use Rattle.aig_circuit.proofs.Checking.InForm.{front, back}
 use Rattle.aig_topo.proofs.Ordering.Ranked.{at, variables, stands_there}
-use Rattle.aig_core.specs.BinaryOrder.{AreOrderedGates, IsInBinaryOrder}
+use Rattle.aig_checked.specs.BinaryOrder.{AreOrderedGates, IsInBinaryOrder}
 use Rattle.aig_image.specs.Image.{image_by}
 use Rattle.aig_image.specs.Relabelled.{relabelled_gate, relabelled_latch}
 use Rattle.aig_image.specs.Reordered.{operands_sorted}

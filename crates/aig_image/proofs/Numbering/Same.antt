@@ -8,7 +8,7 @@ use Rattle.std.proofs.lemmas.Bool.Decides.{Decides-eqb}
 use Rattle.std.proofs.lemmas.List.FromFn.{get_or-range_with_len, length-range_with_len}
 use Rattle.std.proofs.lemmas.List.Sums.{position_or_len_is}
 use Rattle.aig_circuit.specs.declared.circuit.Gate.{Gate}
-use Rattle.aig_core.specs.BinaryOrder.{AreOrderedGates}
+use Rattle.aig_checked.specs.BinaryOrder.{AreOrderedGates}
 use Rattle.aig_circuit.proofs.Makers.{gate}
 use Rattle.aig_image.specs.Renumbering.{renumbered}
 use Rattle.aig_image.specs.Reordered.{operands_sorted}

@@ -3,7 +3,7 @@ use Rattle.std.proofs.Common.{◌≡◌, ◌↔◌, ◌∙◌, sym, ℕ, List, B
 use Rattle.aig_circuit.specs.declared.circuit.Circuit.{Circuit}
 use Rattle.aig_topo.specs.Order.{IsLeastReadyOrder}
 use Rattle.aig_circuit.specs.Wellformed.{AreDistinct, IsWellFormed}
-use Rattle.aig_core.specs.BinaryOrder.{IsInBinaryOrder}
+use Rattle.aig_checked.specs.BinaryOrder.{IsInBinaryOrder}
 use Rattle.aig_map.specs.declared.map_block.MapBlock.{MapBlock}
 use Rattle.aig_map.specs.MapBlock.{IsMappedImage}
 use Rattle.aig_map.specs.MapReading.{block_reading}

@@ -6,10 +6,10 @@ use Rattle.std.proofs.lemmas.Simd.{pick_l_whole}
 use Rattle.aig_circuit.specs.declared.circuit.Latch.{Latch}
 use Rattle.aig_circuit.specs.declared.circuit.Circuit.{Circuit}
 use Rattle.aig_circuit.specs.declared.circuit.TheConstants.{LARGEST}
-use Rattle.aig_core.specs.BinaryOrder.{IsNumberedInOrder}
+use Rattle.aig_checked.specs.BinaryOrder.{IsNumberedInOrder}
 use Rattle.aig_circuit.specs.Wellformed.{IsVariableUpTo, IsWellFormed, defined_variables}
 use Rattle.aig_circuit.proofs.Checking.Fitting.{all_weaker}
-use Rattle.aig_core.proofs.Numbered.Ranges.{numbered_variables_are}
+use Rattle.aig_checked.proofs.Numbered.Ranges.{numbered_variables_are}
 use Rattle.aig_topo.proofs.Ordering.LeastReady.{one_least_ready_order}
 use Rattle.aig_topo.proofs.Ordering.Ranked.{no_gate, variables}
 use Rattle.aig_image.specs.Image.{image_by}

@@ -7,7 +7,7 @@ use Rattle.aig_circuit.specs.declared.circuit.Kind.TheVariants as kinds
 use Rattle.aig_circuit.specs.declared.circuit.Circuit.{Circuit}
 use Rattle.aig_circuit.specs.Wellformed.{IsWellFormed, count_of}
 use Rattle.aig_topo.proofs.Ordering.LeastReady.{a_least_ready_order, one_least_ready_order}
-use Rattle.aig_core.specs.BinaryOrder.{IsInBinaryOrder}
+use Rattle.aig_checked.specs.BinaryOrder.{IsInBinaryOrder}
 use Rattle.aig_image.specs.Image.{image_by}
 use Rattle.aig_map.specs.MapBlock.{mapped_by, IsMappedImage}
 use Rattle.aig_image.proofs.Imaging.Ordered.{image_is_ordered}

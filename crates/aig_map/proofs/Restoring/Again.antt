@@ -13,7 +13,7 @@ use Rattle.std.proofs.lemmas.List.{length-map}
 use Rattle.std.proofs.lemmas.Simd.{map-map}
 use Rattle.aig_circuit.specs.declared.circuit.Gate.{Gate}
 use Rattle.aig_circuit.specs.declared.circuit.Circuit.{Circuit}
-use Rattle.aig_core.specs.BinaryOrder.{AreOrderedGates}
+use Rattle.aig_checked.specs.BinaryOrder.{AreOrderedGates}
 use Rattle.aig_circuit.specs.Wellformed.{AreDistinct, IsVariableUpTo, IsWellFormed, defined_variables}
 use Rattle.aig_circuit.proofs.Checking.Fitting.{all_weaker}
 use Rattle.aig_circuit.proofs.Makers.{gates_alike}

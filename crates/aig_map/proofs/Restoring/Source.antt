@@ -14,7 +14,7 @@ use Rattle.aig_circuit.specs.declared.circuit.Circuit.{Circuit}
 use Rattle.aig_circuit.specs.Wellformed.{AreDistinct, IsVariableUpTo, defined_variables}
 use Rattle.aig_circuit.proofs.Checking.Fitting.{each}
 use Rattle.aig_circuit.proofs.Checking.InForm.{joined}
-use Rattle.aig_core.proofs.Numbered.Ranges.{variables_are}
+use Rattle.aig_checked.proofs.Numbered.Ranges.{variables_are}
 use Rattle.aig_topo.proofs.Ordering.Ranked.{at}
 use Rattle.aig_image.specs.Relabelled.{relabelled, relabelled_gate, relabelled_latch}
 use Rattle.aig_image.specs.Renumbering.{in_new_order, renumbered, source_variable}

@@ -6,7 +6,7 @@ use Rattle.std.proofs.Common.{Err, Option, None, Some}
 use Rattle.aig_circuit.specs.declared.circuit.Circuit.{Circuit}
 use Rattle.aig_circuit.specs.Wellformed.{AreDistinct, IsWellFormed, defined_variables}
 use Rattle.aig_topo.proofs.Ordering.LeastReady.{one_least_ready_order}
-use Rattle.aig_core.specs.BinaryOrder.{IsInBinaryOrder}
+use Rattle.aig_checked.specs.BinaryOrder.{IsInBinaryOrder}
 use Rattle.aig_map.specs.declared.fault.MapFault.{MapFault}
 use Rattle.aig_map.specs.declared.fault.MapFault.TheVariants.{Missing, Malformed, Mismatch, Forged, OutOfMemory}
 use Rattle.aig_map.specs.declared.fault.MapFault.TheVariants.{NotOrdered}

@@ -8,7 +8,7 @@ use Rattle.aig_circuit.specs.declared.circuit.Gate.{Gate}
 use Rattle.aig_circuit.specs.declared.circuit.Circuit.{Circuit}
 use Rattle.aig_circuit.specs.declared.value.Val.{Val}
 use Rattle.aig_circuit.specs.declared.value.Val.TheVariants.{Zero}
-use Rattle.aig_core.specs.BinaryOrder.{AreOrderedGates, IsInBinaryOrder}
+use Rattle.aig_checked.specs.BinaryOrder.{AreOrderedGates, IsInBinaryOrder}
 use Rattle.aig_circuit.specs.Wellformed.{IsKnown, IsWellFormed, defined_variables}
 use Rattle.aig_circuit.proofs.Checking.Fitting.{known_in_range}
 use Rattle.aig_circuit.proofs.Makers.{gates_alike}

@@ -5,7 +5,7 @@ use Rattle.std.specs.List.{AllByRecursion, flat_map, range_with_len}
 use Rattle.aig_circuit.specs.declared.circuit.Gate.{Gate}
 use Rattle.aig_circuit.specs.declared.circuit.Circuit.{Circuit}
 use Rattle.aig_circuit.specs.Literal.{literal_of}
-use Rattle.aig_core.specs.BinaryOrder.{AreOrderedGates}
+use Rattle.aig_checked.specs.BinaryOrder.{AreOrderedGates}
 use Rattle.aig_unroll.specs.Unrolled.{at, chain_at, chained, copied, first_bad, first_constraint, first_gate}
 use Rattle.aig_unroll.specs.Unrolled.{gates_at, guarded, next_of}
 use Rattle.aig_unroll.proofs.Ordering.Frames.{chain_length, copies_length, frame_length, next_gate}

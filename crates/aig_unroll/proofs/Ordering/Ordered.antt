@@ -10,11 +10,11 @@ use Rattle.aig_circuit.specs.declared.circuit.TheConstants.{LARGEST}
 use Rattle.aig_circuit.specs.Literal.{literal_of}
 use Rattle.aig_circuit.specs.Form.{IsLiteralUpTo}
 use Rattle.aig_circuit.specs.Wellformed.{IsWellFormed, IsWithinLimits, literal_lists, operands}
-use Rattle.aig_core.specs.BinaryOrder.{AreOrderedGates, IsInBinaryOrder}
+use Rattle.aig_checked.specs.BinaryOrder.{AreOrderedGates, IsInBinaryOrder}
 use Rattle.aig_circuit.proofs.Checking.Fitting.{all_weaker, well_formed_in_form}
 use Rattle.aig_circuit.proofs.Checking.InForm.{front, back, each_of}
-use Rattle.aig_core.proofs.Numbered.Ranges.{each_in_range}
-use Rattle.aig_core.proofs.Numbered.WellOrdered.{well_formed}
+use Rattle.aig_checked.proofs.Numbered.Ranges.{each_in_range}
+use Rattle.aig_checked.proofs.Numbered.WellOrdered.{well_formed}
 use Rattle.aig_unroll.specs.Unrolled.{IsTooLarge, all_inputs, bad_at, first_bad, first_gate, frame_size}
 use Rattle.aig_unroll.specs.Unrolled.{next_of, outputs_at, unrolled}
 use Rattle.aig_unroll.proofs.Ordering.Frames.{bad_length, gates_length, outputs_length}

@@ -9,7 +9,7 @@ use Rattle.std.proofs.lemmas.Bool.Decides.{leb_tells}
 use Rattle.std.proofs.lemmas.List.{get_or_append_left, get_or-append-add}
 use Rattle.std.proofs.lemmas.List.Concat.{flat_map-append}
 use Rattle.aig_circuit.proofs.Checking.InForm.{joined}
-use Rattle.aig_core.proofs.Numbered.Ranges.{range_more}
+use Rattle.aig_checked.proofs.Numbered.Ranges.{range_more}
 
 -- a place in a row is within all rows
 pub in_row : (n i t rows : ℕ) → i < n → t < rows → t * n + i < rows * n

@@ -1,5 +1,5 @@
 use Rattle.std.proofs.Common.{rules}
-use Rattle.aig_core.proofs.Numbered.Ranges.{range_more}
+use Rattle.aig_checked.proofs.Numbered.Ranges.{range_more}
 use Rattle.aig_binary.proofs.reader.inputs.Goals as goal
 
 pub loop-at-preserved : goal.loop-at-preserved

@@ -1,7 +1,7 @@
 use Rattle.std.proofs.Common.{rules}
 use Rattle.std.proofs.Common.{◌≡◌, ◌∙◌, ℕ, ap, subst, sym}
 use Rattle.aig_circuit.specs.declared.circuit.Circuit.{Circuit}
-use Rattle.aig_core.specs.BinaryOrder.{IsInBinaryOrder}
+use Rattle.aig_checked.specs.BinaryOrder.{IsInBinaryOrder}
 use Rattle.aig_circuit.specs.Wellformed.{IsWellFormed}
 use Rattle.aig_circuit.proofs.Checking.Fitting.{definitions_fit}
 use Rattle.aig_image.specs.Parts.Numbers.{number_of}

@@ -1,7 +1,7 @@
 use Rattle.std.proofs.Common.{◌∙◌, ap, sym}
 use Rattle.std.proofs.lemmas.Result.{IfErr-weaker, on_ok_weaker}
 use Rattle.aig_command.specs.Answer.{name_of}
-use Rattle.aig_tools.specs.Devices.{files_by_name}
+use Rattle.aig_engines.specs.Devices.{files_by_name}
 use Rattle.aig_tools.proofs.Sources.{of_file}
 use Rattle.aig_tools.proofs.named.run_between.Goals as goal
 

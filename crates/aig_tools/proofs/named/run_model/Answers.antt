@@ -1,7 +1,7 @@
 use Rattle.std.proofs.Common.{ap}
 use Rattle.std.proofs.lemmas.Result.{IfErr-weaker, IfOk-weaker}
 use Rattle.aig_command.specs.Answer.{name_of}
-use Rattle.aig_tools.specs.Devices.{files_by_name}
+use Rattle.aig_engines.specs.Devices.{files_by_name}
 use Rattle.aig_tools.proofs.Sources.{of_file, of_stream}
 use Rattle.aig_tools.proofs.named.run_model.Goals as goal
 

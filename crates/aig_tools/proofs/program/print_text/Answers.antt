@@ -1,5 +1,5 @@
 use Rattle.std.proofs.Common.{inr, refl, rules, sym}
-use Rattle.aig_tools.proofs.Lines.{begun_by, is_error}
+use Rattle.aig_engines.proofs.Lines.{begun_by, is_error}
 use Rattle.aig_tools.proofs.program.print_text.Goals as goal
 
 pub returns-clause-ends : goal.returns-clause-ends

@@ -1,5 +1,5 @@
 use Rattle.std.proofs.Common.{sym, subst}
-use Rattle.aig_core.specs.BinaryOrder.{IsInBinaryOrder}
+use Rattle.aig_checked.specs.BinaryOrder.{IsInBinaryOrder}
 use Rattle.aig_circuit.specs.Wellformed.{IsWellFormed}
 use Rattle.aig_image.specs.Image.{IsBinaryImage}
 use Rattle.aig_image.proofs.Imaging.Ordered.{image_is_ordered}

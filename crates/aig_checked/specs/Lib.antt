@@ -1,0 +1,2 @@
+pub mod BinaryOrder
+pub mod Parts

@@ -1,0 +1,2 @@
+-- What only private functions cite: sections that are numbered.
+pub mod Numbered

@@ -1,6 +1,0 @@
-use Rattle.std.proofs.Common.{◌≡◌, []}
-use Rattle.std.proofs.Math.ListN.{replicate}
-use Rattle.aig_core.proofs.checked.distinct.empty_parts.Given as goal
-
-abbrev pub invariant-loop : goal.invariant-loop
-invariant-loop l = l.parts.items ≡ replicate l.counter []

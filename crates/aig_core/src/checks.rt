@@ -1,0 +1,74 @@
+//! The check of circuits.
+ghost use Rattle.std.specs.Prelude.{◌≡◌, ◌≢◌, ◌↔◌, IsTrue, IfOk, IfErr, OnOk, None};
+ghost use Rattle.aig_core.specs.declared.fault.CheckFault.TheVariants.{OutOfMemory as WantOfMemory};
+ghost use Rattle.aig_circuit.specs.Wellformed.{AreDistinct, IsWellFormed, defined_variables};
+ghost use Rattle.aig_circuit.specs.Form.{IsInForm};
+ghost use Rattle.aig_core.specs.Fault.{first_structural_fault, IsFault};
+
+use crate::checks::distinct::{is_defined_once_by_parts, is_spread};
+use crate::checks::faults::{find_fault, find_redefinition};
+use crate::fault::CheckFault;
+use aig_checked::Checked;
+use aig_circuit::{Circuit, OutOfMemory};
+use std::alloc::Global;
+
+mod distinct;
+mod faults;
+
+/// Checks a circuit in form. The error has the circuit as it was, and its first fault or that memory ran out. No order
+/// of the gates is kept (`check_keeping`).
+pub fn check(alloc: Global, circuit: Circuit) -> Result<Checked, (Circuit, CheckFault)>
+    requires in_form { IsInForm circuit }
+    ensures ok { IfOk result (λ checked. checked ≡ circuit) }
+    ensures well_formed { OnOk result (IsWellFormed circuit) }
+    ensures ok_faultless { OnOk result (first_structural_fault circuit ≡ None) }
+    ensures handed_back { IfErr result (λ e. e.0 ≡ circuit) }
+    ensures fault { IfErr result (λ e. IsFault e.1 (first_structural_fault circuit)) }
+    ensures refused { IfErr result (λ e. e.1 ≢ WantOfMemory → ¬ IsWellFormed circuit) }
+{
+    check_keeping(alloc, circuit, Keep::Circuit)
+}
+
+/// What a check keeps.
+#[derive(Clone, Copy)]
+pub enum Keep {
+    /// The circuit alone. It takes the least time and memory if nobody asks for an order of the gates later.
+    Circuit,
+    /// The least ready order of the gates too, where they do not stand in order: for a binary image, which would
+    /// otherwise make it once more.
+    Order,
+}
+
+/// Checks a circuit in form, as `check` does, and keeps what is wanted of it later.
+pub fn check_keeping(
+    alloc: Global,
+    circuit: Circuit,
+    keep: Keep,
+) -> Result<Checked, (Circuit, CheckFault)>
+    requires in_form { IsInForm circuit }
+    ensures ok { IfOk result (λ checked. checked ≡ circuit) }
+    ensures well_formed { OnOk result (IsWellFormed circuit) }
+    ensures ok_faultless { OnOk result (first_structural_fault circuit ≡ None) }
+    ensures handed_back { IfErr result (λ e. e.0 ≡ circuit) }
+    ensures fault { IfErr result (λ e. IsFault e.1 (first_structural_fault circuit)) }
+    ensures refused { IfErr result (λ e. e.1 ≢ WantOfMemory → ¬ IsWellFormed circuit) }
+{
+    match find_fault(alloc, &circuit, keep) {
+        Ok(order) => Ok(Checked::with_order(circuit, order)),
+        Err(fault) => Err((circuit, fault)),
+    }
+}
+
+/// Whether no variable of a circuit is defined twice.
+pub fn is_defined_once(alloc: Global, circuit: &Circuit) -> Result<bool, OutOfMemory>
+    ensures { IfOk result (λ once. IsTrue once ↔ AreDistinct (defined_variables circuit.now)) }
+{
+    if is_spread(circuit) {
+        return is_defined_once_by_parts(alloc, circuit);
+    }
+    match find_redefinition(alloc, circuit) {
+        Ok(()) => Ok(true),
+        Err(CheckFault::Redefined(_)) => Ok(false),
+        Err(_) => Err(OutOfMemory),
+    }
+}

@@ -1,0 +1,81 @@
+-- What an error of a tool puts at fault.
+use Rattle.std.specs.Prelude.{ℕ, Option, None, Some}
+use Rattle.aig_rows.specs.declared.fault.ReadFault.{ReadFault}
+use Rattle.aig_rows.specs.declared.fault.ReadKind.{ReadKind}
+use Rattle.aig_rows.specs.declared.fault.ReadKind.TheVariants as kinds
+use Rattle.aig_map.specs.declared.fault.MapFault.{MapFault}
+use Rattle.aig_map.specs.declared.fault.MapFault.TheVariants as map_faults
+use Rattle.aig_engines.specs.declared.fault.ToolFault.{ToolFault}
+use Rattle.aig_step.specs.declared.fault.SimFault.{SimFault}
+use Rattle.aig_step.specs.declared.fault.SimFault.TheVariants as sim_faults
+use Rattle.aig_unroll.specs.declared.fault.UnrollFault.{UnrollFault}
+use Rattle.aig_unroll.specs.declared.fault.UnrollFault.TheVariants as unroll_faults
+use Rattle.aig_engines.specs.declared.fault.ToolFault.TheVariants.{Read, Map, Sim, Unroll, Source, Sink, OutOfMemory}
+
+-- The device that failed, memory that was refused, or else what the source gave, or the stimulus. Of a simulation the
+-- model is the source; a witness file stands in the place of the stimulus.
+pub data Party : Type 0 where
+  TheSource : Party
+  TheSink : Party
+  Memory : Party
+  TheInput : Party
+  TheStimulus : Party
+  TheSteps : Party
+
+-- where this is wrong with a text
+abbrev pub blamed : ReadKind → Party
+blamed kinds.OutOfMemory = Memory
+blamed _ = TheInput
+
+-- where this is wrong with a map
+abbrev pub map_blamed : MapFault → Party
+map_blamed map_faults.OutOfMemory = Memory
+map_blamed _ = TheInput
+
+-- where a simulation ended early, or a witness file got no verdict
+abbrev pub sim_blamed : SimFault → Party
+sim_blamed sim_faults.OutOfMemory = Memory
+sim_blamed (sim_faults.BadStimulus line) = TheSteps
+sim_blamed (sim_faults.BadWitness line) = TheSteps
+sim_blamed sim_faults.ReadFailed = TheStimulus
+sim_blamed sim_faults.WriteFailed = TheSink
+
+-- where a circuit is not unrolled
+abbrev pub unroll_blamed : UnrollFault → Party
+unroll_blamed unroll_faults.OutOfMemory = Memory
+unroll_blamed _ = TheInput
+
+-- want of memory while a text or a map is judged, for a simulation, or while a circuit is unrolled, is reported as a
+-- fault of it
+abbrev pub at_fault : ToolFault → Party
+at_fault (Read fault) = blamed fault.kind
+at_fault (Map fault) = map_blamed fault
+at_fault (Sim fault) = sim_blamed fault
+at_fault (Unroll fault) = unroll_blamed fault
+at_fault Source = TheSource
+at_fault Sink = TheSink
+at_fault OutOfMemory = Memory
+
+-- what is wrong with a text, where that is what is reported
+abbrev pub text_fault : ToolFault → Option ReadFault
+text_fault (Read fault) = Some fault
+text_fault _ = None
+
+-- what is wrong with a map, where that is what is reported
+abbrev pub map_fault : ToolFault → Option MapFault
+map_fault (Map fault) = Some fault
+map_fault _ = None
+
+-- why a circuit is not unrolled, where that is what is reported
+abbrev pub unroll_fault : ToolFault → Option UnrollFault
+unroll_fault (Unroll fault) = Some fault
+unroll_fault _ = None
+
+-- how many failures of its source a run with this at fault has seen, and how many of its sink
+abbrev pub source_failures : Party → ℕ
+source_failures TheSource = 1
+source_failures _ = 0
+
+abbrev pub sink_failures : Party → ℕ
+sink_failures TheSink = 1
+sink_failures _ = 0

@@ -1,0 +1,41 @@
+-- Which text a conversion writes (this project's profile): a circuit is read, changed as asked, and written.
+use Rattle.std.specs.Prelude.{◌≡◌, ℕ, List, [], Bool, true, false, None, if◌then◌else◌}
+use Rattle.aig_circuit.specs.declared.circuit.Circuit.{Circuit}
+use Rattle.aig_text.specs.AsciiText.{ascii_text}
+use Rattle.aig_binary.specs.BinaryText.{binary_text}
+use Rattle.aig_image.specs.Image.{IsBinaryImage}
+use Rattle.aig_map.specs.MapBlock.{IsMappedImage}
+use Rattle.aig_map.specs.Undone.{IsUndoneFrom}
+use Rattle.aig_command.specs.declared.request.ToAig.{ToAig}
+use Rattle.aig_engines.specs.File.{IsFileOf}
+
+-- the circuit without its symbols and its comment
+abbrev pub stripped : Circuit → Circuit
+stripped c = record c { symbols = []; comment = None }
+
+-- the circuit that is undone, where that is asked for, or else the one that was read
+abbrev pub IsSource : Bool → Circuit → Circuit → Type 0
+IsSource true found source = IsUndoneFrom found source
+IsSource false found source = source ≡ found
+
+-- the circuit that is written for that one
+abbrev pub changed : ToAig → Circuit → Circuit
+changed request source = if request.strip then stripped source else source
+
+-- the image that is written in binary, with a map or without
+abbrev pub IsImageAs : Bool → Circuit → Circuit → Type 0
+IsImageAs true written image = IsMappedImage written image
+IsImageAs false written image = IsBinaryImage written image
+
+-- the text is the circuit's canonical ASCII text, or the canonical binary text of its image, with a map or without
+abbrev pub IsTextAs : Bool → Bool → Circuit → List ℕ → Type 0
+IsTextAs true keep_map written text = text ≡ ascii_text written
+IsTextAs false keep_map written text = (image : Circuit) × IsImageAs keep_map written image × (text ≡ binary_text image)
+
+-- the text that is written for these bytes
+pub record IsConversionText (request : ToAig) (bytes text : List ℕ) : Type 0 where
+  pub found : Circuit
+  pub source : Circuit
+  pub read : IsFileOf bytes request.max_var found
+  pub is_source : IsSource request.undo_map found source
+  pub written_as : IsTextAs request.ascii request.keep_map (changed request source) text

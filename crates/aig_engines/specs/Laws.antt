@@ -1,0 +1,160 @@
+-- What the definitions of this crate say of one another.
+use Rattle.std.specs.Prelude.{◌≡◌, ◌↔◌, ◌+◌, ◌*◌, ℕ, List, [], ◌∷◌, None, Ok, true, false, length}
+use Rattle.std.specs.Prelude.{slice_index_or, take}
+use Rattle.aig_circuit.specs.declared.circuit.TheConstants.{LARGEST}
+use Rattle.aig_circuit.specs.Wellformed.{IsWellFormed}
+use Rattle.aig_text.specs.AsciiText.{ascii_text}
+use Rattle.aig_text.specs.AsciiGrammar.{IsAsciiText}
+use Rattle.aig_checked.specs.BinaryOrder.{IsInBinaryOrder}
+use Rattle.aig_binary.specs.BinaryText.{binary_text}
+use Rattle.aig_circuit.specs.declared.circuit.Circuit.{Circuit}
+use Rattle.aig_map.specs.declared.fault.MapFault.{MapFault}
+use Rattle.aig_map.specs.declared.fault.MapFault.TheVariants.{OutOfMemory}
+use Rattle.aig_map.specs.Undone.{IsMapFault}
+use Rattle.aig_command.specs.declared.request.Sim.{Sim}
+use Rattle.aig_command.specs.declared.request.ToAig.{ToAig}
+use Rattle.aig_command.specs.declared.request.Unroll.{Unroll}
+use Rattle.aig_meaning.specs.Meaning.{Row}
+use Rattle.aig_meaning.specs.Trace.{IsTrace}
+use Rattle.aig_circuit.specs.declared.value.Val.TheVariants.{Zero, One}
+use Rattle.aig_witness.specs.declared.verdict.Verdict.TheVariants.{Confirmed}
+use Rattle.aig_step.specs.Outcome.{first_bad_line}
+use Rattle.aig_witness.specs.Witness.{Claim, IsVerdict}
+use Rattle.aig_unroll.specs.SideBySide.{inputs_side_by_side}
+use Rattle.aig_unroll.specs.Unrolled.{IsTooLarge, IsUnrolled, IsUnsupported}
+use Rattle.aig_engines.specs.File.{IsFileOf, file_reading, first_fault}
+use Rattle.aig_engines.specs.Conversion.{IsConversionText}
+use Rattle.aig_engines.specs.Simulation.{IsSimulationText}
+use Rattle.aig_engines.specs.Unrolling.{IsUnrollingText}
+
+-- what is read of a text is exactly the circuit whose file it is, of either kind
+abbrev pub FilesAreReadExactly : Type 0
+FilesAreReadExactly = (text : List ℕ) (limit : ℕ) (c : Circuit) → (file_reading limit text ≡ Ok c)
+    ↔ IsFileOf text limit c
+
+-- a text is the file of one circuit at most: none is an ASCII file and a binary one
+abbrev pub FilesAreUnambiguous : Type 0
+FilesAreUnambiguous = (text : List ℕ) (limit : ℕ) (c d : Circuit) → IsFileOf text limit c → IsFileOf text limit d
+    → c ≡ d
+
+-- bytes have one conversion text at most
+abbrev pub ConversionsAreUnambiguous : Type 0
+ConversionsAreUnambiguous = (request : ToAig) (bytes text other : List ℕ)
+    → IsConversionText request bytes text → IsConversionText request bytes other → text ≡ other
+
+-- a model and a stimulus have one simulation text at most
+abbrev pub SimulationsAreUnambiguous : Type 0
+SimulationsAreUnambiguous = (request : Sim) (model stimulus text other : List ℕ)
+    → IsSimulationText request model stimulus text → IsSimulationText request model stimulus other → text ≡ other
+
+-- bytes have one unrolling text at most
+abbrev pub UnrollingsAreUnambiguous : Type 0
+UnrollingsAreUnambiguous = (request : Unroll) (bytes text other : List ℕ)
+    → IsUnrollingText request bytes text → IsUnrollingText request bytes other → text ≡ other
+
+-- an unrolling text of the file of a circuit is, at the default limit, the file of exactly the unrolled circuit
+abbrev pub UnrolledTextsAreFiles : Type 0
+UnrolledTextsAreFiles = (request : Unroll) (c d : Circuit) (file text : List ℕ) → IsFileOf file request.max_var c
+    → IsUnrolled c request.frames d → IsUnrollingText request file text
+    → (other : Circuit) → IsFileOf text LARGEST other ↔ (other ≡ d)
+
+-- every file of a circuit that is supported and not too large to unroll has an unrolling text
+abbrev pub UnrolledTextsExist : Type 0
+UnrolledTextsExist = (request : Unroll) (c : Circuit) (file : List ℕ) → IsFileOf file request.max_var c
+    → ¬ IsUnsupported c → ¬ IsTooLarge c request.frames → (text : List ℕ) × IsUnrollingText request file text
+
+-- a canonical binary file: the canonical text of a well-formed circuit in binary order
+abbrev pub IsCanonicalBinary : List ℕ → Type 0
+IsCanonicalBinary file = (c : Circuit) × IsWellFormed c × IsInBinaryOrder c × (file ≡ binary_text c)
+
+-- a conversion at the default limit that leaves nothing out, and keeps and undoes no record
+pub record IsPlain (request : ToAig) : Type 0 where
+  pub strip : request.strip ≡ false
+  pub keep_map : request.keep_map ≡ false
+  pub undo_map : request.undo_map ≡ false
+  pub limit : request.max_var ≡ LARGEST
+
+-- every canonical binary file survives the trip through ASCII byte for byte
+abbrev pub BinarySurvivesAscii : Type 0
+BinarySurvivesAscii = (there back : ToAig) → IsPlain there → there.ascii ≡ true → IsPlain back → back.ascii ≡ false
+    → (file ascii binary : List ℕ) → IsCanonicalBinary file → IsConversionText there file ascii
+    → IsConversionText back ascii binary → binary ≡ file
+
+-- a conversion to binary at the default limit that leaves nothing out and keeps the map
+pub record KeepsMap (request : ToAig) : Type 0 where
+  pub ascii : request.ascii ≡ false
+  pub strip : request.strip ≡ false
+  pub keep_map : request.keep_map ≡ true
+  pub undo_map : request.undo_map ≡ false
+  pub limit : request.max_var ≡ LARGEST
+
+-- a conversion to ASCII at the default limit that leaves nothing out and undoes the map
+pub record UndoesMap (request : ToAig) : Type 0 where
+  pub ascii : request.ascii ≡ true
+  pub strip : request.strip ≡ false
+  pub keep_map : request.keep_map ≡ false
+  pub undo_map : request.undo_map ≡ true
+  pub limit : request.max_var ≡ LARGEST
+
+-- Of every ASCII file of a circuit, converted to binary with the map and undone, there is the canonical text of that
+-- very circuit, which is a file of it, and the file itself where that is canonical.
+abbrev pub UndoingGivesAsciiBack : Type 0
+UndoingGivesAsciiBack = (there back : ToAig) → KeepsMap there → UndoesMap back
+    → (c : Circuit) (file binary ascii : List ℕ) → IsAsciiText file LARGEST c → IsConversionText there file binary
+    → IsConversionText back binary ascii
+    → (ascii ≡ ascii_text c) × IsAsciiText ascii LARGEST c × (file ≡ ascii_text c → ascii ≡ file)
+
+-- A file and its conversion have the same simulation text of every stimulus, where either has one: whatever the
+-- conversion is, at the default limit, to ASCII or to binary, with the map or without, also one that undoes a map or
+-- leaves symbols and comment out. So the same text is written for a file, for what it is converted to, and for what is
+-- undone from that.
+abbrev pub TracesAreKept : Type 0
+TracesAreKept = (request : ToAig) (before after : Sim) → request.max_var ≡ LARGEST → before.max_var ≡ LARGEST
+    → after.max_var ≡ LARGEST → after.properties ≡ before.properties
+    → (file converted stimulus text : List ℕ) → IsConversionText request file converted
+    → (IsSimulationText before file stimulus text ↔ IsSimulationText after converted stimulus text)
+    × ((other : List ℕ)
+    → IsSimulationText before file stimulus text → IsSimulationText after converted stimulus other → text ≡ other)
+
+-- the headline
+pub record Headline : Type 0 where
+  pub undoing_gives_ascii_back : UndoingGivesAsciiBack
+  pub binary_survives_ascii : BinarySurvivesAscii
+  pub traces_are_kept : TracesAreKept
+
+-- every file of a circuit, ASCII or binary, has a conversion text with the map, and that has one with the map undone
+abbrev pub FilesConvertThereAndBack : Type 0
+FilesConvertThereAndBack = (there back : ToAig) → KeepsMap there → UndoesMap back
+    → (c : Circuit) (file : List ℕ) → IsFileOf file LARGEST c
+    → (binary : List ℕ) × (ascii : List ℕ) × IsConversionText there file binary × IsConversionText back binary ascii
+
+-- every file of a circuit has a simulation text of each stimulus that has no bad line
+abbrev pub SimulationTextsExist : Type 0
+SimulationTextsExist = (request : Sim) (c : Circuit) (file stimulus : List ℕ) → IsFileOf file request.max_var c
+    → first_bad_line c stimulus true ≡ None → (text : List ℕ) × IsSimulationText request file stimulus text
+
+-- every canonical binary file has a conversion text to ASCII, and that has one to binary
+abbrev pub BinaryFilesConvertThereAndBack : Type 0
+BinaryFilesConvertThereAndBack = (there back : ToAig)
+    → IsPlain there → there.ascii ≡ true → IsPlain back → back.ascii ≡ false → (file : List ℕ) → IsCanonicalBinary file
+    → (ascii : List ℕ) × (binary : List ℕ) × IsConversionText there file ascii × IsConversionText back ascii binary
+
+-- A text that was converted with the map has no fault, nor has its map, so it is read and undone unless an allocation
+-- fails.
+abbrev pub MappedTextsHaveNoFault : Type 0
+MappedTextsHaveNoFault = (there : ToAig) → KeepsMap there
+    → (file binary : List ℕ) → IsConversionText there file binary
+    → (first_fault LARGEST binary ≡ None)
+    × ((found : Circuit) (fault : MapFault)
+    → IsFileOf binary LARGEST found → IsMapFault found fault → fault ≡ OutOfMemory)
+
+-- A witness that is confirmed at a step sets the unrolled circuit of as many frames and one more. Where that is given the
+-- first values of the uninitialised latches and then the inputs of the witness's steps, it has exactly one trace, of one
+-- row; and there the bad state that stands for the claimed one in the last frame is 1.
+abbrev pub ConfirmedWitnessesSetUnrolledCircuits : Type 0
+ConfirmedWitnessesSetUnrolledCircuits = (c d : Circuit) (claim : Claim) (step : ℕ)
+    → IsWellFormed c → IsWellFormed d → IsUnrolled c (step + 1) d
+    → IsVerdict c claim (Confirmed step)
+    → (row : Row) × (slice_index_or row.bad (step * length c.bad + claim.property) Zero ≡ One)
+    × ((rows : List Row)
+    → IsTrace d [] (inputs_side_by_side c claim.first (take (step + 1) claim.steps) ∷ []) rows ↔ (rows ≡ row ∷ []))

@@ -1,0 +1,15 @@
+pub mod File
+pub mod Conversion
+pub mod Simulation
+pub mod WitnessAnswer
+pub mod Unrolling
+pub mod Blame
+pub mod Devices
+pub mod Reading
+pub mod Outcome
+pub mod WitnessOutcome
+pub mod UnrollingOutcome
+pub mod Messages
+pub mod Reported
+pub mod Laws
+pub mod Parts

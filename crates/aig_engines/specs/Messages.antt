@@ -1,0 +1,80 @@
+-- What is reported on standard error, in one line (this project's profile).
+use Rattle.std.specs.Prelude.{◌≡◌, ◌+◌, ◌++◌, ◌⊎◌, ℕ, List, [], Option, codes, string_bytes}
+use Rattle.std.specs.Io.KnownBytes.{Appends}
+use Rattle.aig_io.specs.Transfer.{TookBeginning}
+use Rattle.aig_rows.specs.Messages.{fault_text}
+use Rattle.aig_map.specs.Messages.{map_fault_text}
+use Rattle.aig_step.specs.Messages.{sim_fault_text}
+use Rattle.aig_unroll.specs.Messages.{unroll_fault_text}
+use Rattle.aig_engines.specs.declared.fault.ToolFault.{ToolFault}
+use Rattle.aig_engines.specs.declared.fault.ToolFault.TheVariants as faults
+use Rattle.aig_command.specs.Answer.{name_of}
+use Rattle.aig_command.specs.declared.request.Sim.{Sim}
+use Rattle.aig_command.specs.Words.{usage_words}
+use Rattle.aig_command.specs.declared.usage.Usage.{Usage}
+use Rattle.aig_command.specs.declared.usage.Usage.TheVariants as usages
+use Rattle.aig_engines.specs.Blame.{at_fault, Memory, Party, TheSink, TheSteps, TheStimulus}
+use Rattle.aig_engines.specs.Devices.{shown, SinkUse}
+
+-- a line of the program: what it is about, and what is wrong
+abbrev pub line_of : List ℕ → List ℕ → List ℕ
+line_of subject text = codes "aiger: " ++ (subject ++ (text ++ codes "\n"))
+
+-- where an argument is not UTF-8 text
+abbrev pub words_line : List ℕ
+words_line = line_of [] (codes "an argument is not UTF-8 text")
+
+abbrev pub memory_line : List ℕ
+memory_line = line_of [] (codes "out of memory")
+
+-- what is wrong, in words
+abbrev pub error_text : ToolFault → List ℕ
+error_text (faults.Read fault) = fault_text fault
+error_text (faults.Map fault) = map_fault_text fault
+error_text (faults.Sim fault) = sim_fault_text fault
+error_text (faults.Unroll fault) = unroll_fault_text fault
+error_text faults.Source = codes "cannot read"
+error_text faults.Sink = codes "cannot write"
+error_text faults.OutOfMemory = codes "out of memory"
+
+-- of a command with one source and one destination, the name of the file at fault, or `-` for a stream
+abbrev pub name_between : Option (List ℕ) → Option (List ℕ) → Party → List ℕ
+name_between source destination TheSink = shown destination
+name_between source destination _ = shown source
+
+-- of a simulation, whose trace or verdict goes to a stream
+abbrev pub simulation_name_at : Sim → Party → List ℕ
+simulation_name_at request TheSink = codes "-"
+simulation_name_at request TheStimulus = shown (name_of request.stimulus)
+simulation_name_at request TheSteps = shown (name_of request.stimulus)
+simulation_name_at request _ = shown (name_of request.model)
+
+-- a line about what is at fault, which has this name; where memory was refused, that is no file and none is named
+abbrev pub line_about : List ℕ → Party → List ℕ → List ℕ
+line_about name Memory text = memory_line
+line_about name party text = line_of name (codes ": " ++ text)
+
+-- the line that reports an error, where what is at fault has this name
+abbrev pub line_naming : List ℕ → ToolFault → List ℕ
+line_naming name error = line_about name (at_fault error) (error_text error)
+
+-- the line that reports an error of a command with one source and one destination
+abbrev pub error_line : Option (List ℕ) → Option (List ℕ) → ToolFault → List ℕ
+error_line source destination error = line_naming (name_between source destination (at_fault error)) error
+
+-- the line that reports an error of a simulation
+abbrev pub simulation_error_line : Sim → ToolFault → List ℕ
+simulation_error_line request error = line_naming (simulation_name_at request (at_fault error)) error
+
+-- what is printed where the words are refused: the text of `clap`, or a line
+abbrev pub usage_text : Usage → List ℕ
+usage_text (usages.Words text) = string_bytes text
+usage_text usage = line_of [] (usage_words usage)
+
+-- the sink took the line, or it failed once and took a beginning of it
+abbrev pub IsReported : {E : Type 0} → SinkUse E → List ℕ → Type 0
+IsReported errors line =
+    (Appends (errors.taken errors.before) (errors.taken errors.after) line
+    × (errors.failures errors.after ≡ errors.failures errors.before))
+    ⊎ (TookBeginning (errors.taken errors.before) (errors.taken errors.after) line
+    × (errors.failures errors.after ≡ errors.failures errors.before + 1))

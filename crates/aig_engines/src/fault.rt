@@ -1,0 +1,133 @@
+//! Why a tool did not do what was asked.
+ghost use Rattle.std.specs.Prelude.{◌≡◌, ◌↔◌, IsTrue, Some};
+ghost use Rattle.aig_engines.specs.Messages.{error_text};
+ghost use Rattle.aig_engines.specs.declared.fault.ToolFault.TheVariants.{Map, OutOfMemory, Read, Sim, Sink, Unroll};
+ghost use Rattle.aig_engines.specs.Blame.{at_fault, Memory};
+ghost use Rattle.aig_engines.specs.Reported.{tool_fault_of};
+
+use aig_core::ReadError;
+use aig_order::MapFault;
+use aig_step::SimFault;
+use aig_text::{ReadFault, ReadKind, WriteFault};
+use aig_unroll::UnrollFault;
+use std::error::Error;
+use std::fmt;
+
+pub(crate) const CANNOT_READ: &str = "cannot read";
+
+pub(crate) const CANNOT_WRITE: &str = "cannot write";
+
+pub(crate) const OUT_OF_MEMORY: &str = "out of memory";
+
+/// Why a tool did not do what was asked.
+#[derive(Debug, Drop, PartialEq)]
+pub enum ToolFault {
+    /// The source is not the file of a circuit.
+    Read(ReadFault),
+    /// The source is the file of a circuit that has no undone one.
+    Map(MapFault),
+    /// The simulation ended early, or a witness file got no verdict.
+    Sim(SimFault),
+    /// The source is the file of a circuit that is not unrolled.
+    Unroll(UnrollFault),
+    /// The source failed; of a simulation or a witness, the model's.
+    Source,
+    /// The sink failed.
+    Sink,
+    /// An allocation failed. One that fails while a file or a map is checked, for a simulation or a witness, or while a
+    /// circuit is unrolled, is in `Read`, `Map`, `Sim` or `Unroll`.
+    OutOfMemory,
+}
+
+impl ToolFault {
+    /// Whether an allocation failed, in whichever variant.
+    pub fn is_want_of_memory(&self) -> bool
+        ensures { IsTrue result ↔ (at_fault self.now ≡ Memory) }
+    {
+        match self {
+            ToolFault::OutOfMemory => true,
+            ToolFault::Read(fault) => matches!(fault.kind, ReadKind::OutOfMemory),
+            ToolFault::Map(fault) => matches!(fault, MapFault::OutOfMemory),
+            ToolFault::Sim(fault) => matches!(fault, SimFault::OutOfMemory),
+            ToolFault::Unroll(fault) => matches!(fault, UnrollFault::OutOfMemory),
+            ToolFault::Source | ToolFault::Sink => false,
+        }
+    }
+}
+
+impl fmt::Display for ToolFault {
+    ghost output = { λ error. Some (error_text error) };
+
+    fn fmt<W: fmt::Write>(&self, f: &mut fmt::Formatter<W>) -> fmt::Result {
+        match self {
+            ToolFault::Read(fault) => write!(f, "{fault}"),
+            ToolFault::Map(fault) => write!(f, "{fault}"),
+            ToolFault::Sim(fault) => write!(f, "{fault}"),
+            ToolFault::Unroll(fault) => write!(f, "{fault}"),
+            ToolFault::Source => write!(f, "{CANNOT_READ}"),
+            ToolFault::Sink => write!(f, "{CANNOT_WRITE}"),
+            ToolFault::OutOfMemory => write!(f, "{OUT_OF_MEMORY}"),
+        }
+    }
+}
+
+impl Error for ToolFault {}
+
+impl From<ReadError> for ToolFault {
+    ghost from_gives = { λ error fault. fault ≡ tool_fault_of error };
+
+    fn from(error: ReadError) -> ToolFault {
+        match error {
+            ReadError::Source => ToolFault::Source,
+            ReadError::OutOfMemory => ToolFault::OutOfMemory,
+        }
+    }
+}
+
+impl From<aig_core::OutOfMemory> for ToolFault {
+    ghost from_gives = { λ _ error. error ≡ OutOfMemory };
+
+    fn from(_refused: aig_core::OutOfMemory) -> ToolFault {
+        ToolFault::OutOfMemory
+    }
+}
+
+impl From<ReadFault> for ToolFault {
+    ghost from_gives = { λ fault error. error ≡ Read fault };
+
+    fn from(fault: ReadFault) -> ToolFault {
+        ToolFault::Read(fault)
+    }
+}
+
+impl From<MapFault> for ToolFault {
+    ghost from_gives = { λ fault error. error ≡ Map fault };
+
+    fn from(fault: MapFault) -> ToolFault {
+        ToolFault::Map(fault)
+    }
+}
+
+impl From<SimFault> for ToolFault {
+    ghost from_gives = { λ fault error. error ≡ Sim fault };
+
+    fn from(fault: SimFault) -> ToolFault {
+        ToolFault::Sim(fault)
+    }
+}
+
+impl From<UnrollFault> for ToolFault {
+    ghost from_gives = { λ fault error. error ≡ Unroll fault };
+
+    fn from(fault: UnrollFault) -> ToolFault {
+        ToolFault::Unroll(fault)
+    }
+}
+
+impl From<WriteFault> for ToolFault {
+    ghost from_gives = { λ _ error. error ≡ Sink };
+
+    fn from(_fault: WriteFault) -> ToolFault {
+        ToolFault::Sink
+    }
+}

@@ -1,0 +1,78 @@
+//! Laws: facts about the definitions alone, each the contract of a function with an empty body.
+ghost use Rattle.aig_engines.specs.Laws.{FilesAreReadExactly, FilesAreUnambiguous, ConversionsAreUnambiguous, Headline};
+ghost use Rattle.aig_engines.specs.Laws.{FilesConvertThereAndBack, BinaryFilesConvertThereAndBack};
+ghost use Rattle.aig_engines.specs.Laws.{MappedTextsHaveNoFault, SimulationsAreUnambiguous, SimulationTextsExist};
+ghost use Rattle.aig_engines.specs.Laws.{UnrolledTextsAreFiles, UnrolledTextsExist, UnrollingsAreUnambiguous};
+ghost use Rattle.aig_engines.specs.Laws.{ConfirmedWitnessesSetUnrolledCircuits};
+
+/// What is read of a text is a circuit exactly where the text is a file of that circuit, ASCII or binary.
+pub fn files_are_read_exactly()
+    ensures { FilesAreReadExactly }
+{}
+
+/// A text is the file of one circuit at most.
+pub fn files_are_unambiguous()
+    ensures { FilesAreUnambiguous }
+{}
+
+/// Bytes have one conversion text at most.
+pub fn conversions_are_unambiguous()
+    ensures { ConversionsAreUnambiguous }
+{}
+
+/// A model and a stimulus have one simulation text at most.
+pub fn simulations_are_unambiguous()
+    ensures { SimulationsAreUnambiguous }
+{}
+
+/// Bytes have one unrolling text at most.
+pub fn unrollings_are_unambiguous()
+    ensures { UnrollingsAreUnambiguous }
+{}
+
+/// An unrolling text that `run_unroll` writes is the file of exactly the unrolled circuit.
+pub fn unrolled_texts_are_files()
+    ensures { UnrolledTextsAreFiles }
+{}
+
+/// Every file of a circuit that can be unrolled has an unrolling text.
+pub fn unrolled_texts_exist()
+    ensures { UnrolledTextsExist }
+{}
+
+/// The headline, over the conversion texts that `run_toaig` writes and the simulation texts that `run_sim` writes: an
+/// ASCII file comes back through binary with the map, as the canonical text of its circuit; a canonical binary file
+/// comes back through ASCII byte for byte; and a file and its conversion, or what is undone from it, have the same
+/// simulation text of every stimulus.
+pub fn headline()
+    ensures { Headline }
+{}
+
+/// The conversion texts that the headline speaks of exist: every file of a circuit has one to binary with the map, and
+/// that has one to ASCII with the map undone.
+pub fn files_convert_there_and_back()
+    ensures { FilesConvertThereAndBack }
+{}
+
+/// Every canonical binary file has a conversion text to ASCII, and that has one to binary.
+pub fn binary_files_convert_there_and_back()
+    ensures { BinaryFilesConvertThereAndBack }
+{}
+
+/// The simulation texts that the headline speaks of exist: every file of a circuit has one of each stimulus that has no
+/// bad line.
+pub fn simulation_texts_exist()
+    ensures { SimulationTextsExist }
+{}
+
+/// A text that was converted with the map has no first fault, and what is read of it has no map fault. So reading and
+/// undoing it fails only where an allocation fails.
+pub fn mapped_texts_have_no_fault()
+    ensures { MappedTextsHaveNoFault }
+{}
+
+/// A witness that is confirmed at a step gives the unrolled circuit of the steps up to it inputs for which the bad state
+/// that stands for the claimed one in the last frame is 1.
+pub fn confirmed_witnesses_set_unrolled_circuits()
+    ensures { ConfirmedWitnessesSetUnrolledCircuits }
+{}

@@ -1,5 +1,0 @@
-use Rattle.aig_sim.proofs.WitnessTexts.{witness_files_are_read}
-use Rattle.aig_sim.proofs.laws.witness_files_are_read.Goals as goal
-
-pub returns : goal.returns
-returns c = witness_files_are_read

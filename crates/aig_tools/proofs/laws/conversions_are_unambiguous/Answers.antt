@@ -1,5 +1,0 @@
-use Rattle.aig_tools.proofs.Trips.{one_conversion}
-use Rattle.aig_tools.proofs.laws.conversions_are_unambiguous.Goals as goal
-
-pub returns : goal.returns
-returns c = one_conversion

@@ -1,5 +1,0 @@
-use Rattle.aig_tools.proofs.Files.{one_circuit}
-use Rattle.aig_tools.proofs.laws.files_are_unambiguous.Goals as goal
-
-pub returns : goal.returns
-returns c = one_circuit
