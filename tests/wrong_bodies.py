@@ -262,9 +262,16 @@ class Copy:
         while waiting:
             # (of those of one function the first)
             batch = {it.function(): it for it in reversed(waiting) if it.function()}
-            judged.update(self.together([*batch.values()] or waiting[:1]))
+            found = self.together([*batch.values()] or waiting[:1])
+            tell(f"{body.label}: {why}" for body, why in found.items() if why)
+            judged.update(found)
             waiting = [it for it in waiting if it not in judged]
         return judged
+
+
+def tell(failures):
+    """Prints failures as they are found, and answers how many."""
+    return sum(1 for it in failures if not print(f"FAILED {it}", flush=True))
 
 
 def without(crate, changed):
@@ -278,8 +285,8 @@ def without(crate, changed):
 
 
 def try_crate(crate):
-    """How many of a crate's wrong bodies are refused, and what fails."""
-    bodies, changed, failed = [], set(), []
+    """How many of a crate's wrong bodies are refused, and how many failures there are."""
+    bodies, changed, failed = [], set(), 0
     tried = sorted((BODIES / crate).glob("*.edit"))
     for path in [*tried, *(TOP / "crates" / crate / "must-fail").glob("*.edit")]:
         try:
@@ -287,36 +294,33 @@ def try_crate(crate):
             changed |= body.functions
             bodies += [body] * (path in tried)
         except Unfit as why:
-            failed.append(f"{path.relative_to(TOP)}: {why}")
-    failed += [f"{it} has no wrong body" for it in without(crate, changed)]
+            failed += tell([f"{path.relative_to(TOP)}: {why}"])
+    failed += tell(f"{it} has no wrong body" for it in without(crate, changed))
     if not bodies:
         return 0, failed
     with tempfile.TemporaryDirectory(prefix="wrong-bodies-") as room:
         copy = Copy(crate, room)
         if not copy.check({}).is_proved:
-            return 0, [*failed, f"{crate} is not proved as it is, so nothing was tried"]
+            return 0, failed + tell([f"{crate} is not proved as it is, so nothing was tried"])
         judged = copy.judge(bodies)
-    wrong = [f"{body.label}: {why}" for body, why in judged.items() if why]
     refused = [body for body, why in judged.items() if not why]
     counts = ", ".join(f"{sum(copy.ways[it] == way for it in refused)} {way}" for way in WAYS)
     print(f"{crate}: {len(refused)} of {len(bodies)} wrong bodies are refused ({counts}), after {copy.checks} checks", flush=True)
     for body in refused:
         if copy.ways[body] == WAYS[2]:
             print(f"    {body.label}: {WAYS[2]}")
-    return len(refused), failed + wrong
+    return len(refused), failed + len(judged) - len(refused)
 
 
 def main(names):
     known = crates()
-    passed, failed = 0, [f"crates.txt lists no crate {it}" for it in names if it not in known]
+    passed, failed = 0, tell(f"crates.txt lists no crate {it}" for it in names if it not in known)
     if not shutil.which(RT):
-        known, failed = {}, [f"there is no command {RT}"]
+        known, failed = {}, tell([f"there is no command {RT}"])
     for crate in [it for it in names or known if it in known]:
         refused, told = try_crate(crate)
         passed, failed = passed + refused, failed + told
-    for it in failed:
-        print(f"FAILED {it}")
-    print(f"{passed} passed, {len(failed)} failed")
+    print(f"{passed} passed, {failed} failed")
     return 1 if failed or not passed else 0
 
 
