@@ -11,7 +11,8 @@ ghost use Rattle.aig_batch.specs.Parts.Judging.{IsJudged};
 use crate::entry::{begins_with_step, is_entry};
 use crate::line_feed::line_feed;
 use aig_core::{Checked, ROOM, Source};
-use aig_step::{SimFault, without_return};
+use aig_lines::without_return;
+use aig_step::SimFault;
 use std::alloc::Global;
 
 /// What judges the lines of a stimulus for a circuit of so many inputs.
