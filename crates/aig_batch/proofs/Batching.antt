@@ -17,7 +17,7 @@ use Rattle.aig_trace.specs.Parts.Progress.{Goes, Point, begin_of}
 use Rattle.aig_batch.specs.Parts.RunsRead.{IsFront}
 use Rattle.aig_step.specs.TraceText.{IsTraceText}
 use Rattle.aig_trace.proofs.Heard.{heard_nothing}
-use Rattle.aig_step.proofs.Coming.{take_none}
+use Rattle.aig_lines.proofs.LineBytes.{take_none}
 
 module _ {W : Type 0} (c : Circuit) (columns : Columns) (bytes : List ℕ) (none : first_bad_line c bytes true ≡ None)
   where

@@ -7,7 +7,7 @@ use Rattle.aig_batch.specs.Batched.{CameToNoBadLine}
 use Rattle.aig_step.specs.Stimulus.{stimulus}
 use Rattle.aig_batch.specs.Parts.Judging.{IsJudged}
 use Rattle.aig_batch.proofs.Judging.{none_bad_so_far}
-use Rattle.aig_step.proofs.Coming.{consumes_kept}
+use Rattle.aig_lines.proofs.Sources.{consumes_kept}
 use Rattle.aig_io.proofs.KnownBytes.{consumes_twice}
 
 module _ (c : Circuit) (inputs : ℕ) (as_many : inputs ≡ length c.inputs) (coming now left : Option (List ℕ))

@@ -8,10 +8,11 @@ use Rattle.memchr.specs.Find.{IsFirstByte, is_byte}
 use Rattle.aig_circuit.specs.declared.value.Val.{Val}
 use Rattle.aig_step.specs.Stimulus.{Entry, Stimulus, entry_in, stimulus, value_of, values_of, without_return}
 use Rattle.aig_batch.specs.Parts.Judging.{IsJudged}
-use Rattle.aig_step.specs.Parts.Seen.{HasNoLineFeed, IsHeard}
+use Rattle.aig_lines.specs.Texts.{HasNoLineFeed}
+use Rattle.aig_step.specs.Parts.Seen.{IsHeard}
 use Rattle.aig_trace.proofs.Heard.{heard_line, heard_more, said_at_end, said_bad, said_last, said_last_bad}
 use Rattle.aig_trace.proofs.Heard.{said_so_far}
-use Rattle.aig_step.proofs.WholeLines.{first_line, no_line}
+use Rattle.aig_lines.proofs.LineBytes.{first_line, no_line}
 
 -- whether characters stand for values
 first_some : (o : Option Val) (others : Option (List Val))

@@ -12,7 +12,8 @@ use crate::entry::{begins_with_step, is_entry};
 use crate::line_feed::line_feed;
 use aig_checked::Checked;
 use aig_io::{ROOM, Source};
-use aig_step::{SimFault, without_return};
+use aig_lines::without_return;
+use aig_step::SimFault;
 use std::alloc::Global;
 
 /// What judges the lines of a stimulus for a circuit of so many inputs.

@@ -8,7 +8,8 @@ ghost use Rattle.memchr.specs.Find.{IsFirstByte, is_byte};
 
 use aig_circuit::OutOfMemory;
 use aig_lanes::{RunGroup, Vectors};
-use aig_step::{is_stop, without_return};
+use aig_lines::without_return;
+use aig_step::is_stop;
 use memchr::memchr;
 use std::alloc::Global;
 

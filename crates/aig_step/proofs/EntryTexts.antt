@@ -1,14 +1,13 @@
--- What the text of a line says: its characters, its carriage return, its length.
-use Rattle.std.proofs.Common.{◌≡◌, ◌≢◌, ◌+◌, ◌≤◌, ◌<◌, ◌&&◌, ◌==◌, ℕ, suc, List, [], ◌∷◌, ◌++◌, Bool, true}
-use Rattle.std.proofs.Common.{false, length}
-use Rattle.std.proofs.Common.{Option, Some, None, codes, option_map, option_and_then, if◌then◌else◌, bytes_eq}
-use Rattle.std.proofs.Common.{refl, sym, ap}
-use Rattle.std.proofs.Common.{◌∙◌, arith}
+-- What the text of a line says: its characters, its length.
+use Rattle.std.proofs.Common.{◌≡◌, ◌≢◌, ◌+◌, ◌<◌, ℕ, suc, List, [], ◌∷◌, ◌++◌, Bool, true, false, length, max}
+use Rattle.std.proofs.Common.{Option, Some, None, codes, option_map, option_and_then, bytes_eq, refl, sym, ap, ◌∙◌, arith}
 use Rattle.std.proofs.lemmas.Bool.{ne_eqb, false_from_ne_true}
 use Rattle.std.proofs.lemmas.Slice.Eq.{bytes_eq-Decides}
 use Rattle.aig_circuit.specs.declared.value.Val.{Val}
 use Rattle.aig_rows.specs.Lines.{line}
-use Rattle.aig_step.specs.Stimulus.{entry_in, entry_of, value_of, values_of, without_return}
+use Rattle.aig_lines.specs.Texts.{without_return}
+use Rattle.aig_lines.proofs.LineBytes.{one_shorter}
+use Rattle.aig_step.specs.Stimulus.{entry_in, entry_of, value_of, values_of}
 
 -- characters, one by one
 nothing_first : (o : Option Val) → option_and_then (λ v. option_map (λ vs. v ∷ vs) None) o ≡ None
@@ -60,38 +59,6 @@ values_length (b ∷ bs) vs is =
     first_length (value_of b) (values_of bs) vs (length bs)
     (λ (us : List Val) (e : values_of bs ≡ Some us). values_length bs us e) is
 
--- the carriage return
-and_false : (a : Bool) → (a && false) ≡ false
-and_false true = refl
-and_false false = refl
-
-pub kept_first : (b c : ℕ) (bs : List ℕ) → without_return (b ∷ c ∷ bs) ≡ b ∷ without_return (c ∷ bs)
-kept_first b c bs =
-    let some : length (c ∷ bs) ≢ 0 = omega arith in
-    ap (λ (last : Bool). if (b == 13) && last then [] else b ∷ without_return (c ∷ bs))
-    (ne_eqb (length (c ∷ bs)) 0 some)
-    ∙ ap (λ (t : Bool). if t then [] else b ∷ without_return (c ∷ bs)) (and_false (b == 13))
-
--- one at the end is dropped
-pub return_dropped : (text : List ℕ) → without_return (text ++ 13 ∷ []) ≡ text
-return_dropped [] = refl
-return_dropped (b ∷ []) = kept_first b 13 []
-return_dropped (b ∷ c ∷ bs) =
-    kept_first b c (bs ++ 13 ∷ []) ∙ ap (λ (t : List ℕ). b ∷ t) (return_dropped (c ∷ bs))
-
--- and another byte there is kept
-pub no_return : (text : List ℕ) (b : ℕ) → b ≢ 13 → without_return (text ++ b ∷ []) ≡ text ++ b ∷ []
-no_return [] b other = rw (ne_eqb b 13 other) refl
-no_return (a ∷ []) b other = kept_first a b [] ∙ ap (λ (t : List ℕ). a ∷ t) (no_return [] b other)
-no_return (a ∷ c ∷ bs) b other =
-    kept_first a c (bs ++ b ∷ []) ∙ ap (λ (t : List ℕ). a ∷ t) (no_return (c ∷ bs) b other)
-
--- at most one byte is dropped
-pub one_shorter : (text : List ℕ) → length text ≤ length (without_return text) + 1
-one_shorter [] = omega arith
-one_shorter (b ∷ []) = omega arith
-one_shorter (b ∷ c ∷ bs) = omega (arith, ap length (kept_first b c bs), one_shorter (c ∷ bs))
-
 -- what a text says
 no_stop : (text : List ℕ) → text ≢ codes "." → bytes_eq text (codes ".") ≡ false
 no_stop text other =
@@ -101,7 +68,7 @@ no_stop text other =
 wrong_length : (inputs : ℕ) (text : List ℕ) → text ≢ codes "." → length text ≢ inputs → entry_in inputs text ≡ None
 wrong_length inputs text other wrong = rw (no_stop text other, ne_eqb (length text) inputs wrong) refl
 
-pub too_long_text : (inputs : ℕ) (text : List ℕ) → inputs + 1 < length text → entry_in inputs text ≡ None
+pub too_long_text : (inputs : ℕ) (text : List ℕ) → max inputs 1 < length text → entry_in inputs text ≡ None
 too_long_text inputs text long =
     wrong_length inputs text
     (λ (e : text ≡ codes "."). let one : length text ≡ 1 = ap length e in absurd (omega arith))

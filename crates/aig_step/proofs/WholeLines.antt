@@ -1,16 +1,14 @@
 -- The lines of bytes that are whole lines and the beginning of one, and how they grow.
-use Rattle.std.proofs.Common.{◌≡◌, ◌||◌, ℕ, List, [], ◌∷◌, ◌++◌, Bool, true, false, Some, None, take, drop}
-use Rattle.std.proofs.Common.{filter, cond, refl, sym, ap, subst, ◌∙◌, append_assoc, append-nil, inr, arith}
+use Rattle.std.proofs.Common.{◌≡◌, ◌||◌, ℕ, List, [], ◌∷◌, ◌++◌, Bool, true, false, filter}
+use Rattle.std.proofs.Common.{cond, refl, sym, ap, subst, ◌∙◌, append_assoc, append-nil, inr}
 use Rattle.std.specs.List.{AllByRecursion}
 use Rattle.std.proofs.lemmas.Bool.{ne_eqb}
 use Rattle.std.proofs.lemmas.List.Elements.{filter-append}
-use Rattle.memchr.specs.Find.{IsFirstByte, is_byte}
-use Rattle.aig_rows.specs.Laws.{AreLines, EndInLineFeeds, IsOneLine}
+use Rattle.aig_rows.specs.Laws.{EndInLineFeeds, IsOneLine}
 use Rattle.aig_rows.specs.Lines.{Line, line, begun_by, lines_of, bytes_of}
 use Rattle.aig_rows.proofs.Grammar.Pieces.{bytes_joined, lines_again, lines_joined}
-use Rattle.aig_rows.proofs.Loops.Cutting.{line_some, line_none, pieces}
-use Rattle.aig_step.specs.Stimulus.{judged_lines}
-use Rattle.aig_step.specs.Parts.Seen.{HasNoLineFeed, IsSeen}
+use Rattle.aig_lines.specs.Texts.{HasNoLineFeed, judged_lines}
+use Rattle.aig_step.specs.Parts.Seen.{IsSeen}
 
 -- the last line of bytes, where a line has begun
 abbrev pub last_of : List ℕ → List Line
@@ -123,24 +121,3 @@ module _ (bytes : List ℕ) (whole : List Line) (rest : List ℕ) (seen : IsSeen
     ended = push (λ (l : Line). l.ended ≡ true) whole (line (rest ++ piece) true) seen.ended refl;
     begun = tt;
   }
-
--- the first line of a piece, where it has a line feed
-pub first_line : (piece : List ℕ) (at : ℕ) → IsFirstByte (is_byte 10) piece (Some at)
-    → HasNoLineFeed (take at piece) × (piece ≡ take at piece ++ 10 ∷ drop 1 (drop at piece))
-first_line piece at found =
-    let are : AreLines piece (line (take at piece) true ∷ lines_of (drop 1 (drop at piece))) =
-    subst (AreLines piece) (line_some piece at found) (pieces piece) in
-    let behind : bytes_of (lines_of (drop 1 (drop at piece))) ≡ drop 1 (drop at piece) =
-    (pieces (drop 1 (drop at piece))).joined in (
-      are.one_each.0,
-      sym are.joined ∙ append_assoc (take at piece) (10 ∷ []) (bytes_of (lines_of (drop 1 (drop at piece))))
-          ∙ ap (λ (t : List ℕ). take at piece ++ 10 ∷ t) behind,
-    )
-
--- a piece without a line feed
-pub no_line : (piece : List ℕ) → IsFirstByte (is_byte 10) piece None → HasNoLineFeed piece
-no_line [] found = tt
-no_line (b ∷ bs) found =
-    let are : AreLines (b ∷ bs) (line (b ∷ bs) false ∷ lines_of []) =
-    subst (AreLines (b ∷ bs)) (line_none (b ∷ bs) (omega arith) found) (pieces (b ∷ bs)) in
-    are.one_each.0

@@ -1,12 +1,12 @@
 -- Stimulus texts (this project's profile). A line has one character for each input and is a step; a line `.` ends a
 -- run.
-use Rattle.std.specs.Prelude.{ℕ, suc, List, [], ◌∷◌, ◌==◌, ◌&&◌, ◌||◌, Bool, Option, None, Some, codes}
-use Rattle.std.specs.Prelude.{filter, length, nat_eq}
+use Rattle.std.specs.Prelude.{ℕ, suc, List, [], ◌∷◌, ◌==◌, Bool, Option, None, Some, codes, length}
 use Rattle.std.specs.Prelude.{option_and_then, option_map, if◌then◌else◌}
 use Rattle.std.specs.Str.{bytes_eq}
 use Rattle.aig_circuit.specs.declared.value.Val.{Val}
 use Rattle.aig_circuit.specs.declared.value.Val.TheVariants.{Zero, One, X}
-use Rattle.aig_rows.specs.Lines.{Line, lines_of}
+use Rattle.aig_rows.specs.Lines.{Line}
+pub use Rattle.aig_lines.specs.Texts.{judged_lines, text_of, without_return}
 
 -- the value that a character stands for: `0`, `1` or `x`
 abbrev pub value_of : ℕ → Option Val
@@ -21,15 +21,6 @@ values_of (b ∷ bs) = option_and_then (λ v. option_map (λ vs. v ∷ vs) (valu
 pub data Entry : Type 0 where
   Step : List Val → Entry
   Stop : Entry
-
--- the text without a carriage return at its end
-abbrev pub without_return : List ℕ → List ℕ
-without_return [] = []
-without_return (b ∷ bs) = if (b == 13) && nat_eq (length bs) 0 then [] else b ∷ without_return bs
-
--- the text of a line; a carriage return directly before the line feed is dropped
-abbrev pub text_of : Line → List ℕ
-text_of l = if l.ended then without_return l.text else l.text
 
 -- what a text says, where the circuit has so many inputs
 abbrev pub entry_in : ℕ → List ℕ → Option Entry
@@ -65,11 +56,6 @@ before_rest number (Some entry) rest = with_entry entry rest
 abbrev pub lines_say : ℕ → ℕ → List Line → Stimulus
 lines_say inputs number [] = no_lines
 lines_say inputs number (l ∷ ls) = before_rest number (entry_of inputs l) (lines_say inputs (suc number) ls)
-
--- The lines that are judged: a last one without its line feed only where the bytes have ended, since else more of it
--- may come.
-abbrev pub judged_lines : List ℕ → Bool → List Line
-judged_lines bytes ended = filter (λ (l : Line). l.ended || ended) (lines_of bytes)
 
 -- what the bytes say that came, where the circuit has so many inputs, and they have ended or not
 abbrev pub stimulus : ℕ → List ℕ → Bool → Stimulus

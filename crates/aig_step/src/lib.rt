@@ -10,7 +10,6 @@
 //! - `machine`: a circuit in binary order that is kept to be run.
 //! - `simulator`: `Simulator`, with its state and the row of its last step.
 //! - `stimulus`: what the lines of a stimulus say.
-//! - `partial_line`: the beginning of a line that has not ended yet.
 //! - `trace`: the line of a step.
 //! - `fault`: why a simulation ended early.
 //!
@@ -29,7 +28,6 @@ mod cells;
 mod evaluate;
 mod fault;
 mod machine;
-mod partial_line;
 mod simulator;
 mod stimulus;
 mod trace;
@@ -38,7 +36,6 @@ pub use crate::cells::{Code, Table};
 pub use crate::evaluate::{Pair, put_reset_state, reset_value, show_next};
 pub use crate::fault::SimFault;
 pub use crate::machine::Machine;
-pub use crate::partial_line::PartialLine;
 pub use crate::simulator::{Row, Simulator};
-pub use crate::stimulus::{is_stop, without_return};
+pub use crate::stimulus::is_stop;
 pub use crate::trace::{Columns, write_row, write_text};

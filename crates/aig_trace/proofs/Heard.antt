@@ -5,7 +5,8 @@ use Rattle.std.proofs.Common.{◌∙◌, append_assoc, append-nil, arith}
 use Rattle.std.proofs.lemmas.List.{length_push}
 use Rattle.aig_rows.specs.Lines.{Line, line, bytes_of}
 use Rattle.aig_step.specs.Stimulus.{Entry, entry_of, judged_lines, lines_say, stimulus}
-use Rattle.aig_step.specs.Parts.Seen.{HasNoLineFeed, IsHeard, all_good, then_bad}
+use Rattle.aig_lines.specs.Texts.{HasNoLineFeed}
+use Rattle.aig_step.specs.Parts.Seen.{IsHeard, all_good, then_bad}
 use Rattle.aig_step.proofs.WholeLines.{judged_at_end, judged_before, judged_so_far, last_of, nothing_seen}
 use Rattle.aig_step.proofs.WholeLines.{seen_line, seen_more}
 use Rattle.aig_trace.proofs.LinesSay.{bad_behind, good_behind}

@@ -16,7 +16,7 @@ use Rattle.aig_step.specs.Outcome.{Came, Interrupted, NotSimulated, Simulated}
 use Rattle.aig_trace.specs.Parts.Streaming.{NotSent, Reached, SentAll, SentLines}
 use Rattle.aig_trace.specs.Parts.Tracing.{Reading}
 use Rattle.aig_trace.proofs.Taking.{none_bad_so_far, text_so_far}
-use Rattle.aig_step.proofs.Coming.{consumes_kept}
+use Rattle.aig_lines.proofs.Sources.{consumes_kept}
 
 begins : (a b c : Option (List ℕ)) (xs ys : List ℕ) → Appends a b xs → TookBeginning b c ys
     → TookBeginning a c (xs ++ ys)

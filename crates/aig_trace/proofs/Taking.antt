@@ -21,19 +21,21 @@ use Rattle.aig_step.specs.declared.trace.Columns.{Columns}
 use Rattle.aig_step.specs.Stimulus.{Entry, Step, Stop, Stimulus, entry_in, entry_of, stimulus, without_return}
 use Rattle.aig_step.specs.Outcome.{first_bad_line}
 use Rattle.aig_step.specs.TraceText.{IsTraceText, values_text}
-use Rattle.aig_step.specs.Parts.Lines.{keeping_more}
+use Rattle.aig_lines.specs.Keeping.{keeping_more}
 use Rattle.aig_trace.specs.Parts.Progress.{Does, Goes, Point, begin_of}
-use Rattle.aig_step.specs.Parts.Seen.{HasNoLineFeed, all_good, then_bad}
+use Rattle.aig_lines.specs.Texts.{HasNoLineFeed}
+use Rattle.aig_step.specs.Parts.Seen.{all_good, then_bad}
 use Rattle.aig_trace.specs.Parts.Tracing.{Advanced, Finished, FoundBad, IsAt, IsSameTracer, Passed, PutSome, Reading}
 use Rattle.aig_trace.specs.Parts.Tracing.{TookLast, TookLine, TookStep, Tracing, point_of}
 use Rattle.aig_step.proofs.EntryTexts.{too_long}
 use Rattle.aig_trace.proofs.Going.{goes_on}
 use Rattle.aig_trace.proofs.Heard.{heard_line, heard_more, heard_nothing, said_at_end, said_bad, said_last, said_last_bad}
 use Rattle.aig_trace.proofs.Heard.{said_so_far}
-use Rattle.aig_step.proofs.LineBytes.{kept_twice, parted}
+use Rattle.aig_lines.proofs.LineBytes.{kept_twice}
+use Rattle.aig_step.proofs.LineBytes.{parted}
 use Rattle.aig_step.proofs.LineValues.{vector_back, vector_says}
 use Rattle.aig_trace.proofs.RunTexts.{closing, goes_is_text}
-use Rattle.aig_step.proofs.Coming.{take_none}
+use Rattle.aig_lines.proofs.LineBytes.{take_none}
 
 -- circuits that mean the same begin in the same state
 pub begin_same : (c d : Circuit) → MeansTheSame c d → begin_of d ≡ begin_of c

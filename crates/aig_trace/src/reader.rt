@@ -4,14 +4,15 @@ ghost use Rattle.std.specs.Prelude.{IfSome, None, false, length, true};
 ghost use Rattle.aig_circuit.specs.declared.circuit.Circuit.{Circuit as CircuitRecord};
 ghost use Rattle.aig_step.specs.declared.fault.SimFault.TheVariants.{OutOfMemory as IsOutOfMemory};
 ghost use Rattle.aig_step.specs.declared.trace.Columns.{Columns as ColumnsAsked};
-ghost use Rattle.aig_step.specs.Parts.Seen.{HasNoLineFeed};
+ghost use Rattle.aig_lines.specs.Texts.{HasNoLineFeed};
 ghost use Rattle.aig_trace.specs.Parts.Tracing.{Advanced, Finished, FoundBad, IsAt, IsFresh, Passed, PutSome, TookLast};
 
 use crate::gathered::Gathered;
 use crate::tracer::Tracer;
 use aig_checked::Checked;
 use aig_io::Sink;
-use aig_step::{Columns, PartialLine, SimFault, without_return};
+use aig_lines::{PartialLine, without_return};
+use aig_step::{Columns, SimFault};
 use memchr::memchr;
 use std::alloc::Global;
 use std::marker::Model;

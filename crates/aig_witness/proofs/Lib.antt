@@ -1,7 +1,6 @@
 pub mod Confirmed
+pub mod Hearing
 pub mod WitnessEnds
-pub mod WitnessLines
-pub mod WitnessReading
 pub mod WitnessRoom
 pub mod WitnessValues
 pub mod Witnessing

@@ -1,21 +1,19 @@
--- A line that is too long for a witness file is as wrong as what is kept of it.
+-- A line that is too long for a witness file is not due.
 use Rattle.std.proofs.Common.{rules}
 use Rattle.std.proofs.Common.{◌≡◌, ◌≢◌, ◌+◌, ◌-◌, ◌*◌, ◌<◌, ◌≤◌, ◌==◌, ◌&&◌, ℕ, zero, suc, List, [], ◌∷◌, Bool}
-use Rattle.std.proofs.Common.{true, false, length, Option, Some, None, refl, sym, ap, ◌∙◌, arith, take, drop, max}
-use Rattle.std.proofs.Common.{codes, bytes_eq, fold, inl, inr, not, nat_le, nat_lt, if◌then◌else◌, option_map}
+use Rattle.std.proofs.Common.{true, false, length, Option, Some, None, refl, sym, ap, ◌∙◌, arith, take, drop}
+use Rattle.std.proofs.Common.{codes, bytes_eq, fold, not, nat_le, nat_lt, if◌then◌else◌, option_map}
 use Rattle.std.specs.List.{list_all}
-use Rattle.std.proofs.lemmas.Bool.{cases_lt, eqb-false, false_from_ne_true, leb-true, ltb-true}
+use Rattle.std.proofs.lemmas.Bool.{eqb-false, false_from_ne_true, leb-true, ltb-true}
 use Rattle.std.proofs.lemmas.Slice.Eq.{bytes_eq-Decides}
-use Rattle.std.proofs.lemmas.List.{length-take-le, take_all, take-append-drop}
+use Rattle.std.proofs.lemmas.List.{take-append-drop}
 use Rattle.std.proofs.lemmas.List.Sums.{fold-append}
 use Rattle.aig_circuit.specs.declared.circuit.TheConstants.{LARGEST}
-use Rattle.aig_rows.specs.Lines.{line}
 use Rattle.aig_rows.specs.Spelling.{is_digit, value_of}
-use Rattle.aig_step.specs.Stimulus.{text_of, without_return}
 use Rattle.aig_witness.specs.Witness.{Nothing, Property, Said, Shape, Steps, Version, Whole, begun_at, is_canonical}
 use Rattle.aig_witness.specs.Witness.{number_below, property_in, said_with, with_entry}
-use Rattle.aig_witness.specs.Parts.Witnessing.{digits_below, witness_room}
-use Rattle.aig_step.proofs.EntryTexts.{one_shorter, too_long_text}
+use Rattle.aig_witness.specs.Parts.Witnessing.{digits_below, longest_line}
+use Rattle.aig_step.proofs.EntryTexts.{too_long_text}
 use Rattle.aig_witness.proofs.WitnessValues.{no_first_state}
 use Rattle.aig_witness.proofs.Witnessing.{both as two}
 
@@ -121,8 +119,8 @@ other_text text word other =
     false_from_ne_true (bytes_eq text word) (λ e. other (ap length ((bytes_eq-Decides text word).0 e)))
 
 -- a text that is too long is not due, whichever line is
-long_due : (shape : Shape) (said : Said) (text : List ℕ) → shape.bad ≤ LARGEST
-    → max (max (length shape.resets) shape.inputs) 12 + 1 < length text → said_with shape said text ≡ None
+pub long_due : (shape : Shape) (said : Said) (text : List ℕ) → shape.bad ≤ LARGEST
+    → longest_line shape < length text → said_with shape said text ≡ None
 long_due shape Nothing text few long =
     ap (λ (b : Bool). if b then Some Version else None) (other_text text (codes "1") (omega (arith, long)))
 long_due shape Version text few long =
@@ -132,24 +130,3 @@ long_due shape (Property p) text few long =
 long_due shape (Steps claim) text few long =
     ap (option_map (with_entry claim)) (too_long_text shape.inputs text (omega (arith, long)))
 long_due shape (Whole claim) text few long = refl
-
-long_line : (shape : Shape) (said : Said) (text : List ℕ) (ended : Bool) → shape.bad ≤ LARGEST
-    → max (max (length shape.resets) shape.inputs) 12 + 2 < length text
-    → said_with shape said (text_of (line text ended)) ≡ None
-long_line shape said text true few long =
-    long_due shape said (without_return text) few (omega (arith, long, one_shorter text))
-long_line shape said text false few long = long_due shape said text few (omega (arith, long))
-
--- a line that is too long is as wrong as what is kept of it
-pub kept_due : (shape : Shape) (said : Said) (text : List ℕ) (ended : Bool) → shape.bad ≤ LARGEST
-    → said_with shape said (text_of (line (take (witness_room shape) text) ended))
-    ≡ said_with shape said (text_of (line text ended))
-kept_due shape said text ended few =
-    let most = max (max (length shape.resets) shape.inputs) 12 in
-    elim (cases_lt (most + 2) (length text)) [
-      | inl long ↦ long_line shape said (take (most + 3) text) ended few
-          (omega (arith, length-take-le (most + 3) text (omega (arith, long))))
-          ∙ sym (long_line shape said text ended few long)
-      | inr short ↦ ap (λ (t : List ℕ). said_with shape said (text_of (line t ended)))
-          (take_all (most + 3) text (omega (arith, short)))
-    ]

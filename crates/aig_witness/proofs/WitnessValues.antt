@@ -5,7 +5,6 @@ use Rattle.std.proofs.Common.{if◌then◌else◌}
 use Rattle.std.specs.List.{list_all}
 use Rattle.aig_circuit.specs.declared.circuit.Reset.{Reset}
 use Rattle.aig_circuit.specs.declared.value.Val.{Val}
-use Rattle.aig_circuit.specs.declared.value.Val.TheVariants.{X}
 use Rattle.aig_step.specs.Stimulus.{values_of}
 use Rattle.aig_witness.specs.Witness.{first_state_in, if_may_start, may_start_at, may_start_in}
 use Rattle.aig_step.proofs.EntryTexts.{values_length}

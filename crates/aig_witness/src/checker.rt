@@ -1,22 +1,24 @@
 //! Lines of a witness file, and the steps of a circuit for them.
 ghost use Rattle.std.specs.Prelude.{◌≡◌, ◌≢◌, ◌+◌, ◌-◌, ◌^◌, ◌<◌, ◌≤◌, IfOk, None, codes, false, length, map, true};
+ghost use Rattle.std.specs.Prelude.{if◌then◌else◌};
 ghost use Rattle.std.specs.List.{All};
 ghost use Rattle.std.specs.Str.{bytes_eq};
 ghost use Rattle.aig_circuit.specs.declared.circuit.TheConstants.{LARGEST};
 ghost use Rattle.aig_meaning.specs.Meaning.{MeansTheSame, literal_value};
 ghost use Rattle.aig_witness.specs.declared.checker.Due.TheVariants as due;
 ghost use Rattle.aig_step.specs.Stimulus.{entry_in};
-ghost use Rattle.aig_witness.specs.Witness.{Nothing, Said, first_state_in, property_in, said_with, shape_of};
+ghost use Rattle.aig_witness.specs.Witness.{Nothing, Said, first_state_in, property_in, shape_of};
 ghost use Rattle.aig_step.specs.Parts.Lines.{vector_in};
 ghost use Rattle.aig_step.specs.Parts.Tables.{IsLiteralBelow, read_from};
-ghost use Rattle.aig_witness.specs.Parts.Witnessing.{Stands, StepTaken, TookDue, TookEntry, TookFirstState};
-ghost use Rattle.aig_witness.specs.Parts.Witnessing.{TookProperty, are_ones, is_one, verdict_of, witness_room};
+ghost use Rattle.aig_witness.specs.Parts.Witnessing.{NotDue, Stands, StepTaken, TookDue, TookEntry, TookFirstState};
+ghost use Rattle.aig_witness.specs.Parts.Witnessing.{TookProperty, are_ones, is_one, longest_line, verdict_of};
 
 use crate::search::Search;
 use crate::verdict::Verdict;
 use crate::witness_line::{is_version, property_in, read_first_state};
 use aig_checked::Checked;
 use aig_circuit::{Circuit, Lit, OutOfMemory, Val};
+use aig_lines::LineTaker;
 use aig_step::{Code, Machine, Table, is_stop, show_next};
 use std::alloc::Global;
 use std::marker::Model;
@@ -134,23 +136,23 @@ impl Checker {
         Checker::with_room(alloc, machine)
     }
 
-    /// How many bytes of a line are to be kept, so that one that is too long is found bad.
-    pub(crate) fn room(&self) -> usize
-        ensures { result ≡ witness_room (shape_of self.now.circuit) }
+    /// How long a line may be: none that is due is longer.
+    pub(crate) fn longest_line(&self) -> usize
+        ensures is { result ≡ longest_line (shape_of self.now.circuit) }
+        ensures few { result < 2 ^ 62 }
     {
         let parts = self.machine.parts();
-        // That there are not too many inputs and latches to count a few more is known by this read.
+        // That there are not too many inputs and latches is known by this read.
         let _largest = parts.max_var;
         // A line that names a bad state has at most eleven bytes.
-        parts.latches.len().max(parts.inputs.len()).max(12) + 3
+        parts.latches.len().max(parts.inputs.len()).max(12)
     }
 
     /// Takes the first line, and answers whether it is good.
     fn take_version(&mut self, text: &[u8]) -> bool
         ensures is { result ≡ bytes_eq text.now (codes "1") }
         ensures leads { result ≡ true → self.new ≡ record self.old { due = due.Property } }
-        ensures circuit { self.new.circuit ≡ self.old.circuit }
-        ensures none { result ≡ false → self.new.search ≡ self.old.search }
+        ensures stays { result ≡ false → self.new ≡ self.old }
         ensures steps { self.new.search.steps ≡ self.old.search.steps }
     {
         if !is_version(text) {
@@ -164,8 +166,7 @@ impl Checker {
     fn take_property(&mut self, text: &[u8]) -> bool
         ensures good { result ≡ true → TookProperty self.old self.new text.now }
         ensures bad { result ≡ false → property_in (length self.old.circuit.bad) text.now ≡ None }
-        ensures circuit { self.new.circuit ≡ self.old.circuit }
-        ensures none { result ≡ false → self.new.search ≡ self.old.search }
+        ensures stays { result ≡ false → self.new ≡ self.old }
         ensures steps { self.new.search.steps ≡ self.old.search.steps }
     {
         let bad = self.machine.parts().bad.as_slice();
@@ -181,8 +182,7 @@ impl Checker {
     fn take_first_state(&mut self, text: &[u8]) -> bool
         ensures good { result ≡ true → TookFirstState self.old self.new text.now }
         ensures bad { result ≡ false → first_state_in (shape_of self.old.circuit).resets text.now ≡ None }
-        ensures circuit { self.new.circuit ≡ self.old.circuit }
-        ensures none { result ≡ false → self.new.search ≡ self.old.search }
+        ensures stays { result ≡ false → self.new ≡ record self.old { state = self.new.state } }
         ensures steps { self.new.search.steps ≡ self.old.search.steps }
     {
         let parts = self.machine.parts();
@@ -199,7 +199,6 @@ impl Checker {
         ensures good { result ≡ true → StepTaken self.old self.new text.now }
         ensures bad { result ≡ false → vector_in (length self.old.circuit.inputs) text.now ≡ None }
         ensures stays { result ≡ false → self.new ≡ self.old }
-        ensures circuit { self.new.circuit ≡ self.old.circuit }
         ensures steps { self.new.search.steps ≤ self.old.search.steps + 1 }
     {
         if !self
@@ -221,8 +220,7 @@ impl Checker {
         requires { self.old.search.steps < 2 ^ 64 - 1 }
         ensures good { result ≡ true → TookEntry self.old self.new text.now }
         ensures bad { result ≡ false → entry_in (length self.old.circuit.inputs) text.now ≡ None }
-        ensures circuit { self.new.circuit ≡ self.old.circuit }
-        ensures none { result ≡ false → self.new.search ≡ self.old.search }
+        ensures stays { result ≡ false → self.new ≡ self.old }
         ensures steps { self.new.search.steps ≤ self.old.search.steps + 1 }
     {
         if self.take_step(text) {
@@ -236,14 +234,12 @@ impl Checker {
     }
 
     /// Takes a line, and answers whether it is one that is due.
-    pub(crate) fn take_line(&mut self, text: &[u8]) -> bool
+    fn take_line(&mut self, text: &[u8]) -> bool
         requires { self.old.search.steps < 2 ^ 64 - 1 }
         ensures good { result ≡ true → (said : Said) → Stands self.old said → TookDue self.old self.new said text.now }
         ensures bad { result ≡ false → (said : Said) → Stands self.old said
-            → said_with (shape_of self.old.circuit) said text.now ≡ None }
-        ensures circuit { self.new.circuit ≡ self.old.circuit }
-        ensures none { result ≡ false → self.new.search ≡ self.old.search }
-        ensures steps { self.new.search.steps ≤ self.old.search.steps + 1 }
+            → NotDue self.old self.new said text.now }
+        ensures steps { self.new.search.steps ≤ self.old.search.steps + (if result then 1 else 0) }
     {
         match self.due {
             Due::Version => self.take_version(text),
@@ -267,5 +263,21 @@ impl Checker {
         ensures { result ≡ verdict_of self.now.search.found }
     {
         self.search.verdict()
+    }
+}
+
+impl LineTaker for Checker {
+    ghost use Rattle.aig_witness.specs.Parts.Witnessing.{HasHeard, Hearing, hear_line};
+
+    ghost State = { Hearing };
+
+    ghost step = { hear_line };
+
+    ghost IsAt = { HasHeard };
+
+    ghost counted = { λ c. c.search.steps };
+
+    fn take(&mut self, text: &[u8]) -> bool {
+        self.take_line(text)
     }
 }

@@ -3,8 +3,8 @@
 //! Others call `confirm`.
 //!
 //! Modules:
-//! - `witness_line`, `witness_reader`: what single lines say; bytes as they come.
-//! - `checker`, `search`: the steps for the lines; the first step that confirms the claim.
+//! - `witness_line`: what single lines say.
+//! - `checker`, `search`: the lines, and the steps for them; the first step that confirms the claim.
 //! - `verdict`, `witness`: what is found; `confirm`.
 //! - `laws`: facts about the definitions alone, each the contract of a function with an empty body.
 //!
@@ -20,7 +20,6 @@ mod search;
 mod verdict;
 mod witness;
 mod witness_line;
-mod witness_reader;
 
 pub use crate::verdict::Verdict;
 pub use crate::witness::confirm;

@@ -1,58 +1,47 @@
 //! A witness file, judged for a circuit.
-ghost use Rattle.std.specs.Prelude.{◌≡◌, ◌≢◌, ◌+◌, ◌-◌, ◌^◌, ◌<◌, [], ℕ, List, Err, IfErr, IfOk, OnOk};
-ghost use Rattle.aig_circuit.specs.declared.circuit.Circuit.{Circuit as CircuitRecord};
+ghost use Rattle.std.specs.Prelude.{◌≡◌, ◌≢◌, ◌+◌, ◌-◌, ◌^◌, ◌<◌, ◌≤◌, Err, IfErr, IfOk, OnOk, length};
+ghost use Rattle.aig_circuit.specs.declared.circuit.TheConstants.{LARGEST};
+ghost use Rattle.aig_lines.specs.Fed.{IsUnfed};
 ghost use Rattle.aig_step.specs.declared.fault.SimFault.TheVariants.{OutOfMemory};
-ghost use Rattle.aig_witness.specs.Confirming.{Judged, NotJudged};
 ghost use Rattle.aig_step.specs.Outcome.{source_failures};
-ghost use Rattle.aig_witness.specs.Parts.Witnessing.{Concluded, IsAtLine, NamesWrongLine};
+ghost use Rattle.aig_witness.specs.Confirming.{Judged, NotJudged};
+ghost use Rattle.aig_witness.specs.Witness.{Nothing, shape_of};
+ghost use Rattle.aig_witness.specs.Parts.Witnessing.{Stands, longest_line};
 
+use crate::checker::Checker;
 use crate::verdict::Verdict;
-use crate::witness_reader::WitnessReader;
 use aig_checked::Checked;
-use aig_io::{ROOM, Source};
+use aig_io::Source;
+use aig_lines::{LineFeeder, feed_source};
 use aig_step::SimFault;
 use std::alloc::Global;
 
-/// Takes the end of the bytes, and tells what they come to.
-fn conclude(reader: &mut WitnessReader) -> Result<Verdict, SimFault>
-    requires { reader.old.number < 2 ^ 64 - 1 }
-    ensures ok { IfOk result (λ verdict. (c : CircuitRecord) (bytes : List ℕ) → IsAtLine c bytes reader.old
-        → Concluded c bytes verdict) }
-    ensures err { IfErr result (λ e. (c : CircuitRecord) (bytes : List ℕ) → IsAtLine c bytes reader.old
-        → NamesWrongLine c bytes e) }
-    ensures kind { IfErr result (λ e. (e ≢ OutOfMemory) × (source_failures e ≡ 0)) }
-{
-    if !reader.take_end() {
-        return Err(SimFault::BadWitness(reader.number()));
-    }
-    Ok(reader.verdict())
-}
-
 /// Takes all bytes of the source, and tells what they come to.
-fn judge_all<R: Source>(reader: &mut WitnessReader, source: &mut R) -> Result<Verdict, SimFault>
-    requires number { reader.old.number ≡ 1 }
+fn judge_all<R: Source>(
+    feeder: &mut LineFeeder,
+    checker: &mut Checker,
+    source: &mut R,
+) -> Result<Verdict, SimFault>
+    requires unfed { IsUnfed feeder.old }
+    requires limit { feeder.old.limit ≡ longest_line (shape_of checker.old.circuit) }
+    requires begun { Stands checker.old Nothing }
+    requires few { length checker.old.circuit.bad ≤ LARGEST }
     requires source { R.failed source.old < 2 ^ 64 - 1 }
-    ensures ok { IfOk result (λ verdict. (c : CircuitRecord) → IsAtLine c [] reader.old
-        → Judged c verdict (R.coming source.old) (R.coming source.new)) }
-    ensures err { IfErr result (λ e. (c : CircuitRecord) → IsAtLine c [] reader.old
-        → NotJudged c e (R.coming source.old) (R.coming source.new)) }
+    ensures ok { IfOk result (λ verdict.
+        Judged checker.old.circuit verdict (R.coming source.old) (R.coming source.new)) }
+    ensures err { IfErr result (λ e. NotJudged checker.old.circuit e (R.coming source.old) (R.coming source.new)) }
     ensures kind { IfErr result (λ e. e ≢ OutOfMemory) }
     ensures ok_count { OnOk result (R.failed source.new ≡ R.failed source.old) }
     ensures count { IfErr result (λ e. R.failed source.new ≡ R.failed source.old + source_failures e) }
 {
-    let mut block = [0u8; ROOM];
-    loop {
-        let Ok(count) = source.fetch(&mut block) else {
-            return Err(SimFault::ReadFailed);
-        };
-        if count == 0 {
-            return conclude(reader);
-        }
-        let (chunk, _) = block.split_at(count);
-        if !reader.take_chunk(chunk) {
-            return Err(SimFault::BadWitness(reader.number()));
-        }
+    let Ok(good) = feed_source(feeder, checker, source) else {
+        return Err(SimFault::ReadFailed);
+    };
+    // Where a line is due behind the last, it is that which is missing.
+    if !good || !checker.is_whole() {
+        return Err(SimFault::BadWitness(feeder.number()));
     }
+    Ok(checker.verdict())
 }
 
 /// Reads a witness file, and tells whether the circuit's trace confirms what it claims: that a bad state is reached,
@@ -70,6 +59,7 @@ pub fn confirm<R: Source>(
     ensures ok_count { OnOk result (R.failed source.new ≡ R.failed source.old) }
     ensures count { IfErr result (λ error. R.failed source.new ≡ R.failed source.old + source_failures error) }
 {
-    let mut reader = WitnessReader::new(alloc, checked)?;
-    judge_all(&mut reader, source)
+    let mut checker = Checker::new(alloc, checked)?;
+    let mut feeder = LineFeeder::new(alloc, checker.longest_line())?;
+    judge_all(&mut feeder, &mut checker, source)
 }

@@ -16,12 +16,13 @@ use Rattle.aig_step.specs.Stimulus.{Entry, Step, Stop, Stimulus, before_rest, en
 use Rattle.aig_step.specs.Stimulus.{values_of, without_return}
 use Rattle.aig_step.specs.Parts.Lines.{vector_in}
 use Rattle.aig_batch.specs.Parts.RunsRead.{HasNoBadLine}
-use Rattle.aig_step.specs.Parts.Seen.{HasNoLineFeed}
+use Rattle.aig_lines.specs.Texts.{HasNoLineFeed}
 use Rattle.aig_step.specs.TraceText.{values_text}
 use Rattle.aig_step.proofs.LineValues.{values_back, vector_long, vector_says}
 use Rattle.aig_batch.proofs.Side.RunsRead.{text_in_front, text_shorter, vector_is}
 use Rattle.aig_trace.proofs.Taking.{none_feeds, none_returns}
-use Rattle.aig_step.proofs.WholeLines.{first_line, judged_before}
+use Rattle.aig_lines.proofs.LineBytes.{first_line}
+use Rattle.aig_step.proofs.WholeLines.{judged_before}
 
 judged_first : (bytes : List ℕ) (next : ℕ) → IsFirstByte (is_byte 10) bytes (Some next)
     → judged_lines bytes true ≡ line (take next bytes) true ∷ judged_lines (drop 1 (drop next bytes)) true

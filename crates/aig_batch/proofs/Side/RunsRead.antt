@@ -16,11 +16,11 @@ use Rattle.aig_step.specs.Parts.Lines.{vector_in}
 use Rattle.aig_batch.specs.Parts.RunsRead.{Says, entries_of_run}
 use Rattle.aig_step.specs.Parts.Seen.{IsHeard}
 use Rattle.aig_lanes.specs.Parts.Vectors.{AreVectors, said, vectors_in}
-use Rattle.aig_step.proofs.EntryTexts.{kept_first}
+use Rattle.aig_lines.proofs.LineBytes.{kept_first}
 use Rattle.aig_trace.proofs.Heard.{heard_line}
 use Rattle.aig_step.proofs.LineValues.{vector_long, vector_says}
 use Rattle.aig_lanes.proofs.Side.Vectors.{more_vectors, vectors_push}
-use Rattle.aig_step.proofs.WholeLines.{first_line}
+use Rattle.aig_lines.proofs.LineBytes.{first_line}
 
 -- lines behind lines
 pub says_then : (inputs : ℕ) (bytes mid rest : List ℕ) (m n : ℕ) (es fs : List Entry) → Says inputs bytes m es mid

@@ -1,5 +1,5 @@
--- How lines are read, kept and written. Only the simulator cites this.
-use Rattle.std.specs.Prelude.{◌++◌, ◌+◌, ◌≤◌, ◌==◌, ℕ, List, None, Option, length, map, take, if◌then◌else◌}
+-- How lines are read and written. Only the simulator cites this.
+use Rattle.std.specs.Prelude.{◌+◌, ◌≤◌, ◌==◌, ℕ, List, None, Option, length, map, if◌then◌else◌}
 use Rattle.aig_circuit.specs.declared.circuit.Circuit.{Circuit}
 use Rattle.aig_circuit.specs.declared.value.Val.{Val}
 use Rattle.aig_meaning.specs.Meaning.{IsRow, Row, literal_value, next_literals}
@@ -8,15 +8,6 @@ use Rattle.aig_step.specs.Stimulus.{values_of}
 -- the values that a text says, where there are so many inputs
 abbrev pub vector_in : ℕ → List ℕ → Option (List Val)
 vector_in inputs text = if length text == inputs then values_of text else None
-
--- the bytes that are kept, and how many there may be
-pub record Keeping : Type 0 where
-  pub bytes : List ℕ
-  pub room : ℕ
-
--- more bytes of a line came: as many are kept as there is room for
-abbrev pub keeping_more : Keeping → List ℕ → Keeping
-keeping_more k text = record k { bytes = take k.room (k.bytes ++ text) }
 
 -- the row that values show, with this state and these inputs
 abbrev pub row_read : Circuit → List Val → List Val → (ℕ → Val) → Row

@@ -1,13 +1,10 @@
 -- How bytes that came lie before a reader that takes a stimulus line by line. Only the simulator cites this.
-use Rattle.std.specs.Prelude.{◌≡◌, ◌≢◌, ◌++◌, ℕ, List, true, None, Some, length}
+use Rattle.std.specs.Prelude.{◌≡◌, ◌++◌, ℕ, List, true, None, Some, length}
 use Rattle.std.specs.List.{AllByRecursion}
 use Rattle.aig_rows.specs.Laws.{IsOneLine}
 use Rattle.aig_rows.specs.Lines.{Line, bytes_of}
+use Rattle.aig_lines.specs.Texts.{HasNoLineFeed}
 use Rattle.aig_step.specs.Stimulus.{Entry, Stimulus, lines_say}
-
--- no byte is a line feed
-abbrev pub HasNoLineFeed : List ℕ → Type 0
-HasNoLineFeed bytes = AllByRecursion (λ (b : ℕ). b ≢ 10) bytes
 
 -- the bytes are whole lines, each with its line feed, and the beginning of a line behind them
 pub record IsSeen (bytes : List ℕ) (whole : List Line) (rest : List ℕ) : Type 0 where

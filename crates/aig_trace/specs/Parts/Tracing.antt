@@ -8,7 +8,8 @@ use Rattle.aig_step.specs.declared.trace.Columns.{Columns}
 use Rattle.aig_step.specs.Stimulus.{Entry, entry_in, stimulus}
 use Rattle.aig_step.specs.TraceText.{IsTraceText}
 use Rattle.aig_step.specs.Outcome.{first_bad_line}
-use Rattle.aig_step.specs.Parts.Lines.{Keeping, vector_in}
+use Rattle.aig_lines.specs.Keeping.{Keeping}
+use Rattle.aig_step.specs.Parts.Lines.{vector_in}
 use Rattle.aig_trace.specs.Parts.Progress.{Does, Goes, Point, Steps, begin_of}
 use Rattle.aig_step.specs.Parts.Seen.{IsHeard, all_good}
 

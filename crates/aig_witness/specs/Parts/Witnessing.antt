@@ -1,29 +1,23 @@
 -- How far a witness file was judged. Only private functions cite this.
-use Rattle.std.specs.Prelude.{◌≡◌, ◌⊎◌, ◌+◌, ◌<◌, ◌≤◌, ◌&&◌, ◌++◌, ℕ, List, Bool, true, false, Option, None, Some, Ok}
-use Rattle.std.specs.Prelude.{is_none, length, map, max, nat_lt, slice_index_or, take, if◌then◌else◌}
-use Rattle.std.specs.Io.KnownBytes.{Consumes}
+use Rattle.std.specs.Prelude.{◌≡◌, ◌⊎◌, ◌+◌, ◌<◌, ◌&&◌, ℕ, List, Bool, true, false, Option, None, Some}
+use Rattle.std.specs.Prelude.{is_none, length, map, max, nat_lt, slice_index_or, if◌then◌else◌}
 use Rattle.std.specs.List.{All, list_all}
 use Rattle.aig_circuit.specs.declared.circuit.Circuit.{Circuit}
-use Rattle.aig_circuit.specs.declared.circuit.TheConstants.{LARGEST}
 use Rattle.aig_circuit.specs.declared.value.Val.{Val}
 use Rattle.aig_circuit.specs.declared.value.Val.TheVariants.{Zero, One, X}
 use Rattle.aig_meaning.specs.Meaning.{IsStepAssignment, Row, literal_value, next_literals}
 use Rattle.aig_meaning.specs.Trace.{IsTrace, state_after}
-use Rattle.aig_rows.specs.Lines.{Line}
+use Rattle.aig_lines.specs.Feeding.{Turn, turn}
 use Rattle.aig_rows.specs.Spelling.{is_digit, value_of as number_of}
 use Rattle.aig_witness.specs.declared.checker.Due.{Due}
 use Rattle.aig_witness.specs.declared.checker.Due.TheVariants as due
-use Rattle.aig_step.specs.declared.fault.SimFault.{SimFault}
-use Rattle.aig_step.specs.declared.fault.SimFault.TheVariants as faults
 use Rattle.aig_witness.specs.declared.search.Search.{Search}
 use Rattle.aig_witness.specs.declared.verdict.Verdict.{Verdict}
 use Rattle.aig_witness.specs.declared.verdict.Verdict.TheVariants.{Confirmed, NotConfirmed}
-use Rattle.aig_witness.specs.Witness.{Claim, Holds, IsVerdict, IsVerdictOf, Nothing, Property, Said, SaysClaim, Shape}
+use Rattle.aig_witness.specs.Witness.{Claim, Holds, IsVerdictOf, Nothing, Property, Said, Shape, Steps, Version, Whole}
+use Rattle.aig_witness.specs.Witness.{first_state_in, property_in, said_with, shape_of}
 use Rattle.aig_step.specs.Stimulus.{Stop, entry_in}
-use Rattle.aig_witness.specs.Witness.{Steps, Version, Whole, first_bad_witness_line, first_state_in, property_in, said_by}
-use Rattle.aig_witness.specs.Witness.{said_with, shape_of}
-use Rattle.aig_step.specs.Parts.Lines.{Keeping, vector_in}
-use Rattle.aig_step.specs.Parts.Seen.{IsSeen}
+use Rattle.aig_step.specs.Parts.Lines.{vector_in}
 
 abbrev pub is_one : Val → Bool
 is_one One = true
@@ -135,65 +129,33 @@ pub record TookDue (before after : Witnessing) (said : Said) (text : List ℕ) :
   pub stands : Stands after next
   pub circuit : after.circuit ≡ before.circuit
 
--- So many whole lines came and the beginning of one behind them, and the whole ones say this: none is wrong.
-pub record IsHeardAs (shape : Shape) (bytes : List ℕ) (count : ℕ) (rest : List ℕ) (said : Said) : Type 0 where
-  pub whole : List Line
-  pub seen : IsSeen bytes whole rest
-  pub counted : count ≡ length whole
-  pub led : said_by shape 1 Nothing whole ≡ Ok said
+-- a line of this text is not due, behind what was said before, and that still stands
+pub record NotDue (before after : Witnessing) (said : Said) (text : List ℕ) : Type 0 where
+  pub none : said_with (shape_of before.circuit) said text ≡ None
+  pub stands : Stands after said
+  pub circuit : after.circuit ≡ before.circuit
 
--- how many bytes of a line are kept: more than any line has that is due
-abbrev pub witness_room : Shape → ℕ
-witness_room shape = max (max (length shape.resets) shape.inputs) 12 + 3
+-- how long a line may be: none that is due is longer
+abbrev pub longest_line : Shape → ℕ
+longest_line shape = max (max (length shape.resets) shape.inputs) 12
 
--- what takes the bytes of a witness file: what judges its lines, what is kept of the line that has not ended, and the
--- number of that line
-pub record WitnessReading : Type 0 where
-  pub checking : Witnessing
-  pub kept : Keeping
-  pub number : ℕ
-
--- The bytes that came lie before a reader so: whole lines, none of them wrong, led to where it stands, and it keeps the
--- beginning of the line behind them.
-pub record IsAtLine (c : Circuit) (bytes : List ℕ) (at : WitnessReading) : Type 0 where
-  pub same : at.checking.circuit ≡ c
-  pub few : length c.bad ≤ LARGEST
-  pub lines : ℕ
-  pub rest : List ℕ
+-- the circuit, and what the lines so far say
+pub record Hearing : Type 0 where
+  pub circuit : Circuit
   pub said : Said
-  pub heard : IsHeardAs (shape_of c) bytes lines rest said
-  pub number : at.number ≡ lines + 1
-  pub kept : at.kept.bytes ≡ take (witness_room (shape_of c)) rest
-  pub stands : Stands at.checking said
 
--- of a chunk of bytes all but the rest was taken
-pub record PassedLines (c : Circuit) (bytes chunk rest : List ℕ) (at : WitnessReading) : Type 0 where
-  pub passed : List ℕ
-  pub parted : chunk ≡ passed ++ rest
-  pub stands : IsAtLine c (bytes ++ passed) at
+abbrev pub hearing : Circuit → Said → Hearing
+hearing c said = record { circuit = c; said = said }
 
--- The bytes have ended, and are a witness file, whose claim was followed.
-pub record HasFollowed (c : Circuit) (bytes : List ℕ) (after : Witnessing) : Type 0 where
-  pub claim : Claim
-  pub says : SaysClaim c bytes claim
-  pub none_bad : first_bad_witness_line c bytes true ≡ None
-  pub same : after.circuit ≡ c
-  pub follows : Follows after claim
+-- with what is said then, if anything is
+abbrev pub said_turn : Circuit → Said → Option Said → Turn Hearing
+said_turn c said None = turn (hearing c said) false
+said_turn c said (Some next) = turn (hearing c next) true
 
--- The bytes have ended, and are a witness file; this is the verdict on it.
-pub record Concluded (c : Circuit) (bytes : List ℕ) (verdict : Verdict) : Type 0 where
-  pub claim : Claim
-  pub says : SaysClaim c bytes claim
-  pub none_bad : first_bad_witness_line c bytes true ≡ None
-  pub is_verdict : IsVerdict c claim verdict
+-- what one more line of this text comes to
+abbrev pub hear_line : Hearing → List ℕ → Turn Hearing
+hear_line h text = said_turn h.circuit h.said (said_with (shape_of h.circuit) h.said text)
 
--- The error names the first wrong line.
-abbrev pub NamesWrongLine : Circuit → List ℕ → SimFault → Type 0
-NamesWrongLine c bytes (faults.BadWitness number) = first_bad_witness_line c bytes true ≡ Some number
-NamesWrongLine c bytes _ = ⊥
-
--- bytes came, and lie before a reader
-pub record ReachedLine (c : Circuit) (at : WitnessReading) (coming left : Option (List ℕ)) : Type 0 where
-  pub bytes : List ℕ
-  pub gave : Consumes coming left bytes
-  pub stands : IsAtLine c bytes at
+-- what judges lines stands where this was said
+abbrev pub HasHeard : Witnessing → Hearing → Type 0
+HasHeard w h = (w.circuit ≡ h.circuit) × Stands w h.said

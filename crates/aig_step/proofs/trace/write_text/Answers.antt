@@ -2,7 +2,7 @@ use Rattle.std.proofs.Common.{◌≡◌, ◌+◌, ◌-◌, ◌++◌, ◌∷◌, 
 use Rattle.std.proofs.Common.{length-set}
 use borrow.Rule.Slice.PartMut.{put_mid}
 use Rattle.std.proofs.lemmas.List.{length-take-le, take_more_set}
-use Rattle.aig_step.proofs.LineBytes.{stands}
+use Rattle.aig_lines.proofs.LineBytes.{stands}
 use Rattle.aig_step.proofs.trace.write_text.Goals as goal
 
 pub returns-clause-text : goal.returns-clause-text

@@ -1,5 +1,5 @@
 use Rattle.std.proofs.Common.{refl, ap, ◌∙◌}
-use Rattle.aig_step.specs.Parts.Lines.{Keeping}
+use Rattle.aig_lines.specs.Keeping.{Keeping}
 use Rattle.aig_trace.proofs.Taking.{at_begin, begin_same}
 use Rattle.aig_trace.proofs.reader.Reader.new.Goals as goal
 

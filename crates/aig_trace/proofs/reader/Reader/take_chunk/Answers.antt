@@ -1,10 +1,10 @@
 use Rattle.std.proofs.Common.{◌≡◌, ◌∙◌, ◌+◌, ◌++◌, ◌∷◌, ℕ, List, drop, ap, sym, subst, arith}
-use Rattle.aig_step.specs.Parts.Lines.{Keeping}
-use Rattle.aig_step.specs.Parts.Seen.{HasNoLineFeed}
+use Rattle.aig_lines.specs.Keeping.{Keeping}
+use Rattle.aig_lines.specs.Texts.{HasNoLineFeed}
 use Rattle.aig_trace.specs.Parts.Tracing.{Reading}
 use Rattle.aig_trace.proofs.Taking.{advanced_as, passed_as, passed_bad, passed_line, passed_none, passed_over}
 use Rattle.aig_trace.proofs.Taking.{passed_rest, some_none, some_twice}
-use Rattle.aig_step.proofs.WholeLines.{first_line, no_line}
+use Rattle.aig_lines.proofs.LineBytes.{first_line, no_line}
 use Rattle.aig_trace.proofs.reader.Reader.take_chunk.Goals as goal
 
 pub loop-at-init : goal.loop-at-init

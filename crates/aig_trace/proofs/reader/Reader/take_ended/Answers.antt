@@ -1,6 +1,6 @@
 use Rattle.std.proofs.Common.{◌≡◌, ◌∙◌, ◌+◌, ℕ, length, ap, sym, subst}
 use Rattle.aig_step.specs.Stimulus.{entry_in, without_return}
-use Rattle.aig_step.specs.Parts.Lines.{Keeping, keeping_more}
+use Rattle.aig_lines.specs.Keeping.{Keeping, keeping_more}
 use Rattle.aig_trace.specs.Parts.Tracing.{IsAt, Reading}
 use Rattle.aig_trace.proofs.Taking.{kept_line, took_bad, took_good, whole_line}
 use Rattle.aig_step.proofs.Coming.{no_bytes}

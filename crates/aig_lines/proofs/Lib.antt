@@ -1,0 +1,4 @@
+pub mod LineBytes
+pub mod Feeds
+pub mod Tells
+pub mod Sources

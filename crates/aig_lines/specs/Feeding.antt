@@ -1,0 +1,85 @@
+-- What becomes of the lines of a text, and of bytes that come in pieces: two functions, `told` and `fed`. One law says
+-- that they are one.
+use Rattle.std.specs.Prelude.{◌+◌, ◌==◌, ◌++◌, ℕ, suc, List, [], ◌∷◌, Bool, true, false, not, fold, if◌then◌else◌, length}
+use Rattle.std.specs.Prelude.{nat_le}
+use Rattle.aig_rows.specs.Lines.{Line}
+use Rattle.aig_lines.specs.Texts.{text_of, without_return}
+
+-- what a taker of lines is after a line, and whether it goes on
+pub record Turn (S : Type 0) : Type 0 where
+  pub state : S
+  pub goes_on : Bool
+
+abbrev pub turn : {S : Type 0} → S → Bool → Turn S
+turn s goes_on = record { state = s; goes_on = goes_on }
+
+-- a line of this text: one that is longer than the limit is refused, and the taker does not see it
+abbrev pub heard : {S : Type 0} → (S → List ℕ → Turn S) → ℕ → S → List ℕ → Turn S
+heard step limit s text = if nat_le (length text) limit then step s text else turn s false
+
+-- what the lines of a text come to: the taker behind them, the number of the line that was refused or else of the line
+-- that would be next, and whether one was refused
+pub record Told (S : Type 0) : Type 0 where
+  pub state : S
+  pub number : ℕ
+  pub refused : Bool
+
+abbrev pub told_to : {S : Type 0} → S → ℕ → Bool → Told S
+told_to s number refused = record { state = s; number = number; refused = refused }
+
+-- the lines, the first of which has this number, up to the first that is refused
+abbrev pub told : {S : Type 0} → (S → List ℕ → Turn S) → ℕ → S → ℕ → List Line → Told S
+told step limit s number [] = told_to s number false
+told step limit s number (l ∷ ls) =
+    let t = heard step limit s (text_of l) in
+    if t.goes_on then told step limit t.state (suc number) ls else told_to t.state number true
+
+-- how far bytes were fed: how long a line may be, the taker, the beginning of the line that has not ended, its number,
+-- and whether a line was refused; then the number is of that
+pub record Feeding (S : Type 0) : Type 0 where
+  pub limit : ℕ
+  pub state : S
+  pub begun : List ℕ
+  pub number : ℕ
+  pub refused : Bool
+
+-- before the first byte
+abbrev pub feeding : {S : Type 0} → ℕ → S → Feeding S
+feeding limit s = record { limit = limit; state = s; begun = []; number = 1; refused = false }
+
+-- behind a line
+abbrev pub behind_line : {S : Type 0} → Feeding S → Turn S → Feeding S
+behind_line f t = record {
+  limit = f.limit;
+  state = t.state;
+  begun = [];
+  number = if t.goes_on then f.number + 1 else f.number;
+  refused = not t.goes_on;
+}
+
+-- a line of this text has ended
+abbrev pub line_ended : {S : Type 0} → (S → List ℕ → Turn S) → Feeding S → List ℕ → Feeding S
+line_ended step f text = behind_line f (heard step f.limit f.state text)
+
+-- one more byte
+unfoldable pub fed_byte : {S : Type 0} → (S → List ℕ → Turn S) → Feeding S → ℕ → Feeding S
+fed_byte step f b =
+    if f.refused then f
+    else if b == 10 then line_ended step f (without_return f.begun)
+    else record f { begun = f.begun ++ b ∷ [] }
+
+-- more bytes
+abbrev pub fed : {S : Type 0} → (S → List ℕ → Turn S) → Feeding S → List ℕ → Feeding S
+fed step f bytes = fold (fed_byte step) f bytes
+
+-- the end of the bytes: a last line without a line feed has ended
+abbrev pub ended : {S : Type 0} → (S → List ℕ → Turn S) → Feeding S → Feeding S
+ended step f = if f.refused then f else if length f.begun == 0 then f else line_ended step f f.begun
+
+-- the same where the bytes that came are all, and nothing where they are not
+abbrev pub ended_if : {S : Type 0} → (S → List ℕ → Turn S) → Bool → Feeding S → Feeding S
+ended_if step over f = if over then ended step f else f
+
+-- what was told of the lines so far
+abbrev pub outcome : {S : Type 0} → Feeding S → Told S
+outcome f = told_to f.state f.number f.refused

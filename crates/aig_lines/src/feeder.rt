@@ -1,0 +1,211 @@
+//! Bytes that come in pieces, handed on line by line.
+ghost use Rattle.std.specs.Prelude.{◌≡◌, ◌+◌, ◌-◌, ◌^◌, ◌<◌, ◌≤◌, ◌++◌, [], IfOk, length, not, if◌then◌else◌};
+ghost use Rattle.aig_lines.specs.Fed.{IsFed, IsUnfed};
+ghost use Rattle.aig_lines.specs.Feeding.{Feeding, ended, fed, heard, line_ended};
+ghost use Rattle.aig_lines.specs.Texts.{without_return};
+
+use crate::partial_line::PartialLine;
+use crate::text::without_return;
+use memchr::memchr;
+use std::alloc::{AllocError, Global};
+use std::marker::Model;
+
+/// What takes the lines of a text.
+pub trait LineTaker {
+    ghost use Rattle.std.specs.Prelude.{◌≡◌, ◌+◌, ◌-◌, ◌^◌, ◌<◌, ◌≤◌, ℕ, List, if◌then◌else◌};
+    ghost use Rattle.aig_lines.specs.Feeding.{Turn};
+
+    /// What it comes to, as a value.
+    ghost State: { Type 0 };
+
+    /// What a line of this text does to it.
+    ghost step: { Self.State → List ℕ → Turn Self.State };
+
+    /// It stands there.
+    ghost IsAt: { Self → Self.State → Type 0 };
+
+    /// How many lines it has counted, if it counts them.
+    ghost counted: { Self → ℕ } = { λ _. 0 };
+
+    /// Takes a line of this text, and answers whether it goes on.
+    fn take(&mut self, text: &[u8]) -> bool
+        requires { counted self.old < 2 ^ 64 - 1 }
+        ensures at { (s : Self.State) → Self.IsAt self.old s → Self.IsAt self.new (Self.step s text.now).state }
+        ensures goes { (s : Self.State) → Self.IsAt self.old s → result ≡ (Self.step s text.now).goes_on }
+        ensures counted { counted self.new ≤ counted self.old + (if result then 1 else 0) };
+}
+
+/// Takes bytes in pieces of any length, and hands their lines on. After a line that is refused it takes nothing more.
+#[derive(Drop)]
+pub struct LineFeeder {
+    /// The beginning of the line that has not ended yet.
+    kept: PartialLine,
+    /// How long a line may be. Two bytes more, of which one may be a carriage return, show that it is too long.
+    limit: usize,
+    /// The number of that line, counted from 1; after a refusal the number of the line that was refused.
+    number: u64,
+    refused: bool,
+}
+
+impl Model for LineFeeder {
+    ghost use Rattle.aig_lines.specs.Fed.{Feeder};
+
+    ghost Value = { Feeder };
+
+    ghost view = { λ f. record {
+      kept = f.kept;
+      limit = f.limit;
+      number = f.number;
+      refused = f.refused;
+    } };
+}
+
+/// Hands a line on, unless it is too long.
+#[inline(always)]
+fn hand_on<T: LineTaker>(taker: &mut T, limit: usize, text: &[u8]) -> bool
+    requires { T.counted taker.old < 2 ^ 64 - 1 }
+    ensures at { (s : T.State) → T.IsAt taker.old s
+        → T.IsAt taker.new (heard T.step limit s text.now).state }
+    ensures goes { (s : T.State) → T.IsAt taker.old s → result ≡ (heard T.step limit s text.now).goes_on }
+    ensures counted { T.counted taker.new ≤ T.counted taker.old + (if result then 1 else 0) }
+{
+    text.len() <= limit && taker.take(text)
+}
+
+impl LineFeeder {
+    /// It stands before the first byte, and hands on lines of at most so many bytes.
+    pub fn new(alloc: Global, limit: usize) -> Result<Self, AllocError>
+        requires { limit < 2 ^ 62 }
+        ensures limit { IfOk result (λ f. f.limit ≡ limit) }
+        ensures unfed { IfOk result (λ f. IsUnfed f) }
+    {
+        Ok(LineFeeder {
+            kept: PartialLine::new(alloc, limit + 2)?,
+            limit,
+            number: 1,
+            refused: false,
+        })
+    }
+
+    /// The number of the line that has not ended yet, counted from 1; after a refusal of the line that was refused.
+    pub fn number(&self) -> u64
+        ensures { result ≡ self.now.number }
+    {
+        self.number
+    }
+
+    /// Goes on behind a line, which was taken or not.
+    #[inline(always)]
+    fn turn(&mut self, good: bool) -> bool
+        requires { self.old.number < 2 ^ 64 - 1 }
+        ensures kept { self.new.kept ≡ record self.old.kept { bytes = [] } }
+        ensures limit { self.new.limit ≡ self.old.limit }
+        ensures number { self.new.number ≡ (if good then self.old.number + 1 else self.old.number) }
+        ensures refused { self.new.refused ≡ not good }
+        ensures result { result ≡ good }
+    {
+        self.kept.clear();
+        if good {
+            self.number += 1;
+        }
+        self.refused = !good;
+        good
+    }
+
+    /// Takes a line that lies whole before its line feed.
+    #[inline(always)]
+    #[tactic(auto, using(crate::proofs::Feeds::not_begun))]
+    fn take_whole<T: LineTaker>(&mut self, taker: &mut T, piece: &[u8]) -> bool
+        requires number { self.old.number < 2 ^ 64 - 1 }
+        requires counted { T.counted taker.old ≤ self.old.number }
+        requires empty { self.old.kept.bytes ≡ [] }
+        ensures fed { (at : Feeding T.State) → IsFed T.IsAt self.old taker.old at
+            → IsFed T.IsAt self.new taker.new (line_ended T.step at (without_return (at.begun ++ piece.now))) }
+        ensures number { self.new.number ≤ self.old.number + 1 }
+        ensures counted { T.counted taker.new ≤ self.new.number }
+        ensures result { result ≡ not self.new.refused }
+    {
+        let good = hand_on(taker, self.limit, without_return(piece));
+        self.turn(good)
+    }
+
+    /// Takes the rest of a line, of which the beginning was kept.
+    #[tactic(auto, using(crate::proofs::Feeds::heard_joined))]
+    fn take_kept<T: LineTaker>(&mut self, taker: &mut T, piece: &[u8]) -> bool
+        requires number { self.old.number < 2 ^ 64 - 1 }
+        requires counted { T.counted taker.old ≤ self.old.number }
+        ensures fed { (at : Feeding T.State) → IsFed T.IsAt self.old taker.old at
+            → IsFed T.IsAt self.new taker.new (line_ended T.step at (without_return (at.begun ++ piece.now))) }
+        ensures number { self.new.number ≤ self.old.number + 1 }
+        ensures counted { T.counted taker.new ≤ self.new.number }
+        ensures result { result ≡ not self.new.refused }
+    {
+        self.kept.keep(piece);
+        let good = hand_on(taker, self.limit, without_return(self.kept.as_slice()));
+        self.turn(good)
+    }
+
+    /// Takes the rest of a line up to its line feed, and answers whether the line was taken.
+    #[inline(always)]
+    fn take_ended<T: LineTaker>(&mut self, taker: &mut T, piece: &[u8]) -> bool
+        requires number { self.old.number < 2 ^ 64 - 1 }
+        requires counted { T.counted taker.old ≤ self.old.number }
+        ensures fed { (at : Feeding T.State) → IsFed T.IsAt self.old taker.old at
+            → IsFed T.IsAt self.new taker.new (line_ended T.step at (without_return (at.begun ++ piece.now))) }
+        ensures number { self.new.number ≤ self.old.number + 1 }
+        ensures counted { T.counted taker.new ≤ self.new.number }
+        ensures result { result ≡ not self.new.refused }
+    {
+        if self.kept.is_empty() {
+            return self.take_whole(taker, piece);
+        }
+        self.take_kept(taker, piece)
+    }
+
+    /// Takes the bytes that came next, and answers whether no line was refused.
+    pub fn feed<T: LineTaker>(&mut self, taker: &mut T, chunk: &[u8]) -> bool
+        requires number { self.old.number + length chunk.now < 2 ^ 64 }
+        requires counted { T.counted taker.old ≤ self.old.number }
+        ensures fed { (at : Feeding T.State) → IsFed T.IsAt self.old taker.old at
+            → IsFed T.IsAt self.new taker.new (fed T.step at chunk.now) }
+        ensures number { self.new.number ≤ self.old.number + length chunk.now }
+        ensures counted { T.counted taker.new ≤ self.new.number }
+        ensures result { result ≡ not self.new.refused }
+    {
+        if self.refused {
+            return false;
+        }
+        let mut rest = chunk;
+        while let Some(at) = memchr(b'\n', rest) {
+            let (piece, more) = rest.split_at(at);
+            if !self.take_ended(taker, piece) {
+                return false;
+            }
+            let (_, more) = more.split_at(1);
+            rest = more;
+        }
+        self.kept.keep(rest);
+        true
+    }
+
+    /// Takes the end of the bytes: a last line without its line feed, where there is one. Answers whether no line was
+    /// refused.
+    pub fn end<T: LineTaker>(&mut self, taker: &mut T) -> bool
+        requires number { self.old.number < 2 ^ 64 - 1 }
+        requires counted { T.counted taker.old ≤ self.old.number }
+        ensures fed { (at : Feeding T.State) → IsFed T.IsAt self.old taker.old at
+            → IsFed T.IsAt self.new taker.new (ended T.step at) }
+        ensures number { self.new.number ≤ self.old.number + 1 }
+        ensures counted { T.counted taker.new ≤ self.new.number }
+        ensures result { result ≡ not self.new.refused }
+    {
+        if self.refused {
+            return false;
+        }
+        if self.kept.is_empty() {
+            return true;
+        }
+        let good = hand_on(taker, self.limit, self.kept.as_slice());
+        self.turn(good)
+    }
+}

@@ -1,0 +1,19 @@
+//! Laws: facts about the definitions alone, each the contract of a function with an empty body.
+ghost use Rattle.std.specs.Prelude.{◌≡◌, ◌++◌, ℕ, Bool, List};
+ghost use Rattle.aig_lines.specs.Feeding.{Feeding, ended_if, fed, feeding, outcome, told};
+ghost use Rattle.aig_lines.specs.Texts.{judged_lines};
+
+use crate::feeder::LineTaker;
+
+/// It makes no difference where bytes are cut.
+pub fn fed_in_pieces<T: LineTaker>()
+    ensures { (f : Feeding T.State) (a b : List ℕ) → fed T.step f (a ++ b) ≡ fed T.step (fed T.step f a) b }
+{}
+
+/// To feed bytes is to tell their lines, up to the first that is refused: all where the bytes are over, and else the
+/// whole ones.
+pub fn fed_is_told<T: LineTaker>()
+    ensures { (limit : ℕ) (s : T.State) (bytes : List ℕ) (over : Bool)
+        → outcome (ended_if T.step over (fed T.step (feeding limit s) bytes))
+        ≡ told T.step limit s 1 (judged_lines bytes over) }
+{}
