@@ -127,5 +127,7 @@ pub fn simulate<R: Source, W: Sink>(
     ensures short { W.longest sink.new ≤ max (W.longest sink.old) ROOM }
 {
     let mut reader = Reader::new(alloc, checked, columns)?;
-    trace_all(&mut reader, source, sink)
+    let traced = trace_all(&mut reader, source, sink);
+    drop(reader);
+    traced
 }
