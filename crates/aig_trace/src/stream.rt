@@ -6,7 +6,7 @@ ghost use Rattle.aig_io.specs.declared.block.TheConstants.{ROOM};
 ghost use Rattle.aig_step.specs.declared.fault.SimFault.TheVariants.{OutOfMemory};
 ghost use Rattle.aig_step.specs.declared.trace.Columns.{Columns as ColumnsAsked};
 ghost use Rattle.aig_step.specs.Outcome.{NotSimulated, Simulated, sink_failures, source_failures};
-ghost use Rattle.aig_trace.specs.Parts.Streaming.{IsOfLines, NotSent, SentAll, SentLines};
+ghost use Rattle.aig_trace.specs.Parts.Streaming.{IsOfLines, NotSent, SentAll, SentLines, ended_so};
 ghost use Rattle.aig_trace.specs.Parts.Tracing.{IsAt};
 
 use crate::gathered::Gathered;
@@ -15,6 +15,20 @@ use aig_checked::Checked;
 use aig_io::{ROOM, Sink, Source};
 use aig_step::{Columns, SimFault};
 use std::alloc::Global;
+
+/// How lines end that were taken: the text for them was not sent, or the line of this number is bad, or neither.
+fn ended(failed: bool, good: bool, number: u64) -> Result<(), SimFault>
+    ensures so { result ≡ ended_so failed good number }
+    ensures kind { IfErr result IsOfLines }
+{
+    if failed {
+        return Err(SimFault::WriteFailed);
+    }
+    if !good {
+        return Err(SimFault::BadStimulus(number));
+    }
+    Ok(())
+}
 
 /// Takes the bytes that came next, and sends the text for the lines that ended among them.
 fn trace_chunk<W: Sink>(reader: &mut Reader, sink: &mut W, chunk: &[u8]) -> Result<(), SimFault>
@@ -35,13 +49,7 @@ fn trace_chunk<W: Sink>(reader: &mut Reader, sink: &mut W, chunk: &[u8]) -> Resu
     let mut output = Gathered::new(sink);
     let good = reader.take_chunk(&mut output, chunk);
     let (sent, _sink) = output.finish();
-    if sent.is_err() {
-        return Err(SimFault::WriteFailed);
-    }
-    if !good {
-        return Err(SimFault::BadStimulus(reader.number()));
-    }
-    Ok(())
+    ended(sent.is_err(), good, reader.number())
 }
 
 /// Takes the end of the bytes, and sends the text for it.
@@ -61,13 +69,7 @@ fn trace_end<W: Sink>(reader: &mut Reader, sink: &mut W) -> Result<(), SimFault>
     let mut output = Gathered::new(sink);
     let good = reader.take_end(&mut output);
     let (sent, _sink) = output.finish();
-    if sent.is_err() {
-        return Err(SimFault::WriteFailed);
-    }
-    if !good {
-        return Err(SimFault::BadStimulus(reader.number()));
-    }
-    Ok(())
+    ended(sent.is_err(), good, reader.number())
 }
 
 /// Takes all bytes of the source, and sends the text for them.
@@ -128,5 +130,7 @@ pub fn simulate<R: Source, W: Sink>(
     ensures short { W.longest sink.new ≤ max (W.longest sink.old) ROOM }
 {
     let mut reader = Reader::new(alloc, checked, columns)?;
-    trace_all(&mut reader, source, sink)
+    let traced = trace_all(&mut reader, source, sink);
+    drop(reader);
+    traced
 }

@@ -91,7 +91,10 @@ impl Tracer {
         requires { HasLineRoom machine room }
         ensures { IfOk result (λ t. (t.circuit ≡ machine) × (t.columns ≡ columns)) }
     {
-        let (values, state, line) = make_room(alloc, machine.parts(), room)?;
+        let Ok((values, state, line)) = make_room(alloc, machine.parts(), room) else {
+            drop(machine);
+            return Err(OutOfMemory);
+        };
         Ok(Tracer {
             machine,
             values,

@@ -1,5 +1,5 @@
 -- What came of bytes and of the text for them. Only the simulator cites this.
-use Rattle.std.specs.Prelude.{◌≡◌, ◌≢◌, ◌++◌, ℕ, List, [], Bool, true, Option, None, Some}
+use Rattle.std.specs.Prelude.{◌≡◌, ◌≢◌, ◌++◌, ℕ, List, [], Bool, false, true, Option, None, Some, Result, Err, Ok}
 use Rattle.std.specs.Io.KnownBytes.{Appends, Consumes}
 use Rattle.aig_circuit.specs.declared.circuit.Circuit.{Circuit}
 use Rattle.aig_io.specs.Transfer.{TookBeginning}
@@ -53,6 +53,12 @@ pub record Reached (c : Circuit) (columns : Columns) (at : Reading) (coming left
 -- the error is of the sink or of a line
 abbrev pub IsOfLines : SimFault → Type 0
 IsOfLines fault = (fault ≢ OutOfMemory) × (source_failures fault ≡ 0)
+
+-- how lines end that were taken, where the text for them was not sent, or the line of a number is bad, or neither
+abbrev pub ended_so : (failed good : Bool) → ℕ → Result (Unit {0}) SimFault
+ended_so true good number = Err WriteFailed
+ended_so false true number = Ok tt
+ended_so false false number = Err (BadStimulus number)
 
 -- what an error says that comes while bytes are taken
 abbrev pub NotSent : Circuit → Columns → List ℕ → Bool → List ℕ → SimFault → (taken filled : Option (List ℕ)) → Type 0
