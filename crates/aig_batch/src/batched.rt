@@ -29,7 +29,6 @@ use std::alloc::Global;
 fn put_groups<W: Sink>(
     output: &mut Gathered<W>,
     machine: &Machine,
-    columns: Columns,
     groups: &[RunGroup],
     bench: &mut Bench,
 )
@@ -38,10 +37,10 @@ fn put_groups<W: Sink>(
     requires is { IsBench machine.now bench.old }
     requires counts { All (All (Fits machine.now)) groups.now }
     requires room { All (HasRoomFor bench.old) groups.now }
-    ensures { PutRuns machine.now columns groups.now output.old output.new }
+    ensures { PutRuns machine.now bench.old.shown.columns groups.now output.old output.new }
 {
     for group in groups {
-        bench.run(machine, columns, group.as_slice(), output);
+        bench.run(machine, group.as_slice(), output);
     }
 }
 
@@ -50,7 +49,6 @@ fn trace_good<W: Sink>(
     reader: &mut Reader,
     sink: &mut W,
     machine: &Machine,
-    columns: Columns,
     groups: &[RunGroup],
     bench: &mut Bench,
     lines: usize,
@@ -64,22 +62,23 @@ fn trace_good<W: Sink>(
     requires is { IsBench machine.now bench.old }
     requires counts { All (All (Fits machine.now)) groups.now }
     requires room { All (HasRoomFor bench.old) groups.now }
-    ensures ok { OnOk result ((c : CircuitRecord) (bytes : List ℕ) → IsFresh c columns reader.old
+    ensures ok { OnOk result ((c : CircuitRecord) (bytes : List ℕ) → IsFresh c bench.old.shown.columns reader.old
         → MeansTheSame c machine.now
         → Says (length c.inputs) bytes lines (entries_of_groups groups.now) rest.now
-        → first_bad_line c bytes true ≡ None → SentAll c columns bytes [] (W.taken sink.old) (W.taken sink.new)) }
-    ensures err { IfErr result (λ e. (c : CircuitRecord) (bytes : List ℕ) → IsFresh c columns reader.old
+        → first_bad_line c bytes true ≡ None → SentAll c bench.old.shown.columns bytes [] (W.taken sink.old)
+        (W.taken sink.new)) }
+    ensures err { IfErr result (λ e. (c : CircuitRecord) (bytes : List ℕ) → IsFresh c bench.old.shown.columns reader.old
         → MeansTheSame c machine.now
         → Says (length c.inputs) bytes lines (entries_of_groups groups.now) rest.now
         → first_bad_line c bytes true ≡ None
-        → SentInPart c columns bytes true [] (W.taken sink.old) (W.taken sink.new)) }
+        → SentInPart c bench.old.shown.columns bytes true [] (W.taken sink.old) (W.taken sink.new)) }
     ensures kind { IfErr result (λ e. e ≡ WriteFailed) }
     ensures ok_count { OnOk result (W.failed sink.new ≡ W.failed sink.old) }
     ensures count { IfErr result (λ _. W.failed sink.new ≡ W.failed sink.old + 1) }
     ensures short { W.longest sink.new ≤ max (W.longest sink.old) ROOM }
 {
     let mut output = Gathered::new(sink);
-    put_groups(&mut output, machine, columns, groups, bench);
+    put_groups(&mut output, machine, groups, bench);
     reader.pass(lines as u64);
     let _all = reader.take_chunk(&mut output, rest);
     let _last = reader.take_end(&mut output);
@@ -113,10 +112,8 @@ fn trace_collected<W: Sink>(
 {
     let inputs = checked.circuit().inputs.len();
     let (groups, lines, rest) = read_front(alloc, inputs, bytes)?;
-    let (machine, mut bench) = set_up(alloc, checked, &groups)?;
-    trace_good(
-        reader, sink, &machine, columns, &groups, &mut bench, lines, rest,
-    )
+    let (machine, mut bench) = set_up(alloc, checked, columns, &groups)?;
+    trace_good(reader, sink, &machine, &groups, &mut bench, lines, rest)
 }
 
 /// Simulates a circuit over a stimulus text, and writes the trace text, as `simulate` does; but the whole stimulus is

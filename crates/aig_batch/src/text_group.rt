@@ -8,8 +8,9 @@ ghost use Rattle.aig_meaning.specs.Meaning.{MeansTheSame};
 ghost use Rattle.aig_lanes.specs.declared.run.Run.{Run as RunRecord};
 ghost use Rattle.aig_batch.specs.Parts.Benches.{Fits, HasRoomFor, HasSameRoom, IsBench};
 ghost use Rattle.aig_lanes.specs.Parts.InputBits.{AreBlocks, HoldsBlocks};
-ghost use Rattle.aig_lanes.specs.Parts.LaneTexts.{HasBegun, HasSheets, HasShown, HoldsRun, HoldsRuns, IsTextOf, SameRoom};
-ghost use Rattle.aig_lanes.specs.Parts.LaneTexts.{TextStands, kept_text, shown_size, shown_text};
+ghost use Rattle.aig_lanes.specs.Parts.LaneTexts.{HoldsRun, HoldsRuns, IsTextOf, KeepsTrace, LaneStands, ShowsRows};
+ghost use Rattle.aig_lanes.specs.Parts.LaneTexts.{end_of, kept_text, shown_size, shown_text};
+ghost use Rattle.aig_lanes.specs.Parts.Sheets.{SameRoom, text_in};
 ghost use Rattle.aig_step.specs.Parts.Lines.{line_size};
 ghost use Rattle.aig_batch.specs.Parts.RunsRead.{kept_texts, text_of_group};
 ghost use Rattle.aig_lanes.specs.Runs.{IsRunOf};
@@ -18,38 +19,44 @@ use aig_checked::Checked;
 use aig_circuit::OutOfMemory;
 use aig_io::Sink;
 use aig_lanes::{
-    BlockBits, Plane, RunGroup, Shown, Vectors, assign_lanes, fill_bits, fill_table, longest,
-    new_bits, new_table, put_reset_lanes, put_vectors, show_next_lanes,
+    BlockBits, Plane, RunGroup, Sheet, Shown, Vectors, assign_lanes, fill_bits, fill_table,
+    longest, new_bits, new_table, put_reset_lanes, put_vectors, show_next_lanes,
 };
 use aig_step::{Columns, Machine};
 use aig_trace::{Gathered, Line, line_room};
 use std::alloc::Global;
 
-/// Before the first step of a group: all variables are x, and the state is that by the resets, which is kept.
-fn begin_steps(machine: &Machine, table: &mut [Plane], state: &mut [Plane], shown: &mut Shown)
+/// Before the first step of a group: all variables are x but the constant, and the state is that by the resets.
+fn begin_steps(
+    machine: &Machine,
+    shown: &Shown,
+    table: &mut [Plane],
+    state: &mut [Plane],
+    sheet: &mut Sheet,
+)
     requires table { length table.old ≡ 2 * (1 + machine.now.max_var) }
     requires state { length state.old ≡ 2 * length machine.now.latches }
-    requires sheets { HasSheets machine.now shown.old }
-    requires fits { shown_size shown.old < 2 ^ 64 }
-    ensures begun { HasBegun machine.now table.new state.new shown.new }
-    ensures same { SameRoom shown.old shown.new }
+    requires shows { ShowsRows machine.now shown.now }
+    ensures stands { (j : ℕ) (run : RunRecord) → j < 256 → HoldsRun j run shown.now sheet.old
+        → LaneStands machine.now run 0 j table.new state.new shown.now sheet.new }
+    ensures same { SameRoom sheet.old sheet.new }
 {
-    fill_table(table);
+    let parts = machine.parts();
+    shown.begin(table, sheet);
     fill_table(state);
-    put_reset_lanes(machine.parts().latches.as_slice(), state);
-    shown.show_state(state, 0);
+    put_reset_lanes(parts.latches.as_slice(), state);
 }
 
 /// A step of each run that has it. What it shows is kept, and the state behind it.
 fn take_step(
     machine: &Machine,
-    columns: Columns,
+    shown: &Shown,
     runs: &[Vectors],
     step: usize,
     bits: &[BlockBits],
     table: &mut [Plane],
     state: &mut [Plane],
-    shown: &mut Shown,
+    sheet: &mut Sheet,
 )
     requires lanes { length runs.now ≤ 256 }
     requires runs { All (IsRunOf machine.now) runs.now }
@@ -57,32 +64,31 @@ fn take_step(
     requires bits { HoldsBlocks runs.now bits.now }
     requires table { length table.old ≡ 2 * (1 + machine.now.max_var) }
     requires state { length state.old ≡ 2 * length machine.now.latches }
-    requires sheets { HasSheets machine.now shown.old }
-    requires fits { (step + 1) * shown_size shown.old < 2 ^ 64 }
-    requires room { HoldsRuns shown.old runs.now }
-    ensures same { SameRoom shown.old shown.new }
+    requires shows { ShowsRows machine.now shown.now }
+    requires fits { (step + 1) * shown_size shown.now < 2 ^ 64 }
+    requires room { HoldsRuns shown.now sheet.old runs.now }
+    ensures same { SameRoom sheet.old sheet.new }
     ensures stands { (j : ℕ) (d : RunRecord) → j < length runs.now
-        → TextStands columns machine.now (slice_index_or runs.now j d) step j table.old state.old shown.old
-        → TextStands columns machine.now (slice_index_or runs.now j d) (step + 1) j table.new state.new shown.new }
+        → LaneStands machine.now (slice_index_or runs.now j d) step j table.old state.old shown.now sheet.old
+        → LaneStands machine.now (slice_index_or runs.now j d) (step + 1) j table.new state.new shown.now sheet.new }
 {
     let parts = machine.parts();
     put_vectors(bits, parts.inputs.len(), step, table);
     assign_lanes(machine, state, table);
-    shown.show(columns, parts, table, step);
+    shown.show(table, sheet, step);
     show_next_lanes(parts.latches.as_slice(), table, state);
-    shown.show_state(state, step + 1);
 }
 
 /// All steps of all runs.
 fn take_steps(
     machine: &Machine,
-    columns: Columns,
+    shown: &Shown,
     runs: &[Vectors],
     steps: usize,
     bits: &[BlockBits],
     table: &mut [Plane],
     state: &mut [Plane],
-    shown: &mut Shown,
+    sheet: &mut Sheet,
 )
     requires lanes { length runs.now ≤ 256 }
     requires runs { All (IsRunOf machine.now) runs.now }
@@ -90,41 +96,41 @@ fn take_steps(
     requires bits { HoldsBlocks runs.now bits.now }
     requires table { length table.old ≡ 2 * (1 + machine.now.max_var) }
     requires state { length state.old ≡ 2 * length machine.now.latches }
-    requires sheets { HasSheets machine.now shown.old }
-    requires fits { steps * shown_size shown.old < 2 ^ 64 }
-    requires room { HoldsRuns shown.old runs.now }
-    ensures same { SameRoom shown.old shown.new }
+    requires shows { ShowsRows machine.now shown.now }
+    requires fits { steps * shown_size shown.now < 2 ^ 64 }
+    requires room { HoldsRuns shown.now sheet.old runs.now }
+    ensures same { SameRoom sheet.old sheet.new }
     ensures stands { (j : ℕ) (d : RunRecord) → j < length runs.now
-        → TextStands columns machine.now (slice_index_or runs.now j d) 0 j table.old state.old shown.old
-        → TextStands columns machine.now (slice_index_or runs.now j d) steps j table.new state.new shown.new }
+        → LaneStands machine.now (slice_index_or runs.now j d) 0 j table.old state.old shown.now sheet.old
+        → LaneStands machine.now (slice_index_or runs.now j d) steps j table.new state.new shown.now sheet.new }
 {
     for step in 0..steps {
-        take_step(machine, columns, runs, step, bits, table, state, shown);
+        take_step(machine, shown, runs, step, bits, table, state, sheet);
     }
 }
 
 /// The line of a step in a lane, with these inputs.
 #[derive(Drop)]
 struct ShownLine<'a> {
-    columns: Columns,
     given: &'a [u8],
     shown: &'a Shown,
+    sheet: &'a Sheet,
     step: usize,
     lane: usize,
 }
 
 impl<'a> Line for ShownLine<'a> {
     ghost is_whole = { λ l. (l.lane < 256) × ((l.step + 1) * shown_size l.shown.now < 2 ^ 64)
-        × HasShown l.step l.lane l.shown.now };
+        × (end_of l.shown.now (l.step + 1) ≤ length (text_in l.lane l.sheet.now)) };
 
     ghost size = { λ l. shown_size l.shown.now + length l.given.now };
 
-    ghost text = { λ l. shown_text l.columns l.step l.lane l.given.now l.shown.now };
+    ghost text = { λ l. shown_text l.shown.now l.step l.given.now (text_in l.lane l.sheet.now) };
 
     #[inline(always)]
     fn write(&self, line: &mut [u8], at: usize) -> usize {
         self.shown
-            .write(line, at, self.columns, self.given, self.step, self.lane)
+            .write(self.sheet, line, at, self.given, self.step, self.lane)
     }
 }
 
@@ -132,24 +138,24 @@ impl<'a> Line for ShownLine<'a> {
 fn put_run<W: Sink>(
     output: &mut Gathered<W>,
     line: &mut [u8],
-    columns: Columns,
     run: &Vectors,
     shown: &Shown,
+    sheet: &Sheet,
     lane: usize,
 )
     requires lane { lane < 256 }
     requires fits { length run.now.steps * shown_size shown.now < 2 ^ 64 }
-    requires room { HoldsRun lane run.now shown.now }
+    requires room { HoldsRun lane run.now shown.now sheet.now }
     requires line { All (λ (vector : List Value). shown_size shown.now + length vector ≤ length line.old)
         run.now.steps }
     ensures { Put output.old output.new
-        (kept_text columns run.now (length run.now.steps) lane shown.now ++ codes ".\n") }
+        (kept_text shown.now run.now (length run.now.steps) (text_in lane sheet.now) ++ codes ".\n") }
 {
     for step in 0..run.len() {
         let shown_line = ShownLine {
-            columns,
             given: run.text(step),
             shown,
+            sheet,
             step,
             lane,
         };
@@ -162,20 +168,20 @@ fn put_run<W: Sink>(
 fn put_runs<W: Sink>(
     output: &mut Gathered<W>,
     line: &mut [u8],
-    columns: Columns,
     runs: &[Vectors],
     shown: &Shown,
+    sheet: &Sheet,
 )
     requires lanes { length runs.now ≤ 256 }
     requires fits { All (λ (run : RunRecord). length run.steps * shown_size shown.now < 2 ^ 64) runs.now }
-    requires room { HoldsRuns shown.now runs.now }
+    requires room { HoldsRuns shown.now sheet.now runs.now }
     requires line { All (λ (run : RunRecord). All (λ (vector : List Value).
         shown_size shown.now + length vector ≤ length line.old) run.steps) runs.now }
     ensures { Put output.old output.new
-        (text_of_group (kept_texts columns runs.now (length runs.now) shown.now)) }
+        (text_of_group (kept_texts shown.now runs.now (length runs.now) sheet.now)) }
 {
     for lane in 0..runs.len() {
-        put_run(output, line, columns, &runs[lane], shown, lane);
+        put_run(output, line, &runs[lane], shown, sheet, lane);
     }
 }
 
@@ -186,6 +192,7 @@ pub(crate) struct Bench {
     table: Vec<Plane>,
     state: Vec<Plane>,
     shown: Shown,
+    sheet: Sheet,
     /// As long as a line may be.
     line: Vec<u8>,
 }
@@ -195,26 +202,34 @@ impl Bench {
     pub(crate) fn new(
         alloc: Global,
         machine: &Machine,
+        columns: Columns,
         line_room: usize,
         groups: &[RunGroup],
     ) -> Result<Self, OutOfMemory>
         requires line { line_room ≡ line_size machine.now }
         requires lanes { All (λ (runs : List RunRecord). length runs ≤ 256) groups.now }
         ensures is { IfOk result (λ bench. IsBench machine.now bench) }
+        ensures asks { IfOk result (λ bench. bench.shown.columns ≡ columns) }
         ensures room { IfOk result (λ bench. All (HasRoomFor bench) groups.now) }
     {
         let parts = machine.parts();
+        let bits = new_bits(alloc, parts.inputs.len(), groups)?;
+        let table = new_table(alloc, 1 + parts.max_var as usize)?;
+        let state = new_table(alloc, parts.latches.len())?;
+        let shown = Shown::new(alloc, parts, columns)?;
+        let sheet = shown.new_sheet(alloc, groups)?;
         Ok(Bench {
-            bits: new_bits(alloc, parts.inputs.len(), groups)?,
-            table: new_table(alloc, 1 + parts.max_var as usize)?,
-            state: new_table(alloc, parts.latches.len())?,
-            shown: Shown::new(alloc, parts, groups)?,
+            bits,
+            table,
+            state,
+            shown,
+            sheet,
             line: vec![in alloc; 0; line_room]?,
         })
     }
 
     /// Steps the runs of a group.
-    fn step(&mut self, machine: &Machine, columns: Columns, runs: &[Vectors])
+    fn step(&mut self, machine: &Machine, runs: &[Vectors])
         requires lanes { length runs.now ≤ 256 }
         requires runs { All (IsRunOf machine.now) runs.now }
         requires fits { All (Fits machine.now) runs.now }
@@ -222,22 +237,26 @@ impl Bench {
         requires room { HasRoomFor self.old runs.now }
         ensures is { IsBench machine.now self.new }
         ensures same { HasSameRoom self.old self.new }
-        ensures texts { (j : ℕ) (d : RunRecord) → j < length runs.now
-            → IsTextOf columns machine.now (slice_index_or runs.now j d)
-            (kept_text columns (slice_index_or runs.now j d) (length (slice_index_or runs.now j d).steps) j
-            self.new.shown) }
+        ensures keeps { (j : ℕ) (d : RunRecord) → j < length runs.now
+            → KeepsTrace machine.now (slice_index_or runs.now j d).steps self.new.shown (text_in j self.new.sheet) }
     {
         fill_bits(&mut self.bits, runs, machine.parts().inputs.len());
-        begin_steps(machine, &mut self.table, &mut self.state, &mut self.shown);
+        begin_steps(
+            machine,
+            &self.shown,
+            &mut self.table,
+            &mut self.state,
+            &mut self.sheet,
+        );
         take_steps(
             machine,
-            columns,
+            &self.shown,
             runs,
             longest(runs),
             &self.bits,
             &mut self.table,
             &mut self.state,
-            &mut self.shown,
+            &mut self.sheet,
         );
     }
 
@@ -245,7 +264,6 @@ impl Bench {
     pub(crate) fn run<W: Sink>(
         &mut self,
         machine: &Machine,
-        columns: Columns,
         runs: &[Vectors],
         output: &mut Gathered<W>,
     )
@@ -257,14 +275,12 @@ impl Bench {
         ensures is { IsBench machine.now self.new }
         ensures same { HasSameRoom self.old self.new }
         ensures put { Put output.old output.new
-            (text_of_group (kept_texts columns runs.now (length runs.now) self.new.shown)) }
-        ensures texts { (j : ℕ) (d : RunRecord) → j < length runs.now
-            → IsTextOf columns machine.now (slice_index_or runs.now j d)
-            (kept_text columns (slice_index_or runs.now j d) (length (slice_index_or runs.now j d).steps) j
-            self.new.shown) }
+            (text_of_group (kept_texts self.new.shown runs.now (length runs.now) self.new.sheet)) }
+        ensures keeps { (j : ℕ) (d : RunRecord) → j < length runs.now
+            → KeepsTrace machine.now (slice_index_or runs.now j d).steps self.new.shown (text_in j self.new.sheet) }
     {
-        self.step(machine, columns, runs);
-        put_runs(output, &mut self.line, columns, runs, &self.shown);
+        self.step(machine, runs);
+        put_runs(output, &mut self.line, runs, &self.shown, &self.sheet);
     }
 }
 
@@ -293,11 +309,13 @@ fn can_count(groups: &[RunGroup], line_room: usize) -> bool
 pub(crate) fn set_up(
     alloc: Global,
     checked: &Checked,
+    columns: Columns,
     groups: &[RunGroup],
 ) -> Result<(Machine, Bench), OutOfMemory>
     requires { All (λ (runs : List RunRecord). length runs ≤ 256) groups.now }
     ensures means { IfOk result (λ made. MeansTheSame checked.now made.0) }
     ensures is { IfOk result (λ made. IsBench made.0 made.1) }
+    ensures asks { IfOk result (λ made. made.1.shown.columns ≡ columns) }
     ensures fits { IfOk result (λ made. All (All (Fits made.0)) groups.now) }
     ensures room { IfOk result (λ made. All (HasRoomFor made.1) groups.now) }
 {
@@ -306,6 +324,6 @@ pub(crate) fn set_up(
         return Err(OutOfMemory);
     }
     let machine = Machine::new(alloc, checked)?;
-    let bench = Bench::new(alloc, &machine, room, groups)?;
+    let bench = Bench::new(alloc, &machine, columns, room, groups)?;
     Ok((machine, bench))
 }

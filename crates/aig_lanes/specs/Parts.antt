@@ -4,3 +4,4 @@ pub mod Sheets
 pub mod InputBits
 pub mod Vectors
 pub mod LaneTexts
+pub mod Kept

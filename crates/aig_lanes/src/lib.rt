@@ -1,7 +1,7 @@
 //! Steps of 256 runs side by side, a lane for each.
 //!
 //! Others call `trace_group`, which makes the traces of runs, and what `aig_batch` steps the runs
-//! of a stimulus with: their inputs as bits, the tables of a step, and `Shown`.
+//! of a stimulus with: their inputs as bits, the tables of a step, `Shown` and `Sheet`.
 //!
 //! Modules:
 //! - `run`: runs and their traces.
@@ -10,7 +10,8 @@
 //! - `group`: 256 runs of any lengths.
 //! - `vectors`: the steps of runs where they stand in a stimulus.
 //! - `input_bits`, `input_planes`: inputs as bits, and those of a step put into planes.
-//! - `byte_rows`, `transposed`, `sheets`, `shown`: planes transposed into the characters of each lane.
+//! - `byte_rows`, `transposed`, `sheets`: planes transposed into the characters of each lane.
+//! - `shown`: what steps show, side by side in one sheet.
 //!
 //! Definitions (`specs/`); those that matter most are `IsRunOf` and `IsTraceOf`:
 //! - `Runs`: runs and their traces.
@@ -40,5 +41,6 @@ pub use crate::lane_step::{put_reset_lanes, show_next_lanes};
 pub use crate::lanes::assign_lanes;
 pub use crate::planes::Plane;
 pub use crate::run::{FullRow, Run, Trace};
+pub use crate::sheets::Sheet;
 pub use crate::shown::Shown;
 pub use crate::vectors::{RunGroup, Vectors, longest};

@@ -1,12 +1,11 @@
-//! Sheets: what literals are in all lanes, step by step.
-ghost use Rattle.std.specs.Prelude.{◌≡◌, ◌+◌, ◌*◌, ◌/◌, ◌++◌, ◌<◌, ◌≤◌, ◌^◌, ℕ, List, [], IfOk, codes, length};
-ghost use Rattle.std.specs.Prelude.{slice_index_or};
-ghost use Rattle.std.specs.Prelude.{take};
+//! Sheets: what literals are in all lanes.
+ghost use Rattle.std.specs.Prelude.{◌≡◌, ◌+◌, ◌*◌, ◌/◌, ◌++◌, ◌<◌, ◌≤◌, ℕ, List, [], IfOk, codes, length};
+ghost use Rattle.std.specs.Prelude.{slice_index_or, take};
 ghost use Rattle.std.specs.List.{All};
 ghost use Rattle.aig_lanes.specs.declared.run.Run.{Run as RunRecord};
 ghost use Rattle.aig_lanes.specs.Parts.Lanes.{bit_in};
-ghost use Rattle.aig_lanes.specs.Parts.Sheets.{BytesText, HasStep, HoldsSteps, IsSheet, character_by, eight_at};
-ghost use Rattle.aig_lanes.specs.Parts.Sheets.{bytes_text, overwritten, step_in, text_in};
+ghost use Rattle.aig_lanes.specs.Parts.Sheets.{BytesText, HoldsSteps, IsSheet, bytes_text, character_by, eight_at};
+ghost use Rattle.aig_lanes.specs.Parts.Sheets.{overwritten, part, text_in};
 
 use crate::byte_rows::ByteRows;
 use crate::planes::Plane;
@@ -45,8 +44,8 @@ pub(crate) fn longest_in(groups: &[RunGroup], octet: usize) -> usize
     longest
 }
 
-/// Rows of bytes for all lanes, each of so many literals for each step of the longest run in its lanes, and for so
-/// many steps more.
+/// Rows of bytes for all lanes, each of so many literals for each step of the longest run in its lanes, and of so many
+/// more.
 fn new_byte_rows(
     alloc: Global,
     width: usize,
@@ -58,10 +57,10 @@ fn new_byte_rows(
 {
     let mut byte_rows = Vec::with_capacity(alloc, 32)?;
     for octet in 0..32usize {
-        let Some(steps) = longest_in(groups, octet).checked_add(more) else {
+        let Some(steps) = longest_in(groups, octet).checked_mul(width) else {
             return Err(OutOfMemory);
         };
-        let Some(count) = steps.checked_mul(width) else {
+        let Some(count) = steps.checked_add(more) else {
             return Err(OutOfMemory);
         };
         byte_rows.push(ByteRows::new(alloc, count)?)?;
@@ -86,54 +85,42 @@ fn put_bytes(byte_rows: &mut [ByteRows], at: usize, ones: &[u8; 256], zeros: &[u
     }
 }
 
-/// What so many literals are in all lanes, step by step.
+/// What literals are in all lanes.
 #[derive(Drop)]
-pub(crate) struct Sheet {
-    width: usize,
+pub struct Sheet {
     byte_rows: Vec<ByteRows>,
 }
 
 impl Model for Sheet {
-    ghost use Rattle.aig_lanes.specs.Parts.Sheets.{IsSheet, SheetText};
+    ghost use Rattle.std.specs.Prelude.{List};
+    ghost use Rattle.aig_lanes.specs.Parts.Sheets.{BytesText, IsSheet};
 
-    ghost Value = { SheetText };
+    ghost Value = { List BytesText };
 
-    ghost view = { λ s. record { width = s.width; byte_rows = s.byte_rows.items } };
+    ghost view = { λ s. s.byte_rows.items };
 
     ghost invariant = { λ s. IsSheet s.byte_rows.items };
 }
 
 impl Sheet {
-    /// Of so many literals, with room for each step of these groups, and for so many steps more.
+    /// Room for so many literals for each step of these groups, and for so many more.
     pub(crate) fn new(
         alloc: Global,
         width: usize,
         more: usize,
         groups: &[RunGroup],
     ) -> Result<Self, OutOfMemory>
-        ensures width { IfOk result (λ sheet. sheet.width ≡ width) }
-        ensures room { IfOk result (λ sheet. All (HoldsSteps width more sheet.byte_rows) groups.now) }
+        ensures { IfOk result (λ sheet. All (HoldsSteps width more sheet) groups.now) }
     {
         Ok(Sheet {
-            width,
             byte_rows: new_byte_rows(alloc, width, more, groups)?,
         })
-    }
-
-    /// Where the literals of a step begin.
-    #[inline(always)]
-    pub(crate) fn start(&self, step: usize) -> usize
-        requires { step * self.now.width < 2 ^ 64 }
-        ensures { result ≡ step * self.now.width }
-    {
-        step * self.width
     }
 
     /// Puts eight literals, from a place on, in each lane as far as it has places. Behind the plane of each stands that
     /// of its negation.
     #[inline(always)]
     pub(crate) fn put(&mut self, at: usize, planes: &[Plane; 16])
-        ensures width { self.new.width ≡ self.old.width }
         ensures text { (l k : ℕ) → l < 256 → k < 8 → at + k < length (text_in l self.old)
             → slice_index_or (text_in l self.new) (at + k) 0
             ≡ character_by (bit_in l (slice_index_or planes.now (2 * k) []))
@@ -149,33 +136,47 @@ impl Sheet {
         );
     }
 
-    /// Writes the characters of a step in a lane from a place on, and answers where they end.
+    /// Writes the characters that so many literals, from one on, have in a lane, from a place on, and answers where
+    /// they end.
     #[inline(always)]
-    pub(crate) fn write(&self, line: &mut [u8], at: usize, step: usize, lane: usize) -> usize
+    pub(crate) fn write(
+        &self,
+        line: &mut [u8],
+        at: usize,
+        from: usize,
+        count: usize,
+        lane: usize,
+    ) -> usize
         requires lane { lane < 256 }
-        requires fits { step * self.now.width < 2 ^ 64 }
-        requires has { HasStep step lane self.now }
-        requires room { at + self.now.width ≤ length line.old }
-        ensures end { result ≡ at + self.now.width }
+        requires has { from + count ≤ length (text_in lane self.now) }
+        requires room { at + count ≤ length line.old }
+        ensures end { result ≡ at + count }
         ensures size { length line.new ≡ length line.old }
-        ensures text { take result line.new ≡ take at line.old ++ step_in step lane self.now }
+        ensures text { take result line.new ≡ take at line.old ++ part from count (text_in lane self.now) }
     {
-        self.byte_rows[lane / 8].write(line, at, step * self.width, self.width, lane % 8);
-        at + self.width
+        self.byte_rows[lane / 8].write(line, at, from, count, lane % 8);
+        at + count
     }
 
-    /// Writes a space and the characters of a step in a lane, as `write` writes those.
+    /// Writes a space and such characters, as `write` writes those.
     #[inline(always)]
-    pub(crate) fn write_column(&self, line: &mut [u8], at: usize, step: usize, lane: usize) -> usize
+    pub(crate) fn write_column(
+        &self,
+        line: &mut [u8],
+        at: usize,
+        from: usize,
+        count: usize,
+        lane: usize,
+    ) -> usize
         requires lane { lane < 256 }
-        requires fits { step * self.now.width < 2 ^ 64 }
-        requires has { HasStep step lane self.now }
-        requires room { at + 1 + self.now.width ≤ length line.old }
-        ensures end { result ≡ at + 1 + self.now.width }
+        requires has { from + count ≤ length (text_in lane self.now) }
+        requires room { at + 1 + count ≤ length line.old }
+        ensures end { result ≡ at + 1 + count }
         ensures size { length line.new ≡ length line.old }
-        ensures text { take result line.new ≡ take at line.old ++ (codes " " ++ step_in step lane self.now) }
+        ensures text { take result line.new
+            ≡ take at line.old ++ (codes " " ++ part from count (text_in lane self.now)) }
     {
         line[at] = b' ';
-        self.write(line, at + 1, step, lane)
+        self.write(line, at + 1, from, count, lane)
     }
 }

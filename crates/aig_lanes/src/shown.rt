@@ -1,32 +1,44 @@
 //! What steps show, in all lanes.
-ghost use Rattle.std.specs.Prelude.{◌≡◌, ◌+◌, ◌*◌, ◌/◌, ◌++◌, ◌<◌, ◌≤◌, ◌^◌, ℕ, List, [], IfOk, length, map};
-ghost use Rattle.std.specs.Prelude.{slice_index_or, take};
+ghost use Rattle.std.specs.Prelude.{◌≡◌, ◌+◌, ◌*◌, ◌/◌, ◌++◌, ◌<◌, ◌≤◌, ◌^◌, ℕ, List, [], IfOk, length, map, replicate};
+ghost use Rattle.std.specs.Prelude.{slice_index_or, slice_set, take};
 ghost use Rattle.std.specs.List.{All};
+ghost use Rattle.aig_circuit.specs.declared.circuit.Latch.{Latch as LatchRecord};
 ghost use Rattle.aig_circuit.specs.declared.value.Val.{Val as Value};
+ghost use Rattle.aig_circuit.specs.declared.value.Val.TheVariants.{X, Zero};
 ghost use Rattle.aig_meaning.specs.Meaning.{literal_value};
-ghost use Rattle.aig_lanes.specs.Parts.LaneTexts.{AreShown, HasSheets, HasShown, HoldsRuns, PutBehind, PutsShown};
-ghost use Rattle.aig_lanes.specs.Parts.LaneTexts.{shown_properties, shown_size, shown_text};
 ghost use Rattle.aig_lanes.specs.Parts.Lanes.{IsLane, IsPair};
-ghost use Rattle.aig_step.specs.Parts.Machines.{ShowsBelow};
-ghost use Rattle.aig_lanes.specs.Parts.Sheets.{HasStep, step_in};
+ghost use Rattle.aig_lanes.specs.Parts.Kept.{asked as asked_of, reset_literal as literal_by};
+ghost use Rattle.aig_lanes.specs.Parts.Kept.{reset_literals as literals_by, seen as seen_of};
+ghost use Rattle.aig_lanes.specs.Parts.Sheets.{SameRoom, text_in};
 ghost use Rattle.aig_step.specs.Parts.Tables.{IsLiteralBelow, read_from};
 ghost use Rattle.aig_step.specs.TraceText.{values_text};
 
-use crate::lanes::planes_of;
+use crate::group::fill_table;
+use crate::lanes::{planes_of, put_all};
 use crate::planes::{Plane, plane_of};
 use crate::sheets::Sheet;
 use crate::vectors::RunGroup;
-use aig_circuit::{Circuit, Lit, OutOfMemory};
+use aig_circuit::{Circuit, Latch, Lit, OutOfMemory, Reset, Val};
 use aig_step::{Columns, write_text};
 use std::alloc::Global;
 
-/// What all steps of a group show, in all lanes. The next state of a step is the state of the step behind it.
+/// What steps show. In the lanes of a sheet it stands step behind step: the state, the outputs, and the bad states and
+/// constraints where they are asked for. Behind the last step stands the state that comes after it, so that the next
+/// state of a step is the state of the one behind it.
 #[derive(Drop)]
 pub struct Shown {
-    state: Sheet,
-    outputs: Sheet,
-    bad: Sheet,
-    constraints: Sheet,
+    columns: Columns,
+    /// How many outputs there are.
+    outputs: usize,
+    /// How many bad states are shown.
+    bad: usize,
+    /// How many constraints are shown.
+    constraints: usize,
+    /// The state by the resets.
+    resets: Vec<Lit>,
+    /// What is put for a step: what it shows beside its state, and the state behind it.
+    literals: Vec<Lit>,
+    ghost counted: { outputs + (bad + constraints) + length resets.items ≡ length literals.items },
 }
 
 /// The planes of eight literals from one on, each with that of its negation behind it. Where there are fewer, the last
@@ -49,130 +61,164 @@ fn planes_of_literals(planes: &[Plane], literals: &[Lit], first: usize) -> [Plan
     eight
 }
 
-/// The planes of eight variables of a table from one on, in the same way.
-#[inline(always)]
-fn planes_of_variables(planes: &[Plane], first: usize) -> [Plane; 16]
-    requires { first < length planes.now / 2 }
-    ensures { (l k : ℕ) (values : List Value) → k < 8 → first + k < length values → IsLane l planes.now values
-        → IsPair l (slice_index_or result (2 * k) []) (slice_index_or result (2 * k + 1) [])
-        (read_from values (first + k)) }
-{
-    let last = planes.len() / 2 - 1;
-    let mut eight = [plane_of(false); 16];
-    for k in 0..8 {
-        let variable = (first + k).min(last);
-        eight[2 * k] = planes[2 * variable];
-        eight[2 * k + 1] = planes[2 * variable + 1];
-    }
-    eight
-}
-
-/// Puts literals for a step, behind those of the steps before it. Eight are put at once; what stands behind the last
-/// one then is no matter, for the next step is put over it.
-fn show_literals(literals: &[Lit], planes: &[Plane], sheet: &mut Sheet, step: usize)
-    requires count { sheet.old.width ≡ length literals.now }
-    requires fits { step * sheet.old.width + sheet.old.width < 2 ^ 64 }
+/// Puts literals from a place on. Eight are put at once; what stands behind the last one then is no matter, for what is
+/// put next is put over it.
+fn show_literals(literals: &[Lit], planes: &[Plane], sheet: &mut Sheet, at: usize)
+    requires fits { at + length literals.now < 2 ^ 64 }
     requires below { All (IsLiteralBelow (length planes.now / 2)) literals.now }
-    ensures behind { PutBehind step sheet.old sheet.new }
-    ensures text { (l : ℕ) (values : List Value) → l < 256 → HasStep step l sheet.old → IsLane l planes.now values
-        → step_in step l sheet.new ≡ values_text (map (literal_value (read_from values)) literals.now) }
+    ensures room { SameRoom sheet.old sheet.new }
+    ensures front { (l : ℕ) → l < 256 → take at (text_in l sheet.new) ≡ take at (text_in l sheet.old) }
+    ensures text { (l : ℕ) (values : List Value) → l < 256 → at + length literals.now ≤ length (text_in l sheet.old)
+        → IsLane l planes.now values → take (at + length literals.now) (text_in l sheet.new)
+        ≡ take at (text_in l sheet.old) ++ values_text (map (literal_value (read_from values)) literals.now) }
 {
-    let start = sheet.start(step);
     for eight in 0..literals.len().div_ceil(8) {
         let first = 8 * eight;
-        sheet.put(start + first, &planes_of_literals(planes, literals, first));
+        sheet.put(at + first, &planes_of_literals(planes, literals, first));
     }
 }
 
-/// Puts all variables of a table for a step, behind those of the steps before it, in the same way.
-fn show_table(planes: &[Plane], sheet: &mut Sheet, step: usize)
-    requires count { length planes.now ≡ 2 * sheet.old.width }
-    requires fits { step * sheet.old.width + sheet.old.width < 2 ^ 64 }
-    ensures behind { PutBehind step sheet.old sheet.new }
-    ensures text { (l : ℕ) (values : List Value) → l < 256 → HasStep step l sheet.old → IsLane l planes.now values
-        → step_in step l sheet.new ≡ values_text values }
+/// Of bad states or constraints, those that are asked for.
+fn asked(columns: Columns, literals: &[Lit]) -> &[Lit]
+    ensures { result.now ≡ asked_of columns literals.now }
 {
-    let start = sheet.start(step);
-    let count = planes.len() / 2;
-    for eight in 0..count.div_ceil(8) {
-        let first = 8 * eight;
-        sheet.put(start + first, &planes_of_variables(planes, first));
+    match columns {
+        Columns::Plain => &literals[..0],
+        Columns::Properties => literals,
     }
+}
+
+/// The literal that has the value of a reset before the first step.
+fn reset_literal(reset: Reset) -> Lit
+    ensures { result ≡ literal_by reset }
+{
+    match reset {
+        Reset::Zero => Lit(0),
+        Reset::One => Lit(1),
+        Reset::Uninit => Lit(2),
+    }
+}
+
+/// The literals that have the values of the resets before the first step.
+fn reset_literals(alloc: Global, latches: &[Latch]) -> Result<Vec<Lit>, OutOfMemory>
+    ensures { IfOk result (λ literals. literals.items ≡ literals_by latches.now) }
+{
+    let mut literals = Vec::with_capacity(alloc, latches.len())?;
+    for latch in latches {
+        literals.push(reset_literal(latch.reset))?;
+    }
+    Ok(literals)
+}
+
+/// What a step shows beside states.
+fn seen(alloc: Global, parts: &Circuit, columns: Columns) -> Result<Vec<Lit>, OutOfMemory>
+    ensures { IfOk result (λ literals.
+        literals.items ≡ seen_of columns parts.now.outputs parts.now.bad parts.now.constraints) }
+{
+    let mut literals = Vec::from_slice(alloc, parts.outputs.as_slice())?;
+    literals.extend_from_slice(asked(columns, parts.bad.as_slice()))?;
+    literals.extend_from_slice(asked(columns, parts.constraints.as_slice()))?;
+    Ok(literals)
+}
+
+/// Adds the literals of next states.
+fn add_next(literals: &mut Vec<Lit>, latches: &[Latch]) -> Result<(), OutOfMemory>
+    ensures { IfOk result (λ _.
+        literals.new.items ≡ literals.old.items ++ map (λ (l : LatchRecord). l.next) latches.now) }
+{
+    for latch in latches {
+        literals.push(latch.next)?;
+    }
+    Ok(())
 }
 
 impl Shown {
-    /// Room for what a circuit shows in the runs of these groups.
-    pub fn new(alloc: Global, parts: &Circuit, groups: &[RunGroup]) -> Result<Self, OutOfMemory>
-        ensures sheets { IfOk result (λ shown. HasSheets parts.now shown) }
-        ensures room { IfOk result (λ shown. All (HoldsRuns shown) groups.now) }
+    ghost use Rattle.aig_lanes.specs.Parts.LaneTexts.{HoldsRuns, ShowsRows, end_of};
+    ghost use Rattle.aig_lanes.specs.Parts.LaneTexts.{shown_properties, shown_size, shown_text};
+
+    /// What a circuit shows.
+    pub fn new(alloc: Global, parts: &Circuit, columns: Columns) -> Result<Self, OutOfMemory>
+        ensures columns { IfOk result (λ shown. shown.columns ≡ columns) }
+        ensures shows { IfOk result (λ shown. ShowsRows parts.now shown) }
     {
+        let latches = parts.latches.as_slice();
+        let resets = reset_literals(alloc, latches)?;
+        let mut literals = seen(alloc, parts, columns)?;
+        add_next(&mut literals, latches)?;
         Ok(Shown {
-            state: Sheet::new(alloc, parts.latches.len(), 1, groups)?,
-            outputs: Sheet::new(alloc, parts.outputs.len(), 0, groups)?,
-            bad: Sheet::new(alloc, parts.bad.len(), 0, groups)?,
-            constraints: Sheet::new(alloc, parts.constraints.len(), 0, groups)?,
+            columns,
+            outputs: parts.outputs.len(),
+            bad: asked(columns, parts.bad.as_slice()).len(),
+            constraints: asked(columns, parts.constraints.as_slice()).len(),
+            resets,
+            literals,
         })
     }
 
-    /// Puts the state before a step.
-    pub fn show_state(&mut self, state: &[Plane], step: usize)
-        requires count { length state.now ≡ 2 * self.old.state.width }
-        requires fits { step * self.old.state.width + self.old.state.width < 2 ^ 64 }
-        ensures same { self.new ≡ record self.old { state = self.new.state } }
-        ensures behind { PutBehind step self.old.state self.new.state }
-        ensures text { (l : ℕ) (values : List Value) → l < 256 → HasStep step l self.old.state
-            → IsLane l state.now values → step_in step l self.new.state ≡ values_text values }
+    /// Room for what is shown in the runs of these groups.
+    pub fn new_sheet(&self, alloc: Global, groups: &[RunGroup]) -> Result<Sheet, OutOfMemory>
+        ensures { IfOk result (λ sheet. All (HoldsRuns self.now sheet) groups.now) }
     {
-        show_table(state, &mut self.state, step);
+        Sheet::new(alloc, self.literals.len(), self.resets.len(), groups)
     }
 
-    /// Puts what a step shows beside states, from its table; bad states and constraints where they are asked for.
-    pub fn show(&mut self, columns: Columns, parts: &Circuit, table: &[Plane], step: usize)
-        requires sheets { HasSheets parts.now self.old }
-        requires fits { (step + 1) * shown_size self.old < 2 ^ 64 }
-        requires below { ShowsBelow (length table.now / 2) parts.now }
-        ensures puts { PutsShown step self.old self.new }
-        ensures shown { (l : ℕ) (values : List Value) → l < 256 → HasShown step l self.old → IsLane l table.now values
-            → AreShown columns parts.now l values step self.new }
+    /// Before the first step: all variables are x but the constant, and the state by the resets is put.
+    pub fn begin(&self, table: &mut [Plane], sheet: &mut Sheet)
+        requires constant { 2 ≤ length table.old }
+        requires below { All (IsLiteralBelow (length table.old / 2)) self.now.resets.items }
+        ensures room { SameRoom sheet.old sheet.new }
+        ensures table { (l variables : ℕ) → l < 256 → length table.old ≡ 2 * variables
+            → IsLane l table.new (slice_set (replicate variables X) 0 Zero) }
+        ensures text { (l variables : ℕ) → l < 256 → length table.old ≡ 2 * variables
+            → end_of self.now 0 ≤ length (text_in l sheet.old) → take (end_of self.now 0) (text_in l sheet.new)
+            ≡ values_text (map (literal_value (read_from (slice_set (replicate variables X) 0 Zero)))
+            self.now.resets.items) }
     {
-        show_literals(parts.outputs.as_slice(), table, &mut self.outputs, step);
-        match columns {
-            Columns::Plain => {}
-            Columns::Properties => {
-                show_literals(parts.bad.as_slice(), table, &mut self.bad, step);
-                show_literals(
-                    parts.constraints.as_slice(),
-                    table,
-                    &mut self.constraints,
-                    step,
-                );
-            }
-        }
+        fill_table(table);
+        put_all(table, 0, Val::Zero);
+        show_literals(&self.resets, table, sheet, 0);
     }
 
-    /// Writes the columns of bad states and constraints of a step in a lane, where they are asked for, and answers
-    /// where they end.
+    /// Puts what a step shows beside its state, and the state behind it.
+    pub fn show(&self, table: &[Plane], sheet: &mut Sheet, step: usize)
+        requires fits { (step + 1) * shown_size self.now < 2 ^ 64 }
+        requires below { All (IsLiteralBelow (length table.now / 2)) self.now.literals.items }
+        ensures room { SameRoom sheet.old sheet.new }
+        ensures front { (l : ℕ) → l < 256
+            → take (end_of self.now step) (text_in l sheet.new) ≡ take (end_of self.now step) (text_in l sheet.old) }
+        ensures text { (l : ℕ) (values : List Value) → l < 256
+            → end_of self.now (step + 1) ≤ length (text_in l sheet.old) → IsLane l table.now values
+            → take (end_of self.now (step + 1)) (text_in l sheet.new) ≡ take (end_of self.now step) (text_in l sheet.old)
+            ++ values_text (map (literal_value (read_from values)) self.now.literals.items) }
+    {
+        let at = step * self.literals.len() + self.resets.len();
+        show_literals(&self.literals, table, sheet, at);
+    }
+
+    /// Writes the columns of bad states and constraints of a step in a lane, where they are asked for and stand at this
+    /// place, and answers where they end.
     #[inline(always)]
     fn write_properties(
         &self,
+        sheet: &Sheet,
         line: &mut [u8],
         at: usize,
-        columns: Columns,
-        step: usize,
+        from: usize,
         lane: usize,
     ) -> usize
         requires lane { lane < 256 }
-        requires fits { (step + 1) * shown_size self.now < 2 ^ 64 }
-        requires has { HasShown step lane self.now }
-        requires room { at + self.now.bad.width + self.now.constraints.width + 2 ≤ length line.old }
-        ensures end { result ≤ at + self.now.bad.width + self.now.constraints.width + 2 }
-        ensures text { take result line.new ≡ take at line.old ++ shown_properties columns step lane self.now }
+        requires has { from + (self.now.bad + self.now.constraints) ≤ length (text_in lane sheet.now) }
+        requires fits { from + (self.now.bad + self.now.constraints) < 2 ^ 64 }
+        requires room { at + self.now.bad + self.now.constraints + 2 ≤ length line.old }
+        ensures end { result ≤ at + self.now.bad + self.now.constraints + 2 }
+        ensures text { take result line.new ≡ take at line.old
+            ++ shown_properties self.now.columns from self.now.bad self.now.constraints (text_in lane sheet.now) }
     {
-        match columns {
+        match self.columns {
             Columns::Plain => at,
             Columns::Properties => {
-                let end = self.bad.write_column(line, at, step, lane);
-                self.constraints.write_column(line, end, step, lane)
+                let end = sheet.write_column(line, at, from, self.bad, lane);
+                sheet.write_column(line, end, from + self.bad, self.constraints, lane)
             }
         }
     }
@@ -181,26 +227,30 @@ impl Shown {
     #[inline(always)]
     pub fn write(
         &self,
+        sheet: &Sheet,
         line: &mut [u8],
         at: usize,
-        columns: Columns,
         given: &[u8],
         step: usize,
         lane: usize,
     ) -> usize
         requires lane { lane < 256 }
         requires fits { (step + 1) * shown_size self.now < 2 ^ 64 }
-        requires has { HasShown step lane self.now }
+        requires has { end_of self.now (step + 1) ≤ length (text_in lane sheet.now) }
         requires room { at + (shown_size self.now + length given.now) ≤ length line.old }
         ensures end { result ≤ at + (shown_size self.now + length given.now) }
         ensures text { take result line.new
-            ≡ take at line.old ++ shown_text columns step lane given.now self.now }
+            ≡ take at line.old ++ shown_text self.now step given.now (text_in lane sheet.now) }
     {
-        let end = self.state.write(line, at, step, lane);
+        let latches = self.resets.len();
+        let from = step * self.literals.len();
+        let next = (step + 1) * self.literals.len();
+        let behind = from + latches;
+        let end = sheet.write(line, at, from, latches, lane);
         let end = write_text(line, end, given);
-        let end = self.outputs.write_column(line, end, step, lane);
-        let end = self.state.write_column(line, end, step + 1, lane);
-        let end = self.write_properties(line, end, columns, step, lane);
+        let end = sheet.write_column(line, end, behind, self.outputs, lane);
+        let end = sheet.write_column(line, end, next, latches, lane);
+        let end = self.write_properties(sheet, line, end, behind + self.outputs, lane);
         line[end] = b'\n';
         end + 1
     }

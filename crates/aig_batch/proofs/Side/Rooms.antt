@@ -1,8 +1,8 @@
 -- The room that a bench has for runs.
-use Rattle.std.proofs.Common.{◌*◌, ◌^◌, ◌<◌, ◌≤◌, ℕ, List, [], ap, arith, get_or, length}
+use Rattle.std.proofs.Common.{◌*◌, ◌^◌, ◌<◌, ◌≤◌, ℕ, List, [], ap, arith, get_or, length, subst, sym}
 use Rattle.std.specs.List.{All}
 use Rattle.std.proofs.Math.Nat.{mul-le-mul_left}
-use Rattle.std.proofs.lemmas.List.{get_or_default}
+use Rattle.std.proofs.lemmas.List.{get_or_default, length-map}
 use Rattle.aig_circuit.specs.declared.circuit.Circuit.{Circuit}
 use Rattle.aig_lanes.specs.declared.input_bits.InputWord.{InputWord}
 use Rattle.aig_lanes.specs.declared.run.Run.{Run}
@@ -10,9 +10,28 @@ use Rattle.aig_lanes.specs.declared.shown.Shown.{Shown}
 use Rattle.aig_batch.specs.declared.text_group.Bench.{Bench}
 use Rattle.aig_batch.specs.Parts.Benches.{HasRoomFor, HasSameRoom}
 use Rattle.aig_lanes.specs.Parts.InputBits.{HasRoom, SameRooms}
-use Rattle.aig_lanes.specs.Parts.LaneTexts.{HasSheets, shown_size}
+use Rattle.aig_lanes.specs.Parts.Kept.{asked}
+use Rattle.aig_lanes.specs.Parts.LaneTexts.{HoldsRun, ShowsRows, shown_size}
+use Rattle.aig_step.specs.declared.trace.Columns.{Columns}
+use Rattle.aig_step.specs.declared.trace.Columns.TheVariants.{Plain, Properties}
 use Rattle.aig_step.specs.Parts.Lines.{line_size}
-use Rattle.aig_batch.proofs.Side.ShownTexts.{holds_still}
+
+asked_few : (columns : Columns) (literals : List ℕ) → length (asked columns literals) ≤ length literals
+asked_few Plain literals = omega arith
+asked_few Properties literals = omega arith
+
+pub size_within : (c : Circuit) (shown : Shown) → ShowsRows c shown → shown_size shown ≤ line_size c
+size_within c shown shows =
+    omega (
+      arith,
+      shown.counted,
+      shows.outputs,
+      shows.bad,
+      shows.constraints,
+      asked_few shown.columns c.bad,
+      asked_few shown.columns c.constraints,
+      simp length-map at (ap length shows.resets),
+    )
 
 -- blocks that have the room that they had have it for the same runs
 pub bits_stay : (before after : List (List (List InputWord))) (runs : List Run) → SameRooms before after
@@ -30,14 +49,14 @@ pub room_stays : (before after : Bench) (runs : List Run) → HasSameRoom before
     → HasRoomFor after runs
 room_stays before after runs same had = record {
   bits = bits_stay before.bits.items after.bits.items runs same.bits had.bits;
-  shown = λ l d low below.
-      holds_still l (get_or runs l d) before.shown after.shown same.shown (had.shown l d low below);
+  sheet = λ l d low below.
+      subst (λ (s : Shown). HoldsRun l (get_or runs l d) s after.sheet) (sym same.shown)
+      (omega (arith, same.sheet l, had.sheet l d low below));
 }
 
 -- what lines show is no more than a line may be long
-pub fits_shown : (c : Circuit) (shown : Shown) (steps : ℕ) → HasSheets c shown → steps * line_size c < 2 ^ 64
+pub fits_shown : (c : Circuit) (shown : Shown) (steps : ℕ) → ShowsRows c shown → steps * line_size c < 2 ^ 64
     → steps * shown_size shown < 2 ^ 64
-fits_shown c shown steps sheets fits =
-    let less : shown_size shown ≤ line_size c =
-    omega (arith, sheets.state, sheets.outputs, sheets.bad, sheets.constraints) in
+fits_shown c shown steps shows fits =
+    let less : shown_size shown ≤ line_size c = size_within c shown shows in
     omega (arith, mul-le-mul_left {m = shown_size shown} {n = line_size c} steps less, fits)

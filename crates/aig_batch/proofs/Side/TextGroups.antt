@@ -1,47 +1,55 @@
 -- The texts of a group of runs, step by step.
 use Rattle.std.proofs.Common.{rules}
-use Rattle.std.proofs.Common.{◌≡◌, ◌+◌, ◌<◌, ◌≤◌, ◌++◌, ap₂, ℕ, zero, suc, List, [], ◌∷◌, length, map, get_or, take}
-use Rattle.std.proofs.Common.{replicate, refl, sym, ap, subst, ◌∙◌, arith, inl, inr}
-use Rattle.std.specs.List.{AllZip}
+use Rattle.std.proofs.Common.{◌≡◌, ◌+◌, ◌*◌, ◌<◌, ◌≤◌, ◌++◌, ap₂, ℕ, zero, suc, List, [], ◌∷◌, length, map, get_or}
+use Rattle.std.proofs.Common.{replicate, refl, set, sym, take, ap, subst, ◌∙◌, arith, inl, inr}
+use Rattle.std.specs.List.{All, AllZip}
 use Rattle.std.proofs.lemmas.Bool.{cases_lt}
-use Rattle.std.proofs.lemmas.List.{append-nil, length-append, take_all, take_more}
-use Rattle.std.proofs.lemmas.List.Concat.{flat_map-append}
+use Rattle.std.proofs.Math.Nat.{mul-le-mul_right}
+use Rattle.std.proofs.lemmas.List.{get_or-replicate, get_or-set_other, get_or-set_same, length-set, length-take-le}
+use Rattle.std.proofs.lemmas.List.{map-append, take-take, take_all, take_more}
+use Rattle.std.proofs.lemmas.List.Elements.{All-append, All-map, All-nil}
 use Rattle.std.proofs.lemmas.Simd.{length-replicate, map-map}
 use Rattle.aig_circuit.specs.declared.circuit.Circuit.{Circuit}
 use Rattle.aig_circuit.specs.declared.circuit.Latch.{Latch}
 use Rattle.aig_circuit.specs.declared.value.Val.{Val}
-use Rattle.aig_circuit.specs.declared.value.Val.TheVariants.{X}
-use Rattle.aig_meaning.specs.Meaning.{IsRow, Row, literal_value}
-use Rattle.aig_meaning.specs.Trace.{IsTrace, reset_state, state_after}
+use Rattle.aig_circuit.specs.declared.circuit.Reset.{Reset}
+use Rattle.aig_circuit.specs.declared.circuit.Reset.TheVariants as resets
+use Rattle.aig_circuit.specs.declared.value.Val.TheVariants.{X, Zero}
+use Rattle.aig_circuit.specs.Values.{value_not}
+use Rattle.aig_meaning.specs.Meaning.{Row, literal_value, next_literals}
+use Rattle.aig_meaning.specs.Trace.{IsTrace, reset_state, reset_value, state_after}
 use Rattle.aig_meaning.proofs.Traces.{reset_state_is_first, trace_goes_on}
 use Rattle.aig_lanes.specs.declared.run.Run.{Run}
 use Rattle.aig_lanes.specs.declared.shown.Shown.{Shown}
 use Rattle.aig_step.specs.declared.trace.Columns.{Columns}
+use Rattle.aig_step.specs.declared.trace.Columns.TheVariants.{Plain, Properties}
 use Rattle.aig_lanes.specs.Parts.Groups.{Assigned}
-use Rattle.aig_lanes.specs.Parts.LaneTexts.{AreShown, IsTextOf, TextStands, kept_text, shown_text}
+use Rattle.aig_lanes.specs.Parts.Kept.{asked, reset_literal, reset_literals, seen, step_literals, values_kept}
+use Rattle.aig_lanes.specs.Parts.LaneTexts.{IsTextOf, KeepsTrace, LaneStands, ShowsRows, end_of, kept_text}
 use Rattle.aig_lanes.specs.Parts.Lanes.{IsLane}
+use Rattle.aig_lanes.specs.Parts.Sheets.{BytesText, text_in}
 use Rattle.aig_step.specs.Parts.Lines.{row_read}
 use Rattle.aig_batch.specs.Parts.RunsRead.{kept_texts, no_run}
-use Rattle.aig_lanes.specs.Parts.Sheets.{step_in}
-use Rattle.aig_step.specs.Parts.Tables.{read_from}
+use Rattle.aig_step.specs.Parts.Machines.{ShowsBelow}
+use Rattle.aig_step.specs.Parts.Tables.{IsLiteralBelow, read_from}
 use Rattle.aig_lanes.specs.Runs.{IsRunOf}
-use Rattle.aig_step.specs.TraceText.{row_text, rows_text, values_text}
-use Rattle.aig_lanes.proofs.Side.Groups.{ShowsTheSame, StepsIn, same_row_read}
+use Rattle.aig_step.specs.TraceText.{character_of, values_text}
+use Rattle.aig_lanes.proofs.Side.Groups.{StepsIn}
+use Rattle.aig_step.proofs.LineValues.{row_is_read}
 use Rattle.aig_step.proofs.States.{state_after_last}
-use Rattle.aig_batch.proofs.Side.ShownTexts.{Kept, kept_same, line_shown, step_same}
+use Rattle.aig_batch.proofs.Side.ShownTexts.{kept_more, step_shown, text_of_kept}
 
-module _ (columns : Columns) (c parts : Circuit) (run : Run) (step lane : ℕ)
-    (table begun table_now state state_now : List (List ℕ))
-    (before after : Shown) (same : ShowsTheSame parts c) (fits : IsRunOf c run) (low : lane < 256)
-    (stood : TextStands columns c run step lane table state before)
-    (steps : StepsIn c parts run step lane table begun table_now state state_now)
-    (kept : Kept step before after)
-    (shows : (values : List Val) → step < length run.steps → IsLane lane table_now values
-    → AreShown columns parts lane values step after)
-    (shows_state : (values : List Val) → step < length run.steps → IsLane lane state_now values
-    → step_in (step + 1) lane after.state ≡ values_text values) where
+-- one more step of a run
+module _ (c : Circuit) (run : Run) (step lane : ℕ) (table begun table_now state state_now : List (List ℕ))
+    (shown : Shown) (before after : List BytesText) (shows : ShowsRows c shown) (fits : IsRunOf c run)
+    (stood : LaneStands c run step lane table state shown before)
+    (steps : StepsIn c c run step lane table begun table_now state state_now)
+    (front : take (end_of shown step) (text_in lane after) ≡ take (end_of shown step) (text_in lane before))
+    (text : (values : List Val) → step < length run.steps → IsLane lane table_now values
+    → take (end_of shown (step + 1)) (text_in lane after) ≡ take (end_of shown step) (text_in lane before)
+    ++ values_text (map (literal_value (read_from values)) shown.literals.items)) where
   abbrev rows : List Row
-  rows = stood.rows
+  rows = stood.keeps.rows
 
   abbrev start : List Val
   start = state_after (reset_state c) rows
@@ -50,115 +58,148 @@ module _ (columns : Columns) (c parts : Circuit) (run : Run) (step lane : ℕ)
   given = get_or run.steps step []
 
   module _ (has : step < length run.steps) where
-    stands_start : IsLane lane state start
-    stands_start = stood.state_stands (omega (arith, has))
-
     assigned : Assigned c lane start given table_now
     assigned =
         let there = stood.table_stands (omega (arith, has)) in
-        steps.assign given there.values start (fits step [] has) (steps.put there.values has there.stand) stands_start
-
-    abbrev values : ℕ → Val
-    values = read_from assigned.now.values
+        steps.assign given there.values start (fits step [] has) (steps.put there.values has there.stand)
+        (stood.state_stands (omega (arith, has)))
 
     abbrev row : Row
-    row = row_read c start given values
+    row = row_read c start given (read_from assigned.now.values)
 
-    is_row : IsRow c row
-    is_row = (
-      values,
-      record {
-        assigned = assigned.assigned;
-        outputs_shown = refl;
-        next_shown = refl;
-        bad_shown = refl;
-        constraints_shown = refl;
-      },
-    )
+    kept : take (end_of shown (length (take (step + 1) run.steps))) (text_in lane after)
+        ≡ values_text (values_kept shown.columns (reset_state c) (rows ++ row ∷ []))
+    kept =
+        let count : length (take step run.steps) ≡ step = length-take-le step run.steps (omega (arith, has)) in
+        let more : length (take (step + 1) run.steps) ≡ step + 1 =
+        length-take-le (step + 1) run.steps (omega (arith, has)) in
+        let put = seen shown.columns row.outputs row.bad row.constraints ++ row.next in
+        let values = assigned.now.values in
+        ap (λ (n : ℕ). take (end_of shown n) (text_in lane after)) more
+        ∙ text values has assigned.now.stand
+        ∙ ap₂ (λ (old new : List ℕ). old ++ new)
+        (ap (λ (n : ℕ). take (end_of shown n) (text_in lane before)) (sym count) ∙ stood.keeps.kept)
+        (ap (λ (ls : List ℕ). values_text (map (literal_value (read_from values)) ls)) shows.literals
+        ∙ ap values_text (step_shown shown.columns c values start given))
+        ∙ sym (map-append character_of (values_kept shown.columns (reset_state c) rows) put)
+        ∙ ap values_text (sym (kept_more shown.columns (reset_state c) rows row))
 
-    count_is : length rows ≡ step
-    count_is = stood.count (omega (arith, has))
-
-    count_now : length (rows ++ row ∷ []) ≡ suc (length rows)
-    count_now = length-append rows (row ∷ []) ∙ omega arith
-
-    state_now_is : IsLane lane state_now (map (λ (k : Latch). literal_value values k.next) parts.latches)
-    state_now_is = steps.show assigned.now.values start assigned.now.stand stands_start
-
-    line_is : shown_text columns step lane (values_text given) after ≡ row_text columns row
-    line_is =
-        line_shown columns parts lane assigned.now.values start given step after
-        (step_same step (step + 1) lane before.state after.state low (omega arith) kept.state
-        ∙ stood.state_kept (omega (arith, has)))
-        (shows_state (map (λ (k : Latch). literal_value values k.next) parts.latches) has state_now_is
-        ∙ ap values_text (sym (map-map (literal_value values) (λ (k : Latch). k.next) parts.latches)))
-        (shows assigned.now.values has assigned.now.stand)
-        ∙ ap (row_text columns) (same_row_read parts c start given values same)
-
-    text_is : kept_text columns run (length (rows ++ row ∷ [])) lane after ≡ rows_text columns (rows ++ row ∷ [])
-    text_is =
-        ap (λ (n : ℕ). kept_text columns run n lane after) count_now
-        ∙ ap₂ (λ (front line : List ℕ). front ++ line)
-        (kept_same step lane before after low kept columns run (length rows) (omega (arith, count_is)) ∙ stood.is)
-        (ap (λ (n : ℕ). shown_text columns n lane (values_text (get_or run.steps n [])) after) count_is ∙ line_is)
-        ∙ ap (λ (t : List ℕ). rows_text columns rows ++ t) (sym (append-nil (row_text columns row)))
-        ∙ sym (flat_map-append (row_text columns) rows (row ∷ []))
-
-    next_is : map (λ (k : Latch). literal_value values k.next) parts.latches
-        ≡ state_after (reset_state c) (rows ++ row ∷ [])
-    next_is =
-        ap (map (λ (k : Latch). literal_value values k.next)) same.latches
-        ∙ sym (map-map (literal_value values) (λ (k : Latch). k.next) c.latches)
-        ∙ sym (state_after_last (reset_state c) rows row)
-
-    stands_now : TextStands columns c run (step + 1) lane table_now state_now after
+    stands_now : LaneStands c run (step + 1) lane table_now state_now shown after
     stands_now = record {
-      rows = rows ++ row ∷ [];
-      traced =
-          subst (λ (vs : List (List Val)). IsTrace c (reset_state c) vs (rows ++ row ∷ []))
-          (sym (take_more run.steps step [] has))
-          (trace_goes_on c (reset_state c) (take step run.steps) rows row stood.traced refl is_row);
-      count = λ _. count_now ∙ omega (arith, count_is);
-      ended = λ end. count_now ∙ omega (arith, count_is, has, end);
-      is = text_is;
+      keeps = record {
+        rows = rows ++ row ∷ [];
+        traced =
+            subst (λ (vs : List (List Val)). IsTrace c (reset_state c) vs (rows ++ row ∷ []))
+            (sym (take_more run.steps step [] has))
+            (trace_goes_on c (reset_state c) (take step run.steps) rows row stood.keeps.traced refl
+            (row_is_read c start given (read_from assigned.now.values) assigned.assigned));
+        kept = kept;
+      };
       table_stands = λ _. assigned.now;
-      state_stands = λ _. subst (λ (vs : List Val). IsLane lane state_now vs) next_is state_now_is;
-      state_kept = λ _.
-          shows_state (map (λ (k : Latch). literal_value values k.next) parts.latches) has state_now_is
-          ∙ ap values_text next_is;
+      state_stands = λ _.
+          subst (λ (vs : List Val). IsLane lane state_now vs)
+          (sym (map-map (literal_value (read_from assigned.now.values)) (λ (k : Latch). k.next) c.latches)
+          ∙ sym (state_after_last (reset_state c) rows row))
+          (steps.show assigned.now.values start assigned.now.stand (stood.state_stands (omega (arith, has))));
     }
 
   module _ (ended : length run.steps ≤ step) where
-    stays : TextStands columns c run (step + 1) lane table_now state_now after
+    stays : LaneStands c run (step + 1) lane table_now state_now shown after
     stays =
         let whole : take step run.steps ≡ take (step + 1) run.steps =
         take_all step run.steps ended ∙ sym (take_all (step + 1) run.steps (omega (arith, ended))) in
+        let count : length (take step run.steps) ≡ length run.steps = ap length (take_all step run.steps ended) in
+        let end = end_of shown (length (take step run.steps)) in
+        let within : end ≤ end_of shown step =
+        omega (
+          arith,
+          count,
+          mul-le-mul_right {m = length (take step run.steps)} {n = step} (length shown.literals.items)
+              (omega (arith, count, ended)),
+        ) in
         record {
-          rows = rows;
-          traced = subst (λ (vs : List (List Val)). IsTrace c (reset_state c) vs rows) whole stood.traced;
-          count = λ more. absurd (omega (arith, more, ended));
-          ended = λ _. stood.ended ended;
-          is =
-              kept_same step lane before after low kept columns run (length rows)
-              (omega (arith, stood.ended ended, ended))
-              ∙ stood.is;
+          keeps = subst (λ (vs : List (List Val)). KeepsTrace c vs shown (text_in lane after)) whole (record {
+            rows = rows;
+            traced = stood.keeps.traced;
+            kept =
+                sym (take-take end (end_of shown step) (text_in lane after) within)
+                ∙ ap (take end) front
+                ∙ take-take end (end_of shown step) (text_in lane before) within
+                ∙ stood.keeps.kept;
+          });
           table_stands = λ more. absurd (omega (arith, more, ended));
           state_stands = λ more. absurd (omega (arith, more, ended));
-          state_kept = λ more. absurd (omega (arith, more, ended));
         }
 
-  pub text_stands_on : TextStands columns c run (step + 1) lane table_now state_now after
-  text_stands_on = elim (cases_lt step (length run.steps)) [
+  pub stands_on : LaneStands c run (step + 1) lane table_now state_now shown after
+  stands_on = elim (cases_lt step (length run.steps)) [
     | inl has ↦ stands_now has
     | inr ended ↦ stays ended
   ]
 
+-- before the first step the literals of resets have their values
+reset_read : (variables : ℕ) (r : Reset) → 1 < variables
+    → literal_value (read_from (set (replicate variables X) 0 Zero)) (reset_literal r) ≡ reset_value r
+reset_read variables resets.Zero some =
+    get_or-set_same (replicate variables X) 0 Zero Zero (omega (arith, some, length-replicate variables X))
+reset_read variables resets.One some =
+    ap value_not (get_or-set_same (replicate variables X) 0 Zero Zero (omega (arith, some, length-replicate variables X)))
+reset_read variables resets.Uninit some =
+    get_or-set_other (replicate variables X) 0 1 Zero Zero (λ e. omega (arith, e))
+    ∙ get_or-replicate variables 1 X Zero some
+
+reset_shown : (variables : ℕ) (latches : List Latch) → (0 < length latches → 1 < variables) → 0 < variables
+    → map (literal_value (read_from (set (replicate variables X) 0 Zero))) (reset_literals latches)
+    ≡ map (λ (l : Latch). reset_value l.reset) latches
+reset_shown variables [] some more = refl
+reset_shown variables (l ∷ ls) some more =
+    ap₂ (λ (v : Val) vs. v ∷ vs) (reset_read variables l.reset (some (omega arith)))
+    (reset_shown variables ls (λ _. some (omega arith)) more)
+
+reset_below : (variables : ℕ) (r : Reset) → 1 < variables → IsLiteralBelow variables (reset_literal r)
+reset_below variables resets.Zero some = omega (arith, some)
+reset_below variables resets.One some = omega (arith, some)
+reset_below variables resets.Uninit some = omega (arith, some)
+
+pub resets_below : (variables : ℕ) (latches : List Latch) → (0 < length latches → 1 < variables)
+    → All (IsLiteralBelow variables) (reset_literals latches)
+resets_below variables latches some =
+    All-map (IsLiteralBelow variables) (λ (l : Latch). reset_literal l.reset) latches
+    (λ k d below. reset_below variables (get_or latches k d).reset (some (omega (arith, below))))
+
+asked_below : (size : ℕ) (columns : Columns) (literals : List ℕ) → All (IsLiteralBelow size) literals
+    → All (IsLiteralBelow size) (asked columns literals)
+asked_below size Plain literals below = All-nil (IsLiteralBelow size)
+asked_below size Properties literals below = below
+
+pub literals_below : (size : ℕ) (columns : Columns) (c : Circuit) → ShowsBelow size c
+    → All (IsLiteralBelow size) (step_literals columns c)
+literals_below size columns c below = search (rules, All-append, All-map, asked_below)
+
 -- before the first step
-pub text_stands_first : (columns : Columns) (c : Circuit) (run : Run) (lane : ℕ) (table state : List (List ℕ))
-    (shown : Shown) → IsLane lane table (replicate (1 + c.max_var) X) → IsLane lane state (reset_state c)
-    → step_in 0 lane shown.state ≡ values_text (reset_state c)
-    → TextStands columns c run 0 lane table state shown
-text_stands_first columns c run lane table state shown is from kept = search (rules, reset_state_is_first, length-replicate)
+pub stands_first : (c : Circuit) (run : Run) (lane : ℕ) (table state : List (List ℕ)) (shown : Shown)
+    (sheet : List BytesText) → ShowsRows c shown → length c.latches ≤ c.max_var
+    → IsLane lane table (set (replicate (1 + c.max_var) X) 0 Zero) → IsLane lane state (reset_state c)
+    → take (end_of shown 0) (text_in lane sheet)
+    ≡ values_text (map (literal_value (read_from (set (replicate (1 + c.max_var) X) 0 Zero))) shown.resets.items)
+    → LaneStands c run 0 lane table state shown sheet
+stands_first c run lane table state shown sheet shows room is from kept = record {
+  keeps = record {
+    rows = [];
+    traced = (reset_state_is_first c, tt);
+    kept =
+        kept
+        ∙ ap (λ (ls : List ℕ).
+        values_text (map (literal_value (read_from (set (replicate (1 + c.max_var) X) 0 Zero))) ls)) shows.resets
+        ∙ ap values_text (reset_shown (1 + c.max_var) c.latches (λ some. omega (arith, some, room)) (omega arith));
+  };
+  table_stands = λ _. record {
+    values = set (replicate (1 + c.max_var) X) 0 Zero;
+    stand = is;
+    size_is = length-set (replicate (1 + c.max_var) X) 0 Zero ∙ length-replicate (1 + c.max_var) X;
+  };
+  state_stands = λ _. from;
+}
 
 -- one more run and one more text
 zip_more : (R : Run → List ℕ → Type 0) (runs : List Run) (texts : List (List ℕ)) (run : Run) (text : List ℕ)
@@ -171,21 +212,22 @@ zip_more R (r ∷ rs) (t ∷ ts) run text each more = (each.0, zip_more R rs ts 
 pub one_behind : (n : ℕ) → suc n ≡ n + 1
 one_behind n = omega arith
 
-module _ (columns : Columns) (c : Circuit) (runs : List Run) (shown : Shown)
-    (each : (j : ℕ) (d : Run) → j < length runs → IsTextOf columns c (get_or runs j d)
-    (kept_text columns (get_or runs j d) (length (get_or runs j d).steps) j shown)) where
-  zipped_first : (n : ℕ) → n ≤ length runs → AllZip (IsTextOf columns c) (take n runs) (kept_texts columns runs n shown)
+module _ (c : Circuit) (runs : List Run) (shown : Shown) (sheet : List BytesText) (shows : ShowsRows c shown)
+    (each : (j : ℕ) (d : Run) → j < length runs → KeepsTrace c (get_or runs j d).steps shown (text_in j sheet)) where
+  zipped_first : (n : ℕ) → n ≤ length runs
+      → AllZip (IsTextOf shown.columns c) (take n runs) (kept_texts shown runs n sheet)
   zipped_first zero within = tt
   zipped_first (suc n) within =
       let less : n < length runs = omega (arith, within) in
-      subst (λ (rs : List Run). AllZip (IsTextOf columns c) rs (kept_texts columns runs (suc n) shown))
+      let run = get_or runs n no_run in
+      subst (λ (rs : List Run). AllZip (IsTextOf shown.columns c) rs (kept_texts shown runs (suc n) sheet))
       (sym (ap (λ (k : ℕ). take k runs) (one_behind n) ∙ take_more runs n no_run less))
-      (zip_more (IsTextOf columns c) (take n runs) (kept_texts columns runs n shown) (get_or runs n no_run)
-      (kept_text columns (get_or runs n no_run) (length (get_or runs n no_run).steps) n shown)
-      (zipped_first n (omega (arith, within))) (each n no_run less))
+      (zip_more (IsTextOf shown.columns c) (take n runs) (kept_texts shown runs n sheet) run
+      (kept_text shown run (length run.steps) (text_in n sheet)) (zipped_first n (omega (arith, within)))
+      (text_of_kept c run shown (text_in n sheet) shows (each n no_run less)))
 
   -- what is kept of runs is their texts
-  pub zipped_texts : AllZip (IsTextOf columns c) runs (kept_texts columns runs (length runs) shown)
+  pub zipped_texts : AllZip (IsTextOf shown.columns c) runs (kept_texts shown runs (length runs) sheet)
   zipped_texts =
-      subst (λ (rs : List Run). AllZip (IsTextOf columns c) rs (kept_texts columns runs (length runs) shown))
+      subst (λ (rs : List Run). AllZip (IsTextOf shown.columns c) rs (kept_texts shown runs (length runs) sheet))
       (take_all (length runs) runs (omega arith)) (zipped_first (length runs) (omega arith))

@@ -5,15 +5,16 @@ use Rattle.aig_circuit.specs.declared.circuit.Circuit.{Circuit}
 use Rattle.aig_lanes.specs.declared.run.Run.{Run}
 use Rattle.aig_batch.specs.declared.text_group.Bench.{Bench}
 use Rattle.aig_lanes.specs.Parts.InputBits.{AreBlocks, HasRoom, SameRooms}
-use Rattle.aig_lanes.specs.Parts.LaneTexts.{HasSheets, HoldsRuns, SameRoom}
+use Rattle.aig_lanes.specs.Parts.LaneTexts.{HoldsRuns, ShowsRows}
+use Rattle.aig_lanes.specs.Parts.Sheets.{SameRoom}
 use Rattle.aig_step.specs.Parts.Lines.{line_size}
 
--- it has bits for each input, a place for each variable, latch and value that is shown, and room for a line
+-- it has bits for each input, a place for each variable and latch, and room for a line; and it shows what rows show
 pub record IsBench (c : Circuit) (bench : Bench) : Type 0 where
   pub bits : AreBlocks (length c.inputs) (length bench.bits.items)
   pub table : length bench.table.items ≡ 2 * (1 + c.max_var)
   pub state : length bench.state.items ≡ 2 * length c.latches
-  pub sheets : HasSheets c bench.shown
+  pub shows : ShowsRows c bench.shown
   pub line : length bench.line.items ≡ line_size c
 
 -- as many lines as a run has steps can be counted in a word
@@ -23,9 +24,10 @@ Fits c run = length run.steps * line_size c < 2 ^ 64
 -- it has room for the steps of these runs
 pub record HasRoomFor (bench : Bench) (runs : List Run) : Type 0 where
   pub bits : All (HasRoom runs) bench.bits.items
-  pub shown : HoldsRuns bench.shown runs
+  pub sheet : HoldsRuns bench.shown bench.sheet runs
 
 -- it has the room that it had
 pub record HasSameRoom (before after : Bench) : Type 0 where
   pub bits : SameRooms before.bits.items after.bits.items
-  pub shown : SameRoom before.shown after.shown
+  pub shown : after.shown ≡ before.shown
+  pub sheet : SameRoom before.sheet after.sheet

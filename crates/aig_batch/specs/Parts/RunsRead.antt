@@ -9,6 +9,7 @@ use Rattle.aig_lanes.specs.declared.shown.Shown.{Shown}
 use Rattle.aig_step.specs.declared.trace.Columns.{Columns}
 use Rattle.aig_step.specs.Stimulus.{Entry, Step, Stop, judged_lines, lines_say}
 use Rattle.aig_lanes.specs.Parts.LaneTexts.{kept_text}
+use Rattle.aig_lanes.specs.Parts.Sheets.{BytesText, text_in}
 use Rattle.aig_trace.specs.Parts.Progress.{Goes, begin_of}
 use Rattle.aig_step.specs.Parts.Seen.{IsHeard}
 
@@ -42,12 +43,13 @@ text_of_group texts = flat_map (λ (text : List ℕ). text ++ codes ".\n") texts
 abbrev pub no_run : Run
 no_run = record { steps = [] }
 
--- what is kept of the first runs, one after the other
-abbrev pub kept_texts : Columns → List Run → ℕ → Shown → List (List ℕ)
-kept_texts columns runs zero shown = []
-kept_texts columns runs (suc lane) shown =
-    kept_texts columns runs lane shown
-    ++ kept_text columns (slice_index_or runs lane no_run) (length (slice_index_or runs lane no_run).steps) lane shown
+-- the texts of the first runs by what is kept in their lanes
+abbrev pub kept_texts : Shown → List Run → ℕ → List BytesText → List (List ℕ)
+kept_texts shown runs zero sheet = []
+kept_texts shown runs (suc lane) sheet =
+    kept_texts shown runs lane sheet
+    ++ kept_text shown (slice_index_or runs lane no_run) (length (slice_index_or runs lane no_run).steps)
+    (text_in lane sheet)
     ∷ []
 
 -- the text for groups of runs was put

@@ -31,32 +31,24 @@ byte_at place rows = slice_index_or (slice_index_or rows (place / 32) []) (place
 abbrev pub eight_at : ℕ → (ones zeros : List ℕ) → BytesText
 eight_at octet ones zeros = record { ones = take 8 (drop (8 * octet) ones); zeros = take 8 (drop (8 * octet) zeros) }
 
--- rows of bytes for all lanes, with so many literals for each step
-pub record SheetText : Type 0 where
-  pub width : ℕ
-  pub byte_rows : List BytesText
-
--- the characters of literals in a lane, those of one step behind those of the step before it
-abbrev pub lane_text : ℕ → List BytesText → List ℕ
-lane_text lane byte_rows =
+-- the characters of literals in a lane, where rows of bytes for all lanes are these
+abbrev pub text_in : ℕ → List BytesText → List ℕ
+text_in lane byte_rows =
     bytes_text (lane % 8) (slice_index_or byte_rows (lane / 8) (record { ones = []; zeros = [] }))
-
-abbrev pub text_in : ℕ → SheetText → List ℕ
-text_in lane sheet = lane_text lane sheet.byte_rows
-
--- the characters of a step in a lane
-abbrev pub step_in : (step lane : ℕ) → SheetText → List ℕ
-step_in step lane sheet = take sheet.width (drop (step * sheet.width) (text_in lane sheet))
-
--- a lane has places for a step
-abbrev pub HasStep : (step lane : ℕ) → SheetText → Type 0
-HasStep step lane sheet = step * sheet.width + sheet.width ≤ length (text_in lane sheet)
 
 -- there are rows of bytes for each eight of lanes
 abbrev pub IsSheet : List BytesText → Type 0
 IsSheet byte_rows = length byte_rows ≡ 32
 
--- in the lane of each run there are places for so many literals for each step, and for so many steps more
+-- in the lane of each run there are places for so many literals for each step, and for so many more
 abbrev pub HoldsSteps : (width more : ℕ) → List BytesText → List Run → Type 0
 HoldsSteps width more byte_rows runs = (l : ℕ) (d : Run) → l < 256 → l < length runs
-    → (length (slice_index_or runs l d).steps + more) * width ≤ length (lane_text l byte_rows)
+    → length (slice_index_or runs l d).steps * width + more ≤ length (text_in l byte_rows)
+
+-- so many characters of a text, from one on
+abbrev pub part : (from count : ℕ) → List ℕ → List ℕ
+part from count text = take count (drop from text)
+
+-- all lanes have the places that they had
+abbrev pub SameRoom : (before after : List BytesText) → Type 0
+SameRoom before after = (l : ℕ) → length (text_in l after) ≡ length (text_in l before)

@@ -1,6 +1,10 @@
 use Rattle.std.proofs.Common.{◌≡◌, ◌∙◌, ◌+◌, ◌++◌, ◌∷◌, List, [], ap, get_or, length, subst, sym, take}
 use Rattle.std.proofs.lemmas.List.{take_more}
 use Rattle.aig_lanes.specs.declared.run.Run.{Run}
+use Rattle.std.specs.List.{AllZip}
+use Rattle.aig_step.specs.declared.trace.Columns.{Columns}
+use Rattle.aig_lanes.specs.declared.shown.Shown.{Shown}
+use Rattle.aig_lanes.specs.Parts.LaneTexts.{IsTextOf}
 use Rattle.aig_batch.specs.Parts.Benches.{HasRoomFor}
 use Rattle.aig_batch.specs.Parts.RunsRead.{PutRuns, kept_texts}
 use Rattle.aig_batch.proofs.Side.Fronts.{put_more}
@@ -11,25 +15,30 @@ use Rattle.aig_batch.proofs.batched.put_groups.Goals as goal
 pub loop-group-preserved : goal.loop-group-preserved
 loop-group-preserved g c =
     let machine = c.args.machine.now in
-    let columns = c.args.columns in
+    let columns = c.args.bench.now.shown.columns in
     let groups = c.args.groups.now in
     let i = c.loop-group.group-index in
     let runs = c.as_slice.result.now in
     let shown = c.run.new.self.shown in
+    let sheet = c.run.new.self.sheet in
     let is_group : runs ≡ get_or groups i c.group-item.result = c.as_slice.ensures ∙ c.group-item.is in
     let now : take (i + 1) groups ≡ take i groups ++ runs ∷ [] =
     take_more groups i c.group-item.result c.loop-group-test.true
     ∙ ap (λ (r : List Run). take i groups ++ r ∷ []) (sym is_group) in
+    let asks = ap (λ (s : Shown). s.columns) c.run.ensures.same.shown ∙ c.loop-group.invariant.asks in
     record {
       is = c.run.ensures.is;
+      asks = asks;
       room = λ k d below.
           room_stays c.loop-group.bench c.run.new.self (get_or groups k d) c.run.ensures.same
           (c.loop-group.invariant.room k d below);
       put =
           subst (λ (gs : List (List Run)). PutRuns machine columns gs c.args.output.now c.run.new.output) (sym now)
-          (put_more machine columns (take i groups) runs (kept_texts columns runs (length runs) shown)
+          (put_more machine columns (take i groups) runs (kept_texts shown runs (length runs) sheet)
           c.args.output.now c.loop-group.output c.run.new.output c.loop-group.invariant.put
-          (zipped_texts columns machine runs shown c.run.ensures.texts) c.run.ensures.put);
+          (subst (λ (k : Columns). AllZip (IsTextOf k machine) runs (kept_texts shown runs (length runs) sheet))
+          asks (zipped_texts machine runs shown sheet c.run.ensures.is.shows c.run.ensures.keeps))
+          c.run.ensures.put);
     }
 
 pub run-requires-clause-room : goal.run-requires-clause-room

@@ -1,4 +1,4 @@
-use Rattle.std.specs.Prelude.{take}
+use Rattle.std.specs.Prelude.{◌≡◌, take}
 use Rattle.std.specs.List.{All}
 use Rattle.aig_batch.specs.Parts.Benches.{HasRoomFor, IsBench}
 use Rattle.aig_batch.specs.Parts.RunsRead.{PutRuns}
@@ -7,6 +7,7 @@ use Rattle.aig_batch.proofs.batched.put_groups.Given as goal
 abbrev pub invariant-loop-group : goal.invariant-loop-group
 invariant-loop-group g l = record {
   is : IsBench l.machine l.bench;
+  asks : l.bench.shown.columns ≡ l.fn.bench.shown.columns;
   room : All (HasRoomFor l.bench) l.groups;
-  put : PutRuns l.machine l.columns (take l.group-index l.groups) l.fn.output l.output;
+  put : PutRuns l.machine l.fn.bench.shown.columns (take l.group-index l.groups) l.fn.output l.output;
 }

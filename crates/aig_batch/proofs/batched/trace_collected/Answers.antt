@@ -31,11 +31,12 @@ returns-clause-ok g c =
     let bytes = c.args.bytes.now in
     let lines = c.in_ok-groups.lines in
     let rest = c.in_ok-groups.rest.now in
-    on_ok_weaker c.trace_good.result (λ sent.
-    sent checked bytes c.requires.fresh c.in_ok-machine.ensures.means
+    let asks = c.in_ok-machine.ensures.asks in
+    on_ok_weaker c.trace_good.result (λ sent. rw (← asks)
+    (sent checked bytes (rw asks c.requires.fresh) c.in_ok-machine.ensures.means
     (says_of checked bytes lines rest c.len-inputs.result c.in_ok-groups.groups.items c.deref-2.result.now
     (c.len-inputs.ensures ∙ ap (λ (k : Circuit). length k.inputs) c.circuit.ensures.value) c.deref-2.ensures.value
-    c.in_ok-groups.ensures.says) c.requires.none_bad)
+    c.in_ok-groups.ensures.says) c.requires.none_bad))
     c.trace_good.ensures.ok
 
 pub returns-clause-err : goal.returns-clause-err
@@ -44,14 +45,15 @@ returns-clause-err g c =
     let bytes = c.args.bytes.now in
     let lines = c.in_ok-groups.lines in
     let rest = c.in_ok-groups.rest.now in
+    let asks = c.in_ok-machine.ensures.asks in
     if_err_too c.trace_good.result
     (λ e kind said.
     subst (λ (k : SimFault). NotTraced checked c.args.columns bytes k (g.W.Sink.taken c.args.sink.now)
     (g.W.Sink.taken c.trace_good.new.sink)) (sym kind)
-    (said checked bytes c.requires.fresh c.in_ok-machine.ensures.means
+    (rw (← asks) (said checked bytes (rw asks c.requires.fresh) c.in_ok-machine.ensures.means
     (says_of checked bytes lines rest c.len-inputs.result c.in_ok-groups.groups.items c.deref-2.result.now
     (c.len-inputs.ensures ∙ ap (λ (k : Circuit). length k.inputs) c.circuit.ensures.value) c.deref-2.ensures.value
-    c.in_ok-groups.ensures.says) c.requires.none_bad))
+    c.in_ok-groups.ensures.says) c.requires.none_bad)))
     c.trace_good.ensures.kind c.trace_good.ensures.err
 
 pub returns-clause-count : goal.returns-clause-count

@@ -9,10 +9,11 @@ use Rattle.aig_batch.proofs.batched.trace_good.Goals as goal
 
 pub returns-then-is_err-clause-err : goal.returns-then-is_err-clause-err
 returns-then-is_err-clause-err g c = λ circuit bytes fresh means says none.
-    let columns = c.args.columns in
-    let text = c.put_groups.ensures.text in
+    let columns = c.args.bench.now.shown.columns in
+    let put = c.put_groups.ensures in
+    let text = put.text in
     let front = front_of circuit c.args.machine.now columns bytes c.args.groups.now c.args.lines c.args.rest.now text
-    means says c.put_groups.ensures.goes in
+    means says put.goes in
     let whole = front.says.passed ++ c.args.rest.now in
     let good : first_bad_line circuit whole true ≡ None =
     subst (λ (bs : List ℕ). first_bad_line circuit bs true ≡ None) front.says.parted none in
@@ -20,7 +21,7 @@ returns-then-is_err-clause-err g c = λ circuit bytes fresh means says none.
     let all = advanced circuit columns whole good c.take_chunk-all.result text _ _ _ _
     (λ yes. c.take_chunk-all.ensures.good yes circuit columns _ _ stands)
     (λ no. c.take_chunk-all.ensures.bad no circuit columns _ _ _ stands) in
-    let last = finished_behind circuit columns whole good text _ _ _ _ _ c.put_groups.ensures.put all
+    let last = finished_behind circuit columns whole good text _ _ _ _ _ put.put all
     (λ t there. finished circuit columns whole good c.take_end-last.result t _ _ _
     (λ yes. c.take_end-last.ensures.good yes circuit columns whole t there)
     (λ no. c.take_end-last.ensures.bad no circuit columns whole t there)) in
@@ -35,10 +36,11 @@ returns-then-is_err-clause-err g c = λ circuit bytes fresh means says none.
 
 pub returns-clause-ok : goal.returns-clause-ok
 returns-clause-ok g c = λ circuit bytes fresh means says none.
-    let columns = c.args.columns in
-    let text = c.put_groups.ensures.text in
+    let columns = c.args.bench.now.shown.columns in
+    let put = c.put_groups.ensures in
+    let text = put.text in
     let front = front_of circuit c.args.machine.now columns bytes c.args.groups.now c.args.lines c.args.rest.now text
-    means says c.put_groups.ensures.goes in
+    means says put.goes in
     let whole = front.says.passed ++ c.args.rest.now in
     let good : first_bad_line circuit whole true ≡ None =
     subst (λ (bs : List ℕ). first_bad_line circuit bs true ≡ None) front.says.parted none in
@@ -46,7 +48,7 @@ returns-clause-ok g c = λ circuit bytes fresh means says none.
     let all = advanced circuit columns whole good c.take_chunk-all.result text _ _ _ _
     (λ yes. c.take_chunk-all.ensures.good yes circuit columns _ _ stands)
     (λ no. c.take_chunk-all.ensures.bad no circuit columns _ _ _ stands) in
-    let last = finished_behind circuit columns whole good text _ _ _ _ _ c.put_groups.ensures.put all
+    let last = finished_behind circuit columns whole good text _ _ _ _ _ put.put all
     (λ t there. finished circuit columns whole good c.take_end-last.result t _ _ _
     (λ yes. c.take_end-last.ensures.good yes circuit columns whole t there)
     (λ no. c.take_end-last.ensures.bad no circuit columns whole t there)) in

@@ -7,19 +7,20 @@ use Rattle.aig_io.specs.Output.{Put}
 use Rattle.aig_io.proofs.Puts.{put_twice}
 use Rattle.aig_lanes.specs.declared.run.Run.{Run}
 use Rattle.aig_lanes.specs.Parts.LaneTexts.{kept_text}
+use Rattle.aig_lanes.specs.Parts.Sheets.{text_in}
 use Rattle.aig_batch.specs.Parts.RunsRead.{kept_texts, no_run, text_of_group}
 use Rattle.aig_batch.proofs.Side.TextGroups.{one_behind}
 use Rattle.aig_batch.proofs.text_group.put_runs.Goals as goal
 
 pub loop-lane-preserved : goal.loop-lane-preserved
 loop-lane-preserved g c =
-    let columns = c.args.columns in
     let runs = c.args.runs.now in
     let shown = c.args.shown.now in
+    let sheet = c.args.sheet.now in
     let lane = c.loop-lane.lane in
     let now = c.put_run.new.output in
-    let first = kept_texts columns runs lane shown in
-    let kept = λ (run : Run). kept_text columns run (length run.steps) lane shown in
+    let first = kept_texts shown runs lane sheet in
+    let kept = λ (run : Run). kept_text shown run (length run.steps) (text_in lane sheet) in
     let is_run = c.index-runs-lane.is ∙ get_or_default runs lane _ no_run c.loop-lane-test.true in
     let whole : text_of_group (first ++ kept (get_or runs lane no_run) ∷ [])
     ≡ text_of_group first ++ (kept (get_or runs lane no_run) ++ codes ".\n") =
@@ -27,7 +28,7 @@ loop-lane-preserved g c =
     ∙ ap (λ (t : List ℕ). text_of_group first ++ t) (append-nil (kept (get_or runs lane no_run) ++ codes ".\n")) in
     record {
       put =
-          subst (λ (n : ℕ). Put c.args.output.now now (text_of_group (kept_texts columns runs n shown)))
+          subst (λ (n : ℕ). Put c.args.output.now now (text_of_group (kept_texts shown runs n sheet)))
           (one_behind lane)
           (subst (λ (t : List ℕ). Put c.args.output.now now t) (sym whole)
           (put_twice c.args.output.now c.loop-lane.output now (text_of_group first) _ c.loop-lane.invariant.put
@@ -41,5 +42,5 @@ returns g c =
     omega (arith, c.loop-lane-test.false, c.loop-lane.auto.lane-end) in
     subst
     (λ (n : ℕ). Put c.args.output.now c.loop-lane.output
-    (text_of_group (kept_texts c.args.columns c.args.runs.now n c.args.shown.now)))
+    (text_of_group (kept_texts c.args.shown.now c.args.runs.now n c.args.sheet.now)))
     end c.loop-lane.invariant.put

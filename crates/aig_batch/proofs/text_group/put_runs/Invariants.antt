@@ -5,6 +5,6 @@ use Rattle.aig_batch.proofs.text_group.put_runs.Given as goal
 
 abbrev pub invariant-loop-lane : goal.invariant-loop-lane
 invariant-loop-lane g l = record {
-  put : Put l.fn.output l.output (text_of_group (kept_texts l.columns l.runs l.lane l.shown));
+  put : Put l.fn.output l.output (text_of_group (kept_texts l.shown l.runs l.lane l.sheet));
   line : length l.line ≡ length l.fn.line;
 }

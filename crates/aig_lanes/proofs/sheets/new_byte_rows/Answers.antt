@@ -3,7 +3,7 @@ use Rattle.std.proofs.Common.{length, rules}
 use Rattle.std.proofs.Math.Nat.{mul-le-mul_right}
 use Rattle.std.proofs.lemmas.Bool.{cases_lt}
 use Rattle.std.proofs.lemmas.List.{get_or-append-add, get_or_append_left, length-append}
-use Rattle.aig_lanes.specs.Parts.Sheets.{BytesText, bytes_text, lane_text}
+use Rattle.aig_lanes.specs.Parts.Sheets.{BytesText, bytes_text, text_in}
 use Rattle.aig_lanes.proofs.Side.Sheets.{rows_with}
 use Rattle.aig_lanes.proofs.sheets.new_byte_rows.Goals as goal
 
@@ -12,7 +12,7 @@ add_none n = omega arith
 
 -- behind other rows of bytes stand these
 last_rows : (byte_rows : List BytesText) (octet : BytesText) (k : ℕ) → k / 8 ≡ length byte_rows
-    → lane_text k (byte_rows ++ octet ∷ []) ≡ bytes_text (k % 8) octet
+    → text_in k (byte_rows ++ octet ∷ []) ≡ bytes_text (k % 8) octet
 last_rows byte_rows octet k is =
     ap (λ (n : ℕ). bytes_text (k % 8) (get_or (byte_rows ++ octet ∷ []) n (rows_with [] []))) (is ∙ add_none
     (length byte_rows))

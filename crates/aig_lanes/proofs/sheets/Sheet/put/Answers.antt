@@ -4,7 +4,7 @@ use Rattle.std.proofs.Common.{length, sym}
 use Rattle.std.proofs.lemmas.Bool.{cases_lt}
 use Rattle.std.proofs.lemmas.List.{get_or_past, with_items_is}
 use Rattle.aig_lanes.specs.Parts.Lanes.{bit_in}
-use Rattle.aig_lanes.specs.Parts.Sheets.{BytesText, bytes_text, character_by, eight_at, lane_text, text_in}
+use Rattle.aig_lanes.specs.Parts.Sheets.{BytesText, bytes_text, character_by, eight_at, text_in}
 use Rattle.aig_lanes.proofs.Side.Eights.{eight_character, eight_long, overwritten_at, overwritten_front}
 use Rattle.aig_lanes.proofs.Side.Eights.{overwritten_size}
 use Rattle.aig_lanes.proofs.Side.Sheets.{rows_with}
@@ -19,8 +19,8 @@ returns-clause-text c = λ l k below in_eight room.
     let cs = bytes_text (l % 8) (eight_at (l / 8) c.transposed.result c.transposed-2.result) in
     let size : length old ≡ 32 = ap length c.deref_mut.ensures.value ∙ c.self.invariant in
     let items = with_items_is inside.byte_rows new (c.put_bytes.ensures.size ∙ sym size ∙ c.deref_mut.ensures.len) in
-    let before : lane_text l old ≡ text_in l c.args.self.now =
-    ap (lane_text l) c.deref_mut.ensures.value ∙ ap (text_in l) c.self.view_is in
+    let before : text_in l old ≡ text_in l c.args.self.now =
+    ap (text_in l) (c.deref_mut.ensures.value ∙ c.self.view_is) in
     let put = c.put_bytes.ensures.text (l / 8) (l % 8) (rows_with [] []) (omega (arith, below)) in
     let ones = c.transposed.result in
     let zeros = c.transposed-2.result in
@@ -32,9 +32,9 @@ returns-clause-text c = λ l k below in_eight room.
     let first : 2 * k + 0 ≡ 2 * k = omega arith in
     let planes = c.args.planes.now in
     let wide = eight_long (l / 8) (l % 8) ones zeros all all_too octet in
-    ap (λ (os : List BytesText). get_or (lane_text l os) (at + k) 0) items
+    ap (λ (os : List BytesText). get_or (text_in l os) (at + k) 0) items
     ∙ ap (λ (t : List ℕ). get_or t (at + k) 0) put
-    ∙ overwritten_at at k cs (lane_text l old) (omega (arith, wide, in_eight))
+    ∙ overwritten_at at k cs (text_in l old) (omega (arith, wide, in_eight))
     (omega (arith, room, ap (λ (t : List ℕ). length t) before))
     ∙ eight_character (l / 8) (l % 8) ones zeros all all_too octet k in_eight
     ∙ ap₂ character_by
