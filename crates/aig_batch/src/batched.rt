@@ -112,10 +112,17 @@ fn trace_collected<W: Sink>(
 {
     let inputs = checked.circuit().inputs.len();
     let (groups, lines, rest) = read_front(alloc, inputs, bytes)?;
-    let (machine, mut bench) = set_up(alloc, checked, &groups)?;
-    trace_good(
+    let Ok((machine, mut bench)) = set_up(alloc, checked, &groups) else {
+        drop(groups);
+        return Err(SimFault::OutOfMemory);
+    };
+    let traced = trace_good(
         reader, sink, &machine, columns, &groups, &mut bench, lines, rest,
-    )
+    );
+    drop(groups);
+    drop(machine);
+    drop(bench);
+    traced
 }
 
 /// Simulates a circuit over a stimulus text, and writes the trace text, as `simulate` does; but the whole stimulus is
@@ -145,6 +152,15 @@ pub fn simulate_batched<R: Source, W: Sink>(
     ensures short { W.longest sink.new ≤ max (W.longest sink.old) ROOM }
 {
     let mut reader = Reader::new(alloc, checked, columns)?;
-    let bytes = collect(alloc, checked, source)?;
-    trace_collected(alloc, checked, columns, &mut reader, sink, &bytes)
+    let bytes = match collect(alloc, checked, source) {
+        Ok(bytes) => bytes,
+        Err(fault) => {
+            drop(reader);
+            return Err(fault);
+        }
+    };
+    let traced = trace_collected(alloc, checked, columns, &mut reader, sink, &bytes);
+    drop(reader);
+    drop(bytes);
+    traced
 }
