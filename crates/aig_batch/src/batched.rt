@@ -112,8 +112,15 @@ fn trace_collected<W: Sink>(
 {
     let inputs = checked.circuit().inputs.len();
     let (groups, lines, rest) = read_front(alloc, inputs, bytes)?;
-    let (machine, mut bench) = set_up(alloc, checked, columns, &groups)?;
-    trace_good(reader, sink, &machine, &groups, &mut bench, lines, rest)
+    let Ok((machine, mut bench)) = set_up(alloc, checked, columns, &groups) else {
+        drop(groups);
+        return Err(SimFault::OutOfMemory);
+    };
+    let traced = trace_good(reader, sink, &machine, &groups, &mut bench, lines, rest);
+    drop(groups);
+    drop(machine);
+    drop(bench);
+    traced
 }
 
 /// Simulates a circuit over a stimulus text, and writes the trace text, as `simulate` does; but the whole stimulus is
@@ -143,6 +150,15 @@ pub fn simulate_batched<R: Source, W: Sink>(
     ensures short { W.longest sink.new ≤ max (W.longest sink.old) ROOM }
 {
     let mut reader = Reader::new(alloc, checked, columns)?;
-    let bytes = collect(alloc, checked, source)?;
-    trace_collected(alloc, checked, columns, &mut reader, sink, &bytes)
+    let bytes = match collect(alloc, checked, source) {
+        Ok(bytes) => bytes,
+        Err(fault) => {
+            drop(reader);
+            return Err(fault);
+        }
+    };
+    let traced = trace_collected(alloc, checked, columns, &mut reader, sink, &bytes);
+    drop(reader);
+    drop(bytes);
+    traced
 }

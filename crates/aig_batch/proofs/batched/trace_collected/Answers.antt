@@ -31,13 +31,13 @@ returns-clause-ok g c =
     let bytes = c.args.bytes.now in
     let lines = c.in_ok-groups.lines in
     let rest = c.in_ok-groups.rest.now in
-    let asks = c.in_ok-machine.ensures.asks in
-    on_ok_weaker c.trace_good.result (λ sent. rw (← asks)
-    (sent checked bytes (rw asks c.requires.fresh) c.in_ok-machine.ensures.means
+    let asks = c.in-Ok.ensures.asks in
+    on_ok_weaker c.trace_good-traced.result (λ sent. rw (← asks)
+    (sent checked bytes (rw asks c.requires.fresh) c.in-Ok.ensures.means
     (says_of checked bytes lines rest c.len-inputs.result c.in_ok-groups.groups.items c.deref-2.result.now
     (c.len-inputs.ensures ∙ ap (λ (k : Circuit). length k.inputs) c.circuit.ensures.value) c.deref-2.ensures.value
     c.in_ok-groups.ensures.says) c.requires.none_bad))
-    c.trace_good.ensures.ok
+    c.trace_good-traced.ensures.ok
 
 pub returns-clause-err : goal.returns-clause-err
 returns-clause-err g c =
@@ -45,30 +45,30 @@ returns-clause-err g c =
     let bytes = c.args.bytes.now in
     let lines = c.in_ok-groups.lines in
     let rest = c.in_ok-groups.rest.now in
-    let asks = c.in_ok-machine.ensures.asks in
-    if_err_too c.trace_good.result
+    let asks = c.in-Ok.ensures.asks in
+    if_err_too c.trace_good-traced.result
     (λ e kind said.
     subst (λ (k : SimFault). NotTraced checked c.args.columns bytes k (g.W.Sink.taken c.args.sink.now)
-    (g.W.Sink.taken c.trace_good.new.sink)) (sym kind)
-    (rw (← asks) (said checked bytes (rw asks c.requires.fresh) c.in_ok-machine.ensures.means
+    (g.W.Sink.taken c.trace_good-traced.new.sink)) (sym kind)
+    (rw (← asks) (said checked bytes (rw asks c.requires.fresh) c.in-Ok.ensures.means
     (says_of checked bytes lines rest c.len-inputs.result c.in_ok-groups.groups.items c.deref-2.result.now
     (c.len-inputs.ensures ∙ ap (λ (k : Circuit). length k.inputs) c.circuit.ensures.value) c.deref-2.ensures.value
     c.in_ok-groups.ensures.says) c.requires.none_bad)))
-    c.trace_good.ensures.kind c.trace_good.ensures.err
+    c.trace_good-traced.ensures.kind c.trace_good-traced.ensures.err
 
 pub returns-clause-count : goal.returns-clause-count
 returns-clause-count g c =
-    if_err_too c.trace_good.result
-    (λ e kind more. subst (λ (k : SimFault). g.W.Sink.failed c.trace_good.new.sink
+    if_err_too c.trace_good-traced.result
+    (λ e kind more. subst (λ (k : SimFault). g.W.Sink.failed c.trace_good-traced.new.sink
     ≡ g.W.Sink.failed c.args.sink.now + sink_failures k) (sym kind) more)
-    c.trace_good.ensures.kind c.trace_good.ensures.count
+    c.trace_good-traced.ensures.kind c.trace_good-traced.ensures.count
 
-pub trace_good-requires-clause-room : goal.trace_good-requires-clause-room
-trace_good-requires-clause-room g c =
-    subst (λ (groups : List (List Run)). All (HasRoomFor c.in_ok-machine.bench) groups)
-    (c.deref.ensures.value ∙ sym c.deref-2.ensures.value) c.in_ok-machine.ensures.room
+pub trace_good-traced-requires-clause-room : goal.trace_good-traced-requires-clause-room
+trace_good-traced-requires-clause-room g c =
+    subst (λ (groups : List (List Run)). All (HasRoomFor c.in-Ok.bench) groups)
+    (c.deref.ensures.value ∙ sym c.deref-2.ensures.value) c.in-Ok.ensures.room
 
 pub returns-clause-unsent : goal.returns-clause-unsent
 returns-clause-unsent g c =
-    if_err_too c.trace_good.result (λ e kind same not. absurd (not kind)) c.trace_good.ensures.kind
-    c.trace_good.ensures.kind
+    if_err_too c.trace_good-traced.result (λ e kind same not. absurd (not kind)) c.trace_good-traced.ensures.kind
+    c.trace_good-traced.ensures.kind

@@ -1,7 +1,7 @@
 use Rattle.std.proofs.Common.{◌≡◌, length}
 use Rattle.std.specs.Io.KnownBytes.{Consumes}
 use Rattle.aig_batch.specs.Parts.Judging.{IsJudged}
-use Rattle.aig_batch.proofs.collected.collect.Given as goal
+use Rattle.aig_batch.proofs.collected.collect_into.Given as goal
 
 abbrev pub invariant-loop-count : goal.invariant-loop-count
 invariant-loop-count g l =

@@ -1,6 +1,6 @@
 use Rattle.std.proofs.lemmas.Result.{err_from_is_err_and}
 use Rattle.aig_batch.proofs.Collecting.{failed_read, refused}
-use Rattle.aig_batch.proofs.collected.collect.Goals as goal
+use Rattle.aig_batch.proofs.collected.collect_into.Goals as goal
 
 pub returns-in_default-clause-err : goal.returns-in_default-clause-err
 returns-in_default-clause-err g c =
