@@ -100,7 +100,9 @@ fn circuits_are_copied(rt: HostRuntime) -> Result<(), Fail> {
         rt.alloc(),
         "aag 2 1 1 1 0 1 1 1 1\n2\n4 3 4\n5\n2\n3\n1\n4\n5\no0 b\ni0 a\nc\nx",
     )?;
-    assert!(rt; same_as_own_copy(&circuit)?);
+    let same = same_as_own_copy(&circuit);
+    drop(circuit);
+    assert!(rt; same?);
     Ok(())
 }
 
@@ -109,7 +111,9 @@ fn circuits_are_copied(rt: HostRuntime) -> Result<(), Fail> {
 fn copies_and_others(rt: HostRuntime) -> Result<(), Fail> {
     for text in CIRCUITS.split('#') {
         let first = read_ascii(rt.alloc(), text.as_bytes(), Limits::default())?;
-        let wrong = told_wrongly(rt.alloc(), &first, text)?;
+        let wrong = told_wrongly(rt.alloc(), &first, text);
+        drop(first);
+        let wrong = wrong?;
         assert!(rt; wrong.is_none(), "{text}{wrong:?}");
     }
     Ok(())
@@ -118,7 +122,9 @@ fn copies_and_others(rt: HostRuntime) -> Result<(), Fail> {
 #[test]
 fn symbols_and_comments_are_written(rt: HostRuntime) -> Result<(), Fail> {
     let checked = made_by_hand(rt.alloc())?;
-    assert!(rt; is_written_as(rt.alloc(), &checked, BY_HAND)?);
+    let is_written = is_written_as(rt.alloc(), &checked, BY_HAND);
+    drop(checked);
+    assert!(rt; is_written?);
     Ok(())
 }
 

@@ -2,7 +2,7 @@
 use crate::calls::circuit_of;
 use aig_core::{BorrowedSymbol, Circuit, Gate, Kind, Latch, Listing, Lit, Reset, Symbols, Var};
 use aig_text::empty_circuit;
-use std::alloc::Global;
+use std::alloc::{AllocError, Global};
 use std::test::Fail;
 
 /// The largest index, the variables of an input, a latch and a gate, then the literals of the latch, an output and the
@@ -85,29 +85,36 @@ fn literals_of(alloc: Global, numbers: &[u32]) -> Result<Listing<Lit>, Fail> {
     Ok(literals)
 }
 
-/// A circuit of the numbers of a row.
-fn circuit_of_row(alloc: Global, row: &str) -> Result<Circuit, Fail> {
-    let numbers = numbers_of(alloc, row)?;
-    let [max_var, input, latch, gate, next, output, left, right] = *numbers.as_slice() else {
-        return Err("a row has eight numbers")?;
+/// Gives a circuit its sections, by the numbers of a row.
+fn with_sections(circuit: &mut Circuit, numbers: &[u32]) -> Result<bool, AllocError> {
+    let [max_var, input, latch, gate, next, output, left, right] = *numbers else {
+        return Ok(false);
     };
-    let latch = Latch {
+    circuit.max_var = max_var;
+    circuit.inputs.push(Var(input))?;
+    circuit.latches.push(Latch {
         var: Var(latch),
         next: Lit(next),
         reset: Reset::Uninit,
-    };
-    let gate = Gate {
+    })?;
+    circuit.outputs.push(Lit(output))?;
+    circuit.gates.push(Gate {
         var: Var(gate),
         left: Lit(left),
         right: Lit(right),
-    };
-    Ok(Circuit {
-        inputs: Listing::from_vec(Vec::from_slice(alloc, &[Var(input)])?),
-        latches: Listing::from_vec(Vec::from_slice(alloc, &[latch])?),
-        outputs: Listing::from_vec(Vec::from_slice(alloc, &[Lit(output)])?),
-        gates: Listing::from_vec(Vec::from_slice(alloc, &[gate])?),
-        ..empty_circuit(alloc, max_var)
-    })
+    })?;
+    Ok(true)
+}
+
+/// Whether a circuit is in form with the sections of a row.
+fn in_form_with_sections(alloc: Global, circuit: &mut Circuit, row: &str) -> Result<bool, Fail> {
+    let numbers = numbers_of(alloc, row)?;
+    let given = with_sections(circuit, numbers.as_slice());
+    drop(numbers);
+    if !given? {
+        return Err("a row has eight numbers")?;
+    }
+    Ok(circuit.in_form())
 }
 
 /// Gives a circuit what a part of a row lists, as `b 9 0`.
@@ -174,12 +181,19 @@ fn in_form_with_symbols(alloc: Global, circuit: &mut Circuit, text: &str) -> Res
     Ok(circuit.in_form())
 }
 
+/// What an answer says.
+fn told(in_form: bool) -> &'static str {
+    if in_form { "yes" } else { "no" }
+}
+
 #[test]
 fn variables_and_literals(rt: HostRuntime) -> Result<(), Fail> {
     for row in SECTIONS.lines() {
-        let (numbers, answer) = row.rsplit_once(' ').ok_or("a row has an answer")?;
-        let circuit = circuit_of_row(rt.alloc(), numbers)?;
-        assert!(rt; circuit.in_form() == (answer == "yes"), "{row}");
+        let (numbers, answer) = row.rsplit_once(' ').unwrap_or((row, ""));
+        let mut circuit = empty_circuit(rt.alloc(), 0);
+        let in_form = in_form_with_sections(rt.alloc(), &mut circuit, numbers);
+        drop(circuit);
+        assert!(rt; told(in_form?) == answer, "{row}");
     }
     Ok(())
 }
@@ -187,11 +201,11 @@ fn variables_and_literals(rt: HostRuntime) -> Result<(), Fail> {
 #[test]
 fn properties(rt: HostRuntime) -> Result<(), Fail> {
     for row in PROPERTIES.split(';') {
-        let (parts, answer) = row.split_once(':').ok_or("a row has an answer")?;
+        let (parts, answer) = row.split_once(':').unwrap_or((row, ""));
         let mut circuit = empty_circuit(rt.alloc(), 4);
         let in_form = in_form_with_parts(rt.alloc(), &mut circuit, parts);
         drop(circuit);
-        assert!(rt; in_form? == (answer == "yes"), "{row}");
+        assert!(rt; told(in_form?) == answer, "{row}");
     }
     Ok(())
 }
@@ -202,11 +216,11 @@ const NAMELESS: &str = "aag 3 2 1 1 0 1 1 1 1\n2\n4\n6 6\n6\n2\n2\n0\n2\n";
 #[test]
 fn symbols(rt: HostRuntime) -> Result<(), Fail> {
     for row in SYMBOLS.split(';') {
-        let (symbols, answer) = row.split_once(':').ok_or("a row has an answer")?;
+        let (symbols, answer) = row.split_once(':').unwrap_or((row, ""));
         let mut circuit = circuit_of(rt.alloc(), NAMELESS)?;
         let in_form = in_form_with_symbols(rt.alloc(), &mut circuit, symbols);
         drop(circuit);
-        assert!(rt; in_form? == (answer == "yes"), "{row}");
+        assert!(rt; told(in_form?) == answer, "{row}");
     }
     Ok(())
 }

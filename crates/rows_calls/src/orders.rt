@@ -79,7 +79,7 @@ fn is_answered(alloc: Global, circuit: &Circuit, answer: &str) -> Result<bool, F
 #[test]
 fn orders_of_gates(rt: HostRuntime) -> Result<(), Fail> {
     for row in ORDERS.split(';') {
-        let (gates, answer) = row.split_once(':').ok_or("a row has an answer")?;
+        let (gates, answer) = row.split_once(':').unwrap_or((row, ""));
         let circuit = circuit_with(rt.alloc(), gates_of(rt.alloc(), gates)?)?;
         let is_answered = is_answered(rt.alloc(), &circuit, answer);
         drop(circuit);
