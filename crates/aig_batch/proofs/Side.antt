@@ -4,3 +4,4 @@ pub mod Rooms
 pub mod RunsRead
 pub mod ShownTexts
 pub mod TextGroups
+pub mod StepTexts

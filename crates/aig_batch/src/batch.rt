@@ -1,13 +1,17 @@
 //! Many runs of one circuit.
-ghost use Rattle.std.specs.Prelude.{◌≡◌, ◌++◌, ◌≤◌, IfOk};
+ghost use Rattle.std.specs.Prelude.{◌≡◌, ◌++◌, ◌≤◌, IfOk, length};
 ghost use Rattle.std.specs.List.{All, AllZip};
 ghost use Rattle.aig_lanes.specs.Runs.{IsRunOf, IsTraceOf};
+ghost use Rattle.aig_step.specs.Parts.Lines.{line_size};
 
 use crate::alone::trace_alone;
+use crate::stimuli::{group_of, texts_of};
+use crate::text_group::Bench;
 use aig_checked::Checked;
 use aig_circuit::{Listing, OutOfMemory};
-use aig_lanes::{Run, Trace, trace_group};
-use aig_step::{Machine, Simulator};
+use aig_lanes::{Run, Trace};
+use aig_step::{Columns, Machine, Simulator};
+use aig_trace::line_room;
 use std::alloc::Global;
 
 /// How many runs are stepped side by side.
@@ -24,16 +28,41 @@ fn append(traces: &mut Vec<Trace>, mut more: Vec<Trace>) -> Result<(), OutOfMemo
     Ok(())
 }
 
+/// The traces of a group of runs, in their order, where the line of a step may be so long.
+fn trace_group(
+    alloc: Global,
+    machine: &Machine,
+    line_room: usize,
+    runs: &[Run],
+) -> Result<Vec<Trace>, OutOfMemory>
+    requires lanes { length runs.now ≤ 256 }
+    requires fits { All (IsRunOf machine.now) runs.now }
+    requires line { line_room ≡ line_size machine.now }
+    ensures { IfOk result (λ traces. AllZip (IsTraceOf machine.now) runs.now traces.items) }
+{
+    let texts = texts_of(alloc, runs)?;
+    let groups = [group_of(alloc, machine.parts().inputs.len(), runs, &texts)?];
+    let mut bench = Bench::new(alloc, machine, Columns::Properties, line_room, &groups)?;
+    bench.trace(alloc, machine, groups[0].as_slice(), runs)
+}
+
 /// The traces of runs, in their order, group by group.
-fn trace_groups(alloc: Global, machine: &Machine, runs: &[Run]) -> Result<Vec<Trace>, OutOfMemory>
-    requires { All (IsRunOf machine.now) runs.now }
+fn trace_groups(
+    alloc: Global,
+    machine: &Machine,
+    line_room: usize,
+    runs: &[Run],
+) -> Result<Vec<Trace>, OutOfMemory>
+    requires fits { All (IsRunOf machine.now) runs.now }
+    requires line { line_room ≡ line_size machine.now }
     ensures { IfOk result (λ traces. AllZip (IsTraceOf machine.now) runs.now traces.items) }
 {
     let mut traces = Vec::new(alloc);
     let mut done = 0;
     while done < runs.len() {
         let end = runs.len().min(done + LANES);
-        append(&mut traces, trace_group(alloc, machine, &runs[done..end])?)?;
+        let more = trace_group(alloc, machine, line_room, &runs[done..end])?;
+        append(&mut traces, more)?;
         done = end;
     }
     Ok(traces)
@@ -51,13 +80,15 @@ fn count_alone(count: usize) -> usize
 fn trace_runs(
     alloc: Global,
     simulator: &mut Simulator,
+    line_room: usize,
     runs: &[Run],
 ) -> Result<Listing<Trace>, OutOfMemory>
-    requires { All (IsRunOf simulator.old.circuit) runs.now }
+    requires fits { All (IsRunOf simulator.old.circuit) runs.now }
+    requires line { line_room ≡ line_size simulator.old.circuit }
     ensures { IfOk result (λ traces. AllZip (IsTraceOf simulator.old.circuit) runs.now traces) }
 {
     let (grouped, rest) = runs.split_at(runs.len() - count_alone(runs.len()));
-    let mut traces = trace_groups(alloc, simulator.machine(), grouped)?;
+    let mut traces = trace_groups(alloc, simulator.machine(), line_room, grouped)?;
     append(&mut traces, trace_alone(alloc, simulator, rest)?)?;
     Ok(Listing::from_vec(traces))
 }
@@ -74,5 +105,5 @@ pub fn simulate_batch(
     ensures { IfOk result (λ traces. AllZip (IsTraceOf checked.now) runs.now traces) }
 {
     let mut simulator = Simulator::build(alloc, checked)?;
-    trace_runs(alloc, &mut simulator, runs)
+    trace_runs(alloc, &mut simulator, line_room(checked), runs)
 }

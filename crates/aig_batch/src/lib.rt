@@ -13,6 +13,7 @@
 //!
 //! Of runs without texts:
 //! - `alone`: runs one after another.
+//! - `stimuli`, `traces`: the inputs of runs as characters; traces by what was shown.
 //! - `batch`: `simulate_batch`.
 //!
 //! Definitions (`specs/`):
@@ -30,7 +31,9 @@ mod entry;
 mod front;
 mod line_feed;
 mod runs_read;
+mod stimuli;
 mod text_group;
+mod traces;
 
 pub use crate::batch::simulate_batch;
 pub use crate::batched::simulate_batched;

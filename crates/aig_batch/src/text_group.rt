@@ -1,26 +1,28 @@
 //! What groups of runs are stepped in, side by side until all have ended, and their texts, put run by run.
 ghost use Rattle.std.specs.Prelude.{◌≡◌, ◌+◌, ◌*◌, ◌<◌, ◌≤◌, ◌^◌, ◌++◌, ℕ, List, IfOk, IsTrue, codes, length};
 ghost use Rattle.std.specs.Prelude.{slice_index_or};
-ghost use Rattle.std.specs.List.{All};
+ghost use Rattle.std.specs.List.{All, AllZip};
 ghost use Rattle.aig_circuit.specs.declared.value.Val.{Val as Value};
 ghost use Rattle.aig_io.specs.Output.{Put};
 ghost use Rattle.aig_meaning.specs.Meaning.{MeansTheSame};
 ghost use Rattle.aig_lanes.specs.declared.run.Run.{Run as RunRecord};
 ghost use Rattle.aig_batch.specs.Parts.Benches.{Fits, HasRoomFor, HasSameRoom, IsBench};
 ghost use Rattle.aig_lanes.specs.Parts.InputBits.{AreBlocks, HoldsBlocks};
-ghost use Rattle.aig_lanes.specs.Parts.LaneTexts.{HoldsRun, HoldsRuns, IsTextOf, KeepsTrace, LaneStands, ShowsRows};
+ghost use Rattle.aig_lanes.specs.Parts.LaneTexts.{HoldsRun, HoldsRuns, KeepsRun, LaneStands, ShowsRows};
 ghost use Rattle.aig_lanes.specs.Parts.LaneTexts.{end_of, kept_text, shown_size, shown_text};
 ghost use Rattle.aig_lanes.specs.Parts.Sheets.{SameRoom, text_in};
 ghost use Rattle.aig_step.specs.Parts.Lines.{line_size};
 ghost use Rattle.aig_batch.specs.Parts.RunsRead.{kept_texts, text_of_group};
-ghost use Rattle.aig_lanes.specs.Runs.{IsRunOf};
+ghost use Rattle.aig_lanes.specs.Runs.{IsRunOf, IsTraceOf};
+ghost use Rattle.aig_step.specs.declared.trace.Columns.TheVariants.{Properties};
 
+use crate::traces::take_traces;
 use aig_checked::Checked;
 use aig_circuit::OutOfMemory;
 use aig_io::Sink;
 use aig_lanes::{
-    BlockBits, Plane, RunGroup, Sheet, Shown, Vectors, assign_lanes, fill_bits, fill_table,
-    longest, new_bits, new_table, put_reset_lanes, put_vectors, show_next_lanes,
+    BlockBits, Plane, Run, RunGroup, Sheet, Shown, Trace, Vectors, assign_lanes, fill_bits,
+    longest, new_bits, new_table, put_vectors,
 };
 use aig_step::{Columns, Machine};
 use aig_trace::{Gathered, Line, line_room};
@@ -41,10 +43,9 @@ fn begin_steps(
         → LaneStands machine.now run 0 j table.new state.new shown.now sheet.new }
     ensures same { SameRoom sheet.old sheet.new }
 {
-    let parts = machine.parts();
-    shown.begin(table, sheet);
-    fill_table(state);
-    put_reset_lanes(parts.latches.as_slice(), state);
+    // That there is a variable where there is a latch is known by this read.
+    let _parts = machine.parts();
+    shown.begin(table, state, sheet);
 }
 
 /// A step of each run that has it. What it shows is kept, and the state behind it.
@@ -75,8 +76,7 @@ fn take_step(
     let parts = machine.parts();
     put_vectors(bits, parts.inputs.len(), step, table);
     assign_lanes(machine, state, table);
-    shown.show(table, sheet, step);
-    show_next_lanes(parts.latches.as_slice(), table, state);
+    shown.show(table, state, sheet, step);
 }
 
 /// All steps of all runs.
@@ -185,6 +185,27 @@ fn put_runs<W: Sink>(
     }
 }
 
+/// How many steps the longest run of all groups has.
+fn longest_of(groups: &[RunGroup]) -> usize
+    ensures { All (All (λ (run : RunRecord). length run.steps ≤ result)) groups.now }
+{
+    let mut most = 0;
+    for group in groups {
+        let steps = longest(group.as_slice());
+        if steps > most {
+            most = steps;
+        }
+    }
+    most
+}
+
+/// Whether as many lines of this size as the longest run has steps can be counted.
+fn can_count(groups: &[RunGroup], line_room: usize) -> bool
+    ensures { IsTrue result → All (All (λ (run : RunRecord). length run.steps * line_room < 2 ^ 64)) groups.now }
+{
+    longest_of(groups).checked_mul(line_room).is_some()
+}
+
 /// What runs are stepped in, one group after the other, and what their steps show.
 #[derive(Drop)]
 pub(crate) struct Bench {
@@ -210,8 +231,12 @@ impl Bench {
         requires lanes { All (λ (runs : List RunRecord). length runs ≤ 256) groups.now }
         ensures is { IfOk result (λ bench. IsBench machine.now bench) }
         ensures asks { IfOk result (λ bench. bench.shown.columns ≡ columns) }
+        ensures fits { IfOk result (λ _. All (All (Fits machine.now)) groups.now) }
         ensures room { IfOk result (λ bench. All (HasRoomFor bench) groups.now) }
     {
+        if !can_count(groups, line_room) {
+            return Err(OutOfMemory);
+        }
         let parts = machine.parts();
         let bits = new_bits(alloc, parts.inputs.len(), groups)?;
         let table = new_table(alloc, 1 + parts.max_var as usize)?;
@@ -238,7 +263,7 @@ impl Bench {
         ensures is { IsBench machine.now self.new }
         ensures same { HasSameRoom self.old self.new }
         ensures keeps { (j : ℕ) (d : RunRecord) → j < length runs.now
-            → KeepsTrace machine.now (slice_index_or runs.now j d).steps self.new.shown (text_in j self.new.sheet) }
+            → KeepsRun machine.now (slice_index_or runs.now j d) j self.new.shown self.new.sheet }
     {
         fill_bits(&mut self.bits, runs, machine.parts().inputs.len());
         begin_steps(
@@ -277,32 +302,32 @@ impl Bench {
         ensures put { Put output.old output.new
             (text_of_group (kept_texts self.new.shown runs.now (length runs.now) self.new.sheet)) }
         ensures keeps { (j : ℕ) (d : RunRecord) → j < length runs.now
-            → KeepsTrace machine.now (slice_index_or runs.now j d).steps self.new.shown (text_in j self.new.sheet) }
+            → KeepsRun machine.now (slice_index_or runs.now j d) j self.new.shown self.new.sheet }
     {
         self.step(machine, runs);
         put_runs(output, &mut self.line, runs, &self.shown, &self.sheet);
     }
-}
 
-/// How many steps the longest run of all groups has.
-fn longest_of(groups: &[RunGroup]) -> usize
-    ensures { All (All (λ (run : RunRecord). length run.steps ≤ result)) groups.now }
-{
-    let mut most = 0;
-    for group in groups {
-        let steps = longest(group.as_slice());
-        if steps > most {
-            most = steps;
-        }
+    /// Steps the runs of a group, and answers their traces.
+    pub(crate) fn trace(
+        &mut self,
+        alloc: Global,
+        machine: &Machine,
+        group: &[Vectors],
+        runs: &[Run],
+    ) -> Result<Vec<Trace>, OutOfMemory>
+        requires lanes { length runs.now ≤ 256 }
+        requires same { group.now ≡ runs.now }
+        requires runs { All (IsRunOf machine.now) runs.now }
+        requires fits { All (Fits machine.now) runs.now }
+        requires is { IsBench machine.now self.old }
+        requires asks { self.old.shown.columns ≡ Properties }
+        requires room { HasRoomFor self.old runs.now }
+        ensures { IfOk result (λ traces. AllZip (IsTraceOf machine.now) runs.now traces.items) }
+    {
+        self.step(machine, group);
+        take_traces(alloc, runs, &self.shown, &self.sheet, &mut self.line)
     }
-    most
-}
-
-/// Whether as many lines of this size as the longest run has steps can be counted.
-fn can_count(groups: &[RunGroup], line_room: usize) -> bool
-    ensures { IsTrue result → All (All (λ (run : RunRecord). length run.steps * line_room < 2 ^ 64)) groups.now }
-{
-    longest_of(groups).checked_mul(line_room).is_some()
 }
 
 /// What runs a circuit, and what these groups of runs are stepped in.
@@ -319,11 +344,7 @@ pub(crate) fn set_up(
     ensures fits { IfOk result (λ made. All (All (Fits made.0)) groups.now) }
     ensures room { IfOk result (λ made. All (HasRoomFor made.1) groups.now) }
 {
-    let room = line_room(checked);
-    if !can_count(groups, room) {
-        return Err(OutOfMemory);
-    }
     let machine = Machine::new(alloc, checked)?;
-    let bench = Bench::new(alloc, &machine, columns, room, groups)?;
+    let bench = Bench::new(alloc, &machine, columns, line_room(checked), groups)?;
     Ok((machine, bench))
 }

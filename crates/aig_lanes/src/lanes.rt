@@ -1,5 +1,5 @@
 //! Tables of values for runs side by side: each literal has a plane, with a bit for each run.
-ghost use Rattle.std.specs.Prelude.{◌≡◌, ◌≢◌, ◌+◌, ◌-◌, ◌*◌, ◌/◌, ◌<◌, ◌≤◌, ℕ, List, length, slice_set, if◌then◌else◌};
+ghost use Rattle.std.specs.Prelude.{◌≡◌, ◌+◌, ◌-◌, ◌*◌, ◌/◌, ◌<◌, ◌≤◌, ℕ, List, length, map, slice_set, if◌then◌else◌};
 ghost use Rattle.std.specs.List.{All};
 ghost use Rattle.aig_circuit.specs.declared.value.Val.{Val as Value};
 ghost use Rattle.aig_circuit.specs.declared.value.Val.TheVariants.{Zero};
@@ -9,7 +9,7 @@ ghost use Rattle.aig_lanes.specs.Parts.Groups.{Assigned};
 ghost use Rattle.aig_lanes.specs.Parts.Lanes.{IsLane, IsPair, may_be_one};
 ghost use Rattle.aig_step.specs.Parts.Tables.{IsLiteralBelow, IsPairBelow, evaluated, placed, read_from};
 
-use crate::planes::{Plane, plane_of, value_in, with_bit};
+use crate::planes::{Plane, plane_of};
 use aig_circuit::{Lit, Val};
 use aig_step::{Machine, Pair};
 
@@ -60,37 +60,6 @@ pub(crate) fn put_all(planes: &mut [Plane], variable: usize, value: Val)
     put_pair(planes, variable, plane_of(one), plane_of(zero));
 }
 
-/// Puts a value in one lane.
-fn put_in_lane(planes: &mut [Plane], lane: usize, variable: usize, value: Val)
-    requires lane { lane < 256 }
-    requires room { 2 * variable + 1 < length planes.old }
-    ensures own { (values : List Value) → IsLane lane planes.old values
-        → IsLane lane planes.new (slice_set values variable value) }
-    ensures others { (l : ℕ) (values : List Value) → l < 256 → l ≢ lane → IsLane l planes.old values
-        → IsLane l planes.new values }
-{
-    let (one_bit, zero_bit) = bits_of(value);
-    let one = with_bit(planes[2 * variable], lane, one_bit);
-    let zero = with_bit(planes[2 * variable + 1], lane, zero_bit);
-    put_pair(planes, variable, one, zero);
-}
-
-/// Puts values in one lane, from the variable behind the constant on.
-pub(crate) fn put_vector(planes: &mut [Plane], lane: usize, given: &[Val])
-    requires lane { lane < 256 }
-    requires room { 2 * (1 + length given.now) ≤ length planes.old }
-    ensures own { (values : List Value) → IsLane lane planes.old values
-        → IsLane lane planes.new (placed 1 given.now values) }
-    ensures others { (l : ℕ) (values : List Value) → l < 256 → l ≢ lane → IsLane l planes.old values
-        → IsLane l planes.new values }
-{
-    let mut variable = 1;
-    for value in given {
-        put_in_lane(planes, lane, variable, *value);
-        variable += 1;
-    }
-}
-
 /// Puts the values that stand in another table, in each lane, from this variable on.
 pub(crate) fn place_lanes(planes: &mut [Plane], first: usize, given: &[Plane])
     requires { 2 * first + length given.now ≤ length planes.old }
@@ -99,6 +68,19 @@ pub(crate) fn place_lanes(planes: &mut [Plane], first: usize, given: &[Plane])
 {
     for i in 0..given.len() / 2 {
         put_pair(planes, first + i, given[2 * i], given[2 * i + 1]);
+    }
+}
+
+/// Puts the values of literals into a table of their own, in each lane.
+pub(crate) fn put_literals(literals: &[Lit], planes: &[Plane], state: &mut [Plane])
+    requires room { length state.old ≡ 2 * length literals.now }
+    requires below { All (IsLiteralBelow (length planes.now / 2)) literals.now }
+    ensures { (l : ℕ) (values before : List Value) → IsLane l planes.now values → IsLane l state.old before
+        → IsLane l state.new (map (literal_value (read_from values)) literals.now) }
+{
+    for i in 0..literals.len() {
+        let (one, zero) = planes_of(planes, literals[i]);
+        put_pair(state, i, one, zero);
     }
 }
 
@@ -144,15 +126,4 @@ pub fn assign_lanes(machine: &Machine, state: &[Plane], table: &mut [Plane])
     let pairs = machine.pairs();
     place_lanes(table, 1 + parts.inputs.len(), state);
     evaluate_lanes(pairs, table);
-}
-
-/// The value of a literal in a lane.
-pub(crate) fn value_of_lane(planes: &[Plane], literal: Lit, lane: usize) -> Val
-    requires lane { lane < 256 }
-    requires below { IsLiteralBelow (length planes.now / 2) literal }
-    ensures { (values : List Value) → IsLane lane planes.now values
-        → result ≡ literal_value (read_from values) literal }
-{
-    let (one, zero) = planes_of(planes, literal);
-    value_in(one, zero, lane)
 }

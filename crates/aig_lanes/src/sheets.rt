@@ -2,17 +2,19 @@
 ghost use Rattle.std.specs.Prelude.{◌≡◌, ◌+◌, ◌*◌, ◌/◌, ◌++◌, ◌<◌, ◌≤◌, ℕ, List, [], IfOk, codes, length};
 ghost use Rattle.std.specs.Prelude.{slice_index_or, take};
 ghost use Rattle.std.specs.List.{All};
+ghost use Rattle.aig_circuit.specs.declared.value.Val.{Val as Value};
 ghost use Rattle.aig_lanes.specs.declared.run.Run.{Run as RunRecord};
 ghost use Rattle.aig_lanes.specs.Parts.Lanes.{bit_in};
 ghost use Rattle.aig_lanes.specs.Parts.Sheets.{BytesText, HoldsSteps, IsSheet, bytes_text, character_by, eight_at};
 ghost use Rattle.aig_lanes.specs.Parts.Sheets.{overwritten, part, text_in};
+ghost use Rattle.aig_step.specs.TraceText.{character_of, values_text};
 
 use crate::byte_rows::ByteRows;
 use crate::planes::Plane;
 use crate::transposed::transposed;
 use crate::vectors::{RunGroup, Vectors};
-use aig_circuit::OutOfMemory;
-use std::alloc::Global;
+use aig_circuit::{Listing, OutOfMemory, Val};
+use std::alloc::{AllocError, Global};
 use std::marker::Model;
 
 /// How many steps the longest of the runs has whose lanes are these eight, or this number if that is more.
@@ -83,6 +85,28 @@ fn put_bytes(byte_rows: &mut [ByteRows], at: usize, ones: &[u8; 256], zeros: &[u
         let from = 8 * k;
         byte_rows[k].put(at, &ones[from..from + 8], &zeros[from..from + 8]);
     }
+}
+
+/// The value that a character stands for.
+fn value_by(character: u8) -> Val
+    ensures { (v : Value) → character ≡ character_of v → result ≡ v }
+{
+    match character {
+        b'0' => Val::Zero,
+        b'1' => Val::One,
+        _ => Val::X,
+    }
+}
+
+/// The values that characters stand for.
+fn values_by(alloc: Global, text: &[u8]) -> Result<Listing<Val>, AllocError>
+    ensures { IfOk result (λ values. (shown : List Value) → text.now ≡ values_text shown → values ≡ shown) }
+{
+    let mut values = Vec::with_capacity(alloc, text.len())?;
+    for character in text {
+        values.push(value_by(*character))?;
+    }
+    Ok(Listing::from_vec(values))
 }
 
 /// What literals are in all lanes.
@@ -178,5 +202,24 @@ impl Sheet {
     {
         line[at] = b' ';
         self.write(line, at + 1, from, count, lane)
+    }
+
+    /// The values that so many literals, from one on, have in a lane. Their characters are written to a line first.
+    pub(crate) fn values(
+        &self,
+        alloc: Global,
+        line: &mut [u8],
+        from: usize,
+        count: usize,
+        lane: usize,
+    ) -> Result<Listing<Val>, AllocError>
+        requires lane { lane < 256 }
+        requires has { from + count ≤ length (text_in lane self.now) }
+        requires room { count ≤ length line.old }
+        ensures { IfOk result (λ values. (shown : List Value)
+            → part from count (text_in lane self.now) ≡ values_text shown → values ≡ shown) }
+    {
+        let end = self.write(line, 0, from, count, lane);
+        values_by(alloc, &line[..end])
     }
 }

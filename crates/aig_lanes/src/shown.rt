@@ -1,26 +1,28 @@
 //! What steps show, in all lanes.
-ghost use Rattle.std.specs.Prelude.{◌≡◌, ◌+◌, ◌*◌, ◌/◌, ◌++◌, ◌<◌, ◌≤◌, ◌^◌, ℕ, List, [], IfOk, length, map, replicate};
-ghost use Rattle.std.specs.Prelude.{slice_index_or, slice_set, take};
+ghost use Rattle.std.specs.Prelude.{◌≡◌, ◌+◌, ◌-◌, ◌*◌, ◌/◌, ◌++◌, ◌<◌, ◌≤◌, ◌^◌, ℕ, List, [], IfOk, drop, length, map};
+ghost use Rattle.std.specs.Prelude.{replicate, slice_index_or, slice_set, take};
 ghost use Rattle.std.specs.List.{All};
 ghost use Rattle.aig_circuit.specs.declared.circuit.Latch.{Latch as LatchRecord};
 ghost use Rattle.aig_circuit.specs.declared.value.Val.{Val as Value};
 ghost use Rattle.aig_circuit.specs.declared.value.Val.TheVariants.{X, Zero};
-ghost use Rattle.aig_meaning.specs.Meaning.{literal_value};
+ghost use Rattle.aig_meaning.specs.Meaning.{Row as RowRecord, literal_value};
 ghost use Rattle.aig_lanes.specs.Parts.Lanes.{IsLane, IsPair};
 ghost use Rattle.aig_lanes.specs.Parts.Kept.{asked as asked_of, reset_literal as literal_by};
 ghost use Rattle.aig_lanes.specs.Parts.Kept.{reset_literals as literals_by, seen as seen_of};
 ghost use Rattle.aig_lanes.specs.Parts.Sheets.{SameRoom, text_in};
+ghost use Rattle.aig_lanes.specs.Runs.{row_of};
 ghost use Rattle.aig_step.specs.Parts.Tables.{IsLiteralBelow, read_from};
 ghost use Rattle.aig_step.specs.TraceText.{values_text};
 
 use crate::group::fill_table;
-use crate::lanes::{planes_of, put_all};
+use crate::lanes::{planes_of, put_all, put_literals};
 use crate::planes::{Plane, plane_of};
+use crate::run::FullRow;
 use crate::sheets::Sheet;
 use crate::vectors::RunGroup;
-use aig_circuit::{Circuit, Latch, Lit, OutOfMemory, Reset, Val};
+use aig_circuit::{Circuit, Latch, Listing, Lit, OutOfMemory, Reset, Val};
 use aig_step::{Columns, write_text};
-use std::alloc::Global;
+use std::alloc::{AllocError, Global};
 
 /// What steps show. In the lanes of a sheet it stands step behind step: the state, the outputs, and the bad states and
 /// constraints where they are asked for. Behind the last step stands the state that comes after it, so that the next
@@ -133,7 +135,8 @@ fn add_next(literals: &mut Vec<Lit>, latches: &[Latch]) -> Result<(), OutOfMemor
 }
 
 impl Shown {
-    ghost use Rattle.aig_lanes.specs.Parts.LaneTexts.{HoldsRuns, ShowsRows, end_of};
+    ghost use Rattle.aig_step.specs.declared.trace.Columns.TheVariants.{Properties};
+    ghost use Rattle.aig_lanes.specs.Parts.LaneTexts.{HoldsRuns, RowStands, ShowsRows, end_of};
     ghost use Rattle.aig_lanes.specs.Parts.LaneTexts.{shown_properties, shown_size, shown_text};
 
     /// What a circuit shows.
@@ -163,8 +166,9 @@ impl Shown {
     }
 
     /// Before the first step: all variables are x but the constant, and the state by the resets is put.
-    pub fn begin(&self, table: &mut [Plane], sheet: &mut Sheet)
+    pub fn begin(&self, table: &mut [Plane], state: &mut [Plane], sheet: &mut Sheet)
         requires constant { 2 ≤ length table.old }
+        requires state { length state.old ≡ 2 * length self.now.resets.items }
         requires below { All (IsLiteralBelow (length table.old / 2)) self.now.resets.items }
         ensures room { SameRoom sheet.old sheet.new }
         ensures table { (l variables : ℕ) → l < 256 → length table.old ≡ 2 * variables
@@ -173,14 +177,20 @@ impl Shown {
             → end_of self.now 0 ≤ length (text_in l sheet.old) → take (end_of self.now 0) (text_in l sheet.new)
             ≡ values_text (map (literal_value (read_from (slice_set (replicate variables X) 0 Zero)))
             self.now.resets.items) }
+        ensures state { (l variables : ℕ) → l < 256 → length table.old ≡ 2 * variables
+            → IsLane l state.new (map (literal_value (read_from (slice_set (replicate variables X) 0 Zero)))
+            self.now.resets.items) }
     {
         fill_table(table);
         put_all(table, 0, Val::Zero);
         show_literals(&self.resets, table, sheet, 0);
+        fill_table(state);
+        put_literals(&self.resets, table, state);
     }
 
     /// Puts what a step shows beside its state, and the state behind it.
-    pub fn show(&self, table: &[Plane], sheet: &mut Sheet, step: usize)
+    pub fn show(&self, table: &[Plane], state: &mut [Plane], sheet: &mut Sheet, step: usize)
+        requires state { length state.old ≡ 2 * length self.now.resets.items }
         requires fits { (step + 1) * shown_size self.now < 2 ^ 64 }
         requires below { All (IsLiteralBelow (length table.now / 2)) self.now.literals.items }
         ensures room { SameRoom sheet.old sheet.new }
@@ -190,9 +200,16 @@ impl Shown {
             → end_of self.now (step + 1) ≤ length (text_in l sheet.old) → IsLane l table.now values
             → take (end_of self.now (step + 1)) (text_in l sheet.new) ≡ take (end_of self.now step) (text_in l sheet.old)
             ++ values_text (map (literal_value (read_from values)) self.now.literals.items) }
+        ensures state { (l : ℕ) (values before : List Value) → IsLane l table.now values → IsLane l state.old before
+            → IsLane l state.new (map (literal_value (read_from values))
+            (drop (length self.now.literals.items - length self.now.resets.items) self.now.literals.items)) }
     {
         let at = step * self.literals.len() + self.resets.len();
         show_literals(&self.literals, table, sheet, at);
+        let (_, next) = self
+            .literals
+            .split_at(self.literals.len() - self.resets.len());
+        put_literals(next, table, state);
     }
 
     /// Writes the columns of bad states and constraints of a step in a lane, where they are asked for and stand at this
@@ -253,5 +270,37 @@ impl Shown {
         let end = self.write_properties(sheet, line, end, behind + self.outputs, lane);
         line[end] = b'\n';
         end + 1
+    }
+
+    /// The row of a step in a lane with these inputs. There is a line to write in.
+    pub fn row(
+        &self,
+        alloc: Global,
+        sheet: &Sheet,
+        line: &mut [u8],
+        given: &Listing<Val>,
+        step: usize,
+        lane: usize,
+    ) -> Result<FullRow, AllocError>
+        requires lane { lane < 256 }
+        requires fits { (step + 1) * shown_size self.now < 2 ^ 64 }
+        requires has { end_of self.now (step + 1) ≤ length (text_in lane sheet.now) }
+        requires room { shown_size self.now ≤ length line.old }
+        ensures { IfOk result (λ full. (row : RowRecord) → RowStands self.now step given.now (text_in lane sheet.now) row
+            → self.now.columns ≡ Properties → row_of full ≡ row) }
+    {
+        let latches = self.resets.len();
+        let from = step * self.literals.len();
+        let next = (step + 1) * self.literals.len();
+        let behind = from + latches;
+        let properties = behind + self.outputs;
+        Ok(FullRow {
+            state: sheet.values(alloc, line, from, latches, lane)?,
+            inputs: given.copy(alloc)?,
+            outputs: sheet.values(alloc, line, behind, self.outputs, lane)?,
+            next: sheet.values(alloc, line, next, latches, lane)?,
+            bad: sheet.values(alloc, line, properties, self.bad, lane)?,
+            constraints: sheet.values(alloc, line, properties + self.bad, self.constraints, lane)?,
+        })
     }
 }

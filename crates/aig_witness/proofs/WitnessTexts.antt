@@ -12,13 +12,13 @@ use Rattle.aig_circuit.specs.declared.circuit.Circuit.{Circuit}
 use Rattle.aig_circuit.specs.declared.circuit.Reset.{Reset}
 use Rattle.aig_circuit.specs.declared.circuit.Reset.TheVariants as resets
 use Rattle.aig_circuit.specs.declared.value.Val.{Val}
-use Rattle.aig_circuit.specs.declared.value.Val.TheVariants.{Zero, One, X}
+use Rattle.aig_batch.proofs.Side.StepTexts.{says_values}
 use Rattle.aig_meaning.specs.Trace.{MayStartAt}
 use Rattle.aig_rows.specs.Lines.{Line, lines_of}
 use Rattle.aig_rows.specs.Spelling.{value_of as number_of}
 use Rattle.aig_witness.specs.Laws.{WitnessFilesAreRead}
 use Rattle.aig_step.specs.Stimulus.{Entry, Step, Stop, entry_in, judged_lines, text_of, values_of}
-use Rattle.aig_step.specs.TraceText.{character_of, values_text}
+use Rattle.aig_step.specs.TraceText.{values_text}
 use Rattle.aig_witness.specs.Witness.{Claim, Nothing, Property, Said, SaysClaim, Shape, Steps, Version, Whole, begun_at}
 use Rattle.aig_witness.specs.Witness.{first_state_in, if_may_start, is_canonical, may_start_at, may_start_in, number_below}
 use Rattle.aig_witness.specs.Witness.{property_in, said_behind, said_by, said_with, shape_of, with_entry}
@@ -94,17 +94,7 @@ stop_text inputs text is =
     (bytes_eq-Decides text (codes ".")).0
     (stop_by (bytes_eq text (codes ".")) (length text == inputs) (values_of text) is)
 
--- the characters of values say them
-first_says : (v : Val) (vs : List Val) → values_of (values_text vs) ≡ Some vs
-    → values_of (character_of v ∷ values_text vs) ≡ Some (v ∷ vs)
-first_says Zero vs is = ap (option_map (λ us. Zero ∷ us)) is
-first_says One vs is = ap (option_map (λ us. One ∷ us)) is
-first_says X vs is = ap (option_map (λ us. X ∷ us)) is
-
-says_values : (vs : List Val) → values_of (values_text vs) ≡ Some vs
-says_values [] = refl
-says_values (v ∷ vs) = first_says v vs (says_values vs)
-
+-- there is a character for each value
 text_long : (vs : List Val) → length (values_text vs) ≡ length vs
 text_long vs = sym (values_length (values_text vs) vs (says_values vs))
 

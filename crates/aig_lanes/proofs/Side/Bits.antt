@@ -1,15 +1,10 @@
 -- Bits of planes.
-use Rattle.std.proofs.Common.{rules}
-use Rattle.std.proofs.Common.{◌≡◌, ◌≢◌, ◌+◌, ◌*◌, ◌/◌, ◌%◌, ◌^◌, ◌<◌, ℕ, zero, suc, List, [], ◌∷◌, length, get_or}
-use Rattle.std.proofs.Common.{set, refl, sym, ap, ◌∙◌, arith, min, max}
-use Rattle.std.proofs.lemmas.Bool.{cases_lt}
+use Rattle.std.proofs.Common.{◌≡◌, ◌/◌, ◌%◌, ◌<◌, ℕ, zero, suc, List, [], ◌∷◌, length, get_or, refl, sym}
+use Rattle.std.proofs.Common.{ap, ◌∙◌, arith, min, max}
 use Rattle.std.specs.Int.{bit_at}
-use Rattle.std.specs.Int.Bits.{bit_and, bit_or, bit_xor}
+use Rattle.std.specs.Int.Bits.{bit_and, bit_or}
 use Rattle.std.specs.Simd.Lanes.{zip2}
-use Rattle.std.proofs.lemmas.List.{get_or-set_same, get_or-set_other}
-use Rattle.std.proofs.lemmas.Nat.{pow_below}
-use Rattle.std.proofs.lemmas.Nat.Bits.{bit_at_and, bit_at_or, bit_at_xor, bit_at_ones, bit_at-zero, bit_at-lt}
-use Rattle.std.proofs.lemmas.Nat.Bits.{bit_at-pow_same, bit_at-pow_other}
+use Rattle.std.proofs.lemmas.Nat.Bits.{bit_at_and, bit_at_or, bit_at_ones, bit_at-zero}
 use Rattle.aig_lanes.specs.Parts.Lanes.{bit_in}
 
 -- a word of a plane that was computed word by word
@@ -32,15 +27,6 @@ pub or_in : (l : ℕ) (p q : List ℕ) → length p ≡ length q
 or_in l p q same =
     ap (λ n. bit_at n (l % 64)) (zip_at bit_or refl p q (l / 64) same)
     ∙ bit_at_or (get_or p (l / 64) 0) (get_or q (l / 64) 0) (l % 64)
-
-pub xor_in : (l : ℕ) (p q : List ℕ) → length p ≡ length q
-    → bit_in l (zip2 bit_xor p q) ≡ (bit_in l p + bit_in l q) % 2
-xor_in l p q same =
-    ap (λ n. bit_at n (l % 64)) (zip_at bit_xor refl p q (l / 64) same)
-    ∙ bit_at_xor (get_or p (l / 64) 0) (get_or q (l / 64) 0) (l % 64)
-
-pub bit_below : (l : ℕ) (p : List ℕ) → bit_in l p < 2
-bit_below l p = bit_at-lt (get_or p (l / 64) 0) (l % 64)
 
 -- four words that are one
 abbrev pub four : ℕ → List ℕ
@@ -67,31 +53,3 @@ all_ones l below =
 
 pub all_zeros : (l : ℕ) → bit_in l (four 0) ≡ 0
 all_zeros l = ap (λ n. bit_at n (l % 64)) (zeros_at (l / 64)) ∙ bit_at-zero (l % 64)
-
-pub shifted : (k : ℕ) → k < 64 → 1 * 2 ^ k % 2 ^ 64 ≡ 2 ^ k
-shifted k below = let small : 2 ^ k < 2 ^ 64 = pow_below k 64 below in omega (arith, small)
-
--- one word has the bit of a lane
-module _ (lane : ℕ) (in_plane : lane < 256) where
-  pub own_bit : bit_in lane (set (four 0) (lane / 64) (2 ^ (lane % 64))) ≡ 1
-  own_bit =
-      ap (λ n. bit_at n (lane % 64))
-      (get_or-set_same (four 0) (lane / 64) (2 ^ (lane % 64)) 0 (omega (arith, in_plane)))
-      ∙ bit_at-pow_same (lane % 64)
-
-  same_word : (l : ℕ) → l ≢ lane → l / 64 ≡ lane / 64
-      → bit_in l (set (four 0) (lane / 64) (2 ^ (lane % 64))) ≡ 0
-  same_word l other word =
-      let place : l % 64 ≢ lane % 64 = λ e. other (omega (arith, word, e)) in
-      ap (λ w. bit_at (get_or (set (four 0) (lane / 64) (2 ^ (lane % 64))) w 0) (l % 64)) word
-      ∙ ap (λ n. bit_at n (l % 64)) (get_or-set_same (four 0) (lane / 64) (2 ^ (lane % 64)) 0 (omega (arith, in_plane)))
-      ∙ bit_at-pow_other (lane % 64) (l % 64) place
-
-  other_word : (l : ℕ) → l / 64 ≢ lane / 64 → bit_in l (set (four 0) (lane / 64) (2 ^ (lane % 64))) ≡ 0
-  other_word l word =
-      ap (λ n. bit_at n (l % 64))
-      (get_or-set_other (four 0) (lane / 64) (l / 64) (2 ^ (lane % 64)) 0 word ∙ zeros_at (l / 64))
-      ∙ bit_at-zero (l % 64)
-
-  pub other_bit : (l : ℕ) → l ≢ lane → bit_in l (set (four 0) (lane / 64) (2 ^ (lane % 64))) ≡ 0
-  other_bit l other = search (rules, cases_lt, other_word, same_word)

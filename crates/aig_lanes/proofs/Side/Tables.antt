@@ -126,12 +126,6 @@ pub and_pair : (l : ℕ) (high low high_too low_too : List ℕ) (x y : Val) → 
     → IsPair l high_too low_too y → IsPair l (zip2 bit_and high high_too) (zip2 bit_or low low_too) (value_and x y)
 and_pair l high low high_too low_too x y p q = search (rules, length-zip2, and_in, least_may, or_in, most_may)
 
--- the planes that are in other lanes what they were
-pub kept_pair : (l : ℕ) (high low new_high new_low : List ℕ) (x : Val) → IsPair l high low x
-    → IsPlane new_high → IsPlane new_low → bit_in l new_high ≡ bit_in l high → bit_in l new_low ≡ bit_in l low
-    → IsPair l new_high new_low x
-kept_pair l high low new_high new_low x pair one_plane zero_plane one_bit zero_bit = search rules
-
 -- one more value is put behind those before it
 pub placed_more : (at i : ℕ) (given : List Val) (d x : Val) (values : List Val) → i < length given
     → x ≡ get_or given i d → placed at (take (i + 1) given) values ≡ set (placed at (take i given) values) (at + i) x

@@ -1,12 +1,10 @@
--- What is shown of a step, and what is kept of it: literals side by side, and their values. Only the simulator cites
--- this.
-use Rattle.std.specs.Prelude.{◌++◌, ℕ, List, [], ◌∷◌, map}
+-- The literals that are put for a step, side by side. Only the simulator cites this.
+use Rattle.std.specs.Prelude.{◌++◌, ℕ, List, [], map}
 use Rattle.aig_circuit.specs.declared.circuit.Circuit.{Circuit}
 use Rattle.aig_circuit.specs.declared.circuit.Latch.{Latch}
 use Rattle.aig_circuit.specs.declared.circuit.Reset.{Reset}
 use Rattle.aig_circuit.specs.declared.circuit.Reset.TheVariants as resets
-use Rattle.aig_circuit.specs.declared.value.Val.{Val}
-use Rattle.aig_meaning.specs.Meaning.{Row, next_literals}
+use Rattle.aig_meaning.specs.Meaning.{next_literals}
 use Rattle.aig_step.specs.declared.trace.Columns.{Columns}
 use Rattle.aig_step.specs.declared.trace.Columns.TheVariants.{Plain, Properties}
 
@@ -31,10 +29,3 @@ reset_literals latches = map (λ (l : Latch). reset_literal l.reset) latches
 -- the literals that are put for a step: what it shows beside states, and the state behind it
 abbrev pub step_literals : Columns → Circuit → List ℕ
 step_literals columns c = seen columns c.outputs c.bad c.constraints ++ next_literals c
-
--- the values that are kept of rows: of each its state and what it shows beside states, and behind them all the state
--- that comes after
-abbrev pub values_kept : Columns → List Val → List Row → List Val
-values_kept columns state [] = state
-values_kept columns state (row ∷ rows) =
-    (state ++ seen columns row.outputs row.bad row.constraints) ++ values_kept columns row.next rows

@@ -11,7 +11,7 @@ use Rattle.aig_step.specs.declared.trace.Columns.{Columns}
 use Rattle.aig_step.specs.declared.trace.Columns.TheVariants.{Plain, Properties}
 use Rattle.aig_lanes.specs.Parts.Groups.{IsTable}
 use Rattle.aig_lanes.specs.Parts.Lanes.{IsLane}
-use Rattle.aig_lanes.specs.Parts.Kept.{asked, reset_literals, step_literals, values_kept}
+use Rattle.aig_lanes.specs.Parts.Kept.{asked, reset_literals, step_literals}
 use Rattle.aig_lanes.specs.Parts.Sheets.{BytesText, part, text_in}
 use Rattle.aig_step.specs.TraceText.{rows_text, values_text}
 
@@ -61,20 +61,38 @@ kept_text shown run zero text = []
 kept_text shown run (suc step) text =
     kept_text shown run step text ++ shown_text shown step (values_text (slice_index_or run.steps step [])) text
 
--- what is kept in the text of a lane is the circuit's trace of these vectors of inputs, from the reset state
-pub record KeepsTrace (c : Circuit) (vectors : List (List Val)) (shown : Shown) (text : List ℕ) : Type 0 where
-  pub rows : List Row
+-- the text of a lane shows this row for a step with these inputs
+pub record RowStands (shown : Shown) (step : ℕ) (given : List Val) (text : List ℕ) (row : Row) : Type 0 where
+  pub state : part (step * length shown.literals.items) (length shown.resets.items) text ≡ values_text row.state
+  pub inputs : row.inputs ≡ given
+  pub outputs : part (end_of shown step) shown.outputs text ≡ values_text row.outputs
+  pub bad : part (end_of shown step + shown.outputs) shown.bad text ≡ values_text (asked shown.columns row.bad)
+  pub constraints : part (end_of shown step + shown.outputs + shown.bad) shown.constraints text
+      ≡ values_text (asked shown.columns row.constraints)
+  pub next : part ((step + 1) * length shown.literals.items) (length shown.resets.items) text ≡ values_text row.next
+
+-- these rows are the circuit's trace of vectors of inputs, from the reset state, and are kept in the text of a lane
+pub record KeepsTrace (c : Circuit) (vectors : List (List Val)) (shown : Shown) (text : List ℕ) (rows : List Row)
+    : Type 0 where
   pub traced : IsTrace c (reset_state c) vectors rows
-  pub kept : take (end_of shown (length vectors)) text
-      ≡ values_text (values_kept shown.columns (reset_state c) rows)
+  pub count : length rows ≡ length vectors
+  pub each : (t : ℕ) (d : Row) → t < length rows
+      → RowStands shown t (slice_index_or vectors t []) text (slice_index_or rows t d)
+  pub last : part (length vectors * length shown.literals.items) (length shown.resets.items) text
+      ≡ values_text (state_after (reset_state c) rows)
+
+-- the trace of a run is kept in its lane
+abbrev pub KeepsRun : Circuit → Run → (lane : ℕ) → Shown → List BytesText → Type 0
+KeepsRun c run lane shown sheet = (rows : List Row) × KeepsTrace c run.steps shown (text_in lane sheet) rows
 
 -- So many steps were taken side by side: what is kept is the run's trace so far; and where the run has as many steps,
 -- the state behind them stands in its lane.
 pub record LaneStands (c : Circuit) (run : Run) (steps lane : ℕ) (table state : List (List ℕ))
     (shown : Shown) (sheet : List BytesText) : Type 0 where
-  pub keeps : KeepsTrace c (take steps run.steps) shown (text_in lane sheet)
+  pub rows : List Row
+  pub keeps : KeepsTrace c (take steps run.steps) shown (text_in lane sheet) rows
   pub table_stands : steps ≤ length run.steps → IsTable lane (1 + c.max_var) table
-  pub state_stands : steps ≤ length run.steps → IsLane lane state (state_after (reset_state c) keeps.rows)
+  pub state_stands : steps ≤ length run.steps → IsLane lane state (state_after (reset_state c) rows)
 
 -- the lines for all steps of a run, from the reset state
 pub record IsTextOf (columns : Columns) (c : Circuit) (run : Run) (text : List ℕ) : Type 0 where

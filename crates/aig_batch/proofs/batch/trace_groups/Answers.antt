@@ -19,16 +19,16 @@ loop-done-preserved c =
     let end = c.min-end.result in
     let more : done ≤ end = omega (arith, c.loop-done-test.true, c.min-end.ensures) in
     let traced : AllZip (IsTraceOf c.args.machine.now) (take done runs ++ take (end - done) (drop done runs))
-    (c.loop-done.traces.items ++ c.in_ok-trace_group.field-0.items) =
+    (c.loop-done.traces.items ++ c.in_ok-more.more.items) =
     zips_joined (IsTraceOf c.args.machine.now) (take done runs) (take (end - done) (drop done runs))
-    c.loop-done.traces.items c.in_ok-trace_group.field-0.items c.loop-done.invariant.traced
-    c.in_ok-trace_group.ensures in
+    c.loop-done.traces.items c.in_ok-more.more.items c.loop-done.invariant.traced
+    c.in_ok-more.ensures in
     record {
       within = omega (arith, c.min-end.ensures);
       traced =
           subst (λ (ts : List Trace). AllZip (IsTraceOf c.args.machine.now) (take end runs) ts)
           (sym c.in_ok-append.ensures)
           (subst (λ (rs : List Run).
-          AllZip (IsTraceOf c.args.machine.now) rs (c.loop-done.traces.items ++ c.in_ok-trace_group.field-0.items))
+          AllZip (IsTraceOf c.args.machine.now) rs (c.loop-done.traces.items ++ c.in_ok-more.more.items))
           (taken_on done end runs more) traced);
     }

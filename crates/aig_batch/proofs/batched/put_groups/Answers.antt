@@ -37,7 +37,7 @@ loop-group-preserved g c =
           (put_more machine columns (take i groups) runs (kept_texts shown runs (length runs) sheet)
           c.args.output.now c.loop-group.output c.run.new.output c.loop-group.invariant.put
           (subst (λ (k : Columns). AllZip (IsTextOf k machine) runs (kept_texts shown runs (length runs) sheet))
-          asks (zipped_texts machine runs shown sheet c.run.ensures.is.shows c.run.ensures.keeps))
+          asks (zipped_texts machine runs shown sheet c.run.ensures.keeps))
           c.run.ensures.put);
     }
 

@@ -1,12 +1,13 @@
-use Rattle.std.proofs.Common.{◌≡◌, ◌<◌, ◌+◌, ◌*◌, ◌/◌, ◌∙◌, List, [], ap, arith, get_or, length, map, subst, sym, ℕ}
+use Rattle.std.proofs.Common.{◌≡◌, ◌<◌, ◌+◌, ◌/◌, ◌∙◌, List, [], ap, arith, get_or, length, map, subst, sym, ℕ}
 use Rattle.std.specs.List.{All}
+use Rattle.std.proofs.lemmas.List.{length-map}
 use Rattle.aig_circuit.specs.declared.circuit.Latch.{Latch}
 use Rattle.aig_meaning.specs.Meaning.{literal_value}
 use Rattle.aig_lanes.specs.Parts.InputBits.{no_word}
 use Rattle.aig_lanes.specs.Parts.Lanes.{IsLane}
 use Rattle.aig_step.specs.Parts.Tables.{IsLiteralBelow, read_from}
 use Rattle.aig_lanes.proofs.Side.Sheets.{steps_within}
-use Rattle.aig_batch.proofs.Side.TextGroups.{literals_below, stands_on}
+use Rattle.aig_batch.proofs.Side.TextGroups.{literals_below, next_last, stands_on}
 use Rattle.aig_batch.proofs.text_group.take_step.Goals as goal
 
 pub show-requires-clause-below : goal.show-requires-clause-below
@@ -28,7 +29,7 @@ show-requires-clause-below c =
 
 pub returns-clause-stands : goal.returns-clause-stands
 returns-clause-stands c j d below stood =
-    let state_now = c.show_next_lanes.new.state in
+    let state_now = c.show.new.state in
     let run = get_or c.args.runs.now j d in
     let step = c.args.step in
     let shown = c.args.shown.now in
@@ -37,16 +38,15 @@ returns-clause-stands c j d below stood =
     let lane : j < 256 = omega (arith, below, c.requires.lanes) in
     stands_on machine run step j c.args.table.now c.put_vectors.new.planes c.assign_lanes.new.table
     c.args.state.now state_now shown c.args.sheet.now c.show.new.sheet c.requires.shows (c.requires.runs j d below)
-    stood (record {
+    (c.requires.room j d lane below) stood (record {
       put = λ values has is.
           c.put_vectors.ensures j (get_or run.steps step []) values lane
           (c.requires.runs j d below step [] has ∙ sym (ap length parts.inputs) ∙ sym c.len.ensures)
           (λ block inside. c.requires.bits block inside j d below step no_word has) is;
       assign = λ given values start long is from. c.assign_lanes.ensures j given values start long is from;
       show = λ values start is from.
-          subst (λ (ls : List Latch).
-          IsLane j state_now (map (λ (k : Latch). literal_value (read_from values) k.next) ls))
-          (c.as_slice.ensures ∙ parts.latches) (c.show_next_lanes.ensures j values start is from);
+          subst (λ (ls : List ℕ). IsLane j state_now (map (literal_value (read_from values)) ls))
+          (next_last machine shown c.requires.shows) (c.show.ensures.state j values start is from);
     })
     (c.show.ensures.front j lane)
     (λ values has is.
@@ -56,3 +56,6 @@ returns-clause-stands c j d below stood =
       steps_within step (length run.steps) (length shown.literals.items) has,
       c.requires.room j d lane below,
     )) is)
+
+pub show-requires-clause-state : goal.show-requires-clause-state
+show-requires-clause-state c = omega (arith, c.requires.state, simp length-map at (ap length c.requires.shows.resets))

@@ -1,4 +1,4 @@
-use Rattle.std.proofs.Common.{◌≡◌, ◌∙◌, ◌<◌, ◌≤◌, List, arith, get_or, length, subst, sym, ℕ}
+use Rattle.std.proofs.Common.{◌≡◌, ◌∙◌, ◌<◌, ◌≤◌, List, arith, get_or, length, subst, sym}
 use Rattle.std.proofs.lemmas.List.{take_all, with_items_is}
 use Rattle.aig_circuit.specs.declared.value.Val.{Val}
 use Rattle.aig_lanes.specs.Parts.InputBits.{HoldsBlocks}
@@ -21,9 +21,11 @@ returns-clause-keeps c j d below =
     ∙ with_items_is bench.state c.begin_steps.new.state (c.begin_steps.auto.state ∙ c.deref_mut-3.ensures.len) in
     let first = c.begin_steps.ensures.stands j run lane (c.requires.room.sheet j d lane below) in
     let stood = c.take_steps.ensures.stands j d below (rw (table, state) first) in
-    let end : length run.steps ≤ c.longest.result = c.longest.ensures.most j d below in
-    subst (λ (vs : List (List Val)). KeepsTrace machine vs bench.shown (text_in j c.take_steps.new.sheet))
-    (take_all c.longest.result run.steps end) stood.keeps
+    let end : length run.steps ≤ c.longest.result = c.longest.ensures.most j d below in (
+      stood.rows,
+      subst (λ (vs : List (List Val)). KeepsTrace machine vs bench.shown (text_in j c.take_steps.new.sheet) stood.rows)
+          (take_all c.longest.result run.steps end) stood.keeps,
+    )
 
 pub take_steps-requires-clause-bits : goal.take_steps-requires-clause-bits
 take_steps-requires-clause-bits c =
