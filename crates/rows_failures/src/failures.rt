@@ -179,31 +179,33 @@ fn in_a_dozen(text: &[u8]) -> Behaviour {
 }
 
 /// The number of reads of a row's run, and of its writes.
-fn calls_of<R: Files + AllocGlobal>(rt: &R, row: &str) -> Result<(u64, u64), Fail> {
+fn calls_of<R: Files + AllocGlobal>(rt: &R, row: &str) -> Result<(u64, u64), AllocError> {
     let (words, text, _) = parts(row);
     let outcome = run(rt, words, text, in_a_dozen(text))?;
     Ok((outcome.reads, outcome.output.calls))
 }
 
 /// Whether a row's run whose read of this number fails tells so, wrote no byte, and reads no more.
-fn stops_at_read<R: Files + AllocGlobal>(rt: &R, row: &str, call: u64) -> Result<bool, Fail> {
+fn stops_at_read<R: Files + AllocGlobal>(rt: &R, row: &str, call: u64) -> bool {
     let (words, text, _) = parts(row);
     let mut behaviour = in_a_dozen(text);
     behaviour.failing_read = call;
-    let outcome = run(rt, words, text, behaviour)?;
-    Ok(
-        outcome.told(1, "aiger: -: cannot read\n")
-            && outcome.reads == call.saturating_add(1)
-            && outcome.output.calls == 0,
-    )
+    match run(rt, words, text, behaviour) {
+        Ok(outcome) => {
+            outcome.told(1, "aiger: -: cannot read\n")
+                && outcome.reads == call.saturating_add(1)
+                && outcome.output.calls == 0
+        }
+        Err(_) => false,
+    }
 }
 
 /// The first read of these rows that does not stop its run so, if there is one.
-fn first_wrong_read<R: Files + AllocGlobal>(rt: &R, rows: &str) -> Result<Option<u64>, Fail> {
+fn first_wrong_read<R: Files + AllocGlobal>(rt: &R, rows: &str) -> Result<Option<u64>, AllocError> {
     for row in rows.split('#') {
         let (reads, _) = calls_of(rt, row)?;
         for call in 0..reads {
-            if !stops_at_read(rt, row, call)? {
+            if !stops_at_read(rt, row, call) {
                 return Ok(Some(call));
             }
         }
@@ -223,24 +225,29 @@ fn failed_reads(rt: HostRuntime) -> Result<(), Fail> {
 }
 
 /// Whether a row's run whose write of this number fails tells so, wrote a beginning, and writes no more.
-fn stops_at_write<R: Files + AllocGlobal>(rt: &R, row: &str, call: u64) -> Result<bool, Fail> {
+fn stops_at_write<R: Files + AllocGlobal>(rt: &R, row: &str, call: u64) -> bool {
     let (words, text, written) = parts(row);
     let mut behaviour = in_a_dozen(text);
     behaviour.failing_write = call;
-    let outcome = run(rt, words, text, behaviour)?;
-    Ok(
-        outcome.told(1, "aiger: -: cannot write\n")
-            && written.starts_with(outcome.output.taken.as_slice())
-            && outcome.output.calls == call.saturating_add(1),
-    )
+    match run(rt, words, text, behaviour) {
+        Ok(outcome) => {
+            outcome.told(1, "aiger: -: cannot write\n")
+                && written.starts_with(outcome.output.taken.as_slice())
+                && outcome.output.calls == call.saturating_add(1)
+        }
+        Err(_) => false,
+    }
 }
 
 /// The first write of these rows that does not stop its run so, if there is one.
-fn first_wrong_write<R: Files + AllocGlobal>(rt: &R, rows: &str) -> Result<Option<u64>, Fail> {
+fn first_wrong_write<R: Files + AllocGlobal>(
+    rt: &R,
+    rows: &str,
+) -> Result<Option<u64>, AllocError> {
     for row in rows.split('#') {
         let (_, writes) = calls_of(rt, row)?;
         for call in 0..writes {
-            if !stops_at_write(rt, row, call)? {
+            if !stops_at_write(rt, row, call) {
                 return Ok(Some(call));
             }
         }
@@ -260,26 +267,28 @@ fn failed_writes(rt: HostRuntime) -> Result<(), Fail> {
 }
 
 /// Whether a row's run whose devices move so many bytes writes what it should, in slices no longer than a block.
-fn is_written_in<R: Files + AllocGlobal>(rt: &R, row: &str, piece: usize) -> Result<bool, Fail> {
+fn is_written_in<R: Files + AllocGlobal>(rt: &R, row: &str, piece: usize) -> bool {
     let (words, text, written) = parts(row);
-    let outcome = run(rt, words, text, Behaviour::pieces_of(piece))?;
-    Ok(
-        outcome.told(0, "")
-            && outcome.output.taken.as_slice() == written
-            && outcome.output.longest <= 8192,
-    )
+    match run(rt, words, text, Behaviour::pieces_of(piece)) {
+        Ok(outcome) => {
+            outcome.told(0, "")
+                && outcome.output.taken.as_slice() == written
+                && outcome.output.longest <= 8192
+        }
+        Err(_) => false,
+    }
 }
 
 /// The first size of pieces in which a row is not written so, if there is one.
-fn first_wrong_piece<R: Files + AllocGlobal>(rt: &R, rows: &str) -> Result<Option<usize>, Fail> {
+fn first_wrong_piece<R: Files + AllocGlobal>(rt: &R, rows: &str) -> Option<usize> {
     for row in rows.split('#') {
         for piece in [1, 7, 30_000] {
-            if !is_written_in(rt, row, piece)? {
-                return Ok(Some(piece));
+            if !is_written_in(rt, row, piece) {
+                return Some(piece);
             }
         }
     }
-    Ok(None)
+    None
 }
 
 /// Few bytes in a call change nothing, and no slice is longer than a block.
@@ -288,7 +297,6 @@ fn pieces(rt: HostRuntime) -> Result<(), Fail> {
     let texts = texts(rt.alloc())?;
     let wrong = first_wrong_piece(&rt, texts.as_str());
     drop(texts);
-    let wrong = wrong?;
     assert!(rt; wrong.is_none(), "in pieces of {wrong:?}");
     Ok(())
 }

@@ -1,13 +1,12 @@
 //! Conversions and unrollings between files in memory that fail, and files that move few bytes in a call.
 use crate::failures::parts;
-use crate::run::run_over;
-use crate::streams::{NEVER, OnceReader, OnceWriter};
+use crate::run::{Behaviour, run_over};
+use crate::streams::{NEVER, OnceReader};
 use aig_core::DeviceFault;
 use aig_files::FileAccess;
 use std::alloc::Global;
 use std::io;
 use std::io::{ErrorKind, Write};
-use std::test::Fail;
 
 /// Which call of a file fails, counted from 0; `NEVER` is none.
 #[derive(Clone, Copy)]
@@ -104,22 +103,18 @@ impl<'a> FileAccess for MemoryFiles<'a> {
 
 /// Whether the program answers this status and reports this, over these files: no byte is read from the standard input or
 /// written to the standard output, since their first call would fail.
-fn told(
-    alloc: Global,
-    files: &MemoryFiles<'_>,
-    line: &str,
-    status: u8,
-    message: &str,
-) -> Result<bool, Fail> {
-    let reader = OnceReader {
-        left: b"aag 0 0 0 0 0\n",
+fn told(alloc: Global, files: &MemoryFiles<'_>, line: &str, status: u8, message: &str) -> bool {
+    let behaviour = Behaviour {
         piece: 1,
-        failing: 0,
-        calls: 0,
+        failing_read: 0,
+        failing_write: 0,
     };
-    let writer = OnceWriter::new(alloc, 1, 0);
-    let outcome = run_over(alloc, files, line, reader, writer)?;
-    Ok(outcome.told(status, message) && outcome.reads == 0 && outcome.output.calls == 0)
+    match run_over(alloc, files, line, b"aag 0 0 0 0 0\n", behaviour) {
+        Ok(outcome) => {
+            outcome.told(status, message) && outcome.reads == 0 && outcome.output.calls == 0
+        }
+        Err(_) => false,
+    }
 }
 
 /// Words, `$`, the text of the source, `=` and what is written, with a `#` between rows.
@@ -202,79 +197,74 @@ fn unwritten(words: &str) -> &'static str {
 
 /// The files hold what is wanted.
 #[test]
-fn files_in_pieces(rt: HostRuntime) -> Result<(), Fail> {
+fn files_in_pieces(rt: HostRuntime) {
     for row in ROWS.split('#') {
         let (words, mut files) = row_of(row);
         for piece in [1, 7, 30_000] {
             files.piece = piece;
             assert!(rt;
-                told(rt.alloc(), &files, words, 0, "")?,
+                told(rt.alloc(), &files, words, 0, ""),
                 "in pieces of {piece}"
             );
         }
     }
-    Ok(())
 }
 
 /// The source cannot be opened, or each of its reads fails in turn.
 #[test]
-fn failed_sources(rt: HostRuntime) -> Result<(), Fail> {
+fn failed_sources(rt: HostRuntime) {
     for row in ROWS.split('#') {
         let (words, mut files) = row_of(row);
         for read in 0..files.text.len() as u64 / 3 {
             files.failing.read = read;
             let line = "aiger: source: cannot read\n";
-            assert!(rt; told(rt.alloc(), &files, words, 1, line)?, "read {read}");
+            assert!(rt; told(rt.alloc(), &files, words, 1, line), "read {read}");
         }
         files.failing.open = true;
         files.failing.create = true;
-        assert!(rt; told(rt.alloc(), &files, words, 1, "aiger: source: cannot read\n")?);
+        assert!(rt; told(rt.alloc(), &files, words, 1, "aiger: source: cannot read\n"));
     }
-    Ok(())
 }
 
 /// The destination cannot be made or closed, or each of its writes fails in turn.
 #[test]
-fn failed_destinations(rt: HostRuntime) -> Result<(), Fail> {
+fn failed_destinations(rt: HostRuntime) {
     for row in ROWS.split('#') {
         let (words, mut files) = row_of(row);
         let line = unwritten(words);
         for write in 0..files.wanted.len() as u64 / 3 {
             files.failing.write = write;
-            assert!(rt; told(rt.alloc(), &files, words, 1, line)?, "write {write}");
+            assert!(rt; told(rt.alloc(), &files, words, 1, line), "write {write}");
         }
         files.failing.write = NEVER;
         files.failing.close = true;
-        assert!(rt; told(rt.alloc(), &files, words, 1, line)?, "close");
+        assert!(rt; told(rt.alloc(), &files, words, 1, line), "close");
         files.failing.create = true;
-        assert!(rt; told(rt.alloc(), &files, words, 1, line)?, "create");
+        assert!(rt; told(rt.alloc(), &files, words, 1, line), "create");
     }
-    Ok(())
 }
 
 /// A source that is refused makes no destination, which would fail.
 #[test]
-fn refused_sources(rt: HostRuntime) -> Result<(), Fail> {
+fn refused_sources(rt: HostRuntime) {
     let (words, mut files) = row_of("aiger aigtoaig source destination$aag 1 1 0 0 0\n=");
     files.failing.create = true;
     let line = "aiger: source: line 2: file ends too early\n";
-    assert!(rt; told(rt.alloc(), &files, words, 1, line)?);
+    assert!(rt; told(rt.alloc(), &files, words, 1, line));
     let (words, mut files) = row_of(
         "aiger aigtoaig --undo-map source destination$aig 0 0 0 0 0\n=",
     );
     files.failing.create = true;
-    assert!(rt; told(rt.alloc(), &files, words, 1, "aiger: source: no map\n")?);
-    Ok(())
+    assert!(rt; told(rt.alloc(), &files, words, 1, "aiger: source: no map\n"));
 }
 
 /// A circuit that cannot be unrolled makes no destination, which would fail.
 #[test]
-fn refused_circuits(rt: HostRuntime) -> Result<(), Fail> {
+fn refused_circuits(rt: HostRuntime) {
     let (words, mut files) = row_of(
         "aiger aigunroll --frames 1 source destination$aag 0 0 0 0 0 0 0 0 1\n0\n=",
     );
     files.failing.create = true;
     let line = "aiger: source: justice or fairness cannot be unrolled\n";
-    assert!(rt; told(rt.alloc(), &files, words, 1, line)?);
-    Ok(())
+    assert!(rt; told(rt.alloc(), &files, words, 1, line));
 }

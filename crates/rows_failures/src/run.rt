@@ -1,11 +1,10 @@
 //! A run of the program's engine over devices in memory.
 use crate::streams::{NEVER, OnceReader, OnceWriter};
-use aig_core::{MemorySink, ReadSource, WriteSink};
+use aig_core::{ReadSource, WriteSink};
 use aig_files::FileAccess;
 use aig_tools::{serve, start};
 use std::alloc::{AllocError, Global};
 use std::rt::Files;
-use std::test::Fail;
 
 /// How the devices behave: how many bytes they move in a call, and which call fails, counted from 0.
 #[derive(Clone, Copy)]
@@ -24,6 +23,20 @@ impl Behaviour {
             failing_write: NEVER,
         }
     }
+
+    /// A reader of this text.
+    fn reader(self, text: &[u8]) -> OnceReader<'_> {
+        OnceReader {
+            left: text,
+            piece: self.piece,
+            failing: self.failing_read,
+            calls: 0,
+        }
+    }
+
+    fn writer(self, alloc: Global) -> OnceWriter {
+        OnceWriter::new(alloc, self.piece, self.failing_write)
+    }
 }
 
 /// What came of a run.
@@ -32,13 +45,13 @@ pub(crate) struct Outcome {
     pub status: u8,
     pub reads: u64,
     pub output: OnceWriter,
-    errors: MemorySink,
+    errors: OnceWriter,
 }
 
 impl Outcome {
     /// Whether this is the status, and this was told.
     pub(crate) fn told(&self, status: u8, errors: &str) -> bool {
-        self.status == status && self.errors.taken() == errors.as_bytes()
+        self.status == status && self.errors.taken.as_slice() == errors.as_bytes()
     }
 }
 
@@ -57,26 +70,19 @@ pub(crate) fn run<R: Files + AllocGlobal>(
     line: &str,
     text: &[u8],
     behaviour: Behaviour,
-) -> Result<Outcome, Fail> {
+) -> Result<Outcome, AllocError> {
     let alloc = rt.alloc();
-    let mut errors = MemorySink::new(alloc, 100, 100, 0)?;
     let words = words_of(alloc, line)?;
-    let mut reader = OnceReader {
-        left: text,
-        piece: behaviour.piece,
-        failing: behaviour.failing_read,
-        calls: 0,
-    };
-    let mut output = OnceWriter::new(alloc, behaviour.piece, behaviour.failing_write);
-    let mut source = ReadSource::new(&mut reader);
-    let mut sink = WriteSink::new(&mut output);
+    let mut reader = behaviour.reader(text);
+    let mut output = behaviour.writer(alloc);
+    let mut errors = Behaviour::pieces_of(100).writer(alloc);
     let status = start(
         rt,
         alloc,
         words.as_slice(),
-        &mut source,
-        &mut sink,
-        &mut errors,
+        &mut ReadSource::new(&mut reader),
+        &mut WriteSink::new(&mut output),
+        &mut WriteSink::new(&mut errors),
     );
     Ok(Outcome {
         status,
@@ -86,20 +92,26 @@ pub(crate) fn run<R: Files + AllocGlobal>(
     })
 }
 
-/// Runs the program with these words over these files and streams.
+/// Runs the program with these words over these files, and over a text in the standard input.
 pub(crate) fn run_over<A: FileAccess>(
     alloc: Global,
     files: &A,
     line: &str,
-    mut reader: OnceReader<'_>,
-    mut output: OnceWriter,
-) -> Result<Outcome, Fail> {
+    text: &[u8],
+    behaviour: Behaviour,
+) -> Result<Outcome, AllocError> {
     let words = words_of(alloc, line)?;
-    let mut errors = MemorySink::new(alloc, 100, 100, 0)?;
-    let mut source = ReadSource::new(&mut reader);
-    let mut sink = WriteSink::new(&mut output);
-    let words = words.as_slice();
-    let status = serve(files, alloc, words, &mut source, &mut sink, &mut errors);
+    let mut reader = behaviour.reader(text);
+    let mut output = behaviour.writer(alloc);
+    let mut errors = Behaviour::pieces_of(100).writer(alloc);
+    let status = serve(
+        files,
+        alloc,
+        words.as_slice(),
+        &mut ReadSource::new(&mut reader),
+        &mut WriteSink::new(&mut output),
+        &mut WriteSink::new(&mut errors),
+    );
     Ok(Outcome {
         status,
         reads: reader.calls,

@@ -1,9 +1,9 @@
 //! Simulations over devices that fail, and devices that move few bytes in a call.
-use crate::run::{Outcome, run_over};
+use crate::run::{Behaviour, Outcome, run_over};
 use crate::streams::{NEVER, OnceReader, OnceWriter};
 use aig_core::DeviceFault;
 use aig_files::FileAccess;
-use std::alloc::Global;
+use std::alloc::{AllocError, Global};
 use std::test::Fail;
 
 const MODEL: &[u8] = b"aag 3 2 0 1 1\n2\n4\n6\n6 2 4\n";
@@ -58,14 +58,18 @@ impl<'a> Devices<'a> {
     }
 
     /// A run of the program with these words.
-    fn run(&self, alloc: Global, words: &str) -> Result<Outcome, Fail> {
-        let input = if words.ends_with(" - stimulus") {
-            self.model()
+    fn run(&self, alloc: Global, words: &str) -> Result<Outcome, AllocError> {
+        let (text, failing_read) = if words.ends_with(" - stimulus") {
+            (self.model, self.failing_model)
         } else {
-            self.stimulus()
+            (self.stimulus, self.failing_stimulus)
         };
-        let output = OnceWriter::new(alloc, self.piece, self.failing_trace);
-        run_over(alloc, self, words, input, output)
+        let behaviour = Behaviour {
+            piece: self.piece,
+            failing_read,
+            failing_write: self.failing_trace,
+        };
+        run_over(alloc, self, words, text, behaviour)
     }
 
     /// Whether a run with these words has this status, tells this, and writes this.
@@ -76,40 +80,38 @@ impl<'a> Devices<'a> {
         status: u8,
         told: &str,
         written: &[u8],
-    ) -> Result<bool, Fail> {
-        let outcome = self.run(alloc, words)?;
-        Ok(outcome.told(status, told) && outcome.output.taken.as_slice() == written)
+    ) -> bool {
+        match self.run(alloc, words) {
+            Ok(outcome) => {
+                outcome.told(status, told) && outcome.output.taken.as_slice() == written
+            }
+            Err(_) => false,
+        }
     }
 
     /// Whether a run with these words fails, tells this, and makes no write.
-    pub(crate) fn fails_unwritten(
-        &self,
-        alloc: Global,
-        words: &str,
-        told: &str,
-    ) -> Result<bool, Fail> {
-        let outcome = self.run(alloc, words)?;
-        Ok(outcome.told(1, told) && outcome.output.calls == 0)
+    pub(crate) fn fails_unwritten(&self, alloc: Global, words: &str, told: &str) -> bool {
+        match self.run(alloc, words) {
+            Ok(outcome) => outcome.told(1, told) && outcome.output.calls == 0,
+            Err(_) => false,
+        }
     }
 
     /// Whether a run with these words, of which a write fails, tells so, wrote a beginning of this text, and makes no
     /// write after it.
-    pub(crate) fn stops_at_write(
-        &self,
-        alloc: Global,
-        words: &str,
-        text: &[u8],
-    ) -> Result<bool, Fail> {
-        let outcome = self.run(alloc, words)?;
-        Ok(
-            outcome.told(1, "aiger: -: cannot write\n")
-                && text.starts_with(outcome.output.taken.as_slice())
-                && outcome.output.calls == self.failing_trace.saturating_add(1),
-        )
+    pub(crate) fn stops_at_write(&self, alloc: Global, words: &str, text: &[u8]) -> bool {
+        match self.run(alloc, words) {
+            Ok(outcome) => {
+                outcome.told(1, "aiger: -: cannot write\n")
+                    && text.starts_with(outcome.output.taken.as_slice())
+                    && outcome.output.calls == self.failing_trace.saturating_add(1)
+            }
+            Err(_) => false,
+        }
     }
 
     /// The number of writes of a run with these words.
-    fn writes(&self, alloc: Global, words: &str) -> Result<u64, Fail> {
+    fn writes(&self, alloc: Global, words: &str) -> Result<u64, AllocError> {
         Ok(self.run(alloc, words)?.output.calls)
     }
 }
@@ -165,23 +167,22 @@ fn due<'a>(words: &str, text: &'a [u8]) -> &'a [u8] {
 
 /// Each read of the model fails in turn: nothing was written, and nothing was read of a stimulus, which would fail too.
 #[test]
-fn failed_models(rt: HostRuntime) -> Result<(), Fail> {
+fn failed_models(rt: HostRuntime) {
     for words in WORDS.split('#') {
         let mut devices = SOUND;
         devices.failing_stimulus = 0;
         for call in 0..=MODEL.len() as u64 / 2 {
             devices.failing_model = call;
             let fails = devices.fails_unwritten(rt.alloc(), words, unread_model(words));
-            assert!(rt; fails?, "read {call}");
+            assert!(rt; fails, "read {call}");
         }
     }
-    Ok(())
 }
 
 /// Each read of the stimulus fails in turn: the lines of all steps that came are written, and no more; of a batch
 /// nothing.
 #[test]
-fn failed_stimuli(rt: HostRuntime) -> Result<(), Fail> {
+fn failed_stimuli(rt: HostRuntime) {
     for words in WORDS.split('#') {
         let mut devices = SOUND;
         for call in 0..=STIMULUS.len() / 2 {
@@ -189,10 +190,9 @@ fn failed_stimuli(rt: HostRuntime) -> Result<(), Fail> {
             let written = due(words, &TRACE[..2 * call / 3 * 7]);
             let line = unread_stimulus(words);
             let comes = devices.comes_to(rt.alloc(), words, 1, line, written);
-            assert!(rt; comes?, "read {call}");
+            assert!(rt; comes, "read {call}");
         }
     }
-    Ok(())
 }
 
 /// Each write of the trace fails in turn: a beginning was written, and no write came after it.
@@ -203,7 +203,7 @@ fn failed_traces(rt: HostRuntime) -> Result<(), Fail> {
         for call in 0..SOUND.writes(rt.alloc(), words)? {
             devices.failing_trace = call;
             let stops = devices.stops_at_write(rt.alloc(), words, TRACE);
-            assert!(rt; stops?, "write {call}");
+            assert!(rt; stops, "write {call}");
         }
     }
     Ok(())
@@ -211,36 +211,34 @@ fn failed_traces(rt: HostRuntime) -> Result<(), Fail> {
 
 /// Few bytes in a call change nothing.
 #[test]
-fn traces_in_pieces(rt: HostRuntime) -> Result<(), Fail> {
+fn traces_in_pieces(rt: HostRuntime) {
     for words in WORDS.split('#') {
         let mut devices = SOUND;
         for piece in [1, 7, 30_000] {
             devices.piece = piece;
             let comes = devices.comes_to(rt.alloc(), words, 0, "", TRACE);
-            assert!(rt; comes?, "in pieces of {piece}");
+            assert!(rt; comes, "in pieces of {piece}");
         }
     }
-    Ok(())
 }
 
 /// At a bad line, what was written before it stands, and nothing is read behind the bytes that it came with. Of a batch
 /// nothing was written.
 #[test]
-fn bad_lines(rt: HostRuntime) -> Result<(), Fail> {
+fn bad_lines(rt: HostRuntime) {
     for words in WORDS.split('#') {
         let mut devices = SOUND;
         devices.stimulus = b"0x\n1\n11\n";
         devices.failing_stimulus = 3;
         let line = bad_line(words.ends_with(" stimulus"));
         let written = due(words, &TRACE[..7]);
-        assert!(rt; devices.comes_to(rt.alloc(), words, 1, line, written)?);
+        assert!(rt; devices.comes_to(rt.alloc(), words, 1, line, written));
     }
-    Ok(())
 }
 
 /// A line is not judged before its end came, though it is too long already: the failed read is reported.
 #[test]
-fn unread_ends(rt: HostRuntime) -> Result<(), Fail> {
+fn unread_ends(rt: HostRuntime) {
     let mut devices = SOUND;
     devices.stimulus = b"0x\n111111";
     for call in 2..5 {
@@ -248,9 +246,8 @@ fn unread_ends(rt: HostRuntime) -> Result<(), Fail> {
         let words = "aiger aigsim model stimulus";
         let line = "aiger: stimulus: cannot read\n";
         let comes = devices.comes_to(rt.alloc(), words, 1, line, &TRACE[..7]);
-        assert!(rt; comes?, "read {call}");
+        assert!(rt; comes, "read {call}");
     }
-    Ok(())
 }
 
 /// The line about a bad line of a stimulus, by its name or from a stream.

@@ -1,6 +1,5 @@
 //! Witnesses over devices that fail, and devices that move few bytes in a call.
 use crate::simulations::{Devices, SOUND, unread_model, unread_stimulus};
-use std::test::Fail;
 
 /// The latch takes the input, and is the bad state.
 const MODEL: &[u8] = b"aag 2 1 1 0 0 1\n2\n4 2\n4\n";
@@ -24,80 +23,74 @@ const JUDGED: Devices<'static> = Devices {
 
 /// Each read of the model fails in turn: nothing was written, and nothing was read of a witness, which would fail too.
 #[test]
-fn failed_models(rt: HostRuntime) -> Result<(), Fail> {
+fn failed_models(rt: HostRuntime) {
     for words in WORDS.split('#') {
         let mut devices = JUDGED;
         devices.failing_stimulus = 0;
         for call in 0..=MODEL.len() as u64 / 2 {
             devices.failing_model = call;
             let fails = devices.fails_unwritten(rt.alloc(), words, unread_model(words));
-            assert!(rt; fails?, "read {call}");
+            assert!(rt; fails, "read {call}");
         }
     }
-    Ok(())
 }
 
 /// Each read of the witness fails in turn, also the one at its end: nothing was written.
 #[test]
-fn failed_witnesses(rt: HostRuntime) -> Result<(), Fail> {
+fn failed_witnesses(rt: HostRuntime) {
     for words in WORDS.split('#') {
         let mut devices = JUDGED;
         for call in 0..=WITNESS.len() as u64 / 2 {
             devices.failing_stimulus = call;
             let fails = devices.fails_unwritten(rt.alloc(), words, unread_stimulus(words));
-            assert!(rt; fails?, "read {call}");
+            assert!(rt; fails, "read {call}");
         }
     }
-    Ok(())
 }
 
 /// Each write of the answer fails in turn: a beginning was written, and no write came after it.
 #[test]
-fn failed_answers(rt: HostRuntime) -> Result<(), Fail> {
+fn failed_answers(rt: HostRuntime) {
     for words in WORDS.split('#') {
         let mut devices = JUDGED;
         for call in 0..ANSWER.len() as u64 / 2 {
             devices.failing_trace = call;
             let stops = devices.stops_at_write(rt.alloc(), words, ANSWER);
-            assert!(rt; stops?, "write {call}");
+            assert!(rt; stops, "write {call}");
         }
     }
-    Ok(())
 }
 
 /// Few bytes in a call change nothing.
 #[test]
-fn answers_in_pieces(rt: HostRuntime) -> Result<(), Fail> {
+fn answers_in_pieces(rt: HostRuntime) {
     for words in WORDS.split('#') {
         let mut devices = JUDGED;
         for piece in [1, 7, 30_000] {
             devices.piece = piece;
             let comes = devices.comes_to(rt.alloc(), words, 0, "", ANSWER);
-            assert!(rt; comes?, "in pieces of {piece}");
+            assert!(rt; comes, "in pieces of {piece}");
         }
     }
-    Ok(())
 }
 
 /// A witness that is not confirmed has the status of an error, and nothing is told.
 #[test]
-fn unconfirmed(rt: HostRuntime) -> Result<(), Fail> {
+fn unconfirmed(rt: HostRuntime) {
     for words in WORDS.split('#') {
         let mut devices = JUDGED;
         devices.stimulus = b"1\nb0\n0\n1\n.\n";
-        assert!(rt; devices.comes_to(rt.alloc(), words, 1, "", UNCONFIRMED)?);
+        assert!(rt; devices.comes_to(rt.alloc(), words, 1, "", UNCONFIRMED));
     }
-    Ok(())
 }
 
 /// At a wrong line nothing is written, and nothing is read behind the bytes that its end came with.
 #[test]
-fn wrong_lines(rt: HostRuntime) -> Result<(), Fail> {
+fn wrong_lines(rt: HostRuntime) {
     let mut devices = JUDGED;
     devices.stimulus = b"1\nb0\n0\n1\n2\n.\n";
     devices.failing_stimulus = 6;
     let words = "aiger aigsim --witness model stimulus";
     let line = "aiger: stimulus: line 5: bad witness line\n";
-    assert!(rt; devices.fails_unwritten(rt.alloc(), words, line)?);
-    Ok(())
+    assert!(rt; devices.fails_unwritten(rt.alloc(), words, line));
 }
