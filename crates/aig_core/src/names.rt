@@ -55,17 +55,41 @@ struct NamedProperties {
     fairness: VarSet,
 }
 
+/// No position yet of two kinds, of which there are so many. The sets that are there are dropped by name where another
+/// cannot be made: the proof goes through all that goes out of scope by itself.
+fn no_two(alloc: Global, first: u32, second: u32) -> Result<(VarSet, VarSet), AllocError>
+    ensures first { IfOk result (λ two. two.0 ≡ set.empty) }
+    ensures second { IfOk result (λ two. two.1 ≡ set.empty) }
+{
+    let first = no_positions(alloc, first)?;
+    match no_positions(alloc, second) {
+        Ok(second) => Ok((first, second)),
+        Err(refused) => {
+            drop(first);
+            Err(refused)
+        }
+    }
+}
+
 /// No input, latch or output yet.
 fn no_ends(alloc: Global, counts: &NamedCounts) -> Result<NamedEnds, AllocError>
     ensures inputs { IfOk result (λ ends. ends.inputs ≡ set.empty) }
     ensures latches { IfOk result (λ ends. ends.latches ≡ set.empty) }
     ensures outputs { IfOk result (λ ends. ends.outputs ≡ set.empty) }
 {
-    Ok(NamedEnds {
-        inputs: no_positions(alloc, counts.inputs)?,
-        latches: no_positions(alloc, counts.latches)?,
-        outputs: no_positions(alloc, counts.outputs)?,
-    })
+    let (inputs, latches) = no_two(alloc, counts.inputs, counts.latches)?;
+    match no_positions(alloc, counts.outputs) {
+        Ok(outputs) => Ok(NamedEnds {
+            inputs,
+            latches,
+            outputs,
+        }),
+        Err(refused) => {
+            drop(inputs);
+            drop(latches);
+            Err(refused)
+        }
+    }
 }
 
 /// No property yet.
@@ -75,12 +99,20 @@ fn no_properties(alloc: Global, counts: &NamedCounts) -> Result<NamedProperties,
     ensures justice { IfOk result (λ properties. properties.justice ≡ set.empty) }
     ensures fairness { IfOk result (λ properties. properties.fairness ≡ set.empty) }
 {
-    Ok(NamedProperties {
-        bad: no_positions(alloc, counts.bad)?,
-        constraints: no_positions(alloc, counts.constraints)?,
-        justice: no_positions(alloc, counts.justice)?,
-        fairness: no_positions(alloc, counts.fairness)?,
-    })
+    let (bad, constraints) = no_two(alloc, counts.bad, counts.constraints)?;
+    match no_two(alloc, counts.justice, counts.fairness) {
+        Ok((justice, fairness)) => Ok(NamedProperties {
+            bad,
+            constraints,
+            justice,
+            fairness,
+        }),
+        Err(refused) => {
+            drop(bad);
+            drop(constraints);
+            Err(refused)
+        }
+    }
 }
 
 impl Names {
@@ -90,16 +122,21 @@ impl Names {
     {
         // Seven sets made here, each of which may fail beside all before it, took two minutes to prove.
         let ends = no_ends(alloc, &counts)?;
-        let properties = no_properties(alloc, &counts)?;
-        Ok(Names {
-            inputs: ends.inputs,
-            latches: ends.latches,
-            outputs: ends.outputs,
-            bad: properties.bad,
-            constraints: properties.constraints,
-            justice: properties.justice,
-            fairness: properties.fairness,
-        })
+        match no_properties(alloc, &counts) {
+            Ok(properties) => Ok(Names {
+                inputs: ends.inputs,
+                latches: ends.latches,
+                outputs: ends.outputs,
+                bad: properties.bad,
+                constraints: properties.constraints,
+                justice: properties.justice,
+                fairness: properties.fairness,
+            }),
+            Err(refused) => {
+                drop(ends);
+                Err(refused)
+            }
+        }
     }
 
     /// Adds what has this position among its kind, and answers whether it had no name before.
