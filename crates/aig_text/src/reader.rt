@@ -106,9 +106,12 @@ pub fn read_ascii_keeping(
     let circuit = read_circuit(alloc, bytes, limits)?;
     match check_keeping(alloc, circuit, keep) {
         Ok(checked) => Ok(checked),
-        Err(refused) => Err(ReadFault {
-            place: Place::Whole,
-            kind: kind_of_fault(refused.1),
-        }),
+        Err((circuit, fault)) => {
+            drop(circuit);
+            Err(ReadFault {
+                place: Place::Whole,
+                kind: kind_of_fault(fault),
+            })
+        }
     }
 }

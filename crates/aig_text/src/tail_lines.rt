@@ -186,5 +186,7 @@ pub(crate) fn read_tail(
         fairness: header.fairness,
     };
     let mut names = Names::new(alloc, counts)?;
-    read_tail_lines(alloc, header, &mut names, circuit, at)
+    let read = read_tail_lines(alloc, header, &mut names, circuit, at);
+    drop(names);
+    read
 }

@@ -40,7 +40,7 @@ pub returns-in-Err-clause-only : goal.returns-in-Err-clause-only
 returns-in-Err-clause-only c = λ net is.
     rw c.kind_of_fault.ensures (
     memory_only c.args.limits.max_var c.args.bytes.now net _
-    (structural_fault c.args.limits.max_var c.args.bytes.now c.in_ok-circuit.circuit c.in-Err.refused.1
+    (structural_fault c.args.limits.max_var c.args.bytes.now c.in_ok-circuit.circuit c.in-Err.fault
     c.in_ok-circuit.ensures c.in-Err.ensures.fault) is
     )
 
