@@ -4,8 +4,7 @@
 //! makes the traces of runs.
 //!
 //! Modules, of a whole stimulus:
-//! - `entry`, `line_feed`: whether a line is good; the first line feed, looked for at one place
-//!   first.
+//! - `entry`: whether a line is good.
 //! - `collected`: the stimulus, judged line by line while it comes.
 //! - `front`, `runs_read`: the runs at its front.
 //! - `text_group`: what groups of runs are stepped in, and their texts, written run by run.
@@ -29,7 +28,6 @@ mod batched;
 mod collected;
 mod entry;
 mod front;
-mod line_feed;
 mod runs_read;
 mod stimuli;
 mod text_group;

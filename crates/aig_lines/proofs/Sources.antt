@@ -1,6 +1,6 @@
 -- What came of a source, from the first byte on.
-use Rattle.std.proofs.Common.{◌≡◌, ℕ, List, [], ◌++◌, Bool, true, false, not, Option, None, Some, Ok, refl, sym, ap, subst, ◌∙◌}
-use Rattle.std.proofs.Common.{append-nil}
+use Rattle.std.proofs.Common.{◌≡◌, ℕ, List, [], ◌++◌, Bool, true, false, not, Option, None, Some, Ok, refl}
+use Rattle.std.proofs.Common.{sym, ap, subst, ◌∙◌, append-nil}
 use Rattle.std.specs.Io.KnownBytes.{Consumes, IsAtEnd, Keeps}
 use Rattle.aig_io.proofs.KnownBytes.{consumes_twice}
 use Rattle.aig_lines.specs.Fed.{FedSource, Feeder, IsFed, IsUnfed, ToldSource}

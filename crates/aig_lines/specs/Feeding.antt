@@ -1,7 +1,7 @@
 -- What becomes of the lines of a text, and of bytes that come in pieces: two functions, `told` and `fed`. One law says
 -- that they are one.
-use Rattle.std.specs.Prelude.{◌+◌, ◌==◌, ◌++◌, ℕ, suc, List, [], ◌∷◌, Bool, true, false, not, fold, if◌then◌else◌, length}
-use Rattle.std.specs.Prelude.{nat_le}
+use Rattle.std.specs.Prelude.{◌+◌, ◌==◌, ◌++◌, ℕ, suc, List, [], ◌∷◌, Bool, true, false, not, fold}
+use Rattle.std.specs.Prelude.{if◌then◌else◌, length, nat_le}
 use Rattle.aig_rows.specs.Lines.{Line}
 use Rattle.aig_lines.specs.Texts.{text_of, without_return}
 

@@ -14,8 +14,8 @@
 //! - `Feeding`: what becomes of lines, and of bytes. `Fed`: where a feeder stands.
 //! - `Keeping`: what is kept of a line.
 //!
-//! Lemmas (`proofs/`), beside the folders that are named after modules: `LineBytes` (the bytes of a line), `Feeds` (bytes,
-//! line by line), `Tells` (feeding bytes is telling their lines), `Sources` (the bytes of a source).
+//! Lemmas (`proofs/`), beside the folders that are named after modules: `LineBytes` (the bytes of a line), `Feeds`
+//! (bytes, line by line), `Tells` (feeding bytes is telling their lines), `Sources` (the bytes of a source).
 #![tactic(auto)]
 
 mod feeder;

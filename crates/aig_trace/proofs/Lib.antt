@@ -2,6 +2,7 @@ pub mod Going
 pub mod Heard
 pub mod LinesSay
 pub mod RunTexts
+pub mod Saying
 pub mod StepsTaken
 pub mod Taking
 pub mod Gathering

@@ -113,4 +113,5 @@ module _ (c : Circuit) (few : length c.bad ≤ LARGEST) where
     -- none was refused
     pub none_wrong : f.refused ≡ false → IsRight
     none_wrong going =
-        right_by (witness_of (shape_of c) bytes over) _ refl (told_said (judged_lines bytes over) Nothing 1) stands going
+        right_by (witness_of (shape_of c) bytes over) _ refl (told_said (judged_lines bytes over) Nothing 1) stands
+        going

@@ -1,7 +1,7 @@
 -- What comes of the bytes of a witness file.
 use Rattle.std.proofs.Common.{rules}
-use Rattle.std.proofs.Common.{◌≡◌, ◌≢◌, ◌∙◌, ◌+◌, ◌≤◌, ℕ, List, Bool, true, false, Option, Some, Result, Ok, Err, length}
-use Rattle.std.proofs.Common.{refl, sym, ap, subst, arith}
+use Rattle.std.proofs.Common.{◌≡◌, ◌≢◌, ◌∙◌, ◌+◌, ◌≤◌, ℕ, List, Bool, true, false, Option, Some, Result, Ok, Err}
+use Rattle.std.proofs.Common.{length, refl, sym, ap, subst, arith}
 use Rattle.aig_circuit.specs.declared.circuit.Circuit.{Circuit}
 use Rattle.aig_circuit.specs.declared.circuit.TheConstants.{LARGEST}
 use Rattle.aig_meaning.specs.Meaning.{MeansTheSame}
@@ -84,8 +84,9 @@ module _ (c : Circuit) (few : length c.bad ≤ LARGEST) (coming left : Option (L
         }
 
     -- they have ended where none is
-    whole : (v : Verdict) (r : Came longest (Ok true)) (said : Said) → Stands w said → w.due ≡ due.Nothing → w.circuit ≡ c
-        → witness_of (shape_of c) r.bytes true ≡ Ok said → v ≡ verdict_of w.search.found → Judged c v coming left
+    whole : (v : Verdict) (r : Came longest (Ok true)) (said : Said) → Stands w said → w.due ≡ due.Nothing
+        → w.circuit ≡ c → witness_of (shape_of c) r.bytes true ≡ Ok said
+        → v ≡ verdict_of w.search.found → Judged c v coming left
     whole v r Nothing stands none same says is = let other = stands.0 in cc
     whole v r Version stands none same says is = let other = stands.0 in cc
     whole v r (Property p) stands none same says is = let other = stands.0 in cc

@@ -1,10 +1,9 @@
 -- Lines of a stimulus that has no bad one.
 use Rattle.std.proofs.lemmas.Grind.{common_steps}
-use Rattle.std.proofs.Common.{rules}
 use Rattle.std.proofs.Common.{◌≡◌, ◌≢◌, ◌+◌, ◌<◌, ◌≤◌, ◌==◌, ◌++◌, ℕ, zero, suc, List, [], ◌∷◌, Bool, true, false}
 use Rattle.std.proofs.Common.{Option, None, Some, if◌then◌else◌, option_map, length, take, drop, bytes_eq, codes, refl}
 use Rattle.std.proofs.Common.{sym}
-use Rattle.std.proofs.Common.{is_some, eqb-true, ap, subst, ◌∙◌, append_assoc, append-nil, ⊎_elim, arith}
+use Rattle.std.proofs.Common.{ap, subst, ◌∙◌, append_assoc, append-nil, ⊎_elim, arith}
 use Rattle.std.specs.Prelude.{slice_index}
 use Rattle.std.proofs.lemmas.Bool.{cases_lt}
 use Rattle.std.proofs.lemmas.Slice.Eq.{bytes_eq-Decides}
@@ -16,11 +15,8 @@ use Rattle.aig_step.specs.Stimulus.{Entry, Step, Stop, Stimulus, before_rest, en
 use Rattle.aig_step.specs.Stimulus.{values_of, without_return}
 use Rattle.aig_step.specs.Parts.Lines.{vector_in}
 use Rattle.aig_batch.specs.Parts.RunsRead.{HasNoBadLine}
-use Rattle.aig_lines.specs.Texts.{HasNoLineFeed}
-use Rattle.aig_step.specs.TraceText.{values_text}
-use Rattle.aig_step.proofs.LineValues.{values_back, vector_long, vector_says}
-use Rattle.aig_batch.proofs.Side.RunsRead.{text_in_front, text_shorter, vector_is}
-use Rattle.aig_trace.proofs.Taking.{none_feeds, none_returns}
+use Rattle.aig_step.proofs.LineValues.{vector_long}
+use Rattle.aig_batch.proofs.Side.RunsRead.{text_in_front, text_shorter}
 use Rattle.aig_lines.proofs.LineBytes.{first_line}
 use Rattle.aig_step.proofs.WholeLines.{judged_before}
 
@@ -119,26 +115,3 @@ step_ends inputs bytes good there at other =
     let same : k ≡ inputs =
     omega (arith, long, text_shorter (take k bytes), length-take-le k bytes (omega (arith, w.1, there)), w.1) in
     subst (λ (n : ℕ). IsFirstByte (is_byte 10) bytes (Some n)) same found
-
-no_feed_at : (bytes : List ℕ) (n j : ℕ) → HasNoLineFeed (take n bytes) → j < n → j < length bytes
-    → slice_index bytes j ≢ 10
-no_feed_at [] n j none below there = absurd (omega (arith, there))
-no_feed_at (b ∷ bs) zero j none below there = absurd (omega (arith, below))
-no_feed_at (b ∷ bs) (suc n) zero none below there = none.0
-no_feed_at (b ∷ bs) (suc n) (suc j) none below there =
-    no_feed_at bs n j none.1 (omega (arith, below)) (omega (arith, there))
-
--- values have no line feed among them, and no carriage return
-module _ (inputs : ℕ) (bytes : List ℕ) (there : inputs < length bytes) (at : slice_index bytes inputs ≡ 10)
-    (given : List Val) (values : values_of (take inputs bytes) ≡ Some given) where
-  abbrev text : List ℕ
-  text = take inputs bytes
-
-  back : values_text given ≡ text
-  back = values_back text given values
-
-  pub values_end : IsFirstByte (is_byte 10) bytes (Some inputs)
-  values_end = search (rules, back, none_feeds, no_feed_at, eqb-true)
-
-  pub values_say : is_some (entry_in inputs (without_return text)) ≡ true
-  values_say = search (rules, back, none_returns, length-take-le, is_some, vector_says, vector_is)

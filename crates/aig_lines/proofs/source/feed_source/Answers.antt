@@ -48,8 +48,8 @@ loop-count-preserved g c =
     let gave = rw (← c.split_at.ensures.front) at c.in-Ok.ensures.bytes.0 in
     record {
       reached = λ s at.
-          reached_more t.step t.IsAt _ s _ _ _ _ _ (c.loop-count.invariant.reached s at) c.split_at.result.0.now _ _ gave
-          c.feed.ensures.fed;
+          reached_more t.step t.IsAt _ s _ _ _ _ _ (c.loop-count.invariant.reached s at) c.split_at.result.0.now _ _
+          gave c.feed.ensures.fed;
       counted = c.feed.ensures.counted;
       going = flipped c.feed.new.self.refused c.feed.result true c.feed.ensures.result c.if-not-feed.false;
       number = λ _.

@@ -8,8 +8,8 @@ use Rattle.aig_witness.proofs.witness.judge_all.Goals as goal
 
 pub returns-in_default-clause-err : goal.returns-in_default-clause-err
 returns-in_default-clause-err g c =
-    cut_off _ c.requires.few _ _ c.feed_source.new.feeder c.feed_source.new.taker _ c.in_default.field-0 c.requires.limit
-    (c.in_default.ensures.fed (hearing c.args.checker.now.circuit Nothing) (refl, c.requires.begun))
+    cut_off _ c.requires.few _ _ c.feed_source.new.feeder c.feed_source.new.taker _ c.in_default.field-0
+    c.requires.limit (c.in_default.ensures.fed (hearing c.args.checker.now.circuit Nothing) (refl, c.requires.begun))
 
 pub returns-then-not-good-clause-err : goal.returns-then-not-good-clause-err
 returns-then-not-good-clause-err g c =
