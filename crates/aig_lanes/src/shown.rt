@@ -198,7 +198,8 @@ impl Shown {
             → take (end_of self.now step) (text_in l sheet.new) ≡ take (end_of self.now step) (text_in l sheet.old) }
         ensures text { (l : ℕ) (values : List Value) → l < 256
             → end_of self.now (step + 1) ≤ length (text_in l sheet.old) → IsLane l table.now values
-            → take (end_of self.now (step + 1)) (text_in l sheet.new) ≡ take (end_of self.now step) (text_in l sheet.old)
+            → take (end_of self.now (step + 1)) (text_in l sheet.new)
+            ≡ take (end_of self.now step) (text_in l sheet.old)
             ++ values_text (map (literal_value (read_from values)) self.now.literals.items) }
         ensures state { (l : ℕ) (values before : List Value) → IsLane l table.now values → IsLane l state.old before
             → IsLane l state.new (map (literal_value (read_from values))
@@ -286,8 +287,9 @@ impl Shown {
         requires fits { (step + 1) * shown_size self.now < 2 ^ 64 }
         requires has { end_of self.now (step + 1) ≤ length (text_in lane sheet.now) }
         requires room { shown_size self.now ≤ length line.old }
-        ensures { IfOk result (λ full. (row : RowRecord) → RowStands self.now step given.now (text_in lane sheet.now) row
-            → self.now.columns ≡ Properties → row_of full ≡ row) }
+        ensures { IfOk result (λ full. (row : RowRecord)
+            → RowStands self.now step given.now (text_in lane sheet.now) row → self.now.columns ≡ Properties
+            → row_of full ≡ row) }
     {
         let latches = self.resets.len();
         let from = step * self.literals.len();

@@ -174,3 +174,14 @@ line_fits c d room state given a assigned fits same =
       ap length same.bad,
       ap length same.constraints,
     )
+
+first_says : (v : Val) (vs : List Val) → values_of (values_text vs) ≡ Some vs
+    → values_of (character_of v ∷ values_text vs) ≡ Some (v ∷ vs)
+first_says Zero vs is = ap (option_map (λ us. Zero ∷ us)) is
+first_says One vs is = ap (option_map (λ us. One ∷ us)) is
+first_says X vs is = ap (option_map (λ us. X ∷ us)) is
+
+-- the characters of values say them
+pub says_values : (vs : List Val) → values_of (values_text vs) ≡ Some vs
+says_values [] = refl
+says_values (v ∷ vs) = first_says v vs (says_values vs)

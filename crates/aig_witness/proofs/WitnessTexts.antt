@@ -12,7 +12,6 @@ use Rattle.aig_circuit.specs.declared.circuit.Circuit.{Circuit}
 use Rattle.aig_circuit.specs.declared.circuit.Reset.{Reset}
 use Rattle.aig_circuit.specs.declared.circuit.Reset.TheVariants as resets
 use Rattle.aig_circuit.specs.declared.value.Val.{Val}
-use Rattle.aig_batch.proofs.Side.StepTexts.{says_values}
 use Rattle.aig_meaning.specs.Trace.{MayStartAt}
 use Rattle.aig_rows.specs.Lines.{Line, lines_of}
 use Rattle.aig_rows.specs.Spelling.{value_of as number_of}
@@ -24,7 +23,7 @@ use Rattle.aig_witness.specs.Witness.{first_state_in, if_may_start, is_canonical
 use Rattle.aig_witness.specs.Witness.{property_in, said_behind, said_by, said_with, shape_of, with_entry}
 use Rattle.aig_witness.specs.WitnessText.{IsWitnessFile}
 use Rattle.aig_step.proofs.EntryTexts.{values_length}
-use Rattle.aig_step.proofs.LineValues.{values_back, vector_says}
+use Rattle.aig_step.proofs.LineValues.{says_values, values_back, vector_says}
 use Rattle.aig_witness.proofs.Witnessing.{may_start}
 
 -- what texts of lines say

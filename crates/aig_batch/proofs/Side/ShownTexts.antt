@@ -24,7 +24,8 @@ use Rattle.aig_step.specs.TraceText.{character_of, properties_text, row_text, ro
 use Rattle.aig_step.proofs.States.{state_after_last}
 use Rattle.aig_lanes.proofs.Side.Sheets.{part_same, steps_within}
 
-asked-map : {A B : Type 0} (f : A → B) (columns : Columns) (xs : List A) → map f (asked columns xs) ≡ asked columns (map f xs)
+asked-map : {A B : Type 0} (f : A → B) (columns : Columns) (xs : List A)
+    → map f (asked columns xs) ≡ asked columns (map f xs)
 asked-map f Plain xs = refl
 asked-map f Properties xs = refl
 
@@ -81,7 +82,8 @@ module _ (c : Circuit) (shown : Shown) (shows : ShowsRows c shown) (step : ℕ) 
       ap (map value) shows.literals ∙ simp (map-append, asked-map, append_assoc) in
       let outputs : shown.outputs ≡ length o = shows.outputs ∙ sym (length-map c.outputs value) in
       let bad : shown.bad ≡ length b =
-      shows.bad ∙ sym (length-map (asked shown.columns c.bad) value) ∙ ap length (asked-map value shown.columns c.bad) in
+      shows.bad ∙ sym (length-map (asked shown.columns c.bad) value)
+      ∙ ap length (asked-map value shown.columns c.bad) in
       let constraints : shown.constraints ≡ length k =
       shows.constraints ∙ sym (length-map (asked shown.columns c.constraints) value)
       ∙ ap length (asked-map value shown.columns c.constraints) in
@@ -170,8 +172,7 @@ keeps_more c vectors shown text rows n row keeps is from size stands =
             let here : n ≡ t = omega (arith, later, below, more) in
             rw (
               get_or_push vectors row.inputs [] t (size ∙ here),
-              get_or_push rows row d t
-                  (keeps.count ∙ size ∙ here),
+              get_or_push rows row d t (keeps.count ∙ size ∙ here),
             )
             (subst (λ (k : ℕ). RowStands shown k row.inputs text row) here stands)
       ];

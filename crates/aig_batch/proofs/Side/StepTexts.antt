@@ -8,21 +8,11 @@ use Rattle.std.specs.Option.{option_map}
 use Rattle.aig_circuit.specs.declared.value.Val.{Val}
 use Rattle.aig_circuit.specs.declared.value.Val.TheVariants.{Zero, One, X}
 use Rattle.aig_step.specs.Stimulus.{values_of}
+use Rattle.aig_step.proofs.LineValues.{says_values}
 use Rattle.aig_step.specs.TraceText.{character_of, values_text}
 use Rattle.aig_lanes.specs.Parts.Vectors.{AreVectors, said, vectors_in}
 use Rattle.aig_lanes.proofs.Side.Sheets.{steps_within}
 use Rattle.aig_lanes.proofs.Side.Vectors.{one_more}
-
-first_says : (v : Val) (vs : List Val) → values_of (values_text vs) ≡ Some vs
-    → values_of (character_of v ∷ values_text vs) ≡ Some (v ∷ vs)
-first_says Zero vs is = ap (option_map (λ us. Zero ∷ us)) is
-first_says One vs is = ap (option_map (λ us. One ∷ us)) is
-first_says X vs is = ap (option_map (λ us. X ∷ us)) is
-
--- the characters of values say them
-pub says_values : (vs : List Val) → values_of (values_text vs) ≡ Some vs
-says_values [] = refl
-says_values (v ∷ vs) = first_says v vs (says_values vs)
 
 abbrev HaveLength : ℕ → List (List Val) → Type 0
 HaveLength inputs vs = All (λ (vector : List Val). length vector ≡ inputs) vs
@@ -79,7 +69,8 @@ good_text inputs (v ∷ vs) (suc k) long below =
     let text = flat_map values_text (v ∷ vs) in
     ap (λ (n : ℕ). is_some (values_of (take inputs (drop n text)))) (one_more k inputs)
     ∙ ap (λ (t : List ℕ). is_some (values_of (take inputs t)))
-    (sym (drop-drop (k * inputs) inputs text) ∙ ap (drop (k * inputs)) (rest_said inputs v vs (All-head fits v vs long)))
+    (sym (drop-drop (k * inputs) inputs text)
+    ∙ ap (drop (k * inputs)) (rest_said inputs v vs (All-head fits v vs long)))
     ∙ good_text inputs vs k (All-tail fits v vs long) (omega (arith, below))
 
 pub are_vectors : (inputs : ℕ) (vs : List (List Val)) → HaveLength inputs vs

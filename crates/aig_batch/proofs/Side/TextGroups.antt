@@ -1,7 +1,7 @@
 -- The texts of a group of runs, step by step.
 use Rattle.std.proofs.Common.{rules}
-use Rattle.std.proofs.Common.{◌≡◌, ◌+◌, ◌-◌, ◌*◌, ◌<◌, ◌≤◌, ◌++◌, ap₂, drop, ℕ, zero, suc, List, [], ◌∷◌, length, map, get_or}
-use Rattle.std.proofs.Common.{replicate, refl, set, sym, take, ap, subst, ◌∙◌, arith, inl, inr}
+use Rattle.std.proofs.Common.{◌≡◌, ◌+◌, ◌-◌, ◌*◌, ◌<◌, ◌≤◌, ◌++◌, ap₂, ℕ, zero, suc, List, [], ◌∷◌, length, map, get_or}
+use Rattle.std.proofs.Common.{drop, replicate, refl, set, sym, take, ap, subst, ◌∙◌, arith, inl, inr}
 use Rattle.std.specs.List.{All, AllZip}
 use Rattle.std.proofs.Math.Nat.{mul-le-mul_right}
 use Rattle.std.proofs.lemmas.Bool.{cases_lt}
@@ -116,7 +116,8 @@ reset_read : (variables : ℕ) (r : Reset) → 1 < variables
 reset_read variables resets.Zero some =
     get_or-set_same (replicate variables X) 0 Zero Zero (omega (arith, some, length-replicate variables X))
 reset_read variables resets.One some =
-    ap value_not (get_or-set_same (replicate variables X) 0 Zero Zero (omega (arith, some, length-replicate variables X)))
+    ap value_not
+    (get_or-set_same (replicate variables X) 0 Zero Zero (omega (arith, some, length-replicate variables X)))
 reset_read variables resets.Uninit some =
     get_or-set_other (replicate variables X) 0 1 Zero Zero (λ e. omega (arith, e))
     ∙ get_or-replicate variables 1 X Zero some
