@@ -4,9 +4,7 @@ use Rattle.std.proofs.Common.{arith, drop, is_some, length, refl, sym, take, tru
 use Rattle.std.specs.List.{All, flat_map}
 use Rattle.std.proofs.lemmas.List.{drop-drop, drop_at, length-append, length-map, take_at}
 use Rattle.std.proofs.lemmas.List.Elements.{All-head, All-tail}
-use Rattle.std.specs.Option.{option_map}
 use Rattle.aig_circuit.specs.declared.value.Val.{Val}
-use Rattle.aig_circuit.specs.declared.value.Val.TheVariants.{Zero, One, X}
 use Rattle.aig_step.specs.Stimulus.{values_of}
 use Rattle.aig_step.proofs.LineValues.{says_values}
 use Rattle.aig_step.specs.TraceText.{character_of, values_text}
