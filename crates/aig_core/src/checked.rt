@@ -14,7 +14,7 @@ use crate::checked::distinct::{is_defined_once_by_parts, is_spread};
 use crate::checked::faults::{find_fault, find_redefinition};
 use crate::fault::CheckFault;
 use aig_circuit::{Circuit, OutOfMemory};
-use aig_topo::Placed;
+use aig_topo::Order;
 use std::alloc::Global;
 use std::marker::Model;
 
@@ -30,7 +30,7 @@ pub use crate::checked::copies::{copy_comment, copy_justice, copy_symbols};
 pub struct Checked {
     circuit: Circuit,
     /// The least ready order of its gates, where the check had to make it and was to keep it.
-    order: Option<Placed>,
+    order: Option<Order>,
     /// Whether it is known to be in binary order, as what a binary file holds: then nobody need look again.
     in_binary_order: bool,
 }
@@ -86,7 +86,7 @@ impl Checked {
 
     /// The least ready order of the gates, if the check had to make it and was to keep it (`check_keeping`): of gates
     /// that stand in order it makes none.
-    pub fn order(&self) -> Option<&Placed>
+    pub fn order(&self) -> Option<&Order>
         ensures { IfSome result (λ order. IsLeastReadyOrder self.now order.now.list) }
     {
         self.order.as_ref()

@@ -13,8 +13,8 @@ ghost use Rattle.aig_image.specs.Reordered.{taken, operands_sorted, with_operand
 use crate::labelling::relabel;
 use crate::numbers::Numbers;
 use aig_core::{
-    Checked, Circuit, Gate, Listing, Lit, Ordered, OutOfMemory, Placed, is_numbered_in_order,
-    place_gates,
+    Checked, Circuit, Gate, Listing, Lit, Order, Ordered, OutOfMemory, gate_order,
+    is_numbered_in_order,
 };
 use std::alloc::Global;
 
@@ -78,7 +78,7 @@ fn renumbered(numbers: &Numbers, circuit: Circuit) -> Circuit
 
 impl Renumbering {
     /// By the least ready order of the gates.
-    fn by_order(alloc: Global, circuit: &Circuit, order: &Placed) -> Result<Self, OutOfMemory>
+    fn by_order(alloc: Global, circuit: &Circuit, order: &Order) -> Result<Self, OutOfMemory>
         requires good { IsWellFormed circuit.now }
         requires least { IsLeastReadyOrder circuit.now order.now.list }
         ensures { IfOk result (λ r. IsRenumberingOf circuit.now r) }
@@ -102,7 +102,7 @@ impl Renumbering {
                 taken: None,
             });
         }
-        let order = place_gates(alloc, circuit)?;
+        let order = gate_order(alloc, circuit)?;
         Renumbering::by_order(alloc, circuit, &order)
     }
 
