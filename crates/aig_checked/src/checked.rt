@@ -8,7 +8,7 @@ ghost use Rattle.aig_circuit.specs.Parts.SameLists.{same_lists};
 
 use crate::copies::copy_circuit;
 use aig_circuit::{Circuit, OutOfMemory};
-use aig_topo::Placed;
+use aig_topo::Order;
 use std::alloc::Global;
 use std::marker::Model;
 
@@ -18,7 +18,7 @@ use std::marker::Model;
 pub struct Checked {
     circuit: Circuit,
     /// The least ready order of its gates, where the check had to make it and was to keep it.
-    order: Option<Placed>,
+    order: Option<Order>,
     /// Whether it is known to be in binary order, as what a binary file holds: then nobody need look again.
     in_binary_order: bool,
 }
@@ -66,7 +66,7 @@ impl Checked {
     }
 
     /// A circuit that its maker knows to be well formed, and the least ready order of its gates where the maker has it.
-    pub fn with_order(circuit: Circuit, order: Option<Placed>) -> Checked
+    pub fn with_order(circuit: Circuit, order: Option<Order>) -> Checked
         requires well_formed { IsWellFormed circuit }
         requires least { IfSome order (λ order. IsLeastReadyOrder circuit order.list) }
         ensures { result ≡ circuit }
@@ -87,7 +87,7 @@ impl Checked {
 
     /// The least ready order of the gates, if the check had to make it and was to keep it (`check_keeping`): of gates
     /// that stand in order it makes none.
-    pub fn order(&self) -> Option<&Placed>
+    pub fn order(&self) -> Option<&Order>
         ensures { IfSome result (λ order. IsLeastReadyOrder self.now order.now.list) }
     {
         self.order.as_ref()

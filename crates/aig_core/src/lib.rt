@@ -42,4 +42,4 @@ pub use aig_io::{
     Sink, Source, WriteSink, read_all,
 };
 pub use aig_tables::VarMap;
-pub use aig_topo::{Order, Placed, gate_order, place_gates};
+pub use aig_topo::{Order, gate_order};

@@ -14,7 +14,7 @@ use crate::labelling::relabel;
 use crate::numbers::Numbers;
 use aig_checked::{Checked, Ordered, is_numbered_in_order};
 use aig_circuit::{Circuit, Gate, Listing, Lit, OutOfMemory};
-use aig_topo::{Placed, place_gates};
+use aig_topo::{Order, gate_order};
 use std::alloc::Global;
 
 /// What makes the binary image of a circuit.
@@ -77,7 +77,7 @@ fn renumbered(numbers: &Numbers, circuit: Circuit) -> Circuit
 
 impl Renumbering {
     /// By the least ready order of the gates.
-    fn by_order(alloc: Global, circuit: &Circuit, order: &Placed) -> Result<Self, OutOfMemory>
+    fn by_order(alloc: Global, circuit: &Circuit, order: &Order) -> Result<Self, OutOfMemory>
         requires good { IsWellFormed circuit.now }
         requires least { IsLeastReadyOrder circuit.now order.now.list }
         ensures { IfOk result (λ r. IsRenumberingOf circuit.now r) }
@@ -101,7 +101,7 @@ impl Renumbering {
                 taken: None,
             });
         }
-        let order = place_gates(alloc, circuit)?;
+        let order = gate_order(alloc, circuit)?;
         Renumbering::by_order(alloc, circuit, &order)
     }
 

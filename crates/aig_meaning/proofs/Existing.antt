@@ -23,7 +23,7 @@ use Rattle.aig_meaning.specs.Meaning.{Holds, IsStepAssignment, latch_variables, 
 use Rattle.aig_meaning.specs.Laws.{OneStepAssignment}
 use Rattle.aig_meaning.proofs.Lists.{distinct_front, distinct_apart, map_same, gate_named, variables_of}
 use Rattle.aig_meaning.proofs.Agreeing.{assignments_agree, same_literal}
-use Rattle.aig_topo.proofs.Ordering.Placing.{among_first as among_front}
+use Rattle.aig_topo.proofs.Ordering.Counted.{among_first as among_front}
 
 -- the value that stands where the variable does, and else another
 abbrev look : List ℕ → List Val → (ℕ → Val) → ℕ → Val

@@ -5,7 +5,7 @@ use Rattle.std.specs.List.{AllZip, AllByRecursion, Contains, flat_map}
 use Rattle.aig_circuit.specs.declared.circuit.Gate.{Gate}
 use Rattle.aig_circuit.specs.Wellformed.{IsAmong, AreDistinct, operands}
 use Rattle.aig_topo.proofs.Ordering.Cyclic.{among_last}
-use Rattle.aig_topo.proofs.Ordering.Placing.{among_first as among_front}
+use Rattle.aig_topo.proofs.Ordering.Counted.{among_first as among_front}
 
 pub distinct_front : (xs ys : List ℕ) → AreDistinct (xs ++ ys) → AreDistinct xs
 distinct_front [] ys d = tt

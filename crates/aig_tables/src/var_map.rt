@@ -1,9 +1,10 @@
 //! Maps from variables.
-ghost use Rattle.std.specs.Prelude.{◌≡◌, IfOk, OnOk, OnErr, not};
+ghost use Rattle.std.specs.Prelude.{◌≡◌, ◌<◌, ◌-◌, ◌^◌, IfOk, OnOk, OnErr, not};
+ghost use Rattle.std.specs.Option.{IfSome};
 ghost use Rattle.std.specs.Ordering.{nat_cmp};
 ghost use Rattle.std.specs.FinMap as map;
 ghost use Rattle.std.specs.Coded.{coded_ℕ};
-ghost use Rattle.aig_tables.specs.VarMap.{with_new};
+ghost use Rattle.aig_tables.specs.VarMap.{with_new, link_to};
 ghost use Rattle.aig_tables.specs.Parts.Places.{map_of, kept_at};
 
 use crate::var_map::places::{MapValue, Places};
@@ -106,6 +107,25 @@ impl<T: MapValue> VarMap<T> {
             Ok(self.places.insert(index, value))
         } else {
             self.spread.insert(var, value)
+        }
+    }
+}
+
+impl VarMap<u32> {
+    /// One more than the value of a variable, or 0 where it has none.
+    #[tactic(auto, using(crate::proofs::Tables::Maps::map_has))]
+    #[inline(always)]
+    pub fn link(&self, var: Var) -> u32
+        requires { IfSome (map.get self.now var) (λ value. value < 2 ^ 32 - 1) }
+        ensures { result ≡ link_to (map.get self.now var) }
+    {
+        let index = var.0 as usize;
+        if self.places.covers(index) {
+            return self.places.link(index);
+        }
+        match self.spread.get(var) {
+            Some(value) => value + 1,
+            None => 0,
         }
     }
 }

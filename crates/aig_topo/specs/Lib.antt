@@ -1,9 +1,7 @@
 pub mod Order
 pub mod Cycle
-pub mod Operands
-pub mod Users
+pub mod Needs
 pub mod Ready
 pub mod Progress
-pub mod Placed
 pub mod Lists
-pub mod Placing
+pub mod Waiting

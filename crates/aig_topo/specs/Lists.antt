@@ -2,8 +2,8 @@
 -- a gate's position, or 0 at the end of a list.
 use Rattle.std.specs.Prelude.{ℕ, zero, suc, ◌≡◌, ◌<◌, List, [], ◌∷◌, map, length, slice_index_or}
 use Rattle.std.specs.List.{AllByRecursion}
-use Rattle.aig_topo.specs.declared.least_ready.lists.GateNode.{GateNode}
-use Rattle.aig_topo.specs.declared.least_ready.needs.Needs.{Needs}
+use Rattle.aig_topo.specs.declared.lists.GateNode.{GateNode}
+use Rattle.aig_topo.specs.declared.operands.Needs.{Needs}
 use Rattle.aig_circuit.specs.Wellformed.{AreDistinct}
 
 -- the gate behind one in its list, and the first of its own list

@@ -60,7 +60,3 @@ has ready gate = is_least ready.least gate || is_in_tree ready.words ready.first
 -- how many gates there are bits for
 abbrev pub room : Tree → ℕ
 room ready = 64 * length ready.words - ready.first
-
--- whether the gate waited for an operand and waits for none any more
-abbrev pub is_set_free : List ℕ → List ℕ → ℕ → Bool
-is_set_free before after gate = nat_lt 0 (slice_index before gate) && (slice_index after gate == 0)

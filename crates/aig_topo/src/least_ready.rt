@@ -1,40 +1,59 @@
 //! The least ready order.
-ghost use Rattle.std.specs.Prelude.{◌≡◌, ◌==◌, ◌+◌, ◌*◌, ◌&&◌, ◌<◌, ◌≤◌, ℕ, length, slice_index, nat_lt, IfOk};
+ghost use Rattle.std.specs.Prelude.{◌≡◌, ◌+◌, ◌*◌, ◌<◌, ◌≤◌, ℕ, suc, length, slice_index, IfOk};
 ghost use Rattle.aig_topo.specs.Order.{IsLeastReadyOrder, gate_operands, left_over, operands_over};
-ghost use Rattle.aig_topo.specs.Ready.{has, room};
+ghost use Rattle.aig_topo.specs.Lists.{needs_in};
+ghost use Rattle.aig_topo.specs.Needs.{AreThere};
+ghost use Rattle.aig_topo.specs.Progress.{CountsDown, CountsFor};
+ghost use Rattle.aig_topo.specs.Waiting.{rest_by};
 
 use crate::least_ready::ready::Ready;
-use crate::least_ready::release::release_users;
-use crate::least_ready::users::Users;
-use crate::operands::all_operands;
+use crate::least_ready::taking::{count_if_taken, look_at_all};
+use crate::lists::Lists;
 use crate::order::Order;
 use aig_circuit::{Circuit, LARGEST, OutOfMemory};
-use std::alloc::{AllocError, Global};
+use std::alloc::Global;
 
-mod lists;
-mod needs;
-mod placing;
 mod ready;
-mod release;
-mod users;
+mod taking;
 
-pub use crate::least_ready::placing::place_gates;
-
-/// The first so many gates that wait for nothing.
-fn all_ready(alloc: Global, order: &Order, gates: u32) -> Result<Ready, AllocError>
-    requires count { gates ≡ length order.now.waiting }
-    requires few { gates ≤ LARGEST }
-    ensures room { IfOk result (λ r. gates ≤ room r) }
-    ensures ready { IfOk result (λ r. (g : ℕ) → has r g ≡ (nat_lt g gates && (slice_index order.now.waiting g == 0))) }
+/// Counts down what a gate that waits needs beside the gate that it waits for, if that is taken.
+#[inline(always)]
+fn count_rest(gate: u32, order: &mut Order, lists: &Lists)
+    requires there { gate < length lists.now.rows.items }
+    requires as_many { length order.old.waiting ≡ length lists.now.rows.items }
+    requires needs { AreThere (needs_in lists.now.rows.items) }
+    requires counted { 0 < slice_index order.old.waiting gate
+        → slice_index order.old.waiting gate ≡ suc (length (rest_by lists.now.rows.items gate)) }
+    ensures for_gate { CountsFor gate order.old order.new }
+    ensures idle { slice_index order.old.waiting gate ≡ 0 → slice_index order.new.waiting gate ≡ 0 }
+    ensures counted { 0 < slice_index order.old.waiting gate
+        → slice_index order.new.waiting gate ≡ suc (left_over order.old.list (rest_by lists.now.rows.items gate)) }
 {
-    let mut ready = Ready::new(alloc, gates)?;
-    for gate in 0..gates {
-        if order.waiting(gate) > 0 {
-            continue;
-        }
-        ready.insert(gate);
+    if order.waiting(gate) > 0 {
+        count_if_taken(lists.rest(gate), gate, order);
     }
-    Ok(ready)
+}
+
+/// Counts down what gates that are left need and was taken after it was asked for. Where none is left there is none.
+fn count_rests(order: &mut Order, lists: &Lists)
+    requires few { length lists.now.rows.items ≤ LARGEST }
+    requires as_many { length order.old.waiting ≡ length lists.now.rows.items }
+    requires needs { AreThere (needs_in lists.now.rows.items) }
+    requires counted { (u : ℕ) → u < length lists.now.rows.items → 0 < slice_index order.old.waiting u
+        → slice_index order.old.waiting u ≡ suc (length (rest_by lists.now.rows.items u)) }
+    requires full { length order.old.list ≡ length lists.now.rows.items
+        → (u : ℕ) → u < length lists.now.rows.items → slice_index order.old.waiting u ≡ 0 }
+    ensures down { CountsDown order.old order.new }
+    ensures idle { (u : ℕ) → slice_index order.old.waiting u ≡ 0 → slice_index order.new.waiting u ≡ 0 }
+    ensures counted { (u : ℕ) → u < length lists.now.rows.items → 0 < slice_index order.old.waiting u
+        → slice_index order.new.waiting u ≡ suc (left_over order.old.list (rest_by lists.now.rows.items u)) }
+{
+    if order.list().len() == lists.len() {
+        return;
+    }
+    for gate in 0..lists.len() as u32 {
+        count_rest(gate, order, lists);
+    }
 }
 
 /// The least ready order of a circuit's gates. Each listed gate is one step, and so is each operand over its variable;
@@ -48,13 +67,10 @@ pub fn gate_order(alloc: Global, circuit: &Circuit) -> Result<Order, OutOfMemory
     ensures steps { IfOk result (λ order. order.steps ≡ length order.list + operands_over circuit.now order.list) }
     ensures few { IfOk result (λ order. order.steps ≤ 3 * length circuit.now.gates) }
 {
-    let operands = all_operands(alloc, circuit)?;
-    let users = Users::new(alloc, operands.as_slice())?;
-    let mut order = Order::waiting_for(alloc, operands.as_slice())?;
-    let mut ready = all_ready(alloc, &order, circuit.gates.len() as u32)?;
-    while let Some(gate) = ready.pop_first() {
-        order.take(gate);
-        release_users(&users, gate, &mut order, &mut ready);
-    }
+    let mut lists = Lists::new(alloc, circuit)?;
+    let mut order = Order::waiting_for(alloc, lists.counts(alloc)?)?;
+    let mut ready = Ready::new(alloc, lists.len() as u32)?;
+    look_at_all(&mut order, &mut lists, &mut ready);
+    count_rests(&mut order, &lists);
     Ok(order)
 }

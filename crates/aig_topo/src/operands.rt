@@ -1,27 +1,30 @@
 //! Which gates the operands of gates are over.
-ghost use Rattle.std.specs.Prelude.{◌≡◌, ◌≤◌, ℕ, length, map, IfOk};
+ghost use Rattle.std.specs.Prelude.{◌≡◌, ◌<◌, ◌≤◌, ℕ, length, IfOk};
+ghost use Rattle.std.specs.Option.{IfSome};
 ghost use Rattle.std.specs.FinMap.{get};
 ghost use Rattle.aig_circuit.specs.Literal.{variable_of};
+ghost use Rattle.aig_tables.specs.VarMap.{link_to};
 ghost use Rattle.aig_topo.specs.Order.{gate_of};
-ghost use Rattle.aig_topo.specs.Operands.{operands_of, how_many};
+ghost use Rattle.aig_topo.specs.Needs.{under};
 
 use aig_circuit::{Circuit, Gate, LARGEST};
 use aig_tables::VarMap;
 use std::alloc::{AllocError, Global};
 
-/// The positions of the gates that a gate's operands are over, where they are over gates.
+/// The gates that a gate's operands are over: each is one more than its position, or 0 where there is none.
 #[derive(Clone, Copy)]
-pub(crate) struct Operands {
-    pub(crate) left: Option<u32>,
-    pub(crate) right: Option<u32>,
+pub(crate) struct Needs {
+    pub(crate) left: u32,
+    pub(crate) right: u32,
 }
 
-impl Operands {
+impl Needs {
     /// How many operands are over gates, 0 to 2.
+    #[inline(always)]
     pub(crate) fn count(self) -> u8
-        ensures { result ≡ how_many self }
+        ensures { result ≡ length (under self) }
     {
-        u8::from(self.left.is_some()) + u8::from(self.right.is_some())
+        u8::from(self.left > 0) + u8::from(self.right > 0)
     }
 }
 
@@ -38,29 +41,17 @@ pub(crate) fn gate_index(alloc: Global, circuit: &Circuit) -> Result<VarMap<u32>
     Ok(index)
 }
 
-/// The operands of one gate.
-fn look_up(index: &VarMap<u32>, gate: &Gate) -> Operands
+/// What a gate needs.
+#[inline(always)]
+pub(crate) fn look_up(index: &VarMap<u32>, gate: &Gate) -> Needs
+    requires { (v : ℕ) → IfSome (get index.now v) (λ at. at < LARGEST) }
     ensures { result ≡ record {
-      left = get index.now (variable_of gate.now.left);
-      right = get index.now (variable_of gate.now.right);
+      left = link_to (get index.now (variable_of gate.now.left));
+      right = link_to (get index.now (variable_of gate.now.right));
     } }
 {
-    Operands {
-        left: index.get(gate.left.var()),
-        right: index.get(gate.right.var()),
+    Needs {
+        left: index.link(gate.left.var()),
+        right: index.link(gate.right.var()),
     }
-}
-
-/// The operands of all gates.
-pub(crate) fn all_operands(alloc: Global, circuit: &Circuit) -> Result<Vec<Operands>, AllocError>
-    requires { length circuit.now.gates ≤ LARGEST }
-    ensures { IfOk result (λ all. all.items ≡ map (operands_of circuit.now.gates) circuit.now.gates) }
-{
-    let gates = circuit.gates.as_slice();
-    let index = gate_index(alloc, circuit)?;
-    let mut all = Vec::with_capacity(alloc, gates.len())?;
-    for gate in gates {
-        all.push(look_up(&index, gate))?;
-    }
-    Ok(all)
 }

@@ -1,15 +1,20 @@
 //! An order of gates that is being made. No module stands in this one: its fields are private, so steps change through
 //! `take` and `count_down` alone.
-ghost use Rattle.std.specs.Prelude.{◌≡◌, ◌+◌, ◌-◌, ◌*◌, ◌<◌, ◌≤◌, [], ◌∷◌, ◌++◌, length, map, slice_index};
+ghost use Rattle.std.specs.Prelude.{◌≡◌, ◌==◌, ◌+◌, ◌-◌, ◌*◌, ◌<◌, ◌≤◌, ℕ, [], ◌∷◌, ◌++◌, length, map, slice_index};
 ghost use Rattle.std.specs.Prelude.{slice_set, IfOk};
+ghost use Rattle.std.specs.List.{AllByRecursion};
+ghost use Rattle.std.specs.Option.{IfSome, IfNone};
 ghost use Rattle.aig_circuit.specs.Wellformed.{IsAmong};
 ghost use Rattle.aig_topo.specs.Order.{gates_under};
-ghost use Rattle.aig_topo.specs.Operands.{how_many};
+ghost use Rattle.aig_topo.specs.Progress.{has_gate};
 
-use crate::operands::{Operands, all_operands};
+use crate::lists::Lists;
 use aig_circuit::{Circuit, LARGEST, OutOfMemory};
 use std::alloc::{AllocError, Global};
 use std::marker::Model;
+
+/// The state of a gate that is taken, in place of how many operands it waits for.
+const TAKEN: u8 = 3;
 
 /// An order of gates that is being made: the positions of the gates that are taken, how many operands each gate still
 /// waits for, and how many steps were made.
@@ -17,39 +22,42 @@ use std::marker::Model;
 pub struct Order {
     positions: Vec<u32>,
     taken: usize,
-    /// At most 2 each, so a byte does: they stay in the processor's cache longer.
-    waiting: Vec<u8>,
-    steps: u64,
+    /// How many operands each gate waits for, at most 2, or that it is taken. A byte does: they stay in the processor's
+    /// cache longer.
+    states: Vec<u8>,
+    /// How many operands were counted down.
+    counted: u64,
 }
 
 impl Model for Order {
-    ghost use Rattle.std.specs.Prelude.{take};
-    ghost use Rattle.aig_topo.specs.Progress.{Progress, progress_code, IsCounted};
+    ghost use Rattle.std.specs.Prelude.{take, map, ◌+◌};
+    ghost use Rattle.aig_topo.specs.Progress.{Progress, progress_code, waiting_in, IsCounted};
 
     ghost Value = { Progress };
 
     ghost coded = { progress_code };
 
-    ghost view = { λ o. record { list = take o.taken o.positions.items; waiting = o.waiting.items; steps = o.steps } };
+    ghost view = { λ o. record {
+      list = take o.taken o.positions.items;
+      waiting = map waiting_in o.states.items;
+      steps = o.taken + o.counted;
+    } };
 
-    ghost invariant = { λ o. IsCounted o.positions.items o.taken o.waiting.items o.steps };
+    ghost invariant = { λ o. IsCounted o.positions.items o.taken o.states.items o.counted };
 }
 
 impl Order {
-    /// No gate taken, where the gates have these operands.
-    pub(crate) fn waiting_for(alloc: Global, operands: &[Operands]) -> Result<Self, AllocError>
-        requires { length operands.now ≤ LARGEST }
-        ensures { IfOk result (λ order. order ≡ record { list = []; waiting = map how_many operands.now; steps = 0 }) }
+    /// No gate taken, where each waits for so many operands.
+    pub(crate) fn waiting_for(alloc: Global, waiting: Vec<u8>) -> Result<Self, AllocError>
+        requires few { length waiting.items ≤ LARGEST }
+        requires at_most_two { AllByRecursion (λ w. w ≤ 2) waiting.items }
+        ensures { IfOk result (λ order. order ≡ record { list = []; waiting = waiting.items; steps = 0 }) }
     {
-        let mut waiting = Vec::with_capacity(alloc, operands.len())?;
-        for gate in operands {
-            waiting.push(gate.count())?;
-        }
         Ok(Order {
-            positions: vec![in alloc; 0; operands.len()]?,
+            positions: vec![in alloc; 0; waiting.len()]?,
             taken: 0,
-            waiting,
-            steps: 0,
+            states: waiting,
+            counted: 0,
         })
     }
 
@@ -62,8 +70,8 @@ impl Order {
           steps = 0;
         }) }
     {
-        let operands = all_operands(alloc, circuit)?;
-        Ok(Order::waiting_for(alloc, operands.as_slice())?)
+        let lists = Lists::new(alloc, circuit)?;
+        Ok(Order::waiting_for(alloc, lists.counts(alloc)?)?)
     }
 
     /// The positions of the gates, in the order in which they were taken.
@@ -78,7 +86,7 @@ impl Order {
         ensures value { result ≡ self.now.steps }
         ensures few { result ≤ 3 * length self.now.waiting }
     {
-        self.steps
+        self.taken as u64 + self.counted
     }
 
     /// How many operands the gate waits for.
@@ -86,10 +94,21 @@ impl Order {
         requires { gate < length self.now.waiting }
         ensures { result ≡ slice_index self.now.waiting gate }
     {
-        u32::from(self.waiting[gate as usize])
+        let state = self.states[gate as usize];
+        if state == TAKEN { 0 } else { u32::from(state) }
+    }
+
+    /// Whether the gate is taken.
+    #[inline(always)]
+    pub(crate) fn has(&self, gate: u32) -> bool
+        requires { gate < length self.now.waiting }
+        ensures { result ≡ has_gate self.now.list gate }
+    {
+        self.states[gate as usize] == TAKEN
     }
 
     /// Takes a gate that waits for nothing, as one step.
+    #[inline(always)]
     pub fn take(&mut self, gate: u32)
         requires there { gate < length self.old.waiting }
         requires left { ¬ IsAmong gate self.old.list }
@@ -98,10 +117,11 @@ impl Order {
     {
         self.positions[self.taken] = gate;
         self.taken += 1;
-        self.steps += 1;
+        self.states[gate as usize] = TAKEN;
     }
 
     /// Counts down what a gate waits for, as one step.
+    #[inline(always)]
     pub fn count_down(&mut self, gate: u32)
         requires there { gate < length self.old.waiting }
         requires waiting { 0 < slice_index self.old.waiting gate }
@@ -109,7 +129,22 @@ impl Order {
         ensures steps { self.new.steps ≡ self.old.steps + 1 }
         ensures list { self.new.list ≡ self.old.list }
     {
-        self.waiting[gate as usize] -= 1;
-        self.steps += 1;
+        self.states[gate as usize] -= 1;
+        self.counted += 1;
+    }
+
+    /// The first gate that is not taken.
+    pub fn first_left(&self) -> Option<usize>
+        ensures none { IfNone result ((g : ℕ) → g < length self.now.waiting → IsAmong g self.now.list) }
+        ensures there { IfSome result (λ gate. gate < length self.now.waiting) }
+        ensures left { IfSome result (λ gate. ¬ IsAmong gate self.now.list) }
+        ensures first { IfSome result (λ gate. (g : ℕ) → g < gate → IsAmong g self.now.list) }
+    {
+        for gate in 0..self.positions.len() {
+            if !self.has(gate as u32) {
+                return Some(gate);
+            }
+        }
+        None
     }
 }

@@ -18,7 +18,7 @@ use crate::checks::Keep;
 use crate::fault::CheckFault;
 use aig_circuit::{Circuit, Entry, Gate, LARGEST, Listing, Lit, OutOfMemory};
 use aig_tables::VarSet;
-use aig_topo::{Placed, first_cyclic_gate, place_gates};
+use aig_topo::{Order, first_cyclic_gate, gate_order};
 use std::alloc::Global;
 
 /// Adds the variable that an entry defines to those that were seen, unless it was seen before.
@@ -193,13 +193,13 @@ fn own_literal(gate: &Gate) -> Lit
 }
 
 /// The least ready order of the gates, or the literal of the first one that depends on a cycle.
-fn order_of_all(alloc: Global, circuit: &Circuit) -> Result<Placed, CheckFault>
+fn order_of_all(alloc: Global, circuit: &Circuit) -> Result<Order, CheckFault>
     requires { IsInForm circuit.now }
     ensures ok { OnOk result (first_cyclic circuit.now.gates ≡ None) }
     ensures least { IfOk result (λ order. IsLeastReadyOrder circuit.now order.list) }
     ensures err { IfErr result (λ e. IsFault e (option_map CyclicFault (first_cyclic circuit.now.gates))) }
 {
-    let order = place_gates(alloc, circuit)?;
+    let order = gate_order(alloc, circuit)?;
     match order.first_left() {
         Some(gate) => Err(CheckFault::Cyclic(own_literal(&circuit.gates.as_slice()[gate]))),
         None => Ok(order),
@@ -243,7 +243,7 @@ pub(crate) fn find_fault(
     alloc: Global,
     circuit: &Circuit,
     keep: Keep,
-) -> Result<Option<Placed>, CheckFault>
+) -> Result<Option<Order>, CheckFault>
     requires { IsInForm circuit.now }
     ensures ok { OnOk result (first_structural_fault circuit.now ≡ None) }
     ensures least { IfOk result (λ some. IfSome some (λ order. IsLeastReadyOrder circuit.now order.list)) }

@@ -2,6 +2,7 @@
 ghost use Rattle.std.specs.Prelude.{◌≡◌, ◌-◌, ◌<◌, ◌≤◌, ◌^◌, length, true};
 ghost use Rattle.std.proofs.Common.{refl};
 ghost use Rattle.std.proofs.lemmas.Bool.{ltb-true};
+ghost use Rattle.aig_tables.specs.VarMap.{link_to};
 ghost use Rattle.aig_tables.specs.Parts.Places.{has_place, place_of, number_of};
 
 use crate::var_map::places::{MapValue, Places};
@@ -39,6 +40,15 @@ impl Table {
         } else {
             self.ranks.rank(index)
         }
+    }
+
+    /// One more than the number of an index, or 0 where there is none: what its place has, so nothing is decided.
+    #[inline(always)]
+    pub(super) fn link(&self, index: usize) -> u32
+        requires { has_place self.now.ranks.words.items self.now.places.items index ≡ true }
+        ensures { result ≡ link_to (number_of self.now.ranks.words.items self.now.places.items index) }
+    {
+        self.places[self.slot(index)]
     }
 }
 

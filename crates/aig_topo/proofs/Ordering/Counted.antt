@@ -1,21 +1,22 @@
 -- An order that takes a gate, or counts one down.
-use Rattle.std.proofs.Common.{rules}
-use Rattle.std.proofs.Common.{◌≡◌, ◌<◌, ◌≤◌, ◌+◌, ◌-◌, ◌*◌, ℕ, List, [], ◌∷◌, ◌++◌, length, take, get_or, ◌⊎◌}
-use Rattle.std.proofs.Common.{map, sym, ◌∙◌, inl, inr, ⊎_elim, arith}
-use Rattle.std.specs.List.{sum}
+use Rattle.std.proofs.Common.{◌≡◌, ◌≢◌, ◌<◌, ◌≤◌, ◌+◌, ◌-◌, ◌*◌, ℕ, zero, suc, List, [], ◌∷◌, ◌++◌, length, take, get_or}
+use Rattle.std.proofs.Common.{map, sym, refl, ap, ap₂, subst, ◌∙◌, ◌⊎◌, inl, inr, ⊎_elim, arith, eqb, cond, true, false, Bool}
+use mathlib.Core.Bool.{◌||◌}
+use Rattle.std.specs.List.{AllByRecursion, sum}
 use Rattle.std.proofs.Math.ListN.{set as put}
-use Rattle.std.proofs.lemmas.List.{take_more_set, length-take-le, length-set, length-map, length-replicate}
-use Rattle.std.proofs.lemmas.List.{get_or_default}
+use Rattle.std.proofs.lemmas.Bool.{ne_eqb}
+use Rattle.std.proofs.lemmas.Bool.Decides.{eqb_tells}
+use Rattle.std.proofs.lemmas.List.{take_more_set, length-take-le, length-set, length-map, length-replicate, map-set}
+use Rattle.std.proofs.lemmas.List.{get_or_default, get_or-map, get_or-set_same, get_or-set_other, set-get_or}
+use Rattle.std.proofs.lemmas.List.Folds.{list_any-append}
 use Rattle.std.proofs.lemmas.List.Sums.{sum_by-set, sum_by-cons}
 use Rattle.std.specs.Prelude.{replicate}
 use Rattle.aig_circuit.specs.declared.circuit.TheConstants.{LARGEST}
-use Rattle.aig_topo.specs.declared.operands.Operands.{Operands}
-use Rattle.aig_topo.specs.Operands.{over}
 use Rattle.aig_circuit.specs.Wellformed.{IsAmong, AreDistinct}
-use Rattle.aig_topo.specs.Progress.{IsCounted}
+use Rattle.aig_topo.specs.Progress.{has_gate, waiting_in, IsCounted}
 use Rattle.aig_circuit.proofs.Checking.Fitting.{at_most_below}
-use Rattle.aig_circuit.proofs.Checking.InForm.{joined}
-use Rattle.aig_topo.proofs.Ordering.Steps.{two_at_most as two_told}
+use Rattle.aig_circuit.proofs.Checking.InForm.{among_decides, joined}
+use Rattle.aig_topo.proofs.Ordering.Cyclic.{among_last}
 
 -- a number in two lists joined is in one of them
 pub among_either : (x : ℕ) (xs ys : List ℕ) → IsAmong x (xs ++ ys) → IsAmong x xs ⊎ IsAmong x ys
@@ -24,53 +25,176 @@ among_either x (z ∷ xs) ys a =
     ⊎_elim (λ e. inl (inl e))
     (λ (b : IsAmong x (xs ++ ys)). ⊎_elim (λ i. inl (inr i)) (λ i. inr i) (among_either x xs ys b)) a
 
+pub among_first : (x : ℕ) (xs ys : List ℕ) → IsAmong x xs → IsAmong x (xs ++ ys)
+among_first x [] ys a = absurd a
+among_first x (z ∷ xs) ys a =
+    ⊎_elim (λ (e : x ≡ z). inl e) (λ (b : IsAmong x xs). inr (among_first x xs ys b)) a
+
+-- who is in a list with one more is in it, or is the one
+pub in_longer : (list : List ℕ) (g h : ℕ) → IsAmong h (list ++ g ∷ []) → IsAmong h list ⊎ (h ≡ g)
+in_longer list g h a =
+    ⊎_elim (λ (b : IsAmong h list). inl b)
+    (λ (b : IsAmong h (g ∷ [])). ⊎_elim (λ (e : h ≡ g). inr e) (λ (n : ⊥). absurd n) b)
+    (among_either h list (g ∷ []) a)
+
 -- distinct numbers and a new one at the end
-pub distinct_more : (xs : List ℕ) (g : ℕ) → AreDistinct xs → ¬ IsAmong g xs → AreDistinct (xs ++ g ∷ [])
+distinct_more : (xs : List ℕ) (g : ℕ) → AreDistinct xs → ¬ IsAmong g xs → AreDistinct (xs ++ g ∷ [])
 distinct_more [] g d new = (λ a. a, tt)
 distinct_more (x ∷ xs) g d new = (
-  λ a. ⊎_elim d.0 (λ (b : IsAmong x (g ∷ [])). ⊎_elim (λ (e : x ≡ g). new (inl (sym e))) (λ (n : ⊥). n) b)
-      (among_either x xs (g ∷ []) a),
+  λ a. ⊎_elim d.0 (λ (e : x ≡ g). new (inl (sym e))) (in_longer xs g x a),
   distinct_more xs g d.1 (λ a. new (inr a)),
 )
 
-module _ (positions : List ℕ) (taken : ℕ) (waiting : List ℕ) (steps : ℕ) (g : ℕ)
-    (counted : IsCounted positions taken waiting steps) (there : g < length waiting) where
+or_false : (b : Bool) → b ≡ (b || (false || false))
+or_false true = refl
+or_false false = refl
+
+-- a gate that is not taken
+plain : (state : ℕ) → state ≢ 3 → waiting_in state ≡ state
+plain state differs = ap (λ b. cond b 0 state) (ne_eqb state 3 differs)
+
+-- another gate than the last one
+not_last : (list : List ℕ) (g h : ℕ) → h ≢ g → has_gate list h ≡ has_gate (list ++ g ∷ []) h
+not_last list g h differs =
+    or_false (has_gate list h)
+    ∙ ap (λ b. has_gate list h || (b || false)) (sym (ne_eqb g h (λ e. differs (sym e))))
+    ∙ sym (list_any-append (λ x. eqb x h) list (g ∷ []))
+
+module _ (positions : List ℕ) (taken : ℕ) (states : List ℕ) (counted : ℕ) (g : ℕ)
+    (is : IsCounted positions taken states counted) (there : g < length states) where
+  pub read : get_or (map waiting_in states) g 0 ≡ waiting_in (get_or states g 0)
+  read = get_or-map waiting_in states g 0 0 there
+
   -- where a gate is left, there is room for it
   pub room_left : ¬ IsAmong g (take taken positions) → taken < length positions
   room_left new =
-      let fit : length (g ∷ take taken positions) ≤ length waiting =
-      at_most_below (length waiting) (g ∷ take taken positions) (new, counted.once) (there, counted.below) in
-      omega (arith, fit, length-take-le taken positions counted.within, counted.room)
+      let fit : length (g ∷ take taken positions) ≤ length states =
+      at_most_below (length states) (g ∷ take taken positions) (new, is.once) (there, is.below) in
+      omega (arith, fit, length-take-le taken positions is.within, is.room)
 
-  pub takes : ¬ IsAmong g (take taken positions) → IsCounted (put positions taken g) (taken + 1) waiting (steps + 1)
-  takes new = search (rules, room_left, take_more_set, length-set, distinct_more, joined)
+  -- it is taken where it waits for nothing
+  module _ (new : ¬ IsAmong g (take taken positions)) (ready : get_or (map waiting_in states) g 0 ≡ 0) where
+    pub one_more : take (taken + 1) (put positions taken g) ≡ take taken positions ++ g ∷ []
+    one_more = take_more_set positions taken g (room_left new)
 
-  pub counts_down : (n : ℕ) → n ≡ get_or waiting g n → 0 < get_or waiting g 0
-      → IsCounted positions taken (put waiting g (n - 1)) (steps + 1)
-  counts_down n is some =
-      let as_long : length (put waiting g (n - 1)) ≡ length waiting = length-set waiting g (n - 1) in
-      let less : sum (put waiting g (n - 1)) + get_or waiting g n ≡ sum waiting + (n - 1) =
-      sum_by-set (λ x. x) waiting g (n - 1) n there in record {
-        room = counted.room ∙ sym as_long;
-        few = rw as_long counted.few;
-        within = counted.within;
-        once = counted.once;
-        below = rw as_long counted.below;
-        paid = rw as_long (omega (arith, counted.paid, less, some, get_or_default waiting g n 0 there));
-      }
+    pub waits_as_before : map waiting_in (put states g 3) ≡ map waiting_in states
+    waits_as_before =
+        map-set waiting_in states g 3 ∙ ap (put (map waiting_in states) g) (sym ready)
+        ∙ set-get_or (map waiting_in states) g 0
 
--- a gate waits for at most two operands
-at_most_two : (os : List Operands) → sum (map (λ (o : Operands). length (over o)) os) ≤ 2 * length os
-at_most_two [] = omega arith
-at_most_two (o ∷ os) = omega (
-  arith,
-  two_told o.left o.right,
-  at_most_two os,
-  sum_by-cons (λ x. x) (length (over o)) (map (λ (o : Operands). length (over o)) os),
-)
+    now_told : (h : ℕ) → h < length states
+        → eqb (get_or (put states g 3) h 0) 3 ≡ has_gate (take taken positions ++ g ∷ []) h
+    now_told h below =
+        ⊎_elim (λ (t : (eqb h g ≡ true) × (h ≡ g)).
+        subst (λ z. eqb (get_or (put states g 3) z 0) 3 ≡ has_gate (take taken positions ++ g ∷ []) z) (sym t.1)
+        (ap (λ s. eqb s 3) (get_or-set_same states g 3 0 there)
+        ∙ sym ((among_decides g (take taken positions ++ g ∷ [])).1
+        (among_last (take taken positions) (g ∷ []) g (inl refl)))))
+        (λ (f : (eqb h g ≡ false) × (h ≢ g)).
+        ap (λ s. eqb s 3) (get_or-set_other states g h 3 0 f.1) ∙ is.told h below
+        ∙ not_last (take taken positions) g h f.1)
+        (eqb_tells h g)
 
--- no gate is taken yet
-pub begins : (os : List Operands) (n : ℕ) (positions waiting : List ℕ) → length os ≤ LARGEST
-    → waiting ≡ map (λ (o : Operands). length (over o)) os → positions ≡ replicate n 0 → n ≡ length os
-    → IsCounted positions 0 waiting 0
-begins os n positions waiting few is zeros n_is = search (rules, length-map, length-replicate, at_most_two)
+    pub takes : IsCounted (put positions taken g) (taken + 1) (put states g 3) counted
+    takes =
+        let as_long : length (put states g 3) ≡ length states = length-set states g 3 in record {
+          room = length-set positions taken g ∙ is.room ∙ sym as_long;
+          few = rw as_long is.few;
+          within = omega (arith, room_left new, length-set positions taken g);
+          once = rw one_more (distinct_more (take taken positions) g is.once new);
+          below = rw (one_more, as_long)
+              (joined (λ x. x < length states) (take taken positions) (g ∷ []) is.below (there, tt));
+          small = λ h. ⊎_elim (λ (t : (eqb h g ≡ true) × (h ≡ g)).
+              omega (arith, ap (λ z. get_or (put states g 3) z 0) t.1, get_or-set_same states g 3 0 there))
+              (λ (f : (eqb h g ≡ false) × (h ≢ g)). omega (arith, is.small h, get_or-set_other states g h 3 0 f.1))
+              (eqb_tells h g);
+          told = λ h below. now_told h (rw (← as_long) below) ∙ ap (λ xs. has_gate xs h) (sym one_more);
+          paid = rw (as_long, waits_as_before) is.paid;
+        }
+
+  -- it is counted down where it waits for some
+  module _ (n : ℕ) (n_is : n ≡ get_or states g n) (some : 0 < get_or (map waiting_in states) g 0) where
+    same : get_or states g 0 ≡ n
+    same = sym (n_is ∙ get_or_default states g n 0 there)
+
+    waits_for : get_or (map waiting_in states) g 0 ≡ waiting_in n
+    waits_for = read ∙ ap waiting_in same
+
+    not_taken : n ≢ 3
+    not_taken e = omega (arith, some, waits_for, ap waiting_in e)
+
+    pub as_it_is : get_or (map waiting_in states) g 0 ≡ n
+    as_it_is = waits_for ∙ plain n not_taken
+
+    one_less : waiting_in (n - 1) ≡ n - 1
+    one_less = plain (n - 1) (λ e. omega (arith, e, is.small g, same, not_taken))
+
+    pub waits_for_less : map waiting_in (put states g (n - 1))
+        ≡ put (map waiting_in states) g (get_or (map waiting_in states) g 0 - 1)
+    waits_for_less =
+        map-set waiting_in states g (n - 1)
+        ∙ ap (put (map waiting_in states) g) (one_less ∙ ap (λ x. x - 1) (sym as_it_is))
+
+    pub counts_down : IsCounted positions taken (put states g (n - 1)) (counted + 1)
+    counts_down =
+        let as_long : length (put states g (n - 1)) ≡ length states = length-set states g (n - 1) in
+        let less : sum (put (map waiting_in states) g (get_or (map waiting_in states) g 0 - 1))
+        + get_or (map waiting_in states) g 0 ≡ sum (map waiting_in states) + (get_or (map waiting_in states) g 0 - 1) =
+        sum_by-set (λ x. x) (map waiting_in states) g (get_or (map waiting_in states) g 0 - 1) 0
+        (omega (arith, there, length-map states waiting_in)) in record {
+          room = is.room ∙ sym as_long;
+          few = rw as_long is.few;
+          within = is.within;
+          once = is.once;
+          below = rw as_long is.below;
+          small = λ h. ⊎_elim (λ (t : (eqb h g ≡ true) × (h ≡ g)).
+              omega (
+                arith,
+                ap (λ z. get_or (put states g (n - 1)) z 0) t.1,
+                get_or-set_same states g (n - 1) 0 there,
+                is.small g,
+                same,
+              ))
+              (λ (f : (eqb h g ≡ false) × (h ≢ g)).
+              omega (arith, is.small h, get_or-set_other states g h (n - 1) 0 f.1))
+              (eqb_tells h g);
+          told = λ h below. ⊎_elim (λ (t : (eqb h g ≡ true) × (h ≡ g)).
+              subst (λ z. eqb (get_or (put states g (n - 1)) z 0) 3 ≡ has_gate (take taken positions) z) (sym t.1)
+              (ap (λ s. eqb s 3) (get_or-set_same states g (n - 1) 0 there)
+              ∙ ne_eqb (n - 1) 3 (λ e. omega (arith, e, is.small g, same))
+              ∙ sym (ne_eqb n 3 not_taken)
+              ∙ ap (λ s. eqb s 3) (sym same)
+              ∙ is.told g there))
+              (λ (f : (eqb h g ≡ false) × (h ≢ g)).
+              ap (λ s. eqb s 3) (get_or-set_other states g h (n - 1) 0 f.1) ∙ is.told h (rw (← as_long) below))
+              (eqb_tells h g);
+          paid = omega (arith, is.paid, less, some, as_long, ap sum waits_for_less);
+        }
+
+-- at first each gate waits for at most two operands
+pub plain_all : (ws : List ℕ) → AllByRecursion (λ w. w ≤ 2) ws → map waiting_in ws ≡ ws
+plain_all [] few = refl
+plain_all (w ∷ ws) few = ap₂ (λ v vs. v ∷ vs) (plain w (λ e. omega (arith, e, few.0))) (plain_all ws few.1)
+
+pub sum_few : (ws : List ℕ) → AllByRecursion (λ w. w ≤ 2) ws → sum ws ≤ 2 * length ws
+sum_few [] few = omega arith
+sum_few (w ∷ ws) few = omega (arith, few.0, sum_few ws few.1, sum_by-cons (λ x. x) w ws)
+
+each_small : (ws : List ℕ) → AllByRecursion (λ w. w ≤ 2) ws → (g : ℕ) → get_or ws g 0 ≤ 2
+each_small [] few zero = omega arith
+each_small [] few (suc g) = omega arith
+each_small (w ∷ ws) few zero = few.0
+each_small (w ∷ ws) few (suc g) = each_small ws few.1 g
+
+pub begins : (waiting positions : List ℕ) → length waiting ≤ LARGEST → AllByRecursion (λ w. w ≤ 2) waiting
+    → positions ≡ replicate (length waiting) 0 → IsCounted positions 0 waiting 0
+begins waiting positions few at_most zeros = record {
+  room = ap length zeros ∙ length-replicate (length waiting) 0;
+  few = few;
+  within = omega arith;
+  once = tt;
+  below = tt;
+  small = λ g. omega (arith, each_small waiting at_most g);
+  told = λ g _. ne_eqb (get_or waiting g 0) 3 (λ e. omega (arith, e, each_small waiting at_most g));
+  paid = omega (arith, sum_few waiting at_most, ap sum (plain_all waiting at_most));
+}

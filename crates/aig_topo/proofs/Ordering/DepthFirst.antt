@@ -22,7 +22,7 @@ use Rattle.aig_topo.specs.Cycle.{pair_of, place_of, AreWithin}
 use Rattle.aig_circuit.specs.declared.circuit.Gate.{Gate}
 use Rattle.aig_circuit.specs.Literal.{variable_of}
 use Rattle.aig_topo.specs.Order.{gate_of, gates_under, gate_operands, ends_within, depends_on_cycle}
-use Rattle.aig_topo.proofs.Ordering.Chains.{zeros}
+use Rattle.aig_topo.proofs.Ordering.Gates.{zeros}
 use Rattle.aig_topo.proofs.Ordering.Counted.{among_either}
 use Rattle.aig_topo.proofs.Ordering.Ranked.{over_one, no_gate, at, needed}
 use Rattle.aig_topo.proofs.Ordering.Cyclic.{all_true, each_true}

@@ -1,6 +1,7 @@
 -- The positions of gates by the variables that they define.
 use Rattle.std.proofs.Common.{◌≡◌, ◌<◌, ◌+◌, ℕ, List, [], ◌∷◌, ◌++◌, Bool, cond, eqb, length}
-use Rattle.std.proofs.Common.{get_or, take, None, Some, ap, ap₂, ◌∙◌, arith}
+use Rattle.std.proofs.Common.{get_or, take, None, Some, ap, ap₂, ◌∙◌, arith, zero, suc, refl}
+use Rattle.std.specs.Prelude.{replicate}
 use Rattle.std.specs.List.{position}
 use Rattle.std.specs.Option.{option_or}
 use Rattle.std.proofs.lemmas.Grind.{common_steps}
@@ -27,3 +28,10 @@ gate_of_more gates i v g below =
     ∙ position_push (λ (h : Gate). eqb h.var v) (take i gates) (get_or gates i g)
     ∙ ap₂ (λ b n. option_or (gate_of (take i gates) v) (cond b (Some n) None)) (eqb_comm (get_or gates i g).var v)
     (length-take-le i gates (omega arith))
+
+-- a table at first
+pub zeros : (n i : ℕ) → get_or {A = ℕ} (replicate n 0) i 0 ≡ 0
+zeros zero zero = refl
+zeros zero (suc i) = refl
+zeros (suc n) zero = refl
+zeros (suc n) (suc i) = zeros n i

@@ -1,20 +1,24 @@
 -- What gates need, as the code looks it up.
-use Rattle.std.proofs.Common.{◌≡◌, ◌<◌, ◌≤◌, ℕ, List, [], ◌∷◌, ◌++◌, Option, None, Some, length, map, get_or, eqb}
+use Rattle.std.proofs.Common.{◌≡◌, ◌<◌, ◌≤◌, ℕ, zero, suc, List, [], ◌∷◌, ◌++◌, Option, None, Some, length, map, get_or, eqb}
 use Rattle.std.proofs.Common.{refl, sym, ap, ap₂, subst, ◌∙◌, ⊎_elim, arith}
 use Rattle.std.specs.List.{AllByRecursion}
 use Rattle.std.specs.Option.{IfSome, option_to_list}
 use Rattle.std.proofs.lemmas.Bool.{cases_lt}
 use Rattle.std.proofs.lemmas.List.{get_or-map, get_or_past, length-map}
+use Rattle.std.proofs.lemmas.Simd.{map-map}
 use Rattle.std.proofs.lemmas.List.Quantifiers.{position-Some}
 use Rattle.aig_circuit.specs.declared.circuit.Gate.{Gate}
 use Rattle.aig_circuit.specs.declared.circuit.TheConstants.{LARGEST}
-use Rattle.aig_topo.specs.declared.least_ready.needs.Needs.{Needs}
+use Rattle.aig_topo.specs.declared.lists.GateNode.{GateNode}
+use Rattle.aig_topo.specs.declared.operands.Needs.{Needs}
 use Rattle.aig_circuit.specs.Literal.{variable_of}
 use Rattle.aig_circuit.specs.Wellformed.{IsAmong}
 use Rattle.aig_topo.specs.Order.{gate_of, gates_under, gate_operands, IsReady, TakesLeast, IsFull}
-use Rattle.aig_topo.specs.Placing.{link_to, linked, needs_of, under, needs_at, no_needs, AreThere}
+use Rattle.aig_tables.specs.VarMap.{link_to}
+use Rattle.aig_topo.specs.Lists.{needs_in}
+use Rattle.aig_topo.specs.Needs.{linked, needs_of, under, how_many, needs_at, no_needs, AreThere}
 use Rattle.aig_topo.proofs.Ordering.Ranked.{no_gate, needed, over_one}
-use Rattle.aig_topo.proofs.Ordering.Steps.{all_of, none_past}
+use Rattle.aig_topo.proofs.Ordering.Steps.{all_of, none_past, two_operands}
 
 few_one : (o : Option ℕ) → ((at : ℕ) → o ≡ Some at → at < LARGEST) → IfSome o (λ at. at < LARGEST)
 few_one None h = tt
@@ -91,3 +95,31 @@ module _ (count : ℕ) (some other : ℕ → List ℕ) (same : (u : ℕ) → som
   pub full_too : (list : List ℕ) → IsFull count some list → IsFull count other list
   full_too list full g there served =
       full g there (subst (AllByRecursion (λ h. IsAmong h list)) (sym (same g)) served)
+
+-- how many operands each gate waits for at first
+one_by_one : (gates gs : List Gate) → map (λ (g : Gate). how_many (needs_of gates g)) gs
+    ≡ map (λ (g : Gate). length (gates_under gates g)) gs
+one_by_one gates [] = refl
+one_by_one gates (g ∷ gs) = ap₂ (λ n ns. n ∷ ns) (ap length (same_under gates g)) (one_by_one gates gs)
+
+length_at : (xss : List (List ℕ)) (u : ℕ) → get_or (map length xss) u 0 ≡ length (get_or xss u [])
+length_at [] zero = refl
+length_at [] (suc u) = refl
+length_at (xs ∷ xss) zero = refl
+length_at (xs ∷ xss) (suc u) = length_at xss u
+
+module _ (gates : List Gate) (rows : List GateNode) (counts : List ℕ)
+    (needs_are : needs_in rows ≡ map (needs_of gates) gates) (are : counts ≡ map how_many (needs_in rows)) where
+  pub counts_are : counts ≡ map (λ (g : Gate). length (gates_under gates g)) gates
+  counts_are = are ∙ ap (map how_many) needs_are ∙ map-map how_many (needs_of gates) gates ∙ one_by_one gates gates
+
+  pub as_many_counts : length counts ≡ length gates
+  as_many_counts = ap length counts_are ∙ length-map gates (λ (g : Gate). length (gates_under gates g))
+
+  pub at_most_two : AllByRecursion (λ w. w ≤ 2) counts
+  at_most_two = subst (AllByRecursion (λ w. w ≤ 2)) (sym counts_are) (two_operands gates gates)
+
+  pub each_count : (u : ℕ) → get_or counts u 0 ≡ length (needs_at (needs_in rows) u)
+  each_count u =
+      ap (λ ws. get_or ws u 0) (are ∙ sym (map-map length under (needs_in rows)))
+      ∙ length_at (map under (needs_in rows)) u

@@ -1,5 +1,5 @@
 -- Rows: what gates need and their lists, in one table.
-use Rattle.std.proofs.Common.{◌≡◌, ◌≢◌, ◌<◌, ◌≤◌, ◌-◌, ◌∙◌, ℕ, zero, suc, List, [], ◌∷◌, ◌++◌, length, map, get_or}
+use Rattle.std.proofs.Common.{◌≡◌, ◌≢◌, ◌<◌, ◌≤◌, ◌+◌, ◌-◌, ◌∙◌, ℕ, zero, suc, List, [], ◌∷◌, ◌++◌, length, map, get_or}
 use Rattle.std.proofs.Common.{refl}
 use Rattle.std.proofs.Common.{sym, ap, subst, ⊎_elim, eqb, true, false, arith}
 use Rattle.std.specs.List.{AllByRecursion}
@@ -8,11 +8,12 @@ use Rattle.std.proofs.lemmas.Bool.{cases_lt}
 use Rattle.std.proofs.lemmas.Bool.Decides.{eqb_tells}
 use Rattle.std.proofs.lemmas.List.{get_or-map, get_or-set_other, get_or-set_same, get_or_past, length-map, length-set}
 use Rattle.std.proofs.lemmas.List.{map-set, set-get_or}
-use Rattle.aig_topo.specs.declared.least_ready.lists.GateNode.{GateNode}
-use Rattle.aig_topo.specs.declared.least_ready.needs.Needs.{Needs}
+use Rattle.aig_topo.specs.declared.lists.GateNode.{GateNode}
+use Rattle.aig_topo.specs.declared.operands.Needs.{Needs}
 use Rattle.aig_topo.specs.Lists.{Link, needs_in, needs_in_row, links_in, links_in_row, first_of, list_in, LeadsTo}
 use Rattle.aig_topo.specs.Lists.{AreLists}
-use Rattle.aig_topo.specs.Placing.{linked, under, needs_by, rest_by, no_needs, AreThere}
+use Rattle.aig_topo.specs.Needs.{linked, under, no_needs, AreThere}
+use Rattle.aig_topo.specs.Waiting.{needs_by, rest_by}
 use Rattle.aig_topo.proofs.Ordering.Lists.{read_first, front_below}
 
 -- the row of a gate that needs this and was not looked at
@@ -156,3 +157,8 @@ module _ (rows more : List GateNode) (gate : ℕ) (n : Needs) (now : needs_in mo
       subst (AllByRecursion (λ h. h < length rows)) (sym (needs_elsewhere u f.1))
       (rw (sym (as_many_needs rows)) (before u)))
       (eqb_tells u gate))
+
+-- what holds of both parts holds of all
+pub both : (P : ℕ → Type 0) (xs ys : List ℕ) → AllByRecursion P xs → AllByRecursion P ys → AllByRecursion P (xs ++ ys)
+both P [] ys first second = second
+both P (x ∷ xs) ys first second = (first.0, both P xs ys first.1 second)

@@ -15,7 +15,7 @@ use Rattle.std.proofs.lemmas.Nat.Bits.{bit_at-zero, bit_at-trailing_zeros, bit_a
 use Rattle.std.proofs.lemmas.Nat.Bits.{bit_at_clear_same, bit_at_clear_other}
 use Rattle.aig_tables.specs.Parts.Marks.{is_marked}
 use Rattle.aig_topo.specs.Ready.{Tells, IsTree, first_bit}
-use Rattle.aig_topo.proofs.Ordering.Chains.{zeros}
+use Rattle.aig_topo.proofs.Ordering.Gates.{zeros}
 use Rattle.aig_tables.proofs.Tables.Bits.{one_place}
 
 -- a word with a bit set, and one with a bit cleared
@@ -285,22 +285,3 @@ pub empty_tree : (words : List ℕ) (n first levels gates : ℕ) → words ≡ r
     → first ≡ first_bit levels → first ≤ 2 * gates → gates < 63 * first + 64 → gates < 2147483648
     → IsTree words first levels
 empty_tree words n first levels gates is n_is first_is few all many = search (rules, length-replicate, empty_words, zeros)
-
--- the gates that wait for nothing, and one gate more
-module _ (waiting : List ℕ) (gate : ℕ) (had : ℕ → Bool)
-    (before : (g : ℕ) → had g ≡ (ltb g gate && eqb (get_or waiting g 0) 0)) where
-  other_gate : (g : ℕ) → g ≢ gate → ltb g gate ≡ ltb g (gate + 1)
-  other_gate g other = grind (arith, other)
-
-  last_gate : (g : ℕ) → g ≡ gate → ltb g gate ≡ false
-  last_gate g same = grind (arith, same)
-
-  within_now : (g : ℕ) → g ≡ gate → ltb g (gate + 1) ≡ true
-  within_now g same = grind (arith, same)
-
-  pub one_more_ready : get_or waiting gate 0 ≡ 0 → (now : ℕ → Bool) → ((g : ℕ) → now g ≡ (eqb g gate || had g))
-      → (g : ℕ) → now g ≡ (ltb g (gate + 1) && eqb (get_or waiting g 0) 0)
-  one_more_ready none now more g = search (rules, within_now, other_gate, eqb_tells)
-
-  pub none_more_ready : get_or waiting gate 0 ≢ 0 → (g : ℕ) → had g ≡ (ltb g (gate + 1) && eqb (get_or waiting g 0) 0)
-  none_more_ready some g = search (rules, last_gate, within_now, ne_eqb, other_gate, eqb_tells)

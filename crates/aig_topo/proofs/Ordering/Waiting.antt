@@ -1,169 +1,383 @@
--- Who waits for whom, by a table of rows: what else a gate needs beside the one that it waits for.
+-- Who waits for whom, where gates are looked at, let wait, released and taken, the least ready one each time.
 use Rattle.std.proofs.Common.{rules}
-use Rattle.std.proofs.Common.{◌≡◌, ◌≢◌, ◌<◌, ◌≤◌, ◌+◌, ◌-◌, ℕ, zero, suc, List, [], ◌∷◌, ◌++◌, eqb, cond, Bool, true}
-use Rattle.std.proofs.Common.{false, length}
-use Rattle.std.proofs.Common.{Option, None, Some, get_or, refl, sym, ap, subst, ◌∙◌, inl, ⊎_elim, arith}
-use mathlib.Core.Bool.{not, ◌||◌, ◌&&◌}
-use Rattle.std.specs.List.{AllByRecursion}
+use Rattle.std.proofs.Common.{◌≡◌, ◌≢◌, ◌<◌, ◌≤◌, ◌+◌, ℕ, suc, List, [], ◌∷◌, ◌++◌, eqb, Bool, length, get_or}
+use Rattle.std.proofs.Common.{true, false, Option, None, Some, refl, sym, ap, subst, ◌∙◌, ◌⊎◌, inl, inr, ⊎_elim, arith}
+use Rattle.std.proofs.Common.{true≢false}
+use mathlib.Core.Bool.{◌||◌, ◌&&◌, not}
 use Rattle.std.proofs.Math.ListN.{set as put}
-use Rattle.aig_topo.specs.declared.least_ready.lists.GateNode.{GateNode}
-use Rattle.aig_topo.specs.declared.least_ready.needs.Needs.{Needs}
-use Rattle.aig_circuit.specs.Wellformed.{IsAmong}
-use Rattle.aig_topo.specs.Placed.{has_gate}
+use Rattle.std.proofs.lemmas.Bool.{cases_lt}
+use Rattle.std.proofs.lemmas.Bool.Decides.{eqb_tells}
+use Rattle.aig_circuit.specs.Wellformed.{IsAmong, AreDistinct}
+use Rattle.aig_topo.specs.declared.lists.GateNode.{GateNode}
+use Rattle.aig_topo.specs.declared.operands.Needs.{Needs}
+use Rattle.aig_topo.specs.Order.{IsReady, TakesLeast, IsFull, left_over}
 use Rattle.aig_topo.specs.Lists.{needs_in, links_in, list_in, AreLists}
-use Rattle.aig_topo.specs.Placing.{linked, needs_at, needs_by, rest_by, no_needs, first_missing, HasAll, Suffices}
-use Rattle.aig_topo.specs.Placing.{RowsWait}
-use Rattle.aig_circuit.proofs.Checking.Fitting.{all_weaker}
-use Rattle.aig_circuit.proofs.Checking.InForm.{among_decides}
+use Rattle.aig_topo.specs.Needs.{linked, needs_at, no_needs}
+use Rattle.aig_topo.specs.Waiting.{needs_by, rest_by, HasAll, Suffices, AreApart, IsServed, WaitsFor, RowsWait}
+use Rattle.aig_topo.proofs.Ordering.Counted.{among_first, in_longer}
 use Rattle.aig_topo.proofs.Ordering.Cyclic.{among_last}
-use Rattle.aig_topo.proofs.Ordering.Placing.{has_it, all_there, among_first, in_longer, in_more, waits_in_list}
-use Rattle.aig_topo.proofs.Ordering.Placing.{waits_no_more, back, was_there, is_taken_out, is_served, is_looked_at}
-use Rattle.aig_topo.proofs.Ordering.Placing.{is_placed, nothing_yet}
+use Rattle.aig_topo.proofs.Ordering.LeastReady.{among_or_not}
+use Rattle.aig_topo.proofs.Ordering.LeftOver.{missing_first, none_left, all_in, still_none}
 use Rattle.aig_topo.proofs.Ordering.Rows.{rest_here, rest_elsewhere, needs_elsewhere}
+use Rattle.aig_topo.proofs.Ordering.TakenLeast.{at_the_end}
 
-link_is : (link : ℕ) → 0 < link → linked link ≡ (link - 1) ∷ []
-link_is zero some = absurd (omega (arith, some))
-link_is (suc position) some = ap (λ p. p ∷ []) (omega arith)
+-- what holds by a list holds by a longer one
+still_served : (seen u n : ℕ) (list more needs : List ℕ) → HasAll list more → IsServed seen u list needs n
+    → IsServed seen u more needs n
+still_served seen u n list more needs has_all s = record {
+  below = s.below;
+  none = still_none list more needs has_all s.none;
+  counted = s.counted;
+}
 
-at_end : (list : List ℕ) (x : ℕ) → IsAmong x (list ++ x ∷ [])
-at_end list x = among_last list (x ∷ []) x (inl refl)
-
-passes : (list : List ℕ) (x : ℕ) (xs : List ℕ) → IsAmong x list
-    → first_missing list (x ∷ xs) ≡ first_missing list xs
-passes list x xs a = ap (λ b. cond (not b) (Some x) (first_missing list xs)) (has_it list x a)
-
--- once the first that is needed is listed, the others are what is left to ask
-pub others_suffice : (list : List ℕ) (link : ℕ) (others : List ℕ) → 0 < link
-    → Suffices (list ++ (link - 1) ∷ []) (linked link ++ others) others
-others_suffice list link others some more has_all =
-    ap (λ xs. first_missing more (xs ++ others)) (link_is link some)
-    ∙ passes more (link - 1) others (has_all (link - 1) (at_end list (link - 1)))
-
--- what is listed
-pub is_listed : (list : List ℕ) (link : ℕ) → has_gate list (link - 1) ≡ true
-    → AllByRecursion (λ h. IsAmong h list) (linked link)
-is_listed list zero is = tt
-is_listed list (suc position) is =
-    ((among_decides position list).0 (subst (λ p. has_gate list p ≡ true) (omega arith) is), tt)
-
-pub both : (P : ℕ → Type 0) (xs ys : List ℕ) → AllByRecursion P xs → AllByRecursion P ys → AllByRecursion P (xs ++ ys)
-both P [] ys first second = second
-both P (x ∷ xs) ys first second = (first.0, both P xs ys first.1 second)
-
--- once the last that is needed is listed too, nothing is
-pub nothing_suffices : (list : List ℕ) (listed : List ℕ) (link : ℕ) → 0 < link
-    → AllByRecursion (λ h. IsAmong h list) listed
-    → Suffices (list ++ (link - 1) ∷ []) (listed ++ linked link) []
-nothing_suffices list listed link some all more has_all =
-    all_there more (listed ++ linked link)
-    (both (λ h. IsAmong h more) listed (linked link)
-    (all_weaker (λ h. IsAmong h list) (λ h. IsAmong h more)
-    (λ h a. has_all h (among_first h list ((link - 1) ∷ []) a)) listed all)
-    (subst (AllByRecursion (λ h. IsAmong h more)) (sym (link_is link some))
-    (has_all (link - 1) (at_end list (link - 1)), tt)))
-
--- a list that is longer by what it has
-pub has_one_more : (list more : List ℕ) (g : ℕ) → IsAmong g more → HasAll list more → HasAll (list ++ g ∷ []) more
-has_one_more list more g there has_all h a =
-    ⊎_elim (λ (b : IsAmong h list). has_all h b) (λ (e : h ≡ g). subst (λ z. IsAmong z more) (sym e) there)
-    (in_longer list g h a)
+still_waits : (m seen u n : ℕ) (list more needs rest : List ℕ) → HasAll list more
+    → WaitsFor m seen u list needs rest n → WaitsFor m seen u more needs rest n
+still_waits m seen u n list more needs rest has_all w = record {
+  below = w.below;
+  enough = λ further has_more. w.enough further (λ h a. has_more h (has_all h a));
+  counted = w.counted;
+}
 
 module _ (needs : ℕ → List ℕ) (list : List ℕ) (rows : List GateNode) where
-  -- a gate is put into the list of the first that it needs and that is not listed
-  module _ (new : List GateNode) (gate m rest first : ℕ) (asked : List ℕ)
-      (missing : first_missing list asked ≡ Some m)
-      (behind : Suffices (list ++ m ∷ []) asked (linked rest))
-      (front : list_in new m ≡ gate ∷ list_in rows m)
+  -- operands are counted of a gate that is taken out of its list
+  pub recounted : (old new : List ℕ) (gate : ℕ) → ((u : ℕ) → u ≢ gate → get_or new u 0 ≡ get_or old u 0)
+      → ((k : ℕ) → ¬ IsAmong gate (list_in rows k)) → (has : ℕ → Bool) (seen : ℕ) (served : Option ℕ)
+      → RowsWait needs rows list old has seen served (Some gate)
+      → RowsWait needs rows list new has seen served (Some gate)
+  recounted old new gate same nowhere has seen served wait =
+      let out = wait.taken_out gate refl in record {
+        listed = λ u a. subst (IsServed seen u list (needs u))
+            (sym (same u (λ e. out.1 (subst (λ z. IsAmong z list) e a)))) (wait.listed u a);
+        ready = λ u h. let w = wait.ready u h in (
+          subst (IsServed seen u list (needs u))
+              (sym (same u (λ e. true≢false (sym h ∙ ap has e ∙ out.2)))) w.0,
+          w.1,
+        );
+        waits = λ m u a. subst (WaitsFor m seen u list (needs u) (rest_by rows u))
+            (sym (same u (λ e. nowhere m (subst (λ z. IsAmong z (list_in rows m)) e a)))) (wait.waits m u a);
+        lacks = wait.lacks;
+        each = wait.each;
+        taken_out = wait.taken_out;
+        unasked = λ u above. let w = wait.unasked u above in
+            (w.0, same u (λ e. omega (arith, e, out.0, above)) ∙ w.1);
+      }
+
+  -- a gate is put into the list of one that it needs
+  module _ (new : List GateNode) (gate m rest first : ℕ) (front : list_in new m ≡ gate ∷ list_in rows m)
       (others : (k : ℕ) → k ≢ m → list_in new k ≡ list_in rows k)
       (now : needs_in new ≡ put (needs_in rows) gate (record { left = first; right = rest }))
-      (nowhere : (k : ℕ) → ¬ IsAmong gate (list_in rows k)) (there : gate < length rows) where
-    pub rows_wait_in_list : (has : ℕ → Bool) (seen : ℕ) (served : Option ℕ) → Suffices list (needs gate) asked
-        → RowsWait needs rows list has seen served (Some gate) → RowsWait needs new list has seen served None
-    rows_wait_in_list has seen served enough wait =
+      (nowhere : (k : ℕ) → ¬ IsAmong gate (list_in rows k)) where
+    in_more : (k u : ℕ) → IsAmong u (list_in new k) → ((u ≡ gate) × (k ≡ m)) ⊎ IsAmong u (list_in rows k)
+    in_more k u a =
+        ⊎_elim (λ (t : (eqb k m ≡ true) × (k ≡ m)).
+        let b : IsAmong u (gate ∷ list_in rows m) =
+        subst (IsAmong u) front (subst (λ z. IsAmong u (list_in new z)) t.1 a) in
+        ⊎_elim (λ (e : u ≡ gate). inl (e, t.1))
+        (λ (i : IsAmong u (list_in rows m)). inr (subst (λ z. IsAmong u (list_in rows z)) (sym t.1) i)) b)
+        (λ (f : (eqb k m ≡ false) × (k ≢ m)). inr (subst (IsAmong u) (others k f.1) a)) (eqb_tells k m)
+
+    to_more : (k u : ℕ) → IsAmong u (list_in rows k) → IsAmong u (list_in new k)
+    to_more k u a =
+        ⊎_elim (λ (t : (eqb k m ≡ true) × (k ≡ m)).
+        let b : IsAmong u (gate ∷ list_in rows m) = inr (subst (λ z. IsAmong u (list_in rows z)) t.1 a) in
+        subst (λ z. IsAmong u (list_in new z)) (sym t.1) (subst (IsAmong u) (sym front) b))
+        (λ (f : (eqb k m ≡ false) × (k ≢ m)). subst (IsAmong u) (sym (others k f.1)) a) (eqb_tells k m)
+
+    pub rows_wait_in_list : gate < length rows → ¬ IsAmong m list → (waiting : List ℕ)
+        → get_or waiting gate 0 ≡ suc (length (linked rest)) → Suffices list (needs gate) (m ∷ linked rest)
+        → (has : ℕ → Bool) (seen : ℕ) (served : Option ℕ)
+        → RowsWait needs rows list waiting has seen served (Some gate)
+        → RowsWait needs new list waiting has seen served None
+    rows_wait_in_list there missing waiting counted enough has seen served wait =
         let n : Needs = record { left = first; right = rest } in
-        let is : first_missing list (needs gate) ≡ Some m = enough list (λ g a. a) ∙ missing in record {
-          waits = waits_in_list needs list (links_in rows) (links_in new) gate m is front others has seen served
-              wait.waits;
-          behind = λ k u a. ⊎_elim
+        let out = wait.taken_out gate refl in
+        let here : WaitsFor m seen gate list (needs gate) (linked rest) (get_or waiting gate 0) =
+        record { below = out.0; enough = enough; counted = counted } in record {
+          listed = wait.listed;
+          ready = wait.ready;
+          waits = λ k u a. ⊎_elim
               (λ (e : (u ≡ gate) × (k ≡ m)).
-              subst (λ z. Suffices (list ++ k ∷ []) (needs z) (rest_by new z)) (sym e.0)
-              (subst (λ z. Suffices (list ++ z ∷ []) (needs gate) (rest_by new gate)) (sym e.1)
-              (λ more has_all.
-              enough more (λ g b. has_all g (among_first g list (m ∷ []) b))
-              ∙ behind more has_all
-              ∙ ap (first_missing more) (sym (rest_here rows new gate n now there)))))
+              subst (λ z. WaitsFor z seen u list (needs u) (rest_by new u) (get_or waiting u 0)) (sym e.1)
+              (subst (λ z. WaitsFor m seen z list (needs z) (rest_by new z) (get_or waiting z 0)) (sym e.0)
+              (subst (λ xs. WaitsFor m seen gate list (needs gate) xs (get_or waiting gate 0))
+              (sym (rest_here rows new gate n now there)) here)))
               (λ (i : IsAmong u (list_in rows k)).
               let other : u ≢ gate = λ e. nowhere k (subst (λ z. IsAmong z (list_in rows k)) e i) in
-              subst (Suffices (list ++ k ∷ []) (needs u)) (sym (rest_elsewhere rows new gate n now u other))
-              (wait.behind k u i))
-              (in_more needs list (links_in rows) (links_in new) gate m is front others k u a);
-          unasked = λ u above.
-              let below : gate < seen = (wait.waits.taken_out gate refl).0 in
-              needs_elsewhere rows new gate n now u (λ e. omega (arith, e, below, above)) ∙ wait.unasked u above;
+              subst (λ xs. WaitsFor k seen u list (needs u) xs (get_or waiting u 0))
+              (sym (rest_elsewhere rows new gate n now u other)) (wait.waits k u i))
+              (in_more k u a);
+          lacks = λ k u s a. ⊎_elim
+              (λ (e : (u ≡ gate) × (k ≡ m)). subst (λ z. ¬ IsAmong z list) (sym e.1) missing)
+              (wait.lacks k u s) (in_more k u a);
+          each = λ u l. ⊎_elim (λ (a : IsAmong u list). inl a)
+              (λ rest. ⊎_elim (λ (h : has u ≡ true). inr (inl h))
+              (λ late. ⊎_elim (λ (w : (k : ℕ) × IsAmong u (list_in rows k)). inr (inr (inl (w.0, to_more w.0 u w.1))))
+              (λ (o : Some gate ≡ Some u). let e : gate ≡ u = cc in
+              inr (inr (inl (m, subst (IsAmong u) (sym front) (inl (sym e)))))) late) rest) (wait.each u l);
+          taken_out = λ u o. cc;
+          unasked = λ u above. let w = wait.unasked u above in
+              (needs_elsewhere rows new gate n now u (λ e. omega (arith, e, out.0, above)) ∙ w.0, w.1);
         }
 
-  -- a gate is put among those that are ready
-  pub rows_wait_no_more : (has now : ℕ → Bool) (gate : ℕ) (asked : List ℕ) → first_missing list asked ≡ None
-      → ((u : ℕ) → now u ≡ (eqb u gate || has u)) → (seen : ℕ) → (served : Option ℕ)
-      → Suffices list (needs gate) asked → RowsWait needs rows list has seen served (Some gate)
-      → RowsWait needs rows list now seen served None
-  rows_wait_no_more has now gate asked missing told seen served enough wait = search (rules, waits_no_more)
+    pub apart_still : AreApart (links_in rows) → AreApart (links_in new)
+    apart_still apart k n u a b =
+        ⊎_elim (λ (e : (u ≡ gate) × (k ≡ m)).
+        ⊎_elim (λ (f : (u ≡ gate) × (n ≡ m)). e.1 ∙ sym f.1)
+        (λ (i : IsAmong u (list_in rows n)). absurd (nowhere n (subst (λ z. IsAmong z (list_in rows n)) e.0 i)))
+        (in_more n u b))
+        (λ (i : IsAmong u (list_in rows k)).
+        ⊎_elim
+        (λ (f : (u ≡ gate) × (n ≡ m)). absurd (nowhere k (subst (λ z. IsAmong z (list_in rows k)) f.0 i)))
+        (λ (j : IsAmong u (list_in rows n)). apart k n u i j) (in_more n u b))
+        (in_more k u a)
 
-  -- the first gate is taken out of the list of one that is listed
+  -- a gate is put among those that are ready
+  pub rows_wait_no_more : (waiting : List ℕ) (has now : ℕ → Bool) (gate : ℕ) → left_over list (needs gate) ≡ 0
+      → get_or waiting gate 0 ≡ 0 → ((u : ℕ) → now u ≡ (eqb u gate || has u)) → (seen : ℕ) (served : Option ℕ)
+      → RowsWait needs rows list waiting has seen served (Some gate)
+      → RowsWait needs rows list waiting now seen served None
+  rows_wait_no_more waiting has now gate none counted told seen served wait =
+      let out = wait.taken_out gate refl in record {
+        listed = wait.listed;
+        ready = λ u h. ⊎_elim
+            (λ (t : (eqb u gate ≡ true) × (u ≡ gate)).
+            subst (λ z. IsServed seen z list (needs z) (get_or waiting z 0) × (¬ IsAmong z list)) (sym t.1)
+            (record { below = out.0; none = none; counted = counted }, out.1))
+            (λ (f : (eqb u gate ≡ false) × (u ≢ gate)).
+            wait.ready u (sym (told u ∙ ap (λ b. b || has u) f.0) ∙ h))
+            (eqb_tells u gate);
+        waits = wait.waits;
+        lacks = wait.lacks;
+        each = search (rules, eqb_tells);
+        taken_out = λ u o. cc;
+        unasked = wait.unasked;
+      }
+
+  -- the first gate is taken out of a list
   module _ (new : List GateNode) (list_at u : ℕ) (lists : AreLists (links_in rows))
       (front : list_in rows list_at ≡ u ∷ list_in new list_at)
-      (others : (k : ℕ) → k ≢ list_at → list_in new k ≡ list_in rows k)
-      (same : needs_in new ≡ needs_in rows) where
-    pub rows_taken_out : (has : ℕ → Bool) (seen : ℕ) (served : Option ℕ)
-        → RowsWait needs rows list has seen served None → RowsWait needs new list has seen served (Some u)
-    rows_taken_out has seen served wait = record {
-      waits = is_taken_out needs list (links_in rows) (links_in new) list_at u lists front others has seen served
-          wait.waits;
-      behind = λ k v a.
-          subst (λ ns. Suffices (list ++ k ∷ []) (needs v) (linked (get_or ns v no_needs).right)) (sym same)
-          (wait.behind k v
-          (back needs list (links_in rows) (links_in new) list_at u lists front others k v a));
-      unasked = λ v above. ap (λ ns. needs_at ns v) same ∙ wait.unasked v above;
-    }
+      (others : (k : ℕ) → k ≢ list_at → list_in new k ≡ list_in rows k) where
+    back : (k v : ℕ) → IsAmong v (list_in new k) → IsAmong v (list_in rows k)
+    back k v a =
+        ⊎_elim (λ (t : (eqb k list_at ≡ true) × (k ≡ list_at)).
+        let b : IsAmong v (u ∷ list_in new list_at) = inr (subst (λ z. IsAmong v (list_in new z)) t.1 a) in
+        subst (λ z. IsAmong v (list_in rows z)) (sym t.1) (subst (IsAmong v) (sym front) b))
+        (λ (f : (eqb k list_at ≡ false) × (k ≢ list_at)). subst (IsAmong v) (others k f.1) a) (eqb_tells k list_at)
 
-    -- it needs nothing but what is behind
-    pub rest_suffices : (has : ℕ → Bool) (seen : ℕ) (served : Option ℕ) → IsAmong list_at list
-        → RowsWait needs rows list has seen served None → Suffices list (needs u) (rest_by rows u)
-    rest_suffices has seen served listed wait more has_all =
-        wait.behind list_at u
-        (was_there needs list (links_in rows) (links_in new) list_at u lists front others)
-        more (has_one_more list more list_at (has_all list_at listed) has_all)
+    pub was_there : IsAmong u (list_in rows list_at)
+    was_there = subst (IsAmong u) (sym front) (inl refl)
+
+    pub gone : AreApart (links_in rows) → (k : ℕ) → ¬ IsAmong u (list_in new k)
+    gone apart k a =
+        let same : k ≡ list_at = apart k list_at u (back k u a) was_there in
+        let once : AreDistinct (u ∷ list_in new list_at) = subst AreDistinct front (lists.once list_at) in
+        once.0 (subst (λ z. IsAmong u (list_in new z)) same a)
+
+    pub apart_too : AreApart (links_in rows) → AreApart (links_in new)
+    apart_too apart k n v a b = apart k n v (back k v a) (back n v b)
+
+    module _ (waiting : List ℕ) (has : ℕ → Bool) (seen : ℕ) (served : Option ℕ)
+        (wait : RowsWait needs rows list waiting has seen served None) where
+      -- it waits for some, so it is neither listed nor ready
+      waited : WaitsFor list_at seen u list (needs u) (rest_by rows u) (get_or waiting u 0)
+      waited = wait.waits list_at u was_there
+
+      idle_not : (b : Bool) → has u ≡ b → b ≡ false
+      idle_not true h = absurd (omega (arith, waited.counted, (wait.ready u h).0.counted))
+      idle_not false h = refl
+
+      pub rows_taken_out : needs_in new ≡ needs_in rows → RowsWait needs new list waiting has seen served (Some u)
+      rows_taken_out same = record {
+        listed = wait.listed;
+        ready = wait.ready;
+        waits = λ k v a.
+            subst (λ (ns : List Needs).
+            WaitsFor k seen v list (needs v) (linked (get_or ns v no_needs).right) (get_or waiting v 0)) (sym same)
+            (wait.waits k v (back k v a));
+        lacks = λ k v s a. wait.lacks k v s (back k v a);
+        each = λ v l. ⊎_elim (λ (a : IsAmong v list). inl a)
+            (λ rest. ⊎_elim (λ (h : has v ≡ true). inr (inl h))
+            (λ late. ⊎_elim (λ (w : (k : ℕ) × IsAmong v (list_in rows k)).
+            ⊎_elim (λ (t : (eqb w.0 list_at ≡ true) × (w.0 ≡ list_at)).
+            let b : IsAmong v (u ∷ list_in new list_at) =
+            subst (IsAmong v) front (subst (λ z. IsAmong v (list_in rows z)) t.1 w.1) in
+            ⊎_elim (λ (e : v ≡ u). inr (inr (inr (ap Some (sym e)))))
+            (λ (i : IsAmong v (list_in new list_at)). inr (inr (inl (list_at, i)))) b)
+            (λ (f : (eqb w.0 list_at ≡ false) × (w.0 ≢ list_at)).
+            inr (inr (inl (w.0, subst (IsAmong v) (sym (others w.0 f.1)) w.1)))) (eqb_tells w.0 list_at))
+            (λ (o : None ≡ Some v). cc) late) rest) (wait.each v l);
+        taken_out = λ v o. let e : u ≡ v = cc in
+            subst (λ z. (z < seen) × (¬ IsAmong z list) × (has z ≡ false)) e (
+              waited.below,
+              λ a. omega (arith, waited.counted, (wait.listed u a).counted),
+              idle_not (has u) refl,
+            );
+        unasked = λ v above. let w = wait.unasked v above in (ap (λ ns. needs_at ns v) same ∙ w.0, w.1);
+      }
 
   -- a gate's list is empty
-  pub rows_served : (has : ℕ → Bool) (seen g : ℕ) → list_in rows g ≡ []
-      → RowsWait needs rows list has seen (Some g) None → RowsWait needs rows list has seen None None
-  rows_served has seen g none wait = record {
-    waits = is_served needs list (links_in rows) has seen g none wait.waits;
-    behind = wait.behind;
+  pub rows_served : (waiting : List ℕ) (has : ℕ → Bool) (seen g : ℕ) → list_in rows g ≡ []
+      → RowsWait needs rows list waiting has seen (Some g) None
+      → RowsWait needs rows list waiting has seen None None
+  rows_served waiting has seen g none wait = record {
+    listed = wait.listed;
+    ready = wait.ready;
+    waits = wait.waits;
+    lacks = λ m u _ a. wait.lacks m u
+        (λ s. let e : g ≡ m = cc in subst (IsAmong u) none (subst (λ z. IsAmong u (list_in rows z)) (sym e) a)) a;
+    each = wait.each;
+    taken_out = wait.taken_out;
     unasked = wait.unasked;
   }
 
-  -- one more gate is looked at
-  pub rows_looked_at : (has : ℕ → Bool) (seen : ℕ) → RowsWait needs rows list has seen None None
-      → RowsWait needs rows list has (seen + 1) None (Some seen)
-  rows_looked_at has seen wait = record {
-    waits = is_looked_at needs list (links_in rows) has seen wait.waits;
-    behind = wait.behind;
-    unasked = λ u above. wait.unasked u (omega (arith, above));
-  }
+  module _ (waiting : List ℕ) (has : ℕ → Bool) (seen : ℕ)
+      (wait : RowsWait needs rows list waiting has seen None None) where
+    -- one more gate is looked at
+    later : (u n : ℕ) (ns : List ℕ) → IsServed seen u list ns n → IsServed (seen + 1) u list ns n
+    later u n ns s = record { below = omega (arith, s.below); none = s.none; counted = s.counted }
 
-  -- the least gate that is ready is listed
-  pub rows_placed : (has : ℕ → Bool) (seen : ℕ) → RowsWait needs rows list has seen None None → (count g : ℕ)
-      → seen ≤ count → has g ≡ true → ((h : ℕ) → has h ≡ true → g ≤ h) → (popped : ℕ → Bool)
-      → ((u : ℕ) → popped u ≡ (not (eqb u g) && has u))
-      → RowsWait needs rows (list ++ g ∷ []) popped seen (Some g) None
-  rows_placed has seen wait count g few ready least popped rest = search (rules, is_placed, has_one_more, at_end, among_first)
+    not_yet : (b : Bool) → has seen ≡ b → b ≡ false
+    not_yet true h = absurd (omega (arith, (wait.ready seen h).0.below))
+    not_yet false h = refl
+
+    pub rows_looked_at : RowsWait needs rows list waiting has (seen + 1) None (Some seen)
+    rows_looked_at = record {
+      listed = λ u a. later u (get_or waiting u 0) (needs u) (wait.listed u a);
+      ready = λ u h. let w = wait.ready u h in (later u (get_or waiting u 0) (needs u) w.0, w.1);
+      waits = λ m u a. let w = wait.waits m u a in
+          record { below = omega (arith, w.below); enough = w.enough; counted = w.counted };
+      lacks = wait.lacks;
+      each = λ u l. ⊎_elim
+          (λ (below : u < seen). ⊎_elim (λ (a : IsAmong u list). inl a)
+          (λ rest. ⊎_elim (λ (h : has u ≡ true). inr (inl h))
+          (λ late. ⊎_elim (λ (w : (k : ℕ) × IsAmong u (list_in rows k)). inr (inr (inl w)))
+          (λ (o : None ≡ Some u). cc) late) rest) (wait.each u below))
+          (λ (above : seen ≤ u). let e : seen ≡ u = omega (arith, above, l) in inr (inr (inr (ap Some e))))
+          (cases_lt u seen);
+      taken_out = λ u o. let e : seen ≡ u = cc in
+          subst (λ z. (z < seen + 1) × (¬ IsAmong z list) × (has z ≡ false)) e (
+            omega arith,
+            λ a. omega (arith, (wait.listed seen a).below),
+            not_yet (has seen) refl,
+          );
+      unasked = λ u above. wait.unasked u (omega (arith, above));
+    }
+
+    -- who waits lacks some
+    some_left : (m u : ℕ) → IsAmong u (list_in rows m)
+        → left_over list (needs u) ≡ suc (left_over list (rest_by rows u))
+    some_left m u a =
+        (wait.waits m u a).enough list (λ g b. b)
+        ∙ missing_first list m (rest_by rows u) (wait.lacks m u (λ e. cc) a)
+
+    -- who was looked at and needs only listed gates is listed or ready
+    is_ready : (u : ℕ) → u < seen → ¬ IsAmong u list → left_over list (needs u) ≡ 0 → has u ≡ true
+    is_ready u l out none =
+        ⊎_elim (λ (a : IsAmong u list). absurd (out a))
+        (λ rest. ⊎_elim (λ (h : has u ≡ true). h)
+        (λ late. ⊎_elim (λ (w : (k : ℕ) × IsAmong u (list_in rows k)).
+        absurd (omega (arith, none, some_left w.0 u w.1)))
+        (λ (o : None ≡ Some u). cc) late) rest) (wait.each u l)
+
+    -- where all were looked at and none is ready, no gate can be added
+    pub nothing_left : (count : ℕ) → count ≤ seen → ((g : ℕ) → has g ≡ false) → IsFull count needs list
+    nothing_left count all none g there served =
+        ⊎_elim (λ (a : IsAmong g list). a)
+        (λ (out : ¬ IsAmong g list).
+        absurd (true≢false
+        (sym (is_ready g (omega (arith, there, all)) out (all_in list (needs g) served)) ∙ none g)))
+        (among_or_not g list)
+
+    -- and a gate waits for what is left over, once the rest of what it needs is counted
+    module _ (none : (g : ℕ) → has g ≡ false) where
+      pub one_and_rest : (u : ℕ) → 0 < get_or waiting u 0 → u < seen
+          → get_or waiting u 0 ≡ suc (length (rest_by rows u))
+      one_and_rest u some there =
+          ⊎_elim (λ (a : IsAmong u list). absurd (omega (arith, some, (wait.listed u a).counted)))
+          (λ rest. ⊎_elim (λ (h : has u ≡ true). absurd (true≢false (sym h ∙ none u)))
+          (λ late. ⊎_elim (λ (w : (k : ℕ) × IsAmong u (list_in rows k)). (wait.waits w.0 u w.1).counted)
+          (λ (o : None ≡ Some u). cc) late) rest) (wait.each u there)
+
+      pub left_is_counted : (u n : ℕ) → u < seen → (get_or waiting u 0 ≡ 0 → n ≡ 0)
+          → (0 < get_or waiting u 0 → n ≡ suc (left_over list (rest_by rows u))) → n ≡ left_over list (needs u)
+      left_is_counted u n there idle counted =
+          ⊎_elim (λ (a : IsAmong u list). let s = wait.listed u a in idle s.counted ∙ sym s.none)
+          (λ rest. ⊎_elim (λ (h : has u ≡ true). absurd (true≢false (sym h ∙ none u)))
+          (λ late. ⊎_elim (λ (w : (k : ℕ) × IsAmong u (list_in rows k)).
+          counted (omega (arith, (wait.waits w.0 u w.1).counted)) ∙ sym (some_left w.0 u w.1))
+          (λ (o : None ≡ Some u). cc) late) rest) (wait.each u there)
+
+    -- the least that is ready comes next
+    module _ (count g : ℕ) (few : seen ≤ count) (ready : has g ≡ true) (least : (h : ℕ) → has h ≡ true → g ≤ h) where
+      pub goes_on_in_turn : TakesLeast count needs [] list → TakesLeast count needs [] (list ++ g ∷ [])
+      goes_on_in_turn in_turn =
+          let w = wait.ready g ready in
+          at_the_end count needs [] list list g (λ h a. ⊎_elim (λ (n : ⊥). absurd n) (λ (b : IsAmong h list). b) a)
+          (λ h a. inr a) in_turn
+          (record {
+            there = omega (arith, w.0.below, few);
+            left = w.1;
+            served = none_left list (needs g) w.0.none;
+          })
+          (λ h (r : IsReady count needs list h). ⊎_elim
+          (λ (below : h < seen). least h (is_ready h below r.left (all_in list (needs h) r.served)))
+          (λ (above : seen ≤ h). omega (arith, above, w.0.below)) (cases_lt h seen))
+
+      longer : HasAll list (list ++ g ∷ [])
+      longer h a = among_first h list (g ∷ []) a
+
+      -- and then the others in its list are served
+      pub rows_taken : (popped : ℕ → Bool) → ((u : ℕ) → popped u ≡ (not (eqb u g) && has u))
+          → RowsWait needs rows (list ++ g ∷ []) waiting popped seen (Some g) None
+      rows_taken popped rest =
+          let w = wait.ready g ready in
+          let more : List ℕ = list ++ g ∷ [] in record {
+            listed = λ u a. ⊎_elim
+                (λ (b : IsAmong u list).
+                still_served seen u (get_or waiting u 0) list more (needs u) longer (wait.listed u b))
+                (λ (e : u ≡ g). subst (λ z. IsServed seen z more (needs z) (get_or waiting z 0)) (sym e)
+                (still_served seen g (get_or waiting g 0) list more (needs g) longer w.0)) (in_longer list g u a);
+            ready = λ u p. ⊎_elim
+                (λ (t : (eqb u g ≡ true) × (u ≡ g)).
+                let off : popped u ≡ false = rest u ∙ ap (λ b. not b && has u) t.0 in
+                absurd (true≢false (sym p ∙ off)))
+                (λ (f : (eqb u g ≡ false) × (u ≢ g)).
+                let on : popped u ≡ has u = rest u ∙ ap (λ b. not b && has u) f.0 in
+                let v = wait.ready u (sym on ∙ p) in (
+                  still_served seen u (get_or waiting u 0) list more (needs u) longer v.0,
+                  λ a. ⊎_elim v.1 f.1 (in_longer list g u a),
+                ))
+                (eqb_tells u g);
+            waits = λ k u a.
+                still_waits k seen u (get_or waiting u 0) list more (needs u) (rest_by rows u) longer (wait.waits k u a);
+            lacks = λ k u s a b. ⊎_elim (wait.lacks k u (λ e. cc) a) (λ (e : k ≡ g). s (ap Some (sym e)))
+                (in_longer list g k b);
+            each = λ u l. ⊎_elim (λ (a : IsAmong u list). inl (among_first u list (g ∷ []) a))
+                (λ others. ⊎_elim (λ (h : has u ≡ true).
+                ⊎_elim
+                (λ (t : (eqb u g ≡ true) × (u ≡ g)). inl (among_last list (g ∷ []) u (inl t.1)))
+                (λ (f : (eqb u g ≡ false) × (u ≢ g)).
+                let on : popped u ≡ has u = rest u ∙ ap (λ b. not b && has u) f.0 in inr (inl (on ∙ h)))
+                (eqb_tells u g))
+                (λ late. ⊎_elim (λ (i : (k : ℕ) × IsAmong u (list_in rows k)). inr (inr (inl i)))
+                (λ (o : None ≡ Some u). cc) late) others) (wait.each u l);
+            taken_out = λ u o. cc;
+            unasked = wait.unasked;
+          }
 
 -- at first no gate was looked at
-pub rows_at_first : (rows : List GateNode) (has : ℕ → Bool) → ((k : ℕ) → list_in rows k ≡ [])
-    → ((g : ℕ) → has g ≡ false) → RowsWait (needs_by rows) rows [] has 0 None None
-rows_at_first rows has empty none = record {
-  waits = nothing_yet (needs_by rows) (links_in rows) has empty none;
-  behind = λ k u a. absurd (subst (IsAmong u) (empty k) a);
-  unasked = λ u _. refl;
+pub rows_at_first : (rows : List GateNode) (waiting : List ℕ) (has : ℕ → Bool) → ((k : ℕ) → list_in rows k ≡ [])
+    → ((g : ℕ) → has g ≡ false) → ((u : ℕ) → get_or waiting u 0 ≡ length (needs_by rows u))
+    → RowsWait (needs_by rows) rows [] waiting has 0 None None
+rows_at_first rows waiting has empty none counts = record {
+  listed = λ u a. absurd a;
+  ready = λ u h. absurd (true≢false (sym h ∙ none u));
+  waits = λ m u a. absurd (subst (IsAmong u) (empty m) a);
+  lacks = λ m u _ a. absurd (subst (IsAmong u) (empty m) a);
+  each = λ u l. absurd (omega (arith, l));
+  taken_out = λ u o. cc;
+  unasked = λ u _. (refl, counts u);
 }
+
+pub all_apart : (rows : List GateNode) → ((k : ℕ) → list_in rows k ≡ []) → AreApart (links_in rows)
+all_apart rows empty m n u a b = absurd (subst (IsAmong u) (empty m) a)

@@ -1,131 +1,164 @@
-use Rattle.std.proofs.Common.{◌≡◌, ◌≤◌, ◌<◌, ◌-◌, ◌∙◌, ◌+◌, ◌++◌, ◌∷◌, [], ap, sym, subst, List, ℕ, length, map, get_or}
-use Rattle.std.proofs.Common.{eqb, ltb, ap₂, arith}
-use mathlib.Core.Bool.{◌||◌, ◌&&◌}
-use Rattle.std.proofs.lemmas.List.{length-append}
-use Rattle.aig_circuit.specs.Wellformed.{IsAmong}
-use Rattle.std.specs.List.{count_by, sum}
+use Rattle.std.proofs.Common.{rules}
+use Rattle.std.proofs.Common.{◌≡◌, ◌≤◌, ◌<◌, ◌+◌, ◌*◌, ◌∙◌, [], ap, sym, subst, List, ℕ, length, map, None, arith}
+use Rattle.std.specs.List.{sum}
 use Rattle.aig_circuit.specs.declared.circuit.Gate.{Gate}
-use Rattle.aig_topo.specs.Order.{gates_under, gate_operands}
-use Rattle.aig_topo.specs.Operands.{operands_of}
-use Rattle.aig_topo.specs.Users.{uses}
-use Rattle.aig_topo.specs.Progress.{Progress}
-use Rattle.aig_topo.specs.Ready.{has}
-use Rattle.aig_topo.proofs.Ordering.TakenLeast.{Stands, no_longer, is_ready, is_full, goes_on}
-use Rattle.aig_topo.proofs.Ordering.Steps.{same_operands, over_gates, begins, enough, steps_are, few_steps}
+use Rattle.aig_circuit.specs.declared.circuit.Circuit.{Circuit}
+use Rattle.aig_topo.specs.declared.lists.GateNode.{GateNode}
+use Rattle.aig_topo.specs.Order.{gate_operands, left_over, TakesLeast, IsFull, IsLeastReadyOrder}
+use Rattle.aig_topo.specs.Lists.{needs_in}
+use Rattle.aig_topo.specs.Needs.{needs_of, how_many}
+use Rattle.aig_topo.specs.Progress.{Progress, due, CountsDown}
+use Rattle.aig_topo.specs.Ready.{Tree, has}
+use Rattle.aig_topo.specs.Waiting.{needs_by, RowsWait}
+use Rattle.aig_topo.proofs.Ordering.Counted.{sum_few}
+use Rattle.aig_topo.proofs.Ordering.Needs.{as_long, same_needs, are_there, in_turn_too, full_too, counts_are}
+use Rattle.aig_topo.proofs.Ordering.Needs.{as_many_counts, at_most_two, each_count}
+use Rattle.aig_topo.proofs.Ordering.Rows.{as_many_needs}
+use Rattle.aig_topo.proofs.Ordering.Steps.{total, steps_are}
+use Rattle.aig_topo.proofs.Ordering.TakenLeast.{no_longer, has_each}
+use Rattle.aig_topo.proofs.Ordering.Waiting.{all_apart, rows_at_first, nothing_left, one_and_rest, left_is_counted}
 use Rattle.aig_topo.proofs.least_ready.gate_order.Goals as goal
 
-pub new-requires-clause-gates : goal.new-requires-clause-gates
-new-requires-clause-gates c =
-    over_gates c.args.circuit.now.gates c.as_slice.result.now (c.as_slice.ensures.value ∙ c.in_ok-operands.ensures)
+pub waiting_for-requires-clause-at_most_two : goal.waiting_for-requires-clause-at_most_two
+waiting_for-requires-clause-at_most_two c = search (rules, at_most_two)
 
-pub loop-gate-init : goal.loop-gate-init
-loop-gate-init c =
+pub look_at_all-requires : goal.look_at_all-requires
+look_at_all-requires c =
     let gates : List Gate = c.args.circuit.now.gates in
-    let total : ℕ = sum (map (λ (g : Gate). length (gates_under gates g)) gates) in
-    let ops_are : c.as_slice-2.result.now ≡ map (operands_of gates) gates = c.as_slice-2.ensures.value
-    ∙ c.in_ok-operands.ensures in
-    record {
-      stands = subst (λ (p : Progress). Stands (length gates) (gate_operands gates) p.list c.in_ok-order.order.waiting
-          (has c.in_ok-ready.ready) p.steps total) (sym c.in_ok-order.ensures)
-          (begins gates c.as_slice-2.result.now ops_are c.in_ok-order.order.waiting (has c.in_ok-ready.ready)
-          c.len.result c.len.ensures (ap (λ (p : Progress). p.waiting) c.in_ok-order.ensures)
-          c.in_ok-ready.ensures.ready);
-      room = omega (arith, c.in_ok-ready.ensures.room, c.len.ensures);
-    }
-
-pub take-requires-clause-left : goal.take-requires-clause-left
-take-requires-clause-left c =
-    (is_ready _ _ _ _ _ _ _ c.loop-gate.invariant.stands c.in-Some.gate c.in-Some.ensures.first).0.left
-
-pub release_users-requires-clause-waiting : goal.release_users-requires-clause-waiting
-release_users-requires-clause-waiting c = λ u.
-    let gates : List Gate = c.args.circuit.now.gates in
-    let gate : ℕ = c.in-Some.gate in
-    let ops_are : c.as_slice.result.now ≡ map (operands_of gates) gates = c.as_slice.ensures.value
-    ∙ c.in_ok-operands.ensures in
-    let used : uses c.in_ok-users.users.heads.items c.in_ok-users.users.links.items gate u
-    ≡ count_by (λ h. eqb h gate) (gate_operands gates u) =
-    c.in_ok-users.ensures.uses gate u
-    ∙ ap (count_by (λ h. eqb h gate)) (same_operands gates c.as_slice.result.now ops_are u) in
-    let left : ¬ IsAmong gate c.loop-gate.order.list =
-    (is_ready _ _ _ _ _ _ _ c.loop-gate.invariant.stands gate c.in-Some.ensures.first).0.left in
-    omega (
-      arith,
-      used,
-      enough gates c.loop-gate.order.list c.loop-gate.order.waiting (has c.loop-gate.ready)
-          c.loop-gate.order.steps _ gate c.loop-gate.invariant.stands left u,
-      ap (λ (p : Progress). get_or p.waiting u 0)
-          c.take.ensures,
+    let rows : List GateNode = c.in_ok-lists.lists.rows.items in
+    let counts : List ℕ = c.in_ok-counts.field-0.items in
+    let ready : Tree = c.in_ok-ready.ready in
+    let made = c.in_ok-lists.ensures in
+    let is : c.in_ok-order.order ≡ record { list = []; waiting = counts; steps = 0 } = c.in_ok-order.ensures in
+    let many : length rows ≡ length gates = sym (as_many_needs rows) ∙ as_long gates (needs_in rows) made.needs in (
+      record {
+        few = omega (arith, many, c.requires);
+        there = are_there gates (needs_in rows) made.needs;
+        counted = ap (λ (p : Progress). length p.waiting) is
+            ∙ as_many_counts gates rows counts made.needs c.in_ok-counts.ensures
+            ∙ sym many;
+        ready = omega (arith, c.in_ok-ready.ensures.room, c.len.ensures);
+        lists = made.lists;
+        apart = all_apart rows made.empty;
+      },
+      (
+        subst (λ (p : Progress). TakesLeast (length rows) (needs_by rows) [] p.list) (sym is) tt,
+        (
+          c.in_ok-ready.ensures.empty,
+          subst (λ (p : Progress). RowsWait (needs_by rows) rows p.list p.waiting (has ready) 0 None None) (sym is)
+              (rows_at_first rows counts (has ready) made.empty c.in_ok-ready.ensures.empty
+              (each_count gates rows counts made.needs c.in_ok-counts.ensures)),
+        ),
+      ),
     )
 
-pub loop-gate-preserved : goal.loop-gate-preserved
-loop-gate-preserved c =
-    let gates : List Gate = c.args.circuit.now.gates in
-    let gate : ℕ = c.in-Some.gate in
-    let order : Progress = c.loop-gate.order in
-    let total : ℕ = sum (map (λ (g : Gate). length (gates_under gates g)) gates) in
-    let ops_are : c.as_slice.result.now ≡ map (operands_of gates) gates = c.as_slice.ensures.value
-    ∙ c.in_ok-operands.ensures in
-    let same : c.take.new.self.waiting ≡ order.waiting = ap (λ (p : Progress). p.waiting) c.take.ensures in
-    let list : c.release_users.new.order.list ≡ order.list ++ gate ∷ [] =
-    c.release_users.ensures.list
-    ∙ ap (λ (p : Progress). p.list) c.take.ensures in
-    let steps : c.take.new.self.steps ≡ order.steps + 1 = ap (λ (p : Progress). p.steps) c.take.ensures in
-    record {
-      stands = subst (λ l. Stands (length gates) (gate_operands gates) l c.release_users.new.order.waiting
-          (has c.release_users.new.ready) c.release_users.new.order.steps total) (sym list) (
-          goes_on (length gates) (gate_operands gates) order.list order.waiting (has c.loop-gate.ready) order.steps
-          total c.loop-gate.invariant.stands gate c.in-Some.ensures.first c.in-Some.ensures.least
-          (has c.pop_first.new.self)
-          c.in-Some.ensures.rest c.release_users.new.order.waiting (has c.release_users.new.ready)
-          (uses c.in_ok-users.users.heads.items c.in_ok-users.users.links.items gate)
-          (λ u. c.in_ok-users.ensures.uses gate u
-          ∙ ap (count_by (λ h. eqb h gate)) (same_operands gates c.as_slice.result.now ops_are u))
-          (λ u. c.release_users.ensures.waiting u ∙ ap (λ w. get_or w u 0) same)
-          (λ u. c.release_users.ensures.ready u
-          ∙ ap (λ w. has c.pop_first.new.self u ||
-          (ltb 0 (get_or w u 0) && eqb (get_or c.release_users.new.order.waiting u 0) 0)) same)
-          c.release_users.new.order.steps (c.release_users.ensures.steps ∙ ap₂ (λ n w. n + sum w) steps same)
-          (c.release_users.ensures.as_many ∙ ap length same)
-          );
-      room = omega (arith, c.release_users.ensures.room, c.in-Some.ensures.room, c.loop-gate.invariant.room);
-    }
+pub count_rests-requires-clause-counted : goal.count_rests-requires-clause-counted
+count_rests-requires-clause-counted c = λ u there some.
+    let order : Progress = c.look_at_all.new.order in
+    one_and_rest (needs_by c.in_ok-lists.lists.rows.items) order.list c.look_at_all.new.lists.rows.items order.waiting
+    (has c.look_at_all.new.ready) (length c.look_at_all.new.lists.rows.items) c.look_at_all.ensures.waits
+    c.look_at_all.ensures.none u some there
 
-pub loop-gate-smaller : goal.loop-gate-smaller
-loop-gate-smaller c =
-    let gates : List Gate = c.args.circuit.now.gates in
-    let list : c.release_users.new.order.list ≡ c.loop-gate.order.list ++ c.in-Some.gate ∷ [] =
-    c.release_users.ensures.list
-    ∙ ap (λ (p : Progress). p.list) c.take.ensures in
-    let one_longer : length c.release_users.new.order.list ≡ length c.loop-gate.order.list + 1 = ap length list
-    ∙ length-append c.loop-gate.order.list (c.in-Some.gate ∷ []) in
-    let fits : length c.release_users.new.order.list ≤ length gates =
-    no_longer (length gates) (gate_operands gates) c.release_users.new.order.list
-    (loop-gate-preserved c).stands.in_turn in
-    let less : length gates - length c.release_users.new.order.list < length gates - length c.loop-gate.order.list =
-    omega (arith, one_longer, fits) in
-    less
+pub count_rests-requires-clause-full : goal.count_rests-requires-clause-full
+count_rests-requires-clause-full c = λ full u there.
+    let all = c.look_at_all.ensures in
+    (all.waits.listed u (has_each (length c.look_at_all.new.lists.rows.items) (needs_by c.in_ok-lists.lists.rows.items)
+    c.look_at_all.new.order.list
+    (subst (λ n. TakesLeast n (needs_by c.in_ok-lists.lists.rows.items) [] c.look_at_all.new.order.list) (sym all.size)
+    all.in_turn) full u there)).counted
 
 pub returns-clause-least : goal.returns-clause-least
 returns-clause-least c =
-    record {
-      in_turn = c.loop-gate.invariant.stands.in_turn;
-      full =
-          is_full _ _ _ _ _ _ _ c.loop-gate.invariant.stands c.in_default.ensures.none;
-    }
+    let gates : List Gate = c.args.circuit.now.gates in
+    let rows : List GateNode = c.in_ok-lists.lists.rows.items in
+    let new : List GateNode = c.look_at_all.new.lists.rows.items in
+    let order : Progress = c.look_at_all.new.order in
+    let many : length rows ≡ length gates =
+    sym (as_many_needs rows) ∙ as_long gates (needs_in rows) c.in_ok-lists.ensures.needs in
+    let same : (u : ℕ) → needs_by rows u ≡ gate_operands gates u =
+    same_needs gates (needs_in rows) c.in_ok-lists.ensures.needs in
+    subst (IsLeastReadyOrder c.args.circuit.now) (sym c.count_rests.ensures.down.list) (record {
+      in_turn = subst (λ n. TakesLeast n (gate_operands gates) [] order.list) many
+          (in_turn_too (length rows) (needs_by rows) (gate_operands gates) same [] order.list
+          c.look_at_all.ensures.in_turn);
+      full = subst (λ n. IsFull n (gate_operands gates) order.list) many
+          (full_too (length rows) (needs_by rows) (gate_operands gates) same order.list
+          (nothing_left (needs_by rows) order.list new order.waiting (has c.look_at_all.new.ready) (length new)
+          c.look_at_all.ensures.waits (length rows) (omega (arith, c.look_at_all.ensures.size))
+          c.look_at_all.ensures.none));
+    })
+
+pub returns-clause-waiting : goal.returns-clause-waiting
+returns-clause-waiting c = λ gate below.
+    let gates : List Gate = c.args.circuit.now.gates in
+    let rows : List GateNode = c.in_ok-lists.lists.rows.items in
+    let new : List GateNode = c.look_at_all.new.lists.rows.items in
+    let order : Progress = c.look_at_all.new.order in
+    let there : gate < length new =
+    omega (
+      arith,
+      below,
+      c.look_at_all.ensures.size,
+      as_many_needs rows,
+      as_long gates (needs_in rows) c.in_ok-lists.ensures.needs,
+    ) in
+    left_is_counted (needs_by rows) order.list new order.waiting (has c.look_at_all.new.ready) (length new)
+    c.look_at_all.ensures.waits c.look_at_all.ensures.none gate _ there (c.count_rests.ensures.idle gate)
+    (c.count_rests.ensures.counted gate there)
+    ∙ ap (left_over order.list) (same_needs gates (needs_in rows) c.in_ok-lists.ensures.needs gate)
+    ∙ ap (λ l. left_over l (gate_operands gates gate)) (sym c.count_rests.ensures.down.list)
+
+-- the steps that were made, and those for what gates still wait for
+module _ (c : Circuit) (rows : List GateNode) (counts : List ℕ) (order begun last : Progress)
+    (needs_are : needs_in rows ≡ map (needs_of c.gates) c.gates) (are : counts ≡ map how_many (needs_in rows))
+    (begins : begun ≡ record { list = []; waiting = counts; steps = 0 })
+    (goes_on : due order + length begun.list ≡ due begun + length order.list) (down : CountsDown order last) where
+  pub paid : due last ≡ length last.list + total c.gates
+  paid =
+      omega (
+        arith,
+        down.paid,
+        ap length down.list,
+        goes_on,
+        ap (λ (p : Progress). length p.list) begins,
+        ap (λ (p : Progress). p.steps) begins,
+        ap (λ (p : Progress). sum p.waiting) begins,
+        ap sum (counts_are c.gates rows counts needs_are are),
+      )
+
+  pub few : IsLeastReadyOrder c last.list → last.steps ≤ 3 * length c.gates
+  few least =
+      omega (
+        arith,
+        paid,
+        no_longer (length c.gates) (gate_operands c.gates) last.list least.in_turn,
+        sum_few counts (at_most_two c.gates rows counts needs_are are),
+        ap sum (counts_are c.gates rows counts needs_are are),
+        as_many_counts c.gates rows counts needs_are are,
+      )
+
+pub returns-clause-as_many : goal.returns-clause-as_many
+returns-clause-as_many c =
+    let rows : List GateNode = c.in_ok-lists.lists.rows.items in
+    omega (
+      arith,
+      c.count_rests.ensures.down.as_many,
+      c.look_at_all.ensures.room.counted,
+      c.look_at_all.ensures.size,
+      as_many_needs rows,
+      as_long c.args.circuit.now.gates (needs_in rows) c.in_ok-lists.ensures.needs,
+    )
 
 pub returns-clause-steps : goal.returns-clause-steps
 returns-clause-steps c =
-    steps_are c.args.circuit.now c.loop-gate.order.list c.loop-gate.order.waiting (has c.loop-gate.ready)
-    c.loop-gate.order.steps c.loop-gate.invariant.stands
-
-pub returns-clause-as_many : goal.returns-clause-as_many
-returns-clause-as_many c = c.loop-gate.invariant.stands.as_many
-
-pub returns-clause-waiting : goal.returns-clause-waiting
-returns-clause-waiting c = c.loop-gate.invariant.stands.waits
+    steps_are c.args.circuit.now c.count_rests.new.order.list c.count_rests.new.order.waiting
+    c.count_rests.new.order.steps (returns-clause-as_many c) (returns-clause-waiting c)
+    (paid c.args.circuit.now c.in_ok-lists.lists.rows.items c.in_ok-counts.field-0.items c.look_at_all.new.order
+    c.in_ok-order.order c.count_rests.new.order c.in_ok-lists.ensures.needs c.in_ok-counts.ensures
+    c.in_ok-order.ensures c.look_at_all.ensures.paid c.count_rests.ensures.down)
 
 pub returns-clause-few : goal.returns-clause-few
 returns-clause-few c =
-    few_steps c.args.circuit.now.gates c.loop-gate.order.list c.loop-gate.order.waiting (has c.loop-gate.ready)
-    c.loop-gate.order.steps c.loop-gate.invariant.stands
+    few c.args.circuit.now c.in_ok-lists.lists.rows.items c.in_ok-counts.field-0.items c.look_at_all.new.order
+    c.in_ok-order.order c.count_rests.new.order c.in_ok-lists.ensures.needs c.in_ok-counts.ensures
+    c.in_ok-order.ensures c.look_at_all.ensures.paid c.count_rests.ensures.down (returns-clause-least c)

@@ -13,7 +13,7 @@ pub own_literal-requires : goal.own_literal-requires
 own_literal-requires c =
     let gates : List Gate = c.args.circuit.now.gates in
     let there : c.in-Some.gate < length gates =
-    omega (arith, c.in-Some.ensures.there, c.in_ok-order.ensures.room) in
+    omega (arith, c.in-Some.ensures.there, c.in_ok-order.ensures.as_many) in
     let read : c.index-as_slice-gate.result ≡ at gates c.in-Some.gate = c.index-as_slice-gate.is
     ∙ ap (λ gs. get_or gs c.in-Some.gate c.index-as_slice-gate.result) c.as_slice.ensures
     ∙ get_or_default gates c.in-Some.gate c.index-as_slice-gate.result no_gate there in
@@ -23,7 +23,7 @@ pub returns-in-Some : goal.returns-in-Some
 returns-in-Some c =
     let gates : List Gate = c.args.circuit.now.gates in
     let there : c.in-Some.gate < length gates =
-    omega (arith, c.in-Some.ensures.there, c.in_ok-order.ensures.room) in
+    omega (arith, c.in-Some.ensures.there, c.in_ok-order.ensures.as_many) in
     let read : c.index-as_slice-gate.result ≡ at gates c.in-Some.gate = c.index-as_slice-gate.is
     ∙ ap (λ gs. get_or gs c.in-Some.gate c.index-as_slice-gate.result) c.as_slice.ensures
     ∙ get_or_default gates c.in-Some.gate c.index-as_slice-gate.result no_gate there in
@@ -38,7 +38,7 @@ pub returns-in-None : goal.returns-in-None
 returns-in-None c = record {
   ok = none_cyclic c.args.circuit.now.gates c.in_ok-order.order.list c.in_ok-order.ensures.least.full
       c.in_ok-order.ensures.least.in_turn
-      (λ i there. c.in-None.ensures.none i (omega (arith, there, c.in_ok-order.ensures.room)));
+      (λ i there. c.in-None.ensures.none i (omega (arith, there, c.in_ok-order.ensures.as_many)));
   least = c.in_ok-order.ensures.least;
   err = tt;
 }

@@ -1,12 +1,18 @@
 use Rattle.std.proofs.Common.{rules}
-use Rattle.std.proofs.Common.{map, length, ℕ, List}
-use Rattle.std.proofs.lemmas.Simd.{map-map}
-use Rattle.aig_topo.specs.declared.operands.Operands.{Operands}
-use Rattle.aig_topo.specs.Operands.{over}
+use Rattle.std.proofs.Common.{[], ap, ◌∙◌}
+use Rattle.aig_topo.specs.Progress.{Progress}
+use Rattle.aig_topo.proofs.Ordering.Needs.{counts_are, as_many_counts, at_most_two}
 use Rattle.aig_topo.proofs.order.Order.new.Goals as goal
 
-abbrev counts : List Operands → List ℕ
-counts = map (λ (o : Operands). length (over o))
+pub waiting_for-requires-clause-few : goal.waiting_for-requires-clause-few
+waiting_for-requires-clause-few c = search (rules, as_many_counts)
+
+pub waiting_for-requires-clause-at_most_two : goal.waiting_for-requires-clause-at_most_two
+waiting_for-requires-clause-at_most_two c = search (rules, at_most_two)
 
 pub returns : goal.returns
-returns c = search (rules, map-map)
+returns c =
+    c.in_ok-waiting_for.ensures
+    ∙ ap {B = Progress} (λ ws. record { list = []; waiting = ws; steps = 0 })
+    (counts_are c.args.circuit.now.gates c.in_ok-lists.lists.rows.items c.in_ok-counts.field-0.items
+    c.in_ok-lists.ensures.needs c.in_ok-counts.ensures)

@@ -1,42 +1,73 @@
-use Rattle.std.proofs.Common.{◌<◌, ◌∙◌, ◌+◌, ◌++◌, ◌∷◌, [], ap, length, take, sym, subst, arith}
-use Rattle.std.proofs.lemmas.List.{take_more_set}
+use Rattle.std.proofs.Common.{◌≡◌, ◌<◌, ◌∙◌, ◌+◌, ◌++◌, ◌∷◌, [], ap, ap₂, length, map, take, sym, subst, arith, get_or, List, ℕ}
+use Rattle.std.proofs.Math.ListN.{set as put}
+use Rattle.std.proofs.lemmas.List.{length-map}
 use Rattle.aig_circuit.specs.Wellformed.{IsAmong}
-use Rattle.aig_topo.specs.Progress.{Progress}
-use Rattle.aig_topo.proofs.Ordering.Counted.{room_left, takes}
+use Rattle.aig_topo.specs.Progress.{Progress, waiting_in, IsCounted}
+use Rattle.aig_topo.proofs.Ordering.Counted.{room_left, takes, one_more, waits_as_before}
 use Rattle.aig_topo.proofs.order.Order.take.Goals as goal
+
+-- what is asked of a gate, by what is kept
+module _ (positions states : List ℕ) (taken counted gate : ℕ) (p : Progress)
+    (is : record { list = take taken positions; waiting = map waiting_in states; steps = taken + counted } ≡ p)
+    (there : gate < length p.waiting) (left : ¬ IsAmong gate p.list) (ready : get_or p.waiting gate 0 ≡ 0)
+    (kept : IsCounted positions taken states counted) where
+  pub below : gate < length states
+  below = omega (arith, there, ap (λ (q : Progress). length q.waiting) is, length-map states waiting_in)
+
+  new : ¬ IsAmong gate (take taken positions)
+  new = subst (λ (q : Progress). ¬ IsAmong gate q.list) (sym is) left
+
+  idle : get_or (map waiting_in states) gate 0 ≡ 0
+  idle = ap (λ (q : Progress). get_or q.waiting gate 0) is ∙ ready
+
+  pub room : taken < length positions
+  room = room_left positions taken states counted gate kept below new
+
+  pub kept_still : IsCounted (put positions taken gate) (taken + 1) (put states gate 3) counted
+  kept_still = takes positions taken states counted gate kept below new idle
+
+  pub view_then : record {
+    list = take (taken + 1) (put positions taken gate);
+    waiting = map waiting_in (put states gate 3);
+    steps = taken + 1 + counted;
+  } ≡ record p { list = p.list ++ gate ∷ []; steps = p.steps + 1 }
+  view_then =
+      ap₂ (λ l w. record { list = l; waiting = w; steps = taken + 1 + counted })
+      (one_more positions taken states counted gate kept below new idle)
+      (waits_as_before positions taken states counted gate kept below new idle)
+      ∙ ap (λ n. record {
+        list = take taken positions ++ gate ∷ [];
+        waiting = map waiting_in states;
+        steps = n;
+      }) (omega arith)
+      ∙ ap (λ (q : Progress). record q { list = q.list ++ gate ∷ []; steps = q.steps + 1 }) is
 
 pub index_mut-requires : goal.index_mut-requires
 index_mut-requires c =
-    let there : c.args.gate < length c.self.inside.waiting.items =
-    subst (λ (p : Progress). c.args.gate < length p.waiting) (sym c.self.view_is) c.requires.there in
-    let new : ¬ IsAmong c.args.gate (take c.self.inside.taken c.self.inside.positions.items) =
-    subst (λ (p : Progress). ¬ IsAmong c.args.gate p.list) (sym c.self.view_is) c.requires.left in
     omega (
       arith,
-      room_left c.self.inside.positions.items c.self.inside.taken c.self.inside.waiting.items
-          c.self.inside.steps c.args.gate c.self.invariant there new,
+      room c.self.inside.positions.items c.self.inside.states.items c.self.inside.taken c.self.inside.counted
+          c.args.gate c.args.self.now c.self.view_is c.requires.there c.requires.left c.requires.ready
+          c.self.invariant,
       c.self.inside.positions.ok.0,
+    )
+
+pub index_mut-requires-2 : goal.index_mut-requires-2
+index_mut-requires-2 c =
+    omega (
+      arith,
+      below c.self.inside.positions.items c.self.inside.states.items c.self.inside.taken c.self.inside.counted
+          c.args.gate c.args.self.now c.self.view_is c.requires.there c.requires.left c.requires.ready
+          c.self.invariant,
+      c.self.inside.states.ok.0,
     )
 
 pub invariant_of-self : goal.invariant_of-self
 invariant_of-self c =
-    let there : c.args.gate < length c.self.inside.waiting.items =
-    subst (λ (p : Progress). c.args.gate < length p.waiting) (sym c.self.view_is) c.requires.there in
-    let new : ¬ IsAmong c.args.gate (take c.self.inside.taken c.self.inside.positions.items) =
-    subst (λ (p : Progress). ¬ IsAmong c.args.gate p.list) (sym c.self.view_is) c.requires.left in
-    takes c.self.inside.positions.items c.self.inside.taken c.self.inside.waiting.items c.self.inside.steps c.args.gate
-    c.self.invariant there new
+    kept_still c.self.inside.positions.items c.self.inside.states.items c.self.inside.taken c.self.inside.counted
+    c.args.gate c.args.self.now c.self.view_is c.requires.there c.requires.left c.requires.ready c.self.invariant
 
 pub returns : goal.returns
 returns c =
-    let there : c.args.gate < length c.self.inside.waiting.items =
-    subst (λ (p : Progress). c.args.gate < length p.waiting) (sym c.self.view_is) c.requires.there in
-    let new : ¬ IsAmong c.args.gate (take c.self.inside.taken c.self.inside.positions.items) =
-    subst (λ (p : Progress). ¬ IsAmong c.args.gate p.list) (sym c.self.view_is) c.requires.left in
-    let left : c.self.inside.taken < length c.self.inside.positions.items =
-    room_left c.self.inside.positions.items c.self.inside.taken c.self.inside.waiting.items c.self.inside.steps
-    c.args.gate c.self.invariant there new in
-    ap (λ list. record { list = list; waiting = c.self.inside.waiting.items; steps = c.self.inside.steps + 1 })
-    (take_more_set c.self.inside.positions.items c.self.inside.taken c.args.gate left)
-    ∙ ap (λ (p : Progress). record { list = p.list ++ c.args.gate ∷ []; waiting = p.waiting; steps = p.steps + 1 })
-    c.self.view_is
+    view_then c.self.inside.positions.items c.self.inside.states.items c.self.inside.taken c.self.inside.counted
+    c.args.gate c.args.self.now c.self.view_is c.requires.there c.requires.left c.requires.ready c.self.invariant

@@ -1,7 +1,0 @@
-use Rattle.std.proofs.Common.{◌≡◌, map, take}
-use Rattle.aig_topo.specs.Placing.{needs_of}
-use Rattle.aig_topo.proofs.Ordering.Rows.{row_of}
-use Rattle.aig_topo.proofs.least_ready.lists.Lists.new.Given as goal
-
-abbrev pub invariant-loop-gate : goal.invariant-loop-gate
-invariant-loop-gate l = l.rows.items ≡ map (λ g. row_of (needs_of l.gates g)) (take l.gate-index l.gates)

@@ -1,0 +1,50 @@
+use Rattle.std.proofs.Common.{◌≡◌, ◌≤◌, ◌∙◌, ℕ, List, take, ap, sym, arith, length, map}
+use Rattle.std.specs.FinMap.{get}
+use Rattle.std.proofs.lemmas.List.{take_all}
+use Rattle.std.proofs.lemmas.Simd.{map-map}
+use Rattle.aig_circuit.specs.declared.circuit.Gate.{Gate}
+use Rattle.aig_topo.specs.declared.lists.GateNode.{GateNode}
+use Rattle.aig_topo.specs.Lists.{needs_in, links_in, first_of}
+use Rattle.aig_topo.specs.Needs.{needs_of}
+use Rattle.aig_topo.proofs.Ordering.Lists.{all_empty, empty_lists}
+use Rattle.aig_topo.proofs.Ordering.Needs.{few_places}
+use Rattle.aig_topo.proofs.Ordering.Rows.{row_of, needs_of_rows, first_of_rows}
+use Rattle.aig_topo.proofs.lists.Lists.new.Goals as goal
+
+-- what the rows of all gates say, once the first so many are all of them
+module _ (gates : List Gate) (n : ℕ) (rows : List GateNode)
+    (are : rows ≡ map (λ g. row_of (needs_of gates g)) (take n gates)) (enough : length gates ≤ n)
+  where
+    all_rows : rows ≡ map row_of (map (needs_of gates) gates)
+    all_rows =
+        are ∙ ap (map (λ g. row_of (needs_of gates g))) (take_all n gates enough)
+        ∙ sym (map-map row_of (needs_of gates) gates)
+
+    same_needs : needs_in rows ≡ map (needs_of gates) gates
+    same_needs = ap needs_in all_rows ∙ needs_of_rows (map (needs_of gates) gates)
+
+    no_first : (k : ℕ) → first_of (links_in rows) k ≡ 0
+    no_first k =
+        ap (λ more. first_of (links_in more) k) all_rows ∙ first_of_rows (map (needs_of gates) gates) k
+
+pub look_up-needs-requires : goal.look_up-needs-requires
+look_up-needs-requires c =
+    few_places c.args.circuit.now.gates (get c.in_ok-index.index) c.in_ok-index.ensures (omega (arith, c.requires))
+
+pub returns-clause-needs : goal.returns-clause-needs
+returns-clause-needs c =
+    same_needs c.as_slice-gates.result.now c.loop-gate.gate-index c.loop-gate.rows.items c.loop-gate.invariant
+    (omega (arith, c.loop-gate-test.false))
+    ∙ ap (λ gates. map (needs_of gates) gates) c.as_slice-gates.ensures
+
+pub returns-clause-lists : goal.returns-clause-lists
+returns-clause-lists c =
+    empty_lists (links_in c.loop-gate.rows.items)
+    (no_first c.as_slice-gates.result.now c.loop-gate.gate-index c.loop-gate.rows.items c.loop-gate.invariant
+    (omega (arith, c.loop-gate-test.false)))
+
+pub returns-clause-empty : goal.returns-clause-empty
+returns-clause-empty c =
+    all_empty (links_in c.loop-gate.rows.items)
+    (no_first c.as_slice-gates.result.now c.loop-gate.gate-index c.loop-gate.rows.items c.loop-gate.invariant
+    (omega (arith, c.loop-gate-test.false)))

@@ -1,0 +1,160 @@
+//! What is still to be asked of each gate, and a list of gates for each gate, in one table.
+ghost use Rattle.std.specs.Prelude.{◌≡◌, ◌≢◌, ◌<◌, ◌≤◌, ℕ, List, [], ◌∷◌, length, map, slice_set, IfOk};
+ghost use Rattle.std.specs.Option.{IfSome, IfNone};
+ghost use Rattle.aig_circuit.specs.Wellformed.{IsAmong};
+ghost use Rattle.aig_topo.specs.Needs.{linked, needs_of, how_many, under};
+ghost use Rattle.aig_topo.specs.Lists.{needs_in, links_in, first_of, list_in, AreLists};
+ghost use Rattle.aig_topo.specs.Waiting.{needs_by, rest_by};
+
+use crate::operands::{Needs, gate_index, look_up};
+use aig_circuit::{Circuit, LARGEST};
+use std::alloc::{AllocError, Global};
+
+/// All that is asked of a gate where it is entered or released. It stands together, since gates are released in any
+/// order: what stands apart comes from memory apart. What a gate needs is asked for in full once, where it is looked
+/// at; from then on the node has what is left to ask, and the link of the list in which the gate waits takes the other
+/// place. So a node has 12 bytes, and more of them are in the cache. Each number is one more than a position, or 0 for
+/// none.
+#[derive(Clone, Copy)]
+struct GateNode {
+    /// What the left operand needs; once the gate waits, the gate behind it in its list.
+    next: u32,
+    /// What the right operand needs; once the gate waits, what it needs beside the gate that it waits for.
+    rest: u32,
+    /// The first of the gate's own list.
+    first: u32,
+}
+
+/// What is still to be asked of each gate, and a list of gates for each gate. A gate is in one list at most, so one
+/// table has them all.
+#[derive(Drop)]
+pub(crate) struct Lists {
+    rows: Vec<GateNode>,
+}
+
+impl Lists {
+    /// What the gates of a circuit need, and empty lists of them.
+    pub(crate) fn new(alloc: Global, circuit: &Circuit) -> Result<Self, AllocError>
+        requires { length circuit.now.gates ≤ LARGEST }
+        ensures needs { IfOk result (λ lists.
+            needs_in lists.rows.items ≡ map (needs_of circuit.now.gates) circuit.now.gates) }
+        ensures lists { IfOk result (λ lists. AreLists (links_in lists.rows.items)) }
+        ensures empty { IfOk result (λ lists. (g : ℕ) → list_in lists.rows.items g ≡ []) }
+    {
+        let gates = circuit.gates.as_slice();
+        let index = gate_index(alloc, circuit)?;
+        let mut rows = Vec::with_capacity(alloc, gates.len())?;
+        for gate in gates {
+            let needs = look_up(&index, gate);
+            rows.push(GateNode {
+                next: needs.left,
+                rest: needs.right,
+                first: 0,
+            })?;
+        }
+        Ok(Lists { rows })
+    }
+
+    /// How many gates each gate needs, 0 to 2, as long as none was looked at.
+    pub(crate) fn counts(&self, alloc: Global) -> Result<Vec<u8>, AllocError>
+        ensures { IfOk result (λ counts. counts.items ≡ map how_many (needs_in self.now.rows.items)) }
+    {
+        let rows = self.rows.as_slice();
+        let mut counts = vec![in alloc; 0; rows.len()]?;
+        for at in 0..rows.len() {
+            let row = rows[at];
+            let needs = Needs {
+                left: row.next,
+                right: row.rest,
+            };
+            counts[at] = needs.count();
+        }
+        Ok(counts)
+    }
+
+    /// How many gates there are.
+    pub(crate) fn len(&self) -> usize
+        ensures { result ≡ length self.now.rows.items }
+    {
+        self.rows.len()
+    }
+
+    /// What a gate needs that was not looked at.
+    #[inline(always)]
+    pub(crate) fn needs(&self, gate: u32) -> Needs
+        requires { gate < length self.now.rows.items }
+        ensures { under result ≡ needs_by self.now.rows.items gate }
+    {
+        let row = self.rows[gate as usize];
+        Needs {
+            left: row.next,
+            right: row.rest,
+        }
+    }
+
+    /// What a gate that waits needs beside the gate that it waits for.
+    pub(crate) fn rest(&self, gate: u32) -> u32
+        requires { gate < length self.now.rows.items }
+        ensures { linked result ≡ rest_by self.now.rows.items gate }
+    {
+        self.rows[gate as usize].rest
+    }
+
+    /// What the first gate of a list needs beside the gate that it waits for; nothing, where the list is empty.
+    #[inline(always)]
+    pub(crate) fn first_rest(&self, list: u32) -> u32
+        requires there { list < length self.now.rows.items }
+        requires lists { AreLists (links_in self.now.rows.items) }
+        ensures { (u : ℕ) → (us : List ℕ) → list_in self.now.rows.items list ≡ u ∷ us
+            → linked result ≡ rest_by self.now.rows.items u }
+    {
+        let first = self.rows[list as usize].first;
+        if first == 0 {
+            return 0;
+        }
+        self.rows[first as usize - 1].rest
+    }
+
+    /// Puts a gate, which needs this beside, at the front of another's list.
+    #[inline(always)]
+    pub(crate) fn push(&mut self, list: u32, gate: u32, rest: u32)
+        requires few { length self.old.rows.items ≤ LARGEST }
+        requires lists { AreLists (links_in self.old.rows.items) }
+        requires list { list < length self.old.rows.items }
+        requires gate { gate < length self.old.rows.items }
+        requires nowhere { (g : ℕ) → ¬ IsAmong gate (list_in self.old.rows.items g) }
+        ensures lists { AreLists (links_in self.new.rows.items) }
+        ensures needs { needs_in self.new.rows.items ≡ slice_set (needs_in self.old.rows.items) gate
+            (record { left = first_of (links_in self.old.rows.items) list; right = rest }) }
+        ensures pushed { list_in self.new.rows.items list ≡ gate ∷ list_in self.old.rows.items list }
+        ensures others { (g : ℕ) → g ≢ list → list_in self.new.rows.items g ≡ list_in self.old.rows.items g }
+    {
+        let first = self.rows[list as usize].first;
+        let row = &mut self.rows[gate as usize];
+        row.next = first;
+        row.rest = rest;
+        self.rows[list as usize].first = gate + 1;
+    }
+
+    /// Takes the gate at the front out of a list.
+    #[inline(always)]
+    pub(crate) fn pop(&mut self, list: u32) -> Option<u32>
+        requires lists { AreLists (links_in self.old.rows.items) }
+        requires list { list < length self.old.rows.items }
+        ensures lists { AreLists (links_in self.new.rows.items) }
+        ensures needs { needs_in self.new.rows.items ≡ needs_in self.old.rows.items }
+        ensures none { IfNone result (list_in self.old.rows.items list ≡ []) }
+        ensures same { IfNone result (self.new.rows.items ≡ self.old.rows.items) }
+        ensures first { IfSome result (λ gate.
+            list_in self.old.rows.items list ≡ gate ∷ list_in self.new.rows.items list) }
+        ensures others { (g : ℕ) → g ≢ list → list_in self.new.rows.items g ≡ list_in self.old.rows.items g }
+    {
+        let first = self.rows[list as usize].first;
+        if first == 0 {
+            return None;
+        }
+        let gate = first - 1;
+        self.rows[list as usize].first = self.rows[gate as usize].next;
+        Some(gate)
+    }
+}
