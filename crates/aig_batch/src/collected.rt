@@ -72,43 +72,6 @@ fn collect_into<R: Source>(
     }
 }
 
-/// Reads all bytes of a stimulus into a list, and judges each line as it comes.
-fn collect_into<R: Source>(
-    checked: &Checked,
-    source: &mut R,
-    bytes: &mut Vec<u8>,
-) -> Result<(), SimFault>
-    requires source { R.failed source.old < 2 ^ 64 - 1 }
-    requires none { bytes.old.items ≡ [] }
-    ensures ok { OnOk result (AllGood checked.now (R.coming source.old) (R.coming source.new) bytes.new.items) }
-    ensures err { IfErr result (λ e. NotAllGood checked.now e (R.coming source.old) (R.coming source.new)) }
-    ensures ok_count { OnOk result (R.failed source.new ≡ R.failed source.old) }
-    ensures count { IfErr result (λ e. R.failed source.new ≡ R.failed source.old + source_failures e) }
-{
-    let mut judge = Judge {
-        inputs: checked.circuit().inputs.len(),
-        begun: 0,
-        number: 1,
-    };
-    let mut block = [0u8; ROOM];
-    loop {
-        let Ok(count) = source.fetch(&mut block) else {
-            return Err(SimFault::ReadFailed);
-        };
-        if count == 0 {
-            if !judge.judge_last(bytes) {
-                return Err(SimFault::BadStimulus(judge.number));
-            }
-            return Ok(());
-        }
-        let from = bytes.len();
-        bytes.extend_from_slice(&block[..count])?;
-        if !judge.judge_ended(bytes, from) {
-            return Err(SimFault::BadStimulus(judge.number));
-        }
-    }
-}
-
 /// Reads all bytes of a stimulus, and judges each line as it comes: after a bad one nothing more is fetched.
 pub(crate) fn collect<R: Source>(
     alloc: Global,
