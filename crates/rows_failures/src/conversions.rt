@@ -2,7 +2,6 @@
 use aig_core::{LARGEST, MemorySink, MemorySource};
 use aig_tools::{ToAig, run_toaig};
 use std::alloc::Global;
-use std::test::Fail;
 
 /// A conversion to binary that leaves symbols and comment out.
 const STRIP: ToAig = ToAig {
@@ -22,15 +21,14 @@ const NAMED: &[u8] =
 const STRIPPED: &str = "aig 5 2 0 2 3\n10\n6\n\u{2}\u{2}\u{3}\u{2}\u{1}\u{2}";
 
 /// Whether the conversion succeeds, and writes what it should.
-fn converts(alloc: Global) -> Result<bool, Fail> {
-    let mut sink = MemorySink::new(alloc, 100, 7, 0)?;
-    let mut source = MemorySource::new(Vec::from_slice(alloc, NAMED)?, 7, 0);
+fn converts(alloc: Global) -> Option<bool> {
+    let mut source = MemorySource::new(Vec::from_slice(alloc, NAMED).ok()?, 7, 0);
+    let mut sink = MemorySink::new(alloc, 100, 7, 0).ok()?;
     let converted = run_toaig(alloc, &STRIP, &mut source, &mut sink).is_ok();
-    Ok(converted && sink.taken() == STRIPPED.as_bytes())
+    Some(converted && sink.taken() == STRIPPED.as_bytes())
 }
 
 #[test]
-fn names_are_left_out(rt: HostRuntime) -> Result<(), Fail> {
-    assert!(rt; converts(rt.alloc())?);
-    Ok(())
+fn names_are_left_out(rt: HostRuntime) {
+    assert!(rt; converts(rt.alloc()) == Some(true));
 }

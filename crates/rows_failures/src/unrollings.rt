@@ -2,7 +2,6 @@
 use aig_core::{LARGEST, MemorySink, MemorySource};
 use aig_tools::{Unroll, run_unroll};
 use std::alloc::Global;
-use std::test::Fail;
 
 /// An unrolling over three frames, in ASCII.
 const THREE_FRAMES: Unroll = Unroll {
@@ -18,15 +17,14 @@ const LATCH: &[u8] = b"aag 3 1 1 1 1\n2\n4 6 1\n4\n6 4 2\n";
 const UNROLLED: &str = "aag 6 3 0 3 3\n2\n4\n6\n1\n8\n10\n8 2 1\n10 8 4\n12 10 6\n";
 
 /// Whether the unrolling succeeds, and writes what it should.
-fn unrolls(alloc: Global) -> Result<bool, Fail> {
-    let mut sink = MemorySink::new(alloc, 100, 7, 0)?;
-    let mut source = MemorySource::new(Vec::from_slice(alloc, LATCH)?, 7, 0);
+fn unrolls(alloc: Global) -> Option<bool> {
+    let mut source = MemorySource::new(Vec::from_slice(alloc, LATCH).ok()?, 7, 0);
+    let mut sink = MemorySink::new(alloc, 100, 7, 0).ok()?;
     let unrolled = run_unroll(alloc, &THREE_FRAMES, &mut source, &mut sink).is_ok();
-    Ok(unrolled && sink.taken() == UNROLLED.as_bytes())
+    Some(unrolled && sink.taken() == UNROLLED.as_bytes())
 }
 
 #[test]
-fn latches_go_on(rt: HostRuntime) -> Result<(), Fail> {
-    assert!(rt; unrolls(rt.alloc())?);
-    Ok(())
+fn latches_go_on(rt: HostRuntime) {
+    assert!(rt; unrolls(rt.alloc()) == Some(true));
 }

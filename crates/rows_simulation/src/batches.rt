@@ -13,25 +13,24 @@ use std::test::Fail;
 const REGISTER: &str = "aag 2 1 1 1 0\n2\n4 2\n4\n";
 
 /// A run of so many steps.
-fn run_of(alloc: Global, steps: usize) -> Result<Run, Fail> {
+fn run_of(alloc: Global, steps: usize) -> Option<Run> {
     let mut run = Run {
         steps: Listing::new(alloc),
     };
     for _ in 0..steps {
-        let mut vector = Listing::new(alloc);
-        vector.push(Val::One)?;
-        run.steps.push(vector)?;
+        let vector = Vec::from_slice(alloc, &[Val::One]).ok()?;
+        run.steps.push(Listing::from_vec(vector)).ok()?;
     }
-    Ok(run)
+    Some(run)
 }
 
 /// So many runs, of 0 to 40 steps.
-fn runs_of(alloc: Global, count: usize) -> Result<Vec<Run>, Fail> {
+fn runs_of(alloc: Global, count: usize) -> Option<Vec<Run>> {
     let mut runs = Vec::new(alloc);
     for n in 0..count {
-        runs.push(run_of(alloc, n % 41)?)?;
+        runs.push(run_of(alloc, n % 41)?).ok()?;
     }
-    Ok(runs)
+    Some(runs)
 }
 
 /// Whether each run fits the circuit.
@@ -42,23 +41,21 @@ fn all_fit(circuit: &Checked, runs: &[Run]) -> bool
 }
 
 /// Whether so many runs are simulated.
-fn are_simulated(alloc: Global, circuit: &Checked, count: usize) -> Result<bool, Fail> {
-    let runs = runs_of(alloc, count)?;
-    Ok(all_fit(circuit, &runs) && simulate_batch(alloc, circuit, &runs).is_ok())
+fn are_simulated(alloc: Global, circuit: &Checked, count: usize) -> bool {
+    match runs_of(alloc, count) {
+        Some(runs) => all_fit(circuit, &runs) && simulate_batch(alloc, circuit, &runs).is_ok(),
+        None => false,
+    }
 }
 
 /// The first of these counts of runs that is not simulated, if there is one.
-fn first_refused(
-    alloc: Global,
-    circuit: &Checked,
-    counts: &[usize],
-) -> Result<Option<usize>, Fail> {
+fn first_refused(alloc: Global, circuit: &Checked, counts: &[usize]) -> Option<usize> {
     for count in counts {
-        if !are_simulated(alloc, circuit, *count)? {
-            return Ok(Some(*count));
+        if !are_simulated(alloc, circuit, *count) {
+            return Some(*count);
         }
     }
-    Ok(None)
+    None
 }
 
 #[test]
@@ -66,7 +63,6 @@ fn batches(rt: HostRuntime) -> Result<(), Fail> {
     let circuit = read_ascii(rt.alloc(), REGISTER.as_bytes(), Limits::default())?;
     let refused = first_refused(rt.alloc(), &circuit, &[0, 1, 255, 256, 257, 600]);
     drop(circuit);
-    let refused = refused?;
     assert!(rt; refused.is_none(), "{} runs", refused.unwrap_or(0));
     Ok(())
 }

@@ -1,5 +1,5 @@
 //! Witness files, and what they come to.
-ghost use Rattle.std.specs.Prelude.{◌≡◌, IfOk};
+ghost use Rattle.std.specs.Prelude.{◌≡◌, IfSome};
 
 use aig_core::{Checked, MemorySource};
 use aig_sim::{SimFault, Verdict, confirm};
@@ -68,65 +68,63 @@ fn bytes_of(alloc: Global, text: &str) -> Result<Vec<u8>, AllocError> {
 }
 
 /// What comes of a witness file, in words.
-fn words(alloc: Global, outcome: &Result<Verdict, SimFault>) -> Result<String, Fail> {
-    Ok(match outcome {
-        Ok(Verdict::Confirmed(at)) => format!(in alloc; "confirmed {at}")?,
-        Ok(Verdict::NotConfirmed) => format!(in alloc; "not confirmed")?,
-        Err(fault) => format!(in alloc; "{fault}")?,
-    })
+fn words(alloc: Global, outcome: &Result<Verdict, SimFault>) -> Result<String, AllocError> {
+    match outcome {
+        Ok(Verdict::Confirmed(at)) => format!(in alloc; "confirmed {at}"),
+        Ok(Verdict::NotConfirmed) => format!(in alloc; "not confirmed"),
+        Err(fault) => format!(in alloc; "{fault}"),
+    }
 }
 
 /// A source that gives a witness file in pieces of three bytes, and fails at this call.
-fn source_of(alloc: Global, witness: &str, fails_at: u64) -> Result<MemorySource, Fail>
-    ensures { IfOk result (λ source. source.failures ≡ 0) }
+fn source_of(alloc: Global, witness: &str, fails_at: u64) -> Option<MemorySource>
+    ensures { IfSome result (λ source. source.failures ≡ 0) }
 {
-    let bytes = bytes_of(alloc, witness)?;
+    let bytes = bytes_of(alloc, witness).ok()?;
     if bytes.len() > 1000 {
-        return Err("the witness file of a row is short".into());
+        return None;
     }
-    Ok(MemorySource::new(bytes, 3, fails_at))
+    Some(MemorySource::new(bytes, 3, fails_at))
 }
 
 /// What comes of a witness file.
-fn outcome_of(alloc: Global, circuit: &Checked, witness: &str) -> Result<String, Fail> {
+fn outcome_of(alloc: Global, circuit: &Checked, witness: &str) -> Option<String> {
     let mut source = source_of(alloc, witness, 0)?;
-    words(alloc, &confirm(alloc, circuit, &mut source))
+    words(alloc, &confirm(alloc, circuit, &mut source)).ok()
+}
+
+/// Whether this comes of a witness file.
+fn comes_to(alloc: Global, circuit: &Checked, witness: &str, wanted: &str) -> bool {
+    match outcome_of(alloc, circuit, witness) {
+        Some(outcome) => outcome.as_str() == wanted,
+        None => false,
+    }
 }
 
 /// The fault that a source which fails at this call comes to, if it comes to one.
-fn fault_of(
-    alloc: Global,
-    circuit: &Checked,
-    witness: &str,
-    fails_at: u64,
-) -> Result<Option<SimFault>, Fail> {
+fn fault_of(alloc: Global, circuit: &Checked, witness: &str, fails_at: u64) -> Option<SimFault> {
     let mut source = source_of(alloc, witness, fails_at)?;
-    Ok(confirm(alloc, circuit, &mut source).err())
+    confirm(alloc, circuit, &mut source).err()
 }
 
 /// The first row whose witness file does not come to what it says, if there is one.
-fn first_wrong_row<'t>(
-    alloc: Global,
-    circuit: &Checked,
-    rows: &'t str,
-) -> Result<Option<&'t str>, Fail> {
+fn first_wrong_row<'t>(alloc: Global, circuit: &Checked, rows: &'t str) -> Option<&'t str> {
     for row in rows.lines() {
-        let (witness, wanted) = row.split_once('=').ok_or("a row has an outcome")?;
-        if outcome_of(alloc, circuit, witness)?.as_str() != wanted {
-            return Ok(Some(row));
+        let (witness, wanted) = row.split_once('=').unwrap_or((row, ""));
+        if !comes_to(alloc, circuit, witness, wanted) {
+            return Some(row);
         }
     }
-    Ok(None)
+    None
 }
 
 #[test]
 fn witnesses(rt: HostRuntime) -> Result<(), Fail> {
     for table in WITNESSES.split('#') {
-        let (text, rows) = table.split_once('=').ok_or("a table has rows")?;
+        let (text, rows) = table.split_once('=').unwrap_or((table, "no rows"));
         let circuit = read_ascii(rt.alloc(), text.as_bytes(), Limits::default())?;
         let wrong = first_wrong_row(rt.alloc(), &circuit, rows);
         drop(circuit);
-        let wrong = wrong?;
         assert!(rt; wrong.is_none(), "{text}: {}", wrong.unwrap_or(""));
     }
     Ok(())
@@ -136,8 +134,8 @@ fn witnesses(rt: HostRuntime) -> Result<(), Fail> {
 fn a_source_that_fails(rt: HostRuntime) -> Result<(), Fail> {
     let text = b"aag 1 0 1 0 0 1\n2 3\n2\n";
     let circuit = read_ascii(rt.alloc(), text, Limits::default())?;
-    let outcome = fault_of(rt.alloc(), &circuit, "1/b0/0///./", 3);
+    let fault = fault_of(rt.alloc(), &circuit, "1/b0/0///./", 3);
     drop(circuit);
-    assert!(rt; outcome? == Some(SimFault::ReadFailed));
+    assert!(rt; fault == Some(SimFault::ReadFailed));
     Ok(())
 }
