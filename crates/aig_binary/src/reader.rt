@@ -170,11 +170,23 @@ fn read_circuit(alloc: Global, bytes: &[u8], limits: Limits) -> Result<Circuit, 
     let promised = header(BINARY_WORD, &mut at, limits)?;
     let header = filled(promised)?;
     let mut circuit = empty_circuit(alloc, header.max_var);
-    read_sections(alloc, &header, &mut circuit, &mut at)?;
+    if let Err(fault) = read_sections(alloc, &header, &mut circuit, &mut at) {
+        drop(circuit);
+        return Err(fault);
+    }
     let first = 1 + header.inputs + header.latches;
-    let (gates, rest) = read_gates(alloc, first, header.gates, at.rest)?;
+    let (gates, rest) = match read_gates(alloc, first, header.gates, at.rest) {
+        Ok(found) => found,
+        Err(fault) => {
+            drop(circuit);
+            return Err(fault);
+        }
+    };
     // The inputs that a header promises take memory only where all that is due of lines and gates was there.
-    define(alloc, &header, gates, &mut circuit)?;
+    if let Err(fault) = define(alloc, &header, gates, &mut circuit) {
+        drop(circuit);
+        return Err(fault);
+    }
     tail(alloc, &header, circuit, Cursor::at_line(at.number, rest))
 }
 

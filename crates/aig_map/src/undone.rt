@@ -21,7 +21,10 @@ ghost use Rattle.aig_map.specs.Undone.{places_recorded, source_variables};
 use crate::fault::MapFault;
 use crate::map_block::{MapBlock, MappedGate};
 use crate::recorded::Recorded;
-use aig_core::{Circuit, Gate, Listing, Lit, OutOfMemory, Var, copy_justice, copy_symbols};
+use aig_core::{
+    Circuit, Gate, Justice, Latch, Listing, Lit, OutOfMemory, Symbols, Var, copy_justice,
+    copy_symbols,
+};
 use aig_image::{Labels, NamesVariables, relabel};
 use std::alloc::Global;
 
@@ -243,6 +246,47 @@ fn copy_literals(alloc: Global, image: &Circuit) -> Result<Literals, OutOfMemory
     })
 }
 
+/// The inputs and the latches of the image, in memory of their own. What is there is dropped by name where memory is
+/// refused, since a proof goes through all that goes out of scope by itself.
+fn copy_defined(
+    alloc: Global,
+    image: &Circuit,
+) -> Result<(Listing<Var>, Listing<Latch>), OutOfMemory>
+    ensures inputs { IfOk result (λ made. made.0 ≡ image.now.inputs) }
+    ensures latches { IfOk result (λ made. made.1 ≡ image.now.latches) }
+{
+    let inputs = image.inputs.copy(alloc)?;
+    let Ok(latches) = image.latches.copy(alloc) else {
+        drop(inputs);
+        return Err(OutOfMemory);
+    };
+    Ok((inputs, latches))
+}
+
+/// The justice properties and the symbols of the image, and the comment that is recorded, in memory of their own.
+fn copy_rest(
+    alloc: Global,
+    has_comment: bool,
+    comment: &[u8],
+    image: &Circuit,
+) -> Result<(Justice, Symbols, Option<Listing<u8>>), OutOfMemory>
+    ensures justice { IfOk result (λ made. made.0 ≡ image.now.justice) }
+    ensures symbols { IfOk result (λ made. made.1 ≡ image.now.symbols) }
+    ensures comment { IfOk result (λ made. made.2 ≡ (if has_comment then Some comment.now else None)) }
+{
+    let justice = copy_justice(alloc, &image.justice)?;
+    let Ok(symbols) = copy_symbols(alloc, &image.symbols) else {
+        drop(justice);
+        return Err(OutOfMemory);
+    };
+    let Ok(comment) = source_comment(alloc, has_comment, comment) else {
+        drop(justice);
+        drop(symbols);
+        return Err(OutOfMemory);
+    };
+    Ok((justice, symbols, comment))
+}
+
 /// The circuit by the numbers of the image and without gates, with what a block records of the rest.
 fn without_gates(
     alloc: Global,
@@ -254,11 +298,17 @@ fn without_gates(
         (if recorded.now.has_comment then Some comment.now else None) image.now) }
 {
     let literals = copy_literals(alloc, image)?;
-    let inputs = image.inputs.copy(alloc)?;
-    let latches = image.latches.copy(alloc)?;
-    let justice = copy_justice(alloc, &image.justice)?;
-    let symbols = copy_symbols(alloc, &image.symbols)?;
-    let comment = source_comment(alloc, recorded.has_comment, comment)?;
+    let Ok(defined) = copy_defined(alloc, image) else {
+        drop(literals);
+        return Err(OutOfMemory);
+    };
+    let Ok(rest) = copy_rest(alloc, recorded.has_comment, comment, image) else {
+        drop(literals);
+        drop(defined);
+        return Err(OutOfMemory);
+    };
+    let (inputs, latches) = defined;
+    let (justice, symbols, comment) = rest;
     Ok(Circuit {
         max_var: recorded.max_var,
         inputs,

@@ -46,7 +46,10 @@ fn with_map_alone(alloc: Global, circuit: Circuit) -> Result<Ordered, OutOfMemor
     requires numbered { IsNumberedInOrder circuit }
     ensures { IfOk result (λ o. IsMappedImage circuit o) }
 {
-    let comment = map_comment(alloc, &SameVariables, &circuit)?;
+    let Ok(comment) = map_comment(alloc, &SameVariables, &circuit) else {
+        drop(circuit);
+        return Err(OutOfMemory);
+    };
     let gates = sort_operands(circuit.gates);
     let sorted = with_comment(Circuit { gates, ..circuit }, comment);
     Ok(Ordered::from_well_ordered(sorted))
@@ -91,7 +94,10 @@ fn image_in_order(
     ensures { IfOk result (λ o. IsMappedImage circuit o) }
 {
     let new = by_numbers(renumbering, circuit);
-    let comment = new_map_comment(alloc, variables, &new)?;
+    let Ok(comment) = new_map_comment(alloc, variables, &new) else {
+        drop(new);
+        return Err(OutOfMemory);
+    };
     Ok(Ordered::from_well_ordered(sorted_with(new, comment)))
 }
 
@@ -106,8 +112,14 @@ fn image_by_kept_order(
     requires in_order { renumbering.taken ≡ None }
     ensures { IfOk result (λ o. IsMappedImage circuit o) }
 {
-    let variables = keep_variables(alloc, &circuit)?;
-    image_in_order(alloc, &variables, renumbering, circuit)
+    let Ok(variables) = keep_variables(alloc, &circuit) else {
+        drop(renumbering);
+        drop(circuit);
+        return Err(OutOfMemory);
+    };
+    let image = image_in_order(alloc, &variables, renumbering, circuit);
+    drop(variables);
+    image
 }
 
 /// The mapped image of a circuit whose gates need not stand in order.
@@ -120,7 +132,11 @@ fn image_by_order(
     requires of_it { IsRenumberingOf circuit renumbering }
     ensures { IfOk result (λ o. IsMappedImage circuit o) }
 {
-    let comment = map_comment(alloc, renumbering.numbers(), &circuit)?;
+    let Ok(comment) = map_comment(alloc, renumbering.numbers(), &circuit) else {
+        drop(renumbering);
+        drop(circuit);
+        return Err(OutOfMemory);
+    };
     Ok(renumbering.image(with_comment(circuit, comment)))
 }
 
@@ -149,7 +165,10 @@ fn into_mapped_image(alloc: Global, checked: Checked) -> Result<Ordered, OutOfMe
     if is_numbered_in_order(&checked) {
         return with_map_alone(alloc, checked.into_circuit());
     }
-    let renumbering = Renumbering::new(alloc, &checked)?;
+    let Ok(renumbering) = Renumbering::new(alloc, &checked) else {
+        drop(checked);
+        return Err(OutOfMemory);
+    };
     renumbered_with_map(alloc, renumbering, checked.into_circuit())
 }
 

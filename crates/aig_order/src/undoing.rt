@@ -29,8 +29,14 @@ fn check_source(alloc: Global, source: Circuit) -> Result<Checked, MapFault>
 {
     match is_defined_once(alloc, &source) {
         Ok(true) => Ok(Checked::from_well_formed(source)),
-        Ok(false) => Err(MapFault::Forged),
-        Err(_) => Err(MapFault::OutOfMemory),
+        Ok(false) => {
+            drop(source);
+            Err(MapFault::Forged)
+        }
+        Err(_) => {
+            drop(source);
+            Err(MapFault::OutOfMemory)
+        }
     }
 }
 
@@ -82,8 +88,14 @@ fn confirm(
 {
     match has_image(alloc, image, recorded, places, comment) {
         Ok(true) => Ok(source),
-        Ok(false) => Err(MapFault::Forged),
-        Err(_) => Err(MapFault::OutOfMemory),
+        Ok(false) => {
+            drop(source);
+            Err(MapFault::Forged)
+        }
+        Err(_) => {
+            drop(source);
+            Err(MapFault::OutOfMemory)
+        }
     }
 }
 

@@ -58,7 +58,10 @@ impl Machine {
         ensures { IfOk result (λ m. MeansTheSame ordered m) }
     {
         let circuit = ordered.into_checked().into_circuit();
-        let pairs = pairs_of(alloc, circuit.gates.as_slice())?;
+        let Ok(pairs) = pairs_of(alloc, circuit.gates.as_slice()) else {
+            drop(circuit);
+            return Err(OutOfMemory);
+        };
         Ok(Machine {
             parts: into_parts(alloc, circuit),
             pairs,

@@ -106,6 +106,10 @@ impl Simulator {
     fn with_room(alloc: Global, machine: Machine) -> Result<Self, OutOfMemory>
         ensures { IfOk result (λ s. s.circuit ≡ machine) }
     {
+        let Ok(room) = Room::new(alloc, machine.parts()) else {
+            drop(machine);
+            return Err(OutOfMemory);
+        };
         let Room {
             values,
             state,
@@ -114,7 +118,7 @@ impl Simulator {
             next,
             bad,
             constraints,
-        } = Room::new(alloc, machine.parts())?;
+        } = room;
         Ok(Simulator {
             machine,
             values,

@@ -108,7 +108,10 @@ impl Checker {
         ensures circuit { IfOk result (λ c. c.circuit ≡ machine) }
         ensures begun { IfOk result (λ c. Stands c Nothing) }
     {
-        let (values, state) = make_room(alloc, machine.parts())?;
+        let Ok((values, state)) = make_room(alloc, machine.parts()) else {
+            drop(machine);
+            return Err(OutOfMemory);
+        };
         Ok(Checker {
             machine,
             values,

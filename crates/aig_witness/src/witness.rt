@@ -60,6 +60,12 @@ pub fn confirm<R: Source>(
     ensures count { IfErr result (λ error. R.failed source.new ≡ R.failed source.old + source_failures error) }
 {
     let mut checker = Checker::new(alloc, checked)?;
-    let mut feeder = LineFeeder::new(alloc, checker.longest_line())?;
-    judge_all(&mut feeder, &mut checker, source)
+    let Ok(mut feeder) = LineFeeder::new(alloc, checker.longest_line()) else {
+        drop(checker);
+        return Err(SimFault::OutOfMemory);
+    };
+    let judged = judge_all(&mut feeder, &mut checker, source);
+    drop(feeder);
+    drop(checker);
+    judged
 }

@@ -11,24 +11,19 @@ returns-in_err-promised c = search (rules, err_from_is_err_and, no_header)
 pub returns-in_err-header : goal.returns-in_err-header
 returns-in_err-header c = search (rules, err_from_is_err_and, not_filled)
 
-pub returns-in_err-read_sections : goal.returns-in_err-read_sections
-returns-in_err-read_sections c =
-    let h =
-    err_from_is_err_and c.from_residual-in_err-read_sections.result c.from_residual-in_err-read_sections.ensures.1 in
-    rw (h.1, h.2) (
+pub returns-in-Err : goal.returns-in-Err
+returns-in-Err c =
     no_sections c.args.limits.max_var (lines_of c.args.bytes.now) c.in_ok-promised.promised c.header.new.at
     (rw c.new-at.ensures at c.in_ok-promised.ensures.header) c.in_ok-header.header (sym c.in_ok-header.ensures.value)
-    c.in_err-read_sections.field-0.0 (rw c.empty_circuit-circuit.ensures at c.in_err-read_sections.ensures))
+    c.in-Err.fault (rw c.empty_circuit-circuit.ensures at c.in-Err.ensures)
 
-pub returns-in_err-gates : goal.returns-in_err-gates
-returns-in_err-gates c =
-    let h = err_from_is_err_and c.from_residual-in_err-gates.result c.from_residual-in_err-gates.ensures.1 in
-    rw (h.1, h.2) (
+pub returns-in-Err-read_gates : goal.returns-in-Err-read_gates
+returns-in-Err-read_gates c =
     no_gates c.args.limits.max_var (lines_of c.args.bytes.now) c.in_ok-promised.promised c.header.new.at
     (rw c.new-at.ensures at c.in_ok-promised.ensures.header) c.in_ok-header.header (sym c.in_ok-header.ensures.value)
     c.read_sections.new.circuit c.at.inside.number c.at.inside.rest.now
-    (rw (c.empty_circuit-circuit.ensures, ← c.at.view_is) at c.in_ok-read_sections.ensures)
-    c.in_err-gates.field-0.0 c.in_err-gates.ensures.gates)
+    (rw (c.empty_circuit-circuit.ensures, ← c.at.view_is) at c.in_default.ensures)
+    c.in-Err-read_gates.fault c.in-Err-read_gates.ensures.gates
 
 pub returns : goal.returns
 returns c = search (rules, then_tail)

@@ -15,15 +15,15 @@ map_comment-requires-clause-fits c = few_before_gates c.args.circuit c.requires.
 pub image-requires-clause-good : goal.image-requires-clause-good
 image-requires-clause-good c =
     subst IsWellFormed (sym c.with_comment.ensures)
-    (comment_is_free c.args.circuit (Some c.in_ok-comment.comment) c.requires.good)
+    (comment_is_free c.args.circuit (Some c.in-Ok.comment) c.requires.good)
 
 pub image-requires-clause-of_it : goal.image-requires-clause-of_it
 image-requires-clause-of_it c = search (rules, renumbering_stays)
 
 pub returns : goal.returns
 returns c =
-    let tells : c.in_ok-comment.comment
+    let tells : c.in-Ok.comment
     ≡ mapped_comment (block_by (number_of c.args.renumbering.numbers) c.args.circuit) c.args.circuit = search rules in
-    is_mapped_image c.args.circuit c.in_ok-comment.comment c.args.renumbering c.image.result c.requires.good
+    is_mapped_image c.args.circuit c.in-Ok.comment c.args.renumbering c.image.result c.requires.good
     c.requires.of_it tells
     (subst (λ (d : Circuit). IsBinaryImage d c.image.result) c.with_comment.ensures c.image.ensures)

@@ -19,15 +19,15 @@ sorted_with-requires c = search (rules, definitions_fit, as_many_inputs, as_many
 
 abbrev made_here : goal.After-sorted_with → Circuit
 made_here c =
-    made c.args.circuit c.args.renumbering c.requires.good c.requires.of_it c.requires.in_order c.in_ok-comment.comment
+    made c.args.circuit c.args.renumbering c.requires.good c.requires.of_it c.requires.in_order c.in-Ok.comment
 
 made_is : (c : goal.After-sorted_with) → c.sorted_with.result ≡ made_here c
-made_is c = c.sorted_with.ensures ∙ ap (sorted_with c.in_ok-comment.comment) c.by_numbers-new.ensures
+made_is c = c.sorted_with.ensures ∙ ap (sorted_with c.in-Ok.comment) c.by_numbers-new.ensures
 
 is_ordered : (c : goal.After-sorted_with) → IsWellFormed (made_here c) × IsInBinaryOrder (made_here c)
 is_ordered c =
     made_is_ordered c.args.circuit c.args.renumbering c.requires.good c.requires.of_it c.requires.in_order
-    c.in_ok-comment.comment
+    c.in-Ok.comment
 
 pub from_well_ordered-requires-clause-well_formed : goal.from_well_ordered-requires-clause-well_formed
 from_well_ordered-requires-clause-well_formed c = subst IsWellFormed (sym (made_is c)) (is_ordered c).0
@@ -39,9 +39,9 @@ pub returns : goal.returns
 returns c =
     let f : ℕ → ℕ = number_of c.args.renumbering.numbers in
     let old = c.args.circuit in
-    let comment = c.in_ok-comment.comment in
+    let comment = c.in-Ok.comment in
     let tells : comment ≡ mapped_comment (block_by f old) old =
-    c.in_ok-comment.ensures f old c.requires.kept c.by_numbers-new.ensures
+    c.in-Ok.ensures f old c.requires.kept c.by_numbers-new.ensures
     ∙ ap (mapped_comment (block_by f old)) c.by_numbers-new.ensures in
     let same : c.from_well_ordered.result
     ≡ made old c.args.renumbering c.requires.good c.requires.of_it c.requires.in_order comment =

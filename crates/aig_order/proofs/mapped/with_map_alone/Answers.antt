@@ -33,17 +33,17 @@ module _ (circuit : Circuit) (gates : List Gate) (bytes : List ℕ) (good : IsWe
 pub from_well_ordered-requires-clause-well_formed : goal.from_well_ordered-requires-clause-well_formed
 from_well_ordered-requires-clause-well_formed c =
     subst IsWellFormed (sym c.with_comment-sorted.ensures)
-    (is_good c.args.circuit c.sort_operands-gates.result c.in_ok-comment.comment c.requires.good c.requires.numbered
-    c.sort_operands-gates.ensures c.in_ok-comment.ensures).0
+    (is_good c.args.circuit c.sort_operands-gates.result c.in-Ok.comment c.requires.good c.requires.numbered
+    c.sort_operands-gates.ensures c.in-Ok.ensures).0
 
 pub from_well_ordered-requires-clause-in_order : goal.from_well_ordered-requires-clause-in_order
 from_well_ordered-requires-clause-in_order c =
     subst IsInBinaryOrder (sym c.with_comment-sorted.ensures)
-    (is_good c.args.circuit c.sort_operands-gates.result c.in_ok-comment.comment c.requires.good c.requires.numbered
-    c.sort_operands-gates.ensures c.in_ok-comment.ensures).1
+    (is_good c.args.circuit c.sort_operands-gates.result c.in-Ok.comment c.requires.good c.requires.numbered
+    c.sort_operands-gates.ensures c.in-Ok.ensures).1
 
 pub returns : goal.returns
 returns c =
     subst (λ o. IsMappedImage c.args.circuit o) (sym (c.from_well_ordered.ensures ∙ c.with_comment-sorted.ensures))
-    (is_image c.args.circuit c.sort_operands-gates.result c.in_ok-comment.comment c.requires.good
-    c.requires.numbered c.sort_operands-gates.ensures c.in_ok-comment.ensures)
+    (is_image c.args.circuit c.sort_operands-gates.result c.in-Ok.comment c.requires.good
+    c.requires.numbered c.sort_operands-gates.ensures c.in-Ok.ensures)

@@ -6,10 +6,10 @@ use Rattle.aig_witness.proofs.witness.confirm.Goals as goal
 pub returns-clause-ok : goal.returns-clause-ok
 returns-clause-ok g c =
     let made = c.in_ok-checker.ensures in
-    IfOk-weaker c.judge_all.result _ _ (λ v said. judged_too _ _ made.same made.bad v _ _ said) c.judge_all.ensures.ok
+    IfOk-weaker c.judge_all-judged.result _ _ (λ v said. judged_too _ _ made.same made.bad v _ _ said) c.judge_all-judged.ensures.ok
 
 pub returns-clause-err : goal.returns-clause-err
 returns-clause-err g c =
     let made = c.in_ok-checker.ensures in
-    IfErr-weaker c.judge_all.result _ _ (λ e said. not_judged_too _ _ made.same made.bad e _ _ said)
-    c.judge_all.ensures.err
+    IfErr-weaker c.judge_all-judged.result _ _ (λ e said. not_judged_too _ _ made.same made.bad e _ _ said)
+    c.judge_all-judged.ensures.err

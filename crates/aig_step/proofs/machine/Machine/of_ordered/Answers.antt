@@ -14,7 +14,7 @@ invariant_of-result c =
     c.into_circuit-circuit.ensures.well_formed in
     let ordered : IsInBinaryOrder c.into_circuit-circuit.result =
     subst (λ (k : Circuit). IsInBinaryOrder k) (sym same) c.into_checked.ensures.ordered in
-    rw (c.into_parts.ensures, c.in_ok-pairs.ensures, c.as_slice.ensures)
+    rw (c.into_parts.ensures, c.in-Ok.ensures, c.as_slice.ensures)
     (can_run c.into_circuit-circuit.result formed ordered)
 
 pub returns : goal.returns
@@ -23,5 +23,5 @@ returns c =
     c.into_circuit-circuit.ensures.value ∙ c.into_checked.ensures.value in
     let ordered : IsInBinaryOrder c.into_circuit-circuit.result =
     subst (λ (k : Circuit). IsInBinaryOrder k) (sym same) c.into_checked.ensures.ordered in
-    rw (← same, c.into_parts.ensures, c.in_ok-pairs.ensures, c.as_slice.ensures)
+    rw (← same, c.into_parts.ensures, c.in-Ok.ensures, c.as_slice.ensures)
     (kept_means_the_same c.into_circuit-circuit.result ordered)
