@@ -1,8 +1,7 @@
 -- What is asked of a gate, and how that is counted.
 use Rattle.std.proofs.Common.{rules}
-use Rattle.std.proofs.Common.{◌≡◌, ◌<◌, ◌+◌, ◌-◌, ℕ, zero, suc, List, [], ◌∷◌, ◌++◌, length, get_or, ltb, true, Bool}
-use Rattle.std.proofs.Common.{false, refl, sym, ap, subst, ◌∙◌, arith}
-use Rattle.std.specs.List.{AllByRecursion, sum}
+use Rattle.std.proofs.Common.{◌≡◌, ◌<◌, ◌+◌, ◌-◌, ℕ, List, [], ◌∷◌, ◌++◌, length, get_or, ltb, true, Bool}
+use Rattle.std.proofs.Common.{false, sym, ap, ◌∙◌, arith}
 use Rattle.std.proofs.Math.ListN.{set as put}
 use Rattle.std.proofs.lemmas.Bool.{ltb-true, ltb-false}
 use Rattle.std.proofs.lemmas.List.{length-set, get_or-set_other}
@@ -14,29 +13,11 @@ use Rattle.aig_topo.specs.Progress.{Progress, CountsDown, CountsFor}
 use Rattle.aig_topo.specs.Waiting.{Suffices}
 use Rattle.aig_topo.proofs.Ordering.LeftOver.{left-append, still_none, link_is, some_left}
 
--- nothing is counted, one operand is, or first some and then some
-pub counts_none : (gate : ℕ) (old : Progress) → CountsFor gate old old
-counts_none gate old = search rules
-
+-- one operand is counted, or first some and then some
 pub counts_one : (gate : ℕ) (old new : Progress) → gate < length old.waiting → 0 < get_or old.waiting gate 0
     → new.waiting ≡ put old.waiting gate (get_or old.waiting gate 0 - 1) → new.steps ≡ old.steps + 1
     → new.list ≡ old.list → CountsFor gate old new
-counts_one gate old new there some waiting steps list =
-    let now : ℕ = get_or old.waiting gate 0 in record {
-      down = record {
-        list = list;
-        as_many = ap length waiting ∙ length-set old.waiting gate (now - 1);
-        paid = omega (
-          arith,
-          some,
-          steps,
-          ap sum waiting,
-          sum_by-set (λ x. x) old.waiting gate (now - 1) 0 there,
-        );
-      };
-      others = λ u other.
-          ap (λ ws. get_or ws u 0) waiting ∙ get_or-set_other old.waiting gate u (now - 1) 0 other;
-    }
+counts_one gate old new there some waiting steps list = search (rules, length-set, sum_by-set, get_or-set_other)
 
 pub counts_more : (old mid new : Progress) → CountsDown old mid → CountsDown mid new → CountsDown old new
 counts_more old mid new first later = record {
@@ -72,15 +53,3 @@ second_enough list later left right b more told is told_too is_too further has_a
       still_none list further (linked left) has_all none,
       ap (left_over further) (link_is right some.0),
     )
-
--- what is asked for by a link
-pub no_link : (list : List ℕ) (link : ℕ) → link ≡ 0
-    → (left_over list (linked link) ≡ 0) × (length (linked link) ≡ 0)
-no_link list zero none = (refl, refl)
-no_link list (suc position) none = absurd (omega (arith, none))
-
-pub one_link : (link : ℕ) → 0 < link → length (linked link) ≡ 1
-one_link link some = ap length (link_is link some)
-
-pub link_there : (link n : ℕ) → 0 < link → AllByRecursion (λ h. h < n) (linked link) → link - 1 < n
-link_there link n some all = (subst (AllByRecursion (λ h. h < n)) (link_is link some) all).0

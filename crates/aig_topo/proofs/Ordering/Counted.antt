@@ -1,4 +1,5 @@
 -- An order that takes a gate, or counts one down.
+use Rattle.std.proofs.Common.{rules}
 use Rattle.std.proofs.Common.{◌≡◌, ◌≢◌, ◌<◌, ◌≤◌, ◌+◌, ◌-◌, ◌*◌, ℕ, zero, suc, List, [], ◌∷◌, ◌++◌, length, take, get_or}
 use Rattle.std.proofs.Common.{map, sym, refl, ap, ap₂, subst, ◌∙◌, ◌⊎◌, inl, inr, ⊎_elim, arith, eqb, cond, true, false, Bool}
 use mathlib.Core.Bool.{◌||◌}
@@ -55,10 +56,7 @@ plain state differs = ap (λ b. cond b 0 state) (ne_eqb state 3 differs)
 
 -- another gate than the last one
 not_last : (list : List ℕ) (g h : ℕ) → h ≢ g → has_gate list h ≡ has_gate (list ++ g ∷ []) h
-not_last list g h differs =
-    or_false (has_gate list h)
-    ∙ ap (λ b. has_gate list h || (b || false)) (sym (ne_eqb g h (λ e. differs (sym e))))
-    ∙ sym (list_any-append (λ x. eqb x h) list (g ∷ []))
+not_last list g h differs = search (rules, or_false, ne_eqb, list_any-append)
 
 module _ (positions : List ℕ) (taken : ℕ) (states : List ℕ) (counted : ℕ) (g : ℕ)
     (is : IsCounted positions taken states counted) (there : g < length states) where
@@ -188,13 +186,4 @@ each_small (w ∷ ws) few (suc g) = each_small ws few.1 g
 
 pub begins : (waiting positions : List ℕ) → length waiting ≤ LARGEST → AllByRecursion (λ w. w ≤ 2) waiting
     → positions ≡ replicate (length waiting) 0 → IsCounted positions 0 waiting 0
-begins waiting positions few at_most zeros = record {
-  room = ap length zeros ∙ length-replicate (length waiting) 0;
-  few = few;
-  within = omega arith;
-  once = tt;
-  below = tt;
-  small = λ g. omega (arith, each_small waiting at_most g);
-  told = λ g _. ne_eqb (get_or waiting g 0) 3 (λ e. omega (arith, e, each_small waiting at_most g));
-  paid = omega (arith, sum_few waiting at_most, ap sum (plain_all waiting at_most));
-}
+begins waiting positions few at_most zeros = search (rules, length-replicate, each_small, ne_eqb, sum_few, plain_all)

@@ -1,4 +1,5 @@
 -- How many gates are left over: those that a list does not have.
+use Rattle.std.proofs.Common.{rules}
 use Rattle.std.proofs.Common.{◌≡◌, ◌<◌, ◌+◌, ◌-◌, ℕ, zero, suc, List, [], ◌∷◌, ◌++◌, cond, true, false, length}
 use Rattle.std.proofs.Common.{refl, sym, ap, ◌∙◌, ⊎_elim, arith}
 use mathlib.Core.Bool.{not}
@@ -14,10 +15,7 @@ use Rattle.aig_circuit.proofs.Checking.InForm.{among_decides}
 use Rattle.aig_topo.proofs.Ordering.LeastReady.{among_or_not}
 
 pub has_not : (list : List ℕ) (g : ℕ) → ¬ IsAmong g list → has_gate list g ≡ false
-has_not list g out = elim (has_gate list g) as (λ b. has_gate list g ≡ b → b ≡ false) [
-  | true ↦ λ e. absurd (out ((among_decides g list).0 e))
-  | false ↦ λ _. refl
-] refl
+has_not list g out = search (rules, among_decides)
 
 left-cons : (list : List ℕ) (x : ℕ) (xs : List ℕ)
     → left_over list (x ∷ xs) ≡ cond (not (has_gate list x)) 1 0 + left_over list xs
@@ -64,22 +62,6 @@ has_or_not list (x ∷ xs) =
 pub link_is : (link : ℕ) → 0 < link → linked link ≡ (link - 1) ∷ []
 link_is zero some = absurd (omega (arith, some))
 link_is (suc position) some = ap (λ p. p ∷ []) (omega arith)
-
--- what a link leads to is listed or not
-pub listed_link : (list : List ℕ) (link : ℕ) → 0 < link → has_gate list (link - 1) ≡ true
-    → left_over list (linked link) ≡ 0
-listed_link list link some is =
-    ap (left_over list) (link_is link some) ∙ listed_first list (link - 1) [] ((among_decides (link - 1) list).0 is)
-
-pub missing_link : (list : List ℕ) (link : ℕ) → 0 < link → has_gate list (link - 1) ≡ false
-    → left_over list (linked link) ≡ 1
-missing_link list link some is =
-    omega (
-      arith,
-      ap (left_over list) (link_is link some),
-      left-cons list (link - 1) [],
-      ap {B = ℕ} (λ b. cond (not b) 1 0) is,
-    )
 
 back : (position : ℕ) → suc position - 1 ≡ position
 back position = omega arith

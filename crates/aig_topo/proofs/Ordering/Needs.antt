@@ -1,4 +1,5 @@
 -- What gates need, as the code looks it up.
+use Rattle.std.proofs.Common.{rules}
 use Rattle.std.proofs.Common.{◌≡◌, ◌<◌, ◌≤◌, ℕ, zero, suc, List, [], ◌∷◌, ◌++◌, Option, None, Some, length, map, get_or, eqb}
 use Rattle.std.proofs.Common.{refl, sym, ap, ap₂, subst, ◌∙◌, ⊎_elim, arith}
 use Rattle.std.specs.List.{AllByRecursion}
@@ -62,35 +63,19 @@ module _ (gates : List Gate) (all : List Needs) (all_are : all ≡ map (needs_of
       (cases_lt u (length gates))
 
   pub are_there : AreThere all
-  are_there u = all_of (λ h. h < length all) (needs_at all u) (λ h a.
-      let among : IsAmong h (gate_operands gates u) = subst (λ xs. IsAmong h xs) (same_needs u) a in
-      ⊎_elim (λ (there : u < length gates). rw as_long (over_one gates u h there among).0)
-      (λ (past : length gates ≤ u). absurd (subst (λ xs. IsAmong h xs) (none_past gates u past) among))
-      (cases_lt u (length gates)))
+  are_there u = search (rules, all_of, same_needs, as_long, over_one, none_past, cases_lt)
 
 -- an order by what is needed, however that is told
 module _ (count : ℕ) (some other : ℕ → List ℕ) (same : (u : ℕ) → some u ≡ other u) where
   ready_too : (taken : List ℕ) (g : ℕ) → IsReady count some taken g → IsReady count other taken g
-  ready_too taken g r = record {
-    there = r.there;
-    left = r.left;
-    served = subst (AllByRecursion (λ h. IsAmong h taken)) (same g) r.served;
-  }
+  ready_too taken g r = search rules
 
   ready_before : (taken : List ℕ) (g : ℕ) → IsReady count other taken g → IsReady count some taken g
-  ready_before taken g r = record {
-    there = r.there;
-    left = r.left;
-    served = subst (AllByRecursion (λ h. IsAmong h taken)) (sym (same g)) r.served;
-  }
+  ready_before taken g r = search rules
 
   pub in_turn_too : (taken xs : List ℕ) → TakesLeast count some taken xs → TakesLeast count other taken xs
   in_turn_too taken [] in_turn = tt
-  in_turn_too taken (x ∷ xs) in_turn = (
-    ready_too taken x in_turn.0,
-    λ h r. in_turn.1 h (ready_before taken h r),
-    in_turn_too (x ∷ taken) xs in_turn.2,
-  )
+  in_turn_too taken (x ∷ xs) in_turn = search (rules, ready_too, ready_before)
 
   pub full_too : (list : List ℕ) → IsFull count some list → IsFull count other list
   full_too list full g there served =

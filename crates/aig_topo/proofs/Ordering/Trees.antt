@@ -2,7 +2,7 @@
 use Rattle.std.proofs.Common.{rules}
 use Rattle.std.proofs.Common.{◌≡◌, ◌≢◌, ◌<◌, ◌≤◌, ◌+◌, ◌-◌, ◌*◌, ◌/◌, ◌%◌, ◌^◌, ℕ, zero, suc, List, Bool, true, false}
 use Rattle.std.proofs.Common.{cond, eqb, ltb, length, get_or, refl, sym, subst, ap, ap₂, ◌∙◌, ⊎_elim, arith}
-use mathlib.Core.Bool.{not, ◌||◌, ◌&&◌}
+use mathlib.Core.Bool.{not}
 use Rattle.std.specs.Int.{w64, bit_at}
 use Rattle.std.specs.Int.Bits.{bit_and, bit_or}
 use Rattle.std.proofs.Math.ListN.{set as put}

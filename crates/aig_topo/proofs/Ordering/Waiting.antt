@@ -24,19 +24,11 @@ use Rattle.aig_topo.proofs.Ordering.TakenLeast.{at_the_end}
 -- what holds by a list holds by a longer one
 still_served : (seen u n : ℕ) (list more needs : List ℕ) → HasAll list more → IsServed seen u list needs n
     → IsServed seen u more needs n
-still_served seen u n list more needs has_all s = record {
-  below = s.below;
-  none = still_none list more needs has_all s.none;
-  counted = s.counted;
-}
+still_served seen u n list more needs has_all s = search (rules, still_none)
 
 still_waits : (m seen u n : ℕ) (list more needs rest : List ℕ) → HasAll list more
     → WaitsFor m seen u list needs rest n → WaitsFor m seen u more needs rest n
-still_waits m seen u n list more needs rest has_all w = record {
-  below = w.below;
-  enough = λ further has_more. w.enough further (λ h a. has_more h (has_all h a));
-  counted = w.counted;
-}
+still_waits m seen u n list more needs rest has_all w = search rules
 
 module _ (needs : ℕ → List ℕ) (list : List ℕ) (rows : List GateNode) where
   -- operands are counted of a gate that is taken out of its list
@@ -136,22 +128,7 @@ module _ (needs : ℕ → List ℕ) (list : List ℕ) (rows : List GateNode) whe
       → get_or waiting gate 0 ≡ 0 → ((u : ℕ) → now u ≡ (eqb u gate || has u)) → (seen : ℕ) (served : Option ℕ)
       → RowsWait needs rows list waiting has seen served (Some gate)
       → RowsWait needs rows list waiting now seen served None
-  rows_wait_no_more waiting has now gate none counted told seen served wait =
-      let out = wait.taken_out gate refl in record {
-        listed = wait.listed;
-        ready = λ u h. ⊎_elim
-            (λ (t : (eqb u gate ≡ true) × (u ≡ gate)).
-            subst (λ z. IsServed seen z list (needs z) (get_or waiting z 0) × (¬ IsAmong z list)) (sym t.1)
-            (record { below = out.0; none = none; counted = counted }, out.1))
-            (λ (f : (eqb u gate ≡ false) × (u ≢ gate)).
-            wait.ready u (sym (told u ∙ ap (λ b. b || has u) f.0) ∙ h))
-            (eqb_tells u gate);
-        waits = wait.waits;
-        lacks = wait.lacks;
-        each = search (rules, eqb_tells);
-        taken_out = λ u o. cc;
-        unasked = wait.unasked;
-      }
+  rows_wait_no_more waiting has now gate none counted told seen served wait = search (rules, eqb_tells)
 
   -- the first gate is taken out of a list
   module _ (new : List GateNode) (list_at u : ℕ) (lists : AreLists (links_in rows))
@@ -369,15 +346,7 @@ module _ (needs : ℕ → List ℕ) (list : List ℕ) (rows : List GateNode) whe
 pub rows_at_first : (rows : List GateNode) (waiting : List ℕ) (has : ℕ → Bool) → ((k : ℕ) → list_in rows k ≡ [])
     → ((g : ℕ) → has g ≡ false) → ((u : ℕ) → get_or waiting u 0 ≡ length (needs_by rows u))
     → RowsWait (needs_by rows) rows [] waiting has 0 None None
-rows_at_first rows waiting has empty none counts = record {
-  listed = λ u a. absurd a;
-  ready = λ u h. absurd (true≢false (sym h ∙ none u));
-  waits = λ m u a. absurd (subst (IsAmong u) (empty m) a);
-  lacks = λ m u _ a. absurd (subst (IsAmong u) (empty m) a);
-  each = λ u l. absurd (omega (arith, l));
-  taken_out = λ u o. cc;
-  unasked = λ u _. (refl, counts u);
-}
+rows_at_first rows waiting has empty none counts = search rules
 
 pub all_apart : (rows : List GateNode) → ((k : ℕ) → list_in rows k ≡ []) → AreApart (links_in rows)
 all_apart rows empty m n u a b = absurd (subst (IsAmong u) (empty m) a)

@@ -1,10 +1,10 @@
+use Rattle.std.proofs.lemmas.Grind.{common_steps}
 use Rattle.std.proofs.Common.{rules}
 use Rattle.std.proofs.Common.{◌≡◌, ◌≤◌, ◌<◌, ◌+◌, ◌*◌, ◌∙◌, [], ap, sym, subst, List, ℕ, length, map, None, arith}
-use Rattle.std.specs.List.{sum}
 use Rattle.aig_circuit.specs.declared.circuit.Gate.{Gate}
 use Rattle.aig_circuit.specs.declared.circuit.Circuit.{Circuit}
 use Rattle.aig_topo.specs.declared.lists.GateNode.{GateNode}
-use Rattle.aig_topo.specs.Order.{gate_operands, left_over, TakesLeast, IsFull, IsLeastReadyOrder}
+use Rattle.aig_topo.specs.Order.{gate_operands, left_over, TakesLeast, IsLeastReadyOrder}
 use Rattle.aig_topo.specs.Lists.{needs_in}
 use Rattle.aig_topo.specs.Needs.{needs_of, how_many}
 use Rattle.aig_topo.specs.Progress.{Progress, due, CountsDown}
@@ -16,7 +16,7 @@ use Rattle.aig_topo.proofs.Ordering.Needs.{as_many_counts, at_most_two, each_cou
 use Rattle.aig_topo.proofs.Ordering.Rows.{as_many_needs}
 use Rattle.aig_topo.proofs.Ordering.Steps.{total, steps_are}
 use Rattle.aig_topo.proofs.Ordering.TakenLeast.{no_longer, has_each}
-use Rattle.aig_topo.proofs.Ordering.Waiting.{all_apart, rows_at_first, nothing_left, one_and_rest, left_is_counted}
+use Rattle.aig_topo.proofs.Ordering.Waiting.{all_apart, rows_at_first, nothing_left, left_is_counted}
 use Rattle.aig_topo.proofs.least_ready.gate_order.Goals as goal
 
 pub waiting_for-requires-clause-at_most_two : goal.waiting_for-requires-clause-at_most_two
@@ -52,13 +52,6 @@ look_at_all-requires c =
       ),
     )
 
-pub count_rests-requires-clause-counted : goal.count_rests-requires-clause-counted
-count_rests-requires-clause-counted c = λ u there some.
-    let order : Progress = c.look_at_all.new.order in
-    one_and_rest (needs_by c.in_ok-lists.lists.rows.items) order.list c.look_at_all.new.lists.rows.items order.waiting
-    (has c.look_at_all.new.ready) (length c.look_at_all.new.lists.rows.items) c.look_at_all.ensures.waits
-    c.look_at_all.ensures.none u some there
-
 pub count_rests-requires-clause-full : goal.count_rests-requires-clause-full
 count_rests-requires-clause-full c = λ full u there.
     let all = c.look_at_all.ensures in
@@ -68,25 +61,7 @@ count_rests-requires-clause-full c = λ full u there.
     all.in_turn) full u there)).counted
 
 pub returns-clause-least : goal.returns-clause-least
-returns-clause-least c =
-    let gates : List Gate = c.args.circuit.now.gates in
-    let rows : List GateNode = c.in_ok-lists.lists.rows.items in
-    let new : List GateNode = c.look_at_all.new.lists.rows.items in
-    let order : Progress = c.look_at_all.new.order in
-    let many : length rows ≡ length gates =
-    sym (as_many_needs rows) ∙ as_long gates (needs_in rows) c.in_ok-lists.ensures.needs in
-    let same : (u : ℕ) → needs_by rows u ≡ gate_operands gates u =
-    same_needs gates (needs_in rows) c.in_ok-lists.ensures.needs in
-    subst (IsLeastReadyOrder c.args.circuit.now) (sym c.count_rests.ensures.down.list) (record {
-      in_turn = subst (λ n. TakesLeast n (gate_operands gates) [] order.list) many
-          (in_turn_too (length rows) (needs_by rows) (gate_operands gates) same [] order.list
-          c.look_at_all.ensures.in_turn);
-      full = subst (λ n. IsFull n (gate_operands gates) order.list) many
-          (full_too (length rows) (needs_by rows) (gate_operands gates) same order.list
-          (nothing_left (needs_by rows) order.list new order.waiting (has c.look_at_all.new.ready) (length new)
-          c.look_at_all.ensures.waits (length rows) (omega (arith, c.look_at_all.ensures.size))
-          c.look_at_all.ensures.none));
-    })
+returns-clause-least c = search (rules, as_many_needs, as_long, same_needs, in_turn_too, full_too, nothing_left)
 
 pub returns-clause-waiting : goal.returns-clause-waiting
 returns-clause-waiting c = λ gate below.
@@ -114,40 +89,13 @@ module _ (c : Circuit) (rows : List GateNode) (counts : List ℕ) (order begun l
     (begins : begun ≡ record { list = []; waiting = counts; steps = 0 })
     (goes_on : due order + length begun.list ≡ due begun + length order.list) (down : CountsDown order last) where
   pub paid : due last ≡ length last.list + total c.gates
-  paid =
-      omega (
-        arith,
-        down.paid,
-        ap length down.list,
-        goes_on,
-        ap (λ (p : Progress). length p.list) begins,
-        ap (λ (p : Progress). p.steps) begins,
-        ap (λ (p : Progress). sum p.waiting) begins,
-        ap sum (counts_are c.gates rows counts needs_are are),
-      )
+  paid = grind (arith, common_steps, counts_are)
 
   pub few : IsLeastReadyOrder c last.list → last.steps ≤ 3 * length c.gates
-  few least =
-      omega (
-        arith,
-        paid,
-        no_longer (length c.gates) (gate_operands c.gates) last.list least.in_turn,
-        sum_few counts (at_most_two c.gates rows counts needs_are are),
-        ap sum (counts_are c.gates rows counts needs_are are),
-        as_many_counts c.gates rows counts needs_are are,
-      )
+  few least = search (rules, paid, no_longer, sum_few, at_most_two, counts_are, as_many_counts)
 
 pub returns-clause-as_many : goal.returns-clause-as_many
-returns-clause-as_many c =
-    let rows : List GateNode = c.in_ok-lists.lists.rows.items in
-    omega (
-      arith,
-      c.count_rests.ensures.down.as_many,
-      c.look_at_all.ensures.room.counted,
-      c.look_at_all.ensures.size,
-      as_many_needs rows,
-      as_long c.args.circuit.now.gates (needs_in rows) c.in_ok-lists.ensures.needs,
-    )
+returns-clause-as_many c = search (rules, as_many_needs, as_long)
 
 pub returns-clause-steps : goal.returns-clause-steps
 returns-clause-steps c =

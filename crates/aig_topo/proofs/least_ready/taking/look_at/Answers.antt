@@ -1,11 +1,11 @@
+use Rattle.std.proofs.Common.{rules}
 use Rattle.std.proofs.Common.{◌≡◌, ◌≤◌, ◌∙◌, ◌+◌, ◌++◌, ◌∷◌, [], ℕ, List, Some, None, sym, ap, subst, arith, length, inl}
 use Rattle.std.proofs.Common.{refl}
 use Rattle.std.specs.List.{sum}
 use Rattle.std.proofs.lemmas.List.{length-append}
 use Rattle.aig_topo.specs.declared.lists.GateNode.{GateNode}
 use Rattle.aig_circuit.specs.Wellformed.{IsAmong}
-use Rattle.aig_topo.specs.Order.{TakesLeast, left_over}
-use Rattle.aig_topo.specs.Needs.{under}
+use Rattle.aig_topo.specs.Order.{TakesLeast}
 use Rattle.aig_topo.specs.Progress.{Progress}
 use Rattle.aig_topo.specs.Ready.{has}
 use Rattle.aig_topo.specs.Waiting.{RowsWait}
@@ -15,22 +15,7 @@ use Rattle.aig_topo.proofs.Ordering.Waiting.{rows_looked_at, rows_taken, goes_on
 use Rattle.aig_topo.proofs.least_ready.taking.look_at.Goals as goal
 
 pub loop-next-init : goal.loop-next-init
-loop-next-init g c =
-    let rows : List GateNode = c.args.lists.now.rows.items in
-    let order : Progress = c.args.order.now in
-    let wait = c.requires.1.1.1.1 in
-    let down = c.enter.ensures.for_gate.down in
-    let all_asked : g.needs c.args.gate ≡ under c.needs.result =
-    sym (wait.unasked c.args.gate (omega arith)).0 ∙ sym c.needs.ensures in record {
-      size = c.enter.ensures.size;
-      room = c.enter.ensures.room;
-      in_turn = subst (TakesLeast (length c.enter.new.lists.rows.items) g.needs []) (sym down.list)
-          (subst (λ n. TakesLeast n g.needs [] order.list) (sym c.enter.ensures.size) c.requires.1.1.0);
-      waits = c.enter.ensures.waits g.needs (c.args.gate + 1) None
-          (λ more has_all. ap (λ xs. left_over more xs) all_asked)
-          (rows_looked_at g.needs order.list rows order.waiting (has c.args.ready.now) c.args.gate wait);
-      paid = omega (arith, down.paid, ap length down.list);
-    }
+loop-next-init g c = search (rules, rows_looked_at)
 
 pub release_waiting-requires-clause-taken : goal.release_waiting-requires-clause-taken
 release_waiting-requires-clause-taken g c =

@@ -1,5 +1,5 @@
 use Rattle.std.proofs.Common.{rules}
-use Rattle.std.proofs.Common.{◌≡◌, ◌≢◌, ◌<◌, ◌-◌, ◌∙◌, [], ◌∷◌, ℕ, suc, List, Some, None, sym, ap, inl, inr, subst}
+use Rattle.std.proofs.Common.{◌≡◌, ◌≢◌, ◌<◌, ◌-◌, ◌∙◌, [], ◌∷◌, ℕ, suc, List, Some, sym, ap, inl, inr, subst}
 use Rattle.std.proofs.Common.{length, get_or, refl, arith}
 use Rattle.std.specs.List.{AllByRecursion}
 use Rattle.std.proofs.lemmas.List.{length-set, get_or-set_same}
@@ -9,8 +9,8 @@ use Rattle.aig_topo.specs.Order.{left_over}
 use Rattle.aig_topo.specs.Lists.{links_in, list_in, AreLists}
 use Rattle.aig_topo.specs.Needs.{linked, no_needs}
 use Rattle.aig_topo.specs.Progress.{Progress, CountsFor}
-use Rattle.aig_topo.specs.Ready.{has, room}
-use Rattle.aig_topo.specs.Waiting.{rest_by, IsRoomy, RowsWait}
+use Rattle.aig_topo.specs.Ready.{has}
+use Rattle.aig_topo.specs.Waiting.{rest_by, RowsWait}
 use Rattle.aig_circuit.proofs.Checking.Fitting.{each}
 use Rattle.aig_topo.proofs.Ordering.Asked.{counts_one, counts_more, counts_again}
 use Rattle.aig_topo.proofs.Ordering.LeftOver.{listed_first}
@@ -32,22 +32,6 @@ module _ (rows popped : List GateNode) (list user gates : ℕ) (lists : AreLists
         as_many_links rows,
         many,
       )
-
-pub count_down-requires-clause-there : goal.count_down-requires-clause-there
-count_down-requires-clause-there c =
-    let r = c.loop-user.invariant.room in
-    there c.loop-user.lists.rows.items c.pop.new.self.rows.items c.args.gate c.in-Some.user
-    (length c.loop-user.order.waiting) r.lists r.counted c.in-Some.ensures.first
-
-pub count_down-requires-clause-waiting : goal.count_down-requires-clause-waiting
-count_down-requires-clause-waiting c =
-    let inv = c.loop-user.invariant in
-    omega (
-      arith,
-      inv.counted c.in-Some.user
-          (stood c.loop-user.lists.rows.items c.pop.new.self.rows.items c.args.gate c.in-Some.user
-          (length c.loop-user.order.waiting) inv.room.lists inv.room.counted c.in-Some.ensures.first),
-    )
 
 pub enter-requires-clause-asked : goal.enter-requires-clause-asked
 enter-requires-clause-asked c =
@@ -102,18 +86,8 @@ enter-requires-clause-room c =
           c.in-Some.ensures.first c.pop.ensures.others r.apart;
     }
 
-pub enter-requires-clause-there : goal.enter-requires-clause-there
-enter-requires-clause-there c =
-    let rows : List GateNode = c.loop-user.lists.rows.items in
-    let popped : List GateNode = c.pop.new.self.rows.items in
-    there rows popped c.args.gate c.in-Some.user (length popped) c.loop-user.invariant.room.lists
-    (as_many rows popped c.pop.ensures.needs) c.in-Some.ensures.first
-
 pub enter-requires-clause-nowhere : goal.enter-requires-clause-nowhere
-enter-requires-clause-nowhere c =
-    gone (λ _. []) c.loop-user.order.list c.loop-user.lists.rows.items c.pop.new.self.rows.items c.args.gate
-    c.in-Some.user c.loop-user.invariant.room.lists c.in-Some.ensures.first c.pop.ensures.others
-    c.loop-user.invariant.room.apart
+enter-requires-clause-nowhere c = search (rules, gone)
 
 pub loop-user-preserved : goal.loop-user-preserved
 loop-user-preserved c =
@@ -170,17 +144,6 @@ loop-user-preserved c =
           (rows_taken_out needs order.list rows popped c.args.gate user inv.room.lists front c.pop.ensures.others
           order.waiting (has c.loop-user.ready) seen (Some c.args.gate) w c.pop.ensures.needs)));
     }
-
-pub loop-user-smaller : goal.loop-user-smaller
-loop-user-smaller c = search rules
-
-pub returns-clause-size : goal.returns-clause-size
-returns-clause-size c = ap length c.in_default.ensures.same ∙ c.loop-user.invariant.size
-
-pub returns-clause-room : goal.returns-clause-room
-returns-clause-room c =
-    subst (λ rows. IsRoomy rows (length c.loop-user.order.waiting) (room c.loop-user.ready))
-    (sym c.in_default.ensures.same) c.loop-user.invariant.room
 
 pub returns-clause-waits : goal.returns-clause-waits
 returns-clause-waits c = search (rules, rows_served)

@@ -12,9 +12,6 @@ use Rattle.aig_topo.proofs.lists.Lists.first_rest.Goals as goal
 pub index-requires-2 : goal.index-requires-2
 index-requires-2 c = search (rules, first_there)
 
-pub returns-then-first-eq0 : goal.returns-then-first-eq0
-returns-then-first-eq0 c = search (rules, first_is)
-
 pub returns : goal.returns
 returns c = λ u us are.
     let rows : List GateNode = c.args.self.now.rows.items in

@@ -1,5 +1,4 @@
 use Rattle.std.proofs.Common.{◌≡◌, ◌≤◌, ◌∙◌, ℕ, List, take, ap, sym, arith, length, map}
-use Rattle.std.specs.FinMap.{get}
 use Rattle.std.proofs.lemmas.List.{take_all}
 use Rattle.std.proofs.lemmas.Simd.{map-map}
 use Rattle.aig_circuit.specs.declared.circuit.Gate.{Gate}
@@ -7,7 +6,6 @@ use Rattle.aig_topo.specs.declared.lists.GateNode.{GateNode}
 use Rattle.aig_topo.specs.Lists.{needs_in, links_in, first_of}
 use Rattle.aig_topo.specs.Needs.{needs_of}
 use Rattle.aig_topo.proofs.Ordering.Lists.{all_empty, empty_lists}
-use Rattle.aig_topo.proofs.Ordering.Needs.{few_places}
 use Rattle.aig_topo.proofs.Ordering.Rows.{row_of, needs_of_rows, first_of_rows}
 use Rattle.aig_topo.proofs.lists.Lists.new.Goals as goal
 
@@ -26,10 +24,6 @@ module _ (gates : List Gate) (n : ℕ) (rows : List GateNode)
     no_first : (k : ℕ) → first_of (links_in rows) k ≡ 0
     no_first k =
         ap (λ more. first_of (links_in more) k) all_rows ∙ first_of_rows (map (needs_of gates) gates) k
-
-pub look_up-needs-requires : goal.look_up-needs-requires
-look_up-needs-requires c =
-    few_places c.args.circuit.now.gates (get c.in_ok-index.index) c.in_ok-index.ensures (omega (arith, c.requires))
 
 pub returns-clause-needs : goal.returns-clause-needs
 returns-clause-needs c =

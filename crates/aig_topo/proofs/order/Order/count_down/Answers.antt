@@ -14,15 +14,6 @@ some : (states : List ℕ) (p : Progress) (gate : ℕ) → map waiting_in states
     → 0 < get_or (map waiting_in states) gate 0
 some states p gate is waits = omega (arith, waits, ap (λ ws. get_or ws gate 0) is)
 
-pub index_mut-requires : goal.index_mut-requires
-index_mut-requires c =
-    omega (
-      arith,
-      below c.self.inside.states.items c.args.self.now c.args.gate (ap (λ (p : Progress). p.waiting) c.self.view_is)
-          c.requires.there,
-      c.self.inside.states.ok.0,
-    )
-
 pub invariant_of-self : goal.invariant_of-self
 invariant_of-self c =
     let states : List ℕ = c.self.inside.states.items in

@@ -1,11 +1,8 @@
 use Rattle.std.proofs.Common.{rules}
 use Rattle.std.proofs.Common.{[], ap, ◌∙◌}
 use Rattle.aig_topo.specs.Progress.{Progress}
-use Rattle.aig_topo.proofs.Ordering.Needs.{counts_are, as_many_counts, at_most_two}
+use Rattle.aig_topo.proofs.Ordering.Needs.{counts_are, at_most_two}
 use Rattle.aig_topo.proofs.order.Order.new.Goals as goal
-
-pub waiting_for-requires-clause-few : goal.waiting_for-requires-clause-few
-waiting_for-requires-clause-few c = search (rules, as_many_counts)
 
 pub waiting_for-requires-clause-at_most_two : goal.waiting_for-requires-clause-at_most_two
 waiting_for-requires-clause-at_most_two c = search (rules, at_most_two)

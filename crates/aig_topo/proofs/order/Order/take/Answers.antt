@@ -52,16 +52,6 @@ index_mut-requires c =
       c.self.inside.positions.ok.0,
     )
 
-pub index_mut-requires-2 : goal.index_mut-requires-2
-index_mut-requires-2 c =
-    omega (
-      arith,
-      below c.self.inside.positions.items c.self.inside.states.items c.self.inside.taken c.self.inside.counted
-          c.args.gate c.args.self.now c.self.view_is c.requires.there c.requires.left c.requires.ready
-          c.self.invariant,
-      c.self.inside.states.ok.0,
-    )
-
 pub invariant_of-self : goal.invariant_of-self
 invariant_of-self c =
     kept_still c.self.inside.positions.items c.self.inside.states.items c.self.inside.taken c.self.inside.counted
