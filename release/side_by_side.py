@@ -1,0 +1,99 @@
+#!/usr/bin/env python3
+"""Proves the program's crates side by side and links the program, for ./prove.
+
+    release/side_by_side.py RT     in a copy of the sources; RT is the kit's command rt
+
+`rt ci` over all crates gives each of them one processor while any other is ready, so it takes no less than the longest
+chain of crates that stand on one another. Here each crate has a call of its own, `rt ci CRATE`, once those that it stands
+on are proved. The one with the longest chain above it gets two processors, the others one each. The last call is `rt ci`:
+it finds all others kept, proves the program's own crate and links it. Prints what these calls say, a crate at a time, and
+ends with the status of the last.
+"""
+
+import os
+import re
+import subprocess
+import sys
+from concurrent.futures import FIRST_COMPLETED, ThreadPoolExecutor, wait
+from functools import cache
+from pathlib import Path
+
+PROCESSORS = len(os.sched_getaffinity(0))
+PROGRAM = "aiger"
+# rt takes a call with a name for no gate, and refuses it where this variable says that it runs as one.
+ENVIRONMENT = {name: value for name, value in os.environ.items() if name != "CI"}
+
+below = {}
+for line in Path("crates.txt").read_text().splitlines():
+    head, _, libraries = line.partition("#")[0].partition(":")
+    if head.strip():
+        below[head.split()[0]] = libraries.split()
+below = {name: [it for it in libraries if it in below] for name, libraries in below.items()}
+
+
+@cache
+def chain(crate):
+    """How many lines have the crate and the longest chain of crates above it."""
+    files = [it for it in Path("crates", crate).rglob("*") if it.suffix in (".rt", ".antt")]
+    lines = sum(it.read_bytes().count(b"\n") for it in files)
+    return lines + max((chain(it) for it in below if crate in below[it]), default=0)
+
+
+def call(rt, crates, processors):
+    """Runs rt over these crates, or over all, and returns its status and what it said."""
+    environment = ENVIRONMENT | ({"RT_JOBS": "1"} if processors == 1 else {})
+    ended = subprocess.run(
+        [rt, "ci", *crates], env=environment, stdin=subprocess.DEVNULL, stdout=subprocess.PIPE,
+        stderr=subprocess.STDOUT, text=True, errors="replace")
+    status = ended.returncode
+    return status if status >= 0 else 128 - status, ended.stdout
+
+
+def tell(said, known):
+    """Prints what rt said, but for what is known: that these crates are kept, and that a call for one is not the gate."""
+    for line in said.splitlines():
+        kept = re.match(r"rt: (\w+) is kept: ", line)
+        if not (kept and kept[1] in known or re.search("not the gate", line)):
+            print(line, flush=True)
+
+
+def prove_libraries(rt):
+    """Proves all crates but the program's own. Returns the worst status of these calls."""
+    waiting = sorted(set(below) - {PROGRAM}, key=chain, reverse=True)
+    idle, worst = PROCESSORS, 0
+    proved, running = set(), {}
+    with ThreadPoolExecutor(PROCESSORS) as pool:
+        while True:
+            longest = max(map(chain, [*waiting, *(crate for crate, _ in running.values())]), default=0)
+            for crate in [it for it in waiting if proved.issuperset(below[it])]:
+                share = 2 if chain(crate) == longest and PROCESSORS > 2 else 1
+                share = min(share, idle)
+                # beside a crate that is not proved others go on; where rt ends otherwise, nothing more begins
+                if share and worst in (0, 1):
+                    waiting.remove(crate)
+                    idle -= share
+                    running[pool.submit(call, rt, [crate], share)] = crate, share
+            if not running:
+                return worst
+            for ended in wait(running, return_when=FIRST_COMPLETED).done:
+                crate, share = running.pop(ended)
+                idle += share
+                status, said = ended.result()
+                if worst in (0, 1):
+                    tell(said, proved)
+                if status == 0:
+                    proved.add(crate)
+                worst = max(worst, status)
+
+
+def main():
+    if len(sys.argv) != 2:
+        sys.exit(__doc__)
+    status = prove_libraries(sys.argv[1])
+    if status == 0:
+        status, said = call(sys.argv[1], [], PROCESSORS)
+        tell(said, set(below) - {PROGRAM})
+    sys.exit(status)
+
+
+main()
