@@ -1,6 +1,6 @@
 -- The set of the gates that may be taken: the least one, and a tree of words with the others, 64 bits each. Below bit b
 -- stands word b + 1, so the levels follow each other from the top, and the bits of the lowest level are the gates.
-use Rattle.std.specs.Prelude.{ℕ, zero, suc, ◌≡◌, ◌+◌, ◌-◌, ◌*◌, ◌<◌, ◌≤◌, ◌^◌, List, Bool, ◌==◌, ◌&&◌, ◌||◌, length}
+use Rattle.std.specs.Prelude.{ℕ, zero, suc, ◌≡◌, ◌+◌, ◌-◌, ◌*◌, ◌<◌, ◌≤◌, ◌^◌, List, Bool, ◌==◌, ◌||◌, length}
 use Rattle.std.specs.Prelude.{nat_lt, true, false, Option, None, Some, slice_index, refl}
 use Rattle.std.specs.Coded.{Coded, code_by, coded×, coded_ℕ, coded_list, coded_option}
 use Rattle.aig_tables.specs.Parts.Marks.{is_marked}

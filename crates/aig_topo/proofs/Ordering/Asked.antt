@@ -1,4 +1,5 @@
 -- What is asked of a gate, and how that is counted.
+use Rattle.std.proofs.lemmas.List.Sums.{sum_by-append}
 use Rattle.std.proofs.Common.{rules}
 use Rattle.std.proofs.Common.{◌≡◌, ◌<◌, ◌+◌, ◌-◌, ℕ, List, [], ◌∷◌, ◌++◌, length, get_or, ltb, true, Bool}
 use Rattle.std.proofs.Common.{false, sym, ap, ◌∙◌, arith}
@@ -6,12 +7,11 @@ use Rattle.std.proofs.Math.ListN.{set as put}
 use Rattle.std.proofs.lemmas.Bool.{ltb-true, ltb-false}
 use Rattle.std.proofs.lemmas.List.{length-set, get_or-set_other}
 use Rattle.std.proofs.lemmas.List.Sums.{sum_by-set}
-use Rattle.aig_circuit.specs.Wellformed.{IsAmong}
 use Rattle.aig_topo.specs.Order.{left_over}
 use Rattle.aig_topo.specs.Needs.{linked}
 use Rattle.aig_topo.specs.Progress.{Progress, CountsDown, CountsFor}
 use Rattle.aig_topo.specs.Waiting.{Suffices}
-use Rattle.aig_topo.proofs.Ordering.LeftOver.{left-append, still_none, link_is, some_left}
+use Rattle.aig_topo.proofs.Ordering.LeftOver.{still_none, link_is, some_left}
 
 -- one operand is counted, or first some and then some
 pub counts_one : (gate : ℕ) (old new : Progress) → gate < length old.waiting → 0 < get_or old.waiting gate 0
@@ -33,11 +33,6 @@ counts_again gate old mid new first later = record {
   others = λ u other. later.others u other ∙ first.others u other;
 }
 
--- where a link leads to one that is left over, that one is missing
-pub is_missing : (list : List ℕ) (link : ℕ) (b : Bool) → b ≡ ltb 0 (left_over list (linked link)) → b ≡ true
-    → ¬ IsAmong (link - 1) list
-is_missing list link b told is = (some_left list link (ltb-true 0 (left_over list (linked link)) (sym told ∙ is))).1
-
 -- where the first link leads to none that is left over, the second is all that is asked for
 pub second_enough : (list later : List ℕ) (left right : ℕ) (b more : Bool)
     → b ≡ ltb 0 (left_over list (linked left)) → b ≡ false
@@ -47,9 +42,9 @@ second_enough list later left right b more told is told_too is_too further has_a
     let none : left_over list (linked left) ≡ 0 =
     omega (arith, ltb-false 0 (left_over list (linked left)) (sym told ∙ is)) in
     let some = some_left later right (ltb-true 0 (left_over later (linked right)) (sym told_too ∙ is_too)) in
-    omega (
-      arith,
-      left-append further (linked left) (linked right),
+    search (
+      rules,
       still_none list further (linked left) has_all none,
       ap (left_over further) (link_is right some.0),
+      sum_by-append,
     )

@@ -1,7 +1,8 @@
 -- An order that takes a gate, or counts one down.
+use Rattle.std.proofs.lemmas.Grind.{common_steps}
 use Rattle.std.proofs.Common.{rules}
 use Rattle.std.proofs.Common.{◌≡◌, ◌≢◌, ◌<◌, ◌≤◌, ◌+◌, ◌-◌, ◌*◌, ℕ, zero, suc, List, [], ◌∷◌, ◌++◌, length, take, get_or}
-use Rattle.std.proofs.Common.{map, sym, refl, ap, ap₂, subst, ◌∙◌, ◌⊎◌, inl, inr, ⊎_elim, arith, eqb, cond, true, false, Bool}
+use Rattle.std.proofs.Common.{map, sym, refl, ap, ap₂, ◌∙◌, ◌⊎◌, inl, inr, ⊎_elim, arith, eqb, cond, true, false, Bool}
 use mathlib.Core.Bool.{◌||◌}
 use Rattle.std.specs.List.{AllByRecursion, sum}
 use Rattle.std.proofs.Math.ListN.{set as put}
@@ -54,10 +55,6 @@ or_false false = refl
 plain : (state : ℕ) → state ≢ 3 → waiting_in state ≡ state
 plain state differs = ap (λ b. cond b 0 state) (ne_eqb state 3 differs)
 
--- another gate than the last one
-not_last : (list : List ℕ) (g h : ℕ) → h ≢ g → has_gate list h ≡ has_gate (list ++ g ∷ []) h
-not_last list g h differs = search (rules, or_false, ne_eqb, list_any-append)
-
 module _ (positions : List ℕ) (taken : ℕ) (states : List ℕ) (counted : ℕ) (g : ℕ)
     (is : IsCounted positions taken states counted) (there : g < length states) where
   pub read : get_or (map waiting_in states) g 0 ≡ waiting_in (get_or states g 0)
@@ -66,9 +63,12 @@ module _ (positions : List ℕ) (taken : ℕ) (states : List ℕ) (counted : ℕ
   -- where a gate is left, there is room for it
   pub room_left : ¬ IsAmong g (take taken positions) → taken < length positions
   room_left new =
-      let fit : length (g ∷ take taken positions) ≤ length states =
-      at_most_below (length states) (g ∷ take taken positions) (new, is.once) (there, is.below) in
-      omega (arith, fit, length-take-le taken positions is.within, is.room)
+      omega (
+        arith,
+        at_most_below (length states) (g ∷ take taken positions) (new, is.once) (there, is.below),
+        length-take-le taken positions is.within,
+        is.room,
+      )
 
   -- it is taken where it waits for nothing
   module _ (new : ¬ IsAmong g (take taken positions)) (ready : get_or (map waiting_in states) g 0 ≡ 0) where
@@ -76,21 +76,13 @@ module _ (positions : List ℕ) (taken : ℕ) (states : List ℕ) (counted : ℕ
     one_more = take_more_set positions taken g (room_left new)
 
     pub waits_as_before : map waiting_in (put states g 3) ≡ map waiting_in states
-    waits_as_before =
-        map-set waiting_in states g 3 ∙ ap (put (map waiting_in states) g) (sym ready)
-        ∙ set-get_or (map waiting_in states) g 0
+    waits_as_before = search (rules, map-set, set-get_or)
 
     now_told : (h : ℕ) → h < length states
         → eqb (get_or (put states g 3) h 0) 3 ≡ has_gate (take taken positions ++ g ∷ []) h
     now_told h below =
-        ⊎_elim (λ (t : (eqb h g ≡ true) × (h ≡ g)).
-        subst (λ z. eqb (get_or (put states g 3) z 0) 3 ≡ has_gate (take taken positions ++ g ∷ []) z) (sym t.1)
-        (ap (λ s. eqb s 3) (get_or-set_same states g 3 0 there)
-        ∙ sym ((among_decides g (take taken positions ++ g ∷ [])).1
-        (among_last (take taken positions) (g ∷ []) g (inl refl)))))
-        (λ (f : (eqb h g ≡ false) × (h ≢ g)).
-        ap (λ s. eqb s 3) (get_or-set_other states g h 3 0 f.1) ∙ is.told h below
-        ∙ not_last (take taken positions) g h f.1)
+        ⊎_elim (grind (arith, common_steps, get_or-set_same, among_decides, among_last))
+        (search (rules, get_or-set_other, or_false, ne_eqb, list_any-append))
         (eqb_tells h g)
 
     pub takes : IsCounted (put positions taken g) (taken + 1) (put states g 3) counted
@@ -100,12 +92,8 @@ module _ (positions : List ℕ) (taken : ℕ) (states : List ℕ) (counted : ℕ
           few = rw as_long is.few;
           within = omega (arith, room_left new, length-set positions taken g);
           once = rw one_more (distinct_more (take taken positions) g is.once new);
-          below = rw (one_more, as_long)
-              (joined (λ x. x < length states) (take taken positions) (g ∷ []) is.below (there, tt));
-          small = λ h. ⊎_elim (λ (t : (eqb h g ≡ true) × (h ≡ g)).
-              omega (arith, ap (λ z. get_or (put states g 3) z 0) t.1, get_or-set_same states g 3 0 there))
-              (λ (f : (eqb h g ≡ false) × (h ≢ g)). omega (arith, is.small h, get_or-set_other states g h 3 0 f.1))
-              (eqb_tells h g);
+          below = search (rules, one_more, joined);
+          small = search (rules, get_or-set_same, get_or-set_other, eqb_tells);
           told = λ h below. now_told h (rw (← as_long) below) ∙ ap (λ xs. has_gate xs h) (sym one_more);
           paid = rw (as_long, waits_as_before) is.paid;
         }
@@ -121,25 +109,19 @@ module _ (positions : List ℕ) (taken : ℕ) (states : List ℕ) (counted : ℕ
     not_taken : n ≢ 3
     not_taken e = omega (arith, some, waits_for, ap waiting_in e)
 
-    pub as_it_is : get_or (map waiting_in states) g 0 ≡ n
-    as_it_is = waits_for ∙ plain n not_taken
-
     one_less : waiting_in (n - 1) ≡ n - 1
     one_less = plain (n - 1) (λ e. omega (arith, e, is.small g, same, not_taken))
 
     pub waits_for_less : map waiting_in (put states g (n - 1))
         ≡ put (map waiting_in states) g (get_or (map waiting_in states) g 0 - 1)
-    waits_for_less =
-        map-set waiting_in states g (n - 1)
-        ∙ ap (put (map waiting_in states) g) (one_less ∙ ap (λ x. x - 1) (sym as_it_is))
+    waits_for_less = search (rules, map-set, one_less, waits_for, plain, not_taken)
 
     pub counts_down : IsCounted positions taken (put states g (n - 1)) (counted + 1)
     counts_down =
         let as_long : length (put states g (n - 1)) ≡ length states = length-set states g (n - 1) in
         let less : sum (put (map waiting_in states) g (get_or (map waiting_in states) g 0 - 1))
         + get_or (map waiting_in states) g 0 ≡ sum (map waiting_in states) + (get_or (map waiting_in states) g 0 - 1) =
-        sum_by-set (λ x. x) (map waiting_in states) g (get_or (map waiting_in states) g 0 - 1) 0
-        (omega (arith, there, length-map states waiting_in)) in record {
+        search (rules, sum_by-set, length-map) in record {
           room = is.room ∙ sym as_long;
           few = rw as_long is.few;
           within = is.within;
@@ -157,8 +139,7 @@ module _ (positions : List ℕ) (taken : ℕ) (states : List ℕ) (counted : ℕ
               omega (arith, is.small h, get_or-set_other states g h (n - 1) 0 f.1))
               (eqb_tells h g);
           told = λ h below. ⊎_elim (λ (t : (eqb h g ≡ true) × (h ≡ g)).
-              subst (λ z. eqb (get_or (put states g (n - 1)) z 0) 3 ≡ has_gate (take taken positions) z) (sym t.1)
-              (ap (λ s. eqb s 3) (get_or-set_same states g (n - 1) 0 there)
+              rw t.1 (ap (λ s. eqb s 3) (get_or-set_same states g (n - 1) 0 there)
               ∙ ne_eqb (n - 1) 3 (λ e. omega (arith, e, is.small g, same))
               ∙ sym (ne_eqb n 3 not_taken)
               ∙ ap (λ s. eqb s 3) (sym same)
@@ -179,10 +160,9 @@ sum_few [] few = omega arith
 sum_few (w ∷ ws) few = omega (arith, few.0, sum_few ws few.1, sum_by-cons (λ x. x) w ws)
 
 each_small : (ws : List ℕ) → AllByRecursion (λ w. w ≤ 2) ws → (g : ℕ) → get_or ws g 0 ≤ 2
-each_small [] few zero = omega arith
-each_small [] few (suc g) = omega arith
 each_small (w ∷ ws) few zero = few.0
 each_small (w ∷ ws) few (suc g) = each_small ws few.1 g
+each_small xs few n = omega arith
 
 pub begins : (waiting positions : List ℕ) → length waiting ≤ LARGEST → AllByRecursion (λ w. w ≤ 2) waiting
     → positions ≡ replicate (length waiting) 0 → IsCounted positions 0 waiting 0

@@ -10,11 +10,11 @@ use Rattle.aig_circuit.specs.declared.circuit.Circuit.{Circuit}
 use Rattle.aig_circuit.specs.declared.circuit.Latch.{Latch}
 use Rattle.aig_circuit.specs.declared.circuit.TheConstants.{LARGEST}
 use Rattle.aig_circuit.specs.Form.{IsInForm}
-use Rattle.aig_circuit.specs.Wellformed.{IsAmong, AreDistinct, IsVariableUpTo, defined_variables}
+use Rattle.aig_circuit.specs.Wellformed.{IsAmong, AreDistinct}
 use Rattle.aig_topo.specs.Order.{gate_operands, IsReady, TakesLeast, IsFull, IsLeastReadyOrder, ends_within}
 use Rattle.aig_topo.specs.Order.{depends_on_cycle, first_cyclic}
 use Rattle.aig_circuit.proofs.Checking.Fitting.{each, at_most_below}
-use Rattle.aig_topo.proofs.Ordering.Ranked.{over_one, all_served, no_gate, at, needed, stands_there}
+use Rattle.aig_topo.proofs.Ordering.Ranked.{over_one, all_of, no_gate, at, needed, stands_there}
 use Rattle.std.proofs.lemmas.List.Folds.{find_at}
 use Rattle.std.proofs.lemmas.Bool.{cases_lt, lt-ltb}
 use Rattle.std.proofs.lemmas.List.Sums.{position_or_len_is, fails_before_first}
@@ -40,7 +40,7 @@ all_true p (x ∷ xs) h = and_both (p x) (list_all p xs) (h x (inl refl)) (all_t
 pub each_true : (p : ℕ → Bool) (xs : List ℕ) → list_all p xs ≡ true → (x : ℕ) → IsAmong x xs → p x ≡ true
 each_true p [] h x a = absurd a
 each_true p (y ∷ ys) h x a =
-    ⊎_elim (λ (e : x ≡ y). subst (λ z. p z ≡ true) (sym e) (and_left (p y) (list_all p ys) h))
+    ⊎_elim (λ (e : x ≡ y). rw e (and_left (p y) (list_all p ys) h))
     (λ (later : IsAmong x ys). each_true p ys (and_right (p y) (list_all p ys) h) x later) a
 
 module _ (gates : List Gate) where
@@ -68,21 +68,14 @@ module _ (gates : List Gate) where
   unfolding ends_within
   listed_ends taken [] in_turn once below ends h listed =
       ⊎_elim (λ (a : IsAmong h taken).
-      let few : length taken ≤ count = at_most_below count taken once below in
-      subst (λ m. ends_within m gates h ≡ true) (omega (arith, few))
+      subst (λ m. ends_within m gates h ≡ true) (omega (arith, at_most_below count taken once below))
       (many_more (count - length taken) (length taken) h (ends h a)))
       (λ (n : ⊥). absurd n) listed
   listed_ends taken (x ∷ xs) in_turn once below ends h listed =
       let ready : IsReady count (gate_operands gates) taken x = in_turn.0 in
       listed_ends (x ∷ taken) xs in_turn.2 (ready.left, once) (ready.there, below)
-      (λ i i_taken. ⊎_elim
-      (λ (e : i ≡ x). subst (λ z. ends_within (suc (length taken)) gates z ≡ true) (sym e)
-      (all_true (ends_within (length taken) gates) (gate_operands gates x)
-      (λ j a. ends j (each (λ z. IsAmong z taken) (gate_operands gates x) ready.served j a))))
-      (λ (s : IsAmong i taken). one_more (length taken) i (ends i s)) i_taken)
-      h (⊎_elim (λ (s : IsAmong h taken). inl (inr s))
-      (λ (later : IsAmong h (x ∷ xs)). ⊎_elim (λ (e : h ≡ x). inl (inl e)) (λ (l : IsAmong h xs). inr l) later)
-      listed)
+      (search (rules, all_true, each, one_more))
+      h (search rules)
 
   -- what ends is listed, where no gate can be added
   ended_listed : (list : List ℕ) → IsFull count (gate_operands gates) list → (n g : ℕ) → g < count
@@ -90,7 +83,7 @@ module _ (gates : List Gate) where
   unfolding ends_within
   ended_listed list full zero g there h = cc
   ended_listed list full (suc n) g there h =
-      full g there (all_served count (gate_operands gates) list (gate_operands gates g)
+      full g there (all_of (λ h. IsAmong h list) (gate_operands gates g)
       (λ i a. ended_listed list full n i (over_one gates g i there a).0
       (each_true (ends_within n gates) (gate_operands gates g) h i a)))
 
@@ -117,10 +110,7 @@ none_found p (g ∷ gs) h zero l =
       | false ↦ λ n. refl
     ] h
 none_found p (g ∷ gs) h (suc i) l =
-    none_found p gs (elim (p g) as (λ b. cond b (Some g) (find p gs) ≡ None → find p gs ≡ None) [
-      | true ↦ λ n. cc
-      | false ↦ λ n. n
-    ] h) i (omega arith)
+    none_found p gs (search rules) i (omega arith)
 
 none_mapped : (o : Option Gate) → option_map (λ (g : Gate). 2 * g.var) o ≡ None → o ≡ None
 none_mapped None h = refl
@@ -140,19 +130,16 @@ module _ (gates : List Gate) (list : List ℕ) (order_full : IsFull (length gate
   -- a gate of the order depends on no cycle
   pub free : (i : ℕ) → i < length gates → IsAmong i list → depends_on_cycle gates (at gates i) ≡ false
   free i there listed =
-      let ends : ends_within (length gates) gates i ≡ true =
-      listed_ends gates [] list order_in_turn tt tt (λ h n. absurd n) i (inr listed) in
-      depends_where i there ∙ ap not (one_more gates (length gates) i ends)
+      depends_where i there ∙ ap not
+      (one_more gates (length gates) i
+      (listed_ends gates [] list order_in_turn tt tt (λ h n. absurd n) i (inr listed)))
 
   -- and the other way round
   pub placed_where_free : (i : ℕ) → i < length gates → depends_on_cycle gates (at gates i) ≡ false → IsAmong i list
-  placed_where_free i there h =
-      ended_listed gates list order_full (suc (length gates)) i there
-      (not_false (ends_within (suc (length gates)) gates i) (sym (depends_where i there) ∙ h))
+  placed_where_free i there h = search (rules, ended_listed, not_false, depends_where)
 
   pub none_cyclic : ((i : ℕ) → i < length gates → IsAmong i list) → first_cyclic gates ≡ None
-  none_cyclic all = ap (option_map (λ (g : Gate). 2 * g.var))
-      (find_none (depends_on_cycle gates) gates (λ i there. free i there (all i there)))
+  none_cyclic all = search (rules, find_none, free)
 
   pub all_listed_where_none : first_cyclic gates ≡ None → (i : ℕ) → i < length gates → IsAmong i list
   all_listed_where_none h i there =
@@ -195,9 +182,5 @@ module _ (gates : List Gate) (list : List ℕ) (full : IsFull (length gates) (ga
 -- a gate's variable is one that a circuit in form may define
 pub in_bounds : (c : Circuit) → IsInForm c → (p : ℕ) → p < length c.gates → (at c.gates p).var ≤ LARGEST
 in_bounds c form p there =
-    let defined : IsAmong (at c.gates p).var (defined_variables c) =
-    among_last (c.inputs ++ map (λ (l : Latch). l.var) c.latches) (map (λ (g : Gate). g.var) c.gates)
-    (at c.gates p).var (stands_there c.gates p there) in
-    let range : IsVariableUpTo c.max_var (at c.gates p).var =
-    each (IsVariableUpTo c.max_var) (defined_variables c) form.variables (at c.gates p).var defined in
-    omega (arith, range.1, form.limits.max_var)
+    let defined = among_last (c.inputs ++ map (λ (l : Latch). l.var) c.latches) (map (λ (g : Gate). g.var) c.gates)
+    (at c.gates p).var (stands_there c.gates p there) in search (rules, at, each)

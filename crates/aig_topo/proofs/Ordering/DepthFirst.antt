@@ -1,7 +1,8 @@
 -- A search for a gate that depends on a cycle, depth first.
+use Rattle.std.proofs.lemmas.Grind.{common_steps}
 use Rattle.std.proofs.Common.{rules}
 use Rattle.std.proofs.Common.{◌≡◌, ◌≢◌, ◌<◌, ◌≤◌, ◌+◌, ◌-◌, ◌*◌, ℕ, zero, suc, List, [], ◌∷◌, ◌++◌, Bool, true, false}
-use Rattle.std.proofs.Common.{cond, eqb, ltb, None, Some, length, map, take, replicate, get_or, refl, sym, ap, ap₂, subst}
+use Rattle.std.proofs.Common.{cond, eqb, None, Some, length, map, take, replicate, get_or, refl, sym, ap, ap₂, subst}
 use Rattle.std.proofs.Common.{◌∙◌, inl, inr, ⊎_elim, arith}
 use mathlib.Core.Bool.{◌&&◌, not}
 use Rattle.std.specs.List.{sum, list_all, position, position_or_len}
@@ -20,7 +21,6 @@ use Rattle.aig_topo.specs.Cycle.{comes_to_end, how_many_done, IsSearching, IsAtE
 use Rattle.aig_topo.specs.Cycle.{gate_at, over_pair, needs_in, pair_at}
 use Rattle.aig_topo.specs.Cycle.{pair_of, place_of, AreWithin}
 use Rattle.aig_circuit.specs.declared.circuit.Gate.{Gate}
-use Rattle.aig_circuit.specs.Literal.{variable_of}
 use Rattle.aig_topo.specs.Order.{gate_of, gates_under, gate_operands, ends_within, depends_on_cycle}
 use Rattle.aig_topo.proofs.Ordering.Gates.{zeros}
 use Rattle.aig_topo.proofs.Ordering.Counted.{among_either}
@@ -99,12 +99,7 @@ module _ (count : ℕ) (needs : ℕ → List ℕ) (states way : List ℕ) (befor
       one_false (comes_to_end n needs) (needs g) (get_or way (stands.0 + 1) 0)
       (subst (λ y. IsAmong (get_or way (stands.0 + 1) 0) (needs y)) at (before.uses stands.0 more))
       (trapped user next end uses met n (get_or way (stands.0 + 1) 0) (before.met (stands.0 + 1) more)))
-      (λ (last : length way ≤ stands.0 + 1).
-      let below : stands.0 < length way = stands.1 in
-      let place : length way - 1 ≡ stands.0 = omega (arith, last, below) in
-      one_false (comes_to_end n needs) (needs g) next
-      (subst (λ y. IsAmong next (needs y)) (sym end.last ∙ ap (λ i. get_or way i 0) place ∙ at) uses)
-      (trapped user next end uses met n next met))
+      (search (rules, one_false, at, trapped user next end uses met n next met))
       (cases_lt (stands.0 + 1) (length way))
 
   module _ (x : ℕ) (there : x < count) where
@@ -137,75 +132,35 @@ module _ (count : ℕ) (needs : ℕ → List ℕ) (states way : List ℕ) (befor
 
       -- one on the way is another
       other : (i : ℕ) → i < length way → get_or way i 0 ≢ x
-      other i l e =
-          let same : get_or states (get_or way i 0) 0 ≡ get_or states x 0 = ap (λ g. get_or states g 0) e in
-          let met : get_or states (get_or way i 0) 0 ≡ 1 = before.met i l in
-          absurd (omega (arith, same, met, unseen))
+      other i l e = search rules
 
       by_place : (P : ℕ → Type 0) → ((i : ℕ) → i < length way → P i) → P (length way) → (i : ℕ) → i < length longer → P i
-      by_place P old new i l =
-          ⊎_elim (λ (b : i < length way). old i b)
-          (λ (p : length way ≤ i). let same : length way ≡ i = omega (arith, p, l, long) in subst P same new)
-          (cases_lt i (length way))
+      by_place P old new i l = search (rules, long, cases_lt)
 
       done_as_before : how_many_done now ≡ how_many_done states
-      done_as_before =
-          let change : how_many_done now + counted (get_or states x 0) ≡ how_many_done states + 0 =
-          sum_by-set counted states x 1 0 in_states in
-          let was : counted (get_or states x 0) ≡ 0 = ap counted unseen in
-          omega (arith, change, was)
+      done_as_before = search (rules, sum_by-set, in_states)
 
       pub entered : IsSearching count needs now longer
       entered = record {
         as_many = length-set states x 1 ∙ before.as_many;
         none = elsewhere count (λ e. absurd (omega (arith, e, there))) ∙ before.none;
-        small = λ g. ⊎_elim (λ (t : (eqb g x ≡ true) × (g ≡ x)). rw (t.1, at_x) (omega arith))
-            (λ (f : (eqb g x ≡ false) × (g ≢ x)). rw (elsewhere g f.1) (before.small g)) (eqb_tells g x);
+        small = search (rules, at_x, elsewhere, eqb_tells);
         met = by_place (λ i. get_or now (get_or longer i 0) 0 ≡ 1)
             (λ i l. ap (λ g. get_or now g 0) (old_at i l) ∙ elsewhere (get_or way i 0) (other i l) ∙ before.met i l)
             (ap (λ g. get_or now g 0) new_at ∙ at_x);
         apart = λ i j less l. by_place (λ k. i < k → get_or longer i 0 ≢ get_or longer k 0)
             (λ k b less e. before.apart i k less b (sym (old_at i (omega (arith, less, b))) ∙ e ∙ old_at k b))
             (λ less e. other i less (sym (old_at i less) ∙ e ∙ new_at)) j l less;
-        uses = λ i l. by_place (λ k. k ≡ i + 1 → IsAmong (get_or longer k 0) (needs (get_or longer i 0)))
-            (λ k b e. let below : i < length way = omega (arith, b, e) in
-            let within : i + 1 < length way = omega (arith, b, e) in
-            subst (λ y. IsAmong (get_or longer k 0) (needs y)) (sym (old_at i below))
-            (subst (λ y. IsAmong y (needs (get_or way i 0)))
-            (ap (λ m. get_or way m 0) (sym e) ∙ sym (old_at k b)) (before.uses i within)))
-            (λ e. let below : i < length way = omega (arith, e) in
-            subst (λ y. IsAmong (get_or longer (length way) 0) (needs y)) (sym (old_at i below))
-            (subst (λ y. IsAmong y (needs (get_or way i 0))) (sym new_at) (needed (get_or way i 0) (record {
-              some = omega (arith, e);
-              last = ap (λ m. get_or way m 0) (omega (arith, e));
-            }))))
-            (i + 1) l refl;
-        on_way = λ g h. ⊎_elim (λ (t : (eqb g x ≡ true) × (g ≡ x)).
-            let last : length way < length longer = omega (arith, long) in
-            (length way, last, new_at ∙ sym t.1))
-            (λ (f : (eqb g x ≡ false) × (g ≢ x)).
-            let stands = before.on_way g (sym (elsewhere g f.1) ∙ h) in
-            let below : stands.0 < length way = stands.1 in
-            let within : stands.0 < length longer = omega (arith, long, below) in
-            (stands.0, within, old_at stands.0 below ∙ stands.2))
-            (eqb_tells g x);
-        ended = λ g l h. ⊎_elim (λ (t : (eqb g x ≡ true) × (g ≡ x)).
-            let one : get_or now g 0 ≡ 1 = ap (λ y. get_or now y 0) t.1 ∙ at_x in absurd (omega (arith, one, h)))
-            (λ (f : (eqb g x ≡ false) × (g ≢ x)).
-            subst (λ n. comes_to_end n needs g ≡ true) (sym done_as_before)
-            (before.ended g l (sym (elsewhere g f.1) ∙ h)))
-            (eqb_tells g x);
+        uses = grind (arith, common_steps, by_place, old_at, new_at, needed) steps 1000000;
+        on_way = search (rules, long, new_at, elsewhere, old_at, eqb_tells);
+        ended = search (rules, at_x, done_as_before, elsewhere, eqb_tells);
       }
 
       pub one_step_in : sum now ≡ sum states + 1
-      one_step_in =
-          let change : sum now + get_or states x 0 ≡ sum states + 1 = sum_by-set (λ s. s) states x 1 0 in_states in
-          omega (arith, change, unseen)
+      one_step_in = search (rules, sum_by-set, in_states)
 
       pub risen_in : IsRisen states now
-      risen_in g =
-          ⊎_elim (λ (t : (eqb g x ≡ true) × (g ≡ x)). rw (t.1, at_x, unseen) (omega arith))
-          (λ (f : (eqb g x ≡ false) × (g ≢ x)). omega (arith, elsewhere g f.1)) (eqb_tells g x)
+      risen_in g = search (rules, at_x, elsewhere, eqb_tells)
 
     -- the last one of the way is done
     module _ (end : IsAtEnd way x)
@@ -235,61 +190,30 @@ module _ (count : ℕ) (needs : ℕ → List ℕ) (states way : List ℕ) (befor
       differs_at i l e = before.apart i (length way - 1) l (omega (arith, end.some)) (e ∙ sym end.last)
 
       one_more_done : how_many_done after ≡ suc (how_many_done states)
-      one_more_done =
-          let change : how_many_done after + counted (get_or states x 0) ≡ how_many_done states + 1 =
-          sum_by-set counted states x 2 0 in_states in
-          let was : counted (get_or states x 0) ≡ 0 = ap counted was_met in
-          omega (arith, change, was)
+      one_more_done = search (rules, sum_by-set, in_states, was_met)
 
       ends_here : comes_to_end (suc (how_many_done states)) needs x ≡ true
       unfolding comes_to_end
-      ends_here = all_true (comes_to_end (how_many_done states) needs) (needs x)
-          (λ h a. before.ended h (served h a).0 (served h a).1)
+      ends_here = search (rules, all_true)
 
       pub left : IsSearching count needs after shorter
       left = record {
         as_many = length-set states x 2 ∙ before.as_many;
         none = apart_from count (λ e. absurd (omega (arith, e, there))) ∙ before.none;
-        small = λ g. ⊎_elim (λ (t : (eqb g x ≡ true) × (g ≡ x)). rw (t.1, done_x) (omega arith))
-            (λ (f : (eqb g x ≡ false) × (g ≢ x)). rw (apart_from g f.1) (before.small g)) (eqb_tells g x);
-        met = λ i l. let below : i < length way - 1 = omega (arith, l, as_long) in
-            ap (λ g. get_or after g 0) (kept_at i below) ∙ apart_from (get_or way i 0) (differs_at i below)
-            ∙ before.met i (omega (arith, below));
-        apart = λ i j less l e. let below : j < length way - 1 = omega (arith, l, as_long) in
-            let lower : i < length way - 1 = omega (arith, below, less) in
-            before.apart i j less (omega (arith, below)) (sym (kept_at i lower) ∙ e ∙ kept_at j below);
-        uses = λ i l. let below : i + 1 < length way - 1 = omega (arith, l, as_long) in
-            let lower : i < length way - 1 = omega (arith, below) in
-            let within : i + 1 < length way = omega (arith, below) in
-            subst (λ y. IsAmong (get_or shorter (i + 1) 0) (needs y)) (sym (kept_at i lower))
-            (subst (λ y. IsAmong y (needs (get_or way i 0))) (sym (kept_at (i + 1) below)) (before.uses i within));
+        small = search (rules, done_x, apart_from, eqb_tells);
+        met = search (rules, as_long, kept_at, apart_from, differs_at);
+        apart = search (rules, as_long, kept_at);
+        uses = search (rules, as_long, kept_at);
         on_way = λ g h.
-            let differs : g ≢ x = λ e. let two : get_or after g 0 ≡ 2 = ap (λ y. get_or after y 0) e ∙ done_x in
-            absurd (omega (arith, two, h)) in
-            let stands = before.on_way g (sym (apart_from g differs) ∙ h) in
-            let below : stands.0 < length way = stands.1 in
-            let not_last : stands.0 ≢ length way - 1 =
-            λ e. differs (sym stands.2 ∙ ap (λ i. get_or way i 0) e ∙ end.last) in
-            let lower : stands.0 < length way - 1 = omega (arith, below, not_last) in
-            let within : stands.0 < length shorter = omega (arith, lower, as_long) in
-            (stands.0, within, kept_at stands.0 lower ∙ stands.2);
-        ended = λ g l h. subst (λ n. comes_to_end n needs g ≡ true) (sym one_more_done)
-            (⊎_elim (λ (t : (eqb g x ≡ true) × (g ≡ x)).
-            subst (λ y. comes_to_end (suc (how_many_done states)) needs y ≡ true) (sym t.1) ends_here)
-            (λ (f : (eqb g x ≡ false) × (g ≢ x)).
-            one_more needs (how_many_done states) g (before.ended g l (sym (apart_from g f.1) ∙ h)))
-            (eqb_tells g x));
+            let differs : g ≢ x = search (rules, done_x) in search (rules, apart_from, as_long, kept_at);
+        ended = search (rules, one_more_done, ends_here, one_more, apart_from, eqb_tells);
       }
 
       pub one_step_out : sum after ≡ sum states + 1
-      one_step_out =
-          let change : sum after + get_or states x 0 ≡ sum states + 2 = sum_by-set (λ s. s) states x 2 0 in_states in
-          omega (arith, change, was_met)
+      one_step_out = search (rules, sum_by-set, in_states, was_met)
 
       pub risen_out : IsRisen states after
-      risen_out g =
-          ⊎_elim (λ (t : (eqb g x ≡ true) × (g ≡ x)). rw (t.1, done_x, was_met) (omega arith))
-          (λ (f : (eqb g x ≡ false) × (g ≢ x)). omega (arith, apart_from g f.1)) (eqb_tells g x)
+      risen_out g = search (rules, done_x, was_met, apart_from, eqb_tells)
 
 -- nothing is known yet
 module _ (count : ℕ) (needs : ℕ → List ℕ) where
@@ -322,10 +246,7 @@ module _ (gates : List Gate) (pairs : List Pair) (pairs_are : pairs ≡ map (pai
       let is : pair_at pairs g ≡ pair_of gates (at gates g) = ap (λ ps. pair_at ps g) pairs_are
       ∙ get_or-map (pair_of gates) gates g no_gate (record { left = 0; right = 0 }) l in
       rw (is, long_pairs) (place_within (at gates g).left, place_within (at gates g).right))
-      (λ (past : length gates ≤ g).
-      let is : pair_at pairs g ≡ record { left = 0; right = 0 } =
-      get_or_past pairs g (record { left = 0; right = 0 }) (omega (arith, past, long_pairs)) in
-      rw is (omega arith, omega arith))
+      (search (rules, left, get_or_past, long_pairs))
       (cases_lt g (length gates))
 
   gate_again : (v : ℕ) → gate_at (length gates) (unwrap_or (gate_of gates v) (length gates)) ≡ gate_of gates v
@@ -336,8 +257,7 @@ module _ (gates : List Gate) (pairs : List Pair) (pairs_are : pairs ≡ map (pai
       ] refl
 
   over_again : (g : Gate) → over_pair (length gates) (pair_of gates g) ≡ gates_under gates g
-  over_again g = ap₂ (λ a b. option_to_list a ++ option_to_list b) (gate_again (variable_of g.left))
-      (gate_again (variable_of g.right))
+  over_again g = search (rules, gate_again)
 
   pub same_needs : (g : ℕ) → g < length gates → needs_in pairs g ≡ gate_operands gates g
   same_needs g there =
@@ -362,8 +282,7 @@ module _ (gates : List Gate) (pairs : List Pair) (pairs_are : pairs ≡ map (pai
   depends_where : (g : ℕ) → g < length gates → depends_on_cycle gates (at gates g)
       ≡ not (comes_to_end (suc (length gates)) (needs_in pairs) g)
   unfolding ends_within
-  depends_where g there = ap (λ xs. not (list_all (ends_within (length gates) gates) xs)) (sym (needed gates g there))
-      ∙ ap not (sym (same_end (suc (length gates)) g there))
+  depends_where g there = search (rules, needed, same_end)
 
   pub depends : (g : ℕ) → g < length gates → ((n : ℕ) → comes_to_end n (needs_in pairs) g ≡ false)
       → depends_on_cycle gates (at gates g) ≡ true
@@ -388,9 +307,7 @@ module _ (gates : List Gate) (pairs : List Pair) (pairs_are : pairs ≡ map (pai
         let place : position_or_len (depends_on_cycle gates) gates ≡ g =
         position_or_len_is (depends_on_cycle gates) gates g no_gate (omega (arith, there))
         (λ k l. independent states way searching k (omega (arith, l, there)) (before k l))
-        (λ _. depends g there never) in
-        sym (ap (λ m. cond (ltb m (length gates)) (Some m) None) place
-        ∙ ap (λ b. cond b (Some g) None) (lt-ltb g (length gates) there))
+        (λ _. depends g there never) in search (rules, lt-ltb)
 
     pub none_is : ((k : ℕ) → k < length gates → get_or states k 0 ≡ 2)
         → None ≡ position (depends_on_cycle gates) gates
@@ -398,6 +315,4 @@ module _ (gates : List Gate) (pairs : List Pair) (pairs_are : pairs ≡ map (pai
         let place : position_or_len (depends_on_cycle gates) gates ≡ length gates =
         position_or_len_is (depends_on_cycle gates) gates (length gates) no_gate (omega arith)
         (λ k l. independent states way searching k l (all k l))
-        (λ l. absurd (omega (arith, l))) in
-        sym (ap (λ m. cond (ltb m (length gates)) (Some m) None) place
-        ∙ ap (λ b. cond b (Some (length gates)) None) (le-ltb (length gates) (length gates) (omega arith)))
+        (λ l. absurd (omega (arith, l))) in search (rules, le-ltb)

@@ -1,6 +1,6 @@
 -- The positions of gates by the variables that they define.
 use Rattle.std.proofs.Common.{◌≡◌, ◌<◌, ◌+◌, ℕ, List, [], ◌∷◌, ◌++◌, Bool, cond, eqb, length}
-use Rattle.std.proofs.Common.{get_or, take, None, Some, ap, ap₂, ◌∙◌, arith, zero, suc, refl}
+use Rattle.std.proofs.Common.{get_or, take, None, Some, ap, ap₂, ◌∙◌, arith, suc, refl}
 use Rattle.std.specs.Prelude.{replicate}
 use Rattle.std.specs.List.{position}
 use Rattle.std.specs.Option.{option_or}
@@ -31,7 +31,5 @@ gate_of_more gates i v g below =
 
 -- a table at first
 pub zeros : (n i : ℕ) → get_or {A = ℕ} (replicate n 0) i 0 ≡ 0
-zeros zero zero = refl
-zeros zero (suc i) = refl
-zeros (suc n) zero = refl
 zeros (suc n) (suc i) = zeros n i
+zeros n m = refl

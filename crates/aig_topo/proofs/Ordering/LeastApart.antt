@@ -2,12 +2,12 @@
 use Rattle.std.proofs.Common.{rules}
 use Rattle.std.proofs.Common.{◌≡◌, ◌≢◌, ◌<◌, ◌≤◌, ◌+◌, ◌-◌, ◌*◌, ◌∙◌, ◌++◌, ℕ, List, Bool, true, false, Option, None}
 use Rattle.std.proofs.Common.{Some}
-use Rattle.std.proofs.Common.{cond, eqb, length, take, min, max, refl, sym, subst, ap, ⊎_elim, arith}
+use Rattle.std.proofs.Common.{cond, eqb, length, take, min, max, refl, sym, subst, ap, arith}
 use mathlib.Core.Bool.{not, ◌||◌, ◌&&◌}
 use Rattle.std.specs.Prelude.{drop}
 use Rattle.std.specs.Option.{IfNone, IfSome}
 use Rattle.std.proofs.Math.Seq.{take-append_seam}
-use Rattle.std.proofs.lemmas.Bool.{cases_lt, eqb-true, or_cases, false_from_ne_true}
+use Rattle.std.proofs.lemmas.Bool.{cases_lt, false_from_ne_true}
 use Rattle.std.proofs.lemmas.Bool.Decides.{eqb_tells, nat_tests}
 use Rattle.aig_tables.specs.Parts.Marks.{is_marked}
 use Rattle.aig_topo.specs.Ready.{IsTree, IsReady, is_in_tree, is_least}
@@ -15,8 +15,7 @@ use Rattle.aig_topo.proofs.Ordering.Trees.{within_words}
 
 -- the words of a vector, once a change of them as a slice is written back
 pub written_back : (new old : List ℕ) (len : ℕ) → len ≡ length new → take len (new ++ drop (length new) old) ≡ new
-written_back new old len is = ap (λ n. take n (new ++ drop (length new) old)) is
-    ∙ take-append_seam new (drop (length new) old)
+written_back new old len is = search (rules, take-append_seam)
 
 -- the least gate and the words by other names
 pub same_ready : (least : ℕ) (apart : Option ℕ) (words items : List ℕ) (first levels : ℕ) → apart ≡ Some least
@@ -26,31 +25,19 @@ same_ready least apart words items first levels is same ready =
 
 pub same_gates : (least : ℕ) (apart : Option ℕ) (words items : List ℕ) (first g : ℕ) → apart ≡ Some least
     → words ≡ items → (eqb g least || is_in_tree words first g) ≡ (is_least apart g || is_in_tree items first g)
-same_gates least apart words items first g is same =
-    ap (λ ws. eqb g least || is_in_tree ws first g) same
-    ∙ ap (λ o. is_least o g || is_in_tree items first g) (sym is)
+same_gates least apart words items first g is same = search rules
 
 -- a gate is put into the tree
 pub gate_put : (words new : List ℕ) (first gate : ℕ) → length words ≤ first + 1
     → ((b : ℕ) → length words ≤ b + 1 → is_marked new b ≡ cond (eqb b (first + gate)) true (is_marked words b))
     → (g : ℕ) → is_in_tree new first g ≡ cond (eqb g gate) true (is_in_tree words first g)
-gate_put words new first gate within lowest g =
-    let same : eqb (first + g) (first + gate) ≡ eqb g gate = grind (arith, nat_tests) in
-    lowest (first + g) (omega (arith, within)) ∙ ap (λ c. cond c true (is_marked words (first + g))) same
+gate_put words new first gate within lowest g = search (rules, nat_tests)
 
 -- the gate that stands apart is not in the tree
 not_twice : (words : List ℕ) (first levels least : ℕ) → IsReady (Some least) words first levels
     → is_in_tree words first least ≡ false
 not_twice words first levels least ready =
     false_from_ne_true (is_in_tree words first least) (λ set. absurd (omega (arith, ready.before.1 least set)))
-
--- it comes before the others
-pub comes_first : (words : List ℕ) (first levels least : ℕ) → IsReady (Some least) words first levels
-    → (g : ℕ) → (eqb g least || is_in_tree words first g) ≡ true → least ≤ g
-comes_first words first levels least ready g set =
-    ⊎_elim (λ (here : eqb g least ≡ true). omega (arith, eqb-true g least here))
-    (λ (in_it : is_in_tree words first g ≡ true). omega (arith, ready.before.1 g in_it))
-    (or_cases (eqb g least) (is_in_tree words first g) set)
 
 pub there_already : (e t : Bool) → (e || t) ≡ (e || (e || t))
 there_already true t = refl
@@ -63,9 +50,7 @@ first_added false false t = refl
 
 later_added : (a b t : Bool) → (b || cond a true t) ≡ (a || (b || t))
 later_added true true t = refl
-later_added true false t = refl
-later_added false true t = refl
-later_added false false t = refl
+later_added b d t = refl
 
 -- a gate more, where one stands apart: the earlier one of the two stands apart then, and the later one is put into the
 -- tree

@@ -23,8 +23,7 @@ all_or_not : (taken xs : List ℕ) → AllByRecursion (λ h. IsAmong h taken) xs
     ⊎ (¬ AllByRecursion (λ h. IsAmong h taken) xs)
 all_or_not taken [] = inl tt
 all_or_not taken (x ∷ xs) =
-    ⊎_elim (λ (i : IsAmong x taken). ⊎_elim (λ a. inl (i, a))
-    (λ (o : ¬ AllByRecursion (λ h. IsAmong h taken) xs). inr (λ a. o a.1)) (all_or_not taken xs))
+    ⊎_elim (λ (i : IsAmong x taken). search (rules, all_or_not taken xs))
     (λ (o : ¬ IsAmong x taken). inr (λ a. o a.0)) (among_or_not x taken)
 
 module _ (count : ℕ) (needs : ℕ → List ℕ) where
@@ -42,8 +41,8 @@ module _ (count : ℕ) (needs : ℕ → List ℕ) where
       let first : y ≡ x = omega (arith, in_turn.1 y in_turn_too.0, in_turn_too.1 x in_turn.0) in
       ap₂ (λ z zs. z ∷ zs) (sym first)
       (same_list (x ∷ taken) xs ys in_turn.2 ends
-      (subst (λ z. TakesLeast count needs (z ∷ taken) ys) first in_turn_too.2)
-      (subst (λ z. Ends (z ∷ taken) ys) first ends_too))
+      (rw first at in_turn_too.2)
+      (rw first at ends_too))
 
   -- the gates of a list are those taken before and those of what is left of it
   abbrev Has : List ℕ → List ℕ → List ℕ → Type 0
@@ -52,25 +51,19 @@ module _ (count : ℕ) (needs : ℕ → List ℕ) where
 
   moved : (list taken xs : List ℕ) (x : ℕ) → IsAmong x list → Has list taken (x ∷ xs) → Has list (x ∷ taken) xs
   moved list taken xs x there has = (
-    λ h a. ⊎_elim (λ (e : h ≡ x). subst (λ z. IsAmong z list) (sym e) there) (λ (b : IsAmong h taken). has.0 h b) a,
-    λ h a. ⊎_elim (λ (b : IsAmong h taken). inl (inr b))
-        (λ (b : IsAmong h (x ∷ xs)). ⊎_elim (λ (e : h ≡ x). inl (inl e)) (λ i. inr i) b) (has.1 h a),
+    λ h a. ⊎_elim (λ (e : h ≡ x). rw e there) (λ (b : IsAmong h taken). has.0 h b) a,
+    search rules,
   )
-
-  only_taken : (list taken : List ℕ) → Has list taken [] → (h : ℕ) → IsAmong h list → IsAmong h taken
-  only_taken list taken has h a = ⊎_elim (λ (b : IsAmong h taken). b) (λ (n : ⊥). absurd n) (has.1 h a)
 
   ends_where_full : (list taken xs : List ℕ) → ((h : ℕ) → IsAmong h xs → IsAmong h list) → Has list taken xs
       → IsFull count needs list → Ends taken xs
-  ends_where_full list taken [] rest has full = λ g ready.
-      ready.left (only_taken list taken has g
-      (full g ready.there (all_weaker (λ h. IsAmong h taken) (λ h. IsAmong h list) has.0 (needs g) ready.served)))
+  ends_where_full list taken [] rest has full = search (rules, all_weaker)
   ends_where_full list taken (x ∷ xs) rest has full =
       ends_where_full list (x ∷ taken) xs (λ h a. rest h (inr a)) (moved list taken xs x (rest x (inl refl)) has) full
 
   full_where_it_ends : (list taken xs : List ℕ) → ((h : ℕ) → IsAmong h xs → IsAmong h list) → Has list taken xs
       → Ends taken xs → IsFull count needs list
-  full_where_it_ends list taken [] rest has ends = search (rules, all_weaker, only_taken, among_or_not)
+  full_where_it_ends list taken [] rest has ends = search (rules, all_weaker, among_or_not)
   full_where_it_ends list taken (x ∷ xs) rest has ends =
       full_where_it_ends list (x ∷ taken) xs (λ h a. rest h (inr a)) (moved list taken xs x (rest x (inl refl)) has)
       ends
@@ -80,9 +73,7 @@ module _ (count : ℕ) (needs : ℕ → List ℕ) where
 
   pub one_order : (xs ys : List ℕ) → TakesLeast count needs [] xs → IsFull count needs xs → TakesLeast count needs [] ys
       → IsFull count needs ys → xs ≡ ys
-  one_order xs ys in_turn full in_turn_too full_too =
-      same_list [] xs ys in_turn (ends_where_full xs [] xs (λ h a. a) (whole xs) full) in_turn_too
-      (ends_where_full ys [] ys (λ h a. a) (whole ys) full_too)
+  one_order xs ys in_turn full in_turn_too full_too = search (rules, same_list, ends_where_full, whole)
 
   ready_or_not : (taken : List ℕ) (g : ℕ) → g < count → IsReady count needs taken g ⊎ (¬ IsReady count needs taken g)
   ready_or_not taken g there = search (rules, all_or_not, among_or_not)
@@ -111,17 +102,15 @@ module _ (count : ℕ) (needs : ℕ → List ℕ) where
     [],
     (
       tt,
-      λ g ready. let fit : length (g ∷ taken) ≤ count =
-          at_most_below count (g ∷ taken) (ready.left, once) (ready.there, below) in
-          absurd (omega (arith, fit, enough)),
+      λ g ready.
+          absurd (omega (arith, at_most_below count (g ∷ taken) (ready.left, once) (ready.there, below), enough)),
     ),
   )
   from (suc fuel) taken once below enough =
       ⊎_elim (λ (found : (g : ℕ) × IsLeast taken g).
       let g : ℕ = found.0 in
       let ready : IsReady count needs taken g = found.1.0 in
-      let later : (xs : List ℕ) × (TakesLeast count needs (g ∷ taken) xs × Ends (g ∷ taken) xs) =
-      from fuel (g ∷ taken) (ready.left, once) (ready.there, below) (omega (arith, enough)) in (
+      let later = from fuel (g ∷ taken) (ready.left, once) (ready.there, below) (omega (arith, enough)) in (
         g ∷ later.0,
         (
           (
@@ -131,8 +120,7 @@ module _ (count : ℕ) (needs : ℕ → List ℕ) where
           ),
           later.1.1,
         ),
-      )) (λ (none : (h : ℕ) → h < count → ¬ IsReady count needs taken h).
-      ([], (tt, λ g ready. none g ready.there ready)))
+      )) (search rules)
       (least_below taken count (omega arith))
 
   pub an_order : (xs : List ℕ) × (TakesLeast count needs [] xs × IsFull count needs xs)

@@ -1,10 +1,10 @@
 -- How many gates are left over: those that a list does not have.
 use Rattle.std.proofs.Common.{rules}
-use Rattle.std.proofs.Common.{◌≡◌, ◌<◌, ◌+◌, ◌-◌, ℕ, zero, suc, List, [], ◌∷◌, ◌++◌, cond, true, false, length}
+use Rattle.std.proofs.Common.{◌≡◌, ◌<◌, ◌+◌, ◌-◌, ℕ, zero, suc, List, [], ◌∷◌, cond, true, false, length}
 use Rattle.std.proofs.Common.{refl, sym, ap, ◌∙◌, ⊎_elim, arith}
 use mathlib.Core.Bool.{not}
 use Rattle.std.specs.List.{AllByRecursion, count_by}
-use Rattle.std.proofs.lemmas.List.Sums.{sum_by-cons, sum_by-append}
+use Rattle.std.proofs.lemmas.List.Sums.{sum_by-cons}
 use Rattle.aig_circuit.specs.Wellformed.{IsAmong}
 use Rattle.aig_topo.specs.Order.{left_over}
 use Rattle.aig_topo.specs.Progress.{has_gate}
@@ -14,15 +14,9 @@ use Rattle.aig_circuit.proofs.Checking.Fitting.{all_weaker}
 use Rattle.aig_circuit.proofs.Checking.InForm.{among_decides}
 use Rattle.aig_topo.proofs.Ordering.LeastReady.{among_or_not}
 
-pub has_not : (list : List ℕ) (g : ℕ) → ¬ IsAmong g list → has_gate list g ≡ false
-has_not list g out = search (rules, among_decides)
-
 left-cons : (list : List ℕ) (x : ℕ) (xs : List ℕ)
     → left_over list (x ∷ xs) ≡ cond (not (has_gate list x)) 1 0 + left_over list xs
 left-cons list x xs = sum_by-cons (λ h. cond (not (has_gate list h)) 1 0) x xs
-
-pub left-append : (list xs ys : List ℕ) → left_over list (xs ++ ys) ≡ left_over list xs + left_over list ys
-left-append list xs ys = sum_by-append (λ h. cond (not (has_gate list h)) 1 0) xs ys
 
 -- one that the list has, and one that it lacks
 pub listed_first : (list : List ℕ) (x : ℕ) (xs : List ℕ) → IsAmong x list → left_over list (x ∷ xs) ≡ left_over list xs
@@ -31,7 +25,7 @@ listed_first list x xs a =
 
 pub missing_first : (list : List ℕ) (x : ℕ) (xs : List ℕ) → ¬ IsAmong x list
     → left_over list (x ∷ xs) ≡ suc (left_over list xs)
-missing_first list x xs out = omega (arith, left-cons list x xs, ap {B = ℕ} (λ b. cond (not b) 1 0) (has_not list x out))
+missing_first list x xs out = search (rules, left-cons list x xs, among_decides)
 
 -- where none is left over, all are in the list, and the other way round
 pub none_left : (list xs : List ℕ) → left_over list xs ≡ 0 → AllByRecursion (λ h. IsAmong h list) xs
@@ -55,24 +49,17 @@ has_or_not list [] = refl
 has_or_not list (x ∷ xs) =
     let one : cond (not (has_gate list x)) 1 0 + cond (has_gate list x) 1 0 ≡ 1 =
     elim (has_gate list x) as (λ b. cond (not b) 1 0 + cond b 1 0 ≡ 1) [ true ↦ refl | false ↦ refl ] in
-    let has_is : count_by (has_gate list) (x ∷ xs) ≡ cond (has_gate list x) 1 0 + count_by (has_gate list) xs =
-    sum_by-cons (λ h. cond (has_gate list h) 1 0) x xs in
+    let has_is = sum_by-cons (λ h. cond (has_gate list h) 1 0) x xs in
     omega (arith, one, left-cons list x xs, has_is, has_or_not list xs)
 
 pub link_is : (link : ℕ) → 0 < link → linked link ≡ (link - 1) ∷ []
 link_is zero some = absurd (omega (arith, some))
 link_is (suc position) some = ap (λ p. p ∷ []) (omega arith)
 
-back : (position : ℕ) → suc position - 1 ≡ position
-back position = omega arith
-
 -- where a link leads to one that is left over, there is one
 pub some_left : (list : List ℕ) (link : ℕ) → 0 < left_over list (linked link)
     → (0 < link) × (¬ IsAmong (link - 1) list) × (left_over list (linked link) ≡ 1)
 some_left list zero some = absurd (omega (arith, some))
 some_left list (suc position) some =
-    let out : ¬ IsAmong position list = λ a. omega (arith, some, listed_first list position [] a) in (
-      omega arith,
-      rw (back position) out,
-      missing_first list position [] out,
-    )
+    let out : ¬ IsAmong position list = λ a. omega (arith, some, listed_first list position [] a) in
+    search (rules, missing_first)

@@ -1,5 +1,6 @@
 -- Lists in one table: what becomes of them where a gate is put at the front of one, or taken from there.
-use Rattle.std.proofs.Common.{◌≡◌, ◌≢◌, ◌<◌, ◌≤◌, ℕ, zero, suc, List, [], ◌∷◌, length, get_or, eqb, true, false}
+use Rattle.std.proofs.Common.{rules}
+use Rattle.std.proofs.Common.{◌≡◌, ◌≢◌, ◌<◌, ◌≤◌, ℕ, zero, suc, List, [], ◌∷◌, length, get_or, eqb, false}
 use Rattle.std.proofs.Common.{refl, sym, ap, subst, ◌∙◌, inl, inr, ⊎_elim, arith}
 use Rattle.std.specs.List.{AllByRecursion}
 use Rattle.std.proofs.Math.ListN.{set as put}
@@ -17,8 +18,7 @@ list_is zero links link [] to few = refl
 list_is (suc most) links link [] to few = rw to refl
 list_is zero links link (u ∷ us) to few = absurd (omega (arith, few))
 list_is (suc most) links link (u ∷ us) to few =
-    subst (λ l. gates_up_to (suc most) links l ≡ u ∷ us) (sym to.0)
-    (ap (λ vs. u ∷ vs) (list_is most links (next_of links u) us to.1 (omega (arith, few))))
+    search (rules, list_is most links (next_of links u) us to.1 (omega (arith, few)))
 
 -- a table that has the same links behind these gates
 kept : (links more : List Link) (us : List ℕ) (link : ℕ)
@@ -26,8 +26,7 @@ kept : (links more : List Link) (us : List ℕ) (link : ℕ)
 kept links more [] link same to = to
 kept links more (u ∷ us) link same to = (
   to.0,
-  subst (λ l. LeadsTo more l us) (sym (same u (inl refl)))
-      (kept links more us (next_of links u) (λ v a. same v (inr a)) to.1),
+  rw (same u (inl refl)) (kept links more us (next_of links u) (λ v a. same v (inr a)) to.1),
 )
 
 -- a list by its gates
@@ -50,21 +49,18 @@ all_lists links each = record {
 
 -- one list or another
 either_list : (P : ℕ → Type 0) (list : ℕ) → P list → ((k : ℕ) → k ≢ list → P k) → (k : ℕ) → P k
-either_list P list here other k =
-    ⊎_elim (λ (t : (eqb k list ≡ true) × (k ≡ list)). subst P (sym t.1) here)
-    (λ (f : (eqb k list ≡ false) × (k ≢ list)). other k f.1) (eqb_tells k list)
+either_list P list here other k = search (rules, eqb_tells)
 
 module _ (links more : List Link) (list gate : ℕ) (lists : AreLists links) (as_many : length more ≡ length links)
     (first_other : (k : ℕ) → k ≢ list → first_of more k ≡ first_of links k) where
   still_below : (k : ℕ) → AllByRecursion (λ g. g < length more) (list_of links k)
-  still_below k = subst (λ n. AllByRecursion (λ g. g < n) (list_of links k)) (sym as_many) (lists.below k)
+  still_below k = rw as_many (lists.below k)
 
   -- a list whose first link and whose gates' links are as they were
   as_before : ((k v : ℕ) → k ≢ list → IsAmong v (list_of links k) → next_of more v ≡ next_of links v) → (k : ℕ)
       → k ≢ list → IsList more k (list_of links k)
   as_before same k differs = (
-    subst (λ l. LeadsTo more l (list_of links k)) (sym (first_other k differs))
-        (kept links more (list_of links k) (first_of links k) (λ v a. same k v differs a) (lists.ends k)),
+    search (rules, first_other, kept, lists.ends k),
     lists.once k,
     still_below k,
   )
@@ -74,18 +70,10 @@ module _ (links more : List Link) (list gate : ℕ) (lists : AreLists links) (as
       (first_here : first_of more list ≡ suc gate) (next_here : next_of more gate ≡ first_of links list)
       (next_other : (v : ℕ) → v ≢ gate → next_of more v ≡ next_of links v) where
     untouched : (k v : ℕ) → IsAmong v (list_of links k) → next_of more v ≡ next_of links v
-    untouched k v a = next_other v (λ e. nowhere k (subst (λ z. IsAmong z (list_of links k)) e a))
+    untouched k v a = next_other v (λ e. nowhere k (rw e at a))
 
     with_gate : IsList more list (gate ∷ list_of links list)
-    with_gate = (
-      (
-        first_here,
-        subst (λ l. LeadsTo more l (list_of links list)) (sym next_here)
-            (kept links more (list_of links list) (first_of links list) (untouched list) (lists.ends list)),
-      ),
-      (nowhere list, lists.once list),
-      (omega (arith, known, as_many), still_below list),
-    )
+    with_gate = search (rules, first_here, next_here, kept, untouched, still_below, lists.ends list)
 
     pub pushed : list_of more list ≡ gate ∷ list_of links list
     pushed = told more list (gate ∷ list_of links list) with_gate
@@ -103,9 +91,7 @@ module _ (links more : List Link) (list gate : ℕ) (lists : AreLists links) (as
   split : (link : ℕ) (us : List ℕ) → LeadsTo links link us → link ≡ suc gate
       → (rest : List ℕ) × ((us ≡ gate ∷ rest) × LeadsTo links (next_of links gate) rest)
   split link [] to is = absurd (omega (arith, to, is))
-  split link (u ∷ us) to is =
-      let e : u ≡ gate = omega (arith, to.0, is) in
-      (us, (ap (λ z. z ∷ us) e, subst (λ z. LeadsTo links (next_of links z) us) e to.1))
+  split link (u ∷ us) to is = search rules
 
   module _ (is : first_of links list ≡ suc gate) (first_here : first_of more list ≡ next_of links gate)
       (next_same : (v : ℕ) → next_of more v ≡ next_of links v) where
@@ -113,15 +99,7 @@ module _ (links more : List Link) (list gate : ℕ) (lists : AreLists links) (as
     parts = split (first_of links list) (list_of links list) (lists.ends list) is
 
     rest_is : IsList more list parts.0
-    rest_is =
-        let once : AreDistinct (gate ∷ parts.0) = subst AreDistinct parts.1.0 (lists.once list) in
-        let below : AllByRecursion (λ g. g < length more) (gate ∷ parts.0) =
-        subst (AllByRecursion (λ g. g < length more)) parts.1.0 (still_below list) in (
-          subst (λ l. LeadsTo more l parts.0) (sym first_here)
-              (kept links more parts.0 (next_of links gate) (λ v _. next_same v) parts.1.1),
-          once.1,
-          below.1,
-        )
+    rest_is = search (rules, still_below, first_here, kept)
 
     pub popped : list_of links list ≡ gate ∷ list_of more list
     popped = parts.1.0 ∙ ap (λ us. gate ∷ us) (sym (told more list parts.0 rest_is))
@@ -151,10 +129,7 @@ pub front_below : (links : List Link) (list gate : ℕ) → AreLists links → f
     → gate < length links
 front_below links list gate lists is =
     let w = split links links list gate lists refl (λ k _. refl) (first_of links list) (list_of links list)
-    (lists.ends list) is in
-    let below : AllByRecursion (λ g. g < length links) (gate ∷ w.0) =
-    subst (AllByRecursion (λ g. g < length links)) w.1.0 (lists.below list) in
-    below.0
+    (lists.ends list) is in search rules
 
 -- the table with one link changed
 module _ (links : List Link) (k : ℕ) (link : Link) where
@@ -179,16 +154,14 @@ module _ (links : List Link) (k : ℕ) (link : Link) where
   -- where another gate comes first, what is behind each gate stays
   pub same_next : k < length links → link.next ≡ next_of links k → (v : ℕ) → next_of (put links k link) v ≡ next_of links v
   same_next there same v =
-      ⊎_elim (λ (t : (eqb v k ≡ true) × (v ≡ k)).
-      ap (next_of (put links k link)) t.1 ∙ next_there there ∙ same ∙ ap (next_of links) (sym t.1))
+      ⊎_elim (search (rules, next_there))
       (λ (f : (eqb v k ≡ false) × (v ≢ k)). next_elsewhere v f.1) (eqb_tells v k)
 
   -- where another gate is behind it, what comes first in each list stays
   pub same_first : k < length links → link.first ≡ first_of links k → (v : ℕ)
       → first_of (put links k link) v ≡ first_of links v
   same_first there same v =
-      ⊎_elim (λ (t : (eqb v k ≡ true) × (v ≡ k)).
-      ap (first_of (put links k link)) t.1 ∙ first_there there ∙ same ∙ ap (first_of links) (sym t.1))
+      ⊎_elim (search (rules, first_there))
       (λ (f : (eqb v k ≡ false) × (v ≢ k)). first_elsewhere v f.1) (eqb_tells v k)
 
 -- what an index reads is what the table has there
@@ -213,13 +186,7 @@ pub have_less : (links : List Link) (list gate : ℕ) (lists : AreLists links) (
     → link.first ≡ next_of links gate → HaveLess links (put links list link) list gate
 have_less links list gate lists there is link same now =
     let as_many = length-set links list link in
-    let apart = first_elsewhere links list link in
-    let here = first_there links list link there ∙ now in
-    let behind = same_next links list link there same in record {
-      lists = popped_lists links (put links list link) list gate lists as_many apart is here behind;
-      front = popped links (put links list link) list gate lists as_many apart is here behind;
-      others = popped_elsewhere links (put links list link) list gate lists as_many apart is here behind;
-    }
+    search (rules, first_elsewhere, first_there, same_next, popped_lists, popped, popped_elsewhere)
 
 -- and once a gate was put at the front of one: first behind the gate, then before it
 pub record HaveMore (links more : List Link) (list gate : ℕ) : Type 0 where
@@ -262,10 +229,5 @@ module _ (links : List Link) (list gate : ℕ) (lists : AreLists links) (there :
 
   pub have_more : HaveMore links two list gate
   have_more =
-      let as_many : length two ≡ length links = length-set one list before ∙ long in record {
-        lists = pushed_lists links two list gate lists as_many first_other known nowhere first_here next_here
-            next_other;
-        front = pushed links two list gate lists as_many first_other known nowhere first_here next_here next_other;
-        others = pushed_elsewhere links two list gate lists as_many first_other known nowhere first_here next_here
-            next_other;
-      }
+      let as_many : length two ≡ length links = length-set one list before ∙ long in
+      search (rules, pushed_lists, first_other, first_here, next_here, next_other, pushed, pushed_elsewhere)

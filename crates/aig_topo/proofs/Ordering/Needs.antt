@@ -1,45 +1,29 @@
 -- What gates need, as the code looks it up.
 use Rattle.std.proofs.Common.{rules}
-use Rattle.std.proofs.Common.{◌≡◌, ◌<◌, ◌≤◌, ℕ, zero, suc, List, [], ◌∷◌, ◌++◌, Option, None, Some, length, map, get_or, eqb}
+use Rattle.std.proofs.Common.{◌≡◌, ◌<◌, ◌≤◌, ℕ, suc, List, [], ◌∷◌, Option, None, Some, length, map, get_or}
 use Rattle.std.proofs.Common.{refl, sym, ap, ap₂, subst, ◌∙◌, ⊎_elim, arith}
 use Rattle.std.specs.List.{AllByRecursion}
-use Rattle.std.specs.Option.{IfSome, option_to_list}
+use Rattle.std.specs.Option.{option_to_list}
 use Rattle.std.proofs.lemmas.Bool.{cases_lt}
 use Rattle.std.proofs.lemmas.List.{get_or-map, get_or_past, length-map}
 use Rattle.std.proofs.lemmas.Simd.{map-map}
-use Rattle.std.proofs.lemmas.List.Quantifiers.{position-Some}
 use Rattle.aig_circuit.specs.declared.circuit.Gate.{Gate}
-use Rattle.aig_circuit.specs.declared.circuit.TheConstants.{LARGEST}
 use Rattle.aig_topo.specs.declared.lists.GateNode.{GateNode}
 use Rattle.aig_topo.specs.declared.operands.Needs.{Needs}
-use Rattle.aig_circuit.specs.Literal.{variable_of}
-use Rattle.aig_circuit.specs.Wellformed.{IsAmong}
-use Rattle.aig_topo.specs.Order.{gate_of, gates_under, gate_operands, IsReady, TakesLeast, IsFull}
+use mathlib.Core.Path.{fun_ext}
+use Rattle.aig_topo.specs.Order.{gates_under, gate_operands, TakesLeast, IsFull}
 use Rattle.aig_tables.specs.VarMap.{link_to}
 use Rattle.aig_topo.specs.Lists.{needs_in}
 use Rattle.aig_topo.specs.Needs.{linked, needs_of, under, how_many, needs_at, no_needs, AreThere}
-use Rattle.aig_topo.proofs.Ordering.Ranked.{no_gate, needed, over_one}
-use Rattle.aig_topo.proofs.Ordering.Steps.{all_of, none_past, two_operands}
-
-few_one : (o : Option ℕ) → ((at : ℕ) → o ≡ Some at → at < LARGEST) → IfSome o (λ at. at < LARGEST)
-few_one None h = tt
-few_one (Some at) h = h at refl
-
--- the place of a gate is among the gates
-pub few_places : (gates : List Gate) (index : ℕ → Option ℕ) → ((v : ℕ) → index v ≡ gate_of gates v)
-    → length gates ≤ LARGEST → (v : ℕ) → IfSome (index v) (λ at. at < LARGEST)
-few_places gates index is few v =
-    few_one (index v) (λ at e.
-    omega (arith, few, (position-Some (λ (g : Gate). eqb g.var v) gates at no_gate (sym (is v) ∙ e)).0))
+use Rattle.aig_topo.proofs.Ordering.Ranked.{all_of, no_gate, needed, over_one}
+use Rattle.aig_topo.proofs.Ordering.Steps.{two_operands}
 
 linked_to : (o : Option ℕ) → linked (link_to o) ≡ option_to_list o
 linked_to None = refl
 linked_to (Some x) = refl
 
 pub same_under : (gates : List Gate) (g : Gate) → under (needs_of gates g) ≡ gates_under gates g
-same_under gates g =
-    ap₂ (λ xs ys. xs ++ ys) (linked_to (gate_of gates (variable_of g.left)))
-    (linked_to (gate_of gates (variable_of g.right)))
+same_under gates g = search (rules, linked_to)
 
 pub here_needs : (all : List Needs) (gate : ℕ) (n : Needs) → gate < length all → n ≡ get_or all gate n
     → needs_at all gate ≡ under n
@@ -57,29 +41,19 @@ module _ (gates : List Gate) (all : List Needs) (all_are : all ≡ map (needs_of
       ∙ ap under (get_or-map (needs_of gates) gates u no_gate no_needs there)
       ∙ same_under gates (get_or gates u no_gate)
       ∙ sym (needed gates u there))
-      (λ (past : length gates ≤ u).
-      get_or_past (map under all) u [] (omega (arith, past, as_long, length-map all under))
-      ∙ sym (none_past gates u past))
+      (search (rules, get_or_past, as_long, length-map))
       (cases_lt u (length gates))
 
   pub are_there : AreThere all
-  are_there u = search (rules, all_of, same_needs, as_long, over_one, none_past, cases_lt)
+  are_there u = search (rules, all_of, same_needs, as_long, over_one, cases_lt, get_or_past, length-map)
 
 -- an order by what is needed, however that is told
 module _ (count : ℕ) (some other : ℕ → List ℕ) (same : (u : ℕ) → some u ≡ other u) where
-  ready_too : (taken : List ℕ) (g : ℕ) → IsReady count some taken g → IsReady count other taken g
-  ready_too taken g r = search rules
-
-  ready_before : (taken : List ℕ) (g : ℕ) → IsReady count other taken g → IsReady count some taken g
-  ready_before taken g r = search rules
-
   pub in_turn_too : (taken xs : List ℕ) → TakesLeast count some taken xs → TakesLeast count other taken xs
-  in_turn_too taken [] in_turn = tt
-  in_turn_too taken (x ∷ xs) in_turn = search (rules, ready_too, ready_before)
+  in_turn_too taken xs in_turn = subst (λ needs. TakesLeast count needs taken xs) (fun_ext same) in_turn
 
   pub full_too : (list : List ℕ) → IsFull count some list → IsFull count other list
-  full_too list full g there served =
-      full g there (subst (AllByRecursion (λ h. IsAmong h list)) (sym (same g)) served)
+  full_too list full = subst (λ needs. IsFull count needs list) (fun_ext same) full
 
 -- how many operands each gate waits for at first
 one_by_one : (gates gs : List Gate) → map (λ (g : Gate). how_many (needs_of gates g)) gs
@@ -88,10 +62,8 @@ one_by_one gates [] = refl
 one_by_one gates (g ∷ gs) = ap₂ (λ n ns. n ∷ ns) (ap length (same_under gates g)) (one_by_one gates gs)
 
 length_at : (xss : List (List ℕ)) (u : ℕ) → get_or (map length xss) u 0 ≡ length (get_or xss u [])
-length_at [] zero = refl
-length_at [] (suc u) = refl
-length_at (xs ∷ xss) zero = refl
 length_at (xs ∷ xss) (suc u) = length_at xss u
+length_at xs n = refl
 
 module _ (gates : List Gate) (rows : List GateNode) (counts : List ℕ)
     (needs_are : needs_in rows ≡ map (needs_of gates) gates) (are : counts ≡ map how_many (needs_in rows)) where
@@ -105,6 +77,4 @@ module _ (gates : List Gate) (rows : List GateNode) (counts : List ℕ)
   at_most_two = subst (AllByRecursion (λ w. w ≤ 2)) (sym counts_are) (two_operands gates gates)
 
   pub each_count : (u : ℕ) → get_or counts u 0 ≡ length (needs_at (needs_in rows) u)
-  each_count u =
-      ap (λ ws. get_or ws u 0) (are ∙ sym (map-map length under (needs_in rows)))
-      ∙ length_at (map under (needs_in rows)) u
+  each_count u = search (rules, map-map, length_at)

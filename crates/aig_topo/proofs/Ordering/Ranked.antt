@@ -1,15 +1,15 @@
 -- A rank of gates exists exactly where their order has all of them.
+use Rattle.std.proofs.Common.{rules}
 use Rattle.std.proofs.Common.{◌≡◌, ◌≢◌, ◌<◌, ◌+◌, ℕ, zero, suc, List, [], ◌∷◌, ◌++◌, Option, None, Some, length, map}
-use Rattle.std.proofs.Common.{get_or, cond, eqb, ltb, true, false, refl, sym, ap, subst, ◌∙◌, ◌⊎◌, ◌↔◌, inl, inr}
+use Rattle.std.proofs.Common.{get_or, cond, eqb, false, refl, sym, ap, subst, ◌∙◌, ◌⊎◌, ◌↔◌, inl, inr}
 use Rattle.std.proofs.Common.{⊎_elim, arith}
-use Rattle.std.specs.List.{AllByRecursion, Contains, position_or_len}
+use Rattle.std.specs.List.{AllByRecursion, Contains}
 use Rattle.std.specs.Option.{option_to_list, option_map_or}
 use Rattle.std.proofs.lemmas.Bool.{ne_eqb, lt-ltb}
 use Rattle.std.proofs.lemmas.Bool.Decides.{Decides-eqb, eqb_tells}
 use Rattle.std.proofs.lemmas.List.{get_or_default, get_or-map}
 use Rattle.std.proofs.lemmas.List.Quantifiers.{position-Some}
 use Rattle.std.proofs.lemmas.List.Sums.{position_or_len_is}
-use Rattle.aig_circuit.specs.declared.circuit.Latch.{Latch}
 use Rattle.aig_circuit.specs.declared.circuit.Gate.{Gate}
 use Rattle.aig_circuit.specs.declared.circuit.Circuit.{Circuit}
 use Rattle.aig_circuit.specs.Literal.{variable_of}
@@ -22,17 +22,21 @@ use Rattle.aig_topo.proofs.Ordering.LeastReady.{among_or_not}
 abbrev Ranks : ℕ → (ℕ → List ℕ) → (ℕ → ℕ) → Type 0
 Ranks count needs rank = (g h : ℕ) → g < count → IsAmong h (needs g) → rank h < rank g
 
+-- what holds of each holds of all
+pub all_of : (P : ℕ → Type 0) (xs : List ℕ) → ((x : ℕ) → IsAmong x xs → P x) → AllByRecursion P xs
+all_of P [] each = tt
+all_of P (x ∷ xs) each = (each x (inl refl), all_of P xs (λ y a. each y (inr a)))
+
 module _ (count : ℕ) (needs : ℕ → List ℕ) (list : List ℕ) where
   pub all_served : (xs : List ℕ) → ((h : ℕ) → IsAmong h xs → IsAmong h list) → AllByRecursion (λ h. IsAmong h list) xs
-  all_served [] serve = tt
-  all_served (x ∷ xs) serve = (serve x (inl refl), all_served xs (λ h a. serve h (inr a)))
+  all_served xs serve = all_of (λ h. IsAmong h list) xs serve
 
   -- where nothing can be added, what has a rank is listed
   all_listed : ((g h : ℕ) → g < count → IsAmong h (needs g) → h < count) → IsFull count needs list → (rank : ℕ → ℕ)
       → Ranks count needs rank → (bound g : ℕ) → rank g < bound → g < count → IsAmong g list
   all_listed within full rank ranks zero g l there = absurd (omega arith)
   all_listed within full rank ranks (suc bound) g l there =
-      full g there (all_served (needs g)
+      full g there (all_of (λ h. IsAmong h list) (needs g)
       (λ h used. let lower : rank h < rank g = ranks g h there used in
       all_listed within full rank ranks bound h (omega arith) (within g h there used)))
 
@@ -56,18 +60,14 @@ after_needs : (count : ℕ) (needs : ℕ → List ℕ) (at : ℕ → ℕ) (taken
     → (g h : ℕ) → ¬ IsAmong g taken → IsAmong g xs → IsAmong h (needs g) → at h < at g
 after_needs count needs at taken [] k in_turn past here g h left listed used = absurd listed
 after_needs count needs at taken (x ∷ xs) k in_turn past here g h left listed used =
-    ⊎_elim (λ (t : (eqb g x ≡ true) × (g ≡ x)).
-    let here_g : at g ≡ k = here g left ∙ subst (λ z. place k (z ∷ xs) g ≡ k) t.1 (place_here k g xs) in
-    let taken_h : IsAmong h taken =
-    each (λ z. IsAmong z taken) (needs x) in_turn.0.served h (subst (λ z. IsAmong h (needs z)) t.1 used) in
-    omega (arith, past h taken_h, here_g))
+    ⊎_elim (search (rules, place, place_here, each))
     (λ (f : (eqb g x ≡ false) × (g ≢ x)).
     let later : IsAmong g xs = ⊎_elim (λ (e : g ≡ x). absurd (f.1 e)) (λ (i : IsAmong g xs). i) listed in
     after_needs count needs at (x ∷ taken) xs (k + 1) in_turn.2
     (λ i i_taken. ⊎_elim
     (λ (e : i ≡ x). ⊎_elim (λ (s : IsAmong i taken). omega (arith, past i s))
-    (λ (n : ¬ IsAmong i taken). let p : at i ≡ k = here i n
-    ∙ subst (λ z. place k (z ∷ xs) i ≡ k) e (place_here k i xs) in omega (arith, p)) (among_or_not i taken))
+    (λ (n : ¬ IsAmong i taken).
+    omega (arith, here i n ∙ subst (λ z. place k (z ∷ xs) i ≡ k) e (place_here k i xs))) (among_or_not i taken))
     (λ (s : IsAmong i taken). omega (arith, past i s)) i_taken)
     (λ i i_left. here i (λ s. i_left (inr s)) ∙ place_later k x xs i (λ e. i_left (inl e)))
     g h (λ a. ⊎_elim f.1 left a) later used)
@@ -86,9 +86,6 @@ told_by_either p (Some x) (Some y) among =
     ⊎_elim (λ (e : p ≡ x). inl (ap Some (sym e)))
     (λ (later : IsAmong p (y ∷ [])). ⊎_elim (λ (e : p ≡ y). inr (ap Some (sym e))) (λ (n : ⊥). absurd n) later)
     among
-
-pub told_by_left : (p : ℕ) (b : Option ℕ) → IsAmong p (option_to_list (Some p) ++ option_to_list b)
-told_by_left p b = inl refl
 
 pub told_by_right : (p : ℕ) (a : Option ℕ) → IsAmong p (option_to_list a ++ option_to_list (Some p))
 told_by_right p None = inl refl
@@ -110,12 +107,10 @@ stands_there (g ∷ gs) (suc i) below = inr (stands_there gs i (omega arith))
 
 differ : (gates : List Gate) → AreDistinct (variables gates) → (k i : ℕ) → k < i → i < length gates
     → (get_or gates k no_gate).var ≢ (get_or gates i no_gate).var
-differ [] once k i before below e = absurd (omega arith)
-differ (g ∷ gs) once zero zero before below e = absurd (omega arith)
 differ (g ∷ gs) once zero (suc i) before below e =
-    once.0 (subst (λ v. IsAmong v (variables gs)) (sym e) (stands_there gs i (omega arith)))
-differ (g ∷ gs) once (suc k) zero before below e = absurd (omega arith)
+    once.0 (rw e (stands_there gs i (omega arith)))
 differ (g ∷ gs) once (suc k) (suc i) before below e = differ gs once.1 k i (omega arith) (omega arith) e
+differ gates once k i before below e = absurd (omega arith)
 
 module _ (gates : List Gate) where
   abbrev pub at : ℕ → Gate
@@ -125,21 +120,13 @@ module _ (gates : List Gate) where
   needed g there = get_or-map (gates_under gates) gates g no_gate [] there
 
   found : (v p : ℕ) → gate_of gates v ≡ Some p → (p < length gates) × ((at p).var ≡ v)
-  found v p e =
-      let told = position-Some (λ (g : Gate). eqb g.var v) gates p no_gate e in
-      (told.0, (Decides-eqb (at p).var v).0 told.1)
+  found v p e = search (rules, position-Some)
 
   pub gate_here : AreDistinct (variables gates) → (i : ℕ) → i < length gates → gate_of gates (at i).var ≡ Some i
   gate_here once i there =
-      let place_is : position_or_len (λ (g : Gate). eqb g.var (at i).var) gates ≡ i =
-      position_or_len_is (λ (g : Gate). eqb g.var (at i).var) gates i no_gate (omega arith)
+      let place_is = position_or_len_is (λ (g : Gate). eqb g.var (at i).var) gates i no_gate (omega arith)
       (λ k before. ne_eqb (at k).var (at i).var (differ gates once k i before there))
-      (λ _. (Decides-eqb (at i).var (at i).var).1 refl) in
-      ap (λ n. cond (ltb n (length gates)) (Some n) None) place_is
-      ∙ ap (λ b. cond b (Some i) None) (lt-ltb i (length gates) there)
-
-  contained : (i : ℕ) → i < length gates → Contains gates (at i)
-  contained i there = (i, there, get_or_default gates i (at i) no_gate there)
+      (λ _. (Decides-eqb (at i).var (at i).var).1 refl) in search (rules, lt-ltb)
 
   -- a gate that is needed is one of an operand's variable
   pub over_one : (g h : ℕ) → g < length gates → IsAmong h (gate_operands gates g)
@@ -147,21 +134,14 @@ module _ (gates : List Gate) where
   over_one g h there used =
       ⊎_elim (λ (e : gate_of gates (variable_of (at g).left) ≡ Some h). let f = found _ h e in (f.0, inl f.1))
       (λ (e : gate_of gates (variable_of (at g).right) ≡ Some h). let f = found _ h e in (f.0, inr (inl f.1)))
-      (told_by_either h _ _ (subst (λ xs. IsAmong h xs) (needed g there) used))
+      (told_by_either h _ _ (rw (needed g there) at used))
 
   -- and the other way round
   pub needed_by : AreDistinct (variables gates) → (g h : ℕ) → g < length gates → h < length gates
       → IsAmong (at h).var (map variable_of (operands (at g))) → IsAmong h (gate_operands gates g)
   needed_by once g h there there_too among =
       let here : gate_of gates (at h).var ≡ Some h = gate_here once h there_too in
-      subst (λ xs. IsAmong h xs) (sym (needed g there)) (
-      ⊎_elim (λ (e : (at h).var ≡ variable_of (at g).left).
-      rw (← e, here) (told_by_left h (gate_of gates (variable_of (at g).right))))
-      (λ (later : IsAmong (at h).var (variable_of (at g).right ∷ [])).
-      ⊎_elim (λ (e : (at h).var ≡ variable_of (at g).right).
-      rw (← e, here) (told_by_right h (gate_of gates (variable_of (at g).left)))) (λ (n : ⊥). absurd n) later)
-      among
-      )
+      search (rules, needed, told_by_right)
 
   module _ (list : List ℕ) (in_turn : TakesLeast (length gates) (gate_operands gates) [] list)
       (full : IsFull (length gates) (gate_operands gates) list) where
@@ -169,8 +149,7 @@ module _ (gates : List Gate) where
     listed ranked g there =
         all_listed (length gates) (gate_operands gates) list (λ i h i_there used. (over_one i h i_there used).0) full
         (λ i. ranked.0 (at i).var)
-        (λ i h i_there used. let o = over_one i h i_there used in
-        ranked.1 (at i) (at h) (contained i i_there) (contained h o.0) o.1)
+        (search (rules, over_one, get_or_default))
         (ranked.0 (at g).var + 1) g (omega arith) there
 
     stands_at : (g : Gate) (g_in : Contains gates g) → at g_in.0 ≡ g
@@ -186,12 +165,11 @@ module _ (gates : List Gate) where
     ranked once all = (
       λ v. option_map_or (place 0 list) (gate_of gates v) 0,
       λ g h g_in h_in used.
-          let used_there : IsAmong (at h_in.0).var (map variable_of (operands (at g_in.0))) =
-          subst (λ (x : Gate). IsAmong x.var (map variable_of (operands (at g_in.0)))) (sym (stands_at h h_in))
-          (subst (λ (x : Gate). IsAmong h.var (map variable_of (operands x))) (sym (stands_at g g_in)) used) in
-          let lower : place 0 list h_in.0 < place 0 list g_in.0 =
-          after_needs (length gates) (gate_operands gates) (place 0 list) [] list 0 in_turn (λ i a. absurd a)
-          (λ i n. refl) g_in.0 h_in.0 (λ a. a) (all g_in.0 g_in.1)
+          let used_there = subst (λ (x : Gate). IsAmong x.var (map variable_of (operands (at g_in.0))))
+          (sym (stands_at h h_in)) (subst (λ (x : Gate). IsAmong h.var (map variable_of (operands x)))
+          (sym (stands_at g g_in)) used) in
+          let lower = after_needs (length gates) (gate_operands gates) (place 0 list) [] list 0 in_turn
+          (λ i a. absurd a) (λ i n. refl) g_in.0 h_in.0 (λ a. a) (all g_in.0 g_in.1)
           (needed_by once g_in.0 h_in.0 g_in.1 h_in.1 used_there) in
           omega (arith, lower, placed once h h_in, placed once g g_in),
     )
@@ -200,6 +178,5 @@ pub rank_exactly_where_all_are_ordered : (c : Circuit) (list : List ℕ) → Are
     → IsLeastReadyOrder c list → HasRank c.gates ↔ ((gate : ℕ) → gate < length c.gates → IsAmong gate list)
 rank_exactly_where_all_are_ordered c list once order = (
   listed c.gates list order.in_turn order.full,
-  ranked c.gates list order.in_turn order.full
-      (distinct_back (c.inputs ++ map (λ (l : Latch). l.var) c.latches) (variables c.gates) once),
+  search (rules, ranked, distinct_back),
 )

@@ -1,5 +1,7 @@
 -- Rows: what gates need and their lists, in one table.
-use Rattle.std.proofs.Common.{◌≡◌, ◌≢◌, ◌<◌, ◌≤◌, ◌-◌, ◌∙◌, ℕ, zero, suc, List, [], ◌∷◌, ◌++◌, length, map, get_or}
+use Rattle.std.proofs.lemmas.Grind.{common_steps}
+use Rattle.std.proofs.Common.{rules}
+use Rattle.std.proofs.Common.{◌≡◌, ◌≢◌, ◌<◌, ◌≤◌, ◌-◌, ◌∙◌, ℕ, zero, suc, List, [], ◌∷◌, length, map, get_or}
 use Rattle.std.proofs.Common.{refl}
 use Rattle.std.proofs.Common.{sym, ap, subst, ⊎_elim, eqb, true, false, arith}
 use Rattle.std.specs.List.{AllByRecursion}
@@ -8,6 +10,7 @@ use Rattle.std.proofs.lemmas.Bool.{cases_lt}
 use Rattle.std.proofs.lemmas.Bool.Decides.{eqb_tells}
 use Rattle.std.proofs.lemmas.List.{get_or-map, get_or-set_other, get_or-set_same, get_or_past, length-map, length-set}
 use Rattle.std.proofs.lemmas.List.{map-set, set-get_or}
+use Rattle.aig_circuit.proofs.Checking.InForm.{back}
 use Rattle.aig_topo.specs.declared.lists.GateNode.{GateNode}
 use Rattle.aig_topo.specs.declared.operands.Needs.{Needs}
 use Rattle.aig_topo.specs.Lists.{Link, needs_in, needs_in_row, links_in, links_in_row, first_of, list_in, LeadsTo}
@@ -26,10 +29,8 @@ needs_of_rows (n ∷ ns) = ap (λ more. n ∷ more) (needs_of_rows ns)
 
 -- no gate has a list yet
 pub first_of_rows : (all : List Needs) (k : ℕ) → first_of (links_in (map row_of all)) k ≡ 0
-first_of_rows [] zero = refl
-first_of_rows [] (suc k) = refl
-first_of_rows (n ∷ ns) zero = refl
 first_of_rows (n ∷ ns) (suc k) = first_of_rows ns k
+first_of_rows xs n = refl
 
 -- there are as many of each part
 pub as_many_needs : (rows : List GateNode) → length (needs_in rows) ≡ length rows
@@ -72,9 +73,7 @@ links_then rows at changed = map-set links_in_row rows at changed
 module _ (rows : List GateNode) (at : ℕ) (row : GateNode) (there : at < length rows)
     (is : row ≡ get_or rows at row) where
   pub first_read : first_of (links_in rows) at ≡ row.first
-  first_read =
-      read_first (links_in rows) at (links_in_row row) (omega (arith, there, as_many_links rows))
-      (read_link rows at row there is)
+  first_read = grind (arith, common_steps, read_first, as_many_links, read_link)
 
   pub first_there : AreLists (links_in rows) → 0 < row.first → row.first - 1 < length rows
   first_there lists some =
@@ -87,8 +86,7 @@ module _ (rows : List GateNode) (at : ℕ) (row : GateNode) (there : at < length
   pub first_is : AreLists (links_in rows) → (u : ℕ) → (us : List ℕ) → list_in rows at ≡ u ∷ us
       → row.first ≡ suc u
   first_is lists u us are =
-      let to : LeadsTo (links_in rows) (first_of (links_in rows) at) (u ∷ us) =
-      subst (LeadsTo (links_in rows) (first_of (links_in rows) at)) are (lists.ends at) in
+      let to = subst (LeadsTo (links_in rows) (first_of (links_in rows) at)) are (lists.ends at) in
       sym first_read ∙ to.0
 
 -- the first of a list is there
@@ -101,10 +99,6 @@ first_fits links k lists =
     ] refl
 
 -- what a gate needs beside is there, as all that it needs
-second_part : (P : ℕ → Type 0) (xs ys : List ℕ) → AllByRecursion P (xs ++ ys) → AllByRecursion P ys
-second_part P [] ys all = all
-second_part P (x ∷ xs) ys all = second_part P xs ys all.1
-
 pub rest_there : (rows : List GateNode) → AreThere (needs_in rows) → (u : ℕ)
     → AllByRecursion (λ h. h < length rows) (rest_by rows u)
 rest_there rows there u =
@@ -112,11 +106,9 @@ rest_there rows there u =
     let n : Needs = get_or all u no_needs in
     rw (sym (as_many_needs rows))
     (⊎_elim (λ (in_all : u < length all).
-    second_part (λ h. h < length all) (linked n.left) (linked n.right)
+    back (λ h. h < length all) (linked n.left) (linked n.right)
     (subst (AllByRecursion (λ h. h < length all)) (get_or-map under all u no_needs [] in_all) (there u)))
-    (λ (past : length all ≤ u).
-    subst (λ (m : Needs). AllByRecursion (λ h. h < length all) (linked m.right))
-    (sym (get_or_past all u no_needs past)) tt)
+    (λ (past : length all ≤ u). rw (get_or_past all u no_needs past) tt)
     (cases_lt u (length all)))
 
 -- where another is asked of one gate
@@ -132,9 +124,7 @@ module _ (rows more : List GateNode) (gate : ℕ) (n : Needs) (now : needs_in mo
       (get_or-set_same (needs_in rows) gate n no_needs (omega (arith, there, as_many_needs rows)))
 
   pub rest_elsewhere : (u : ℕ) → u ≢ gate → rest_by more u ≡ rest_by rows u
-  rest_elsewhere u other =
-      ap (λ ns. linked (get_or ns u no_needs).right) now
-      ∙ ap (λ (m : Needs). linked m.right) (get_or-set_other (needs_in rows) gate u n no_needs other)
+  rest_elsewhere u other = search (rules, get_or-set_other)
 
   under_now : map under (needs_in more) ≡ put (map under (needs_in rows)) gate (under n)
   under_now = ap (map under) now ∙ map-set under (needs_in rows) gate n
@@ -147,9 +137,7 @@ module _ (rows more : List GateNode) (gate : ℕ) (n : Needs) (now : needs_in mo
       → AreThere (needs_in more)
   there_then there fits before u =
       let here : needs_by more gate ≡ under n =
-      ap (λ xs. get_or xs gate []) under_now
-      ∙ get_or-set_same (map under (needs_in rows)) gate (under n) []
-      (omega (arith, there, length-map (needs_in rows) under, as_many_needs rows)) in
+      search (rules, under_now, get_or-set_same, length-map, as_many_needs) in
       rw (as_many_needs more ∙ as_many_then)
       (⊎_elim (λ (t : (eqb u gate ≡ true) × (u ≡ gate)).
       subst (AllByRecursion (λ h. h < length rows)) (sym (ap (needs_by more) t.1 ∙ here)) fits)
@@ -157,8 +145,3 @@ module _ (rows more : List GateNode) (gate : ℕ) (n : Needs) (now : needs_in mo
       subst (AllByRecursion (λ h. h < length rows)) (sym (needs_elsewhere u f.1))
       (rw (sym (as_many_needs rows)) (before u)))
       (eqb_tells u gate))
-
--- what holds of both parts holds of all
-pub both : (P : ℕ → Type 0) (xs ys : List ℕ) → AllByRecursion P xs → AllByRecursion P ys → AllByRecursion P (xs ++ ys)
-both P [] ys first second = second
-both P (x ∷ xs) ys first second = (first.0, both P xs ys first.1 second)

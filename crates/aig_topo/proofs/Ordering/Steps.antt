@@ -1,24 +1,19 @@
 -- Steps of an order: one for each gate that is listed, and one for each operand over it.
+use Rattle.std.proofs.Common.{rules}
 use Rattle.std.proofs.Common.{◌≡◌, ◌<◌, ◌≤◌, ◌+◌, ℕ, suc, Option, None, Some, List, [], ◌∷◌, length, ◌++◌, map, get_or}
-use Rattle.std.proofs.Common.{cond, refl, sym, ap, ap₂, ◌∙◌, arith, inl, inr}
+use Rattle.std.proofs.Common.{cond, refl, sym, ap, ap₂, ◌∙◌, arith}
 use Rattle.std.specs.List.{AllByRecursion, count_by, sum, sum_by, flat_map}
 use Rattle.std.specs.Option.{option_to_list}
-use Rattle.std.proofs.lemmas.List.{get_or_past, length-map}
 use Rattle.std.proofs.lemmas.List.Concat.{flat_map-cons}
 use Rattle.std.proofs.lemmas.List.Sums.{sum_by-cons, sum_by-append, sum-map}
 use Rattle.aig_circuit.specs.declared.circuit.Gate.{Gate}
 use Rattle.aig_circuit.specs.declared.circuit.Circuit.{Circuit}
-use Rattle.aig_circuit.specs.Wellformed.{IsAmong}
 use Rattle.aig_circuit.specs.Literal.{variable_of}
 use Rattle.aig_topo.specs.Order.{gate_of, gates_under, gate_operands, left_over, operands_over}
 use Rattle.aig_topo.specs.Progress.{has_gate}
 use Rattle.aig_topo.proofs.Ordering.LeftOver.{has_or_not}
+pub use Rattle.aig_topo.proofs.Ordering.Ranked.{all_of}
 use Rattle.aig_topo.proofs.Ordering.Ranked.{needed, no_gate}
-
--- what holds of each holds of all
-pub all_of : (P : ℕ → Type 0) (xs : List ℕ) → ((x : ℕ) → IsAmong x xs → P x) → AllByRecursion P xs
-all_of P [] each = tt
-all_of P (x ∷ xs) each = (each x (inl refl), all_of P xs (λ y a. each y (inr a)))
 
 module _ (gates : List Gate) (list : List ℕ) where
   abbrev pub waiting_of : Gate → ℕ
@@ -30,30 +25,21 @@ module _ (gates : List Gate) (list : List ℕ) where
   by_gates [] = refl
   by_gates (g ∷ gs) =
       let waits : sum_by waiting_of (g ∷ gs) ≡ waiting_of g + sum_by waiting_of gs = sum_by-cons waiting_of g gs in
-      let all : sum_by (λ h. length (gates_under gates h)) (g ∷ gs) ≡ length (gates_under gates g)
-      + sum_by (λ h. length (gates_under gates h)) gs = sum_by-cons (λ h. length (gates_under gates h)) g gs in
-      let has : count_by (has_gate list) (flat_map (gates_under gates) (g ∷ gs))
-      ≡ count_by (has_gate list) (gates_under gates g)
-      + count_by (has_gate list) (flat_map (gates_under gates) gs) =
-      ap (count_by (has_gate list)) (flat_map-cons (gates_under gates) g gs)
+      let all = sum_by-cons (λ h. length (gates_under gates h)) g gs in
+      let has = ap (count_by (has_gate list)) (flat_map-cons (gates_under gates) g gs)
       ∙ sum_by-append (λ h. cond (has_gate list h) 1 0) (gates_under gates g) (flat_map (gates_under gates) gs) in
       omega (arith, waits, all, has, has_or_not list (gates_under gates g), by_gates gs)
-
-pub none_past : (gates : List Gate) (u : ℕ) → length gates ≤ u → gate_operands gates u ≡ []
-none_past gates u past =
-    get_or_past (map (gates_under gates) gates) u [] (omega (arith, past, length-map gates (gates_under gates)))
 
 -- what all gates wait for, by gates
 sum_at : (f : Gate → ℕ) (gs : List Gate) (ws : List ℕ) → length ws ≡ length gs
     → ((u : ℕ) → u < length gs → get_or ws u 0 ≡ f (get_or gs u no_gate)) → sum ws ≡ sum_by f gs
 sum_at f [] [] same each = refl
-sum_at f [] (w ∷ ws) same each = absurd (omega (arith, same))
-sum_at f (g ∷ gs) [] same each = absurd (omega (arith, same))
 sum_at f (g ∷ gs) (w ∷ ws) same each =
     let here : w ≡ f g = each 0 (omega arith) in
-    let later : sum ws ≡ sum_by f gs =
-    sum_at f gs ws (omega (arith, same)) (λ u below. each (suc u) (omega (arith, below))) in
-    sum_by-cons (λ x. x) w ws ∙ ap₂ (λ a b. a + b) here later ∙ sym (sum_by-cons f g gs)
+    sum_by-cons (λ x. x) w ws ∙ ap₂ (λ a b. a + b) here
+    (sum_at f gs ws (omega (arith, same)) (λ u below. each (suc u) (omega (arith, below))))
+    ∙ sym (sum_by-cons f g gs)
+sum_at f gs ws same each = absurd (omega (arith, same))
 
 module _ (gates : List Gate) where
   -- how many operands are over gates
@@ -66,15 +52,7 @@ pub steps_are : (c : Circuit) (list waiting : List ℕ) (steps : ℕ) → length
     → steps + sum waiting ≡ length list + total c.gates → steps ≡ length list + operands_over c list
 steps_are c list waiting steps as_many waits paid =
     let left : sum waiting ≡ sum_by (waiting_of c.gates list) c.gates =
-    sum_at (waiting_of c.gates list) c.gates waiting as_many
-    (λ u there. waits u there ∙ ap (left_over list) (needed c.gates u there)) in
-    omega (
-      arith,
-      paid,
-      left,
-      by_gates c.gates list c.gates,
-      sum-map (λ (g : Gate). length (gates_under c.gates g)) c.gates,
-    )
+    search (rules, sum_at, needed) in search (rules, by_gates, sum-map)
 
 two_at_most : (a b : Option ℕ) → length (option_to_list a ++ option_to_list b) ≤ 2
 two_at_most None None = omega arith

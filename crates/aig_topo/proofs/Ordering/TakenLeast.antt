@@ -1,6 +1,6 @@
 -- Gates are taken, the least ready one each time.
 use Rattle.std.proofs.Common.{rules}
-use Rattle.std.proofs.Common.{◌≡◌, ◌<◌, ◌≤◌, ℕ, List, [], ◌∷◌, ◌++◌, length, subst, ◌⊎◌, inl, inr, ⊎_elim, refl, arith}
+use Rattle.std.proofs.Common.{◌≡◌, ◌<◌, ◌≤◌, ℕ, List, [], ◌∷◌, ◌++◌, length, ◌⊎◌, inl, inr, ⊎_elim, refl, arith}
 use Rattle.std.specs.List.{AllByRecursion}
 use Rattle.aig_circuit.specs.Wellformed.{IsAmong, AreDistinct}
 use Rattle.aig_topo.specs.Order.{IsReady, TakesLeast}
@@ -11,7 +11,7 @@ module _ (count : ℕ) (needs : ℕ → List ℕ) where
   not_before : (taken xs : List ℕ) → TakesLeast count needs taken xs → (g : ℕ) → IsAmong g xs → ¬ IsAmong g taken
   not_before taken [] in_turn g a b = absurd a
   not_before taken (x ∷ xs) in_turn g a b =
-      ⊎_elim (λ (e : g ≡ x). in_turn.0.left (subst (λ z. IsAmong z taken) e b))
+      ⊎_elim (λ (e : g ≡ x). in_turn.0.left (rw e at b))
       (λ (later : IsAmong g xs). not_before (x ∷ taken) xs in_turn.2 g later (inr b)) a
 
   distinct : (taken xs : List ℕ) → TakesLeast count needs taken xs → AreDistinct xs × AllByRecursion (λ g. g < count) xs
@@ -41,10 +41,7 @@ module _ (count : ℕ) (needs : ℕ → List ℕ) where
     in_turn.0,
     in_turn.1,
     at_the_end (x ∷ taken) xs list g
-        (λ h a. ⊎_elim (λ (b : IsAmong h (x ∷ taken)). ⊎_elim (λ (e : h ≡ x). to h (inr (inl e)))
-        (λ (i : IsAmong h taken). to h (inl i)) b) (λ (i : IsAmong h xs). to h (inr (inr i))) a)
-        (λ h a. ⊎_elim (λ (i : IsAmong h taken). inl (inr i))
-        (λ (b : IsAmong h (x ∷ xs)). ⊎_elim (λ (e : h ≡ x). inl (inl e)) (λ (i : IsAmong h xs). inr i) b)
-        (from h a))
+        (search rules)
+        (search rules)
         in_turn.2 ready least,
   )

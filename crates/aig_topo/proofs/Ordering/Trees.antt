@@ -1,4 +1,5 @@
 -- Trees of words, where below bit b stands word b + 1.
+use Rattle.std.proofs.lemmas.Grind.{common_steps}
 use Rattle.std.proofs.Common.{rules}
 use Rattle.std.proofs.Common.{◌≡◌, ◌≢◌, ◌<◌, ◌≤◌, ◌+◌, ◌-◌, ◌*◌, ◌/◌, ◌%◌, ◌^◌, ℕ, zero, suc, List, Bool, true, false}
 use Rattle.std.proofs.Common.{cond, eqb, ltb, length, get_or, refl, sym, subst, ap, ap₂, ◌∙◌, ⊎_elim, arith}
@@ -40,10 +41,6 @@ bit_cleared word k i within within_too =
     (λ (f : (eqb i k ≡ false) × (i ≢ k)). ap (λ b. eqb b 1) (bit_at_clear_other w64 word k within i within_too f.1)
     ∙ ap (λ b. cond b false (eqb (bit_at word i) 1)) (sym f.0)) (eqb_tells i k)
 
--- whether a word has any bit
-pub has_any : (word : ℕ) → not (eqb word 0) ≡ ltb 0 word
-has_any word = grind arith
-
 -- a bit of the words that is set or cleared
 module _ (words : List ℕ) (k : ℕ) (on : Bool) (after : ℕ) (there : k / 64 < length words)
     (bits : (i : ℕ) → i < 64
@@ -58,37 +55,19 @@ module _ (words : List ℕ) (k : ℕ) (on : Bool) (after : ℕ) (there : k / 64 
       (below : k + 1 < length words → on ≡ ltb 0 (get_or words (k + 1) 0)) where
     -- each bit tells of the word below, but for the one above the word that changed
     pub tells_elsewhere : (b : ℕ) → b + 1 < length words → b + 1 ≢ k / 64 → Tells more b
-    tells_elsewhere b fits other =
-        let same : get_or more (b + 1) 0 ≡ get_or words (b + 1) 0 =
-        get_or-set_other words (k / 64) (b + 1) after 0 other in
-        ⊎_elim (λ (t : (eqb b k ≡ true) × (b ≡ k)).
-        marked_put b ∙ ap (λ c. cond c on (is_marked words b)) t.0 ∙ below (omega (arith, fits, t.1))
-        ∙ ap (λ j. ltb 0 (get_or words (j + 1) 0)) (sym t.1) ∙ ap (ltb 0) (sym same))
-        (λ (f : (eqb b k ≡ false) × (b ≢ k)). marked_put b ∙ ap (λ c. cond c on (is_marked words b)) f.0
-        ∙ told b fits f.1 ∙ ap (ltb 0) (sym same)) (eqb_tells b k)
+    tells_elsewhere b fits other = search (rules, get_or-set_other, marked_put, eqb_tells)
 
     -- the one above tells of it too, where there is none, or where the word has any as before
     pub all_tell : (k / 64 ≢ 0 → ltb 0 (get_or words (k / 64) 0) ≡ ltb 0 after) → (b : ℕ) → b + 1 < length words
         → Tells more b
     all_tell as_before b fits =
-        ⊎_elim (λ (t : (eqb (b + 1) (k / 64) ≡ true) × (b + 1 ≡ k / 64)).
-        let other : b ≢ k = λ e. absurd (omega (arith, t.1, e)) in
-        marked_put b ∙ ap (λ c. cond c on (is_marked words b)) (ne_eqb b k other) ∙ told b fits other
-        ∙ ap (λ j. ltb 0 (get_or words j 0)) t.1
-        ∙ as_before (λ z. absurd (omega (arith, t.1, z)))
-        ∙ ap (ltb 0) (sym (ap (λ j. get_or more j 0) t.1 ∙ get_or-set_same words (k / 64) after 0 there)))
+        ⊎_elim (search (rules, marked_put, ne_eqb, get_or-set_same))
         (λ (f : (eqb (b + 1) (k / 64) ≡ false) × (b + 1 ≢ k / 64)). tells_elsewhere b fits f.1)
         (eqb_tells (b + 1) (k / 64))
 
     -- so the one above has to be told
-    pub to_tell : k / 64 ≢ 0 → (b : ℕ) → b + 1 < length more → b ≢ k / 64 - 1 → Tells more b
-    to_tell some b fits other =
-        tells_elsewhere b (omega (arith, fits, length-set words (k / 64) after)) (λ e. other (omega (arith, e)))
-
     pub what_to_tell : k / 64 ≢ 0 → not (eqb after 0) ≡ ltb 0 (get_or more (k / 64 - 1 + 1) 0)
-    what_to_tell some =
-        let at : k / 64 - 1 + 1 ≡ k / 64 = omega (arith, some) in
-        has_any after ∙ ap (ltb 0) (sym (ap (λ j. get_or more j 0) at ∙ get_or-set_same words (k / 64) after 0 there))
+    what_to_tell some = search (rules, get_or-set_same)
 
   -- the lowest bits, once the ones above are told
   pub lowest_put : (told_words : List ℕ) (was : Bool) → k / 64 ≢ 0
@@ -108,9 +87,7 @@ word_of : (words : List ℕ) (b : ℕ) → is_marked words b ≡ true → 0 < ge
 word_of words b set = search (rules, bit_at-zero, cases_lt)
 
 there_where_some : (words : List ℕ) (i : ℕ) → 0 < get_or words i 0 → i < length words
-there_where_some words i some =
-    ⊎_elim (λ (l : i < length words). l)
-    (λ (l : length words ≤ i). absurd (omega (arith, some, get_or_past words i 0 l))) (cases_lt i (length words))
+there_where_some words i some = search (rules, get_or_past, cases_lt)
 
 pub within_words : (words : List ℕ) (b : ℕ) → is_marked words b ≡ true → b / 64 < length words
 within_words words b set = there_where_some words (b / 64) (word_of words b set)
@@ -140,7 +117,7 @@ module _ (words : List ℕ) (at : ℕ) (some : 0 < get_or words at 0) (fits : ge
   pub lowest_least : (b : ℕ) → b / 64 ≡ at → is_marked words b ≡ true → 64 * at + lowest ≤ b
   lowest_least b here set =
       ⊎_elim (λ (l : b % 64 < lowest).
-      let off : is_marked words b ≡ false = ap (λ i. eqb (bit_at (get_or words i 0) (b % 64)) 1) here
+      let off = ap (λ i. eqb (bit_at (get_or words i 0) (b % 64)) 1) here
       ∙ ap (λ n. eqb n 1) ((bit_at-trailing_zeros w64 (get_or words at 0) some fits).2 (b % 64) l) in
       let both : true ≡ false = sym set ∙ off in
       cc) (λ (l : lowest ≤ b % 64). omega (arith, l, here)) (cases_lt (b % 64) lowest)
@@ -174,15 +151,7 @@ module _ (words : List ℕ) (first levels : ℕ) (tree : IsTree words first leve
   climbs zero level is b low set = search (rules, within_words)
   climbs (suc n) level is b low set =
       let later : IsAt words (suc level) (up n b) = climbs n (suc level) (omega (arith, is)) b low set in
-      let x : ℕ = up n b in
-      let not_last : first_bit (suc level) ≤ first =
-      omega (arith, lower_level n (suc level) levels (omega (arith, is)), tree.first_is) in
-      let back : x / 64 - 1 + 1 ≡ x / 64 = omega (arith, later.from) in
-      let some : 0 < get_or words (x / 64 - 1 + 1) 0 = rw back (word_of words x later.set) in record {
-        from = omega (arith, later.from);
-        below = omega (arith, later.below);
-        set = set_above words (x / 64 - 1) (tree.told (x / 64 - 1) (omega (arith, later.below, not_last))) some;
-      }
+      grind (arith, common_steps, lower_level, word_of, set_above)
 
   module _ (fits : (i : ℕ) → get_or words i 0 < 2 ^ 64) where
     pub at_top : 0 < get_or words 0 0 → (t : ℕ) → t ≡ trailing_zeros w64 (get_or words 0 0)
@@ -219,13 +188,7 @@ module _ (words : List ℕ) (first levels : ℕ) (tree : IsTree words first leve
 
     pub found_fits : (level bit : ℕ) → level < levels → IsLeastAt words first levels level bit
         → 64 * (bit + 1) + trailing_zeros w64 (get_or words (bit + 1) 0) < 2199023255552
-    found_fits level bit above found =
-        omega (
-          arith,
-          tree.few,
-          there_below level bit above found,
-          place words (bit + 1) (some_there level bit above found) (fits (bit + 1)),
-        )
+    found_fits level bit above found = search (rules, there_below, place, some_there)
 
     pub one_down : (level bit : ℕ) → level < levels → IsLeastAt words first levels level bit → (t : ℕ)
         → t ≡ trailing_zeros w64 (get_or words (bit + 1) 0)
@@ -234,8 +197,7 @@ module _ (words : List ℕ) (first levels : ℕ) (tree : IsTree words first leve
     one_down level bit above found t t_is =
         let some : 0 < get_or words (bit + 1) 0 = some_there level bit above found in
         let room : t < 64 = omega (arith, t_is, place words (bit + 1) some (fits (bit + 1))) in
-        let next : first_bit (level + 1) ≡ 64 * first_bit level + 64 =
-        ap first_bit (let e : level + 1 ≡ suc level = omega arith in e) in record {
+        let next = ap first_bit (let e : level + 1 ≡ suc level = omega arith in e) in record {
           at = record {
             from = omega (arith, found.at.from, next);
             below = omega (arith, found.at.below, room, next);
@@ -256,9 +218,7 @@ module _ (words : List ℕ) (first levels : ℕ) (tree : IsTree words first leve
 
     pub at_end : (bit b : ℕ) → IsLeastAt words first levels levels bit → first ≤ b → is_marked words b ≡ true → bit ≤ b
     unfolding up
-    at_end bit b found low set =
-        let e : levels - levels ≡ zero = omega arith in
-        let here : up zero b ≡ b = refl in omega (arith, found.least b low set, ap (λ n. up n b) e, here)
+    at_end bit b found low set = search rules
 
   -- an empty word at the top, and no gate
   pub none_set : get_or words 0 0 ≡ 0 → (b : ℕ) → first ≤ b → is_marked words b ≡ false
@@ -267,8 +227,7 @@ module _ (words : List ℕ) (first levels : ℕ) (tree : IsTree words first leve
       not_set (is_marked words b) (λ set.
       let there : IsAt words 0 (up levels b) = climbs levels 0 (omega arith) b low set in
       let at : up levels b / 64 ≡ 0 = omega (arith, there.below) in
-      let some : 0 < get_or words 0 0 = subst (λ i. 0 < get_or words i 0) at (word_of words (up levels b) there.set) in
-      omega (arith, some, empty))
+      omega (arith, subst (λ i. 0 < get_or words i 0) at (word_of words (up levels b) there.set), empty))
 
 -- bits of gates that change leave a tree
 pub still_tree : (words new : List ℕ) (first levels bit : ℕ) (on : Bool) → IsTree words first levels → first ≤ bit
@@ -278,10 +237,8 @@ pub still_tree : (words new : List ℕ) (first levels bit : ℕ) (on : Bool) →
 still_tree words new first levels bit on tree low same tells lowest = search (rules, ne_eqb, get_or_past, cases_lt)
 
 -- a tree without gates
-pub empty_words : (n b : ℕ) → is_marked (replicate n 0) b ≡ false
-empty_words n b = ap (λ w. eqb (bit_at w (b % 64)) 1) (zeros n (b / 64)) ∙ ap (λ m. eqb m 1) (bit_at-zero (b % 64))
-
 pub empty_tree : (words : List ℕ) (n first levels gates : ℕ) → words ≡ replicate n 0 → n ≡ (first + gates) / 64 + 1
     → first ≡ first_bit levels → first ≤ 2 * gates → gates < 63 * first + 64 → gates < 2147483648
     → IsTree words first levels
-empty_tree words n first levels gates is n_is first_is few all many = search (rules, length-replicate, empty_words, zeros)
+empty_tree words n first levels gates is n_is first_is few all many =
+    search (rules, length-replicate, zeros, bit_at-zero)

@@ -7,12 +7,12 @@ use mathlib.Core.Bool.{◌||◌, ◌&&◌, not}
 use Rattle.std.proofs.Math.ListN.{set as put}
 use Rattle.std.proofs.lemmas.Bool.{cases_lt}
 use Rattle.std.proofs.lemmas.Bool.Decides.{eqb_tells}
-use Rattle.aig_circuit.specs.Wellformed.{IsAmong, AreDistinct}
+use Rattle.aig_circuit.specs.Wellformed.{IsAmong}
 use Rattle.aig_topo.specs.declared.lists.GateNode.{GateNode}
 use Rattle.aig_topo.specs.declared.operands.Needs.{Needs}
-use Rattle.aig_topo.specs.Order.{IsReady, TakesLeast, IsFull, left_over}
+use Rattle.aig_topo.specs.Order.{TakesLeast, IsFull, left_over}
 use Rattle.aig_topo.specs.Lists.{needs_in, links_in, list_in, AreLists}
-use Rattle.aig_topo.specs.Needs.{linked, needs_at, no_needs}
+use Rattle.aig_topo.specs.Needs.{linked, needs_at}
 use Rattle.aig_topo.specs.Waiting.{needs_by, rest_by, HasAll, Suffices, AreApart, IsServed, WaitsFor, RowsWait}
 use Rattle.aig_topo.proofs.Ordering.Counted.{among_first, in_longer}
 use Rattle.aig_topo.proofs.Ordering.Cyclic.{among_last}
@@ -38,20 +38,14 @@ module _ (needs : ℕ → List ℕ) (list : List ℕ) (rows : List GateNode) whe
       → RowsWait needs rows list new has seen served (Some gate)
   recounted old new gate same nowhere has seen served wait =
       let out = wait.taken_out gate refl in record {
-        listed = λ u a. subst (IsServed seen u list (needs u))
-            (sym (same u (λ e. out.1 (subst (λ z. IsAmong z list) e a)))) (wait.listed u a);
-        ready = λ u h. let w = wait.ready u h in (
-          subst (IsServed seen u list (needs u))
-              (sym (same u (λ e. true≢false (sym h ∙ ap has e ∙ out.2)))) w.0,
-          w.1,
-        );
+        listed = search rules;
+        ready = search rules;
         waits = λ m u a. subst (WaitsFor m seen u list (needs u) (rest_by rows u))
-            (sym (same u (λ e. nowhere m (subst (λ z. IsAmong z (list_in rows m)) e a)))) (wait.waits m u a);
+            (sym (same u (λ e. nowhere m (rw e at a)))) (wait.waits m u a);
         lacks = wait.lacks;
         each = wait.each;
         taken_out = wait.taken_out;
-        unasked = λ u above. let w = wait.unasked u above in
-            (w.0, same u (λ e. omega (arith, e, out.0, above)) ∙ w.1);
+        unasked = search rules;
       }
 
   -- a gate is put into the list of one that it needs
@@ -60,20 +54,10 @@ module _ (needs : ℕ → List ℕ) (list : List ℕ) (rows : List GateNode) whe
       (now : needs_in new ≡ put (needs_in rows) gate (record { left = first; right = rest }))
       (nowhere : (k : ℕ) → ¬ IsAmong gate (list_in rows k)) where
     in_more : (k u : ℕ) → IsAmong u (list_in new k) → ((u ≡ gate) × (k ≡ m)) ⊎ IsAmong u (list_in rows k)
-    in_more k u a =
-        ⊎_elim (λ (t : (eqb k m ≡ true) × (k ≡ m)).
-        let b : IsAmong u (gate ∷ list_in rows m) =
-        subst (IsAmong u) front (subst (λ z. IsAmong u (list_in new z)) t.1 a) in
-        ⊎_elim (λ (e : u ≡ gate). inl (e, t.1))
-        (λ (i : IsAmong u (list_in rows m)). inr (subst (λ z. IsAmong u (list_in rows z)) (sym t.1) i)) b)
-        (λ (f : (eqb k m ≡ false) × (k ≢ m)). inr (subst (IsAmong u) (others k f.1) a)) (eqb_tells k m)
+    in_more k u a = search (rules, eqb_tells)
 
     to_more : (k u : ℕ) → IsAmong u (list_in rows k) → IsAmong u (list_in new k)
-    to_more k u a =
-        ⊎_elim (λ (t : (eqb k m ≡ true) × (k ≡ m)).
-        let b : IsAmong u (gate ∷ list_in rows m) = inr (subst (λ z. IsAmong u (list_in rows z)) t.1 a) in
-        subst (λ z. IsAmong u (list_in new z)) (sym t.1) (subst (IsAmong u) (sym front) b))
-        (λ (f : (eqb k m ≡ false) × (k ≢ m)). subst (IsAmong u) (sym (others k f.1)) a) (eqb_tells k m)
+    to_more k u a = search (rules, eqb_tells)
 
     pub rows_wait_in_list : gate < length rows → ¬ IsAmong m list → (waiting : List ℕ)
         → get_or waiting gate 0 ≡ suc (length (linked rest)) → Suffices list (needs gate) (m ∷ linked rest)
@@ -89,17 +73,15 @@ module _ (needs : ℕ → List ℕ) (list : List ℕ) (rows : List GateNode) whe
           ready = wait.ready;
           waits = λ k u a. ⊎_elim
               (λ (e : (u ≡ gate) × (k ≡ m)).
-              subst (λ z. WaitsFor z seen u list (needs u) (rest_by new u) (get_or waiting u 0)) (sym e.1)
-              (subst (λ z. WaitsFor m seen z list (needs z) (rest_by new z) (get_or waiting z 0)) (sym e.0)
+              rw e.1 (subst (λ z. WaitsFor m seen z list (needs z) (rest_by new z) (get_or waiting z 0)) (sym e.0)
               (subst (λ xs. WaitsFor m seen gate list (needs gate) xs (get_or waiting gate 0))
               (sym (rest_here rows new gate n now there)) here)))
               (λ (i : IsAmong u (list_in rows k)).
-              let other : u ≢ gate = λ e. nowhere k (subst (λ z. IsAmong z (list_in rows k)) e i) in
-              subst (λ xs. WaitsFor k seen u list (needs u) xs (get_or waiting u 0))
-              (sym (rest_elsewhere rows new gate n now u other)) (wait.waits k u i))
+              let other : u ≢ gate = λ e. nowhere k (rw e at i) in
+              rw (rest_elsewhere rows new gate n now u other) (wait.waits k u i))
               (in_more k u a);
           lacks = λ k u s a. ⊎_elim
-              (λ (e : (u ≡ gate) × (k ≡ m)). subst (λ z. ¬ IsAmong z list) (sym e.1) missing)
+              (λ (e : (u ≡ gate) × (k ≡ m)). rw e.1 missing)
               (wait.lacks k u s) (in_more k u a);
           each = λ u l. ⊎_elim (λ (a : IsAmong u list). inl a)
               (λ rest. ⊎_elim (λ (h : has u ≡ true). inr (inl h))
@@ -113,13 +95,10 @@ module _ (needs : ℕ → List ℕ) (list : List ℕ) (rows : List GateNode) whe
 
     pub apart_still : AreApart (links_in rows) → AreApart (links_in new)
     apart_still apart k n u a b =
-        ⊎_elim (λ (e : (u ≡ gate) × (k ≡ m)).
-        ⊎_elim (λ (f : (u ≡ gate) × (n ≡ m)). e.1 ∙ sym f.1)
-        (λ (i : IsAmong u (list_in rows n)). absurd (nowhere n (subst (λ z. IsAmong z (list_in rows n)) e.0 i)))
-        (in_more n u b))
+        ⊎_elim (search (rules, in_more))
         (λ (i : IsAmong u (list_in rows k)).
         ⊎_elim
-        (λ (f : (u ≡ gate) × (n ≡ m)). absurd (nowhere k (subst (λ z. IsAmong z (list_in rows k)) f.0 i)))
+        (λ (f : (u ≡ gate) × (n ≡ m)). absurd (nowhere k (rw f.0 at i)))
         (λ (j : IsAmong u (list_in rows n)). apart k n u i j) (in_more n u b))
         (in_more k u a)
 
@@ -135,20 +114,14 @@ module _ (needs : ℕ → List ℕ) (list : List ℕ) (rows : List GateNode) whe
       (front : list_in rows list_at ≡ u ∷ list_in new list_at)
       (others : (k : ℕ) → k ≢ list_at → list_in new k ≡ list_in rows k) where
     back : (k v : ℕ) → IsAmong v (list_in new k) → IsAmong v (list_in rows k)
-    back k v a =
-        ⊎_elim (λ (t : (eqb k list_at ≡ true) × (k ≡ list_at)).
-        let b : IsAmong v (u ∷ list_in new list_at) = inr (subst (λ z. IsAmong v (list_in new z)) t.1 a) in
-        subst (λ z. IsAmong v (list_in rows z)) (sym t.1) (subst (IsAmong v) (sym front) b))
-        (λ (f : (eqb k list_at ≡ false) × (k ≢ list_at)). subst (IsAmong v) (others k f.1) a) (eqb_tells k list_at)
+    back k v a = search (rules, eqb_tells)
 
     pub was_there : IsAmong u (list_in rows list_at)
     was_there = subst (IsAmong u) (sym front) (inl refl)
 
     pub gone : AreApart (links_in rows) → (k : ℕ) → ¬ IsAmong u (list_in new k)
     gone apart k a =
-        let same : k ≡ list_at = apart k list_at u (back k u a) was_there in
-        let once : AreDistinct (u ∷ list_in new list_at) = subst AreDistinct front (lists.once list_at) in
-        once.0 (subst (λ z. IsAmong u (list_in new z)) same a)
+        let same : k ≡ list_at = apart k list_at u (back k u a) was_there in search rules
 
     pub apart_too : AreApart (links_in rows) → AreApart (links_in new)
     apart_too apart k n v a b = apart k n v (back k v a) (back n v b)
@@ -167,24 +140,11 @@ module _ (needs : ℕ → List ℕ) (list : List ℕ) (rows : List GateNode) whe
       rows_taken_out same = record {
         listed = wait.listed;
         ready = wait.ready;
-        waits = λ k v a.
-            subst (λ (ns : List Needs).
-            WaitsFor k seen v list (needs v) (linked (get_or ns v no_needs).right) (get_or waiting v 0)) (sym same)
-            (wait.waits k v (back k v a));
+        waits = λ k v a. rw same (wait.waits k v (back k v a));
         lacks = λ k v s a. wait.lacks k v s (back k v a);
-        each = λ v l. ⊎_elim (λ (a : IsAmong v list). inl a)
-            (λ rest. ⊎_elim (λ (h : has v ≡ true). inr (inl h))
-            (λ late. ⊎_elim (λ (w : (k : ℕ) × IsAmong v (list_in rows k)).
-            ⊎_elim (λ (t : (eqb w.0 list_at ≡ true) × (w.0 ≡ list_at)).
-            let b : IsAmong v (u ∷ list_in new list_at) =
-            subst (IsAmong v) front (subst (λ z. IsAmong v (list_in rows z)) t.1 w.1) in
-            ⊎_elim (λ (e : v ≡ u). inr (inr (inr (ap Some (sym e)))))
-            (λ (i : IsAmong v (list_in new list_at)). inr (inr (inl (list_at, i)))) b)
-            (λ (f : (eqb w.0 list_at ≡ false) × (w.0 ≢ list_at)).
-            inr (inr (inl (w.0, subst (IsAmong v) (sym (others w.0 f.1)) w.1)))) (eqb_tells w.0 list_at))
-            (λ (o : None ≡ Some v). cc) late) rest) (wait.each v l);
+        each = search (rules, eqb_tells);
         taken_out = λ v o. let e : u ≡ v = cc in
-            subst (λ z. (z < seen) × (¬ IsAmong z list) × (has z ≡ false)) e (
+            rw (← e) (
               waited.below,
               λ a. omega (arith, waited.counted, (wait.listed u a).counted),
               idle_not (has u) refl,
@@ -201,7 +161,7 @@ module _ (needs : ℕ → List ℕ) (list : List ℕ) (rows : List GateNode) whe
     ready = wait.ready;
     waits = wait.waits;
     lacks = λ m u _ a. wait.lacks m u
-        (λ s. let e : g ≡ m = cc in subst (IsAmong u) none (subst (λ z. IsAmong u (list_in rows z)) (sym e) a)) a;
+        (λ s. let e : g ≡ m = cc in subst (IsAmong u) none (rw e a)) a;
     each = wait.each;
     taken_out = wait.taken_out;
     unasked = wait.unasked;
@@ -224,19 +184,8 @@ module _ (needs : ℕ → List ℕ) (list : List ℕ) (rows : List GateNode) whe
       waits = λ m u a. let w = wait.waits m u a in
           record { below = omega (arith, w.below); enough = w.enough; counted = w.counted };
       lacks = wait.lacks;
-      each = λ u l. ⊎_elim
-          (λ (below : u < seen). ⊎_elim (λ (a : IsAmong u list). inl a)
-          (λ rest. ⊎_elim (λ (h : has u ≡ true). inr (inl h))
-          (λ late. ⊎_elim (λ (w : (k : ℕ) × IsAmong u (list_in rows k)). inr (inr (inl w)))
-          (λ (o : None ≡ Some u). cc) late) rest) (wait.each u below))
-          (λ (above : seen ≤ u). let e : seen ≡ u = omega (arith, above, l) in inr (inr (inr (ap Some e))))
-          (cases_lt u seen);
-      taken_out = λ u o. let e : seen ≡ u = cc in
-          subst (λ z. (z < seen + 1) × (¬ IsAmong z list) × (has z ≡ false)) e (
-            omega arith,
-            λ a. omega (arith, (wait.listed seen a).below),
-            not_yet (has seen) refl,
-          );
+      each = search (rules, cases_lt);
+      taken_out = search (rules, not_yet);
       unasked = λ u above. wait.unasked u (omega (arith, above));
     }
 
@@ -247,58 +196,24 @@ module _ (needs : ℕ → List ℕ) (list : List ℕ) (rows : List GateNode) whe
         (wait.waits m u a).enough list (λ g b. b)
         ∙ missing_first list m (rest_by rows u) (wait.lacks m u (λ e. cc) a)
 
-    -- who was looked at and needs only listed gates is listed or ready
-    is_ready : (u : ℕ) → u < seen → ¬ IsAmong u list → left_over list (needs u) ≡ 0 → has u ≡ true
-    is_ready u l out none =
-        ⊎_elim (λ (a : IsAmong u list). absurd (out a))
-        (λ rest. ⊎_elim (λ (h : has u ≡ true). h)
-        (λ late. ⊎_elim (λ (w : (k : ℕ) × IsAmong u (list_in rows k)).
-        absurd (omega (arith, none, some_left w.0 u w.1)))
-        (λ (o : None ≡ Some u). cc) late) rest) (wait.each u l)
-
     -- where all were looked at and none is ready, no gate can be added
     pub nothing_left : (count : ℕ) → count ≤ seen → ((g : ℕ) → has g ≡ false) → IsFull count needs list
-    nothing_left count all none g there served =
-        ⊎_elim (λ (a : IsAmong g list). a)
-        (λ (out : ¬ IsAmong g list).
-        absurd (true≢false
-        (sym (is_ready g (omega (arith, there, all)) out (all_in list (needs g) served)) ∙ none g)))
-        (among_or_not g list)
+    nothing_left count all none g there served = search (rules, all_in, among_or_not, some_left)
 
     -- and a gate waits for what is left over, once the rest of what it needs is counted
     module _ (none : (g : ℕ) → has g ≡ false) where
       pub one_and_rest : (u : ℕ) → 0 < get_or waiting u 0 → u < seen
           → get_or waiting u 0 ≡ suc (length (rest_by rows u))
-      one_and_rest u some there =
-          ⊎_elim (λ (a : IsAmong u list). absurd (omega (arith, some, (wait.listed u a).counted)))
-          (λ rest. ⊎_elim (λ (h : has u ≡ true). absurd (true≢false (sym h ∙ none u)))
-          (λ late. ⊎_elim (λ (w : (k : ℕ) × IsAmong u (list_in rows k)). (wait.waits w.0 u w.1).counted)
-          (λ (o : None ≡ Some u). cc) late) rest) (wait.each u there)
+      one_and_rest u some there = search rules
 
       pub left_is_counted : (u n : ℕ) → u < seen → (get_or waiting u 0 ≡ 0 → n ≡ 0)
           → (0 < get_or waiting u 0 → n ≡ suc (left_over list (rest_by rows u))) → n ≡ left_over list (needs u)
-      left_is_counted u n there idle counted =
-          ⊎_elim (λ (a : IsAmong u list). let s = wait.listed u a in idle s.counted ∙ sym s.none)
-          (λ rest. ⊎_elim (λ (h : has u ≡ true). absurd (true≢false (sym h ∙ none u)))
-          (λ late. ⊎_elim (λ (w : (k : ℕ) × IsAmong u (list_in rows k)).
-          counted (omega (arith, (wait.waits w.0 u w.1).counted)) ∙ sym (some_left w.0 u w.1))
-          (λ (o : None ≡ Some u). cc) late) rest) (wait.each u there)
+      left_is_counted u n there idle counted = search (rules, some_left)
 
     -- the least that is ready comes next
     module _ (count g : ℕ) (few : seen ≤ count) (ready : has g ≡ true) (least : (h : ℕ) → has h ≡ true → g ≤ h) where
       pub goes_on_in_turn : TakesLeast count needs [] list → TakesLeast count needs [] (list ++ g ∷ [])
-      goes_on_in_turn in_turn =
-          let w = wait.ready g ready in
-          at_the_end count needs [] list list g (λ h a. ⊎_elim (λ (n : ⊥). absurd n) (λ (b : IsAmong h list). b) a)
-          (λ h a. inr a) in_turn
-          (record {
-            there = omega (arith, w.0.below, few);
-            left = w.1;
-            served = none_left list (needs g) w.0.none;
-          })
-          (λ h (r : IsReady count needs list h). ⊎_elim
-          (λ (below : h < seen). least h (is_ready h below r.left (all_in list (needs h) r.served)))
-          (λ (above : seen ≤ h). omega (arith, above, w.0.below)) (cases_lt h seen))
+      goes_on_in_turn in_turn = search (rules, at_the_end, none_left, all_in, cases_lt, some_left)
 
       longer : HasAll list (list ++ g ∷ [])
       longer h a = among_first h list (g ∷ []) a
@@ -312,15 +227,13 @@ module _ (needs : ℕ → List ℕ) (list : List ℕ) (rows : List GateNode) whe
             listed = λ u a. ⊎_elim
                 (λ (b : IsAmong u list).
                 still_served seen u (get_or waiting u 0) list more (needs u) longer (wait.listed u b))
-                (λ (e : u ≡ g). subst (λ z. IsServed seen z more (needs z) (get_or waiting z 0)) (sym e)
-                (still_served seen g (get_or waiting g 0) list more (needs g) longer w.0)) (in_longer list g u a);
+                (λ (e : u ≡ g).
+                rw e (still_served seen g (get_or waiting g 0) list more (needs g) longer w.0)) (in_longer list g u a);
             ready = λ u p. ⊎_elim
                 (λ (t : (eqb u g ≡ true) × (u ≡ g)).
-                let off : popped u ≡ false = rest u ∙ ap (λ b. not b && has u) t.0 in
-                absurd (true≢false (sym p ∙ off)))
+                absurd (true≢false (sym p ∙ (rest u ∙ ap (λ b. not b && has u) t.0))))
                 (λ (f : (eqb u g ≡ false) × (u ≢ g)).
-                let on : popped u ≡ has u = rest u ∙ ap (λ b. not b && has u) f.0 in
-                let v = wait.ready u (sym on ∙ p) in (
+                let v = wait.ready u (sym (rest u ∙ ap (λ b. not b && has u) f.0) ∙ p) in (
                   still_served seen u (get_or waiting u 0) list more (needs u) longer v.0,
                   λ a. ⊎_elim v.1 f.1 (in_longer list g u a),
                 ))
@@ -333,8 +246,7 @@ module _ (needs : ℕ → List ℕ) (list : List ℕ) (rows : List GateNode) whe
                 (λ others. ⊎_elim (λ (h : has u ≡ true).
                 ⊎_elim
                 (λ (t : (eqb u g ≡ true) × (u ≡ g)). inl (among_last list (g ∷ []) u (inl t.1)))
-                (λ (f : (eqb u g ≡ false) × (u ≢ g)).
-                let on : popped u ≡ has u = rest u ∙ ap (λ b. not b && has u) f.0 in inr (inl (on ∙ h)))
+                (λ (f : (eqb u g ≡ false) × (u ≢ g)). inr (inl ((rest u ∙ ap (λ b. not b && has u) f.0) ∙ h)))
                 (eqb_tells u g))
                 (λ late. ⊎_elim (λ (i : (k : ℕ) × IsAmong u (list_in rows k)). inr (inr (inl i)))
                 (λ (o : None ≡ Some u). cc) late) others) (wait.each u l);

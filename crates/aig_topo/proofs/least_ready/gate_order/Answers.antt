@@ -53,12 +53,7 @@ look_at_all-requires c =
     )
 
 pub count_rests-requires-clause-full : goal.count_rests-requires-clause-full
-count_rests-requires-clause-full c = λ full u there.
-    let all = c.look_at_all.ensures in
-    (all.waits.listed u (has_each (length c.look_at_all.new.lists.rows.items) (needs_by c.in_ok-lists.lists.rows.items)
-    c.look_at_all.new.order.list
-    (subst (λ n. TakesLeast n (needs_by c.in_ok-lists.lists.rows.items) [] c.look_at_all.new.order.list) (sym all.size)
-    all.in_turn) full u there)).counted
+count_rests-requires-clause-full c = λ full u there. search (rules, has_each)
 
 pub returns-clause-least : goal.returns-clause-least
 returns-clause-least c = search (rules, as_many_needs, as_long, same_needs, in_turn_too, full_too, nothing_left)
@@ -101,9 +96,7 @@ pub returns-clause-steps : goal.returns-clause-steps
 returns-clause-steps c =
     steps_are c.args.circuit.now c.count_rests.new.order.list c.count_rests.new.order.waiting
     c.count_rests.new.order.steps (returns-clause-as_many c) (returns-clause-waiting c)
-    (paid c.args.circuit.now c.in_ok-lists.lists.rows.items c.in_ok-counts.field-0.items c.look_at_all.new.order
-    c.in_ok-order.order c.count_rests.new.order c.in_ok-lists.ensures.needs c.in_ok-counts.ensures
-    c.in_ok-order.ensures c.look_at_all.ensures.paid c.count_rests.ensures.down)
+    (search (rules, paid))
 
 pub returns-clause-few : goal.returns-clause-few
 returns-clause-few c =

@@ -1,6 +1,5 @@
-use Rattle.std.proofs.Common.{length, sym, subst}
-use Rattle.std.proofs.Math.ListN.{set as put}
-use Rattle.aig_topo.specs.Cycle.{needs_in, IsSearching}
+use Rattle.std.proofs.Common.{length}
+use Rattle.aig_topo.specs.Cycle.{needs_in}
 use Rattle.aig_topo.proofs.Ordering.DepthFirst.{entered}
 use Rattle.aig_topo.proofs.cycle.Search.enter.Goals as goal
 
@@ -9,8 +8,8 @@ returns-clause-search c =
     let pairs = c.args.self.now.operands.items in
     let states = c.args.self.now.states.items in record {
       within = c.requires.search.within;
-      searching = subst (λ w. IsSearching (length pairs) (needs_in pairs) (put states c.args.gate 1) w)
-          (sym c.in_ok-push.ensures.items)
-          (entered (length pairs) (needs_in pairs) states c.args.self.now.way.items c.requires.search.searching
+      searching =
+          rw (← c.in_ok-push.ensures.items)
+          at (entered (length pairs) (needs_in pairs) states c.args.self.now.way.items c.requires.search.searching
           c.args.gate c.requires.there c.requires.unseen c.requires.needed);
     }

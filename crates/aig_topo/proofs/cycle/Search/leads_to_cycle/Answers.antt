@@ -1,7 +1,7 @@
 use Rattle.std.proofs.Common.{rules}
-use Rattle.std.proofs.Common.{◌≡◌, ◌∙◌, ◌<◌, sym, subst, length, get_or, arith, false}
+use Rattle.std.proofs.Common.{◌≡◌, ◌∙◌, ◌<◌, sym, subst, length, get_or, arith}
 use Rattle.std.proofs.lemmas.List.{get_or_default}
-use Rattle.aig_topo.specs.Cycle.{needs_in, comes_to_end}
+use Rattle.aig_topo.specs.Cycle.{needs_in}
 use Rattle.aig_topo.proofs.Ordering.DepthFirst.{few, last_met, met_below, trapped}
 use Rattle.aig_topo.proofs.cycle.Search.leads_to_cycle.Goals as goal
 
@@ -26,12 +26,10 @@ returns-then-index-eq-MET-clause-cyclic c = λ _ n.
     let next = c.in-Some-open_operand.next in
     let there : next < length now.states.items =
     omega (arith, c.in-Some-open_operand.ensures.there, before.as_many) in
-    let met : get_or now.states.items next 0 ≡ 1 =
-    sym (c.index-in-Some.ensures ∙ get_or_default now.states.items next c.index-in-Some.result.now 0 there)
+    let met = sym (c.index-in-Some.ensures ∙ get_or_default now.states.items next c.index-in-Some.result.now 0 there)
     ∙ c.if-index-eq-MET.true in
-    let root : get_or now.states.items c.args.root 0 ≡ 1 =
-    subst (λ g. get_or now.states.items g 0 ≡ 1) (c.loop-gate.invariant.first c.in-Some.ensures.some.some)
+    let root = subst (λ g. get_or now.states.items g 0 ≡ 1) (c.loop-gate.invariant.first c.in-Some.ensures.some.some)
     (before.met 0 c.in-Some.ensures.some.some) in
-    subst (λ ps. comes_to_end n (needs_in ps) c.args.root ≡ false) c.loop-gate.invariant.operands
-    (trapped (length now.operands.items) (needs_in now.operands.items) now.states.items now.way.items before
+    rw c.loop-gate.invariant.operands
+    at (trapped (length now.operands.items) (needs_in now.operands.items) now.states.items now.way.items before
     c.in-Some.gate next c.in-Some.ensures.some c.in-Some-open_operand.ensures.needed met n c.args.root root)

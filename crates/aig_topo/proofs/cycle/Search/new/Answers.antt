@@ -9,12 +9,12 @@ returns-clause-search c =
     let pairs = c.in_ok-operands.operands.items in
     let count = c.len-count.result in
     let count_is : count ≡ length pairs = search rules in
-    let states : put c.in_ok-states.states.items count 2 ≡ put (replicate (length pairs + 1) 0) (length pairs) 2 =
-    ap₂ (λ ss n. put ss n 2) (c.in_ok-states.ensures.items_if_clones_equal (λ y e. e) ∙ ap (λ n. replicate (n + 1) 0) count_is) count_is in
+    let states = ap₂ (λ ss n. put ss n 2) (c.in_ok-states.ensures.items_if_clones_equal (λ y e. e)
+    ∙ ap (λ n. replicate (n + 1) 0) count_is) count_is in
     record {
       within = all_within c.args.circuit.now.gates pairs c.in_ok-operands.ensures;
-      searching = subst (λ w. IsSearching (length pairs) (needs_in pairs) (put c.in_ok-states.states.items count 2) w)
-          (sym c.in_ok-with_capacity.ensures.items)
+      searching =
+          rw c.in_ok-with_capacity.ensures.items
           (subst (λ ss. IsSearching (length pairs) (needs_in pairs) ss []) (sym states)
           (begins (length pairs) (needs_in pairs)));
     }

@@ -1,10 +1,11 @@
+use Rattle.aig_topo.proofs.Ordering.Trees.{tells_elsewhere}
 use Rattle.std.proofs.Common.{rules}
 use Rattle.std.proofs.lemmas.List.{length-set}
-use Rattle.aig_topo.proofs.Ordering.Trees.{to_tell, what_to_tell, lowest_put}
+use Rattle.aig_topo.proofs.Ordering.Trees.{what_to_tell, lowest_put}
 use Rattle.aig_topo.proofs.least_ready.ready.+tell.Goals as goal
 
 pub tell-requires : goal.tell-requires
-tell-requires t c = search (rules, length-set, to_tell, what_to_tell)
+tell-requires t c = search (rules, length-set, what_to_tell, tells_elsewhere)
 
 pub returns-clause-lowest : goal.returns-clause-lowest
 returns-clause-lowest t c =

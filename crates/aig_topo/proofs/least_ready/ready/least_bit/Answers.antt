@@ -1,5 +1,6 @@
+use Rattle.std.proofs.Common.{rules}
 use Rattle.std.proofs.lemmas.Grind.{common_steps}
-use Rattle.std.proofs.Common.{arith, refl, ◌<◌, ◌≤◌, ◌≡◌, ◌+◌, ◌*◌, get_or, subst}
+use Rattle.std.proofs.Common.{arith, refl, ◌<◌, ◌≡◌, ◌+◌, ◌*◌, get_or, subst}
 use Rattle.std.proofs.Math.Facts.{Fits-lt-pow}
 use Rattle.std.specs.Int.{w64, trailing_zeros}
 use Rattle.aig_topo.specs.Ready.{first_bit}
@@ -14,8 +15,7 @@ pub overflow_add-below : goal.overflow_add-below
 overflow_add-below c = grind (arith, common_steps, there_below)
 
 pub bounds-words-below : goal.bounds-words-below
-bounds-words-below c = there_below c.args.words.now (first_bit c.args.levels) c.args.levels c.requires.tree
-    (λ i. Fits-lt-pow (c.type_inv.words i)) c.loop.counter c.loop.bit c.loop-test.true c.loop.invariant
+bounds-words-below c = search (rules, there_below)
 
 pub overflow_add-bit : goal.overflow_add-bit
 overflow_add-bit c =
@@ -29,9 +29,7 @@ loop-preserved c = one_down c.args.words.now (first_bit c.args.levels) c.args.le
     (λ i. Fits-lt-pow (c.type_inv.words i)) c.loop.counter c.loop.bit c.loop-test.true c.loop.invariant _ refl
 
 pub returns-clause-there : goal.returns-clause-there
-returns-clause-there c =
-    let all : c.loop.counter ≡ c.args.levels = omega (arith, c.loop-test.false, c.loop.auto.counter-end) in
-    subst (λ n. first_bit n ≤ c.loop.bit) all c.loop.invariant.at.from
+returns-clause-there c = search rules
 
 pub returns-clause-least : goal.returns-clause-least
 returns-clause-least c = λ b.

@@ -1,14 +1,11 @@
 use Rattle.std.proofs.Common.{rules}
-use Rattle.std.proofs.Common.{◌≡◌, ◌≤◌, ◌∙◌, ◌+◌, ◌++◌, ◌∷◌, [], ℕ, List, Some, None, sym, ap, subst, arith, length, inl}
-use Rattle.std.proofs.Common.{refl}
+use Rattle.std.proofs.Common.{◌≡◌, ◌≤◌, ◌∙◌, ◌+◌, ◌++◌, ◌∷◌, [], ℕ, List, sym, ap, subst, arith, length}
 use Rattle.std.specs.List.{sum}
 use Rattle.std.proofs.lemmas.List.{length-append}
 use Rattle.aig_topo.specs.declared.lists.GateNode.{GateNode}
-use Rattle.aig_circuit.specs.Wellformed.{IsAmong}
 use Rattle.aig_topo.specs.Order.{TakesLeast}
 use Rattle.aig_topo.specs.Progress.{Progress}
 use Rattle.aig_topo.specs.Ready.{has}
-use Rattle.aig_topo.specs.Waiting.{RowsWait}
 use Rattle.aig_topo.proofs.Ordering.Cyclic.{among_last}
 use Rattle.aig_topo.proofs.Ordering.TakenLeast.{no_longer}
 use Rattle.aig_topo.proofs.Ordering.Waiting.{rows_looked_at, rows_taken, goes_on_in_turn}
@@ -18,9 +15,7 @@ pub loop-next-init : goal.loop-next-init
 loop-next-init g c = search (rules, rows_looked_at)
 
 pub release_waiting-requires-clause-taken : goal.release_waiting-requires-clause-taken
-release_waiting-requires-clause-taken g c =
-    subst (λ (p : Progress). IsAmong c.in-Some.next p.list) (sym c.take.ensures)
-    (among_last c.loop-next.order.list (c.in-Some.next ∷ []) c.in-Some.next (inl refl))
+release_waiting-requires-clause-taken g c = search (rules, among_last, c.in-Some.next ∷ [])
 
 pub loop-next-preserved : goal.loop-next-preserved
 loop-next-preserved g c =
@@ -38,13 +33,12 @@ loop-next-preserved g c =
       room = c.release_waiting.ensures.room;
       in_turn = subst (TakesLeast (length c.release_waiting.new.lists.rows.items) g.needs [])
           (sym (down.list ∙ ap (λ (p : Progress). p.list) is))
-          (subst (λ n. TakesLeast n g.needs [] longer) (sym c.release_waiting.ensures.size)
+          (rw c.release_waiting.ensures.size
           (goes_on_in_turn g.needs order.list rows order.waiting (has c.loop-next.ready) seen inv.waits (length rows)
           next few c.in-Some.ensures.first c.in-Some.ensures.least inv.in_turn));
       waits = c.release_waiting.ensures.waits g.needs seen
-          (subst (λ (p : Progress). RowsWait g.needs rows p.list p.waiting (has c.pop_first.new.self) seen (Some next)
-          None) (sym is)
-          (rows_taken g.needs order.list rows order.waiting (has c.loop-next.ready) seen inv.waits (length rows) next
+          (rw is (rows_taken g.needs order.list rows order.waiting (has c.loop-next.ready) seen inv.waits (length rows)
+          next
           few c.in-Some.ensures.first c.in-Some.ensures.least (has c.pop_first.new.self) c.in-Some.ensures.rest));
       paid = omega (
         arith,
@@ -61,10 +55,8 @@ pub loop-next-smaller : goal.loop-next-smaller
 loop-next-smaller g c =
     let order : Progress = c.loop-next.order in
     let down = c.release_waiting.ensures.down in
-    let one_longer : length c.release_waiting.new.order.list ≡ length order.list + 1 =
-    ap length (down.list ∙ ap (λ (p : Progress). p.list) c.take.ensures)
+    let one_longer = ap length (down.list ∙ ap (λ (p : Progress). p.list) c.take.ensures)
     ∙ length-append order.list (c.in-Some.next ∷ []) in
-    let fits : length c.release_waiting.new.order.list ≤ length c.release_waiting.new.lists.rows.items =
-    no_longer (length c.release_waiting.new.lists.rows.items) g.needs c.release_waiting.new.order.list
+    let fits = no_longer (length c.release_waiting.new.lists.rows.items) g.needs c.release_waiting.new.order.list
     (loop-next-preserved g c).in_turn in
     omega (arith, one_longer, fits, c.release_waiting.ensures.size, c.loop-next.invariant.size)

@@ -1,16 +1,15 @@
 use Rattle.std.proofs.Common.{rules}
 use Rattle.std.proofs.Common.{◌≡◌, ◌≢◌, ◌<◌, ◌-◌, ◌∙◌, [], ◌∷◌, ℕ, suc, List, Some, sym, ap, inl, inr, subst}
 use Rattle.std.proofs.Common.{length, get_or, refl, arith}
-use Rattle.std.specs.List.{AllByRecursion}
 use Rattle.std.proofs.lemmas.List.{length-set, get_or-set_same}
 use Rattle.aig_topo.specs.declared.lists.GateNode.{GateNode}
 use Rattle.aig_circuit.specs.Wellformed.{IsAmong}
 use Rattle.aig_topo.specs.Order.{left_over}
 use Rattle.aig_topo.specs.Lists.{links_in, list_in, AreLists}
 use Rattle.aig_topo.specs.Needs.{linked, no_needs}
-use Rattle.aig_topo.specs.Progress.{Progress, CountsFor}
+use Rattle.aig_topo.specs.Progress.{Progress}
 use Rattle.aig_topo.specs.Ready.{has}
-use Rattle.aig_topo.specs.Waiting.{rest_by, RowsWait}
+use Rattle.aig_topo.specs.Waiting.{rest_by}
 use Rattle.aig_circuit.proofs.Checking.Fitting.{each}
 use Rattle.aig_topo.proofs.Ordering.Asked.{counts_one, counts_more, counts_again}
 use Rattle.aig_topo.proofs.Ordering.LeftOver.{listed_first}
@@ -35,33 +34,11 @@ module _ (rows popped : List GateNode) (list user gates : ℕ) (lists : AreLists
 
 pub enter-requires-clause-asked : goal.enter-requires-clause-asked
 enter-requires-clause-asked c =
-    let rows : List GateNode = c.loop-user.lists.rows.items in
-    let popped : List GateNode = c.pop.new.self.rows.items in
-    let inv = c.loop-user.invariant in
-    let is : linked c.loop-user.ahead ≡ rest_by rows c.in-Some.user =
-    inv.ahead c.in-Some.user (list_in popped c.args.gate) c.in-Some.ensures.first in
-    subst (AllByRecursion (λ h. h < length popped)) (sym is)
-    (subst (λ n. AllByRecursion (λ h. h < n) (rest_by rows c.in-Some.user))
-    (sym (as_many rows popped c.pop.ensures.needs)) (rest_there rows inv.room.there c.in-Some.user))
+    let rows : List GateNode = c.loop-user.lists.rows.items in search (rules, as_many, rest_there)
 
 pub enter-requires-clause-waiting : goal.enter-requires-clause-waiting
 enter-requires-clause-waiting c =
-    let rows : List GateNode = c.loop-user.lists.rows.items in
-    let popped : List GateNode = c.pop.new.self.rows.items in
-    let waiting : List ℕ = c.loop-user.order.waiting in
-    let user : ℕ = c.in-Some.user in
-    let inv = c.loop-user.invariant in
-    let lists = inv.room.lists in
-    let counted = inv.room.counted in
-    let front = c.in-Some.ensures.first in
-    omega (
-      arith,
-      inv.counted user (stood rows popped c.args.gate user (length waiting) lists counted front),
-      ap length (inv.ahead user (list_in popped c.args.gate) front),
-      ap (λ ws. get_or ws user 0) c.count_down.ensures.waiting,
-      get_or-set_same waiting user (get_or waiting user 0 - 1) 0
-          (there rows popped c.args.gate user (length waiting) lists counted front),
-    )
+    let rows : List GateNode = c.loop-user.lists.rows.items in search (rules, stood, get_or-set_same, there)
 
 pub enter-requires-clause-room : goal.enter-requires-clause-room
 enter-requires-clause-room c =
@@ -99,21 +76,16 @@ loop-user-preserved c =
     let less : Progress = c.count_down.new.self in
     let user : ℕ = c.in-Some.user in
     let front = c.in-Some.ensures.first in
-    let was : IsAmong user (list_in rows c.args.gate) =
-    stood rows popped c.args.gate user (length order.waiting) inv.room.lists inv.room.counted front in
-    let out : (k : ℕ) → ¬ IsAmong user (list_in popped k) =
-    gone (λ _. []) order.list rows popped c.args.gate user inv.room.lists front c.pop.ensures.others inv.room.apart in
-    let one : CountsFor user order less =
-    counts_one user order less
+    let was = stood rows popped c.args.gate user (length order.waiting) inv.room.lists inv.room.counted front in
+    let out = gone (λ _. []) order.list rows popped c.args.gate user inv.room.lists front
+    c.pop.ensures.others inv.room.apart in
+    let one = counts_one user order less
     (there rows popped c.args.gate user (length order.waiting) inv.room.lists inv.room.counted front)
     (omega (arith, inv.counted user was)) c.count_down.ensures.waiting c.count_down.ensures.steps
     c.count_down.ensures.list in
-    let all : CountsFor user order c.enter.new.order =
-    counts_again user order less c.enter.new.order one c.enter.ensures.for_gate in
-    let taken : IsAmong c.args.gate less.list =
-    subst (IsAmong c.args.gate) (sym (one.down.list ∙ inv.down.list)) c.requires.taken in
-    let of_it : list_in new c.args.gate ≡ list_in popped c.args.gate =
-    c.enter.ensures.of_taken c.args.gate taken in record {
+    let all = counts_again user order less c.enter.new.order one c.enter.ensures.for_gate in
+    let taken = subst (IsAmong c.args.gate) (sym (one.down.list ∙ inv.down.list)) c.requires.taken in
+    let of_it = c.enter.ensures.of_taken c.args.gate taken in record {
       size = c.enter.ensures.size ∙ as_many rows popped c.pop.ensures.needs ∙ inv.size;
       room = c.enter.ensures.room;
       ahead = λ u us are.
@@ -124,7 +96,7 @@ loop-user-preserved c =
       down = counts_more c.args.order.now order c.enter.new.order inv.down all.down;
       counted = λ u a.
           let b : IsAmong u (list_in popped c.args.gate) = subst (IsAmong u) of_it a in
-          let other : u ≢ user = λ e. out c.args.gate (subst (λ z. IsAmong z (list_in popped c.args.gate)) e b) in
+          let other : u ≢ user = λ e. out c.args.gate (rw e at b) in
           all.others u other
           ∙ inv.counted u (subst (IsAmong u) (sym front) (inr b))
           ∙ ap (λ xs. suc (length xs))
@@ -137,9 +109,8 @@ loop-user-preserved c =
           (w.waits c.args.gate user was).enough more (λ g a. has_all g (subst (IsAmong g) (sym one.down.list) a))
           ∙ listed_first more c.args.gate (rest_by rows user) (has_all c.args.gate taken)
           ∙ ap (left_over more) (sym (inv.ahead user (list_in popped c.args.gate) front)))
-          (subst (λ l. RowsWait needs popped l less.waiting (has c.loop-user.ready) seen (Some c.args.gate) (Some user))
-          (sym one.down.list)
-          (recounted needs order.list popped order.waiting less.waiting user one.others out (has c.loop-user.ready)
+          (rw one.down.list (recounted needs order.list popped order.waiting less.waiting user one.others out
+          (has c.loop-user.ready)
           seen (Some c.args.gate)
           (rows_taken_out needs order.list rows popped c.args.gate user inv.room.lists front c.pop.ensures.others
           order.waiting (has c.loop-user.ready) seen (Some c.args.gate) w c.pop.ensures.needs)));

@@ -1,11 +1,10 @@
 use Rattle.std.proofs.Common.{rules}
-use Rattle.std.proofs.Common.{◌≡◌, ◌-◌, ◌<◌, ◌∙◌, ℕ, suc, List, ap, length, get_or, subst, arith}
+use Rattle.std.proofs.Common.{◌≡◌, ◌-◌, ◌∙◌, ℕ, List, ap, arith}
 use Rattle.std.proofs.lemmas.List.{get_or_default}
 use Rattle.aig_topo.specs.declared.lists.GateNode.{GateNode}
 use Rattle.aig_topo.specs.declared.operands.Needs.{Needs}
 use Rattle.aig_topo.specs.Lists.{needs_in, needs_in_row}
 use Rattle.aig_topo.specs.Needs.{linked, no_needs}
-use Rattle.aig_topo.specs.Waiting.{rest_by}
 use Rattle.aig_topo.proofs.Ordering.Rows.{as_many_needs, read_needs, first_there, first_is}
 use Rattle.aig_topo.proofs.lists.Lists.first_rest.Goals as goal
 
@@ -17,13 +16,10 @@ returns c = λ u us are.
     let rows : List GateNode = c.args.self.now.rows.items in
     let at : ℕ = c.index.result.now.first - 1 in
     let row : GateNode = c.index-2.result.now in
-    let is : c.index.result.now.first ≡ suc u =
-    first_is rows c.args.list c.index.result.now c.requires.there c.index.ensures c.requires.lists u us are in
-    let there : at < length rows =
-    first_there rows c.args.list c.index.result.now c.requires.there c.index.ensures c.requires.lists
+    let is = first_is rows c.args.list c.index.result.now c.requires.there c.index.ensures c.requires.lists u us are in
+    let there = first_there rows c.args.list c.index.result.now c.requires.there c.index.ensures c.requires.lists
     (omega (arith, is)) in
     let same : at ≡ u = omega (arith, is) in
-    let read : needs_in_row row ≡ get_or (needs_in rows) at no_needs =
-    read_needs rows at row there c.index-2.ensures
+    let read = read_needs rows at row there c.index-2.ensures
     ∙ get_or_default (needs_in rows) at (needs_in_row row) no_needs (omega (arith, there, as_many_needs rows)) in
-    subst (λ z. linked row.rest ≡ rest_by rows z) same (ap (λ (n : Needs). linked n.right) read)
+    rw same at (ap (λ (n : Needs). linked n.right) read)

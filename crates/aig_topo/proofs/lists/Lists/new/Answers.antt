@@ -1,4 +1,5 @@
-use Rattle.std.proofs.Common.{◌≡◌, ◌≤◌, ◌∙◌, ℕ, List, take, ap, sym, arith, length, map}
+use Rattle.std.proofs.Common.{rules}
+use Rattle.std.proofs.Common.{◌≡◌, ◌≤◌, ◌∙◌, ℕ, List, take, ap, arith, length, map}
 use Rattle.std.proofs.lemmas.List.{take_all}
 use Rattle.std.proofs.lemmas.Simd.{map-map}
 use Rattle.aig_circuit.specs.declared.circuit.Gate.{Gate}
@@ -14,9 +15,7 @@ module _ (gates : List Gate) (n : ℕ) (rows : List GateNode)
     (are : rows ≡ map (λ g. row_of (needs_of gates g)) (take n gates)) (enough : length gates ≤ n)
   where
     all_rows : rows ≡ map row_of (map (needs_of gates) gates)
-    all_rows =
-        are ∙ ap (map (λ g. row_of (needs_of gates g))) (take_all n gates enough)
-        ∙ sym (map-map row_of (needs_of gates) gates)
+    all_rows = search (rules, row_of, take_all, map-map)
 
     same_needs : needs_in rows ≡ map (needs_of gates) gates
     same_needs = ap needs_in all_rows ∙ needs_of_rows (map (needs_of gates) gates)
@@ -34,11 +33,9 @@ returns-clause-needs c =
 pub returns-clause-lists : goal.returns-clause-lists
 returns-clause-lists c =
     empty_lists (links_in c.loop-gate.rows.items)
-    (no_first c.as_slice-gates.result.now c.loop-gate.gate-index c.loop-gate.rows.items c.loop-gate.invariant
-    (omega (arith, c.loop-gate-test.false)))
+    (search (rules, no_first))
 
 pub returns-clause-empty : goal.returns-clause-empty
 returns-clause-empty c =
     all_empty (links_in c.loop-gate.rows.items)
-    (no_first c.as_slice-gates.result.now c.loop-gate.gate-index c.loop-gate.rows.items c.loop-gate.invariant
-    (omega (arith, c.loop-gate-test.false)))
+    (search (rules, no_first))

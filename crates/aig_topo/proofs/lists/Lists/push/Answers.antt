@@ -1,3 +1,4 @@
+use Rattle.std.proofs.Common.{rules}
 use Rattle.std.proofs.Common.{◌≡◌, ◌<◌, ◌∙◌, ◌+◌, List, ap, sym, subst, arith, length, get_or, refl}
 use Rattle.std.proofs.Math.ListN.{set as put}
 use Rattle.std.proofs.lemmas.List.{length-set}
@@ -23,8 +24,7 @@ returns c =
     let there : c.args.list < length one =
     omega (arith, c.requires.list, length-set rows c.args.gate changed) in
     let list_link : links_in_row list_row ≡ get_or (put links c.args.gate behind) c.args.list (links_in_row list_row) =
-    subst (λ ls. links_in_row list_row ≡ get_or ls c.args.list (links_in_row list_row)) links_one
-    (read_link one c.args.list list_row there c.index_mut.ensures.value) in
+    search (rules, read_link) in
     let list_there : c.args.list < length links = omega (arith, c.requires.list, as_many_links rows) in
     let gate_there : c.args.gate < length links = omega (arith, c.requires.gate, as_many_links rows) in
     let still_there : c.args.list < length (put links c.args.gate behind) =
@@ -36,8 +36,8 @@ returns c =
     (read_link rows c.args.gate gate_row c.requires.gate c.index_mut-row.ensures.value)))
     (omega arith)
     (sym (read_next (put links c.args.gate behind) c.args.list (links_in_row list_row) still_there list_link)) in
-    let links_two = links_then one c.args.list front ∙ ap (λ ls. put ls c.args.list before) links_one in
-    let after = subst (λ ls. HaveMore links ls c.args.list c.args.gate) (sym links_two) more in record {
+    let after = subst (λ ls. HaveMore links ls c.args.list c.args.gate)
+    (sym (links_then one c.args.list front ∙ ap (λ ls. put ls c.args.list before) links_one)) more in record {
       lists = after.lists;
       needs = same_needs_in one c.args.list list_row there c.index_mut.ensures.value front refl
           ∙ needs_then rows c.args.gate changed

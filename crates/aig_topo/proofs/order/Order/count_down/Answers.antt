@@ -1,3 +1,4 @@
+use Rattle.std.proofs.Common.{rules}
 use Rattle.std.proofs.Common.{◌≡◌, ◌<◌, ◌∙◌, ◌-◌, ap, length, map, get_or, arith, List, ℕ}
 use Rattle.std.proofs.Math.ListN.{set as put}
 use Rattle.std.proofs.lemmas.List.{length-map}
@@ -16,11 +17,9 @@ some states p gate is waits = omega (arith, waits, ap (λ ws. get_or ws gate 0) 
 
 pub invariant_of-self : goal.invariant_of-self
 invariant_of-self c =
-    let states : List ℕ = c.self.inside.states.items in
-    let is : map waiting_in states ≡ c.args.self.now.waiting = ap (λ (p : Progress). p.waiting) c.self.view_is in
-    counts_down c.self.inside.positions.items c.self.inside.taken states c.self.inside.counted c.args.gate
-    c.self.invariant (below states c.args.self.now c.args.gate is c.requires.there) c.index_mut.result.now
-    c.index_mut.ensures.value (some states c.args.self.now c.args.gate is c.requires.waiting)
+    let is : map waiting_in c.self.inside.states.items ≡ c.args.self.now.waiting = ap (λ (p : Progress). p.waiting)
+    c.self.view_is in
+    search (rules, counts_down, below, some)
 
 pub returns-clause-waiting : goal.returns-clause-waiting
 returns-clause-waiting c =

@@ -1,4 +1,5 @@
-use Rattle.std.proofs.Common.{◌≡◌, ◌<◌, ◌∙◌, ◌+◌, ◌++◌, ◌∷◌, [], ap, ap₂, length, map, take, sym, subst, arith, get_or, List, ℕ}
+use Rattle.std.proofs.Common.{rules}
+use Rattle.std.proofs.Common.{◌≡◌, ◌<◌, ◌∙◌, ◌+◌, ◌++◌, ◌∷◌, [], ap, ap₂, length, map, take, arith, get_or, List, ℕ}
 use Rattle.std.proofs.Math.ListN.{set as put}
 use Rattle.std.proofs.lemmas.List.{length-map}
 use Rattle.aig_circuit.specs.Wellformed.{IsAmong}
@@ -15,16 +16,13 @@ module _ (positions states : List ℕ) (taken counted gate : ℕ) (p : Progress)
   below = omega (arith, there, ap (λ (q : Progress). length q.waiting) is, length-map states waiting_in)
 
   new : ¬ IsAmong gate (take taken positions)
-  new = subst (λ (q : Progress). ¬ IsAmong gate q.list) (sym is) left
+  new = rw (← is) at left
 
   idle : get_or (map waiting_in states) gate 0 ≡ 0
   idle = ap (λ (q : Progress). get_or q.waiting gate 0) is ∙ ready
 
   pub room : taken < length positions
   room = room_left positions taken states counted gate kept below new
-
-  pub kept_still : IsCounted (put positions taken gate) (taken + 1) (put states gate 3) counted
-  kept_still = takes positions taken states counted gate kept below new idle
 
   pub view_then : record {
     list = take (taken + 1) (put positions taken gate);
@@ -53,11 +51,7 @@ index_mut-requires c =
     )
 
 pub invariant_of-self : goal.invariant_of-self
-invariant_of-self c =
-    kept_still c.self.inside.positions.items c.self.inside.states.items c.self.inside.taken c.self.inside.counted
-    c.args.gate c.args.self.now c.self.view_is c.requires.there c.requires.left c.requires.ready c.self.invariant
+invariant_of-self c = search (rules, takes, below, new, idle)
 
 pub returns : goal.returns
-returns c =
-    view_then c.self.inside.positions.items c.self.inside.states.items c.self.inside.taken c.self.inside.counted
-    c.args.gate c.args.self.now c.self.view_is c.requires.there c.requires.left c.requires.ready c.self.invariant
+returns c = search (rules, view_then)

@@ -1,8 +1,9 @@
+use Rattle.std.proofs.lemmas.Nat.Bits.{bit_at-zero}
+use Rattle.aig_topo.proofs.Ordering.Gates.{zeros}
 use Rattle.std.proofs.Common.{rules}
-use Rattle.std.proofs.Common.{◌+◌, ◌∙◌, ap, arith}
+use Rattle.std.proofs.Common.{arith}
 use Rattle.aig_topo.specs.Ready.{first_bit, has}
-use Rattle.aig_tables.specs.Parts.Marks.{is_marked}
-use Rattle.aig_topo.proofs.Ordering.Trees.{empty_tree, empty_words}
+use Rattle.aig_topo.proofs.Ordering.Trees.{empty_tree}
 use Rattle.aig_topo.proofs.least_ready.ready.Ready.new.Goals as goal
 
 pub loop-first-init : goal.loop-first-init
@@ -14,10 +15,8 @@ unfolding first_bit
 loop-first-preserved c = search rules
 
 pub invariant_of-result : goal.invariant_of-result
-invariant_of-result c = search (rules, empty_tree, empty_words)
+invariant_of-result c = search (rules, empty_tree, zeros, bit_at-zero)
 
 pub returns-clause-empty : goal.returns-clause-empty
 unfolding has
-returns-clause-empty c = λ g.
-    ap (λ ws. is_marked ws (c.loop-first.first + g)) (c.in_ok-vec.ensures.items_if_clones_equal (λ y e. e))
-    ∙ empty_words _ (c.loop-first.first + g)
+returns-clause-empty c = search (rules, zeros, bit_at-zero)

@@ -1,8 +1,10 @@
+use Rattle.std.proofs.lemmas.Bool.{eqb-true}
+use Rattle.std.proofs.lemmas.Bool.{or_cases}
 use Rattle.std.proofs.Common.{rules}
-use Rattle.std.proofs.Common.{arith, ℕ, List, Some}
+use Rattle.std.proofs.Common.{arith, ℕ, List}
 use Rattle.std.proofs.lemmas.Bool.{eq-eqb}
-use Rattle.aig_topo.specs.Ready.{IsReady, has}
-use Rattle.aig_topo.proofs.Ordering.LeastApart.{written_back, same_ready, same_gates, comes_first, others_stay}
+use Rattle.aig_topo.specs.Ready.{has}
+use Rattle.aig_topo.proofs.Ordering.LeastApart.{written_back, same_ready, same_gates, others_stay}
 use Rattle.aig_topo.proofs.Ordering.LeastApart.{next_ready}
 use Rattle.aig_topo.proofs.least_ready.ready.Ready.pop_first.Goals as goal
 
@@ -16,7 +18,7 @@ returns-clause-first c = search (rules, eq-eqb)
 
 pub returns-clause-least : goal.returns-clause-least
 unfolding has
-returns-clause-least c = search (rules, comes_first)
+returns-clause-least c = search (rules, eqb-true, or_cases)
 
 pub returns-clause-rest : goal.returns-clause-rest
 unfolding has
@@ -26,8 +28,8 @@ pub invariant_of-self : goal.invariant_of-self
 invariant_of-self c =
     let words : List ℕ = c.deref_mut.result.now in
     let new : List ℕ = c.pop_least-self-inside.new.words in
-    let ready : IsReady (Some c.in_ok-least.least) words c.self.inside.first c.self.inside.levels =
-    same_ready c.in_ok-least.least _ words _ _ _ c.in_ok-least.was c.deref_mut.ensures.value c.self.invariant in
+    let ready = same_ready c.in_ok-least.least _ words _ _ _ c.in_ok-least.was c.deref_mut.ensures.value
+    c.self.invariant in
     rw (written_back new c.self.inside.words.items c.self.inside.words.len
     (omega (arith, c.deref_mut.ensures.len, c.pop_least-self-inside.auto.words)))
     (next_ready words new c.self.inside.first c.self.inside.levels c.in_ok-least.least ready
