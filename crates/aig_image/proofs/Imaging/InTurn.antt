@@ -6,7 +6,7 @@ use Rattle.aig_circuit.specs.declared.circuit.Gate.{Gate}
 use Rattle.aig_circuit.specs.Literal.{variable_of}
 use Rattle.aig_circuit.specs.Wellformed.{IsAmong, AreDistinct, IsKnown, operands}
 use Rattle.aig_topo.specs.Order.{IsReady, TakesLeast, gate_operands}
-use Rattle.aig_topo.proofs.Ordering.Counted.{among_either}
+use Rattle.aig_topo.proofs.Ordering.Counted.{among_either, among_first}
 use Rattle.aig_topo.proofs.Ordering.Cyclic.{among_last}
 use Rattle.aig_circuit.proofs.Checking.Fitting.{each}
 use Rattle.aig_topo.proofs.Ordering.Ranked.{at, needed_by, variables}
@@ -15,9 +15,10 @@ use Rattle.aig_image.specs.Relabelled.{relabelled_gate}
 use Rattle.aig_image.specs.Reordered.{operands_sorted}
 use Rattle.aig_image.specs.Reordered.{taken}
 use Rattle.aig_image.specs.Renumbering.{renumbered}
-use Rattle.aig_image.proofs.Relabelling.Standing.{among_first}
+use Rattle.aig_image.proofs.Relabelling.Formed.{among_there}
 use Rattle.aig_image.proofs.Numbering.Places.{number_of, number_within}
-use Rattle.aig_image.proofs.Imaging.Taken.{taken_variables, place_there}
+use Rattle.aig_image.proofs.Imaging.Taken.{taken_variables}
+use Rattle.aig_image.proofs.Relabelling.Standing.{place_there}
 
 -- a gate by new numbers, the larger operand first
 abbrev pub renumbered_gate : List ℕ → Gate → Gate
@@ -28,11 +29,6 @@ lower : (n var left right s t : ℕ) → var ≡ 1 + n → left ≤ n → right 
     → (max (2 * left + s % 2) (2 * right + t % 2) < 2 * var)
     × (min (2 * left + s % 2) (2 * right + t % 2) ≤ max (2 * left + s % 2) (2 * right + t % 2))
 lower n var left right s t is l r = search rules
-
-among_mapped : (l : ℕ) (ls : List ℕ) → IsAmong l ls → IsAmong (variable_of l) (map variable_of ls)
-among_mapped l [] a = absurd a
-among_mapped l (x ∷ ls) a =
-    ⊎_elim (λ (e : l ≡ x). inl (ap variable_of e)) (λ (i : IsAmong l ls). inr (among_mapped l ls i)) a
 
 module _ (gates : List Gate) (first vs : List ℕ) (once : AreDistinct vs) (gates_once : AreDistinct (variables gates))
     (some : (g : ℕ) → g < length gates → 1 ≤ (at gates g).var)
@@ -52,7 +48,7 @@ module _ (gates : List Gate) (first vs : List ℕ) (once : AreDistinct vs) (gate
         let p = place_there gates (variable_of l) i in
         let by_variable : IsAmong (at gates p.0).var (map variable_of (operands (at gates g))) =
         subst (λ v. IsAmong v (map variable_of (operands (at gates g)))) (sym p.2)
-        (among_mapped l (operands (at gates g)) used) in
+        (among_there variable_of l (operands (at gates g)) used) in
         let was_taken : IsAmong p.0 seen =
         each (λ h. IsAmong h seen) (gate_operands gates g) ready.served p.0
         (needed_by gates gates_once g p.0 ready.there p.1 by_variable) in
@@ -66,8 +62,8 @@ module _ (gates : List Gate) (first vs : List ℕ) (once : AreDistinct vs) (gate
       λ h a. ⊎_elim
           (λ (e : h ≡ g). among_last before ((at gates g).var ∷ []) (at gates h).var
           (inl (ap (λ i. (at gates i).var) e)))
-          (λ (i : IsAmong h seen). among_first before ((at gates g).var ∷ []) (at gates h).var (holds.0 h i)) a,
-      λ v a. among_first before ((at gates g).var ∷ []) v (holds.1 v a),
+          (λ (i : IsAmong h seen). among_first (at gates h).var before ((at gates g).var ∷ []) (holds.0 h i)) a,
+      λ v a. among_first v before ((at gates g).var ∷ []) (holds.1 v a),
     )
 
     pub in_turn : (seen before rest : List ℕ) → Holds seen before

@@ -27,7 +27,7 @@ module _ (c : Circuit) (order : List ℕ) (good : IsWellFormed c) (least : IsLea
   vs = in_new_order c order
 
   -- each new number goes back to its variable
-  names_go_back : NamesOnly (λ v. source_variable vs (renumbered vs v) ≡ v) c
+  pub names_go_back : NamesOnly (λ v. source_variable vs (renumbered vs v) ≡ v) c
   names_go_back = search (rules, names_only, all_of, back)
 
   abbrev new : Circuit

@@ -1,7 +1,7 @@
 -- The image of a well-formed circuit is in binary order.
 use Rattle.std.proofs.lemmas.Grind.{common_steps}
 use Rattle.std.proofs.Common.{rules}
-use Rattle.std.proofs.Common.{◌≡◌, ◌+◌, ◌<◌, ◌≤◌, ℕ, zero, suc, List, [], ◌∷◌, ◌++◌, length, length-append, map, refl}
+use Rattle.std.proofs.Common.{◌≡◌, ◌+◌, ◌<◌, ◌≤◌, ℕ, List, [], ◌++◌, length, length-append, map, refl}
 use Rattle.std.proofs.Common.{sym, ap, ap₂, subst, ◌∙◌, append_assoc, arith}
 use Rattle.std.specs.List.{AllByRecursion, concat, range_with_len, flat_map}
 use Rattle.std.proofs.lemmas.List.{length-map}
@@ -12,10 +12,9 @@ use Rattle.aig_circuit.specs.declared.circuit.Circuit.{Circuit}
 use Rattle.aig_circuit.specs.Wellformed.{IsAmong, IsKnown, IsVariableUpTo, IsWellFormed}
 use Rattle.aig_circuit.specs.Wellformed.{defined_variables, literal_lists, operands}
 use Rattle.aig_topo.specs.Order.{IsLeastReadyOrder}
-use Rattle.aig_topo.proofs.Ordering.Cyclic.{among_last}
 use Rattle.aig_circuit.proofs.Checking.Fitting.{each, all_weaker}
 use Rattle.aig_circuit.proofs.Checking.InForm.{front, back}
-use Rattle.aig_topo.proofs.Ordering.Ranked.{at, variables, stands_there}
+use Rattle.aig_topo.proofs.Ordering.Ranked.{at, no_gate, variables}
 use Rattle.aig_checked.specs.BinaryOrder.{AreOrderedGates, IsInBinaryOrder}
 use Rattle.aig_image.specs.Image.{image_by}
 use Rattle.aig_image.specs.Relabelled.{relabelled_gate, relabelled_latch}
@@ -26,22 +25,16 @@ use Rattle.aig_image.proofs.Imaging.InTurn.{in_turn, renumbered_gate}
 use Rattle.aig_image.proofs.Imaging.Members.{new, gates_once, new_once}
 use Rattle.aig_image.proofs.Numbering.Places.{numbered_on}
 use Rattle.aig_image.proofs.Relabelling.Formed.{latches_there}
+use Rattle.aig_image.proofs.Relabelling.Permuted.{OperandsHave, gate_by_gate}
 use Rattle.aig_image.proofs.Relabelling.Reordered.{taken_mapped}
-use Rattle.aig_image.proofs.Imaging.Taken.{taken_variables}
+use Rattle.aig_image.proofs.Relabelling.Standing.{at_place}
+use Rattle.aig_image.proofs.Imaging.Taken.{some_gate, taken_variables}
 
 -- the gates of an image, one by one
 image_gates : (vs : List ℕ) (gates : List Gate) (order : List ℕ)
     → map operands_sorted (taken (map (relabelled_gate (renumbered vs)) gates) order)
     ≡ map (renumbered_gate vs) (taken gates order)
 image_gates vs gates order = search (rules, taken_mapped, map-map)
-
--- what holds of all operands holds of those of each gate
-of_gate : (P : ℕ → Type 0) (gates : List Gate) → AllByRecursion P (flat_map operands gates) → (i l : ℕ)
-    → i < length gates → IsAmong l (operands (at gates i)) → P l
-of_gate P [] all i l there a = absurd (omega arith)
-of_gate P (g ∷ gs) all zero l there a = each P (operands g) (front P (operands g) (flat_map operands gs) all) l a
-of_gate P (g ∷ gs) all (suc i) l there a =
-    of_gate P gs (back P (operands g) (flat_map operands gs) all) i l (omega arith) a
 
 module _ (c : Circuit) (order : List ℕ) (good : IsWellFormed c) (least : IsLeastReadyOrder c order) where
   abbrev vs : List ℕ
@@ -65,16 +58,14 @@ module _ (c : Circuit) (order : List ℕ) (good : IsWellFormed c) (least : IsLea
   some : (vars : List ℕ) → AllByRecursion InRange vars → AllByRecursion (λ v. 1 ≤ v) vars
   some vars all = all_weaker InRange (λ v. 1 ≤ v) (λ v r. r.0) vars all
 
-  some_gate : (g : ℕ) → g < length c.gates → 1 ≤ (at c.gates g).var
-  some_gate g there =
-      (each InRange (defined_variables c) good.in_range (at c.gates g).var
-      (among_last (c.inputs ++ latches) (variables c.gates) (at c.gates g).var (stands_there c.gates g there))).0
-
   known : (g l : ℕ) → g < length c.gates → IsAmong l (operands (at c.gates g)) → IsKnown (defined_variables c) l
   known g l there a =
-      of_gate (IsKnown (defined_variables c)) c.gates
-      (back (IsKnown (defined_variables c)) (map (λ (l : Latch). l.next) c.latches ++ concat (literal_lists c))
-      (flat_map operands c.gates) good.known) g l there a
+      let Known : ℕ → Type 0 = IsKnown (defined_variables c) in
+      let ends : List ℕ = map (λ (l : Latch). l.next) c.latches ++ concat (literal_lists c) in
+      let both =
+      at_place (OperandsHave Known) no_gate c.gates
+      (gate_by_gate Known c.gates (back Known ends (flat_map operands c.gates) good.known)) g there in
+      each Known (operands (at c.gates g)) (both.0, (both.1, tt)) l a
 
   many : length (c.inputs ++ latches) ≡ length (map number c.inputs) + length (map (relabelled_latch number) c.latches)
   many = grind (arith, common_steps)
@@ -89,7 +80,7 @@ module _ (c : Circuit) (order : List ℕ) (good : IsWellFormed c) (least : IsLea
   in_binary_order =
       let once = new_once c order good least in
       let gates : AreOrderedGates (1 + length (c.inputs ++ latches)) (map (renumbered_gate vs) (taken c.gates order)) =
-      in_turn c.gates (c.inputs ++ latches) vs once (gates_once c order good least) some_gate known []
+      in_turn c.gates (c.inputs ++ latches) vs once (gates_once c order good least) (some_gate c good) known []
       (c.inputs ++ latches) order (λ h a. absurd a, λ v a. a) least.in_turn refl in record {
         inputs =
             numbered_on vs [] c.inputs (latches ++ last) once

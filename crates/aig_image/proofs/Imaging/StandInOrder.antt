@@ -1,6 +1,6 @@
 -- Where gates stand in order, their least ready order is 0, 1, 2 and so on.
 use Rattle.std.proofs.Common.{rules}
-use Rattle.std.proofs.Common.{◌≡◌, ◌<◌, ◌≤◌, ◌+◌, ℕ, zero, suc, List, [], ◌∷◌, ◌++◌, length, map, take, None}
+use Rattle.std.proofs.Common.{◌≡◌, ◌<◌, ◌≤◌, ◌+◌, ℕ, List, ◌++◌, length, map, take, None}
 use Rattle.std.proofs.Common.{refl, sym, subst, ⊎_elim, arith}
 use Rattle.std.specs.List.{range_with_len}
 use Rattle.std.proofs.lemmas.Simd.{pick_l_whole}
@@ -9,11 +9,10 @@ use Rattle.aig_circuit.specs.declared.circuit.Latch.{Latch}
 use Rattle.aig_circuit.specs.declared.circuit.Circuit.{Circuit}
 use Rattle.aig_circuit.specs.declared.circuit.TheConstants.{LARGEST}
 use Rattle.aig_circuit.specs.Literal.{variable_of}
-use Rattle.aig_circuit.specs.Wellformed.{IsAmong, AreDistinct, IsKnown, IsVariableUpTo, IsWellFormed, defined_variables}
+use Rattle.aig_circuit.specs.Wellformed.{IsAmong, AreDistinct, IsKnown, IsWellFormed, defined_variables}
 use Rattle.aig_topo.specs.Order.{IsLeastReadyOrder, gate_operands}
 use Rattle.aig_topo.proofs.Ordering.Counted.{among_either}
-use Rattle.aig_topo.proofs.Ordering.Cyclic.{among_last}
-use Rattle.aig_circuit.proofs.Checking.Fitting.{each, definitions_fit}
+use Rattle.aig_circuit.proofs.Checking.Fitting.{definitions_fit}
 use Rattle.aig_topo.proofs.Ordering.Ranked.{at, no_gate, over_one, variables, stands_there, distinct_back}
 use Rattle.aig_image.specs.Parts.InOrder.{StandInOrder}
 use Rattle.aig_image.specs.declared.image.Renumbering.{Renumbering}
@@ -21,21 +20,8 @@ use Rattle.aig_image.specs.Parts.Numbers.{number_of, AreNumbered, IsRenumberingO
 use Rattle.aig_image.specs.Relabelled.{FitIntoLiterals}
 use Rattle.aig_image.specs.Reordered.{taken}
 use Rattle.aig_image.proofs.Imaging.OneByOne.{one_by_one, all_of_them}
-use Rattle.aig_image.proofs.Imaging.Taken.{apart, same_gate}
-
--- a variable of the first gates is that of one of them
-place_before : (gates : List Gate) (k v : ℕ) → IsAmong v (variables (take k gates))
-    → (p : ℕ) × (p < k) × (p < length gates) × ((at gates p).var ≡ v)
-place_before [] zero v a = absurd a
-place_before [] (suc k) v a = absurd a
-place_before (g ∷ gs) zero v a = absurd a
-place_before (g ∷ gs) (suc k) v a =
-    ⊎_elim (λ (e : v ≡ g.var). (zero, omega arith, omega arith, sym e))
-    (λ (i : IsAmong v (variables (take k gs))).
-    let later = place_before gs k v i in
-    let below : later.0 < k = later.1 in
-    let there : later.0 < length gs = later.2 in
-    (suc later.0, omega (arith, below), omega (arith, there), later.3)) a
+use Rattle.aig_image.proofs.Imaging.Taken.{place_before, same_gate, some_gate}
+use Rattle.aig_meaning.proofs.Lists.{distinct_apart}
 
 module _ (first : List ℕ) (gates : List Gate) (once : AreDistinct (first ++ variables gates))
     (some : (h : ℕ) → h < length gates → 1 ≤ (at gates h).var) (stand : StandInOrder first gates) where
@@ -50,7 +36,7 @@ module _ (first : List ℕ) (gates : List Gate) (once : AreDistinct (first ++ va
       subst (λ v. IsAmong v (first ++ variables (take g gates))) (sym is) a in
       ⊎_elim
       (λ (i : IsAmong (at gates h).var first). absurd
-      (apart first (variables gates) once (at gates h).var i (stands_there gates h h_there)))
+      (distinct_apart first (variables gates) once (at gates h).var i (stands_there gates h h_there)))
       (λ (i : IsAmong (at gates h).var (variables (take g gates))).
       let p = place_before gates g (at gates h).var i in
       let same : p.0 ≡ h = same_gate gates (distinct_back first (variables gates) once) p.0 h p.2 h_there p.3 in
@@ -67,13 +53,8 @@ module _ (c : Circuit) (good : IsWellFormed c) where
   abbrev as_they_stand : List ℕ
   as_they_stand = range_with_len 0 (length c.gates)
 
-  no_constant : (h : ℕ) → h < length c.gates → 1 ≤ (at c.gates h).var
-  no_constant h there =
-      (each (IsVariableUpTo c.max_var) (defined_variables c) good.in_range (at c.gates h).var
-      (among_last first (variables c.gates) (at c.gates h).var (stands_there c.gates h there))).0
-
   least_as_they_stand : StandInOrder first c.gates → IsLeastReadyOrder c as_they_stand
-  least_as_they_stand stand = search (rules, falls, no_constant, one_by_one, all_of_them)
+  least_as_they_stand stand = search (rules, falls, some_gate, one_by_one, all_of_them)
 
   taken_as_they_stand : taken c.gates as_they_stand ≡ c.gates
   taken_as_they_stand = pick_l_whole no_gate c.gates (length c.gates) refl

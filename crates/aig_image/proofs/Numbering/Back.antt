@@ -11,8 +11,8 @@ use Rattle.aig_image.proofs.Numbering.Places.{number_at}
 use Rattle.aig_image.proofs.Relabelling.Standing.{here}
 
 -- one place further, behind one more
-further : (w n : ℕ) (vs : List ℕ) → get_or (w ∷ vs) (1 + n) 0 ≡ get_or vs n 0
-further w n vs = let same : 1 + n ≡ suc n = omega arith in ap (λ k. get_or (w ∷ vs) k 0) same
+pub further : (w n : ℕ) (vs : List ℕ) → get_or (w ∷ vs) (1 + n) 0 ≡ get_or vs n 0
+further w n vs = search rules
 
 -- what is in a list stands at its place
 found_there : (v : ℕ) (vs : List ℕ) → IsAmong v vs → get_or vs (position_or_len (λ w. eqb w v) vs) 0 ≡ v

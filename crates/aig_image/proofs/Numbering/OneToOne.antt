@@ -30,7 +30,7 @@ module _ (c : Circuit) (order : List ℕ) (good : IsWellFormed c) (least : IsLea
   some v among = search (rules, each, is_defined)
 
   -- the variable at a place has the number that is one more
-  number_there : (j : ℕ) → j < length vs → renumbered vs (get_or vs j 0) ≡ 1 + j
+  pub number_there : (j : ℕ) → j < length vs → renumbered vs (get_or vs j 0) ≡ 1 + j
   number_there j below = number_at vs (new_once c order good least) j below (some (get_or vs j 0) (here vs j below))
 
   within : (v : ℕ) → IsAmong v (defined_variables c) → IsVariableUpTo count (renumbered vs v)

@@ -20,7 +20,7 @@ use Rattle.aig_circuit.proofs.Checking.InForm.{joined}
 use Rattle.aig_topo.proofs.Ordering.Ranked.{variables}
 use Rattle.aig_image.specs.Relabelled.{relabelled_literal, relabelled_latch, relabelled_gate, relabelled}
 use Rattle.aig_image.specs.Relabelled.{LatchNames, GateNames, NamesOnly}
-use Rattle.aig_image.proofs.Relabelling.Relabelled.{lists_there, with_gates}
+use Rattle.aig_image.proofs.Relabelling.Relabelled.{lists_there}
 
 -- the symbols of a circuit are good in another that has as much of each kind
 module _ (c d : Circuit) (same : (k : Kind) → count_of c k ≡ count_of d k) where
@@ -32,15 +32,16 @@ module _ (c d : Circuit) (same : (k : Kind) → count_of c k ≡ count_of d k) w
   pub symbols_kept : c.symbols ≡ d.symbols → HasGoodSymbols c → HasGoodSymbols d
   symbols_kept are good = search (rules, positions_there)
 
--- no symbol names a gate
-pub gates_uncounted : (gates : List Gate) (c : Circuit) (k : Kind) → count_of c k ≡ count_of (with_gates gates c) k
-gates_uncounted gates c kinds.Input = refl
-gates_uncounted gates c kinds.Latch = refl
-gates_uncounted gates c kinds.Output = refl
-gates_uncounted gates c kinds.Bad = refl
-gates_uncounted gates c kinds.Constraint = refl
-gates_uncounted gates c kinds.Justice = refl
-gates_uncounted gates c kinds.Fairness = refl
+-- no symbol names a gate, or a comment
+pub counts_kept : (max_var : ℕ) (gates : List Gate) (comment : Option (List ℕ)) (c : Circuit) (k : Kind)
+    → count_of c k ≡ count_of (record c { max_var = max_var; gates = gates; comment = comment }) k
+counts_kept max_var gates comment c kinds.Input = refl
+counts_kept max_var gates comment c kinds.Latch = refl
+counts_kept max_var gates comment c kinds.Output = refl
+counts_kept max_var gates comment c kinds.Bad = refl
+counts_kept max_var gates comment c kinds.Constraint = refl
+counts_kept max_var gates comment c kinds.Justice = refl
+counts_kept max_var gates comment c kinds.Fairness = refl
 
 module _ {X Y : Type 0} where
   -- what holds of elements, for what holds of those that a map gives
@@ -107,7 +108,7 @@ module _ (f : ℕ → ℕ) where
   used_relabelled : (c : Circuit) → used_literals (relabelled f c) ≡ map (relabelled_literal f) (used_literals c)
   used_relabelled c = search (rules, map-map, operands_relabelled, listed_relabelled, map_three)
 
-  among_there : (v : ℕ) (xs : List ℕ) → IsAmong v xs → IsAmong (f v) (map f xs)
+  pub among_there : (v : ℕ) (xs : List ℕ) → IsAmong v xs → IsAmong (f v) (map f xs)
   among_there v [] a = absurd a
   among_there v (x ∷ xs) a = ⊎_elim (λ (e : v ≡ x). inl (ap f e)) (λ (i : IsAmong v xs). inr (among_there v xs i)) a
 

@@ -1,6 +1,7 @@
 -- Distinct places below their count are each that of one position.
 use Rattle.std.proofs.Common.{rules}
-use Rattle.std.proofs.Common.{◌≡◌, ◌<◌, ◌≤◌, ℕ, List, ◌∷◌, eqb, length, get_or, refl, sym, ap, ◌∙◌, ⊎_elim, arith}
+use Rattle.std.proofs.Common.{◌≡◌, ◌<◌, ◌≤◌, ℕ, List, ◌∷◌, eqb, length, get_or, refl, sym, ap, subst, ◌∙◌}
+use Rattle.std.proofs.Common.{⊎_elim, arith}
 use Rattle.std.specs.List.{AllByRecursion, position_or_len}
 use Rattle.std.proofs.lemmas.Bool.{ne_eqb, eq-eqb}
 use Rattle.std.proofs.lemmas.List.{ext_get_or}
@@ -61,6 +62,13 @@ module _ (places : List ℕ) (once : AreDistinct places) (all : AllByRecursion (
               (omega (arith, low, same), ap (λ k. get_or places k 0) same ∙ stands.2),
         ),
       )
+
+-- the same of as many places as there are others
+pub have_positions : (n : ℕ) (places : List ℕ) → AreDistinct places → AllByRecursion (λ p. p < n) places
+    → length places ≡ n → ArePlaces (positions_of places) places n × ArePlaces places (positions_of places) n
+have_positions n places once all many = subst (λ k. AllByRecursion (λ p. p < k) places
+    → ArePlaces (positions_of places) places k × ArePlaces places (positions_of places) k)
+    many (places_have_positions places once) all
 
 -- what has places has distinct ones
 pub places_apart : (order places : List ℕ) (count : ℕ) → ArePlaces order places count → AreDistinct places
