@@ -14,7 +14,7 @@ use Rattle.aig_image.specs.Reordered.{ArePlaces, positions_of}
 use Rattle.aig_image.specs.Renumbering.{in_new_order}
 use Rattle.aig_image.proofs.Relabelling.Permuted.{order_keeps_once, order_keeps_defined, order_adds_none}
 use Rattle.aig_image.proofs.Relabelling.Positions.{have_positions}
-use Rattle.aig_image.proofs.Imaging.Taken.{each_once, all_there}
+use Rattle.aig_image.proofs.Imaging.InTurn.{each_once, all_there}
 
 module _ (c : Circuit) (order : List ℕ) (good : IsWellFormed c) (least : IsLeastReadyOrder c order) where
   abbrev pub first : List ℕ

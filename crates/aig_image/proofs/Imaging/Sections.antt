@@ -3,14 +3,14 @@ use Rattle.std.proofs.lemmas.Grind.{common_steps}
 use Rattle.std.proofs.Common.{rules}
 use Rattle.std.proofs.Common.{◌≡◌, ◌+◌, ◌<◌, ◌≤◌, ℕ, List, [], ◌++◌, length, length-append, map, refl}
 use Rattle.std.proofs.Common.{sym, ap, ap₂, subst, ◌∙◌, append_assoc, arith}
-use Rattle.std.specs.List.{AllByRecursion, concat, range_with_len, flat_map}
+use Rattle.std.specs.List.{AllByRecursion, range_with_len}
 use Rattle.std.proofs.lemmas.List.{length-map}
 use Rattle.std.proofs.lemmas.Simd.{map-map}
 use Rattle.aig_circuit.specs.declared.circuit.Latch.{Latch}
 use Rattle.aig_circuit.specs.declared.circuit.Gate.{Gate}
 use Rattle.aig_circuit.specs.declared.circuit.Circuit.{Circuit}
 use Rattle.aig_circuit.specs.Wellformed.{IsAmong, IsKnown, IsVariableUpTo, IsWellFormed}
-use Rattle.aig_circuit.specs.Wellformed.{defined_variables, literal_lists, operands}
+use Rattle.aig_circuit.specs.Wellformed.{defined_variables, operands}
 use Rattle.aig_topo.specs.Order.{IsLeastReadyOrder}
 use Rattle.aig_circuit.proofs.Checking.Fitting.{each, all_weaker}
 use Rattle.aig_circuit.proofs.Checking.InForm.{front, back}
@@ -25,10 +25,10 @@ use Rattle.aig_image.proofs.Imaging.InTurn.{in_turn, renumbered_gate}
 use Rattle.aig_image.proofs.Imaging.Members.{new, gates_once, new_once}
 use Rattle.aig_image.proofs.Numbering.Places.{numbered_on}
 use Rattle.aig_image.proofs.Relabelling.Formed.{latches_there}
-use Rattle.aig_image.proofs.Relabelling.Permuted.{OperandsHave, gate_by_gate}
+use Rattle.aig_image.proofs.Relabelling.Permuted.{gate_by_gate}
 use Rattle.aig_image.proofs.Relabelling.Reordered.{taken_mapped}
 use Rattle.aig_image.proofs.Relabelling.Standing.{at_place}
-use Rattle.aig_image.proofs.Imaging.Taken.{some_gate, taken_variables}
+use Rattle.aig_image.proofs.Imaging.InTurn.{some_gate, taken_variables}
 
 -- the gates of an image, one by one
 image_gates : (vs : List ℕ) (gates : List Gate) (order : List ℕ)
@@ -59,13 +59,7 @@ module _ (c : Circuit) (order : List ℕ) (good : IsWellFormed c) (least : IsLea
   some vars all = all_weaker InRange (λ v. 1 ≤ v) (λ v r. r.0) vars all
 
   known : (g l : ℕ) → g < length c.gates → IsAmong l (operands (at c.gates g)) → IsKnown (defined_variables c) l
-  known g l there a =
-      let Known : ℕ → Type 0 = IsKnown (defined_variables c) in
-      let ends : List ℕ = map (λ (l : Latch). l.next) c.latches ++ concat (literal_lists c) in
-      let both =
-      at_place (OperandsHave Known) no_gate c.gates
-      (gate_by_gate Known c.gates (back Known ends (flat_map operands c.gates) good.known)) g there in
-      each Known (operands (at c.gates g)) (both.0, (both.1, tt)) l a
+  known g l there a = search (rules, at_place, no_gate, gate_by_gate, back, each, at)
 
   many : length (c.inputs ++ latches) ≡ length (map number c.inputs) + length (map (relabelled_latch number) c.latches)
   many = grind (arith, common_steps)
@@ -91,12 +85,11 @@ module _ (c : Circuit) (order : List ℕ) (good : IsWellFormed c) (least : IsLea
             ∙ numbered_on vs c.inputs latches last once (some latches (back InRange c.inputs latches first_in_range))
             (append_assoc c.inputs latches last)
             ∙ ap₂ (λ a b. range_with_len (1 + a) b) (sym (length-map c.inputs number))
-            (length-map c.latches (λ (l : Latch). l.var) ∙ sym (length-map c.latches (relabelled_latch number)));
+            (search (rules, length-map));
         gates =
             subst
             (AreOrderedGates (1 + length (map number c.inputs) + length (map (relabelled_latch number) c.latches)))
             (sym (image_gates vs c.gates order))
-            (subst (λ n. AreOrderedGates n (map (renumbered_gate vs) (taken c.gates order)))
-            (omega (arith, many)) gates);
+            (search (rules, renumbered_gate, many));
         all = omega (arith, many, gates_many, length-append (c.inputs ++ latches) last);
       }

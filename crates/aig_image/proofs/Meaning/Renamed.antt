@@ -67,7 +67,7 @@ module _ (f : ℕ → ℕ) (c d : Circuit) (is : IsRenamed f c d) where
       → IsStepAssignment c state given (λ v. a (f v))
   renamed_assignment state given a assigned = record {
     constant = ap a is.constant ∙ assigned.constant;
-    inputs = sym (map_twice f a (λ v. a (f v)) (λ v. refl) c.inputs) ∙ ap (map a) (sym is.inputs) ∙ assigned.inputs;
+    inputs = search (rules, map_twice);
     latches = sym (same_state f a c.latches)
         ∙ ap (λ (ls : List Latch). map a (map (λ (l : Latch). l.var) ls)) (sym is.latches) ∙ assigned.latches;
     gates = λ g g_in. let h = is.gates g g_in in gate_holds f a g h.0 h.2 (assigned.gates h.0 h.1);
@@ -79,13 +79,12 @@ module _ (f : ℕ → ℕ) (c d : Circuit) (is : IsRenamed f c d) where
     λ v. a (f v),
     record {
       assigned = renamed_assignment row.state row.inputs a shown.1.assigned;
-      outputs_shown = shown.1.outputs_shown ∙ ap (map (literal_value a)) is.outputs ∙ same_values f a c.outputs;
+      outputs_shown = search (rules, same_values);
       next_shown = shown.1.next_shown
           ∙ ap (λ (ls : List Latch). map (literal_value a) (map (λ (l : Latch). l.next) ls)) is.latches
           ∙ same_next f a c.latches;
       bad_shown = shown.1.bad_shown ∙ ap (map (literal_value a)) is.bad ∙ same_values f a c.bad;
-      constraints_shown = shown.1.constraints_shown ∙ ap (map (literal_value a)) is.constraints
-          ∙ same_values f a c.constraints;
+      constraints_shown = search (rules, same_values);
     },
   )
 

@@ -87,20 +87,11 @@ module _ (c : Circuit) (gates : List Gate) (good : IsWellFormed c) (many : lengt
       let InRange : ℕ → Type 0 = IsVariableUpTo c.max_var in
       let last : AllByRecursion InRange (variables c.gates) = back InRange (first_of c) (variables c.gates) good.in_range in
       record {
-        limits = record {
-          max_var = good.limits.max_var;
-          inputs = good.limits.inputs;
-          latches = good.limits.latches;
-          literals = good.limits.literals;
-          justice = good.limits.justice;
-          sizes = good.limits.sizes;
-          gates = omega (arith, many, good.limits.gates);
-        };
+        limits = search rules;
         in_range = joined InRange (first_of c) (variables gates) (front InRange (first_of c) (variables c.gates) good.in_range)
             (all_of InRange (variables gates) (λ v a. each InRange (variables c.gates) last v (there v a)));
         once = swapped_last (first_of c) (variables c.gates) (variables gates) good.once once there;
-        known = joined Now ends (flat_map operands gates) (all_weaker Then Now known_now ends
-            (front Then ends (flat_map operands c.gates) good.known)) all_operands;
+        known = search (rules, joined, all_weaker, known_now, front, all_operands);
         symbols = symbols_kept c (with_gates gates c) (counts_kept c.max_var gates c.comment c) refl good.symbols;
         ranked = (good.ranked.0, ranks);
       }
@@ -144,7 +135,7 @@ module _ (gates : List Gate) (order places : List ℕ) (are : ArePlaces order pl
       let p : ℕ = get_or places stands.0 0 in
       let low : p < length gates = omega (arith, here.0, too.0) in
       subst (λ w. IsAmong w (variables now))
-      (ap (λ (g : Gate). g.var) (taken_at p low ∙ ap (λ q. get_or gates q no_gate) here.1) ∙ stands.2)
+      (search (rules, taken_at))
       (stands_there now p (omega (arith, low, long)))
 
   once_now : AreDistinct (variables gates) → AreDistinct (variables now)

@@ -19,8 +19,7 @@ pub place_is : (xs : List ℕ) → AreDistinct xs → (i : ℕ) → i < length x
 place_is xs once i below =
     let x : ℕ = get_or xs i 0 in
     position_or_len_is (λ w. eqb w x) xs i 0 (omega (arith, below))
-    (λ k before. ne_eqb (get_or xs k 0) x (λ e.
-    let same : k ≡ i = same_place xs once k i (omega (arith, before, below)) below e in omega (arith, same, before)))
+    (search (rules, ne_eqb, same_place))
     (λ _. eq-eqb x x refl)
 
 -- distinct numbers below n, as many as n, are all of them
@@ -43,23 +42,19 @@ module _ (places : List ℕ) (once : AreDistinct places) (all : AllByRecursion (
   pub places_have_positions : ArePlaces (positions_of places) places (length places)
       × ArePlaces places (positions_of places) (length places)
   places_have_positions =
-      let long : length (positions_of places) ≡ length places =
-      length-map-range_with_len position 0 (length places) in (
+      let long = length-map-range_with_len position 0 (length places) in (
         (
           refl,
           λ i below.
-              let low : get_or places i 0 < length places =
-              each (λ p. p < length places) places all (get_or places i 0) (here places i below) in
+              let low = each (λ p. p < length places) places all (get_or places i 0) (here places i below) in
               (omega (arith, low, long), read (get_or places i 0) low ∙ place_is places once i below),
         ),
         (
           long,
           λ p below.
               let stands = somewhere p places (all_below (length places) places once all refl p below) in
-              let same : get_or (positions_of places) p 0 ≡ stands.0 =
-              read p below ∙ ap position (sym stands.2) ∙ place_is places once stands.0 stands.1 in
-              let low : stands.0 < length places = stands.1 in
-              (omega (arith, low, same), ap (λ k. get_or places k 0) same ∙ stands.2),
+              let same = read p below ∙ ap position (sym stands.2) ∙ place_is places once stands.0 stands.1 in
+              search rules,
         ),
       )
 

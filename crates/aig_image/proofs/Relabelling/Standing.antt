@@ -1,6 +1,7 @@
 -- Numbers by where they stand in lists, and lists without repeats.
-use Rattle.std.proofs.Common.{◌≡◌, ◌<◌, ℕ, zero, suc, List, [], ◌∷◌, ◌++◌, length, get_or, refl, sym, ap, subst, inl}
-use Rattle.std.proofs.Common.{inr, ⊎_elim, ◌∙◌, arith}
+use Rattle.std.proofs.Common.{rules}
+use Rattle.std.proofs.Common.{◌≡◌, ◌<◌, ℕ, zero, suc, List, [], ◌∷◌, ◌++◌, length, get_or, refl, sym, ap, inl}
+use Rattle.std.proofs.Common.{inr, ⊎_elim, arith}
 use Rattle.std.specs.List.{AllByRecursion}
 use Rattle.std.proofs.lemmas.List.{length-map, get_or-map}
 use Rattle.aig_circuit.specs.declared.circuit.Gate.{Gate}
@@ -22,10 +23,7 @@ somewhere x (y ∷ xs) a =
 -- a variable of gates is that of one of them
 pub place_there : (gates : List Gate) (v : ℕ) → IsAmong v (variables gates)
     → (p : ℕ) × (p < length gates) × ((at gates p).var ≡ v)
-place_there gates v a =
-    let stands = somewhere v (variables gates) a in
-    let low : stands.0 < length gates = omega (arith, stands.1, length-map gates (λ (g : Gate). g.var)) in
-    (stands.0, low, sym (get_or-map (λ (g : Gate). g.var) gates stands.0 no_gate 0 low) ∙ stands.2)
+place_there gates v a = search (rules, somewhere, variables, length-map, get_or-map, no_gate)
 
 -- what stands at a place is in the list
 pub here : (xs : List ℕ) (j : ℕ) → j < length xs → IsAmong (get_or xs j 0) xs
@@ -49,10 +47,8 @@ pub same_place : (xs : List ℕ) → AreDistinct xs → (i k : ℕ) → i < leng
     → get_or xs i 0 ≡ get_or xs k 0 → i ≡ k
 same_place [] once i k below below_too e = absurd (omega (arith, below))
 same_place (x ∷ xs) once zero zero below below_too e = refl
-same_place (x ∷ xs) once zero (suc k) below below_too e =
-    absurd (once.0 (subst (λ v. IsAmong v xs) (sym e) (here xs k (omega (arith, below_too)))))
-same_place (x ∷ xs) once (suc i) zero below below_too e =
-    absurd (once.0 (subst (λ v. IsAmong v xs) e (here xs i (omega (arith, below)))))
+same_place (x ∷ xs) once zero (suc k) below below_too e = search (rules, here)
+same_place (x ∷ xs) once (suc i) zero below below_too e = search (rules, here)
 same_place (x ∷ xs) once (suc i) (suc k) below below_too e =
     ap suc (same_place xs once.1 i k (omega (arith, below)) (omega (arith, below_too)) e)
 
