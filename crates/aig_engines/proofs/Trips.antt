@@ -15,7 +15,7 @@ use Rattle.aig_image.specs.Image.{IsBinaryImage}
 use Rattle.aig_map.specs.MapBlock.{IsMappedImage}
 use Rattle.aig_map.specs.Undone.{IsUndoneFrom}
 use Rattle.aig_map.proofs.Mapping.MappedOrder.{mapped_image_is_ordered}
-use Rattle.aig_image.proofs.Imaging.One.{image_is_one}
+use Rattle.aig_image.proofs.Imaging.Ordered.{image_is_one}
 use Rattle.aig_map.proofs.Sources.OneSource.{one_source, undoing_recovers}
 use Rattle.aig_map.proofs.Sources.Refused.{one_mapped}
 use Rattle.aig_image.proofs.Imaging.OwnImage.{own_image}

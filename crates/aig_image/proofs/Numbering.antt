@@ -1,7 +1,5 @@
 -- New numbers of variables.
 pub mod Places
-pub mod Back
 pub mod Same
 pub mod OneToOne
 pub mod Noted
-pub mod KnownBefore

@@ -3,7 +3,6 @@ pub mod Standing
 pub mod Relabelled
 pub mod Reordered
 pub mod Restored
-pub mod Named
 pub mod Formed
 pub mod Permuted
 pub mod Exchanged

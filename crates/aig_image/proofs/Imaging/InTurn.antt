@@ -1,23 +1,67 @@
 -- Gates that are taken in turn have their new numbers in turn, each over lower ones.
 use Rattle.std.proofs.Common.{rules}
 use Rattle.std.proofs.Common.{◌≡◌, ◌+◌, ◌*◌, ◌%◌, ◌<◌, ◌≤◌, ℕ, suc, List, [], ◌∷◌, ◌++◌, length, length-append, map}
-use Rattle.std.proofs.Common.{max, min, refl, sym, ap, subst, ◌∙◌, ◌⊎◌, inl, inr, ⊎_elim, append_assoc, arith}
+use Rattle.std.proofs.Common.{max, min, refl, sym, ap, subst, ◌∙◌, ◌⊎◌, inl, inr, ⊎_elim, append_assoc, arith, take}
+use Rattle.std.specs.List.{AllByRecursion}
+use Rattle.std.proofs.lemmas.List.{length-take, get_or-take}
 use Rattle.aig_circuit.specs.declared.circuit.Gate.{Gate}
 use Rattle.aig_circuit.specs.Literal.{variable_of}
-use Rattle.aig_circuit.specs.Wellformed.{IsAmong, AreDistinct, IsKnown, operands}
+use Rattle.aig_circuit.specs.Wellformed.{IsAmong, AreDistinct, IsKnown, operands, IsVariableUpTo, IsWellFormed}
+use Rattle.aig_circuit.specs.Wellformed.{defined_variables}
 use Rattle.aig_topo.specs.Order.{IsReady, TakesLeast, gate_operands}
-use Rattle.aig_topo.proofs.Ordering.Counted.{among_either}
+use Rattle.aig_topo.proofs.Ordering.Counted.{among_either, among_first}
 use Rattle.aig_topo.proofs.Ordering.Cyclic.{among_last}
 use Rattle.aig_circuit.proofs.Checking.Fitting.{each}
-use Rattle.aig_topo.proofs.Ordering.Ranked.{at, needed_by, variables}
+use Rattle.aig_circuit.specs.declared.circuit.Circuit.{Circuit}
+use Rattle.aig_circuit.specs.declared.circuit.Latch.{Latch}
+use Rattle.aig_topo.proofs.Ordering.Ranked.{at, needed_by, variables, gate_here, no_gate, stands_there}
 use Rattle.aig_checked.specs.BinaryOrder.{AreOrderedGates}
 use Rattle.aig_image.specs.Relabelled.{relabelled_gate}
 use Rattle.aig_image.specs.Reordered.{operands_sorted}
 use Rattle.aig_image.specs.Reordered.{taken}
 use Rattle.aig_image.specs.Renumbering.{renumbered}
-use Rattle.aig_image.proofs.Relabelling.Standing.{among_first}
+use Rattle.aig_image.proofs.Relabelling.Formed.{among_there}
 use Rattle.aig_image.proofs.Numbering.Places.{number_of, number_within}
-use Rattle.aig_image.proofs.Imaging.Taken.{taken_variables, place_there}
+use Rattle.aig_image.proofs.Relabelling.Standing.{place_there}
+
+-- what is taken in turn is there, and is taken once
+module _ (count : ℕ) (needs : ℕ → List ℕ) where
+  later_apart : (seen xs : List ℕ) → TakesLeast count needs seen xs → (h : ℕ) → IsAmong h xs → ¬ IsAmong h seen
+  later_apart seen [] in_turn h a b = absurd a
+  later_apart seen (x ∷ xs) in_turn h a b =
+      ⊎_elim (λ (e : h ≡ x). in_turn.0.left (subst (λ i. IsAmong i seen) e b))
+      (λ (i : IsAmong h xs). later_apart (x ∷ seen) xs in_turn.2 h i (inr b)) a
+
+  pub each_once : (seen xs : List ℕ) → TakesLeast count needs seen xs → AreDistinct xs
+  each_once seen [] in_turn = tt
+  each_once seen (x ∷ xs) in_turn =
+      (λ a. later_apart (x ∷ seen) xs in_turn.2 x a (inl refl), each_once (x ∷ seen) xs in_turn.2)
+
+  pub all_there : (seen xs : List ℕ) → TakesLeast count needs seen xs → AllByRecursion (λ g. g < count) xs
+  all_there seen [] in_turn = tt
+  all_there seen (x ∷ xs) in_turn = (in_turn.0.there, all_there (x ∷ seen) xs in_turn.2)
+
+-- a variable of the first gates is that of one of these
+pub place_before : (gates : List Gate) (k v : ℕ) → IsAmong v (variables (take k gates))
+    → (p : ℕ) × (p < k) × (p < length gates) × ((at gates p).var ≡ v)
+place_before gates k v a = search (rules, place_there, length-take, get_or-take, no_gate)
+
+-- which is no constant in a well-formed circuit
+pub some_gate : (c : Circuit) → IsWellFormed c → (i : ℕ) → i < length c.gates → 1 ≤ (at c.gates i).var
+some_gate c good i there =
+    let first : List ℕ = c.inputs ++ map (λ (l : Latch). l.var) c.latches in
+    (each (IsVariableUpTo c.max_var) (defined_variables c) good.in_range (at c.gates i).var
+    (among_last first (variables c.gates) (at c.gates i).var (stands_there c.gates i there))).0
+
+module _ (gates : List Gate) where
+  abbrev pub taken_variables : List ℕ → List ℕ
+  taken_variables order = variables (taken gates order)
+
+  -- a variable that is defined once is that of one gate
+  pub same_gate : AreDistinct (variables gates) → (g h : ℕ) → g < length gates → h < length gates
+      → (at gates g).var ≡ (at gates h).var → g ≡ h
+  same_gate once g h g_there h_there e =
+      cc (gate_here gates once g g_there, gate_here gates once h h_there)
 
 -- a gate by new numbers, the larger operand first
 abbrev pub renumbered_gate : List ℕ → Gate → Gate
@@ -28,11 +72,6 @@ lower : (n var left right s t : ℕ) → var ≡ 1 + n → left ≤ n → right 
     → (max (2 * left + s % 2) (2 * right + t % 2) < 2 * var)
     × (min (2 * left + s % 2) (2 * right + t % 2) ≤ max (2 * left + s % 2) (2 * right + t % 2))
 lower n var left right s t is l r = search rules
-
-among_mapped : (l : ℕ) (ls : List ℕ) → IsAmong l ls → IsAmong (variable_of l) (map variable_of ls)
-among_mapped l [] a = absurd a
-among_mapped l (x ∷ ls) a =
-    ⊎_elim (λ (e : l ≡ x). inl (ap variable_of e)) (λ (i : IsAmong l ls). inr (among_mapped l ls i)) a
 
 module _ (gates : List Gate) (first vs : List ℕ) (once : AreDistinct vs) (gates_once : AreDistinct (variables gates))
     (some : (g : ℕ) → g < length gates → 1 ≤ (at gates g).var)
@@ -52,7 +91,7 @@ module _ (gates : List Gate) (first vs : List ℕ) (once : AreDistinct vs) (gate
         let p = place_there gates (variable_of l) i in
         let by_variable : IsAmong (at gates p.0).var (map variable_of (operands (at gates g))) =
         subst (λ v. IsAmong v (map variable_of (operands (at gates g)))) (sym p.2)
-        (among_mapped l (operands (at gates g)) used) in
+        (among_there variable_of l (operands (at gates g)) used) in
         let was_taken : IsAmong p.0 seen =
         each (λ h. IsAmong h seen) (gate_operands gates g) ready.served p.0
         (needed_by gates gates_once g p.0 ready.there p.1 by_variable) in
@@ -66,8 +105,8 @@ module _ (gates : List Gate) (first vs : List ℕ) (once : AreDistinct vs) (gate
       λ h a. ⊎_elim
           (λ (e : h ≡ g). among_last before ((at gates g).var ∷ []) (at gates h).var
           (inl (ap (λ i. (at gates i).var) e)))
-          (λ (i : IsAmong h seen). among_first before ((at gates g).var ∷ []) (at gates h).var (holds.0 h i)) a,
-      λ v a. among_first before ((at gates g).var ∷ []) v (holds.1 v a),
+          (λ (i : IsAmong h seen). among_first (at gates h).var before ((at gates g).var ∷ []) (holds.0 h i)) a,
+      λ v a. among_first v before ((at gates g).var ∷ []) (holds.1 v a),
     )
 
     pub in_turn : (seen before rest : List ℕ) → Holds seen before

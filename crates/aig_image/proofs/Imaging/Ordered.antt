@@ -1,15 +1,15 @@
 -- The image of a well-formed circuit is well formed, since each step to it keeps a circuit well formed.
 use Rattle.std.proofs.Common.{rules}
-use Rattle.std.proofs.Common.{◌≡◌, ◌+◌, ℕ, List, length, map, refl, sym, subst, arith}
+use Rattle.std.proofs.Common.{◌≡◌, ◌+◌, ℕ, List, length, map, refl, sym, subst, arith, ap, ◌∙◌}
 use Rattle.std.proofs.lemmas.List.{length-map}
 use Rattle.aig_circuit.specs.declared.circuit.Gate.{Gate}
 use Rattle.aig_circuit.specs.declared.circuit.Circuit.{Circuit}
-use Rattle.aig_circuit.specs.Wellformed.{IsVariableUpTo, IsWellFormed, defined_variables}
+use Rattle.aig_circuit.specs.Wellformed.{IsVariableUpTo, IsWellFormed}
 use Rattle.aig_checked.specs.BinaryOrder.{IsInBinaryOrder}
 use Rattle.aig_topo.specs.Order.{IsLeastReadyOrder}
 use Rattle.aig_topo.proofs.Ordering.Steps.{all_of}
+use Rattle.aig_topo.proofs.Ordering.LeastReady.{a_least_ready_order, one_least_ready_order}
 use Rattle.aig_image.specs.Image.{IsBinaryImage, image_by}
-use Rattle.aig_image.specs.Laws.{IsOneToOneOnto}
 use Rattle.aig_image.specs.Relabelled.{relabelled, relabelled_gate, NamesOnly}
 use Rattle.aig_image.specs.Reordered.{reordered, has_smaller_first, ArePlaces, positions_of}
 use Rattle.aig_image.specs.Renumbering.{in_new_order, renumbered, source_variable}
@@ -17,7 +17,7 @@ use Rattle.aig_image.proofs.Imaging.Members.{new_fits, order_is_places}
 use Rattle.aig_image.proofs.Numbering.OneToOne.{back, one_to_one, many}
 use Rattle.aig_image.proofs.Relabelling.Exchanged.{exchange_keeps_form, sorted_by_flags}
 use Rattle.aig_image.proofs.Relabelling.Formed.{form_is_kept}
-use Rattle.aig_image.proofs.Relabelling.Named.{names_only}
+use Rattle.aig_image.proofs.Relabelling.Relabelled.{names_only}
 use Rattle.aig_image.proofs.Relabelling.Permuted.{order_keeps_form}
 use Rattle.aig_image.proofs.Relabelling.Relabelled.{with_gates}
 use Rattle.aig_image.proofs.Imaging.Sections.{in_binary_order}
@@ -27,7 +27,7 @@ module _ (c : Circuit) (order : List ℕ) (good : IsWellFormed c) (least : IsLea
   vs = in_new_order c order
 
   -- each new number goes back to its variable
-  names_go_back : NamesOnly (λ v. source_variable vs (renumbered vs v) ≡ v) c
+  pub names_go_back : NamesOnly (λ v. source_variable vs (renumbered vs v) ≡ v) c
   names_go_back = search (rules, names_only, all_of, back)
 
   abbrev new : Circuit
@@ -35,15 +35,12 @@ module _ (c : Circuit) (order : List ℕ) (good : IsWellFormed c) (least : IsLea
 
   new_is_well_formed : IsWellFormed new
   new_is_well_formed =
-      let onto : IsOneToOneOnto (renumbered vs) (defined_variables c)
-      (length c.inputs + length c.latches + length c.gates) =
-      one_to_one c order good least in
+      let onto = one_to_one c order good least in
       let all : length vs ≡ length c.inputs + length c.latches + length c.gates = many c order good least in
       let InRange : ℕ → Type 0 = λ v. IsVariableUpTo (length vs) (renumbered vs v) in
       form_is_kept (renumbered vs) (source_variable vs) (length vs) c.comment c good refl names_go_back
       (omega (arith, new_fits c order good least, good.limits.max_var))
-      (all_of InRange (defined_variables c)
-      (λ v a. subst (λ n. IsVariableUpTo n (renumbered vs v)) (sym all) (onto.within v a)))
+      (search (rules, all_of))
 
   image_is_well_formed : IsWellFormed (image_by order c)
   image_is_well_formed =
@@ -59,3 +56,12 @@ module _ (c : Circuit) (order : List ℕ) (good : IsWellFormed c) (least : IsLea
 pub image_is_ordered : (c image : Circuit) → IsWellFormed c → IsBinaryImage c image
     → IsWellFormed image × IsInBinaryOrder image
 image_is_ordered c image good is = search (rules, image_is_well_formed, in_binary_order)
+
+pub image_is_one : (c : Circuit)
+    → (image : Circuit) × IsBinaryImage c image × ((other : Circuit) → IsBinaryImage c other → other ≡ image)
+image_is_one c =
+    let made = a_least_ready_order c in (
+      image_by made.0 c,
+      (made.0, made.1, refl),
+      λ other is. is.2 ∙ ap (λ order. image_by order c) (one_least_ready_order c is.0 made.0 is.1 made.1),
+    )

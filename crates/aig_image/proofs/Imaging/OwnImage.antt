@@ -1,23 +1,22 @@
 -- A well-formed circuit in binary order is its own image; one whose variables are numbered in order is, once its
 -- operands are sorted.
 use Rattle.std.proofs.Common.{rules}
-use Rattle.std.proofs.Common.{◌≡◌, ℕ, List, length, map, refl, sym, ap, ap₂, ◌∙◌}
+use Rattle.std.proofs.Common.{◌≡◌, ℕ, List, length, refl, sym, ap, ap₂, ◌∙◌}
 use Rattle.std.specs.List.{range_with_len}
 use Rattle.std.proofs.lemmas.List.FromFn.{length-range_with_len}
 use Rattle.std.proofs.lemmas.Simd.{pick_l_whole}
-use Rattle.aig_circuit.specs.declared.circuit.Gate.{Gate}
 use Rattle.aig_circuit.specs.declared.circuit.Circuit.{Circuit}
 use Rattle.aig_checked.specs.BinaryOrder.{IsInBinaryOrder, IsNumberedInOrder}
-use Rattle.aig_circuit.specs.Wellformed.{IsVariableUpTo, IsWellFormed, defined_variables}
+use Rattle.aig_circuit.specs.Wellformed.{IsWellFormed}
 use Rattle.aig_circuit.proofs.Checking.Fitting.{all_weaker}
 use Rattle.aig_checked.proofs.Numbered.Ranges.{is_numbered, numbered_variables_are}
 use Rattle.aig_topo.proofs.Ordering.Ranked.{no_gate, variables}
 use Rattle.aig_image.specs.Image.{IsBinaryImage}
 use Rattle.aig_image.specs.Relabelled.{relabelled}
 use Rattle.aig_image.specs.Renumbering.{in_new_order, renumbered}
-use Rattle.aig_image.specs.Reordered.{converted, operands_sorted, taken, with_operands_sorted}
+use Rattle.aig_image.specs.Reordered.{converted, taken, with_operands_sorted}
 use Rattle.aig_image.proofs.Imaging.OneByOne.{numbered_in_order}
-use Rattle.aig_image.proofs.Relabelling.Named.{names_only}
+use Rattle.aig_image.proofs.Relabelling.Relabelled.{names_only}
 use Rattle.aig_image.proofs.Relabelling.Relabelled.{names_kept_keep_all, with_gates}
 use Rattle.aig_image.proofs.Numbering.Same.{same_variable, sorted_already}
 
@@ -39,15 +38,13 @@ module _ (c : Circuit) (good : IsWellFormed c) (numbered : IsNumberedInOrder c) 
       let Same : ℕ → Type 0 = λ v. renumbered all v ≡ v in
       names_kept_keep_all (renumbered all) c
       (names_only Same c refl
-      (all_weaker (IsVariableUpTo c.max_var) Same (λ v range. same_variable c.max_var v range.1)
-      (defined_variables c) good.in_range)
+      (search (rules, all_weaker, same_variable))
       good)
 
   pub sorted_image : IsBinaryImage c (with_operands_sorted c)
   sorted_image =
       let sorted : converted (renumbered all) order c ≡ with_operands_sorted c =
-      ap (λ (d : Circuit). with_gates (map operands_sorted (taken d.gates order)) d) same_names
-      ∙ ap (λ (gs : List Gate). with_gates (map operands_sorted gs) c) all_taken in
+      search (rules, with_gates, same_names, all_taken) in
       let made =
       ap₂ (λ vs (n : ℕ). record (converted (renumbered vs) order c) { max_var = n }) new_is
       (ap length new_is ∙ length-range_with_len 1 c.max_var)

@@ -22,7 +22,7 @@ use Rattle.aig_image.specs.Reordered.{reordered, taken, with_operands_sorted}
 use Rattle.aig_image.proofs.Imaging.Members.{has_defined, is_defined, new_once, not_more}
 use Rattle.aig_image.proofs.Numbering.Noted.{no_number}
 use Rattle.aig_image.proofs.Numbering.Places.{number_within}
-use Rattle.aig_image.proofs.Relabelling.Named.{names_only}
+use Rattle.aig_image.proofs.Relabelling.Relabelled.{names_only}
 use Rattle.aig_image.proofs.Relabelling.Relabelled.{only_names_matter, with_gates}
 use Rattle.aig_image.proofs.Relabelling.Reordered.{order_commutes}
 

@@ -1,21 +1,20 @@
 -- The image of a well-formed circuit is in binary order.
 use Rattle.std.proofs.lemmas.Grind.{common_steps}
 use Rattle.std.proofs.Common.{rules}
-use Rattle.std.proofs.Common.{◌≡◌, ◌+◌, ◌<◌, ◌≤◌, ℕ, zero, suc, List, [], ◌∷◌, ◌++◌, length, length-append, map, refl}
+use Rattle.std.proofs.Common.{◌≡◌, ◌+◌, ◌<◌, ◌≤◌, ℕ, List, [], ◌++◌, length, length-append, map, refl}
 use Rattle.std.proofs.Common.{sym, ap, ap₂, subst, ◌∙◌, append_assoc, arith}
-use Rattle.std.specs.List.{AllByRecursion, concat, range_with_len, flat_map}
+use Rattle.std.specs.List.{AllByRecursion, range_with_len}
 use Rattle.std.proofs.lemmas.List.{length-map}
 use Rattle.std.proofs.lemmas.Simd.{map-map}
 use Rattle.aig_circuit.specs.declared.circuit.Latch.{Latch}
 use Rattle.aig_circuit.specs.declared.circuit.Gate.{Gate}
 use Rattle.aig_circuit.specs.declared.circuit.Circuit.{Circuit}
 use Rattle.aig_circuit.specs.Wellformed.{IsAmong, IsKnown, IsVariableUpTo, IsWellFormed}
-use Rattle.aig_circuit.specs.Wellformed.{defined_variables, literal_lists, operands}
+use Rattle.aig_circuit.specs.Wellformed.{defined_variables, operands}
 use Rattle.aig_topo.specs.Order.{IsLeastReadyOrder}
-use Rattle.aig_topo.proofs.Ordering.Cyclic.{among_last}
 use Rattle.aig_circuit.proofs.Checking.Fitting.{each, all_weaker}
 use Rattle.aig_circuit.proofs.Checking.InForm.{front, back}
-use Rattle.aig_topo.proofs.Ordering.Ranked.{at, variables, stands_there}
+use Rattle.aig_topo.proofs.Ordering.Ranked.{at, no_gate, variables}
 use Rattle.aig_checked.specs.BinaryOrder.{AreOrderedGates, IsInBinaryOrder}
 use Rattle.aig_image.specs.Image.{image_by}
 use Rattle.aig_image.specs.Relabelled.{relabelled_gate, relabelled_latch}
@@ -26,22 +25,16 @@ use Rattle.aig_image.proofs.Imaging.InTurn.{in_turn, renumbered_gate}
 use Rattle.aig_image.proofs.Imaging.Members.{new, gates_once, new_once}
 use Rattle.aig_image.proofs.Numbering.Places.{numbered_on}
 use Rattle.aig_image.proofs.Relabelling.Formed.{latches_there}
+use Rattle.aig_image.proofs.Relabelling.Permuted.{gate_by_gate}
 use Rattle.aig_image.proofs.Relabelling.Reordered.{taken_mapped}
-use Rattle.aig_image.proofs.Imaging.Taken.{taken_variables}
+use Rattle.aig_image.proofs.Relabelling.Standing.{at_place}
+use Rattle.aig_image.proofs.Imaging.InTurn.{some_gate, taken_variables}
 
 -- the gates of an image, one by one
 image_gates : (vs : List ℕ) (gates : List Gate) (order : List ℕ)
     → map operands_sorted (taken (map (relabelled_gate (renumbered vs)) gates) order)
     ≡ map (renumbered_gate vs) (taken gates order)
 image_gates vs gates order = search (rules, taken_mapped, map-map)
-
--- what holds of all operands holds of those of each gate
-of_gate : (P : ℕ → Type 0) (gates : List Gate) → AllByRecursion P (flat_map operands gates) → (i l : ℕ)
-    → i < length gates → IsAmong l (operands (at gates i)) → P l
-of_gate P [] all i l there a = absurd (omega arith)
-of_gate P (g ∷ gs) all zero l there a = each P (operands g) (front P (operands g) (flat_map operands gs) all) l a
-of_gate P (g ∷ gs) all (suc i) l there a =
-    of_gate P gs (back P (operands g) (flat_map operands gs) all) i l (omega arith) a
 
 module _ (c : Circuit) (order : List ℕ) (good : IsWellFormed c) (least : IsLeastReadyOrder c order) where
   abbrev vs : List ℕ
@@ -65,16 +58,8 @@ module _ (c : Circuit) (order : List ℕ) (good : IsWellFormed c) (least : IsLea
   some : (vars : List ℕ) → AllByRecursion InRange vars → AllByRecursion (λ v. 1 ≤ v) vars
   some vars all = all_weaker InRange (λ v. 1 ≤ v) (λ v r. r.0) vars all
 
-  some_gate : (g : ℕ) → g < length c.gates → 1 ≤ (at c.gates g).var
-  some_gate g there =
-      (each InRange (defined_variables c) good.in_range (at c.gates g).var
-      (among_last (c.inputs ++ latches) (variables c.gates) (at c.gates g).var (stands_there c.gates g there))).0
-
   known : (g l : ℕ) → g < length c.gates → IsAmong l (operands (at c.gates g)) → IsKnown (defined_variables c) l
-  known g l there a =
-      of_gate (IsKnown (defined_variables c)) c.gates
-      (back (IsKnown (defined_variables c)) (map (λ (l : Latch). l.next) c.latches ++ concat (literal_lists c))
-      (flat_map operands c.gates) good.known) g l there a
+  known g l there a = search (rules, at_place, no_gate, gate_by_gate, back, each, at)
 
   many : length (c.inputs ++ latches) ≡ length (map number c.inputs) + length (map (relabelled_latch number) c.latches)
   many = grind (arith, common_steps)
@@ -89,7 +74,7 @@ module _ (c : Circuit) (order : List ℕ) (good : IsWellFormed c) (least : IsLea
   in_binary_order =
       let once = new_once c order good least in
       let gates : AreOrderedGates (1 + length (c.inputs ++ latches)) (map (renumbered_gate vs) (taken c.gates order)) =
-      in_turn c.gates (c.inputs ++ latches) vs once (gates_once c order good least) some_gate known []
+      in_turn c.gates (c.inputs ++ latches) vs once (gates_once c order good least) (some_gate c good) known []
       (c.inputs ++ latches) order (λ h a. absurd a, λ v a. a) least.in_turn refl in record {
         inputs =
             numbered_on vs [] c.inputs (latches ++ last) once
@@ -100,12 +85,11 @@ module _ (c : Circuit) (order : List ℕ) (good : IsWellFormed c) (least : IsLea
             ∙ numbered_on vs c.inputs latches last once (some latches (back InRange c.inputs latches first_in_range))
             (append_assoc c.inputs latches last)
             ∙ ap₂ (λ a b. range_with_len (1 + a) b) (sym (length-map c.inputs number))
-            (length-map c.latches (λ (l : Latch). l.var) ∙ sym (length-map c.latches (relabelled_latch number)));
+            (search (rules, length-map));
         gates =
             subst
             (AreOrderedGates (1 + length (map number c.inputs) + length (map (relabelled_latch number) c.latches)))
             (sym (image_gates vs c.gates order))
-            (subst (λ n. AreOrderedGates n (map (renumbered_gate vs) (taken c.gates order)))
-            (omega (arith, many)) gates);
+            (search (rules, renumbered_gate, many));
         all = omega (arith, many, gates_many, length-append (c.inputs ++ latches) last);
       }

@@ -1,7 +1,7 @@
 -- The binary image of a circuit is the circuit by other variables.
 use Rattle.std.proofs.Common.{rules}
-use Rattle.std.proofs.Common.{◌≡◌, ◌<◌, ℕ, zero, suc, List, [], ◌∷◌, Option, length, map, get_or, refl, sym}
-use Rattle.std.proofs.Common.{ap, subst, ◌∙◌, ◌⊎◌, ⊎_elim, arith}
+use Rattle.std.proofs.Common.{◌≡◌, ◌<◌, ℕ, suc, List, [], ◌∷◌, Option, length, map, get_or, refl, sym}
+use Rattle.std.proofs.Common.{subst, ◌⊎◌, ⊎_elim, arith}
 use Rattle.std.specs.Prelude.{max, min}
 use Rattle.std.specs.List.{Contains}
 use Rattle.std.proofs.lemmas.List.{get_or_default, get_or-map}
@@ -29,7 +29,7 @@ taken_stands : (gates : List Gate) (p : ℕ) (order : List ℕ) → IsAmong p or
     → Contains (map operands_sorted (taken gates order)) (operands_sorted (get_or gates p no_gate))
 taken_stands gates p [] a = absurd a
 taken_stands gates p (x ∷ xs) a =
-    ⊎_elim (λ (e : p ≡ x). (zero, omega arith, ap (λ q. operands_sorted (get_or gates q no_gate)) (sym e)))
+    ⊎_elim (search rules)
     (λ (i : IsAmong p xs). let there = taken_stands gates p xs i in
     (suc there.0, omega (arith, there.1), there.2)) a
 
@@ -46,8 +46,7 @@ module _ (f : ℕ → ℕ) (gates : List Gate) where
       let p : ℕ = g_in.0 in
       let there : p < length gates = g_in.1 in
       let is : get_or (map (relabelled_gate f) gates) p no_gate ≡ relabelled_gate f g =
-      get_or-map (relabelled_gate f) gates p no_gate no_gate there
-      ∙ ap (relabelled_gate f) (get_or_default gates p no_gate g there ∙ g_in.2) in
+      search (rules, get_or-map, get_or_default) in
       subst (λ (h : Gate). Contains (map operands_sorted (taken (map (relabelled_gate f) gates) order))
       (operands_sorted h)) is (taken_stands (map (relabelled_gate f) gates) p order (all p there))
 
@@ -80,8 +79,7 @@ image_assigns_the_same c order state given a good least =
 pub image_means_the_same : ImageMeansTheSame
 image_means_the_same c image good is =
     let new : Circuit = image_by is.0 c in
-    let same : MeansTheSame c new =
-    renamed_means_the_same (renumbered (in_new_order c is.0)) c new (image_is_renamed c is.0 good is.1) good
+    let same = renamed_means_the_same (renumbered (in_new_order c is.0)) c new (image_is_renamed c is.0 good is.1) good
     (image_is_ordered c new good (is.0, is.1, refl)).0 in
     subst (λ (d : Circuit). MeansTheSame c d) (sym is.2) same
 

@@ -1,13 +1,13 @@
 -- A circuit by other variables means the same: values of its variables, read through the names, are values of those of
 -- the circuit.
 use Rattle.std.proofs.Common.{rules}
-use Rattle.std.proofs.Common.{◌≡◌, ℕ, List, [], ◌∷◌, length, map, refl, sym, ap, ap₂}
+use Rattle.std.proofs.Common.{◌≡◌, ℕ, List, length, map, refl, sym, ap}
 use Rattle.std.proofs.Common.{◌∙◌}
 use Rattle.std.proofs.lemmas.List.{length-map}
+use Rattle.std.proofs.lemmas.Simd.{map-map}
 use Rattle.aig_circuit.specs.declared.circuit.Latch.{Latch}
 use Rattle.aig_circuit.specs.declared.circuit.Gate.{Gate}
 use Rattle.aig_circuit.specs.declared.circuit.Circuit.{Circuit}
-use Rattle.aig_circuit.specs.declared.circuit.Reset.{Reset}
 use Rattle.aig_circuit.specs.declared.value.Val.{Val}
 use Rattle.aig_circuit.specs.declared.value.Val.TheVariants.{Zero, One, X}
 use Rattle.aig_circuit.specs.Values.{value_and}
@@ -16,7 +16,7 @@ use Rattle.aig_meaning.proofs.Same.{same_by_rows}
 use Rattle.aig_image.specs.Laws.{RenamedMeansTheSame}
 use Rattle.aig_image.specs.Relabelled.{relabelled_latch, relabelled_literal}
 use Rattle.aig_image.specs.Renamed.{HasOperands, IsRenamed, IsRenamedGate}
-use Rattle.aig_image.proofs.Relabelling.Lists.{map_twice}
+use Rattle.aig_image.proofs.Relabelling.Lists.{map_each, map_twice}
 
 pub and_exchanged : (x y : Val) → value_and x y ≡ value_and y x
 and_exchanged Zero Zero = refl
@@ -42,14 +42,12 @@ module _ (f : ℕ → ℕ) (a : ℕ → Val) where
 
   same_state : (ls : List Latch)
       → map a (map (λ (l : Latch). l.var) (map (relabelled_latch f) ls)) ≡ map read_back (map (λ (l : Latch). l.var) ls)
-  same_state [] = refl
-  same_state (l ∷ ls) = ap (λ (vs : List Val). a (f l.var) ∷ vs) (same_state ls)
+  same_state ls = simp map-map
 
   same_next : (ls : List Latch)
       → map (literal_value a) (map (λ (l : Latch). l.next) (map (relabelled_latch f) ls))
       ≡ map (literal_value read_back) (map (λ (l : Latch). l.next) ls)
-  same_next [] = refl
-  same_next (l ∷ ls) = ap₂ (λ (v : Val) (vs : List Val). v ∷ vs) (same_value l.next) (same_next ls)
+  same_next ls = search (rules, map-map, map_each, same_value)
 
   either_order : (g h : Gate) → HasOperands h (relabelled_literal f g.left) (relabelled_literal f g.right)
       → value_and (literal_value a h.left) (literal_value a h.right)
@@ -61,8 +59,7 @@ module _ (f : ℕ → ℕ) (a : ℕ → Val) where
 
 same_resets : (f : ℕ → ℕ) (ls : List Latch)
     → map (λ (l : Latch). l.reset) (map (relabelled_latch f) ls) ≡ map (λ (l : Latch). l.reset) ls
-same_resets f [] = refl
-same_resets f (l ∷ ls) = ap (λ (rs : List Reset). l.reset ∷ rs) (same_resets f ls)
+same_resets f ls = simp map-map
 
 module _ (f : ℕ → ℕ) (c d : Circuit) (is : IsRenamed f c d) where
   -- values of the variables of d, read through the names, are values of those of c
@@ -70,7 +67,7 @@ module _ (f : ℕ → ℕ) (c d : Circuit) (is : IsRenamed f c d) where
       → IsStepAssignment c state given (λ v. a (f v))
   renamed_assignment state given a assigned = record {
     constant = ap a is.constant ∙ assigned.constant;
-    inputs = sym (map_twice f a (λ v. a (f v)) (λ v. refl) c.inputs) ∙ ap (map a) (sym is.inputs) ∙ assigned.inputs;
+    inputs = search (rules, map_twice);
     latches = sym (same_state f a c.latches)
         ∙ ap (λ (ls : List Latch). map a (map (λ (l : Latch). l.var) ls)) (sym is.latches) ∙ assigned.latches;
     gates = λ g g_in. let h = is.gates g g_in in gate_holds f a g h.0 h.2 (assigned.gates h.0 h.1);
@@ -82,13 +79,12 @@ module _ (f : ℕ → ℕ) (c d : Circuit) (is : IsRenamed f c d) where
     λ v. a (f v),
     record {
       assigned = renamed_assignment row.state row.inputs a shown.1.assigned;
-      outputs_shown = shown.1.outputs_shown ∙ ap (map (literal_value a)) is.outputs ∙ same_values f a c.outputs;
+      outputs_shown = search (rules, same_values);
       next_shown = shown.1.next_shown
           ∙ ap (λ (ls : List Latch). map (literal_value a) (map (λ (l : Latch). l.next) ls)) is.latches
           ∙ same_next f a c.latches;
       bad_shown = shown.1.bad_shown ∙ ap (map (literal_value a)) is.bad ∙ same_values f a c.bad;
-      constraints_shown = shown.1.constraints_shown ∙ ap (map (literal_value a)) is.constraints
-          ∙ same_values f a c.constraints;
+      constraints_shown = search (rules, same_values);
     },
   )
 

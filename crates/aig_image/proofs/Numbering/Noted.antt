@@ -1,16 +1,18 @@
 -- The numbers of variables that are noted one after the other.
 use Rattle.std.proofs.Common.{rules}
 use Rattle.std.proofs.Common.{◌≡◌, ◌<◌, ◌≤◌, ◌+◌, ℕ, List, [], ◌∷◌, ◌++◌, cond, eqb, length, get_or}
-use Rattle.std.proofs.Common.{take, map, None, ap, ap₂, subst, ◌∙◌, length-append}
-use Rattle.std.proofs.Common.{arith}
+use Rattle.std.proofs.Common.{take, map, None, ap, ◌∙◌, length-append}
+use Rattle.std.proofs.Common.{arith, ◌⊎◌, below_more}
 use Rattle.std.specs.FinMap.{get, get-empty, empty}
-use Rattle.std.specs.Option.{unwrap_or}
 use Rattle.std.specs.Ordering.{nat_cmp}
 use Rattle.std.proofs.lemmas.Grind.{common_steps}
-use Rattle.std.proofs.lemmas.List.{map-id}
+use Rattle.std.proofs.lemmas.List.{map-id, get_or_default}
 use Rattle.std.proofs.lemmas.List.Folds.{position_or_len_push}
 use Rattle.std.proofs.lemmas.List.Sums.{prefix_len-le-length}
-use Rattle.aig_circuit.specs.Wellformed.{IsAmong}
+use Rattle.std.specs.List.{AllByRecursion}
+use Rattle.aig_circuit.specs.Wellformed.{IsAmong, IsKnown, operands}
+use Rattle.aig_circuit.specs.declared.circuit.Gate.{Gate}
+use Rattle.aig_circuit.specs.Literal.{variable_of}
 use Rattle.aig_tables.specs.VarMap.{with_new}
 use Rattle.aig_tables.proofs.Tables.Maps.{get-with_new}
 use Rattle.aig_topo.proofs.Ordering.LeastReady.{among_or_not}
@@ -18,6 +20,7 @@ use Rattle.aig_image.proofs.Numbering.Places.{no_place}
 use Rattle.aig_image.specs.declared.numbers.Numbers.{Numbers}
 use Rattle.aig_image.specs.Parts.Numbers.{number_of, number_in, AreNumbered}
 use Rattle.aig_topo.proofs.Ordering.Gates.{eqb_comm}
+use Rattle.aig_topo.proofs.Ordering.Ranked.{at, no_gate, variables}
 
 -- the place in a list that grows
 pub number_push : (xs : List ℕ) (x v : ℕ)
@@ -28,7 +31,7 @@ number_push xs x v = grind (arith, common_steps, position_or_len_push, prefix_le
 pub none_noted : (n : Numbers) → n.noted ≡ 0 → n.numbers ≡ empty → AreNumbered n []
 none_noted n none nothing =
     let has : (v : ℕ) → get n.numbers v ≡ None = λ v. ap (λ m. get m v) nothing ∙ get-empty nat_cmp v in
-    record { count = none; numbers = λ v. ap (λ o. unwrap_or o 0) (has v); others = λ v _. has v }
+    search rules
 
 -- one variable more
 pub one_more : (old new : Numbers) (var : ℕ) → new.noted ≡ old.noted + 1
@@ -57,8 +60,7 @@ pub two_sections : {L : Type 0} (of_latch : L → ℕ) (n : Numbers) (inputs inp
     (latches latches_too : List L)
     → inputs ≡ inputs_too → latches ≡ latches_too → AreNumbered n ([] ++ map (λ v. v) inputs ++ map of_latch latches)
     → AreNumbered n (inputs_too ++ map of_latch latches_too)
-two_sections of_latch n inputs inputs_too latches latches_too same same_latches numbered =
-    subst (AreNumbered n) (ap₂ (λ vs ls. vs ++ map of_latch ls) (map-id inputs ∙ same) same_latches) numbered
+two_sections of_latch n inputs inputs_too latches latches_too same same_latches numbered = search (rules, map-id)
 
 -- a number is not above how many were noted
 pub few : {L G : Type 0} (of_latch : L → ℕ) (of_gate : G → ℕ) (n : Numbers) (inputs : List ℕ) (latches : List L)
@@ -71,3 +73,23 @@ few of_latch of_gate n inputs latches gates numbered v = grind (arith, common_st
 pub was_noted : (n : Numbers) (variables : List ℕ) → AreNumbered n variables → (v : ℕ) → 0 < number_of n v
     → IsAmong v variables
 was_noted n variables numbered v some = has_number variables v (rw (← numbered.numbers v) some)
+
+-- a literal is a constant, or its variable has a number
+abbrev HasNumber : Numbers → ℕ → Type 0
+HasNumber n l = (variable_of l ≡ 0) ⊎ (0 < number_of n (variable_of l))
+
+known : (n : Numbers) (vars : List ℕ) → AreNumbered n vars → (l : ℕ) → HasNumber n l → IsKnown vars l
+known n vars numbered l has = search (rules, was_noted)
+
+module _ (before : List ℕ) (gates : List Gate) where
+  -- the operands of a gate are known by the gates before it
+  abbrev pub IsOverKnown : ℕ → Type 0
+  IsOverKnown k = AllByRecursion (IsKnown (before ++ variables (take k gates))) (operands (at gates k))
+
+  -- of the next gate too
+  pub next_over_known : (n : Numbers) (i : ℕ) (g : Gate) → AreNumbered n (before ++ variables (take i gates))
+      → i < length gates
+      → g ≡ get_or gates i g → HasNumber n g.left → HasNumber n g.right
+      → ((k : ℕ) → k < i → IsOverKnown k) → (k : ℕ) → k < i + 1 → IsOverKnown k
+  next_over_known n i g numbered there is left right sofar =
+      search (rules, variables, known, below_more, get_or_default, no_gate)

@@ -1,7 +1,7 @@
 -- Renumbering is one to one from the defined variables onto the numbers from 1 on.
 use Rattle.std.proofs.Common.{rules}
 use Rattle.std.proofs.Common.{◌≡◌, ◌+◌, ◌<◌, ◌≤◌, ℕ, zero, suc, List, length, get_or}
-use Rattle.std.proofs.Common.{sym, ap, ◌∙◌, inr, length-append, arith}
+use Rattle.std.proofs.Common.{inr, length-append, arith}
 use Rattle.std.proofs.lemmas.List.{length-map}
 use Rattle.aig_circuit.specs.declared.circuit.Circuit.{Circuit}
 use Rattle.aig_circuit.specs.Wellformed.{IsAmong, IsVariableUpTo, IsWellFormed, defined_variables}
@@ -10,11 +10,11 @@ use Rattle.aig_circuit.proofs.Checking.Fitting.{each}
 use Rattle.aig_topo.proofs.Ordering.Ranked.{at}
 use Rattle.aig_image.specs.Laws.{IsOneToOneOnto}
 use Rattle.aig_image.specs.Renumbering.{in_new_order, renumbered, source_variable}
-use Rattle.aig_image.proofs.Numbering.Back.{back_variable}
+use Rattle.aig_image.proofs.Numbering.Places.{back_variable}
 use Rattle.aig_image.proofs.Numbering.Places.{number_at}
 use Rattle.aig_image.proofs.Relabelling.Standing.{here, somewhere}
 use Rattle.aig_image.proofs.Imaging.Members.{new_once, has_defined, is_defined, all_taken}
-use Rattle.aig_image.proofs.Imaging.Taken.{taken_variables}
+use Rattle.aig_image.proofs.Imaging.InTurn.{taken_variables}
 
 module _ (c : Circuit) (order : List ℕ) (good : IsWellFormed c) (least : IsLeastReadyOrder c order) where
   abbrev vs : List ℕ
@@ -30,16 +30,13 @@ module _ (c : Circuit) (order : List ℕ) (good : IsWellFormed c) (least : IsLea
   some v among = search (rules, each, is_defined)
 
   -- the variable at a place has the number that is one more
-  number_there : (j : ℕ) → j < length vs → renumbered vs (get_or vs j 0) ≡ 1 + j
+  pub number_there : (j : ℕ) → j < length vs → renumbered vs (get_or vs j 0) ≡ 1 + j
   number_there j below = number_at vs (new_once c order good least) j below (some (get_or vs j 0) (here vs j below))
 
   within : (v : ℕ) → IsAmong v (defined_variables c) → IsVariableUpTo count (renumbered vs v)
   within v defined =
       let there = somewhere v vs (has_defined c order good least v defined) in
-      let below : there.0 < length vs = there.1 in
-      let number : renumbered vs v ≡ 1 + there.0 =
-      ap (renumbered vs) (sym there.2) ∙ number_there there.0 below in
-      (omega (arith, number), omega (arith, number, below, many))
+      search (rules, number_there, many)
 
   -- what has a number is found again by it
   pub back : (v : ℕ) → IsAmong v (defined_variables c) → source_variable vs (renumbered vs v) ≡ v

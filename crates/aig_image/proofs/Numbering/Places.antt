@@ -2,7 +2,7 @@
 use Rattle.std.proofs.Common.{rules}
 use Rattle.std.proofs.Common.{◌≡◌, ◌≢◌, ◌+◌, ◌<◌, ◌≤◌, ℕ, List, [], ◌∷◌, ◌++◌, true, false, eqb, not, length}
 use Rattle.std.proofs.Common.{length-append, get_or, map, refl, sym, ap, ap₂, subst, ◌∙◌, ◌⊎◌, ⊎_elim, append_assoc}
-use Rattle.std.proofs.Common.{arith}
+use Rattle.std.proofs.Common.{arith, zero, suc}
 use Rattle.std.specs.List.{AllByRecursion, position_or_len, range_with_len}
 use Rattle.std.proofs.Math.ListN.{get_or-append}
 use Rattle.std.proofs.Math.Seq.{get_or-append_seam}
@@ -10,7 +10,7 @@ use Rattle.std.proofs.lemmas.Bool.{cases_lt, ne_eqb}
 use Rattle.std.proofs.lemmas.Bool.Decides.{eqb_tells}
 use Rattle.std.proofs.lemmas.List.Sums.{prefix_len-le-length, prefix_len_stops}
 use Rattle.aig_circuit.specs.Wellformed.{IsAmong, AreDistinct}
-use Rattle.aig_image.specs.Renumbering.{renumbered}
+use Rattle.aig_image.specs.Renumbering.{renumbered, source_variable}
 use Rattle.aig_image.proofs.Relabelling.Positions.{place_is}
 use Rattle.aig_image.proofs.Relabelling.Standing.{here, somewhere}
 
@@ -38,10 +38,8 @@ module _ (vs : List ℕ) (once : AreDistinct vs) where
 
   pub number_of : (pre post : List ℕ) (v : ℕ) → 1 ≤ v → vs ≡ pre ++ v ∷ post → renumbered vs v ≡ 1 + length pre
   number_of pre post v some are =
-      let there : get_or vs (length pre) 0 ≡ v = ap (λ xs. get_or xs (length pre) 0) are
-      ∙ get_or-append_seam pre v post 0 in
-      let below : length pre < length vs = omega (arith, ap length are, length-append pre (v ∷ post)) in
-      ap (renumbered vs) (sym there) ∙ number_at (length pre) below (subst (λ w. 1 ≤ w) (sym there) some)
+      let there = ap (λ xs. get_or xs (length pre) 0) are ∙ get_or-append_seam pre v post 0 in
+      search (rules, length-append, number_at)
 
   -- a constant, or a variable of the first ones, has a number of theirs
   pub number_within : (pre post : List ℕ) (v : ℕ) → vs ≡ pre ++ post → (v ≡ 0) ⊎ IsAmong v pre
@@ -51,8 +49,7 @@ module _ (vs : List ℕ) (once : AreDistinct vs) where
       (λ (f : (eqb v 0 ≡ false) × (v ≢ 0)).
       let stands = somewhere v pre (⊎_elim (λ (e : v ≡ 0). absurd (f.1 e)) (λ (i : IsAmong v pre). i) known) in
       let low : stands.0 < length pre = stands.1 in
-      let there : get_or vs stands.0 0 ≡ v =
-      ap (λ xs. get_or xs stands.0 0) are ∙ get_or-append pre post 0 stands.0 low ∙ stands.2 in
+      let there = ap (λ xs. get_or xs stands.0 0) are ∙ get_or-append pre post 0 stands.0 low ∙ stands.2 in
       let below : stands.0 < length vs = omega (arith, low, ap length are, length-append pre post) in
       let placed : place vs v ≡ stands.0 = ap (place vs) (sym there) ∙ place_is vs once stands.0 below in
       rw f.0 (omega (arith, placed, low)))
@@ -67,3 +64,34 @@ numbered_on vs pre (x ∷ mid) post once some are =
     ap₂ (λ (n : ℕ) (ns : List ℕ). n ∷ ns) (number_of vs once pre (mid ++ post) x some.0 are)
     (numbered_on vs (pre ++ x ∷ []) mid post once some.1 (are ∙ sym (append_assoc pre (x ∷ []) (mid ++ post)))
     ∙ ap (λ k. range_with_len k (length mid)) next)
+
+-- one place further, behind one more
+pub further : (w n : ℕ) (vs : List ℕ) → get_or (w ∷ vs) (1 + n) 0 ≡ get_or vs n 0
+further w n vs = search rules
+
+-- what is in a list stands at its place
+found_there : (v : ℕ) (vs : List ℕ) → IsAmong v vs → get_or vs (position_or_len (λ w. eqb w v) vs) 0 ≡ v
+found_there v [] a = absurd a
+found_there v (w ∷ vs) a =
+    ⊎_elim (λ (t : (eqb w v ≡ true) × (w ≡ v)). rw t.0 t.1)
+    (λ (f : (eqb w v ≡ false) × (w ≢ v)).
+    let among : IsAmong v vs = search rules in
+    rw f.0 (further w (position_or_len (λ x. eqb x v) vs) vs ∙ found_there v vs among))
+    (eqb_tells w v)
+
+-- the number that a place gives, carried back
+pub by_place : (vs : List ℕ) (n : ℕ) → source_variable vs (1 + n) ≡ get_or vs n 0
+by_place vs n = search rules
+
+module _ (vs : List ℕ) where
+  pub back_variable : (v : ℕ) → (v ≡ 0) ⊎ IsAmong v vs → source_variable vs (renumbered vs v) ≡ v
+  back_variable v known = search (rules, by_place, found_there, eqb_tells)
+
+module _ (vs : List ℕ) (once : AreDistinct vs) (some : (v : ℕ) → IsAmong v vs → 1 ≤ v) where
+  pub back_again : (n : ℕ) → n ≤ length vs → renumbered vs (source_variable vs n) ≡ n
+  back_again zero fits = refl
+  back_again (suc k) fits =
+      let below : k < length vs = omega (arith, fits) in
+      let next : 1 + k ≡ suc k = omega arith in
+      subst (λ n. renumbered vs (source_variable vs n) ≡ n) next
+      (search (rules, by_place, number_at, here))

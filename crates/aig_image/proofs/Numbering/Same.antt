@@ -1,10 +1,9 @@
 -- Where the variables are 1, 2, 3 and so on, new numbers are the old ones.
 use Rattle.std.proofs.Common.{rules}
-use Rattle.std.proofs.Common.{◌≡◌, ◌+◌, ◌≤◌, ℕ, zero, suc, List, [], ◌∷◌, eqb, map, refl, ap, ◌∙◌, arith}
-use Rattle.std.specs.List.{position_or_len, range_with_len}
+use Rattle.std.proofs.Common.{◌≡◌, ◌≤◌, ℕ, zero, suc, List, [], ◌∷◌, eqb, map, refl, arith}
+use Rattle.std.specs.List.{range_with_len}
 use Rattle.std.proofs.Math.Nat.{max-eq_left, min-eq_right}
 use Rattle.std.proofs.lemmas.Bool.{ne_eqb}
-use Rattle.std.proofs.lemmas.Bool.Decides.{Decides-eqb}
 use Rattle.std.proofs.lemmas.List.FromFn.{get_or-range_with_len, length-range_with_len}
 use Rattle.std.proofs.lemmas.List.Sums.{position_or_len_is}
 use Rattle.aig_circuit.specs.declared.circuit.Gate.{Gate}
@@ -20,12 +19,9 @@ module _ (m : ℕ) where
   pub same_variable : (v : ℕ) → v ≤ m → renumbered all v ≡ v
   same_variable zero fits = refl
   same_variable (suc u) fits =
-      let place : position_or_len (λ w. eqb w (suc u)) all ≡ u =
-      position_or_len_is (λ w. eqb w (suc u)) all u 0 (omega (arith, length-range_with_len 1 m, fits))
-      (λ k before. ap (λ w. eqb w (suc u)) (get_or-range_with_len 1 m k 0 (omega (arith, before, fits)))
-      ∙ ne_eqb (1 + k) (suc u) (λ e. absurd (omega (arith, before, e))))
-      (λ there. ap (λ w. eqb w (suc u)) (get_or-range_with_len 1 m u 0 (omega (arith, fits)))
-      ∙ (Decides-eqb (1 + u) (suc u)).1 (omega arith)) in
+      let place = position_or_len_is (λ w. eqb w (suc u)) all u 0 (omega (arith, length-range_with_len 1 m, fits))
+      (search (rules, get_or-range_with_len, ne_eqb))
+      (search (rules, get_or-range_with_len)) in
       rw (ne_eqb (suc u) 0 (λ e. absurd (omega (arith, e)))) (omega (arith, place))
 
 -- operands with the larger one first stay as they are

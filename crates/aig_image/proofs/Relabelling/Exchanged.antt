@@ -1,33 +1,22 @@
 -- A well-formed circuit stays well formed with operands exchanged, and sorting is such an exchange.
 use Rattle.std.proofs.Common.{rules}
-use Rattle.std.proofs.Common.{◌≡◌, ◌<◌, ℕ, zero, suc, List, [], ◌∷◌, ◌++◌, Bool, true, false, length, map}
+use Rattle.std.proofs.Common.{◌≡◌, ℕ, zero, suc, List, [], ◌∷◌, ◌++◌, Bool, true, false, length, map}
 use Rattle.std.proofs.Common.{refl, sym, ap, subst, inl, inr, ⊎_elim, arith}
-use Rattle.std.specs.List.{AllByRecursion, concat, flat_map, Contains}
+use Rattle.std.specs.List.{Contains}
 use Rattle.aig_circuit.specs.declared.circuit.Latch.{Latch}
 use Rattle.aig_circuit.specs.declared.circuit.Gate.{Gate}
 use Rattle.aig_circuit.specs.declared.circuit.Circuit.{Circuit}
-use Rattle.aig_circuit.specs.Literal.{variable_of}
-use Rattle.aig_circuit.specs.Wellformed.{IsAmong, AreDistinct, IsKnown, IsVariableUpTo, IsRank, IsWellFormed}
-use Rattle.aig_circuit.specs.Wellformed.{literal_lists, operands}
-use Rattle.aig_circuit.proofs.Checking.InForm.{joined, front, back}
-use Rattle.aig_topo.proofs.Ordering.Ranked.{variables}
+use Rattle.aig_circuit.specs.Wellformed.{IsAmong, AreDistinct, IsWellFormed}
+use Rattle.aig_topo.proofs.Ordering.Ranked.{variables, distinct_back}
 use Rattle.aig_image.specs.Reordered.{operands_sorted, has_smaller_first, exchanged_if, exchanged_by}
 use Rattle.aig_image.specs.Reordered.{with_operands_exchanged}
-use Rattle.aig_image.proofs.Relabelling.Formed.{symbols_kept, gates_uncounted}
-use Rattle.aig_image.proofs.Relabelling.Permuted.{OperandsHave, gate_by_gate, end_to_end}
+use Rattle.aig_image.proofs.Relabelling.Permuted.{IsLike, formed_by_others}
 use Rattle.aig_image.proofs.Relabelling.Reordered.{sorted_operands_go_back}
 
 pub same_variables : (flags : List Bool) (gs : List Gate) → variables (exchanged_by flags gs) ≡ variables gs
 same_variables [] gs = refl
 same_variables (e ∷ es) [] = refl
 same_variables (e ∷ es) (g ∷ gs) = ap (λ (vs : List ℕ). g.var ∷ vs) (same_variables es gs)
-
-operands_have : (P : ℕ → Type 0) (flags : List Bool) (gs : List Gate) → AllByRecursion (OperandsHave P) gs
-    → AllByRecursion (OperandsHave P) (exchanged_by flags gs)
-operands_have P [] gs all = all
-operands_have P (e ∷ es) [] all = tt
-operands_have P (true ∷ es) (g ∷ gs) all = ((all.0.1, all.0.0), operands_have P es gs all.1)
-operands_have P (false ∷ es) (g ∷ gs) all = (all.0, operands_have P es gs all.1)
 
 -- what is contained was exchanged or not
 made_by : (flags : List Bool) (gs : List Gate) (h : Gate) → Contains (exchanged_by flags gs) h
@@ -41,18 +30,9 @@ made_by (e ∷ es) (g ∷ gs) h (suc k, below, is) =
     (later.0, later.1, (suc later.2.0, omega (arith, within), later.2.2), later.3)
 
 -- exchanged operands are over the same variables
-same_uses : (e : Bool) (g : Gate) (v : ℕ) → IsAmong v (map variable_of (operands (exchanged_if e g)))
-    → IsAmong v (map variable_of (operands g))
-same_uses true g v a = ⊎_elim (λ i. inr (inl i)) (λ j. ⊎_elim (λ i. inl i) (λ n. absurd n) j) a
-same_uses false g v a = a
-
-same_rank : (rank : ℕ → ℕ) (flags : List Bool) (gs : List Gate) → IsRank rank gs → IsRank rank (exchanged_by flags gs)
-same_rank rank flags gs ranks x y x_in y_in =
-    let a = made_by flags gs x x_in in
-    let b = made_by flags gs y y_in in
-    subst (λ (h : Gate). IsAmong h.var (map variable_of (operands x)) → rank h.var < rank x.var) b.3
-    (subst (λ (h : Gate). IsAmong b.1.var (map variable_of (operands h)) → rank b.1.var < rank h.var) a.3
-    (λ among. ranks a.1 b.1 a.2 b.2 (same_uses a.0 a.1 b.1.var among)))
+like_before : (e : Bool) (g : Gate) → IsLike g (exchanged_if e g)
+like_before true g = (refl, λ v a. ⊎_elim (λ i. inr (inl i)) (λ j. ⊎_elim (λ i. inl i) (λ n. absurd n) j) a)
+like_before false g = (refl, λ v a. a)
 
 pub as_many : (flags : List Bool) (gs : List Gate) → length (exchanged_by flags gs) ≡ length gs
 as_many [] gs = refl
@@ -62,32 +42,13 @@ as_many (e ∷ es) (g ∷ gs) = ap suc (as_many es gs)
 pub exchange_keeps_form : (flags : List Bool) (c : Circuit) → IsWellFormed c
     → IsWellFormed (with_operands_exchanged flags c)
 exchange_keeps_form flags c good =
-    let new : List Gate = exchanged_by flags c.gates in
+    let same = same_variables flags c.gates in
     let first : List ℕ = c.inputs ++ map (λ (l : Latch). l.var) c.latches in
-    let ends : List ℕ = map (λ (l : Latch). l.next) c.latches ++ concat (literal_lists c) in
-    let used : List ℕ = flat_map operands c.gates in
-    let Known : ℕ → Type 0 = IsKnown (first ++ variables c.gates) in
-    let same = ap (λ vs. first ++ vs) (sym (same_variables flags c.gates)) in
-    record {
-      limits = record {
-        max_var = good.limits.max_var;
-        inputs = good.limits.inputs;
-        latches = good.limits.latches;
-        literals = good.limits.literals;
-        justice = good.limits.justice;
-        sizes = good.limits.sizes;
-        gates = omega (arith, as_many flags c.gates, good.limits.gates);
-      };
-      in_range = subst (AllByRecursion (IsVariableUpTo c.max_var)) same good.in_range;
-      once = subst AreDistinct same good.once;
-      known =
-          subst (λ vs. AllByRecursion (IsKnown vs) (ends ++ flat_map operands new)) same
-          (joined Known ends (flat_map operands new) (front Known ends used good.known)
-          (end_to_end Known new (operands_have Known flags c.gates
-          (gate_by_gate Known c.gates (back Known ends used good.known)))));
-      symbols = symbols_kept c (with_operands_exchanged flags c) (gates_uncounted new c) refl good.symbols;
-      ranked = (good.ranked.0, same_rank good.ranked.0 flags c.gates good.ranked.1);
-    }
+    formed_by_others c (exchanged_by flags c.gates) good (as_many flags c.gates)
+    (subst AreDistinct (sym same) (distinct_back first (variables c.gates) good.once))
+    (λ v. subst (IsAmong v) same) (λ v. subst (IsAmong v) (sym same)) (λ h h_in.
+    let made = made_by flags c.gates h h_in in
+    (made.1, made.2, subst (IsLike made.1) made.3 (like_before made.0 made.1)))
 
 -- gates that are made with their flags
 pub exchanged_each : {X : Type 0} (e : X → Bool) (h : X → Gate) (xs : List X)

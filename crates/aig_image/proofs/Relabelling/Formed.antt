@@ -1,6 +1,6 @@
 -- A well-formed circuit stays well formed by other variables from which there is a way back.
 use Rattle.std.proofs.Common.{rules}
-use Rattle.std.proofs.Common.{◌≡◌, ◌+◌, ◌*◌, ◌/◌, ◌%◌, ◌<◌, ◌≤◌, ℕ, zero, suc, List, [], ◌∷◌, ◌++◌, length, map, Option}
+use Rattle.std.proofs.Common.{◌≡◌, ◌+◌, ◌*◌, ◌/◌, ◌%◌, ◌<◌, ◌≤◌, ℕ, zero, suc, List, [], ◌∷◌, ◌++◌, map, Option}
 use Rattle.std.proofs.Common.{refl, sym, ap, subst, ◌∙◌, inl, inr, ⊎_elim, arith}
 use Rattle.std.specs.List.{AllByRecursion, concat, flat_map, Contains}
 use Rattle.std.proofs.lemmas.List.{map-append, length-map}
@@ -20,7 +20,7 @@ use Rattle.aig_circuit.proofs.Checking.InForm.{joined}
 use Rattle.aig_topo.proofs.Ordering.Ranked.{variables}
 use Rattle.aig_image.specs.Relabelled.{relabelled_literal, relabelled_latch, relabelled_gate, relabelled}
 use Rattle.aig_image.specs.Relabelled.{LatchNames, GateNames, NamesOnly}
-use Rattle.aig_image.proofs.Relabelling.Relabelled.{lists_there, with_gates}
+use Rattle.aig_image.proofs.Relabelling.Relabelled.{lists_there}
 
 -- the symbols of a circuit are good in another that has as much of each kind
 module _ (c d : Circuit) (same : (k : Kind) → count_of c k ≡ count_of d k) where
@@ -32,15 +32,16 @@ module _ (c d : Circuit) (same : (k : Kind) → count_of c k ≡ count_of d k) w
   pub symbols_kept : c.symbols ≡ d.symbols → HasGoodSymbols c → HasGoodSymbols d
   symbols_kept are good = search (rules, positions_there)
 
--- no symbol names a gate
-pub gates_uncounted : (gates : List Gate) (c : Circuit) (k : Kind) → count_of c k ≡ count_of (with_gates gates c) k
-gates_uncounted gates c kinds.Input = refl
-gates_uncounted gates c kinds.Latch = refl
-gates_uncounted gates c kinds.Output = refl
-gates_uncounted gates c kinds.Bad = refl
-gates_uncounted gates c kinds.Constraint = refl
-gates_uncounted gates c kinds.Justice = refl
-gates_uncounted gates c kinds.Fairness = refl
+-- no symbol names a gate, or a comment
+pub counts_kept : (max_var : ℕ) (gates : List Gate) (comment : Option (List ℕ)) (c : Circuit) (k : Kind)
+    → count_of c k ≡ count_of (record c { max_var = max_var; gates = gates; comment = comment }) k
+counts_kept max_var gates comment c kinds.Input = refl
+counts_kept max_var gates comment c kinds.Latch = refl
+counts_kept max_var gates comment c kinds.Output = refl
+counts_kept max_var gates comment c kinds.Bad = refl
+counts_kept max_var gates comment c kinds.Constraint = refl
+counts_kept max_var gates comment c kinds.Justice = refl
+counts_kept max_var gates comment c kinds.Fairness = refl
 
 module _ {X Y : Type 0} where
   -- what holds of elements, for what holds of those that a map gives
@@ -91,8 +92,7 @@ module _ (f : ℕ → ℕ) where
   operands_relabelled : (gs : List Gate)
       → flat_map operands (map (relabelled_gate f) gs) ≡ map (relabelled_literal f) (flat_map operands gs)
   operands_relabelled [] = refl
-  operands_relabelled (g ∷ gs) =
-      ap (λ (ls : List ℕ). relabelled_literal f g.left ∷ relabelled_literal f g.right ∷ ls) (operands_relabelled gs)
+  operands_relabelled (g ∷ gs) = search (rules, operands_relabelled gs)
 
   -- lists that are mapped each by itself, or joined first
   joined_either_way : (lists : List (List ℕ))
@@ -107,7 +107,7 @@ module _ (f : ℕ → ℕ) where
   used_relabelled : (c : Circuit) → used_literals (relabelled f c) ≡ map (relabelled_literal f) (used_literals c)
   used_relabelled c = search (rules, map-map, operands_relabelled, listed_relabelled, map_three)
 
-  among_there : (v : ℕ) (xs : List ℕ) → IsAmong v xs → IsAmong (f v) (map f xs)
+  pub among_there : (v : ℕ) (xs : List ℕ) → IsAmong v xs → IsAmong (f v) (map f xs)
   among_there v [] a = absurd a
   among_there v (x ∷ xs) a = ⊎_elim (λ (e : v ≡ x). inl (ap f e)) (λ (i : IsAmong v xs). inr (among_there v xs i)) a
 
@@ -142,9 +142,7 @@ module _ (f g : ℕ → ℕ) where
   ranked_there rank gates all ranks x y x_in y_in =
       let a = made_of (GateNames Back) (relabelled_gate f) gates x all x_in in
       let b = made_of (GateNames Back) (relabelled_gate f) gates y all y_in in
-      subst (λ (h : Gate). IsAmong h.var (map variable_of (operands x)) → rank (g h.var) < rank (g x.var)) b.3
-      (subst (λ (h : Gate). IsAmong (f b.0.var) (map variable_of (operands h)) → rank (g (f b.0.var)) < rank (g h.var))
-      a.3 (ranked_pair rank a.0 b.0 a.2 b.2 (ranks a.0 b.0 a.1 b.1)))
+      search (rules, ranked_pair)
 
 same_counts : (f : ℕ → ℕ) (c : Circuit) (k : Kind) → count_of c k ≡ count_of (relabelled f c) k
 same_counts f c kinds.Input = sym (length-map c.inputs f)
@@ -165,26 +163,15 @@ form_is_kept f g max_var comment c good constant back low range =
     let defined = sym (defined_relabelled f c) in
     let literals = relabelled_literal f in
     let fits : AllByRecursion (IsVariableUpTo max_var) (map f vs) =
-    all_through (λ v. IsVariableUpTo max_var (f v)) (IsVariableUpTo max_var) f (λ v e. e) vs range in
+    search (rules, all_through) in
     record {
-      limits = record {
-        max_var = low;
-        inputs = omega (arith, length-map c.inputs f, good.limits.inputs);
-        latches = omega (arith, length-map c.latches (relabelled_latch f), good.limits.latches);
-        literals =
-            all_through (λ ls. length ls ≤ LARGEST) (λ ls. length ls ≤ LARGEST) (map literals)
-            (λ ls fit. omega (arith, length-map ls literals, fit)) (literal_lists c) good.limits.literals;
-        justice = good.limits.justice;
-        sizes = good.limits.sizes ∙ sym (length-map c.justice.literals literals);
-        gates = omega (arith, length-map c.gates (relabelled_gate f), good.limits.gates);
-      };
+      limits = search (rules, length-map, all_through);
       in_range = subst (AllByRecursion (IsVariableUpTo max_var)) defined fits;
       once = subst AreDistinct defined (once_there f g vs (defined_have (λ v. g (f v) ≡ v) c back) good.once);
       known =
           subst (λ ds. AllByRecursion (IsKnown ds) (used_literals (relabelled f c))) defined
           (subst (AllByRecursion (IsKnown (map f vs))) (sym (used_relabelled f c))
-          (all_through (IsKnown vs) (IsKnown (map f vs)) literals (known_there f constant vs) (used_literals c)
-          good.known));
+          (search (rules, all_through, known_there)));
       symbols = symbols_kept c new (same_counts f c) refl good.symbols;
       ranked = (λ v. good.ranked.0 (g v), ranked_there f g good.ranked.0 c.gates back.gates good.ranked.1);
     }

@@ -1,25 +1,25 @@
--- A well-formed circuit stays well formed with its gates in another order.
+-- A well-formed circuit stays well formed with other gates like those that it has, and so with its gates in another order.
 use Rattle.std.proofs.Common.{rules}
 use Rattle.std.proofs.Common.{◌≡◌, ◌<◌, ℕ, List, ◌∷◌, [], ◌++◌, length, get_or, map, refl, sym, ap, subst, ◌∙◌}
-use Rattle.std.proofs.Common.{inl, inr, ⊎_elim, arith}
-use Rattle.std.specs.List.{AllByRecursion, flat_map, Contains}
+use Rattle.std.proofs.Common.{inl, inr, ◌⊎◌, ⊎_elim, arith}
+use Rattle.std.specs.List.{AllByRecursion, concat, flat_map, Contains}
 use Rattle.std.proofs.lemmas.List.{length-map, get_or-map, get_or_default}
 use Rattle.std.proofs.lemmas.List.Elements.{Contains-get_or}
 use Rattle.aig_circuit.specs.declared.circuit.Latch.{Latch}
 use Rattle.aig_circuit.specs.declared.circuit.Gate.{Gate}
 use Rattle.aig_circuit.specs.declared.circuit.Circuit.{Circuit}
 use Rattle.aig_circuit.specs.Literal.{variable_of}
-use Rattle.aig_circuit.specs.Wellformed.{IsAmong, AreDistinct, IsKnown, IsVariableUpTo, IsWellFormed, operands}
-use Rattle.aig_circuit.specs.Wellformed.{defined_variables, used_literals}
-use Rattle.aig_topo.proofs.Ordering.Counted.{among_either}
-use Rattle.aig_topo.proofs.Ordering.Cyclic.{among_last}
+use Rattle.aig_circuit.specs.Wellformed.{IsAmong, AreDistinct, IsKnown, IsRank, IsVariableUpTo, IsWellFormed, operands}
+use Rattle.aig_circuit.specs.Wellformed.{defined_variables, literal_lists}
 use Rattle.aig_circuit.proofs.Checking.Fitting.{each, all_weaker}
 use Rattle.aig_circuit.proofs.Checking.InForm.{joined, front, back}
 use Rattle.aig_topo.proofs.Ordering.Ranked.{variables, stands_there, distinct_back}
 use Rattle.aig_topo.proofs.Ordering.Steps.{all_of}
 use Rattle.aig_image.specs.Reordered.{no_gate, taken, reordered, ArePlaces}
-use Rattle.aig_image.proofs.Relabelling.Formed.{symbols_kept, gates_uncounted}
-use Rattle.aig_image.proofs.Relabelling.Standing.{among_first, somewhere, at_place, by_places, same_place}
+use Rattle.aig_image.proofs.Relabelling.Formed.{symbols_kept, counts_kept}
+use Rattle.aig_image.proofs.Relabelling.Relabelled.{with_gates}
+use Rattle.aig_meaning.proofs.Lists.{of_operands}
+use Rattle.aig_image.proofs.Relabelling.Standing.{by_places, place_there, same_place, among_swapped}
 use Rattle.aig_image.proofs.Relabelling.Standing.{distinct_by_places, swapped_last}
 
 -- what holds of operands, gate by gate
@@ -35,6 +35,66 @@ pub end_to_end : (P : ℕ → Type 0) (gs : List Gate) → AllByRecursion (Opera
     → AllByRecursion P (flat_map operands gs)
 end_to_end P [] all = tt
 end_to_end P (g ∷ gs) all = (all.0.0, (all.0.1, end_to_end P gs all.1))
+
+abbrev first_of : Circuit → List ℕ
+first_of c = c.inputs ++ map (λ (l : Latch). l.var) c.latches
+
+-- a gate of the same variable as another, over no others
+abbrev pub IsLike : Gate → Gate → Type 0
+IsLike g h = (h.var ≡ g.var)
+    × ((v : ℕ) → IsAmong v (map variable_of (operands h)) → IsAmong v (map variable_of (operands g)))
+
+-- other gates, each like one that was there, that define the same variables
+module _ (c : Circuit) (gates : List Gate) (good : IsWellFormed c) (many : length gates ≡ length c.gates)
+    (once : AreDistinct (variables gates)) (there : (v : ℕ) → IsAmong v (variables gates) → IsAmong v (variables c.gates))
+    (back_there : (v : ℕ) → IsAmong v (variables c.gates) → IsAmong v (variables gates))
+    (like : (h : Gate) → Contains gates h → (g : Gate) × Contains c.gates g × IsLike g h) where
+  abbrev ends : List ℕ
+  ends = map (λ (l : Latch). l.next) c.latches ++ concat (literal_lists c)
+
+  abbrev Then : ℕ → Type 0
+  Then = IsKnown (defined_variables c)
+
+  abbrev Now : ℕ → Type 0
+  Now = IsKnown (first_of c ++ variables gates)
+
+  known_now : (l : ℕ) → Then l → Now l
+  known_now l known =
+      ⊎_elim (λ (e : variable_of l ≡ 0). inl e) (λ (a : IsAmong (variable_of l) (defined_variables c)).
+      inr (among_swapped (first_of c) (variables c.gates) (variables gates) back_there (variable_of l) a)) known
+
+  operand_known : (h : Gate) → Contains gates h → (l : ℕ) → IsAmong (variable_of l) (map variable_of (operands h)) → Now l
+  operand_known h h_in l used =
+      let g = like h h_in in
+      let known = of_operands Then c.gates (back Then ends (flat_map operands c.gates) good.known) g.0 g.1 in
+      known_now l (each (λ v. (v ≡ 0) ⊎ IsAmong v (defined_variables c)) (map variable_of (operands g.0))
+      (known.0, (known.1, tt)) (variable_of l) (g.2.1 (variable_of l) used))
+
+  all_operands : AllByRecursion Now (flat_map operands gates)
+  all_operands = end_to_end Now gates (by_places (OperandsHave Now) no_gate gates (λ i low.
+      let h : Gate = get_or gates i no_gate in
+      let h_in : Contains gates h = (i, low, get_or_default gates i h no_gate low) in
+      (operand_known h h_in h.left (inl refl), operand_known h h_in h.right (inr (inl refl)))))
+
+  ranks : IsRank good.ranked.0 gates
+  ranks x y x_in y_in among =
+      let a = like x x_in in
+      let b = like y y_in in
+      rw (b.2.0, a.2.0) (good.ranked.1 a.0 b.0 a.1 b.1 (a.2.1 b.0.var (rw b.2.0 at among)))
+
+  pub formed_by_others : IsWellFormed (with_gates gates c)
+  formed_by_others =
+      let InRange : ℕ → Type 0 = IsVariableUpTo c.max_var in
+      let last : AllByRecursion InRange (variables c.gates) = back InRange (first_of c) (variables c.gates) good.in_range in
+      record {
+        limits = search rules;
+        in_range = joined InRange (first_of c) (variables gates) (front InRange (first_of c) (variables c.gates) good.in_range)
+            (all_of InRange (variables gates) (λ v a. each InRange (variables c.gates) last v (there v a)));
+        once = swapped_last (first_of c) (variables c.gates) (variables gates) good.once once there;
+        known = search (rules, joined, all_weaker, known_now, front, all_operands);
+        symbols = symbols_kept c (with_gates gates c) (counts_kept c.max_var gates c.comment c) refl good.symbols;
+        ranked = (good.ranked.0, ranks);
+      }
 
 module _ (gates : List Gate) (order places : List ℕ) (are : ArePlaces order places (length gates))
     (too : ArePlaces places order (length gates)) where
@@ -63,32 +123,23 @@ module _ (gates : List Gate) (order places : List ℕ) (are : ArePlaces order pl
   -- a gate that is taken is one of the gates, and each gate is taken
   among_then : (v : ℕ) → IsAmong v (variables now) → IsAmong v (variables gates)
   among_then v a =
-      let stands = somewhere v (variables now) a in
-      let p : ℕ = stands.0 in
-      let below : p < length gates = omega (arith, stands.1, length-map now (λ (g : Gate). g.var), long) in
-      let low = position_in p below in
-      subst (λ w. IsAmong w (variables gates))
-      (sym (variable_at gates (position p) low) ∙ sym (seen p below) ∙ stands.2) (stands_there gates (position p) low)
+      let stands = place_there now v a in
+      let below : stands.0 < length gates = omega (arith, stands.1, long) in
+      subst (λ w. IsAmong w (variables gates)) (ap (λ (g : Gate). g.var) (sym (taken_at stands.0 below)) ∙ stands.2)
+      (stands_there gates (position stands.0) (position_in stands.0 below))
 
   among_now : (v : ℕ) → IsAmong v (variables gates) → IsAmong v (variables now)
   among_now v a =
-      let stands = somewhere v (variables gates) a in
-      let i : ℕ = stands.0 in
-      let below : i < length gates = omega (arith, stands.1, length-map gates (λ (g : Gate). g.var)) in
-      let p : ℕ = get_or places i 0 in
-      let low : p < length gates = omega (arith, (are.1 i below).0, too.0) in
-      let there : p < length now = omega (arith, low, long) in
+      let stands = place_there gates v a in
+      let here = are.1 stands.0 stands.1 in
+      let p : ℕ = get_or places stands.0 0 in
+      let low : p < length gates = omega (arith, here.0, too.0) in
       subst (λ w. IsAmong w (variables now))
-      (sym (variable_at now p there) ∙ seen p low ∙ ap (λ q. get_or (variables gates) q 0) (are.1 i below).1 ∙ stands.2)
-      (stands_there now p there)
+      (search (rules, taken_at))
+      (stands_there now p (omega (arith, low, long)))
 
   once_now : AreDistinct (variables gates) → AreDistinct (variables now)
   once_now once = search (rules, distinct_by_places, variables, length-map, long, same_place, position_in, seen)
-
-  each_now : (P : Gate → Type 0) → AllByRecursion P gates → AllByRecursion P now
-  each_now P all = by_places P no_gate now (λ p below.
-      let low : p < length gates = omega (arith, below, long) in
-      subst P (sym (taken_at p low)) (at_place P no_gate gates all (position p) (position_in p low)))
 
   contained : (g : Gate) → Contains now g → Contains gates g
   contained g (k, below, is) =
@@ -99,75 +150,25 @@ module _ (gates : List Gate) (order places : List ℕ) (are : ArePlaces order pl
 -- the circuit defines the same variables, each once where it did
 module _ (order places : List ℕ) (c : Circuit) (are : ArePlaces order places (length c.gates))
     (too : ArePlaces places order (length c.gates)) where
-  abbrev front_variables : List ℕ
-  front_variables = c.inputs ++ map (λ (l : Latch). l.var) c.latches
-
   pub order_keeps_once : AreDistinct (defined_variables c) → AreDistinct (defined_variables (reordered order c))
   order_keeps_once once = search (rules, swapped_last, variables, once_now, distinct_back, among_then)
 
   pub order_keeps_defined : (v : ℕ) → IsAmong v (defined_variables c)
       → IsAmong v (defined_variables (reordered order c))
   order_keeps_defined v a =
-      ⊎_elim (λ i. among_first front_variables (variables (taken c.gates order)) v i)
-      (λ i. among_last front_variables (variables (taken c.gates order)) v (among_now c.gates order places are too v i))
-      (among_either v front_variables (variables c.gates) a)
+      among_swapped (first_of c) (variables c.gates) (variables (taken c.gates order))
+      (among_now c.gates order places are too) v a
 
-module _ (order places : List ℕ) (c : Circuit) (are : ArePlaces order places (length c.gates))
-    (too : ArePlaces places order (length c.gates)) (good : IsWellFormed c) where
-  abbrev first : List ℕ
-  first = c.inputs ++ map (λ (l : Latch). l.var) c.latches
-
-  abbrev then : List ℕ
-  then = variables c.gates
-
-  abbrev current : List Gate
-  current = taken c.gates order
-
-  abbrev Then : ℕ → Type 0
-  Then = IsKnown (first ++ then)
-
-  abbrev Now : ℕ → Type 0
-  Now = IsKnown (first ++ variables current)
-
-  known_now : (l : ℕ) → Then l → Now l
-  known_now l known =
-      let v : ℕ = variable_of l in
-      ⊎_elim (λ (e : v ≡ 0). inl e) (λ (a : IsAmong v (first ++ then)).
-      inr (order_keeps_defined order places c are too v a))
-      known
-
-  all_known : AllByRecursion Now (used_literals (reordered order c))
-  all_known = search (rules, joined, all_weaker, known_now, front, end_to_end, each_now, gate_by_gate, back)
-
-  formed : IsWellFormed (reordered order c)
-  formed =
-      let InRange : ℕ → Type 0 = IsVariableUpTo c.max_var in
-      let last : AllByRecursion InRange then = back InRange first then good.in_range in
-      let gates : AllByRecursion InRange (variables current) =
-      all_of InRange (variables current)
-      (λ v a. each InRange then last v (among_then c.gates order places are too v a)) in
-      record {
-        limits = record {
-          max_var = good.limits.max_var;
-          inputs = good.limits.inputs;
-          latches = good.limits.latches;
-          literals = good.limits.literals;
-          justice = good.limits.justice;
-          sizes = good.limits.sizes;
-          gates = omega (arith, long c.gates order places are too, good.limits.gates);
-        };
-        in_range = joined InRange first (variables current) (front InRange first then good.in_range) gates;
-        once = order_keeps_once order places c are too good.once;
-        known = all_known;
-        symbols = symbols_kept c (reordered order c) (gates_uncounted current c) refl good.symbols;
-        ranked = (
-          good.ranked.0,
-          λ g h g_in h_in. good.ranked.1 g h (contained c.gates order places are too g g_in)
-              (contained c.gates order places are too h h_in),
-        );
-      }
+  pub order_adds_none : (v : ℕ) → IsAmong v (defined_variables (reordered order c)) → IsAmong v (defined_variables c)
+  order_adds_none v a =
+      among_swapped (first_of c) (variables (taken c.gates order)) (variables c.gates)
+      (among_then c.gates order places are too) v a
 
 pub order_keeps_form : (order places : List ℕ) (c : Circuit)
     → ArePlaces order places (length c.gates) → ArePlaces places order (length c.gates)
     → IsWellFormed c → IsWellFormed (reordered order c)
-order_keeps_form order places c are too good = formed order places c are too good
+order_keeps_form order places c are too good =
+    formed_by_others c (taken c.gates order) good (long c.gates order places are too)
+    (once_now c.gates order places are too (distinct_back (first_of c) (variables c.gates) good.once))
+    (among_then c.gates order places are too) (among_now c.gates order places are too)
+    (λ h h_in. (h, contained c.gates order places are too h h_in, (refl, λ v a. a)))

@@ -1,6 +1,7 @@
 -- Distinct places below their count are each that of one position.
 use Rattle.std.proofs.Common.{rules}
-use Rattle.std.proofs.Common.{◌≡◌, ◌<◌, ◌≤◌, ℕ, List, ◌∷◌, eqb, length, get_or, refl, sym, ap, ◌∙◌, ⊎_elim, arith}
+use Rattle.std.proofs.Common.{◌≡◌, ◌<◌, ◌≤◌, ℕ, List, ◌∷◌, eqb, length, get_or, refl, sym, ap, subst, ◌∙◌}
+use Rattle.std.proofs.Common.{⊎_elim, arith}
 use Rattle.std.specs.List.{AllByRecursion, position_or_len}
 use Rattle.std.proofs.lemmas.Bool.{ne_eqb, eq-eqb}
 use Rattle.std.proofs.lemmas.List.{ext_get_or}
@@ -18,8 +19,7 @@ pub place_is : (xs : List ℕ) → AreDistinct xs → (i : ℕ) → i < length x
 place_is xs once i below =
     let x : ℕ = get_or xs i 0 in
     position_or_len_is (λ w. eqb w x) xs i 0 (omega (arith, below))
-    (λ k before. ne_eqb (get_or xs k 0) x (λ e.
-    let same : k ≡ i = same_place xs once k i (omega (arith, before, below)) below e in omega (arith, same, before)))
+    (search (rules, ne_eqb, same_place))
     (λ _. eq-eqb x x refl)
 
 -- distinct numbers below n, as many as n, are all of them
@@ -42,25 +42,28 @@ module _ (places : List ℕ) (once : AreDistinct places) (all : AllByRecursion (
   pub places_have_positions : ArePlaces (positions_of places) places (length places)
       × ArePlaces places (positions_of places) (length places)
   places_have_positions =
-      let long : length (positions_of places) ≡ length places =
-      length-map-range_with_len position 0 (length places) in (
+      let long = length-map-range_with_len position 0 (length places) in (
         (
           refl,
           λ i below.
-              let low : get_or places i 0 < length places =
-              each (λ p. p < length places) places all (get_or places i 0) (here places i below) in
+              let low = each (λ p. p < length places) places all (get_or places i 0) (here places i below) in
               (omega (arith, low, long), read (get_or places i 0) low ∙ place_is places once i below),
         ),
         (
           long,
           λ p below.
               let stands = somewhere p places (all_below (length places) places once all refl p below) in
-              let same : get_or (positions_of places) p 0 ≡ stands.0 =
-              read p below ∙ ap position (sym stands.2) ∙ place_is places once stands.0 stands.1 in
-              let low : stands.0 < length places = stands.1 in
-              (omega (arith, low, same), ap (λ k. get_or places k 0) same ∙ stands.2),
+              let same = read p below ∙ ap position (sym stands.2) ∙ place_is places once stands.0 stands.1 in
+              search rules,
         ),
       )
+
+-- the same of as many places as there are others
+pub have_positions : (n : ℕ) (places : List ℕ) → AreDistinct places → AllByRecursion (λ p. p < n) places
+    → length places ≡ n → ArePlaces (positions_of places) places n × ArePlaces places (positions_of places) n
+have_positions n places once all many = subst (λ k. AllByRecursion (λ p. p < k) places
+    → ArePlaces (positions_of places) places k × ArePlaces places (positions_of places) k)
+    many (places_have_positions places once) all
 
 -- what has places has distinct ones
 pub places_apart : (order places : List ℕ) (count : ℕ) → ArePlaces order places count → AreDistinct places

@@ -1,6 +1,6 @@
 -- Gates are changed one by one and taken in an order in either turn; sorted operands are exchanged back.
 use Rattle.std.proofs.Common.{rules}
-use Rattle.std.proofs.Common.{◌≡◌, ◌+◌, ◌*◌, ◌<◌, ℕ, List, [], ◌∷◌, Bool, true, false, cond, ltb, length, get_or}
+use Rattle.std.proofs.Common.{◌≡◌, ◌<◌, ℕ, List, [], ◌∷◌, Bool, true, false, cond, ltb, length, get_or}
 use Rattle.std.proofs.Common.{map, max, min, refl, ap, ap₂, ◌∙◌, arith}
 use Rattle.std.proofs.Math.Nat.{max_comm, min_comm}
 use Rattle.std.proofs.lemmas.List.{length-map, get_or-map, ext_get_or}
@@ -21,8 +21,7 @@ taken_mapped h kept gates order = search (rules, map-map, map_each, read_mapped)
 
 pub order_commutes : (f : ℕ → ℕ) (order : List ℕ) (c : Circuit) → f 0 ≡ 0
     → relabelled f (reordered order c) ≡ reordered order (relabelled f c)
-order_commutes f order c constant = ap (λ gs. with_gates gs (relabelled f c))
-    (taken_mapped (relabelled_gate f) (ap (λ v. gate v (2 * v + 0) (2 * v + 0)) constant) c.gates order)
+order_commutes f order c constant = search (rules, with_gates, taken_mapped, gate)
 
 -- gates taken in an order, then at their places, are the gates
 pub taken_back : (gates : List Gate) (order places : List ℕ) → ArePlaces order places (length gates)

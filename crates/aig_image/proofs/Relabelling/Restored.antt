@@ -24,8 +24,7 @@ pub converted_in_places : (f : ℕ → ℕ) (order places : List ℕ) (c : Circu
     → taken (converted f order c).gates places ≡ map operands_sorted (map (relabelled_gate f) c.gates)
 converted_in_places f order places c are =
     let new : List Gate = map (relabelled_gate f) c.gates in
-    let placed : ArePlaces order places (length new) =
-    subst (ArePlaces order places) (sym (length-map c.gates (relabelled_gate f))) are in
+    let placed = subst (ArePlaces order places) (sym (length-map c.gates (relabelled_gate f))) are in
     sym (taken_mapped operands_sorted refl (taken new order) places)
     ∙ ap (map operands_sorted) (taken_back new order places placed)
 
@@ -79,8 +78,7 @@ pub defined_in_order : (g : ℕ → ℕ) (order places : List ℕ) (flags : List
 defined_in_order g order places flags x constant are =
     let first : List ℕ = x.inputs ++ map (λ (l : Latch). l.var) x.latches in
     let moved : List Gate = taken x.gates places in
-    let gates : variables (taken (exchanged_by flags moved) order) ≡ variables x.gates =
-    variables_taken (exchanged_by flags moved) order
+    let gates = variables_taken (exchanged_by flags moved) order
     ∙ ap (λ vs. map (λ at. get_or vs at 0) order) (same_variables flags moved)
     ∙ sym (variables_taken moved order)
     ∙ ap variables (taken_back x.gates places order are) in

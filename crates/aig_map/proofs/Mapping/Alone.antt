@@ -19,7 +19,7 @@ use Rattle.aig_image.specs.Renumbering.{in_new_order, renumbered}
 use Rattle.aig_image.proofs.Imaging.OneByOne.{numbered_in_order}
 use Rattle.aig_image.proofs.Imaging.OwnImage.{sorted_image}
 use Rattle.aig_image.proofs.Numbering.Same.{same_variable}
-use Rattle.aig_image.proofs.Relabelling.Named.{names_only}
+use Rattle.aig_image.proofs.Relabelling.Relabelled.{names_only}
 use Rattle.aig_map.specs.declared.map_block.MapBlock.{MapBlock}
 use Rattle.aig_map.specs.MapBlock.{block_by, mapped_comment, IsMappedImage}
 use Rattle.aig_map.proofs.Mapping.Recorded.{block_is}

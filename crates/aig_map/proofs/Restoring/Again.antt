@@ -23,7 +23,7 @@ use Rattle.aig_image.specs.Renumbering.{renumbered, source_variable}
 use Rattle.aig_image.specs.Reordered.{converted, exchanged_if, has_smaller_first, operands_sorted}
 use Rattle.aig_image.proofs.Imaging.OneByOne.{ordered_at}
 use Rattle.aig_image.proofs.Relabelling.Lists.{map_nothing, map_where}
-use Rattle.aig_image.proofs.Relabelling.Named.{names_only}
+use Rattle.aig_image.proofs.Relabelling.Relabelled.{names_only}
 use Rattle.aig_image.proofs.Relabelling.Relabelled.{gate_back}
 use Rattle.aig_image.proofs.Relabelling.Restored.{restored_is_converted}
 use Rattle.aig_image.proofs.Relabelling.Standing.{at_place, by_places}

@@ -8,7 +8,7 @@ use Rattle.aig_image.specs.Renumbering.{renumbered, source_variable}
 use Rattle.aig_image.specs.Reordered.{reordered, with_operands_exchanged}
 use Rattle.aig_image.proofs.Relabelling.Exchanged.{exchange_keeps_form}
 use Rattle.aig_image.proofs.Relabelling.Formed.{form_is_kept}
-use Rattle.aig_image.proofs.Relabelling.Named.{names_only}
+use Rattle.aig_image.proofs.Relabelling.Relabelled.{names_only}
 use Rattle.aig_image.proofs.Relabelling.Permuted.{order_keeps_form}
 use Rattle.aig_map.specs.declared.map_block.MapBlock.{MapBlock}
 use Rattle.aig_map.specs.Undone.{exchanges_recorded, undone}

@@ -17,9 +17,9 @@ use Rattle.aig_topo.proofs.Ordering.Steps.{all_of}
 use Rattle.aig_image.specs.Relabelled.{relabelled_gate, NamesOnly}
 use Rattle.aig_image.specs.Renumbering.{in_new_order, renumbered, source_variable}
 use Rattle.aig_image.specs.Reordered.{ArePlaces, converted, operands_sorted, positions_of, restored, taken}
-use Rattle.aig_image.proofs.Numbering.Back.{back_variable, back_again, by_place}
+use Rattle.aig_image.proofs.Numbering.Places.{back_variable, back_again, by_place}
 use Rattle.aig_image.proofs.Imaging.Members.{all_taken, has_defined, is_defined, new_once, order_is_places}
-use Rattle.aig_image.proofs.Relabelling.Named.{names_only}
+use Rattle.aig_image.proofs.Relabelling.Relabelled.{names_only}
 use Rattle.aig_image.proofs.Relabelling.Positions.{positions_are}
 use Rattle.aig_image.proofs.Relabelling.Restored.{converted_in_places, converted_is_restored, variables_taken}
 use Rattle.aig_map.specs.declared.map_block.MappedGate.{MappedGate}

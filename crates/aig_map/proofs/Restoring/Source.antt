@@ -19,7 +19,7 @@ use Rattle.aig_topo.proofs.Ordering.Ranked.{at}
 use Rattle.aig_image.specs.Relabelled.{relabelled, relabelled_gate, relabelled_latch}
 use Rattle.aig_image.specs.Renumbering.{in_new_order, renumbered, source_variable}
 use Rattle.aig_image.specs.Reordered.{ArePlaces, exchanged_by, taken}
-use Rattle.aig_image.proofs.Numbering.Back.{by_place, back_again}
+use Rattle.aig_image.proofs.Numbering.Places.{by_place, back_again}
 use Rattle.aig_image.proofs.Relabelling.Exchanged.{exchanged_each}
 use Rattle.aig_image.proofs.Relabelling.Permuted.{order_keeps_once}
 use Rattle.aig_image.proofs.Relabelling.Restored.{defined_in_order}

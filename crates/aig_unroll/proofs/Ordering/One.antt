@@ -1,7 +1,7 @@
 -- A circuit has exactly one unrolled circuit for each number of frames, since it has exactly one binary image.
 use Rattle.std.proofs.Common.{◌≡◌, ℕ, ap, ◌∙◌, refl}
 use Rattle.aig_circuit.specs.declared.circuit.Circuit.{Circuit}
-use Rattle.aig_image.proofs.Imaging.One.{image_is_one}
+use Rattle.aig_image.proofs.Imaging.Ordered.{image_is_one}
 use Rattle.aig_unroll.specs.Unrolled.{IsUnrolled, unrolled}
 
 pub one_unrolled : (c : Circuit) (frames : ℕ)

@@ -33,4 +33,4 @@ from_well_ordered-requires-clause-in_order c =
 pub returns : goal.returns
 returns c =
     subst (IsBinaryImage c.args.circuit) (sym c.from_well_ordered.ensures)
-    (is_image c.args.circuit c.sort_operands.result c.requires.good c.requires.numbered c.sort_operands.ensures)
+    (search (rules, is_image))

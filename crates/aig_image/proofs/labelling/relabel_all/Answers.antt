@@ -4,8 +4,7 @@ use Rattle.std.proofs.lemmas.List.Edits.{map_over_more}
 use Rattle.aig_image.proofs.labelling.relabel_all.Goals as goal
 
 pub loop-at-preserved : goal.loop-at-preserved
-loop-at-preserved g c =
-    search (rules, map_over_more (g.T.NamesVariables.relabelled (g.L.Labels.label c.args.labels.now)))
+loop-at-preserved g c = search (rules, map_over_more)
 
 pub returns : goal.returns
 returns g c = search (rules, take_all, drop_all)

@@ -1,4 +1,4 @@
-use Rattle.aig_image.proofs.Imaging.One.{image_is_one}
+use Rattle.aig_image.proofs.Imaging.Ordered.{image_is_one}
 use Rattle.aig_image.proofs.laws.image_is_one.Goals as goal
 
 pub returns : goal.returns

@@ -8,8 +8,7 @@ use Rattle.aig_image.proofs.image.Renumbering.by_order.Goals as goal
 pub take_gates-requires : goal.take_gates-requires
 take_gates-requires c =
     subst (λ gates. AllByRecursion (λ at. at < length gates) c.list.result.now) (sym c.as_slice.ensures)
-    (subst (AllByRecursion (λ at. at < length c.args.circuit.now.gates)) (sym c.list.ensures)
-    (order_there c.args.circuit.now c.args.order.now.list c.requires.good c.requires.least))
+    (search (rules, order_there))
 
 pub new-requires : goal.new-requires
 new-requires c = search (rules, fits)

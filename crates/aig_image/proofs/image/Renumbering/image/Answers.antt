@@ -1,3 +1,4 @@
+use Rattle.std.proofs.Common.{rules}
 use Rattle.std.proofs.Common.{sym, subst}
 use Rattle.aig_checked.specs.BinaryOrder.{IsInBinaryOrder}
 use Rattle.aig_circuit.specs.Wellformed.{IsWellFormed}
@@ -9,9 +10,7 @@ use Rattle.aig_image.proofs.image.Renumbering.image.Goals as goal
 is_ordered : (c : goal.After-renumbered) → IsWellFormed c.renumbered.result × IsInBinaryOrder c.renumbered.result
 is_ordered c =
     image_is_ordered c.args.circuit c.renumbered.result c.requires.good
-    (made_is_image c.args.circuit c.args.self c.renumbered.result c.unwrap_or-gates.result c.requires.good
-    c.requires.of_it
-    c.renumbered.ensures c.unwrap_or-gates.ensures)
+    (search (rules, made_is_image))
 
 pub from_well_ordered-requires-clause-well_formed :
     goal.from_well_ordered-requires-clause-well_formed
@@ -23,6 +22,4 @@ from_well_ordered-requires-clause-in_order c = (is_ordered c).1
 pub returns : goal.returns
 returns c =
     subst (IsBinaryImage c.args.circuit) (sym c.from_well_ordered.ensures)
-    (made_is_image c.args.circuit c.args.self c.renumbered.result c.unwrap_or-gates.result c.requires.good
-    c.requires.of_it
-    c.renumbered.ensures c.unwrap_or-gates.ensures)
+    (search (rules, made_is_image))

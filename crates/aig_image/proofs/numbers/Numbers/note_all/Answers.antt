@@ -1,3 +1,4 @@
+use Rattle.std.proofs.Common.{rules}
 use Rattle.std.proofs.Common.{◌++◌, [], ◌∷◌, ap, ◌∙◌, arith, subst, take, map}
 use Rattle.aig_image.specs.Parts.Numbers.{AreNumbered}
 use Rattle.aig_image.proofs.Numbering.Noted.{one_more, variables_more}
@@ -10,8 +11,7 @@ loop-item-preserved g c = record {
       let before = variables ++ map g.T.Defines.variable (take c.loop-item.item-index c.args.items.now) in
       let numbers = AreNumbered c.note.new.self in
       subst numbers
-      (variables_more g.T.Defines.variable variables c.args.items.now c.loop-item.item-index c.item-item.result
-      c.loop-item-test.true)
+      (search (rules, variables_more))
       (subst (λ x. numbers (before ++ x ∷ [])) (c.variable.ensures ∙ ap g.T.Defines.variable c.item-item.is)
       (one_more c.loop-item.self c.note.new.self c.variable.result
       c.in_ok-note.ensures.count c.in_ok-note.ensures.numbers before

@@ -2,7 +2,7 @@ use Rattle.std.proofs.Common.{[], ◌∷◌, ◌++◌, subst, take, take_all, ap
 use Rattle.aig_circuit.specs.declared.circuit.Gate.{Gate}
 use Rattle.aig_topo.proofs.Ordering.Ranked.{variables}
 use Rattle.aig_image.specs.Parts.Numbers.{AreNumbered}
-use Rattle.aig_image.proofs.Numbering.KnownBefore.{next_over_known}
+use Rattle.aig_image.proofs.Numbering.Noted.{next_over_known}
 use Rattle.aig_image.proofs.Numbering.Noted.{one_more, variables_more}
 use Rattle.aig_image.proofs.numbers.Numbers.note_in_order.Goals as goal
 
