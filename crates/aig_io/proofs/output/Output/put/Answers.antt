@@ -1,27 +1,16 @@
-use Rattle.std.proofs.Common.{◌≡◌, ◌∙◌, rules, arith, ap, length}
-use Rattle.aig_io.specs.Output.{Out}
-use Rattle.aig_io.proofs.Puts.{put_next}
-use Rattle.aig_io.proofs.Filled.{left_more, room_still}
+use Rattle.std.proofs.Common.{[], arith}
+use Rattle.std.proofs.lemmas.List.{length-drop}
+use Rattle.aig_io.proofs.Filled.{left_behind}
+use Rattle.aig_io.proofs.Puts.{put_filled, put_nothing, put_rest, put_twice}
 use Rattle.aig_io.proofs.output.Output.put.Goals as goal
 
-pub loop-at-init : goal.loop-at-init
-loop-at-init g c = search rules
+pub returns-then-count-bytes-clause-put : goal.returns-then-count-bytes-clause-put
+returns-then-count-bytes-clause-put g c =
+    put_rest _ _ _ _ _ (put_filled _ _ _ _ _ c.self.view_is (put_nothing _) c.fill-count.ensures.value)
+    (put_twice _ _ _ [] _ c.send_held.ensures.put (rw c.split_at.ensures.back at c.put_long.ensures.put))
 
-pub loop-at-preserved : goal.loop-at-preserved
-loop-at-preserved g c =
-    let start = length c.args.self.now.held in
-    let held = length c.loop-at.self.held in
-    let before = c.loop-at.invariant in
-    let some = c.put_some-at.ensures in
-    let first : c.loop-at.at ≡ 0 → held ≡ start = λ e. ap (λ (o : Out _). length o.held) (before.first e) in
-    record {
-      within = search rules;
-      put = put_next _ _ _ _ _ _ before.put (rw c.split_at.ensures.back at some.put);
-      kept = λ fits.
-          some.kept (room_still start c.loop-at.at c.put_some-at.result held first before.left some.moves fits)
-          ∙ before.kept (omega (arith, fits));
-      first = search rules;
-      left = λ _.
-          left_more start c.loop-at.at c.put_some-at.result held (length c.put_some-at.new.self.held) some.held first
-          before.left some.added some.emptied some.moves some.short;
-    }
+pub returns-then-count-bytes-clause-left : goal.returns-then-count-bytes-clause-left
+returns-then-count-bytes-clause-left g c = λ some.
+    let left = rw (c.split_at.ensures.back, length-drop) at c.put_long.ensures.left in
+    rw (← c.self.view_is)
+    (left_behind _ _ _ _ c.fill-count.ensures.short c.fill-count.ensures.count c.if-count-bytes.true (left (omega arith)))
