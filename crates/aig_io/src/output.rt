@@ -148,17 +148,30 @@ impl<'a, W: Sink> Output<'a, W> {
         self.block.fill(bytes.split_at(at).1);
     }
 
+    /// Adds bytes that do not all fit into the block.
+    #[inline(never)]
+    fn put_past(&mut self, bytes: &[u8])
+        requires { ROOM < length self.old.held + length bytes.now }
+        ensures put { Put self.old self.new bytes.now }
+        ensures left { length self.new.held ≡ (length self.old.held + length bytes.now - 1) % ROOM + 1 }
+    {
+        let count = self.block.fill(bytes);
+        self.send_held();
+        self.put_long(bytes.split_at(count).1);
+    }
+
     /// Adds bytes. What is held is sent each time that the block is full and another byte comes, and no sooner.
+    #[inline]
     pub fn put(&mut self, bytes: &[u8])
         ensures put { Put self.old self.new bytes.now }
         ensures kept { length self.old.held + length bytes.now ≤ ROOM → self.new.sink ≡ self.old.sink }
         ensures left { 0 < length bytes.now
             → length self.new.held ≡ (length self.old.held + length bytes.now - 1) % ROOM + 1 }
     {
-        let count = self.block.fill(bytes);
-        if count < bytes.len() {
-            self.send_held();
-            self.put_long(bytes.split_at(count).1);
+        if self.block.has_room(bytes.len()) {
+            self.block.fill(bytes);
+        } else {
+            self.put_past(bytes);
         }
     }
 
