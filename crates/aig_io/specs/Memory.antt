@@ -1,6 +1,7 @@
 -- Devices in memory, as their callers see them (this project's devices).
 use Rattle.std.specs.Prelude.{◌+◌, ◌-◌, ◌==◌, ◌++◌, ℕ, List, [], Bool, false, Option, None, Some, min, max, length}
-use Rattle.std.specs.Prelude.{take, drop, if◌then◌else◌}
+use Rattle.std.specs.Prelude.{Err, Ok, Result, take, drop, if◌then◌else◌}
+use Rattle.aig_io.specs.declared.device.DeviceFault.{DeviceFault}
 
 -- `coming` are the bytes that it still gives, at most `piece` in a call; `fails_in` counts the calls before the one
 -- that fails
@@ -46,11 +47,10 @@ new_source bytes piece fails_at = record {
 abbrev pub given : SourceInMemory → ℕ → ℕ
 given s room = min (min s.piece room) (length s.coming)
 
-abbrev pub after_giving : SourceInMemory → ℕ → SourceInMemory
-after_giving s count = record s { coming = drop count s.coming; fails_in = one_call_later s.fails_in }
-
-abbrev pub after_failed_fetch : SourceInMemory → SourceInMemory
-after_failed_fetch s = record s { fails_in = one_call_later s.fails_in; failures = s.failures + 1 }
+-- after a fetch that answered so
+abbrev pub after_fetch : Result ℕ DeviceFault → SourceInMemory → SourceInMemory
+after_fetch (Ok count) s = record s { coming = drop count s.coming; fails_in = one_call_later s.fails_in }
+after_fetch (Err fault) s = record s { fails_in = one_call_later s.fails_in; failures = s.failures + 1 }
 
 abbrev pub new_sink : ℕ → ℕ → ℕ → SinkInMemory
 new_sink room piece fails_at = record {
@@ -66,16 +66,15 @@ new_sink room piece fails_at = record {
 abbrev pub accepted : SinkInMemory → List ℕ → ℕ
 accepted s bytes = min (min s.piece (length bytes)) s.room
 
-abbrev pub after_taking : SinkInMemory → List ℕ → ℕ → SinkInMemory
-after_taking s bytes count = record s {
+-- after a send of these bytes that answered so
+abbrev pub after_send : List ℕ → Result ℕ DeviceFault → SinkInMemory → SinkInMemory
+after_send bytes (Ok count) s = record s {
   taken = s.taken ++ take count bytes;
   room = s.room - count;
   longest = max s.longest (length bytes);
   fails_in = one_call_later s.fails_in;
 }
-
-abbrev pub after_failed_send : SinkInMemory → List ℕ → SinkInMemory
-after_failed_send s bytes = record s {
+after_send bytes (Err fault) s = record s {
   longest = max s.longest (length bytes);
   fails_in = one_call_later s.fails_in;
   failures = s.failures + 1;

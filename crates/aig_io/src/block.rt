@@ -6,6 +6,7 @@ ghost use Rattle.aig_io.specs.declared.block.TheConstants.{ROOM};
 ghost use Rattle.aig_io.specs.declared.digits.TheConstants.{MOST_DIGITS};
 
 use crate::digits::{MOST_DIGITS, write_number, write_row};
+use crate::line::Line;
 use std::fmt;
 use std::marker::Model;
 
@@ -69,6 +70,7 @@ impl Block {
     pub(crate) fn fill(&mut self, bytes: &[u8]) -> usize
         ensures count { result ≡ min (ROOM - length self.old) (length bytes.now) }
         ensures value { self.new ≡ self.old ++ take result bytes.now }
+        ensures short { length self.old ≤ ROOM }
     {
         let count = (ROOM - self.len).min(bytes.len());
         self.bytes[self.len..self.len + count].copy_from_slice(&bytes[..count]);
@@ -92,6 +94,17 @@ impl Block {
         ensures { self.new ≡ self.old ++ row_text first others.now }
     {
         self.len = write_row(&mut self.bytes, self.len, first, others);
+    }
+
+    /// Takes a line, where there is room for it.
+    #[inline(always)]
+    pub(crate) fn fill_line<L: Line>(&mut self, line: &L, state: &mut L::State)
+        requires whole { L.is_whole line.now state.old }
+        requires room { length self.old + L.size line.now ≤ ROOM }
+        ensures added { self.new ≡ self.old ++ L.text line.now state.old }
+        ensures state { L.leads line.now state.old state.new }
+    {
+        self.len = line.write(state, &mut self.bytes, self.len);
     }
 }
 

@@ -10,6 +10,7 @@
 //! - `streams`: devices over std's readers and writers.
 //! - `transfer`: all bytes of a source, and all bytes to a sink.
 //! - `block`: bytes on their way to a sink, in a block of fixed size.
+//! - `line`: what a line is that is written where it is to stand.
 //! - `output`: a sink with the block before it.
 //! - `digits`: numbers in decimal, written where they are to stand.
 //!
@@ -24,6 +25,7 @@
 mod block;
 mod device;
 mod digits;
+mod line;
 mod memory;
 mod output;
 mod streams;
@@ -32,6 +34,7 @@ mod transfer;
 pub use crate::block::{Block, ROOM};
 pub use crate::device::{DeviceFault, Sink, Source};
 pub use crate::digits::MOST_DIGITS;
+pub use crate::line::Line;
 pub use crate::memory::{MemorySink, MemorySource};
 pub use crate::output::Output;
 pub use crate::streams::{ReadSource, WriteSink};

@@ -1,10 +1,8 @@
 //! Devices in memory.
-ghost use Rattle.std.specs.Prelude.{◌≡◌, ◌+◌, ◌-◌, ◌^◌, ◌<◌, ◌≤◌, ◌↔◌, ℕ, Some, IsTrue, MatchResult, IfOk, OnErr};
-ghost use Rattle.std.specs.Prelude.{is_ok, true, false, drop, take, length, max, vec_len, vec_capacity};
-ghost use Rattle.std.specs.Prelude.{if◌then◌else◌};
-ghost use Rattle.std.specs.Io.KnownBytes.{WriteAppends, ReadConsumes};
-ghost use Rattle.aig_io.specs.Memory.{accepted, after_failed_fetch, after_failed_send, after_giving};
-ghost use Rattle.aig_io.specs.Memory.{after_taking, given, is_due, new_sink, new_source, one_call_later};
+ghost use Rattle.std.specs.Prelude.{◌≡◌, ◌-◌, ◌^◌, ◌<◌, ◌≤◌, ◌↔◌, Some, IsTrue, IfOk, is_ok, false, length, vec_len};
+ghost use Rattle.std.specs.Io.KnownBytes.{ReadConsumes};
+ghost use Rattle.aig_io.specs.Memory.{accepted, after_fetch, after_send, given, is_due, new_sink, new_source};
+ghost use Rattle.aig_io.specs.Memory.{one_call_later};
 
 use crate::device::{DeviceFault, Sink, Source};
 use std::alloc::{AllocError, Global};
@@ -77,16 +75,11 @@ impl Source for MemorySource {
     fn fetch(&mut self, into: &mut [u8]) -> Result<usize, DeviceFault>
         requires room { 0 < length into.old }
         requires countable { self.old.failures < 2 ^ 64 - 1 }
-        ensures within { IfOk result (λ n. n ≤ length into.new) }
         ensures bytes { ReadConsumes (Some self.old.coming) (Some self.new.coming) result into.new }
         ensures limited { length self.old.coming ≤ 2 ^ 62 }
-        ensures bound { MatchResult result (λ n. length self.new.coming + n ≤ length self.old.coming)
-            (λ _. length self.new.coming ≤ length self.old.coming) }
-        ensures failed { self.new.failures ≡ self.old.failures + (if is_ok result then 0 else 1) }
         ensures chosen { IsTrue (is_ok result) ↔ (is_due self.old.fails_in ≡ false) }
         ensures count { IfOk result (λ n. n ≡ given self.old (length into.old)) }
-        ensures ok { IfOk result (λ n. self.new ≡ after_giving self.old n) }
-        ensures err { OnErr result (self.new ≡ after_failed_fetch self.old) }
+        ensures state { self.new ≡ after_fetch result self.old }
     {
         if fails_now(&mut self.calls_before) {
             self.failures += 1;
@@ -175,15 +168,10 @@ impl Sink for MemorySink {
     fn send(&mut self, bytes: &[u8]) -> Result<usize, DeviceFault>
         requires some { 0 < length bytes.now }
         requires countable { self.old.failures < 2 ^ 64 - 1 }
-        ensures within { IfOk result (λ n. n ≤ length bytes.now) }
         ensures moves { IfOk result (λ n. 0 < n) }
-        ensures bytes { WriteAppends (Some self.old.taken) (Some self.new.taken) result bytes.now }
-        ensures longest { self.new.longest ≡ max self.old.longest (length bytes.now) }
-        ensures failed { self.new.failures ≡ self.old.failures + (if is_ok result then 0 else 1) }
         ensures chosen { IsTrue (is_ok result) ↔ ((is_due self.old.fails_in ≡ false) × (0 < self.old.room)) }
         ensures count { IfOk result (λ n. n ≡ accepted self.old bytes.now) }
-        ensures ok { IfOk result (λ n. self.new ≡ after_taking self.old bytes.now n) }
-        ensures err { OnErr result (self.new ≡ after_failed_send self.old bytes.now) }
+        ensures state { self.new ≡ after_send bytes.now result self.old }
     {
         self.longest = self.longest.max(bytes.len());
         let count = self.piece.min(bytes.len()).min(self.room);

@@ -8,6 +8,7 @@ ghost use Rattle.aig_io.specs.declared.digits.TheConstants.{MOST_DIGITS};
 use crate::block::{Block, ROOM};
 use crate::device::{DeviceFault, Sink};
 use crate::digits::MOST_DIGITS;
+use crate::line::Line;
 use crate::transfer::send_all;
 use std::marker::Model;
 
@@ -147,36 +148,30 @@ impl<'a, W: Sink> Output<'a, W> {
         self.block.fill(bytes.split_at(at).1);
     }
 
-    /// Takes some of the bytes, and answers how many: as many as fit, or where the block is full all, once it is sent.
-    fn put_some(&mut self, bytes: &[u8]) -> usize
-        requires { 0 < length bytes.now }
-        ensures within { result ≤ length bytes.now }
-        ensures moves { 0 < result }
-        ensures held { length self.old.held ≤ ROOM }
-        ensures kept { length self.old.held < ROOM → self.new.sink ≡ self.old.sink }
-        ensures added { length self.old.held < ROOM → length self.new.held ≡ length self.old.held + result }
-        ensures emptied { ROOM ≤ length self.old.held → length self.new.held ≡ (result - 1) % ROOM + 1 }
-        ensures short { length self.new.held ≤ ROOM }
-        ensures put { Put self.old self.new (take result bytes.now) }
+    /// Adds bytes that do not all fit into the block.
+    #[inline(never)]
+    fn put_past(&mut self, bytes: &[u8])
+        requires { ROOM < length self.old.held + length bytes.now }
+        ensures put { Put self.old self.new bytes.now }
+        ensures left { length self.new.held ≡ (length self.old.held + length bytes.now - 1) % ROOM + 1 }
     {
-        if self.block.has_room(1) {
-            return self.block.fill(bytes);
-        }
+        let count = self.block.fill(bytes);
         self.send_held();
-        self.put_long(bytes);
-        bytes.len()
+        self.put_long(bytes.split_at(count).1);
     }
 
     /// Adds bytes. What is held is sent each time that the block is full and another byte comes, and no sooner.
+    #[inline]
     pub fn put(&mut self, bytes: &[u8])
         ensures put { Put self.old self.new bytes.now }
         ensures kept { length self.old.held + length bytes.now ≤ ROOM → self.new.sink ≡ self.old.sink }
         ensures left { 0 < length bytes.now
             → length self.new.held ≡ (length self.old.held + length bytes.now - 1) % ROOM + 1 }
     {
-        let mut at = 0;
-        while at < bytes.len() {
-            at += self.put_some(bytes.split_at(at).1);
+        if self.block.has_room(bytes.len()) {
+            self.block.fill(bytes);
+        } else {
+            self.put_past(bytes);
         }
     }
 
@@ -202,5 +197,35 @@ impl<'a, W: Sink> Output<'a, W> {
     {
         self.make_room((others.len() + 1) * (MOST_DIGITS + 1));
         self.block.fill_row(first, others);
+    }
+
+    /// Adds a line, which is written here first.
+    #[inline(never)]
+    fn put_long_line<L: Line>(&mut self, room: &mut [u8], line: &L, state: &mut L::State)
+        requires whole { L.is_whole line.now state.old }
+        requires room { L.size line.now ≤ length room.old }
+        ensures put { Put self.old self.new (L.text line.now state.old) }
+        ensures state { L.leads line.now state.old state.new }
+    {
+        let end = line.write(state, room, 0);
+        let (text, _) = room.split_at(end);
+        self.put(text);
+    }
+
+    /// Adds a line, written where it stands in the block, so that no part of it looks for room. Here is a place that
+    /// has room for it, which serves where a block has not.
+    #[inline(always)]
+    pub fn put_line<L: Line>(&mut self, room: &mut [u8], line: &L, state: &mut L::State)
+        requires whole { L.is_whole line.now state.old }
+        requires room { L.size line.now ≤ length room.old }
+        ensures put { Put self.old self.new (L.text line.now state.old) }
+        ensures state { L.leads line.now state.old state.new }
+    {
+        if room.len() > ROOM {
+            self.put_long_line(room, line, state);
+            return;
+        }
+        self.make_room(room.len());
+        self.block.fill_line(line, state);
     }
 }
