@@ -183,57 +183,6 @@ fn put(codes: &mut [u8], variable: usize, value: Code)
     put_bytes(codes, variable, value.bytes());
 }
 
-/// Puts the value of each gate. The variables of the gates are the last ones of the table.
-fn evaluate(pairs: &[Pair], codes: &mut [u8])
-    requires coded { AreCodes codes.old }
-    requires room { length pairs.now ≤ length (values_of_bytes codes.old) }
-    requires below { All (IsPairBelow (length (values_of_bytes codes.old))) pairs.now }
-    ensures { codes.new ≡ bytes_of_values (evaluated (length (values_of_bytes codes.old) - length pairs.now) pairs.now
-        (values_of_bytes codes.old)) }
-{
-    let mut variable = codes.len() / 2 - pairs.len();
-    for pair in pairs {
-        let left = look_up(codes, pair.left);
-        let right = look_up(codes, pair.right);
-        put(codes, variable, left.and(right));
-        variable += 1;
-    }
-}
-
-/// Puts values, from this place on.
-fn put_codes(codes: &mut [u8], first: usize, given: &[Code])
-    requires coded { AreCodes codes.old }
-    requires room { first + length given.now ≤ length (values_of_bytes codes.old) }
-    ensures { codes.new ≡ bytes_of_values (placed first given.now (values_of_bytes codes.old)) }
-{
-    let mut at = first;
-    for value in given {
-        put(codes, at, *value);
-        at += 1;
-    }
-}
-
-/// Puts the values that characters stand for, from this place on, and answers whether each character stands for one.
-fn place_text(codes: &mut [u8], first: usize, text: &[u8]) -> bool
-    requires coded { AreCodes codes.old }
-    requires room { first + length text.now ≤ length (values_of_bytes codes.old) }
-    ensures good { result ≡ true → (given : List Value) × (values_of text.now ≡ Some given)
-        × (codes.new ≡ bytes_of_values (placed first given (values_of_bytes codes.old))) }
-    ensures bad { result ≡ false → values_of text.now ≡ None }
-    ensures coded { AreCodes codes.new }
-    ensures room { length (values_of_bytes codes.new) ≡ length (values_of_bytes codes.old) }
-{
-    let mut at = first;
-    for character in text {
-        let Some(bytes) = bytes_of_character(*character) else {
-            return false;
-        };
-        put_bytes(codes, at, bytes);
-        at += 1;
-    }
-    true
-}
-
 impl Table {
     /// A table for so many variables.
     pub fn new(alloc: Global, variables: usize) -> Result<Self, AllocError>
@@ -278,7 +227,12 @@ impl Table {
         requires { first + length given.now ≤ length self.old }
         ensures { self.new ≡ placed first given.now self.old }
     {
-        put_codes(&mut self.codes, first, given);
+        let codes: &mut [u8] = &mut self.codes;
+        let mut at = first;
+        for value in given {
+            put(codes, at, *value);
+            at += 1;
+        }
     }
 
     /// Puts the values that characters stand for, from this place on, and answers whether each character stands for
@@ -290,7 +244,16 @@ impl Table {
         ensures bad { result ≡ false → values_of text.now ≡ None }
         ensures room { length self.new ≡ length self.old }
     {
-        place_text(&mut self.codes, first, text)
+        let codes: &mut [u8] = &mut self.codes;
+        let mut at = first;
+        for character in text {
+            let Some(bytes) = bytes_of_character(*character) else {
+                return false;
+            };
+            put_bytes(codes, at, bytes);
+            at += 1;
+        }
+        true
     }
 
     /// The bytes of the table, for a loop over literals that writes bytes too.
@@ -308,6 +271,13 @@ impl Table {
         requires below { All (IsPairBelow (length self.old)) pairs.now }
         ensures { self.new ≡ evaluated (length self.old - length pairs.now) pairs.now self.old }
     {
-        evaluate(pairs, &mut self.codes);
+        let codes: &mut [u8] = &mut self.codes;
+        let mut variable = codes.len() / 2 - pairs.len();
+        for pair in pairs {
+            let left = look_up(codes, pair.left);
+            let right = look_up(codes, pair.right);
+            put(codes, variable, left.and(right));
+            variable += 1;
+        }
     }
 }

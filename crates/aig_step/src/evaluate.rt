@@ -1,12 +1,14 @@
 //! The loops of a step, over a table of the variables' values.
-ghost use Rattle.std.specs.Prelude.{◌≡◌, ◌+◌, ◌≤◌, length, map, IfOk};
+ghost use Rattle.std.specs.Prelude.{◌≡◌, ◌+◌, ◌≤◌, length, map, IfOk, None, Some, false, true};
 ghost use Rattle.std.specs.List.{All};
 ghost use Rattle.aig_circuit.specs.declared.circuit.Latch.{Latch as LatchRecord};
 ghost use Rattle.aig_meaning.specs.Meaning.{literal_value};
 ghost use Rattle.aig_meaning.specs.Trace.{reset_value as value_after_reset};
+ghost use Rattle.aig_step.specs.Stimulus.{values_of};
 ghost use Rattle.aig_step.specs.Parts.Tables.{IsLiteralBelow, pair_of, placed, read_from};
 
 use crate::cells::{Code, Table};
+use crate::stimulus::value_of;
 use aig_circuit::{Gate, Latch, Lit, Reset, Val};
 use std::alloc::{AllocError, Global};
 
@@ -94,4 +96,19 @@ pub fn put_reset_state(latches: &[Latch], state: &mut [Code])
     for i in 0..latches.len() {
         state[i] = Code::of(reset_value(latches[i].reset));
     }
+}
+
+/// Reads the values that characters stand for, and answers whether each stands for one.
+pub(crate) fn read_codes(text: &[u8], codes: &mut [Code]) -> bool
+    requires { length codes.old ≡ length text.now }
+    ensures good { result ≡ true → values_of text.now ≡ Some codes.new }
+    ensures bad { result ≡ false → values_of text.now ≡ None }
+{
+    for i in 0..text.len() {
+        let Some(value) = value_of(text[i]) else {
+            return false;
+        };
+        codes[i] = Code::of(value);
+    }
+    true
 }

@@ -2,13 +2,13 @@
 //! shows a step.
 //!
 //! Others call `Simulator` for single steps. The crates of the simulator above this one call
-//! `Machine`, `Table` and `write_row`.
+//! `Stepper`, `Machine`, `Table` and `write_row`.
 //!
 //! Modules:
 //! - `cells`: a table of values as bytes, each with its negation behind it.
 //! - `evaluate`: the other loops of a step over such a table.
 //! - `machine`: a circuit in binary order that is kept to be run.
-//! - `simulator`: `Simulator`, with its state and the row of its last step.
+//! - `stepper`: a circuit that is run step by step. `simulator`: `Simulator`, which shows the row of its last step.
 //! - `stimulus`: what the lines of a stimulus say.
 //! - `trace`: the line of a step.
 //! - `fault`: why a simulation ended early.
@@ -29,6 +29,7 @@ mod evaluate;
 mod fault;
 mod machine;
 mod simulator;
+mod stepper;
 mod stimulus;
 mod trace;
 
@@ -37,5 +38,6 @@ pub use crate::evaluate::{Pair, put_reset_state, reset_value, show_next};
 pub use crate::fault::SimFault;
 pub use crate::machine::Machine;
 pub use crate::simulator::{Row, Simulator};
+pub use crate::stepper::Stepper;
 pub use crate::stimulus::is_stop;
 pub use crate::trace::{Columns, write_row, write_text};

@@ -6,7 +6,7 @@ use Rattle.std.proofs.Common.{◌≡◌, ◌==◌, ◌&&◌, ◌||◌, ◌<◌, 
 use Rattle.std.proofs.Common.{Option, Some, None, Result, Ok, refl, sym, ap, ap₂, subst, ◌∙◌, append_assoc, append-nil}
 use Rattle.std.proofs.Common.{bytes_eq, codes, filter, map, cond, if◌then◌else◌, nat_lt, option_map}
 use Rattle.std.specs.List.{AllByRecursion, AllZip}
-use Rattle.std.proofs.lemmas.Bool.{eq-eqb, lt-ltb, ltb-true, eqb-true}
+use Rattle.std.proofs.lemmas.Bool.{eq-eqb, lt-ltb, eqb-true}
 use Rattle.std.proofs.lemmas.Slice.Eq.{bytes_eq-Decides}
 use Rattle.aig_circuit.specs.declared.circuit.Circuit.{Circuit}
 use Rattle.aig_circuit.specs.declared.circuit.Reset.{Reset}
@@ -25,6 +25,7 @@ use Rattle.aig_witness.specs.WitnessText.{IsWitnessFile}
 use Rattle.aig_step.proofs.EntryTexts.{values_length}
 use Rattle.aig_step.proofs.LineValues.{says_values, values_back, vector_says}
 use Rattle.aig_witness.proofs.Witnessing.{may_start}
+use Rattle.aig_witness.proofs.WitnessValues.{IsNumberRead, number_read}
 
 -- what texts of lines say
 said_texts : Shape → ℕ → Said → List (List ℕ) → Result Said ℕ
@@ -155,16 +156,6 @@ module _ (shape : Shape) where
       (append_assoc claim.steps (given ∷ []) more)
 
 -- the line of the first state
-chosen_by : (start : Bool) (vs first : List Val) → (if start then Some vs else None) ≡ Some first
-    → Some vs ≡ Some first
-chosen_by true vs first is = is
-chosen_by false vs first is = cc
-
-chosen_values : (rs : List Reset) (o : Option (List Val)) (first : List Val) → if_may_start rs o ≡ Some first
-    → o ≡ Some first
-chosen_values rs None first is = is
-chosen_values rs (Some vs) first is = chosen_by (may_start_in rs vs) vs first is
-
 one_may : (r : Reset) (v : Val) → MayStartAt r v → may_start_at r v ≡ true
 one_may resets.Zero v is = ap (may_start_at resets.Zero) is
 one_may resets.One v is = ap (may_start_at resets.One) is
@@ -199,8 +190,8 @@ module _ (shape : Shape) where
     first = first;
     rest = ts;
     texts = ap (λ (u : List ℕ). u ∷ ts)
-        (sym (values_back t first (chosen_values shape.resets (values_of t) first is)));
-    starts = may_start shape.resets (values_of t) first is;
+        (sym (values_back t first (may_start shape.resets (values_of t) first is).0));
+    starts = (may_start shape.resets (values_of t) first is).1;
     steps = steps_read shape (suc n) (record { property = p; first = first; steps = [] }) whole ts said;
   }
 
@@ -211,29 +202,6 @@ module _ (shape : Shape) where
   first_read n p whole (t ∷ ts) said = one_first n p whole t ts (first_state_in shape.resets t) refl said
 
 -- the line of the bad state
-record IsNumberRead (bound : ℕ) (text : List ℕ) (p : ℕ) : Type 0 where
-  digits : List ℕ
-  text_is : text ≡ 98 ∷ digits
-  canonical : is_canonical digits ≡ true
-  number : number_of digits ≡ p
-  below : p < bound
-
-number_by : (canonical low : Bool) (n p bound : ℕ) → (low ≡ true → n < bound)
-    → (if canonical && low then Some n else None) ≡ Some p → (canonical ≡ true) × (n ≡ p) × (p < bound)
-number_by true true n p bound below is =
-    let same : n ≡ p = cc in (refl, same, subst (λ (m : ℕ). m < bound) same (below refl))
-number_by true false n p bound below is = cc
-number_by false low n p bound below is = cc
-
-byte_by : (begins : Bool) (o : Option ℕ) (p : ℕ) → (if begins then o else None) ≡ Some p
-    → (begins ≡ true) × (o ≡ Some p)
-byte_by true o p is = (refl, is)
-byte_by false o p is = cc
-
-number_read : (bound : ℕ) (text : List ℕ) (p : ℕ) → property_in bound text ≡ Some p → IsNumberRead bound text p
-number_read bound [] p is = cc
-number_read bound (b ∷ bs) p is = search (rules, byte_by, number_by, nat_lt, ltb-true, eqb-true)
-
 number_said : (bound : ℕ) (digits : List ℕ) (p : ℕ) → is_canonical digits ≡ true → number_of digits ≡ p → p < bound
     → number_below bound digits ≡ Some p
 number_said bound digits p canonical number below = search (rules, nat_lt, lt-ltb)

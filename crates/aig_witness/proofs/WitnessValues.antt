@@ -1,44 +1,44 @@
--- The values in lines of a witness file, one after the other.
-use Rattle.std.proofs.Common.{◌≡◌, ◌≢◌, ◌<◌, ◌&&◌, ℕ, zero, suc, List, [], ◌∷◌, Bool, true}
-use Rattle.std.proofs.Common.{false, length, get_or, refl, sym, ap, ◌∙◌, arith, Option, Some, None}
+-- What single lines of a witness file say: the number of a bad state, and the values of a first state.
+use Rattle.std.proofs.Common.{◌==◌, nat_lt, rules, subst}
+use Rattle.std.proofs.lemmas.Bool.{eqb-false, eqb-true, ltb-true}
+use Rattle.std.proofs.lemmas.List.{length-map}
+use Rattle.aig_circuit.specs.declared.circuit.Circuit.{Circuit}
+use Rattle.aig_circuit.specs.declared.circuit.Latch.{Latch}
+use Rattle.aig_step.specs.Parts.Lines.{vector_in}
+use Rattle.aig_rows.specs.Spelling.{value_of as number_of}
+use Rattle.aig_witness.specs.Witness.{is_canonical, property_in, shape_of}
+use Rattle.std.proofs.Common.{◌≡◌, ◌≢◌, ◌<◌, ◌&&◌, ℕ, List, [], ◌∷◌, Bool, true}
+use Rattle.std.proofs.Common.{false, length, refl, sym, ap, ◌∙◌, arith, Option, Some, None}
 use Rattle.std.proofs.Common.{if◌then◌else◌}
-use Rattle.std.specs.List.{list_all}
 use Rattle.aig_circuit.specs.declared.circuit.Reset.{Reset}
 use Rattle.aig_circuit.specs.declared.value.Val.{Val}
 use Rattle.aig_step.specs.Stimulus.{values_of}
 use Rattle.aig_witness.specs.Witness.{first_state_in, if_may_start, may_start_at, may_start_in}
 use Rattle.aig_step.proofs.EntryTexts.{values_length}
 
-and_fails : (a b : Bool) → b ≡ false → (a && b) ≡ false
-and_fails true b fails = fails
-and_fails false b fails = refl
+-- the line of the bad state
+pub record IsNumberRead (bound : ℕ) (text : List ℕ) (p : ℕ) : Type 0 where
+  pub digits : List ℕ
+  pub text_is : text ≡ 98 ∷ digits
+  pub canonical : is_canonical digits ≡ true
+  pub number : number_of digits ≡ p
+  pub below : p < bound
 
--- one that fails a test
-pub fails_at : {X : Type 0} (p : X → Bool) (xs : List X) (i : ℕ) (d : X) → i < length xs
-    → p (get_or xs i d) ≡ false → list_all p xs ≡ false
-fails_at p [] i d low fails = absurd (omega arith)
-fails_at p (x ∷ xs) zero d low fails = ap (λ (b : Bool). b && list_all p xs) fails
-fails_at p (x ∷ xs) (suc i) d low fails = and_fails (p x) (list_all p xs) (fails_at p xs i d (omega arith) fails)
+number_by : (canonical low : Bool) (n p bound : ℕ) → (low ≡ true → n < bound)
+    → (if canonical && low then Some n else None) ≡ Some p → (canonical ≡ true) × (n ≡ p) × (p < bound)
+number_by true true n p bound below is =
+    let same : n ≡ p = cc in (refl, same, subst (λ (m : ℕ). m < bound) same (below refl))
+number_by true false n p bound below is = cc
+number_by false low n p bound below is = cc
 
--- whether latches may start at values, one by one
-pub starts : (rs : List Reset) (vs : List Val) (r : Reset) (v : Val) → length vs ≡ length rs
-    → ((i : ℕ) → i < length rs → may_start_at (get_or rs i r) (get_or vs i v) ≡ true) → may_start_in rs vs ≡ true
-starts [] [] r v long each = refl
-starts [] (w ∷ ws) r v long each = absurd (omega (arith, long))
-starts (s ∷ ss) [] r v long each = absurd (omega (arith, long))
-starts (s ∷ ss) (w ∷ ws) r v long each =
-    let first : may_start_at s w ≡ true = each 0 (omega arith) in
-    ap (λ (b : Bool). b && may_start_in ss ws) first
-    ∙ starts ss ws r v (omega (arith, long)) (λ i low. each (suc i) (omega (arith, low)))
+byte_by : (begins : Bool) (o : Option ℕ) (p : ℕ) → (if begins then o else None) ≡ Some p
+    → (begins ≡ true) × (o ≡ Some p)
+byte_by true o p is = (refl, is)
+byte_by false o p is = cc
 
-pub starts_not : (rs : List Reset) (vs : List Val) (i : ℕ) (r : Reset) (v : Val) → i < length rs
-    → length vs ≡ length rs → may_start_at (get_or rs i r) (get_or vs i v) ≡ false → may_start_in rs vs ≡ false
-starts_not [] vs i r v low long fails = absurd (omega arith)
-starts_not (s ∷ ss) [] i r v low long fails = absurd (omega (arith, long))
-starts_not (s ∷ ss) (w ∷ ws) zero r v low long fails = ap (λ (b : Bool). b && may_start_in ss ws) fails
-starts_not (s ∷ ss) (w ∷ ws) (suc i) r v low long fails =
-    and_fails (may_start_at s w) (may_start_in ss ws)
-    (starts_not ss ws i r v (omega arith) (omega (arith, long)) fails)
+pub number_read : (bound : ℕ) (text : List ℕ) (p : ℕ) → property_in bound text ≡ Some p → IsNumberRead bound text p
+number_read bound [] p is = cc
+number_read bound (b ∷ bs) p is = search (rules, byte_by, number_by, nat_lt, ltb-true, eqb-true)
 
 second : (a b : Bool) → (a && b) ≡ true → b ≡ true
 second true b is = is
@@ -65,3 +65,18 @@ wrong_values rs (Some vs) n other long =
 
 pub no_first_state : (rs : List Reset) (text : List ℕ) → length text ≢ length rs → first_state_in rs text ≡ None
 no_first_state rs text other = wrong_values rs (values_of text) (length text) other (values_length text)
+
+by_test : (rs : List Reset) (long : Bool) (o : Option (List Val)) → (long ≡ false → if_may_start rs o ≡ None)
+    → if_may_start rs o ≡ if_may_start rs (if long then o else None)
+by_test rs true o never = refl
+by_test rs false o never = never refl
+
+-- what a text says as a first state, by the values that it says for the latches
+pub first_by_values : (c : Circuit) (text : List ℕ) (o : Option (List Val)) → vector_in (length c.latches) text ≡ o
+    → first_state_in (shape_of c).resets text ≡ if_may_start (shape_of c).resets o
+first_by_values c text o is =
+    let rs = (shape_of c).resets in
+    let long : length rs ≡ length c.latches = length-map c.latches (λ (l : Latch). l.reset) in
+    by_test rs (length text == length c.latches) (values_of text)
+    (λ other. no_first_state rs text (λ e. eqb-false (length text) (length c.latches) other (e ∙ long)))
+    ∙ ap (if_may_start rs) is

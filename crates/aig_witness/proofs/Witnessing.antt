@@ -1,9 +1,8 @@
 -- Lines of a witness file that are due, and what follows them.
-use Rattle.std.proofs.Common.{◌≡◌, ◌≢◌, ◌==◌, ◌<◌, ◌&&◌, ℕ, List, [], ◌∷◌, ◌++◌, Bool, true, false, length, map}
+use Rattle.std.proofs.Common.{◌≡◌, ◌≢◌, ◌&&◌, ℕ, List, [], ◌∷◌, ◌++◌, Bool, true, false, length, map}
 use Rattle.std.proofs.Common.{Option, Some, None, refl, sym, ap, subst, ◌∙◌, arith, get_or, inl, inr, option_map}
-use Rattle.std.proofs.Common.{if◌then◌else◌, nat_lt, replicate}
+use Rattle.std.proofs.Common.{if◌then◌else◌, replicate}
 use Rattle.std.specs.List.{All, AllZip}
-use Rattle.std.proofs.lemmas.Bool.{ltb-true}
 use Rattle.std.proofs.lemmas.List.{get_or-map, length-map, length-replicate}
 use Rattle.std.proofs.lemmas.List.Sums.{AllPass-from_list_all, list_all-from_AllPass}
 use Rattle.aig_circuit.specs.declared.circuit.Circuit.{Circuit}
@@ -16,39 +15,18 @@ use Rattle.aig_meaning.specs.Meaning.{MeansTheSame, literal_value}
 use Rattle.aig_meaning.specs.Trace.{MayStartAt, reset_state}
 use Rattle.aig_meaning.proofs.Rows.{one_row}
 use Rattle.aig_meaning.proofs.Traces.{first_length, reset_state_is_first, trace_goes_on}
-use Rattle.aig_rows.specs.Spelling.{value_of as number_of}
 use Rattle.aig_witness.specs.declared.checker.Due.TheVariants as due
 use Rattle.aig_step.specs.Stimulus.{values_of}
 use Rattle.aig_witness.specs.Witness.{Claim, Nothing, Property, Said, Steps, Version, Whole, begun_at}
-use Rattle.aig_witness.specs.Witness.{if_may_start, is_canonical, may_start_at, may_start_in}
-use Rattle.aig_witness.specs.Witness.{number_below, property_in, shape_of, with_entry}
+use Rattle.aig_witness.specs.Witness.{if_may_start, may_start_at, may_start_in}
+use Rattle.aig_witness.specs.Witness.{shape_of, with_entry}
 use Rattle.aig_step.specs.Parts.Lines.{row_read}
 use Rattle.aig_witness.specs.Parts.Witnessing.{Follows, Stands, StepTaken, TookDue, TookEntry}
 use Rattle.aig_witness.specs.Parts.Witnessing.{TookFirstState, TookProperty, Witnessing, are_ones, is_one}
 use Rattle.aig_witness.proofs.Confirmed.{tells_more, tells_nothing}
+use Rattle.aig_witness.proofs.WitnessValues.{number_read}
 use Rattle.aig_step.proofs.LineValues.{row_is_read, vector_says}
 use Rattle.aig_step.proofs.States.{state_after_last}
-
--- the number that a line names is below the bound
-by_test : (canonical low : Bool) (n p bound : ℕ) → (low ≡ true → n < bound)
-    → (if canonical && low then Some n else None) ≡ Some p → p < bound
-by_test true true n p bound below is = let same : n ≡ p = cc in omega (arith, same, below refl)
-by_test true false n p bound below is = cc
-by_test false low n p bound below is = cc
-
-number_low : (bound : ℕ) (text : List ℕ) (p : ℕ) → number_below bound text ≡ Some p → p < bound
-number_low bound text p is =
-    by_test (is_canonical text) (nat_lt (number_of text) bound) (number_of text) p bound
-    (λ low. ltb-true (number_of text) bound low) is
-
-by_byte : (begins : Bool) (o : Option ℕ) (p bound : ℕ) → (o ≡ Some p → p < bound)
-    → (if begins then o else None) ≡ Some p → p < bound
-by_byte true o p bound low is = low is
-by_byte false o p bound low is = cc
-
-property_low : (bad : ℕ) (text : List ℕ) (p : ℕ) → property_in bad text ≡ Some p → p < bad
-property_low bad [] p is = cc
-property_low bad (b ∷ bs) p is = by_byte (b == 98) (number_below bad bs) p bad (number_low bad bs p) is
 
 -- values that agree with the resets are a first state
 one_starts : (r : Reset) (v : Val) → may_start_at r v ≡ true → MayStartAt r v
@@ -77,12 +55,13 @@ chosen : (start : Bool) (vs first : List Val) → (if start then Some vs else No
 chosen true vs first is = (refl, cc)
 chosen false vs first is = cc
 
+-- values are chosen if they are a first state
 pub may_start : (rs : List Reset) (o : Option (List Val)) (first : List Val) → if_may_start rs o ≡ Some first
-    → AllZip MayStartAt rs first
+    → (o ≡ Some first) × AllZip MayStartAt rs first
 may_start rs None first is = cc
 may_start rs (Some vs) first is =
     let parts = chosen (may_start_in rs vs) vs first is in
-    subst (AllZip MayStartAt rs) parts.1 (all_start rs vs parts.0)
+    (ap (λ (us : List Val). Some us) parts.1, subst (AllZip MayStartAt rs) parts.1 (all_start rs vs parts.0))
 
 -- values that are all 1
 one_of : (v : Val) → is_one v ≡ true → v ≡ One
@@ -111,7 +90,7 @@ module _ (w v : Witnessing) (text : List ℕ) where
     stands = rw took.leads (
       refl,
       record { steps = stands.1.steps; holds = stands.1.holds; found = stands.1.found },
-      record { below = property_low (length w.circuit.bad) text took.property took.said; literal = refl },
+      record { below = (number_read (length w.circuit.bad) text took.property took.said).below; literal = refl },
     );
     circuit = ap (λ (x : Witnessing). x.circuit) took.leads;
   }
@@ -132,7 +111,7 @@ module _ (w v : Witnessing) (text : List ℕ) where
       record {
         seeks = record { below = stands.2.below; literal = stands.2.literal };
         rows = [];
-        trace = (may_start (shape_of w.circuit).resets (values_of text) took.first took.said, tt);
+        trace = ((may_start (shape_of w.circuit).resets (values_of text) took.first took.said).1, tt);
         state = refl;
         tells = tells_nothing p w.search stands.1;
       },

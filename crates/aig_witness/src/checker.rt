@@ -17,9 +17,9 @@ use crate::search::Search;
 use crate::verdict::Verdict;
 use crate::witness_line::{is_version, property_in, read_first_state};
 use aig_checked::Checked;
-use aig_circuit::{Circuit, Lit, OutOfMemory, Val};
+use aig_circuit::{Lit, OutOfMemory, Val};
 use aig_lines::LineTaker;
-use aig_step::{Code, Machine, Table, is_stop, show_next};
+use aig_step::{Stepper, Table, is_stop};
 use std::alloc::Global;
 use std::marker::Model;
 
@@ -41,11 +41,7 @@ pub(crate) enum Due {
 /// What judges the lines of a witness file, and follows what they claim.
 #[derive(Drop)]
 pub(crate) struct Checker {
-    machine: Machine,
-    /// A place for the value of each variable.
-    values: Table,
-    /// The state before the next step.
-    state: Vec<Code>,
+    stepper: Stepper,
     due: Due,
     search: Search,
 }
@@ -59,16 +55,14 @@ impl Model for Checker {
     ghost Value = { Witnessing };
 
     ghost view = { λ c. record {
-      circuit = c.machine;
+      circuit = c.stepper.circuit;
       due = c.due;
-      state = c.state.items;
+      state = c.stepper.state;
       search = c.search;
     } };
 
-    ghost invariant = { λ c. (length c.values ≡ 1 + c.machine.max_var)
-        × (length c.state.items ≡ length c.machine.latches)
-        × IsLiteralBelow (1 + c.machine.max_var) c.search.literal
-        × (length c.machine.bad ≤ LARGEST) };
+    ghost invariant = { λ c. IsLiteralBelow (1 + c.stepper.circuit.max_var) c.search.literal
+        × (length c.stepper.circuit.bad ≤ LARGEST) };
 }
 
 /// Whether the value is 1.
@@ -91,31 +85,19 @@ fn are_ones(literals: &[Lit], values: &Table) -> bool
     true
 }
 
-/// Places for the value of each variable, and for the state.
-fn make_room(alloc: Global, parts: &Circuit) -> Result<(Table, Vec<Code>), OutOfMemory>
-    ensures values { IfOk result (λ made. length made.0 ≡ 1 + parts.now.max_var) }
-    ensures state { IfOk result (λ made. length made.1.items ≡ length parts.now.latches) }
-{
-    let values = Table::new(alloc, 1 + parts.max_var as usize)?;
-    let state = vec![in alloc; Code::of(Val::Zero); parts.latches.len()]?;
-    Ok((values, state))
-}
-
 impl Checker {
-    /// It runs what the machine runs, and stands before the first line.
-    fn with_room(alloc: Global, machine: Machine) -> Result<Self, OutOfMemory>
-        requires { length machine.bad ≤ LARGEST }
-        ensures circuit { IfOk result (λ c. c.circuit ≡ machine) }
+    /// It stands before the first line. All room that it needs is made here.
+    pub(crate) fn new(alloc: Global, checked: &Checked) -> Result<Self, OutOfMemory>
+        ensures same { IfOk result (λ c. MeansTheSame checked.now c.circuit) }
+        ensures bad { IfOk result (λ c. length c.circuit.bad ≡ length checked.now.bad) }
+        ensures few { IfOk result (λ c. length c.circuit.bad ≤ LARGEST) }
         ensures begun { IfOk result (λ c. Stands c Nothing) }
     {
-        let Ok((values, state)) = make_room(alloc, machine.parts()) else {
-            drop(machine);
-            return Err(OutOfMemory);
-        };
+        // That the circuit is well formed is known by this call.
+        let _circuit = checked.circuit();
+        let stepper = Stepper::new(alloc, checked)?;
         Ok(Checker {
-            machine,
-            values,
-            state,
+            stepper,
             due: Due::Version,
             search: Search {
                 literal: Lit(0),
@@ -126,25 +108,12 @@ impl Checker {
         })
     }
 
-    /// It stands before the first line. All room that it needs is made here.
-    pub(crate) fn new(alloc: Global, checked: &Checked) -> Result<Self, OutOfMemory>
-        ensures same { IfOk result (λ c. MeansTheSame checked.now c.circuit) }
-        ensures bad { IfOk result (λ c. length c.circuit.bad ≡ length checked.now.bad) }
-        ensures few { IfOk result (λ c. length c.circuit.bad ≤ LARGEST) }
-        ensures begun { IfOk result (λ c. Stands c Nothing) }
-    {
-        // That the circuit is well formed is known by this call.
-        let _circuit = checked.circuit();
-        let machine = Machine::new(alloc, checked)?;
-        Checker::with_room(alloc, machine)
-    }
-
     /// How long a line may be: none that is due is longer.
     pub(crate) fn longest_line(&self) -> usize
         ensures is { result ≡ longest_line (shape_of self.now.circuit) }
         ensures few { result < 2 ^ 62 }
     {
-        let parts = self.machine.parts();
+        let parts = self.stepper.machine().parts();
         // That there are not too many inputs and latches is known by this read.
         let _largest = parts.max_var;
         // A line that names a bad state has at most eleven bytes.
@@ -172,7 +141,7 @@ impl Checker {
         ensures stays { result ≡ false → self.new ≡ self.old }
         ensures steps { self.new.search.steps ≡ self.old.search.steps }
     {
-        let bad = self.machine.parts().bad.as_slice();
+        let bad = self.stepper.machine().parts().bad.as_slice();
         let Some(property) = property_in(text, bad.len()) else {
             return false;
         };
@@ -188,8 +157,7 @@ impl Checker {
         ensures stays { result ≡ false → self.new ≡ record self.old { state = self.new.state } }
         ensures steps { self.new.search.steps ≡ self.old.search.steps }
     {
-        let parts = self.machine.parts();
-        if !read_first_state(text, parts.latches.as_slice(), &mut self.state) {
+        if !read_first_state(text, &mut self.stepper) {
             return false;
         }
         self.due = Due::Steps;
@@ -204,16 +172,14 @@ impl Checker {
         ensures stays { result ≡ false → self.new ≡ self.old }
         ensures steps { self.new.search.steps ≤ self.old.search.steps + 1 }
     {
-        if !self
-            .machine
-            .assign_text(text, &self.state, &mut self.values)
-        {
+        if !self.stepper.evaluate_text(text) {
             return false;
         }
-        let parts = self.machine.parts();
-        show_next(parts.latches.as_slice(), &self.values, &mut self.state);
-        let is_bad = is_one(self.values.value(self.search.literal));
-        let hold = are_ones(parts.constraints.as_slice(), &self.values);
+        self.stepper.go_on();
+        let values = self.stepper.values();
+        let constraints = self.stepper.machine().parts().constraints.as_slice();
+        let is_bad = is_one(values.value(self.search.literal));
+        let hold = are_ones(constraints, values);
         self.search.look(is_bad, hold);
         true
     }

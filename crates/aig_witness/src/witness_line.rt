@@ -4,12 +4,11 @@ ghost use Rattle.std.specs.Str.{bytes_eq};
 ghost use Rattle.aig_circuit.specs.declared.circuit.Latch.{Latch as LatchRecord};
 ghost use Rattle.aig_circuit.specs.declared.circuit.TheConstants.{LARGEST};
 ghost use Rattle.aig_rows.specs.CanonicalNumber.{is_padded};
-ghost use Rattle.aig_step.specs.Stimulus.{value_of, values_of};
-ghost use Rattle.aig_witness.specs.Witness.{first_state_in, may_start_at, may_start_in, number_below, property_in};
+ghost use Rattle.aig_witness.specs.Witness.{first_state_in, may_start_at, may_start_in, number_below, property_in, shape_of};
 ghost use Rattle.aig_witness.specs.Parts.Witnessing.{digits_below};
 
 use aig_circuit::{Latch, Reset, Val};
-use aig_step::Code;
+use aig_step::{Code, Stepper};
 
 /// Whether the text is the first line.
 pub(crate) fn is_version(text: &[u8]) -> bool
@@ -68,33 +67,6 @@ pub(crate) fn property_in(text: &[u8], bad: usize) -> Option<usize>
     }
 }
 
-/// The value that a character stands for.
-fn value_of(character: u8) -> Option<Val>
-    ensures { result ≡ value_of character }
-{
-    match character {
-        b'0' => Some(Val::Zero),
-        b'1' => Some(Val::One),
-        b'x' => Some(Val::X),
-        _ => None,
-    }
-}
-
-/// Reads the values that characters stand for, and answers whether each stands for one.
-fn read_values(text: &[u8], values: &mut [Code]) -> bool
-    requires { length values.old ≡ length text.now }
-    ensures good { result ≡ true → values_of text.now ≡ Some values.new }
-    ensures bad { result ≡ false → values_of text.now ≡ None }
-{
-    for i in 0..text.len() {
-        let Some(value) = value_of(text[i]) else {
-            return false;
-        };
-        values[i] = Code::of(value);
-    }
-    true
-}
-
 /// Whether a latch may start at this value.
 fn may_start_at(reset: Reset, value: Val) -> bool
     ensures { result ≡ may_start_at reset value }
@@ -119,15 +91,16 @@ fn may_start_in(latches: &[Latch], state: &[Code]) -> bool
 }
 
 /// Reads the first state, and answers whether the text says one that agrees with the resets.
-pub(crate) fn read_first_state(text: &[u8], latches: &[Latch], state: &mut [Code]) -> bool
-    requires { length state.old ≡ length latches.now }
-    ensures good { result ≡ true
-        → first_state_in (map (λ (l : LatchRecord). l.reset) latches.now) text.now ≡ Some state.new }
-    ensures bad { result ≡ false
-        → first_state_in (map (λ (l : LatchRecord). l.reset) latches.now) text.now ≡ None }
+pub(crate) fn read_first_state(text: &[u8], stepper: &mut Stepper) -> bool
+    ensures good { result ≡ true → first_state_in (shape_of stepper.old.circuit).resets text.now ≡ Some stepper.new.state }
+    ensures bad { result ≡ false → first_state_in (shape_of stepper.old.circuit).resets text.now ≡ None }
+    ensures stays { stepper.new ≡ record stepper.old { state = stepper.new.state } }
 {
-    if text.len() != state.len() {
+    if !stepper.read_state(text) {
         return false;
     }
-    read_values(text, state) && may_start_in(latches, state)
+    may_start_in(
+        stepper.machine().parts().latches.as_slice(),
+        stepper.state(),
+    )
 }

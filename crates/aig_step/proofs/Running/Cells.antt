@@ -109,8 +109,7 @@ one_more codes now v k pairs p x all made value below is before =
     (values_are now (set (values_of_bytes codes) v x) made ∙ ap (set (values_of_bytes codes) v) value)
     ∙ ap (λ ps. evaluated v ps (values_of_bytes codes)) (sym front) ∙ before
 
-pub no_more : (codes : List ℕ) (v k : ℕ) (pairs : List Pair) (all : List Val) → AreCodes codes → length pairs ≤ k
-    → evaluated v (drop k pairs) (values_of_bytes codes) ≡ all → codes ≡ bytes_of_values all
-no_more codes v k pairs all coded end before =
-    sym coded
-    ∙ ap bytes_of_values (ap (λ ps. evaluated v ps (values_of_bytes codes)) (sym (drop_all k pairs end)) ∙ before)
+pub no_more : (codes : List ℕ) (v k : ℕ) (pairs : List Pair) (all : List Val) → length pairs ≤ k
+    → evaluated v (drop k pairs) (values_of_bytes codes) ≡ all → values_of_bytes codes ≡ all
+no_more codes v k pairs all end before =
+    ap (λ ps. evaluated v ps (values_of_bytes codes)) (sym (drop_all k pairs end)) ∙ before

@@ -1,51 +1,36 @@
-use Rattle.std.proofs.Common.{◌≡◌, ◌<◌, length, map, ap₂, ◌∙◌, sym, arith, inl, inr}
-use Rattle.std.proofs.lemmas.Bool.{cases_lt}
-use Rattle.std.proofs.lemmas.List.{get_or-map, get_or_default, length-map}
+use Rattle.std.proofs.Common.{◌≡◌, ◌<◌, ◌+◌, ◌&&◌, ℕ, List, Bool, true, false, length, map, get_or, drop, ◌∙◌, sym, refl}
+use Rattle.std.proofs.Common.{add-one, arith, drop-cons}
+use Rattle.std.proofs.lemmas.List.{drop_all}
 use Rattle.aig_circuit.specs.declared.circuit.Latch.{Latch}
-use Rattle.aig_circuit.specs.declared.circuit.Reset.TheVariants as resets
-use Rattle.aig_circuit.specs.declared.value.Val.TheVariants.{Zero}
-use Rattle.aig_witness.specs.Witness.{may_start_at}
-use Rattle.aig_witness.proofs.WitnessValues.{starts, starts_not}
+use Rattle.aig_circuit.specs.declared.value.Val.{Val}
+use Rattle.aig_witness.specs.Witness.{may_start_at, may_start_in}
 use Rattle.aig_witness.proofs.witness_line.may_start_in.Goals as goal
 
+abbrev all_start : List Latch → List Val → Bool
+all_start latches state = may_start_in (map (λ (k : Latch). k.reset) latches) state
+
+-- all from a place on may start at their values, if the one there may and those behind it
+from_here : (latches : List Latch) (state : List Val) (i : ℕ) (k : Latch) (v w : Val) (b : Bool) → i < length latches
+    → i < length state → v ≡ get_or state i v → w ≡ v → b ≡ may_start_at (get_or latches i k).reset w
+    → all_start (drop i latches) (drop i state) ≡ (b && all_start (drop (i + 1) latches) (drop (i + 1) state))
+from_here latches state i k v w b low lower value same is =
+    rw (add-one, drop-cons latches i k low, drop-cons state i v lower, ← value, is, same) refl
+
 pub loop-i-preserved : goal.loop-i-preserved
-loop-i-preserved c = λ j before.
-    let latches = c.args.latches.now in
-    let state = c.args.state.now in
-    let i = c.loop-i.i in
-    let low : i < length state = omega (arith, c.requires, c.loop-i-test.true) in
-    elim (cases_lt j i) [
-      | inl earlier ↦ c.loop-i.invariant j earlier
-      | inr after ↦
-          let here : j ≡ i = omega (arith, after, before) in
-          rw here
-          (ap₂ may_start_at
-          (get_or-map (λ (l : Latch). l.reset) latches i c.index-latches-i.result resets.Zero c.loop-i-test.true)
-          (get_or_default state i Zero c.index-state-i.result low ∙ sym c.index-state-i.is
-          ∙ sym c.value.ensures)
-          ∙ sym c.may_start_at.ensures ∙ c.if-not-may_start_at.false)
-    ]
+loop-i-preserved c =
+    sym (from_here c.args.latches.now c.args.state.now c.loop-i.i c.index-latches-i.result c.index-state-i.result
+    c.value.result true c.loop-i-test.true (omega arith) c.index-state-i.is c.value.ensures
+    (sym c.if-not-may_start_at.false ∙ c.may_start_at.ensures))
+    ∙ c.loop-i.invariant
 
 pub returns-then-not-may_start_at : goal.returns-then-not-may_start_at
 returns-then-not-may_start_at c =
-    let latches = c.args.latches.now in
-    let rs = map (λ (l : Latch). l.reset) latches in
-    let state = c.args.state.now in
-    let i = c.loop-i.i in
-    let low : i < length state = omega (arith, c.requires, c.loop-i-test.true) in
-    let long : length rs ≡ length latches = length-map latches (λ (l : Latch). l.reset) in
-    sym (starts_not rs state i resets.Zero Zero (omega (arith, long, c.loop-i-test.true))
-    (omega (arith, long, c.requires))
-    (ap₂ may_start_at
-    (get_or-map (λ (l : Latch). l.reset) latches i c.index-latches-i.result resets.Zero c.loop-i-test.true)
-    (get_or_default state i Zero c.index-state-i.result low ∙ sym c.index-state-i.is
-    ∙ sym c.value.ensures)
-    ∙ sym c.may_start_at.ensures ∙ c.if-not-may_start_at.true))
+    sym (from_here c.args.latches.now c.args.state.now c.loop-i.i c.index-latches-i.result c.index-state-i.result
+    c.value.result false c.loop-i-test.true (omega arith) c.index-state-i.is c.value.ensures
+    (sym c.if-not-may_start_at.true ∙ c.may_start_at.ensures))
+    ∙ c.loop-i.invariant
 
 pub returns : goal.returns
 returns c =
-    let latches = c.args.latches.now in
-    let rs = map (λ (l : Latch). l.reset) latches in
-    let long : length rs ≡ length latches = length-map latches (λ (l : Latch). l.reset) in
-    sym (starts rs c.args.state.now resets.Zero Zero (omega (arith, long, c.requires))
-    (λ j low. c.loop-i.invariant j (omega (arith, low, long, c.loop-i-test.false))))
+    rw (drop_all c.loop-i.i c.args.latches.now c.loop-i-test.false, drop_all c.loop-i.i c.args.state.now (omega arith))
+    at c.loop-i.invariant

@@ -1,22 +1,57 @@
-use Rattle.std.proofs.Common.{◌≡◌, ◌++◌, List, length, take, drop, ap, ◌∙◌, arith}
-use Rattle.std.proofs.lemmas.Grind.{common_steps}
+use Rattle.std.proofs.Common.{◌≡◌, ◌+◌, ◌++◌, List, None, [], ◌∷◌, length, ap, ap₂, ◌∙◌, set, take, drop, get_or}
+use Rattle.std.proofs.Common.{refl, sym, arith}
+use Rattle.std.proofs.lemmas.List.{length-append, length-set, take_more}
 use Rattle.aig_circuit.specs.declared.value.Val.{Val}
+use Rattle.aig_step.specs.Stimulus.{value_of, values_of}
 use Rattle.aig_step.specs.Parts.Cells.{values_of_bytes}
-use Rattle.aig_step.specs.Parts.Tables.{placed}
-use Rattle.aig_step.proofs.Running.Cells.{values_are}
+use Rattle.aig_step.proofs.EntryTexts.{no_values, values_on}
+use Rattle.aig_step.proofs.LineBytes.{parted}
+use Rattle.aig_step.proofs.Running.Cells.{are_codes, codes_length, values_are}
+use Rattle.aig_step.proofs.Running.Characters.{found_value, no_value}
+use Rattle.aig_step.proofs.Running.Tables.{placed_behind}
 use Rattle.aig_step.proofs.cells.Table.place_text.Goals as goal
 
-pub returns-clause-good : goal.returns-clause-good
-returns-clause-good c stands =
-    let now = c.place_text.new.codes in
-    let items : take c.self.inside.codes.len (now ++ drop (length now) c.self.inside.codes.items) ≡ now =
-    grind (arith, common_steps) in
-    let was : values_of_bytes c.deref_mut.result.now ≡ c.args.self.now =
-    ap values_of_bytes c.deref_mut.ensures.value ∙ c.self.view_is in
-    let good = c.place_text.ensures.good stands in (
-      good.0,
-      good.1,
-      rw items
-          (values_are now (placed c.args.first good.0 (values_of_bytes c.deref_mut.result.now)) good.2
-          ∙ ap (λ (vs : List Val). placed c.args.first good.0 vs) was),
+pub loop-character-init : goal.loop-character-init
+loop-character-init c =
+    let was : values_of_bytes c.deref_mut-codes.result.now ≡ c.args.self.now =
+    ap values_of_bytes c.deref_mut-codes.ensures.value ∙ c.self.view_is in
+    (rw c.deref_mut-codes.ensures.value c.self.invariant, ([], refl, was, refl), ap length was, omega arith)
+
+pub overflow_add-at : goal.overflow_add-at
+overflow_add-at c = grind (arith, codes_length c.loop-character.codes c.loop-character.invariant.0)
+
+pub returns-in_default-clause-bad : goal.returns-in_default-clause-bad
+returns-in_default-clause-bad c e =
+    let text = c.args.text.now in
+    let i = c.loop-character.character-index in
+    let none : value_of (get_or text i 0) ≡ None = no_value (value_of (get_or text i 0)) c.in_default.ensures in
+    ap values_of (parted text i 0 c.loop-character-test.true)
+    ∙ no_values (take i text) (drop (i + 1) text) (get_or text i 0) none
+
+pub loop-character-preserved : goal.loop-character-preserved
+loop-character-preserved c =
+    let text = c.args.text.now in
+    let i = c.loop-character.character-index in
+    let now = c.put_bytes.new.codes in
+    let values = values_of_bytes c.loop-character.codes in
+    let at = c.loop-character.at in
+    let first = c.args.first in
+    let found = found_value (value_of (get_or text i 0)) c.in-Some.bytes c.in-Some.ensures in
+    let v = found.0 in
+    let made = c.put_bytes.ensures v found.2 in
+    let given = c.loop-character.invariant.1.0 in
+    let long : length given ≡ i = c.loop-character.invariant.1.3 in
+    let place : at ≡ first + length given = omega (arith, long, c.loop-character.invariant.3) in
+    let put : values_of_bytes now ≡ set values at v = values_are now (set values at v) made in (
+      are_codes now (set values at v) made,
+      (
+        given ++ v ∷ [],
+        ap values_of (take_more text i 0 c.loop-character-test.true)
+            ∙ values_on (take i text) (get_or text i 0) given v c.loop-character.invariant.1.1 found.1,
+        put ∙ ap₂ (λ (vs : List Val) n. set vs n v) c.loop-character.invariant.1.2 place
+            ∙ sym (placed_behind first given v c.args.self.now),
+        length-append given (v ∷ []) ∙ ap (λ n. n + 1) long,
+      ),
+      ap length put ∙ length-set values at v ∙ c.loop-character.invariant.2,
+      omega (arith, c.loop-character.invariant.3),
     )

@@ -1,5 +1,5 @@
-use Rattle.std.proofs.Common.{◌≡◌, ◌++◌, List, length, take, drop, ap, ap₂, ◌∙◌, set, arith}
-use Rattle.std.proofs.lemmas.Grind.{common_steps}
+use Rattle.std.proofs.Common.{◌≡◌, List, length, ap, ap₂, ◌∙◌, set, arith}
+use Rattle.std.proofs.lemmas.List.{with_items_is}
 use Rattle.aig_circuit.specs.declared.value.Val.{Val}
 use Rattle.aig_step.specs.Parts.Cells.{values_of_bytes}
 use Rattle.aig_step.proofs.Running.Cells.{are_codes, codes_length, values_are}
@@ -7,22 +7,14 @@ use Rattle.aig_step.proofs.cells.Table.put.Goals as goal
 
 pub invariant_of-self : goal.invariant_of-self
 invariant_of-self c =
-    let items : take c.self.inside.codes.len
-    (c.put.new.codes ++ drop (length c.put.new.codes) c.self.inside.codes.items) ≡ c.put.new.codes =
-    grind (arith, common_steps) in
-    rw items
-    (are_codes c.put.new.codes (set (values_of_bytes c.deref_mut.result.now) c.args.variable c.of.result) c.put.ensures)
+    rw (with_items_is c.self.inside.codes c.put.new.codes (omega arith)) (are_codes c.put.new.codes _ c.put.ensures)
 
 pub returns-clause-value : goal.returns-clause-value
 returns-clause-value c =
-    let items : take c.self.inside.codes.len
-    (c.put.new.codes ++ drop (length c.put.new.codes) c.self.inside.codes.items) ≡ c.put.new.codes =
-    grind (arith, common_steps) in
-    let was : values_of_bytes c.deref_mut.result.now ≡ c.args.self.now =
-    ap values_of_bytes c.deref_mut.ensures.value ∙ c.self.view_is in
-    rw items
-    (values_are c.put.new.codes (set (values_of_bytes c.deref_mut.result.now) c.args.variable c.of.result) c.put.ensures
-    ∙ ap₂ (λ (vs : List Val) v. set vs c.args.variable v) was c.of.ensures)
+    rw (with_items_is c.self.inside.codes c.put.new.codes (omega arith))
+    (values_are c.put.new.codes _ c.put.ensures
+    ∙ ap₂ (λ (vs : List Val) v. set vs c.args.variable v)
+    (ap values_of_bytes c.deref_mut.ensures.value ∙ c.self.view_is) c.of.ensures)
 
 pub returns-clause-small : goal.returns-clause-small
 returns-clause-small c =

@@ -1,21 +1,15 @@
-use Rattle.std.proofs.Common.{length, ap, ◌∙◌, arith}
-use Rattle.std.proofs.lemmas.Result.{IfOk-weaker}
+use Rattle.std.proofs.Common.{arith}
 use Rattle.aig_witness.proofs.Witnessing.{same_bad}
 use Rattle.aig_witness.proofs.checker.Checker.new.Goals as goal
 
-pub with_room-requires : goal.with_room-requires
-with_room-requires c =
-    let formed = c.circuit-circuit.ensures.well_formed in
-    omega (
-      arith,
-      same_bad c.args.checked.now c.in_ok-machine.machine formed c.in_ok-machine.ensures,
-      formed.limits.literals.1.0,
-    )
-
 pub returns-clause-bad : goal.returns-clause-bad
 returns-clause-bad c =
-    let formed = c.circuit-circuit.ensures.well_formed in
-    IfOk-weaker c.with_room.result _ _
-    (λ made same. ap (λ k. length k.bad) same
-    ∙ same_bad c.args.checked.now c.in_ok-machine.machine formed c.in_ok-machine.ensures)
-    c.with_room.ensures.circuit
+    same_bad c.args.checked.now c.in_ok-stepper.stepper.circuit c.circuit-circuit.ensures.well_formed
+    c.in_ok-stepper.ensures.same
+
+pub returns-clause-few : goal.returns-clause-few
+returns-clause-few c = omega (arith, returns-clause-bad c, c.circuit-circuit.ensures.well_formed.limits.literals.1.0)
+
+pub invariant_of-result : goal.invariant_of-result
+invariant_of-result c =
+    (omega arith, omega (arith, returns-clause-bad c, c.circuit-circuit.ensures.well_formed.limits.literals.1.0))

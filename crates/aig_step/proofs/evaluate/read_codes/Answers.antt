@@ -4,7 +4,7 @@ use Rattle.aig_circuit.specs.declared.value.Val.{Val}
 use Rattle.aig_step.specs.Stimulus.{value_of, values_of}
 use Rattle.aig_step.proofs.EntryTexts.{no_values, values_on}
 use Rattle.aig_step.proofs.LineBytes.{parted}
-use Rattle.aig_witness.proofs.witness_line.read_values.Goals as goal
+use Rattle.aig_step.proofs.evaluate.read_codes.Goals as goal
 
 pub returns-in_default-clause-bad : goal.returns-in_default-clause-bad
 returns-in_default-clause-bad c = λ _.
@@ -18,7 +18,7 @@ loop-i-preserved c =
     let text = c.args.text.now in
     let i = c.loop-i.i in
     let v = c.of.result in
-    let values = c.loop-i.values in
+    let values = c.loop-i.codes in
     let low : i < length values = omega (arith, c.loop-i.invariant.1, c.loop-i-test.true) in
     let is : value_of (get_or text i 0) ≡ Some v =
     sym c.in-Some.ensures ∙ ap (λ (w : Val). Some w) (sym c.of.ensures) in (
