@@ -1,10 +1,10 @@
 -- How far an order of gates has come.
-use Rattle.std.specs.Prelude.{ℕ, ◌≡◌, ◌≢◌, ◌==◌, ◌+◌, ◌*◌, ◌<◌, ◌≤◌, List, Bool, map, length, take, refl, slice_index}
-use Rattle.std.specs.Prelude.{if◌then◌else◌}
+use Rattle.std.specs.Prelude.{ℕ, ◌≡◌, ◌≢◌, ◌==◌, ◌+◌, ◌*◌, ◌<◌, ◌≤◌, List, Bool, length, take, refl, slice_index}
 use Rattle.std.specs.List.{AllByRecursion, list_any, sum}
 use Rattle.std.specs.Coded.{Coded, code_by, coded×, coded_ℕ, coded_list}
 use Rattle.aig_circuit.specs.declared.circuit.TheConstants.{LARGEST}
 use Rattle.aig_circuit.specs.Wellformed.{AreDistinct}
+use Rattle.aig_tables.specs.Parts.Marks.{is_marked}
 
 -- the gates that are taken, how many operands each gate waits for, and how many steps were made
 pub record Progress : Type 0 where
@@ -22,21 +22,17 @@ progress_code =
 abbrev pub has_gate : List ℕ → ℕ → Bool
 has_gate list gate = list_any (λ g. g == gate) list
 
--- how many operands a gate waits for, by its state: 3 stands for one that is taken
-abbrev pub waiting_in : ℕ → ℕ
-waiting_in state = if state == 3 then 0 else state
-
--- There is room for each gate, none is taken twice, and the states tell which are. At most two operands of each gate
+-- There is room for each gate, none is taken twice, and the marks tell which are. At most two operands of each gate
 -- were counted down.
-pub record IsCounted (positions : List ℕ) (taken : ℕ) (states : List ℕ) (counted : ℕ) : Type 0 where
-  pub room : length positions ≡ length states
-  pub few : length states ≤ LARGEST
+pub record IsCounted (positions : List ℕ) (taken : ℕ) (marks waiting : List ℕ) (counted : ℕ) : Type 0 where
+  pub room : length positions ≡ length waiting
+  pub marked : length waiting ≤ 64 * length marks
+  pub few : length waiting ≤ LARGEST
   pub within : taken ≤ length positions
   pub once : AreDistinct (take taken positions)
-  pub below : AllByRecursion (λ g. g < length states) (take taken positions)
-  pub small : (g : ℕ) → slice_index states g ≤ 3
-  pub told : (g : ℕ) → g < length states → (slice_index states g == 3) ≡ has_gate (take taken positions) g
-  pub paid : counted + sum (map waiting_in states) ≤ 2 * length states
+  pub below : AllByRecursion (λ g. g < length waiting) (take taken positions)
+  pub told : (g : ℕ) → is_marked marks g ≡ has_gate (take taken positions) g
+  pub paid : counted + sum waiting ≤ 2 * length waiting
 
 -- the steps that were made, and one for each operand that is waited for
 abbrev pub due : Progress → ℕ

@@ -1,10 +1,11 @@
 //! An order of gates that is being made. No module stands in this one: its fields are private, so steps change through
 //! `take` and `count_down` alone.
-ghost use Rattle.std.specs.Prelude.{◌≡◌, ◌==◌, ◌+◌, ◌-◌, ◌*◌, ◌<◌, ◌≤◌, ℕ, [], ◌∷◌, ◌++◌, length, map, slice_index};
-ghost use Rattle.std.specs.Prelude.{slice_set, IfOk};
+ghost use Rattle.std.specs.Prelude.{◌≡◌, ◌==◌, ◌+◌, ◌-◌, ◌*◌, ◌/◌, ◌<◌, ◌≤◌, ℕ, [], ◌∷◌, ◌++◌, length, map};
+ghost use Rattle.std.specs.Prelude.{slice_index, slice_set, true, if◌then◌else◌, IfOk};
 ghost use Rattle.std.specs.List.{AllByRecursion};
 ghost use Rattle.std.specs.Option.{IfSome, IfNone};
 ghost use Rattle.aig_circuit.specs.Wellformed.{IsAmong};
+ghost use Rattle.aig_tables.specs.Parts.Marks.{is_marked};
 ghost use Rattle.aig_topo.specs.Order.{gates_under};
 ghost use Rattle.aig_topo.specs.Progress.{has_gate};
 
@@ -13,25 +14,23 @@ use aig_circuit::{Circuit, LARGEST, OutOfMemory};
 use std::alloc::{AllocError, Global};
 use std::marker::Model;
 
-/// The state of a gate that is taken, in place of how many operands it waits for.
-const TAKEN: u8 = 3;
-
 /// An order of gates that is being made: the positions of the gates that are taken, how many operands each gate still
 /// waits for, and how many steps were made.
 #[derive(Drop)]
 pub struct Order {
     positions: Vec<u32>,
     taken: usize,
-    /// How many operands each gate waits for, at most 2, or that it is taken. A byte does: they stay in the processor's
-    /// cache longer.
-    states: Vec<u8>,
+    /// A bit for each gate, 64 to a word, which is set once the gate is taken. They stay in the processor's cache.
+    marks: Vec<u64>,
+    /// How many operands each gate waits for, at most 2.
+    waiting: Vec<u8>,
     /// How many operands were counted down.
     counted: u64,
 }
 
 impl Model for Order {
-    ghost use Rattle.std.specs.Prelude.{take, map, ◌+◌};
-    ghost use Rattle.aig_topo.specs.Progress.{Progress, progress_code, waiting_in, IsCounted};
+    ghost use Rattle.std.specs.Prelude.{take, ◌+◌};
+    ghost use Rattle.aig_topo.specs.Progress.{Progress, progress_code, IsCounted};
 
     ghost Value = { Progress };
 
@@ -39,11 +38,20 @@ impl Model for Order {
 
     ghost view = { λ o. record {
       list = take o.taken o.positions.items;
-      waiting = map waiting_in o.states.items;
+      waiting = o.waiting.items;
       steps = o.taken + o.counted;
     } };
 
-    ghost invariant = { λ o. IsCounted o.positions.items o.taken o.states.items o.counted };
+    ghost invariant = { λ o. IsCounted o.positions.items o.taken o.marks.items o.waiting.items o.counted };
+}
+
+/// Whether the bit of this number is set.
+#[inline(always)]
+fn has_mark(marks: &[u64], number: usize) -> bool
+    requires { number / 64 < length marks.now }
+    ensures { result ≡ is_marked marks.now number }
+{
+    marks[number / 64] >> (number % 64) & 1 == 1
 }
 
 impl Order {
@@ -56,7 +64,8 @@ impl Order {
         Ok(Order {
             positions: vec![in alloc; 0; waiting.len()]?,
             taken: 0,
-            states: waiting,
+            marks: vec![in alloc; 0; waiting.len().div_ceil(64)]?,
+            waiting,
             counted: 0,
         })
     }
@@ -94,8 +103,7 @@ impl Order {
         requires { gate < length self.now.waiting }
         ensures { result ≡ slice_index self.now.waiting gate }
     {
-        let state = self.states[gate as usize];
-        if state == TAKEN { 0 } else { u32::from(state) }
+        u32::from(self.waiting[gate as usize])
     }
 
     /// Whether the gate is taken.
@@ -104,7 +112,7 @@ impl Order {
         requires { gate < length self.now.waiting }
         ensures { result ≡ has_gate self.now.list gate }
     {
-        self.states[gate as usize] == TAKEN
+        has_mark(&self.marks, gate as usize)
     }
 
     /// Takes a gate that waits for nothing, as one step.
@@ -117,7 +125,7 @@ impl Order {
     {
         self.positions[self.taken] = gate;
         self.taken += 1;
-        self.states[gate as usize] = TAKEN;
+        self.marks[gate as usize / 64] |= 1 << (gate % 64);
     }
 
     /// Counts down what a gate waits for, as one step.
@@ -129,7 +137,7 @@ impl Order {
         ensures steps { self.new.steps ≡ self.old.steps + 1 }
         ensures list { self.new.list ≡ self.old.list }
     {
-        self.states[gate as usize] -= 1;
+        self.waiting[gate as usize] -= 1;
         self.counted += 1;
     }
 

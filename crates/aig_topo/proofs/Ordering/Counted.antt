@@ -1,24 +1,28 @@
 -- An order that takes a gate, or counts one down.
 use Rattle.std.proofs.lemmas.Grind.{common_steps}
 use Rattle.std.proofs.Common.{rules}
-use Rattle.std.proofs.Common.{◌≡◌, ◌≢◌, ◌<◌, ◌≤◌, ◌+◌, ◌-◌, ◌*◌, ℕ, zero, suc, List, [], ◌∷◌, ◌++◌, length, take, get_or}
-use Rattle.std.proofs.Common.{map, sym, refl, ap, ap₂, ◌∙◌, ◌⊎◌, inl, inr, ⊎_elim, arith, eqb, cond, true, false, Bool}
+use Rattle.std.proofs.Common.{◌≡◌, ◌<◌, ◌≤◌, ◌+◌, ◌-◌, ◌*◌, ◌/◌, ◌%◌, ◌^◌, ℕ, List, [], ◌∷◌, ◌++◌, length, take, get_or}
+use Rattle.std.proofs.Common.{sym, refl, ap, ◌∙◌, ◌⊎◌, inl, inr, ⊎_elim, arith, eqb, cond, true, false, Bool}
 use mathlib.Core.Bool.{◌||◌}
 use Rattle.std.specs.List.{AllByRecursion, sum}
 use Rattle.std.proofs.Math.ListN.{set as put}
-use Rattle.std.proofs.lemmas.Bool.{ne_eqb}
 use Rattle.std.proofs.lemmas.Bool.Decides.{eqb_tells}
-use Rattle.std.proofs.lemmas.List.{take_more_set, length-take-le, length-set, length-map, length-replicate, map-set}
-use Rattle.std.proofs.lemmas.List.{get_or_default, get_or-map, get_or-set_same, get_or-set_other, set-get_or}
+use Rattle.std.proofs.lemmas.List.{take_more_set, length-take-le, length-set, length-replicate}
+use Rattle.std.proofs.lemmas.List.{get_or_default}
 use Rattle.std.proofs.lemmas.List.Folds.{list_any-append}
 use Rattle.std.proofs.lemmas.List.Sums.{sum_by-set, sum_by-cons}
 use Rattle.std.specs.Prelude.{replicate}
+use Rattle.std.specs.Int.{bit_at}
 use Rattle.aig_circuit.specs.declared.circuit.TheConstants.{LARGEST}
 use Rattle.aig_circuit.specs.Wellformed.{IsAmong, AreDistinct}
-use Rattle.aig_topo.specs.Progress.{has_gate, waiting_in, IsCounted}
+use Rattle.aig_tables.specs.Parts.Marks.{is_marked}
+use Rattle.aig_topo.specs.Progress.{has_gate, IsCounted}
 use Rattle.aig_circuit.proofs.Checking.Fitting.{at_most_below}
-use Rattle.aig_circuit.proofs.Checking.InForm.{among_decides, joined}
-use Rattle.aig_topo.proofs.Ordering.Cyclic.{among_last}
+use Rattle.aig_circuit.proofs.Checking.InForm.{joined}
+use Rattle.std.proofs.lemmas.Nat.Bits.{bit_at-zero}
+use Rattle.aig_topo.proofs.Ordering.Gates.{zeros}
+use Rattle.aig_topo.proofs.Ordering.Trees.{bit_set, marked_put}
+use Rattle.std.specs.Int.Bits.{bit_or}
 
 -- a number in two lists joined is in one of them
 pub among_either : (x : ℕ) (xs ys : List ℕ) → IsAmong x (xs ++ ys) → IsAmong x xs ⊎ IsAmong x ys
@@ -51,119 +55,84 @@ or_false : (b : Bool) → b ≡ (b || (false || false))
 or_false true = refl
 or_false false = refl
 
--- a gate that is not taken
-plain : (state : ℕ) → state ≢ 3 → waiting_in state ≡ state
-plain state differs = ap (λ b. cond b 0 state) (ne_eqb state 3 differs)
+-- the mark of one more gate
+marked_last : (list : List ℕ) (g h : ℕ) {marked : Bool} → marked ≡ has_gate list h
+    → cond (eqb h g) true marked ≡ has_gate (list ++ g ∷ []) h
+marked_last list g h told = grind (arith, common_steps, told, list_any-append, eqb_tells h g, or_false)
 
-module _ (positions : List ℕ) (taken : ℕ) (states : List ℕ) (counted : ℕ) (g : ℕ)
-    (is : IsCounted positions taken states counted) (there : g < length states) where
-  pub read : get_or (map waiting_in states) g 0 ≡ waiting_in (get_or states g 0)
-  read = get_or-map waiting_in states g 0 0 there
+module _ (positions : List ℕ) (taken : ℕ) (marks waiting : List ℕ) (counted : ℕ) (g : ℕ)
+    (is : IsCounted positions taken marks waiting counted) (there : g < length waiting) where
+  pub has_word : g / 64 < length marks
+  has_word = omega (arith, is.marked)
 
-  -- where a gate is left, there is room for it
-  pub room_left : ¬ IsAmong g (take taken positions) → taken < length positions
-  room_left new =
-      omega (
-        arith,
-        at_most_below (length states) (g ∷ take taken positions) (new, is.once) (there, is.below),
-        length-take-le taken positions is.within,
-        is.room,
-      )
+  -- it is taken where it is left, and there is room for it
+  module _ (new : ¬ IsAmong g (take taken positions)) where
+    pub room_left : taken < length positions
+    room_left =
+        omega (
+          arith,
+          at_most_below (length waiting) (g ∷ take taken positions) (new, is.once) (there, is.below),
+          length-take-le taken positions is.within,
+          is.room,
+        )
 
-  -- it is taken where it waits for nothing
-  module _ (new : ¬ IsAmong g (take taken positions)) (ready : get_or (map waiting_in states) g 0 ≡ 0) where
     pub one_more : take (taken + 1) (put positions taken g) ≡ take taken positions ++ g ∷ []
-    one_more = take_more_set positions taken g (room_left new)
+    one_more = take_more_set positions taken g room_left
 
-    pub waits_as_before : map waiting_in (put states g 3) ≡ map waiting_in states
-    waits_as_before = search (rules, map-set, set-get_or)
+    abbrev marked_with : ℕ → List ℕ
+    marked_with word = put marks (g / 64) (bit_or word (1 * 2 ^ (g % 64) % 18446744073709551616))
 
-    now_told : (h : ℕ) → h < length states
-        → eqb (get_or (put states g 3) h 0) 3 ≡ has_gate (take taken positions ++ g ∷ []) h
-    now_told h below =
-        ⊎_elim (grind (arith, common_steps, get_or-set_same, among_decides, among_last))
-        (search (rules, get_or-set_other, or_false, ne_eqb, list_any-append))
-        (eqb_tells h g)
+    now_marked : (word : ℕ) → word ≡ get_or marks (g / 64) word
+        → (n : ℕ) → is_marked (marked_with word) n ≡ cond (eqb n g) true (is_marked marks n)
+    now_marked word same =
+        let was : word ≡ get_or marks (g / 64) 0 = same ∙ get_or_default marks (g / 64) word 0 has_word in
+        marked_put marks g true (bit_or word (1 * 2 ^ (g % 64) % 18446744073709551616)) has_word
+        (λ i below. bit_set word (g % 64) i (omega arith)
+        ∙ ap (λ w. cond (eqb i (g % 64)) true (eqb (bit_at w i) 1)) was)
 
-    pub takes : IsCounted (put positions taken g) (taken + 1) (put states g 3) counted
-    takes =
-        let as_long : length (put states g 3) ≡ length states = length-set states g 3 in record {
-          room = length-set positions taken g ∙ is.room ∙ sym as_long;
-          few = rw as_long is.few;
-          within = omega (arith, room_left new, length-set positions taken g);
-          once = rw one_more (distinct_more (take taken positions) g is.once new);
-          below = search (rules, one_more, joined);
-          small = search (rules, get_or-set_same, get_or-set_other, eqb_tells);
-          told = λ h below. now_told h (rw (← as_long) below) ∙ ap (λ xs. has_gate xs h) (sym one_more);
-          paid = rw (as_long, waits_as_before) is.paid;
-        }
+    pub takes : (word : ℕ) → word ≡ get_or marks (g / 64) word
+        → IsCounted (put positions taken g) (taken + 1) (marked_with word) waiting counted
+    takes word same = record {
+      room = length-set positions taken g ∙ is.room;
+      marked = omega (arith, is.marked, ap (λ n. 64 * n) (length-set marks (g / 64) (bit_or word (1 * 2 ^ (g % 64) % 18446744073709551616))));
+      few = is.few;
+      within = omega (arith, room_left, length-set positions taken g);
+      once = rw one_more (distinct_more (take taken positions) g is.once new);
+      below = search (rules, one_more, joined);
+      told = λ h. now_marked word same h
+          ∙ marked_last (take taken positions) g h (is.told h)
+          ∙ ap (λ xs. has_gate xs h) (sym one_more);
+      paid = is.paid;
+    }
 
   -- it is counted down where it waits for some
-  module _ (n : ℕ) (n_is : n ≡ get_or states g n) (some : 0 < get_or (map waiting_in states) g 0) where
-    same : get_or states g 0 ≡ n
-    same = sym (n_is ∙ get_or_default states g n 0 there)
+  pub counts_down : (n : ℕ) → n ≡ get_or waiting g n → 0 < get_or waiting g 0
+      → IsCounted positions taken marks (put waiting g (n - 1)) (counted + 1)
+  counts_down n n_is some =
+      let as_long : length (put waiting g (n - 1)) ≡ length waiting = length-set waiting g (n - 1) in
+      let same : get_or waiting g 0 ≡ n = sym (n_is ∙ get_or_default waiting g n 0 there) in
+      let less : sum (put waiting g (n - 1)) + get_or waiting g 0 ≡ sum waiting + (n - 1) =
+      search (rules, sum_by-set) in record {
+        room = is.room ∙ sym as_long;
+        marked = rw as_long is.marked;
+        few = rw as_long is.few;
+        within = is.within;
+        once = is.once;
+        below = rw as_long is.below;
+        told = is.told;
+        paid = omega (arith, is.paid, less, some, same, as_long);
+      }
 
-    waits_for : get_or (map waiting_in states) g 0 ≡ waiting_in n
-    waits_for = read ∙ ap waiting_in same
-
-    not_taken : n ≢ 3
-    not_taken e = omega (arith, some, waits_for, ap waiting_in e)
-
-    one_less : waiting_in (n - 1) ≡ n - 1
-    one_less = plain (n - 1) (λ e. omega (arith, e, is.small g, same, not_taken))
-
-    pub waits_for_less : map waiting_in (put states g (n - 1))
-        ≡ put (map waiting_in states) g (get_or (map waiting_in states) g 0 - 1)
-    waits_for_less = search (rules, map-set, one_less, waits_for, plain, not_taken)
-
-    pub counts_down : IsCounted positions taken (put states g (n - 1)) (counted + 1)
-    counts_down =
-        let as_long : length (put states g (n - 1)) ≡ length states = length-set states g (n - 1) in
-        let less : sum (put (map waiting_in states) g (get_or (map waiting_in states) g 0 - 1))
-        + get_or (map waiting_in states) g 0 ≡ sum (map waiting_in states) + (get_or (map waiting_in states) g 0 - 1) =
-        search (rules, sum_by-set, length-map) in record {
-          room = is.room ∙ sym as_long;
-          few = rw as_long is.few;
-          within = is.within;
-          once = is.once;
-          below = rw as_long is.below;
-          small = λ h. ⊎_elim (λ (t : (eqb h g ≡ true) × (h ≡ g)).
-              omega (
-                arith,
-                ap (λ z. get_or (put states g (n - 1)) z 0) t.1,
-                get_or-set_same states g (n - 1) 0 there,
-                is.small g,
-                same,
-              ))
-              (λ (f : (eqb h g ≡ false) × (h ≢ g)).
-              omega (arith, is.small h, get_or-set_other states g h (n - 1) 0 f.1))
-              (eqb_tells h g);
-          told = λ h below. ⊎_elim (λ (t : (eqb h g ≡ true) × (h ≡ g)).
-              rw t.1 (ap (λ s. eqb s 3) (get_or-set_same states g (n - 1) 0 there)
-              ∙ ne_eqb (n - 1) 3 (λ e. omega (arith, e, is.small g, same))
-              ∙ sym (ne_eqb n 3 not_taken)
-              ∙ ap (λ s. eqb s 3) (sym same)
-              ∙ is.told g there))
-              (λ (f : (eqb h g ≡ false) × (h ≢ g)).
-              ap (λ s. eqb s 3) (get_or-set_other states g h (n - 1) 0 f.1) ∙ is.told h (rw (← as_long) below))
-              (eqb_tells h g);
-          paid = omega (arith, is.paid, less, some, as_long, ap sum waits_for_less);
-        }
-
--- at first each gate waits for at most two operands
-pub plain_all : (ws : List ℕ) → AllByRecursion (λ w. w ≤ 2) ws → map waiting_in ws ≡ ws
-plain_all [] few = refl
-plain_all (w ∷ ws) few = ap₂ (λ v vs. v ∷ vs) (plain w (λ e. omega (arith, e, few.0))) (plain_all ws few.1)
+-- at first no gate is taken, and each waits for at most two operands
+none_marked : (words n : ℕ) → is_marked (replicate words 0) n ≡ false
+none_marked words n = search (rules, zeros, bit_at-zero)
 
 pub sum_few : (ws : List ℕ) → AllByRecursion (λ w. w ≤ 2) ws → sum ws ≤ 2 * length ws
 sum_few [] few = omega arith
 sum_few (w ∷ ws) few = omega (arith, few.0, sum_few ws few.1, sum_by-cons (λ x. x) w ws)
 
-each_small : (ws : List ℕ) → AllByRecursion (λ w. w ≤ 2) ws → (g : ℕ) → get_or ws g 0 ≤ 2
-each_small (w ∷ ws) few zero = few.0
-each_small (w ∷ ws) few (suc g) = each_small ws few.1 g
-each_small xs few n = omega arith
-
-pub begins : (waiting positions : List ℕ) → length waiting ≤ LARGEST → AllByRecursion (λ w. w ≤ 2) waiting
-    → positions ≡ replicate (length waiting) 0 → IsCounted positions 0 waiting 0
-begins waiting positions few at_most zeros = search (rules, length-replicate, each_small, ne_eqb, sum_few, plain_all)
+pub begins : (waiting positions : List ℕ) (words : ℕ) → length waiting ≤ LARGEST
+    → AllByRecursion (λ w. w ≤ 2) waiting → length waiting ≤ 64 * words
+    → positions ≡ replicate (length waiting) 0 → IsCounted positions 0 (replicate words 0) waiting 0
+begins waiting positions words few at_most enough zeros =
+    search (rules, length-replicate, none_marked, sum_few)

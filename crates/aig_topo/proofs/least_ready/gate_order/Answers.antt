@@ -96,7 +96,9 @@ pub returns-clause-steps : goal.returns-clause-steps
 returns-clause-steps c =
     steps_are c.args.circuit.now c.count_rests.new.order.list c.count_rests.new.order.waiting
     c.count_rests.new.order.steps (returns-clause-as_many c) (returns-clause-waiting c)
-    (search (rules, paid))
+    (paid c.args.circuit.now c.in_ok-lists.lists.rows.items c.in_ok-counts.field-0.items c.look_at_all.new.order
+    c.in_ok-order.order c.count_rests.new.order c.in_ok-lists.ensures.needs c.in_ok-counts.ensures
+    c.in_ok-order.ensures c.look_at_all.ensures.paid c.count_rests.ensures.down)
 
 pub returns-clause-few : goal.returns-clause-few
 returns-clause-few c =
