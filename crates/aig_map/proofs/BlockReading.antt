@@ -1,4 +1,3 @@
-pub mod Steps
 pub mod Lines
 pub mod Entries
 pub mod FirstLine

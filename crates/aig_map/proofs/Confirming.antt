@@ -4,7 +4,5 @@ pub mod TakenInTurn
 pub mod Links
 pub mod PositionsPut
 pub mod RecordedRight
-pub mod OrderRecorded
-pub mod ConfirmedByOrder
 pub mod Judged
 pub mod Exchanges

@@ -2,4 +2,3 @@
 pub mod Recorded
 pub mod MappedOrder
 pub mod Alone
-pub mod InOrder

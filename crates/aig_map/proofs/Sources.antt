@@ -2,6 +2,5 @@
 pub mod Refused
 pub mod RecordedAt
 pub mod OneSource
-pub mod AtZero
 pub mod Placed
 pub mod SourceVariables

@@ -97,12 +97,9 @@ rest_reads f few fits bytes r h =
     let e = both_ok _ _ _ d.2 in
     let m : ℕ = f.max_var in
     let fit : f.gates ≤ LARGEST = few_gates f.inputs f.latches f.gates m fits few in
-    let inputs : AreLinesOf variable_row (IsVariableUpTo m) f.inputs bytes a.0 =
-    entries_read (variables_are_exact m few) f.inputs 2 bytes a.0 a.1 in
-    let latches : AreLinesOf variable_row (IsVariableUpTo m) f.latches a.0.1 b.0 =
-    entries_read (variables_are_exact m few) f.latches (2 + f.inputs) a.0.1 b.0 b.1 in
-    let gates : AreLinesOf gate_row (IsGoodGate m few f.gates fit) f.gates b.0.1 d.0 =
-    entries_read (gates_are_exact m few f.gates fit) f.gates (2 + f.inputs + f.latches) b.0.1 d.0 d.1 in
+    let inputs = entries_read (variables_are_exact m few) f.inputs 2 bytes a.0 a.1 in
+    let latches = entries_read (variables_are_exact m few) f.latches (2 + f.inputs) a.0.1 b.0 b.1 in
+    let gates = entries_read (gates_are_exact m few f.gates fit) f.gates (2 + f.inputs + f.latches) b.0.1 d.0 d.1 in
     let last : d.0.1 ≡ last_line ++ e.0 =
     text_reads last_line d.0.1 e.0 (there _ (after_text last_line d.0.1) e.0 e.1) in
     let block : MapBlock =
@@ -156,10 +153,8 @@ block_reads x b rest h =
     let a = both_ok _ _ _ h in
     let first : IsFront x a.0 = front_reads x a.0 a.1 in
     let others : IsRest a.0.0 a.0.1 (b, rest) = rest_reads a.0.0 first.few first.fits a.0.1 (b, rest) a.2 in
-    let front : IsFront x (first_of b, a.0.1) =
-    subst (λ (f : FirstLine). IsFront x (f, a.0.1)) (sym others.first) first in
-    let text : unwrap_or x.comment [] ≡ codes "aigmap " ++ line (first_row b) (behind b rest) =
-    front.text ∙ ap (λ (t : List ℕ). codes "aigmap " ++ line (first_row b) t) others.text in
+    let front = subst (λ (f : FirstLine). IsFront x (f, a.0.1)) (sym others.first) first in
+    let text = front.text ∙ ap (λ (t : List ℕ). codes "aigmap " ++ line (first_row b) t) others.text in
     let counts : HasCountsOf b x = record { inputs = front.inputs; latches = front.latches; gates = front.gates } in
     (comment_is_there x.comment _ _ text ∙ ap Some (sym (text_by_parts b rest)), counts, others.within)
 

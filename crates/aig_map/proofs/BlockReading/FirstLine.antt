@@ -85,10 +85,8 @@ first_reads bytes r h =
     let stands : Fits f → bytes ≡ line (row_of f) rest =
     λ fits.
     let flag : a.0.1 ≡ line (e.0.0 ∷ []) rest = last_reads e.0.0 a.0.1 rest (omega (arith, bit)) e.1 in
-    let gates : l.0.1 ≡ line (a.0.0 ∷ e.0.0 ∷ []) rest =
-    number_reads a.0.0 e.0.0 [] l.0.1 a.0.1 rest (omega (arith, few, fits)) a.1 flag in
-    let latches : i.0.1 ≡ line (l.0.0 ∷ a.0.0 ∷ e.0.0 ∷ []) rest =
-    number_reads l.0.0 a.0.0 (e.0.0 ∷ []) i.0.1 l.0.1 rest (omega (arith, few, fits)) l.1 gates in
+    let gates = number_reads a.0.0 e.0.0 [] l.0.1 a.0.1 rest (omega (arith, few, fits)) a.1 flag in
+    let latches = number_reads l.0.0 a.0.0 (e.0.0 ∷ []) i.0.1 l.0.1 rest (omega (arith, few, fits)) l.1 gates in
     let inputs : m.0.1 ≡ line (i.0.0 ∷ l.0.0 ∷ a.0.0 ∷ e.0.0 ∷ []) rest =
     number_reads i.0.0 l.0.0 (a.0.0 ∷ e.0.0 ∷ []) m.0.1 i.0.1 rest (omega (arith, few, fits)) i.1 latches in
     let max_var : v.0.1 ≡ line (m.0.0 ∷ i.0.0 ∷ l.0.0 ∷ a.0.0 ∷ e.0.0 ∷ []) rest =

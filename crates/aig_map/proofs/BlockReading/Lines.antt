@@ -43,8 +43,7 @@ flag_is_read [] long ends low high = absurd (omega (arith, long))
 flag_is_read (a ∷ []) long ends low high = absurd (omega (arith, long))
 flag_is_read (a ∷ b ∷ rest) long ends low high =
     let digit : 48 + (a - 48) ≡ a = omega (arith, low) in
-    let spelled : decimal (a - 48) ≡ a ∷ [] =
-    decimal_digit (a - 48) (omega (arith, high)) ∙ ap (λ (d : ℕ). d ∷ []) digit in
+    let spelled = decimal_digit (a - 48) (omega (arith, high)) ∙ ap (λ (d : ℕ). d ∷ []) digit in
     ap (λ (e : ℕ). canonical_before 10 (a ∷ e ∷ rest)) ends
     ∙ ap (λ (digits : List ℕ). canonical_before 10 (digits ++ 10 ∷ rest)) (sym spelled)
     ∙ canonical_is_read (a - 48) 10 rest (omega (arith, high)) refl

@@ -1,11 +1,12 @@
 -- The text of a map block, part by part as it is put.
 use Rattle.std.proofs.Common.{rules}
 use Rattle.std.proofs.Common.{◌≡◌, ◌+◌, ℕ, List, ◌++◌, length, map}
-use Rattle.std.proofs.Common.{ap₂, append_assoc, subst}
+use Rattle.std.proofs.Common.{ap₂, append_assoc, subst, ◌<◌, [], ◌∷◌, get_or, ap, ◌∙◌}
 use Rattle.std.specs.List.{flat_map}
-use Rattle.std.proofs.lemmas.List.{length-map}
+use Rattle.std.proofs.lemmas.List.{length-map, get_or_default, get_or-map}
 use Rattle.std.proofs.lemmas.List.Concat.{flat_map-append}
 use Rattle.std.proofs.lemmas.List.Folds.{flat_map-map}
+use Rattle.std.specs.Option.{is_some}
 use Rattle.aig_io.specs.Output.{Out, Put}
 use Rattle.aig_io.proofs.Puts.{put_twice}
 use Rattle.aig_circuit.specs.declared.circuit.Latch.{Latch}
@@ -14,8 +15,11 @@ use Rattle.aig_circuit.specs.declared.circuit.Circuit.{Circuit}
 use Rattle.aig_text.specs.AsciiText.{numbers_text}
 use Rattle.aig_map.specs.declared.map_block.MappedGate.{MappedGate}
 use Rattle.aig_map.specs.MapBlock.{first_row, variable_row, gate_row, rows_of, first_line_text, last_line}
-use Rattle.aig_map.specs.MapBlock.{block_by, block_text, mapped_gate}
+use Rattle.aig_map.specs.MapBlock.{block_by, block_text, mapped_gate, one_if}
 use Rattle.aig_map.specs.Parts.Recorded.{counted_row}
+use Rattle.aig_map.specs.Parts.Kept.{AreRelabelled, recorded_by}
+use Rattle.aig_topo.proofs.Ordering.Ranked.{at, no_gate}
+use Rattle.aig_image.specs.Relabelled.{relabelled, relabelled_gate, relabelled_latch}
 
 -- three sections and the last line
 in_turn : (a b d last : List ℕ) → a ++ (b ++ (d ++ last)) ≡ ((a ++ b) ++ d) ++ last
@@ -81,3 +85,34 @@ module _ (number : ℕ → ℕ) (c : Circuit) where
         (put_twice u v y _ _ (subst (λ ns. Put u v (flat_map of_variable ns)) is_i to_v)
         (put_twice v w y _ _ (subst (λ ls. Put v w (flat_map of_latch ls)) is_l to_w)
         (put_twice w x y _ _ (subst (λ (text : List ℕ). Put w x text) here to_x) to_y))))
+
+pub as_many_old : (f : ℕ → ℕ) (old : List Gate) (variables : List ℕ) (gates : List Gate)
+    → AreRelabelled f old variables gates → length gates ≡ length old
+as_many_old f old variables gates are = ap length are.1 ∙ length-map old (relabelled_gate f)
+
+-- what is recorded of a gate by what it became
+pub recorded_is : (f : ℕ → ℕ) (first : ℕ) (old : List Gate) (variables : List ℕ) (gates : List Gate) (k var : ℕ)
+    (new : Gate)
+    → AreRelabelled f old variables gates → k < length gates
+    → var ≡ get_or variables k var → new ≡ get_or gates k new
+    → recorded_by first var new ≡ mapped_gate f first (at old k)
+recorded_is f first old variables gates k var new are low var_is new_is =
+    search (rules, as_many_old, length-map, get_or_default, get_or-map, no_gate, at)
+
+module _ (f : ℕ → ℕ) (c new : Circuit) (is : new ≡ relabelled f c) where
+  -- there are as many of each
+  pub as_many_inputs : length new.inputs ≡ length c.inputs
+  as_many_inputs = ap (λ (d : Circuit). length d.inputs) is ∙ length-map c.inputs f
+
+  pub as_many_latches : length new.latches ≡ length c.latches
+  as_many_latches = ap (λ (d : Circuit). length d.latches) is ∙ length-map c.latches (relabelled_latch f)
+
+  pub as_many_gates : length new.gates ≡ length c.gates
+  as_many_gates = ap (λ (d : Circuit). length d.gates) is ∙ length-map c.gates (relabelled_gate f)
+
+  abbrev row : ℕ → ℕ → ℕ → List ℕ
+  row inputs latches gates = 1 ∷ c.max_var ∷ inputs ∷ latches ∷ gates ∷ one_if (is_some c.comment) ∷ []
+
+  -- and the first line is the same
+  pub same_counts : counted_row new ≡ counted_row c
+  same_counts = search (rules, length-map)

@@ -2,6 +2,7 @@
 use Rattle.std.proofs.Common.{rules}
 use Rattle.std.proofs.Common.{◌≡◌, ◌↔◌, ◌<◌, ℕ, List, Bool, true, false, length, get_or, sym, ap, ◌∙◌, arith}
 use Rattle.std.proofs.lemmas.List.{get_or-map, length-map}
+use Rattle.std.proofs.lemmas.Simd.{map-map}
 use Rattle.aig_circuit.specs.declared.circuit.Gate.{Gate}
 use Rattle.aig_circuit.specs.declared.circuit.Circuit.{Circuit}
 use Rattle.aig_circuit.specs.Wellformed.{AreDistinct, IsVariableUpTo, IsWellFormed, defined_variables}
@@ -35,15 +36,7 @@ module _ (b : MapBlock) (x : Circuit) where
 
   gate_there : (i : ℕ) → i < length b.gates
       → at (gates_there g x.gates b.gates) i ≡ relabelled_gate g (there i)
-  gate_there i low =
-      let places : List ℕ = places_recorded b.gates in
-      let below : i < length places = omega (arith, low, length-map b.gates (λ (m : MappedGate). m.place)) in
-      let also : i < length (taken x.gates places) =
-      omega (arith, below, length-map places (λ p. get_or x.gates p no_gate)) in
-      get_or-map (relabelled_gate g) (taken x.gates places) i no_gate no_gate also
-      ∙ ap (relabelled_gate g)
-      (get_or-map (λ p. get_or x.gates p no_gate) places i 0 no_gate below
-      ∙ ap (at x.gates) (get_or-map (λ (m : MappedGate). m.place) b.gates i none_recorded 0 low))
+  gate_there i low = search (rules, map-map, get_or-map, no_gate)
 
   flag_at : (i : ℕ) → i < length b.gates
       → get_or (exchanges_recorded b.gates) i false ≡ (recorded_at b.gates i).exchanged
@@ -69,12 +62,10 @@ module _ (b : MapBlock) (x : Circuit) where
       let f : ℕ → ℕ = renumbered (source_variables b) in
       let within = at_place (λ (m : MappedGate). IsVariableUpTo b.max_var m.var × (m.place < length b.gates))
       none_recorded b.gates fit.bounds.gates i low in
-      let again : relabelled_gate f (relabelled_gate g (there i)) ≡ there i =
-      gate_back f g (there i)
+      let again = gate_back f g (there i)
       (at_place (GateNames (λ v. f (g v) ≡ v)) no_gate x.gates (names b x rest fit good once).gates
       (recorded_at b.gates i).place (omega (arith, within.1, fit.counts.gates))) in
-      let same : relabelled_literal g (there i).left ≡ relabelled_literal g (there i).right =
-      sym (ap (λ (h : Gate). h.left) (gate_there i low)) ∙ equal
+      let same = sym (ap (λ (h : Gate). h.left) (gate_there i low)) ∙ equal
       ∙ ap (λ (h : Gate). h.right) (gate_there i low) in
       at_place (λ (m : MappedGate). m.exchanged ≡ true → HasTwoOperands (at x.gates m.place)) none_recorded b.gates
       tells i low (sym (flag_at i low) ∙ exchanged)

@@ -10,7 +10,29 @@ use Rattle.aig_map.specs.MapReading.{block_reading}
 use Rattle.aig_map.specs.Parts.Confirmed.{TellsExchanges, TellsComment}
 use Rattle.aig_map.specs.Parts.Turns.{positions}
 use Rattle.aig_map.specs.Undone.{undone, comment_behind, places_recorded}
-use Rattle.aig_map.proofs.Confirming.ConfirmedByOrder.{confirmed_by_order}
+use Rattle.aig_map.proofs.BlockReading.Block.{read_is_within, read_is_text}
+use Rattle.aig_map.proofs.Confirming.RecordedRight.{order_recorded, recorded_right}
+use Rattle.aig_map.proofs.Restoring.Again.{image_again}
+use Rattle.aig_map.proofs.Restoring.Places.{IsFit}
+
+pub confirmed_by_order : (x : Circuit) (b : MapBlock) (rest : List ℕ) → IsWellFormed x → IsInBinaryOrder x
+    → block_reading x ≡ Ok (b, rest) → AreDistinct (places_recorded b.gates)
+    → IsWellFormed (undone b (comment_behind b rest) x)
+    → IsMappedImage (undone b (comment_behind b rest) x) x
+    ↔ (IsLeastReadyOrder (undone b (comment_behind b rest) x) (positions b.gates) × TellsExchanges x.gates b.gates
+    × TellsComment b.has_comment rest)
+confirmed_by_order x b rest good ordered read apart from_good =
+    let from : Circuit = undone b (comment_behind b rest) x in
+    let within = read_is_within x b rest read in
+    let fit : IsFit b x = record { ordered = ordered; counts = within.0; bounds = within.1; once = apart } in (
+      λ is. let right = recorded_right from x b rest from_good is read in
+          (order_recorded from x b rest from_good is read, right.0, right.1),
+      λ (least, exchanges, tells). (
+        positions b.gates,
+        least,
+        sym (image_again b x rest fit good from_good.once (read_is_text x b rest read) exchanges tells),
+      ),
+    )
 
 module _ (x : Circuit) (b : MapBlock) (rest : List ℕ) (good : IsWellFormed x) (ordered : IsInBinaryOrder x)
     (read : block_reading x ≡ Ok (b, rest)) (apart : AreDistinct (places_recorded b.gates))

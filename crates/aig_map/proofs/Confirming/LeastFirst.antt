@@ -57,8 +57,7 @@ module _ (count : ℕ) (needs : ℕ → List ℕ) (place at ready : ℕ → ℕ)
       from_last : (r : ℕ) → ready q ≡ r → ready q ≤ p
       from_last zero e = omega (arith, e)
       from_last (suc r) e =
-          let taken : IsAmong (at r) seen =
-          each (λ h. IsAmong h seen) (needs (at q)) is.served (at r) (last q r there e) in
+          let taken = each (λ h. IsAmong h seen) (needs (at q)) is.served (at r) (last q r there e) in
           let low : place (at r) < p = before.1 (at r) taken in
           let then : ready q ≤ q = by_then q there in
           let same : place (at r) ≡ r = (by_place r (omega (arith, then, e, there))).1 in

@@ -17,8 +17,7 @@ one_more_link places links at are back clear j low =
     subst (λ k. (k ≤ j) × IsClear places k j) (sym (get_or_append_left links (at ∷ []) 0 j l)) (are j l))
     (λ (l : length links ≤ j).
     let same : length links ≡ j = omega (arith, l, low, length-append links (at ∷ [])) in
-    let is : get_or (links ++ at ∷ []) j 0 ≡ at =
-    ap (λ k. get_or (links ++ at ∷ []) k 0) (sym same) ∙ get_or-append_seam links at [] 0 in
+    let is = ap (λ k. get_or (links ++ at ∷ []) k 0) (sym same) ∙ get_or-append_seam links at [] 0 in
     subst (λ k. (k ≤ j) × IsClear places k j) (sym is)
     (omega (arith, back, same), subst (IsClear places at) same clear))
     (cases_lt j (length links))

@@ -1,5 +1,5 @@
 -- Positions that are put at their gates' places one by one.
-use Rattle.std.proofs.Common.{◌≡◌, ◌≢◌, ◌+◌, ◌<◌, ◌≤◌, ℕ, List, length, get_or, set, sym, ap, ◌∙◌}
+use Rattle.std.proofs.Common.{◌≡◌, ◌≢◌, ◌+◌, ◌<◌, ◌≤◌, ℕ, List, length, get_or, set, refl, sym, ap, ◌∙◌}
 use Rattle.std.proofs.Common.{get_or-set_same, get_or-set_other, ⊎_elim, arith}
 use Rattle.std.specs.List.{AllByRecursion}
 use Rattle.std.proofs.lemmas.Bool.{cases_lt}
@@ -7,13 +7,11 @@ use Rattle.std.proofs.lemmas.Grind.{same_number_lists}
 use Rattle.std.proofs.lemmas.List.{get_or_default, get_or-map, length-map}
 use Rattle.std.proofs.lemmas.List.FromFn.{length-map-range_with_len}
 use Rattle.aig_circuit.specs.Wellformed.{AreDistinct}
-use Rattle.aig_image.proofs.Relabelling.Formed.{all_through}
-use Rattle.aig_image.proofs.Relabelling.Positions.{places_have_positions}
 use Rattle.aig_image.proofs.Relabelling.Standing.{at_place, same_place}
 use Rattle.aig_map.specs.declared.map_block.MappedGate.{MappedGate}
 use Rattle.aig_map.specs.Parts.Turns.{positions}
 use Rattle.aig_map.specs.Undone.{places_recorded}
-use Rattle.aig_map.proofs.Restoring.Places.{position_at}
+use Rattle.aig_map.proofs.Restoring.Places.{place_each, position_at}
 use Rattle.aig_map.proofs.Sources.RecordedAt.{none_recorded, recorded_at}
 
 places_many : (gates : List MappedGate) → length (places_recorded gates) ≡ length gates
@@ -39,8 +37,7 @@ module _ (gates : List MappedGate) (once : AreDistinct (places_recorded gates))
   differ : (k i : ℕ) → k < i → i < length gates → place_of k ≢ place_of i
   differ k i before low e =
       let also : k < length gates = omega (arith, before, low) in
-      let same : k ≡ i =
-      same_place (places_recorded gates) once k i (omega (arith, also, places_many gates))
+      let same = same_place (places_recorded gates) once k i (omega (arith, also, places_many gates))
       (omega (arith, low, places_many gates))
       (place_at k also ∙ e ∙ sym (place_at i low)) in
       omega (arith, before, same)
@@ -49,11 +46,9 @@ module _ (gates : List MappedGate) (once : AreDistinct (places_recorded gates))
       → length found ≡ length gates → k < length gates → g ≡ get_or gates k g → ArePut k found
       → ArePut (k + 1) (set found g.place k)
   one_more_put k found g many there is put i low =
-      let here : g.place ≡ place_of k =
-      ap (λ (m : MappedGate). m.place) (is ∙ get_or_default gates k g none_recorded there) in
+      let here = ap (λ (m : MappedGate). m.place) (is ∙ get_or_default gates k g none_recorded there) in
       let now : set found g.place k ≡ set found (place_of k) k = ap (λ p. set found p k) here in
-      let fits : place_of k < length gates =
-      at_place (λ (m : MappedGate). m.place < length gates) none_recorded gates below k there in
+      let fits = at_place (λ (m : MappedGate). m.place < length gates) none_recorded gates below k there in
       ⊎_elim (λ (l : i < k).
       ap (λ xs. get_or xs (place_of i) 0) now
       ∙ get_or-set_other found (place_of k) (place_of i) k 0 (differ i k l there) ∙ put i l)
@@ -66,13 +61,8 @@ module _ (gates : List MappedGate) (once : AreDistinct (places_recorded gates))
   -- where all did, each place has its position
   pub all_put : (found : List ℕ) → length found ≡ length gates → ArePut (length gates) found → found ≡ positions gates
   all_put found many put =
-      let few = places_many gates in
-      let within : AllByRecursion (λ p. p < length (places_recorded gates)) (places_recorded gates) =
-      all_through (λ (g : MappedGate). g.place < length gates) (λ p. p < length (places_recorded gates))
-      (λ (g : MappedGate). g.place) (λ g e. omega (arith, e, few)) gates below in
-      let too = (places_have_positions (places_recorded gates) once within).1 in
       same_number_lists found (positions gates) (many ∙ sym (positions_many gates)) (λ p low.
-      let here = too.1 p (omega (arith, low, many, few)) in
+      let here = (place_each gates (length gates) once below refl).1.1 p (omega (arith, low, many)) in
       let i : ℕ = get_or (positions gates) p 0 in
-      let there : i < length gates = omega (arith, here.0, few) in
+      let there : i < length gates = omega (arith, here.0, places_many gates) in
       ap (λ q. get_or found q 0) (sym here.1 ∙ place_at i there) ∙ put i there)

@@ -23,8 +23,9 @@ use Rattle.aig_image.specs.Renumbering.{in_new_order, renumbered}
 use Rattle.aig_image.specs.Reordered.{operands_sorted}
 use Rattle.aig_image.proofs.Relabelling.Formed.{all_through}
 use Rattle.aig_image.proofs.Relabelling.Standing.{by_places}
-use Rattle.aig_map.proofs.Restoring.Recovered.{are, images_are, place_at, places}
+use Rattle.aig_map.proofs.Restoring.Recovered.{are, images_are, place_at, places, order_is}
 use Rattle.aig_map.proofs.Sources.OneSource.{mapped_reading, one_reading}
+use Rattle.aig_map.specs.Parts.Turns.{positions}
 
 -- of two numbers in rising order, the larger is not the smaller
 apart : (a b : ℕ) → ltb a b ≡ true → max a b ≢ min a b
@@ -63,8 +64,7 @@ module _ (c : Circuit) (order : List ℕ) (good : IsWellFormed c) (least : IsLea
       let place : ℕ = get_or (places c order good least) i 0 in
       let new : List Gate = map (relabelled_gate f) c.gates in
       let low : i < length (places c order good least) = omega (arith, below, (are c order good least).0) in
-      let there : at images (tell g).place ≡ operands_sorted (relabelled_gate f g) =
-      ap (at images) (sym (place_at c order good least i below))
+      let there = ap (at images) (sym (place_at c order good least i below))
       ∙ sym (get_or-map (at images) (places c order good least) i 0 no_gate low)
       ∙ ap (λ (gs : List Gate). at gs i) (images_are c order good least)
       ∙ get_or-map operands_sorted new i no_gate no_gate (omega (arith, below, length-map c.gates (relabelled_gate f)))
@@ -87,3 +87,8 @@ pub recorded_right : (g x : Circuit) (b : MapBlock) (rest : List ℕ) → IsWell
     → block_reading x ≡ Ok (b, rest)
     → TellsExchanges x.gates b.gates × TellsComment b.has_comment rest
 recorded_right g x b rest good (order, least, is) read = search (rules, mapped_reading, one_reading, mapped_right)
+
+-- what is read of a mapped image tells the order of its source's gates
+pub order_recorded : (g x : Circuit) (b : MapBlock) (rest : List ℕ) → IsWellFormed g → IsMappedImage g x
+    → block_reading x ≡ Ok (b, rest) → IsLeastReadyOrder g (positions b.gates)
+order_recorded g x b rest good (order, least, is) read = search (rules, mapped_reading, one_reading, order_is)

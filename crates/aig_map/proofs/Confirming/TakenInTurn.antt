@@ -1,94 +1,164 @@
--- Where the gates of an image are taken in turn, the places that a block tells are the least ready order of its source,
--- and the other way round.
-use Rattle.std.proofs.Common.{rules}
-use Rattle.std.proofs.Common.{◌≡◌, ◌+◌, ◌<◌, ◌≤◌, ◌↔◌, ℕ, suc, List, [], Bool, IsTrue, Option, length, get_or}
-use Rattle.std.proofs.Common.{map, sym, ap, subst, ◌∙◌, ⊎_elim, arith}
+-- The gates of the source, by their positions and their places. Where the gates of an image are taken in turn, the places
+-- that a block tells are the least ready order of its source, and the other way round.
+use Rattle.std.proofs.Common.{rules, ◌≡◌, ◌+◌, ◌*◌, ◌<◌, ◌≤◌, ℕ, List, ◌++◌, Bool, true, false, Option, length, get_or}
+use Rattle.std.proofs.Common.{map, sym, ap, ◌∙◌, ◌⊎◌, inl, inr, arith, ◌↔◌, suc, [], IsTrue, subst, ⊎_elim}
+use Rattle.std.proofs.lemmas.List.{length-map, get_or-map}
+use Rattle.std.proofs.lemmas.List.FromFn.{get_or-map-range_with_len}
+use Rattle.aig_circuit.specs.declared.circuit.Latch.{Latch}
 use Rattle.aig_circuit.specs.declared.circuit.Gate.{Gate}
 use Rattle.aig_circuit.specs.declared.circuit.Circuit.{Circuit}
 use Rattle.aig_circuit.specs.Literal.{variable_of}
 use Rattle.aig_circuit.specs.Wellformed.{IsAmong, AreDistinct, defined_variables, operands}
-use Rattle.aig_topo.specs.Order.{IsLeastReadyOrder, TakesLeast, IsFull, gate_operands}
-use Rattle.aig_topo.proofs.Ordering.Ranked.{at, over_one, needed_by}
+use Rattle.aig_topo.proofs.Ordering.Ranked.{at, no_gate, variables, distinct_back, over_one, needed_by}
 use Rattle.aig_image.specs.Relabelled.{relabelled_gate}
+use Rattle.aig_image.specs.Renumbering.{renumbered, source_variable}
 use Rattle.aig_image.specs.Reordered.{exchanged_if}
+use Rattle.aig_image.proofs.Imaging.OneByOne.{ordered_at}
+use Rattle.aig_image.proofs.Relabelling.Formed.{variable_there as carried_variable}
+use Rattle.aig_map.specs.declared.map_block.MappedGate.{MappedGate}
 use Rattle.aig_map.specs.declared.map_block.MapBlock.{MapBlock}
-use Rattle.aig_map.specs.Parts.Turns.{positions, ready_at, AreTakenInTurn}
 use Rattle.aig_map.specs.Undone.{undone}
+use Rattle.aig_map.proofs.Restoring.Places.{IsFit, places, order, are, too, position_at}
+use Rattle.aig_map.proofs.Restoring.Source.{vs, source, start, gates_are, gates_many, back}
+use Rattle.aig_map.proofs.Sources.RecordedAt.{gate_had, none_recorded, recorded_at}
+use Rattle.aig_topo.specs.Order.{IsLeastReadyOrder, TakesLeast, IsFull, gate_operands}
+use Rattle.aig_map.specs.Parts.Turns.{positions, ready_at, AreTakenInTurn}
 use Rattle.aig_map.proofs.Confirming.LeastFirst as least
-use Rattle.aig_map.proofs.Restoring.Gates as back
-use Rattle.aig_map.proofs.Restoring.Gates.{from_either, by_left}
-use Rattle.aig_map.proofs.Restoring.Places.{IsFit}
+
+abbrev Uses : ℕ → Gate → Type 0
+Uses variable h = IsAmong variable (map variable_of (operands h))
+
+-- a literal over the variable of a gate's operand, as it was carried back
+module _ (g : ℕ → ℕ) (h : Gate) (v : ℕ) where
+  from_either : (e : Bool) → Uses v (relabelled_gate g (exchanged_if e h))
+      → (v ≡ g (variable_of h.left)) ⊎ (v ≡ g (variable_of h.right))
+  from_either true a = search (rules, carried_variable)
+  from_either false a = search (rules, carried_variable)
+
+  by_left : (e : Bool) → v ≡ g (variable_of h.left) → Uses v (relabelled_gate g (exchanged_if e h))
+  by_left true e = inr (inl (e ∙ sym (carried_variable g h.left)))
+  by_left false e = inl (e ∙ sym (carried_variable g h.left))
 
 module _ (b : MapBlock) (x : Circuit) (comment : Option (List ℕ)) (fit : IsFit b x)
     (once : AreDistinct (defined_variables (undone b comment x))) where
-  abbrev start : ℕ
-  start = back.first b x comment fit once
-
-  abbrev count : ℕ
-  count = back.count b x comment fit once
-
   abbrev g : ℕ → ℕ
-  g = back.g b x comment fit once
+  g = source_variable (vs b x comment fit)
 
-  abbrev source : List Gate
-  source = back.gates b x comment fit once
+  abbrev gates : List Gate
+  gates = (source b x comment fit).gates
 
-  abbrev needs : ℕ → List ℕ
-  needs = gate_operands source
+  abbrev first : ℕ
+  first = start b x comment fit
 
-  abbrev place : ℕ → ℕ
-  place i = (back.recorded b x comment fit once i).place
+  -- as many as there are places
+  abbrev count : ℕ
+  count = length (places b x fit)
+
+  abbrev recorded : ℕ → MappedGate
+  recorded i = recorded_at b.gates i
 
   abbrev position : ℕ → ℕ
-  position = back.position b x comment fit once
+  position = position_at b.gates
+
+  recorded_many : count ≡ length b.gates
+  recorded_many = length-map b.gates (λ (m : MappedGate). m.place)
+
+  many : length gates ≡ count
+  many = gates_many b x comment fit ∙ sym recorded_many
+
+  image_many : count ≡ length x.gates
+  image_many = recorded_many ∙ fit.counts.gates
+
+  place_at : (i : ℕ) → i < count → get_or (places b x fit) i 0 ≡ (recorded i).place
+  place_at i low = get_or-map (λ (m : MappedGate). m.place) b.gates i none_recorded 0
+      (omega (arith, low, recorded_many))
+
+  position_there : (p : ℕ) → p < count → get_or (order b x fit) p 0 ≡ position p
+  position_there p low = get_or-map-range_with_len position 0 count p p 0 low (omega arith)
+
+  at_gate : (i : ℕ) → i < count → ((recorded i).place < count) × (position (recorded i).place ≡ i)
+  at_gate i low =
+      let here = (are b x fit).1 i (omega (arith, low, image_many)) in
+      let there : (recorded i).place < count = omega (arith, here.0, place_at i low, (too b x fit).0, image_many) in (
+        there,
+        sym (position_there (recorded i).place there) ∙ ap (λ p. get_or (order b x fit) p 0) (sym (place_at i low))
+            ∙ here.1,
+      )
+
+  at_place : (p : ℕ) → p < count → (position p < count) × ((recorded (position p)).place ≡ p)
+  at_place p low =
+      let here = (too b x fit).1 p (omega (arith, low, image_many)) in
+      let same = position_there p low in
+      let there : position p < count = omega (arith, here.0, same) in
+      (there, sym (place_at (position p) there) ∙ ap (λ k. get_or (places b x fit) k 0) (sym same) ∙ here.1)
+
+  -- a gate of the source is the one at its place, carried back
+  gate_at : (i : ℕ) → i < count → at gates i ≡ relabelled_gate g (gate_had x.gates (recorded i))
+  gate_at i low =
+      ap (λ (gs : List Gate). at gs i) (gates_are b x comment fit)
+      ∙ get_or-map (λ m. relabelled_gate g (gate_had x.gates m)) b.gates i none_recorded no_gate
+      (omega (arith, low, recorded_many))
+
+  gates_once : AreDistinct (variables gates)
+  gates_once =
+      let from : Circuit = source b x comment fit in
+      distinct_back (from.inputs ++ map (λ (l : Latch). l.var) from.latches) (variables gates) once
+
+  image_at : (q : ℕ) → q < count → ((at x.gates q).var ≡ first + q)
+      × ((at x.gates q).left < 2 * (at x.gates q).var) × ((at x.gates q).right ≤ (at x.gates q).left)
+  image_at q low = ordered_at first x.gates fit.ordered.gates q (omega (arith, low, image_many))
+
+  variable_at : (i : ℕ) → i < count → (at gates i).var ≡ g (first + (recorded i).place)
+  variable_at i low = ap (λ (h : Gate). h.var) (gate_at i low) ∙ ap g (image_at (recorded i).place (at_gate i low).0).0
+
+  -- a number that is carried back to a gate's variable is that of the gate's place
+  place_by_number : (i v : ℕ) → i < count → v < first + count → (at gates i).var ≡ g v
+      → v ≡ first + (recorded i).place
+  place_by_number i v low fits is =
+      let there = (at_gate i low).0 in
+      sym (back b x comment fit once v (omega (arith, fits, fit.ordered.all, image_many)))
+      ∙ ap (renumbered (vs b x comment fit)) (sym is ∙ variable_at i low)
+      ∙ back b x comment fit once (first + (recorded i).place) (omega (arith, there, fit.ordered.all, image_many))
+
+  abbrev needs : ℕ → List ℕ
+  needs = gate_operands gates
+
+  abbrev place : ℕ → ℕ
+  place i = (recorded i).place
 
   abbrev ready : ℕ → ℕ
-  ready = ready_at start x.gates
-
-  many : length source ≡ count
-  many = back.many b x comment fit once
-
-  at_place : (p : ℕ) → p < count → (position p < count) × (place (position p) ≡ p)
-  at_place = back.at_place b x comment fit once
-
-  at_gate : (i : ℕ) → i < count → (place i < count) × (position (place i) ≡ i)
-  at_gate = back.at_gate b x comment fit once
+  ready = ready_at first x.gates
 
   by_then : (q : ℕ) → q < count → ready q ≤ q
-  by_then q low = let h = back.image_at b x comment fit once q low in omega (arith, h.0, h.1)
+  by_then q low = let h = image_at q low in omega (arith, h.0, h.1)
 
   abbrev exchanged : ℕ → Bool
-  exchanged q = (back.recorded b x comment fit once (position q)).exchanged
+  exchanged q = (recorded (position q)).exchanged
 
   -- the source's gate of a place
   of_place : (q : ℕ) → q < count
-      → at source (position q) ≡ relabelled_gate g (exchanged_if (exchanged q) (at x.gates q))
+      → at gates (position q) ≡ relabelled_gate g (exchanged_if (exchanged q) (at x.gates q))
   of_place q low =
       let here = at_place q low in
-      back.gate_at b x comment fit once (position q) here.0
+      gate_at (position q) here.0
       ∙ ap (λ k. relabelled_gate g (exchanged_if (exchanged q) (at x.gates k))) here.1
-
-  abbrev Uses : ℕ → Gate → Type 0
-  Uses variable h = IsAmong variable (map variable_of (operands h))
 
   -- a gate that a gate needs has a place before its ready one
   enough : (q h : ℕ) → q < count → IsAmong h (needs (position q)) → (h < count) × (place h < ready q)
   enough q h low used =
-      let over = over_one source (position q) h (omega (arith, (at_place q low).0, many)) used in
+      let over = over_one gates (position q) h (omega (arith, (at_place q low).0, many)) used in
       let there : h < count = omega (arith, over.0, many) in
-      let v : ℕ = (at source h).var in
+      let v : ℕ = (at gates h).var in
       let uses = subst (Uses v) (of_place q low) over.1 in
-      let image = back.image_at b x comment fit once q low in
+      let image = image_at q low in
       let left : ℕ = variable_of (at x.gates q).left in
       let right : ℕ = variable_of (at x.gates q).right in (
         there,
         ⊎_elim (λ (e : v ≡ g left).
-            let number : left ≡ start + place h =
-            back.place_by_number b x comment fit once h left there (omega (arith, image.0, image.1, low)) e in
+            let number = place_by_number h left there (omega (arith, image.0, image.1, low)) e in
             omega (arith, number))
             (λ (e : v ≡ g right).
-            let number : right ≡ start + place h =
-            back.place_by_number b x comment fit once h right there (omega (arith, image.0, image.1, image.2, low)) e in
+            let number = place_by_number h right there (omega (arith, image.0, image.1, image.2, low)) e in
             omega (arith, number, image.2))
             (from_either g (at x.gates q) v (exchanged q) uses),
       )
@@ -99,26 +169,21 @@ module _ (b : MapBlock) (x : Circuit) (comment : Option (List ℕ)) (fit : IsFit
       let then : ready q ≤ q = by_then q low in
       let r_low : r < count = omega (arith, then, is, low) in
       let r_there = at_place r r_low in
-      let v : ℕ = (at source (position r)).var in
-      let number : start + place (position r) ≡ variable_of (at x.gates q).left = omega (arith, is, r_there.1) in
-      let same : v ≡ g (variable_of (at x.gates q).left) =
-      back.variable_at b x comment fit once (position r) r_there.0 ∙ ap g number in
-      needed_by source (back.gates_once b x comment fit once) (position q) (position r)
+      let v : ℕ = (at gates (position r)).var in
+      let number : first + place (position r) ≡ variable_of (at x.gates q).left = omega (arith, is, r_there.1) in
+      let same : v ≡ g (variable_of (at x.gates q).left) = variable_at (position r) r_there.0 ∙ ap g number in
+      needed_by gates gates_once (position q) (position r)
       (omega (arith, (at_place q low).0, many)) (omega (arith, r_there.0, many))
       (subst (Uses v) (sym (of_place q low)) (by_left g (at x.gates q) v (exchanged q) same))
 
-  position_there : (p : ℕ) → p < count → get_or (positions b.gates) p 0 ≡ position p
-  position_there = back.position_there b x comment fit once
-
-  pub in_turn : AreTakenInTurn start x.gates (positions b.gates)
+  pub in_turn : AreTakenInTurn first x.gates (positions b.gates)
       → IsLeastReadyOrder (undone b comment x) (positions b.gates)
   in_turn turn = record {
     in_turn = subst (λ n. TakesLeast n needs [] (positions b.gates)) (sym many)
         (least.takes_least count needs place position ready
         at_place at_gate enough last by_then
         (λ p q low behind free.
-        let less : get_or (positions b.gates) p 0 ≤ get_or (positions b.gates) q 0 =
-        turn p q (omega (arith, low, back.image_many b x comment fit once)) behind free in
+        let less = turn p q (omega (arith, low, image_many)) behind free in
         omega (arith, less, position_there p (omega (arith, behind, low)), position_there q low)));
     full = subst (λ n. IsFull n needs (positions b.gates)) (sym many)
         (least.takes_all count needs place position ready
@@ -126,17 +191,16 @@ module _ (b : MapBlock) (x : Circuit) (comment : Option (List ℕ)) (fit : IsFit
   }
 
   pub in_turn_where_least : IsLeastReadyOrder (undone b comment x) (positions b.gates)
-      → AreTakenInTurn start x.gates (positions b.gates)
+      → AreTakenInTurn first x.gates (positions b.gates)
   in_turn_where_least order p q low behind free =
-      let there : q < count = omega (arith, low, back.image_many b x comment fit once) in
+      let there : q < count = omega (arith, low, image_many) in
       let takes = subst (λ n. TakesLeast n needs [] (positions b.gates)) many order.in_turn in
-      let less : position p ≤ position q =
-      least.least_at_each count needs place position ready
+      let less = least.least_at_each count needs place position ready
       at_place at_gate enough last by_then takes p q there behind free in
       omega (arith, less, position_there p (omega (arith, behind, there)), position_there q there)
 
   -- so a test for the one tells the other
   pub tells_order : (n : ℕ) (gates : List Gate) (places : List ℕ) (recorded : Bool)
-      → n ≡ start → gates ≡ x.gates → places ≡ positions b.gates → IsTrue recorded ↔ AreTakenInTurn n gates places
+      → n ≡ first → gates ≡ x.gates → places ≡ positions b.gates → IsTrue recorded ↔ AreTakenInTurn n gates places
       → IsTrue recorded ↔ IsLeastReadyOrder (undone b comment x) (positions b.gates)
   tells_order n gates places recorded n_is gates_are places_are is = search (rules, in_turn, in_turn_where_least)

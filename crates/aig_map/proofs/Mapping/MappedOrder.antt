@@ -2,35 +2,23 @@
 use Rattle.std.proofs.Common.{rules}
 use Rattle.std.proofs.Common.{◌≡◌, ℕ, List, refl, sym, ap, subst, ◌∙◌}
 use Rattle.std.specs.Prelude.{Option}
-use Rattle.aig_circuit.specs.declared.circuit.Kind.{Kind}
-use Rattle.aig_circuit.specs.declared.circuit.Kind.TheVariants as kinds
 use Rattle.aig_circuit.specs.declared.circuit.Circuit.{Circuit}
-use Rattle.aig_circuit.specs.Wellformed.{IsWellFormed, count_of}
+use Rattle.aig_circuit.specs.Wellformed.{IsWellFormed}
 use Rattle.aig_topo.proofs.Ordering.LeastReady.{a_least_ready_order, one_least_ready_order}
 use Rattle.aig_checked.specs.BinaryOrder.{IsInBinaryOrder}
 use Rattle.aig_image.specs.Image.{image_by}
 use Rattle.aig_map.specs.MapBlock.{mapped_by, IsMappedImage}
 use Rattle.aig_image.proofs.Imaging.Ordered.{image_is_ordered}
-use Rattle.aig_image.proofs.Relabelling.Formed.{symbols_kept}
+use Rattle.aig_image.proofs.Relabelling.Formed.{symbols_kept, counts_kept}
 
 -- the same circuit with another comment
 module _ (c : Circuit) (comment : Option (List ℕ)) where
   abbrev commented : Circuit
   commented = record c { comment = comment }
 
-  -- there is as much that symbols may name
-  same_counts : (k : Kind) → count_of c k ≡ count_of commented k
-  same_counts kinds.Input = refl
-  same_counts kinds.Latch = refl
-  same_counts kinds.Output = refl
-  same_counts kinds.Bad = refl
-  same_counts kinds.Constraint = refl
-  same_counts kinds.Justice = refl
-  same_counts kinds.Fairness = refl
-
   -- it is well formed too
   pub comment_is_free : IsWellFormed c → IsWellFormed commented
-  comment_is_free good = search (rules, symbols_kept, same_counts)
+  comment_is_free good = search (rules, symbols_kept, counts_kept)
 
   -- and in binary order
   pub comment_keeps_order : IsInBinaryOrder c → IsInBinaryOrder commented

@@ -60,8 +60,7 @@ module _ (c : Circuit) (comment : List ℕ) where
   is_mapped_image r image good of_it tells (order, least, is) =
       let here : IsLeastReadyOrder c order = record { in_turn = least.in_turn; full = least.full } in
       let same : of_it.order ≡ order = one_least_ready_order c of_it.order order of_it.least here in
-      let block : block_by (number_of r.numbers) c ≡ map_block order c =
-      block_is c of_it.order (number_of r.numbers)
+      let block = block_is c of_it.order (number_of r.numbers)
       (same_names c of_it.order good of_it.least (number_of r.numbers) of_it.numbers.numbers)
       ∙ ap (λ at. map_block at c) same in
       let text = tells ∙ ap (λ (b : MapBlock). mapped_comment b c) block in

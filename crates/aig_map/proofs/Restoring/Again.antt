@@ -7,21 +7,19 @@ use Rattle.std.proofs.Common.{◌⊎◌, ⊎_elim, arith}
 use Rattle.std.specs.Prelude.{is_some, if◌then◌else◌}
 use Rattle.std.specs.List.{AllByRecursion}
 use Rattle.std.specs.Option.{unwrap_or}
-use Rattle.std.proofs.Math.Nat.{max-eq_left, min-eq_right}
 use Rattle.std.proofs.lemmas.Bool.{lt-ltb, le-ltb}
 use Rattle.std.proofs.lemmas.List.{length-map}
 use Rattle.std.proofs.lemmas.Simd.{map-map}
 use Rattle.aig_circuit.specs.declared.circuit.Gate.{Gate}
 use Rattle.aig_circuit.specs.declared.circuit.Circuit.{Circuit}
-use Rattle.aig_checked.specs.BinaryOrder.{AreOrderedGates}
 use Rattle.aig_circuit.specs.Wellformed.{AreDistinct, IsVariableUpTo, IsWellFormed, defined_variables}
 use Rattle.aig_circuit.proofs.Checking.Fitting.{all_weaker}
-use Rattle.aig_circuit.proofs.Makers.{gates_alike}
 use Rattle.aig_topo.proofs.Ordering.Ranked.{at, no_gate}
 use Rattle.aig_image.specs.Relabelled.{relabelled_gate, relabelled_latch, GateNames, NamesOnly}
 use Rattle.aig_image.specs.Renumbering.{renumbered, source_variable}
 use Rattle.aig_image.specs.Reordered.{converted, exchanged_if, has_smaller_first, operands_sorted}
 use Rattle.aig_image.proofs.Imaging.OneByOne.{ordered_at}
+use Rattle.aig_image.proofs.Numbering.Same.{sorted_already}
 use Rattle.aig_image.proofs.Relabelling.Lists.{map_nothing, map_where}
 use Rattle.aig_image.proofs.Relabelling.Relabelled.{names_only}
 use Rattle.aig_image.proofs.Relabelling.Relabelled.{gate_back}
@@ -48,11 +46,6 @@ was_this : (has : Bool) (rest : List ℕ) → (has ≡ true) ⊎ (rest ≡ [])
 was_this true rest recorded = refl
 was_this false rest recorded =
     ⊎_elim (λ (e : false ≡ true). let bad : ⊥ = cc in absurd bad) (λ (e : rest ≡ []). sym e) recorded
-
--- gates in binary order have sorted operands
-sorted : (v : ℕ) (gates : List Gate) → AreOrderedGates v gates → map operands_sorted gates ≡ gates
-sorted v [] ordered = refl
-sorted v (g ∷ gs) ordered = search (rules, gates_alike, max-eq_left, min-eq_right, sorted (suc v) gs ordered.3)
 
 -- of sorted operands, two different ones are exchanged where the smaller one is first
 exchanged_back : (e : Bool) (g : Gate) → g.right ≤ g.left → (e ≡ true → g.left ≢ g.right)
@@ -119,8 +112,7 @@ module _ (b : MapBlock) (x : Circuit) (rest : List ℕ) (fit : IsFit b x) (good 
       let Again : MappedGate → Type 0 = λ m. mapped_gate f first (made m) ≡ m in
       let Differs : MappedGate → Type 0 =
       λ m. m.exchanged ≡ true → (at x.gates m.place).left ≢ (at x.gates m.place).right in
-      let all : AllByRecursion Again b.gates =
-      by_places Again none_recorded b.gates (λ i low.
+      let all = by_places Again none_recorded b.gates (λ i low.
       let m : MappedGate = recorded_at b.gates i in
       let within = at_place (λ (h : MappedGate). IsVariableUpTo b.max_var h.var × (h.place < length b.gates))
       none_recorded
@@ -152,16 +144,14 @@ module _ (b : MapBlock) (x : Circuit) (rest : List ℕ) (fit : IsFit b x) (good 
   pub image_again : x.comment ≡ Some (block_text b ++ rest) → TellsExchanges x.gates b.gates
       → TellsComment b.has_comment rest → mapped_by (order b x fit) from ≡ x
   image_again begins exchanges tells =
-      let text : Some (block_text (map_block (order b x fit) from) ++ unwrap_or comment []) ≡ x.comment =
-      ap₂ (λ (block : MapBlock) (behind : List ℕ). Some (block_text block ++ behind)) (block_again exchanges)
+      let text = ap₂ (λ (block : MapBlock) (behind : List ℕ). Some (block_text block ++ behind)) (block_again exchanges)
       (was_this b.has_comment rest tells)
       ∙ sym begins in
       let by : List ℕ → Circuit = λ ns. converted (renumbered ns) (order b x fit) from in
-      let circuit : by us ≡ record x { max_var = b.max_var; comment = comment } =
-      ap (λ (d : Circuit). record d { max_var = b.max_var; comment = comment })
+      let circuit = ap (λ (d : Circuit). record d { max_var = b.max_var; comment = comment })
       (restored_is_converted f g (order b x fit) (places b x fit) (exchanges_recorded b.gates) x refl names
       (too b x fit)
-      (sorted (start b x comment fit) x.gates fit.ordered.gates)) in
+      (sorted_already (start b x comment fit) x.gates fit.ordered.gates)) in
       let new : List ℕ → Circuit = λ ns.
       record (by ns) { max_var = length ns; comment = (mapped_by (order b x fit) from).comment } in
       ap new (new_is b x comment fit)

@@ -11,9 +11,9 @@ use Rattle.aig_image.specs.Relabelled.{relabelled_gate}
 use Rattle.aig_image.specs.Renumbering.{source_variable}
 use Rattle.aig_image.specs.Reordered.{ArePlaces, exchanged_by, exchanged_if, taken}
 use Rattle.aig_image.proofs.Relabelling.Exchanged.{exchanged_each}
-use Rattle.aig_image.proofs.Relabelling.Formed.{all_through}
 use Rattle.aig_image.proofs.Relabelling.Lists.{map_each}
-use Rattle.aig_image.proofs.Relabelling.Positions.{places_apart, places_have_positions}
+use Rattle.aig_image.proofs.Relabelling.Positions.{places_apart}
+use Rattle.aig_map.proofs.Restoring.Places.{place_each}
 use Rattle.aig_image.proofs.Relabelling.Reordered.{taken_back, taken_mapped}
 use Rattle.aig_image.proofs.Relabelling.Standing.{by_places}
 use Rattle.aig_map.specs.declared.map_block.MappedGate.{MappedGate}
@@ -36,12 +36,7 @@ module _ (gates : List Gate) (recorded : List MappedGate) (once : AreDistinct (p
   as_many = length-map recorded (λ (g : MappedGate). g.place) ∙ many
 
   both : ArePlaces (positions recorded) places (length gates) × ArePlaces places (positions recorded) (length gates)
-  both =
-      let within : AllByRecursion (λ p. p < length places) places =
-      all_through (λ (g : MappedGate). g.place < length gates) (λ p. p < length places) (λ (g : MappedGate). g.place)
-      (λ g low. omega (arith, low, as_many)) recorded there in
-      subst (λ n. ArePlaces (positions recorded) places n × ArePlaces places (positions recorded) n) as_many
-      (places_have_positions places once within)
+  both = place_each recorded (length gates) once there many
 
   -- there are as many positions as gates, each is below their count, and no two are the same
   pub positions_many : length (positions recorded) ≡ length gates
@@ -76,13 +71,10 @@ module _ (gates : List Gate) (recorded : List MappedGate) (once : AreDistinct (p
     pub gates_exchanged : exchanged_by (exchanges_recorded recorded) (gates_there f gates recorded)
         ≡ map (relabelled_gate f) (map (gate_had gates) recorded)
     gates_exchanged =
-        ap (exchanged_by (exchanges_recorded recorded))
-        (ap (map (relabelled_gate f)) (map-map (at gates) (λ (m : MappedGate). m.place) recorded)
-        ∙ map-map (relabelled_gate f) (λ (m : MappedGate). at gates m.place) recorded)
-        ∙ exchanged_each (λ (m : MappedGate). m.exchanged) (λ m. relabelled_gate f (at gates m.place)) recorded
+        simp map-map
+        (exchanged_each (λ (m : MappedGate). m.exchanged) (λ m. relabelled_gate f (at gates m.place)) recorded
         ∙ map_each (λ m. exchanged_if m.exchanged (relabelled_gate f (at gates m.place)))
-        (λ m. relabelled_gate f (gate_had gates m)) (λ m. exchanged_too m.exchanged (at gates m.place)) recorded
-        ∙ sym (map-map (relabelled_gate f) (gate_had gates) recorded)
+        (λ m. relabelled_gate f (gate_had gates m)) (λ m. exchanged_too m.exchanged (at gates m.place)) recorded)
 
 -- a block that tells of the gates of a circuit, and the tables that are made of it
 module _ (b : MapBlock) (x : Circuit) (counts : HasCountsOf b x) (bounds : IsWithinBounds b)

@@ -13,12 +13,14 @@ use Rattle.aig_circuit.specs.Wellformed.{AreDistinct, IsVariableUpTo}
 use Rattle.aig_image.specs.Reordered.{ArePlaces, positions_of}
 use Rattle.aig_image.proofs.Relabelling.Formed.{all_through}
 use Rattle.aig_image.proofs.Relabelling.Lists.{map_each}
-use Rattle.aig_image.proofs.Relabelling.Positions.{places_have_positions}
+use Rattle.aig_image.proofs.Numbering.Places.{further}
+use Rattle.aig_image.proofs.Relabelling.Positions.{have_positions}
 use Rattle.aig_image.proofs.Relabelling.Standing.{at_place, by_places}
 use Rattle.aig_map.specs.declared.map_block.MappedGate.{MappedGate}
 use Rattle.aig_map.specs.declared.map_block.MapBlock.{MapBlock}
 use Rattle.aig_map.specs.MapReading.{HasCountsOf, IsWithinBounds}
 use Rattle.aig_map.specs.Undone.{places_recorded, variable_at_place}
+use Rattle.aig_map.proofs.Sources.SourceVariables.{places_there}
 
 -- a circuit in binary order, and a block that fits it
 pub record IsFit (b : MapBlock) (x : Circuit) : Type 0 where
@@ -32,10 +34,6 @@ variables_recorded gates = map (λ (g : MappedGate). g.var) gates
 
 abbrev pub position_at : List MappedGate → ℕ → ℕ
 position_at gates place = position_or_len (λ p. eqb p place) (places_recorded gates)
-
--- one place further, behind one more
-further : (v n : ℕ) (vs : List ℕ) → get_or (v ∷ vs) (1 + n) 0 ≡ get_or vs n 0
-further v n vs = let same : 1 + n ≡ suc n = omega arith in ap (λ k. get_or (v ∷ vs) k 0) same
 
 -- the variable at a place is that of the gate at this place's position
 variable_by_position : (gates : List MappedGate) (p : ℕ)
@@ -52,6 +50,16 @@ pub by_position : (gates : List MappedGate) → map (variable_at_place gates) (r
     ≡ map (λ at. get_or (variables_recorded gates) at 0) (positions_of (places_recorded gates))
 by_position gates = search (rules, map_each, variable_by_position, length-map, map-map)
 
+-- distinct places of so many gates are each that of one of them
+pub place_each : (gates : List MappedGate) (n : ℕ) → AreDistinct (places_recorded gates)
+    → AllByRecursion (λ (g : MappedGate). g.place < n) gates → length gates ≡ n
+    → ArePlaces (positions_of (places_recorded gates)) (places_recorded gates) n
+    × ArePlaces (places_recorded gates) (positions_of (places_recorded gates)) n
+place_each gates n once below many =
+    have_positions n (places_recorded gates) once
+    (all_through (λ (g : MappedGate). g.place < n) (λ p. p < n) (λ (g : MappedGate). g.place) (λ g low. low) gates below)
+    (length-map gates (λ (g : MappedGate). g.place) ∙ many)
+
 module _ (b : MapBlock) (x : Circuit) (fit : IsFit b x) where
   abbrev pub places : List ℕ
   places = places_recorded b.gates
@@ -59,20 +67,17 @@ module _ (b : MapBlock) (x : Circuit) (fit : IsFit b x) where
   abbrev pub order : List ℕ
   order = positions_of places
 
-  many : length places ≡ length x.gates
-  many = length-map b.gates (λ (g : MappedGate). g.place) ∙ fit.counts.gates
-
-  below : AllByRecursion (λ p. p < length places) places
-  below =
-      all_through (λ (g : MappedGate). IsVariableUpTo b.max_var g.var × (g.place < length b.gates))
-      (λ p. p < length places) (λ (g : MappedGate). g.place)
-      (λ g e. omega (arith, e.1, length-map b.gates (λ (g : MappedGate). g.place))) b.gates fit.bounds.gates
+  both : ArePlaces order places (length x.gates) × ArePlaces places order (length x.gates)
+  both =
+      place_each b.gates (length x.gates) fit.once
+      (places_there b.max_var (length b.gates) b.gates fit.bounds.gates (length x.gates) fit.counts.gates)
+      fit.counts.gates
 
   pub are : ArePlaces order places (length x.gates)
-  are = subst (ArePlaces order places) many (places_have_positions places fit.once below).0
+  are = both.0
 
   pub too : ArePlaces places order (length x.gates)
-  too = subst (ArePlaces places order) many (places_have_positions places fit.once below).1
+  too = both.1
 
   -- the variables by place are in range too
   pub row_in_range : AllByRecursion (IsVariableUpTo b.max_var)
@@ -83,8 +88,7 @@ module _ (b : MapBlock) (x : Circuit) (fit : IsFit b x) where
       let recorded : AllByRecursion InRange all =
       all_through (λ (g : MappedGate). InRange g.var × (g.place < length b.gates)) InRange (λ (g : MappedGate). g.var)
       (λ g e. e.0) b.gates fit.bounds.gates in
-      let there : AllByRecursion (λ i. i < length all) order =
-      by_places (λ i. i < length all) 0 order (λ p low.
+      let there = by_places (λ i. i < length all) 0 order (λ p low.
       omega (
         arith,
         (too.1 p (omega (arith, low, too.0))).0,

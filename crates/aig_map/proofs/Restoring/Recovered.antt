@@ -17,8 +17,9 @@ use Rattle.aig_topo.proofs.Ordering.Steps.{all_of}
 use Rattle.aig_image.specs.Relabelled.{relabelled_gate, NamesOnly}
 use Rattle.aig_image.specs.Renumbering.{in_new_order, renumbered, source_variable}
 use Rattle.aig_image.specs.Reordered.{ArePlaces, converted, operands_sorted, positions_of, restored, taken}
-use Rattle.aig_image.proofs.Numbering.Places.{back_variable, back_again, by_place}
-use Rattle.aig_image.proofs.Imaging.Members.{all_taken, has_defined, is_defined, new_once, order_is_places}
+use Rattle.aig_image.proofs.Numbering.OneToOne.{number_there}
+use Rattle.aig_image.proofs.Imaging.Ordered.{names_go_back}
+use Rattle.aig_image.proofs.Imaging.Members.{all_taken, order_is_places}
 use Rattle.aig_image.proofs.Relabelling.Relabelled.{names_only}
 use Rattle.aig_image.proofs.Relabelling.Positions.{positions_are}
 use Rattle.aig_image.proofs.Relabelling.Restored.{converted_in_places, converted_is_restored, variables_taken}
@@ -62,9 +63,6 @@ module _ (c : Circuit) (order : List ℕ) (good : IsWellFormed c) (least : IsLea
   many : length order ≡ length c.gates
   many = all_taken c order good least
 
-  some : (v : ℕ) → IsAmong v vs → 1 ≤ v
-  some v a = search (rules, each, is_defined)
-
   -- the gate that is taken at a place has the number of this place
   number_taken : (j : ℕ) → j < length order → f (at c.gates (get_or order j 0)).var ≡ start + j
   number_taken j low =
@@ -72,18 +70,17 @@ module _ (c : Circuit) (order : List ℕ) (good : IsWellFormed c) (least : IsLea
       let now_many : length now ≡ length order = length-map order (at c.gates) in
       let vars_many : length (variables now) ≡ length now = length-map now (λ (h : Gate). h.var) in
       let k : ℕ = length first + j in
-      let is : get_or vs k 0 ≡ (at c.gates (get_or order j 0)).var =
-      get_or-append-add first (variables now) j 0
+      let is = get_or-append-add first (variables now) j 0
       ∙ get_or-map (λ (h : Gate). h.var) now j no_gate 0 (omega (arith, low, now_many))
       ∙ ap (λ (h : Gate). h.var) (get_or-map (at c.gates) order j 0 no_gate low) in
-      let fits : 1 + k ≤ length vs = omega (arith, low, now_many, vars_many, length-append first (variables now)) in
+      let fits : k < length vs = omega (arith, low, now_many, vars_many, length-append first (variables now)) in
       let number : 1 + k ≡ start + j =
       omega (
         arith,
         length-append c.inputs (map (λ (l : Latch). l.var) c.latches),
         length-map c.latches (λ (l : Latch). l.var),
       ) in
-      ap f (sym is ∙ sym (by_place vs k)) ∙ back_again vs (new_once c order good least) some (1 + k) fits ∙ number
+      ap f (sym is) ∙ number_there c order good least k fits ∙ number
 
   -- the place that is recorded of a gate
   pub place_at : (i : ℕ) → i < length c.gates → get_or places i 0 ≡ (tell (at c.gates i)).place
@@ -122,12 +119,6 @@ module _ (c : Circuit) (order : List ℕ) (good : IsWellFormed c) (least : IsLea
       (by_position recorded ∙ ap₂ pick (map-map (λ (m : MappedGate). m.var) tell c.gates) order_is
       ∙ sym (variables_taken c.gates order))
 
-  names : NamesOnly (λ v. g (f v) ≡ v) c
-  names =
-      names_only (λ v. g (f v) ≡ v) c refl
-      (all_of (λ v. g (f v) ≡ v) (defined_variables c) (λ v a.
-      back_variable vs v (inr (has_defined c order good least v a)))) good
-
   pub carried_back : undone (map_block order c) (comment_behind (map_block order c) (unwrap_or c.comment []))
       (mapped_by order c) ≡ c
   carried_back =
@@ -138,7 +129,7 @@ module _ (c : Circuit) (order : List ℕ) (good : IsWellFormed c) (least : IsLea
       ap (λ ns. by ns flags (mapped_by order c)) variables_back
       ∙ ap (λ es. by vs es (converted f order c)) (map-map (λ (m : MappedGate). m.exchanged) tell c.gates)
       ∙ ap (λ (d : Circuit). record d { max_var = c.max_var; comment = comment })
-      (converted_is_restored f g order places c refl names are)
+      (converted_is_restored f g order places c refl (names_go_back c order good least) are)
       ∙ ap (λ text. record c { comment = text }) (comment_kept c.comment (map_block order c) refl)
 
   -- the images of the gates, from their places

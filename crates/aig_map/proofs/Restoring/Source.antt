@@ -2,28 +2,30 @@
 -- tells of, and its gates are those at the places.
 use Rattle.std.proofs.Common.{rules}
 use Rattle.std.proofs.Common.{◌≡◌, ◌+◌, ◌<◌, ◌≤◌, ℕ, zero, suc, List, [], ◌∷◌, ◌++◌, Option, length, length-append}
-use Rattle.std.proofs.Common.{get_or, map}
-use Rattle.std.proofs.Common.{refl, sym, ap, subst, ◌∙◌, arith}
+use Rattle.std.proofs.Common.{get_or, map, take, drop}
+use Rattle.std.proofs.Common.{refl, sym, ap, subst, ◌∙◌, arith, Bool}
 use Rattle.std.specs.List.{AllByRecursion, range_with_len}
-use Rattle.std.proofs.lemmas.List.{ext_get_or, length-map, get_or-map, get_or-append-add}
+use Rattle.std.proofs.lemmas.List.{ext_get_or, length-map, get_or-map, get_or-append-add, take_at, drop_at}
 use Rattle.std.proofs.lemmas.List.FromFn.{length-map-range_with_len, get_or-map-range_with_len}
 use Rattle.std.proofs.lemmas.Simd.{map-map}
 use Rattle.aig_circuit.specs.declared.circuit.Latch.{Latch}
 use Rattle.aig_circuit.specs.declared.circuit.Gate.{Gate}
 use Rattle.aig_circuit.specs.declared.circuit.Circuit.{Circuit}
-use Rattle.aig_circuit.specs.Wellformed.{AreDistinct, IsVariableUpTo, defined_variables}
-use Rattle.aig_circuit.proofs.Checking.Fitting.{each}
+use Rattle.aig_circuit.specs.Wellformed.{AreDistinct, IsVariableUpTo, defined_variables, IsWellFormed}
+use Rattle.aig_circuit.proofs.Checking.Fitting.{each, all_weaker}
 use Rattle.aig_circuit.proofs.Checking.InForm.{joined}
 use Rattle.aig_checked.proofs.Numbered.Ranges.{variables_are}
 use Rattle.aig_topo.proofs.Ordering.Ranked.{at}
 use Rattle.aig_image.specs.Relabelled.{relabelled, relabelled_gate, relabelled_latch}
 use Rattle.aig_image.specs.Renumbering.{in_new_order, renumbered, source_variable}
-use Rattle.aig_image.specs.Reordered.{ArePlaces, exchanged_by, taken}
+use Rattle.aig_image.specs.Reordered.{ArePlaces, exchanged_by, taken, reordered, with_operands_exchanged}
 use Rattle.aig_image.proofs.Numbering.Places.{by_place, back_again}
-use Rattle.aig_image.proofs.Relabelling.Exchanged.{exchanged_each}
-use Rattle.aig_image.proofs.Relabelling.Permuted.{order_keeps_once}
+use Rattle.aig_image.proofs.Relabelling.Exchanged.{exchanged_each, exchange_keeps_form}
+use Rattle.aig_image.proofs.Relabelling.Permuted.{order_keeps_once, order_keeps_form}
 use Rattle.aig_image.proofs.Relabelling.Restored.{defined_in_order}
 use Rattle.aig_image.proofs.Relabelling.Standing.{at_place}
+use Rattle.aig_image.proofs.Relabelling.Formed.{form_is_kept}
+use Rattle.aig_image.proofs.Relabelling.Relabelled.{names_only}
 use Rattle.aig_map.specs.declared.map_block.MappedGate.{MappedGate}
 use Rattle.aig_map.specs.declared.map_block.MapBlock.{MapBlock}
 use Rattle.aig_map.specs.Parts.Had.{without_gates}
@@ -42,14 +44,10 @@ carried vs =
 
 -- equal lists in two parts of equal lengths have equal parts
 parts : (xs ys s t : List ℕ) → length xs ≡ length ys → xs ++ s ≡ ys ++ t → (xs ≡ ys) × (s ≡ t)
-parts [] [] s t long e = (refl, e)
-parts [] (y ∷ ys) s t long e = absurd (omega (arith, long))
-parts (x ∷ xs) [] s t long e = absurd (omega (arith, long))
-parts (x ∷ xs) (y ∷ ys) s t long e =
-    let first : x ≡ y = cc in
-    let others : xs ++ s ≡ ys ++ t = cc in
-    let later = parts xs ys s t (omega (arith, long)) others in
-    (ap (λ z. z ∷ xs) first ∙ ap (λ zs. y ∷ zs) later.0, later.1)
+parts xs ys s t long e = (
+  sym (take_at xs s (length ys) long) ∙ ap (take (length ys)) e ∙ take_at ys t (length ys) refl,
+  sym (drop_at xs s (length ys) long) ∙ ap (drop (length ys)) e ∙ drop_at ys t (length ys) refl,
+)
 
 -- the gates at the places, with their operands as they were
 pub gates_had : (gates : List Gate) (recorded : List MappedGate)
@@ -104,10 +102,8 @@ module _ (b : MapBlock) (x : Circuit) (comment : Option (List ℕ)) (fit : IsFit
   first_is =
       let g : ℕ → ℕ = source_variable vs in
       let latches : List ℕ = map (λ (l : Latch). l.var) source.latches in
-      let inputs_many : length source.inputs ≡ length b.inputs =
-      length-map x.inputs g ∙ sym fit.counts.inputs in
-      let latches_many : length latches ≡ length b.latches =
-      length-map source.latches (λ (l : Latch). l.var) ∙ length-map x.latches (relabelled_latch g)
+      let inputs_many = length-map x.inputs g ∙ sym fit.counts.inputs in
+      let latches_many = length-map source.latches (λ (l : Latch). l.var) ∙ length-map x.latches (relabelled_latch g)
       ∙ sym fit.counts.latches in
       let both =
       (parts (source.inputs ++ latches) first _ row
@@ -126,8 +122,7 @@ module _ (b : MapBlock) (x : Circuit) (comment : Option (List ℕ)) (fit : IsFit
       → source_variable vs (start + (recorded_at b.gates i).place) ≡ (recorded_at b.gates i).var
   variable_there i low =
       let p : ℕ = (recorded_at b.gates i).place in
-      let at_i : get_or (places b x fit) i 0 ≡ p =
-      get_or-map (λ (m : MappedGate). m.place) b.gates i none_recorded 0 low in
+      let at_i = get_or-map (λ (m : MappedGate). m.place) b.gates i none_recorded 0 low in
       let here = (are b x fit).1 i (omega (arith, low, fit.counts.gates)) in
       let number : start + p ≡ 1 + (length first + p) = omega (arith, first_many) in
       ap (source_variable vs) number ∙ by_place vs (length first + p) ∙ get_or-append-add first row p 0
@@ -167,3 +162,22 @@ module _ (b : MapBlock) (x : Circuit) (comment : Option (List ℕ)) (fit : IsFit
     back v low =
         back_again vs vs_once (λ w a. (each (IsVariableUpTo b.max_var) vs vs_in_range w a).0) v
         (omega (arith, low, as_many))
+
+pub well_formed_again : (b : MapBlock) (x : Circuit) (comment : Option (List ℕ)) → IsWellFormed x → IsFit b x
+    → AreDistinct (defined_variables (undone b comment x)) → IsWellFormed (undone b comment x)
+well_formed_again b x comment good fit once =
+    let us : List ℕ = vs b x comment fit in
+    let f : ℕ → ℕ = renumbered us in
+    let g : ℕ → ℕ = source_variable us in
+    let flags : List Bool = exchanges_recorded b.gates in
+    let moved : Circuit = with_operands_exchanged flags (reordered (places b x fit) x) in
+    let moved_good = exchange_keeps_form flags (reordered (places b x fit) x)
+    (order_keeps_form (places b x fit) (order b x fit) x (too b x fit) (are b x fit) good) in
+    let InRange : ℕ → Type 0 = IsVariableUpTo x.max_var in
+    let kept : AllByRecursion (λ v. f (g v) ≡ v) (defined_variables moved) =
+    all_weaker InRange (λ v. f (g v) ≡ v) (λ v range. back b x comment fit once v range.1) (defined_variables moved)
+    moved_good.in_range in
+    form_is_kept g f b.max_var comment moved moved_good refl
+    (names_only (λ v. f (g v) ≡ v) moved refl kept moved_good) fit.bounds.max_var
+    (all_weaker InRange (λ v. IsVariableUpTo b.max_var (g v)) (in_range b x comment fit) (defined_variables moved)
+    moved_good.in_range)

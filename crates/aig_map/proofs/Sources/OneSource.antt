@@ -23,17 +23,9 @@ use Rattle.aig_map.specs.declared.map_block.MappedGate.{MappedGate}
 use Rattle.aig_map.specs.declared.map_block.MapBlock.{MapBlock}
 use Rattle.aig_map.specs.MapBlock.{mapped_gate, map_block, mapped_by, IsMappedImage}
 use Rattle.aig_map.specs.MapReading.{block_reading, HasCountsOf, IsWithinBounds}
-use Rattle.aig_map.specs.Undone.{undone, comment_behind, IsUndoneFrom}
+use Rattle.aig_map.specs.Undone.{undone, comment_behind, places_recorded, IsUndoneFrom}
 use Rattle.aig_map.proofs.BlockReading.Block.{block_is_read}
 use Rattle.aig_map.proofs.Restoring.Recovered.{are, carried_back, place_at, places}
-
--- the circuit is undone from x by the block that is read of it
-pub record IsRecovered (x c : Circuit) : Type 0 where
-  pub block : MapBlock
-  pub rest : List ℕ
-  pub read : block_reading x ≡ Ok (block, rest)
-  pub places : AreDistinct (map (λ (g : MappedGate). g.place) block.gates)
-  pub is : c ≡ undone block (comment_behind block rest) x
 
 module _ (c : Circuit) (order : List ℕ) (good : IsWellFormed c) (least : IsLeastReadyOrder c order) where
   abbrev f : ℕ → ℕ
@@ -61,13 +53,10 @@ module _ (c : Circuit) (order : List ℕ) (good : IsWellFormed c) (least : IsLea
   -- what the block tells is within bounds
   within : IsWithinBounds (map_block order c)
   within =
-      let before : AllByRecursion InRange (c.inputs ++ latches) =
-      front InRange (c.inputs ++ latches) (variables c.gates) good.in_range in
-      let vars : AllByRecursion InRange (variables c.gates) =
-      back InRange (c.inputs ++ latches) (variables c.gates) good.in_range in
+      let before = front InRange (c.inputs ++ latches) (variables c.gates) good.in_range in
+      let vars = back InRange (c.inputs ++ latches) (variables c.gates) good.in_range in
       let IsGood : MappedGate → Type 0 = λ m. InRange m.var × (m.place < length recorded) in
-      let gates : AllByRecursion (λ h. IsGood (tell h)) c.gates =
-      by_places (λ h. IsGood (tell h)) no_gate c.gates (λ i low. (
+      let gates = by_places (λ h. IsGood (tell h)) no_gate c.gates (λ i low. (
         subst InRange (get_or-map (λ (h : Gate). h.var) c.gates i no_gate 0 low)
             (at_place InRange 0 (variables c.gates) vars i
             (omega (arith, low, length-map c.gates (λ (h : Gate). h.var)))),
@@ -87,6 +76,9 @@ module _ (c : Circuit) (order : List ℕ) (good : IsWellFormed c) (least : IsLea
         gates = all_through (λ h. IsGood (tell h)) IsGood tell (λ h e. e) c.gates gates;
       }
 
+  recorded_once : AreDistinct (places_recorded recorded)
+  recorded_once = places_apart order (places c order good least) (length c.gates) (are c order good least)
+
   -- the circuit is undone from its mapped image
   undone_from_mapped : IsUndoneFrom (mapped_by order c) c
   undone_from_mapped = record {
@@ -94,7 +86,7 @@ module _ (c : Circuit) (order : List ℕ) (good : IsWellFormed c) (least : IsLea
     rest = unwrap_or c.comment [];
     begins = refl;
     counts = counts;
-    places = places_apart order (places c order good least) (length c.gates) (are c order good least);
+    places = recorded_once;
     is = sym (carried_back c order good least);
     well_formed = good;
     image = (order, least, refl);
@@ -104,35 +96,31 @@ module _ (c : Circuit) (order : List ℕ) (good : IsWellFormed c) (least : IsLea
   pub mapped_reading : block_reading (mapped_by order c) ≡ Ok (map_block order c, unwrap_or c.comment [])
   mapped_reading = block_is_read (mapped_by order c) (map_block order c) (unwrap_or c.comment []) refl counts within
 
-  -- undoes it
-  recovered_from_mapped : IsRecovered (mapped_by order c) c
-  unfolding undone_from_mapped
-  recovered_from_mapped = record {
-    block = map_block order c;
-    rest = unwrap_or c.comment [];
-    read = mapped_reading;
-    places = undone_from_mapped.places;
-    is = undone_from_mapped.is;
-  }
-
--- what is read of a mapped image, and what it undoes
-pub recovered : (c x : Circuit) → IsWellFormed c → IsMappedImage c x → IsRecovered x c
-recovered c x good is = subst (λ (y : Circuit). IsRecovered y c) (sym is.2) (recovered_from_mapped c is.0 good is.1)
-
 -- one thing is read
 pub one_reading : (reading : Result (MapBlock × List ℕ) MapFault) (recorded other : MapBlock × List ℕ)
     → reading ≡ Ok recorded → reading ≡ Ok other → recorded ≡ other
 one_reading reading recorded other is is_too = cc
 
+-- a block is read of a mapped image
+pub is_read : (c x : Circuit) → IsWellFormed c → IsMappedImage c x
+    → (r : MapBlock × List ℕ) × (block_reading x ≡ Ok r)
+is_read c x good (order, least, is) =
+    ((map_block order c, unwrap_or c.comment []), ap block_reading is ∙ mapped_reading c order good least)
+
+-- and what is read undoes it
+pub undone_by_read : (c x : Circuit) (r : MapBlock × List ℕ) → IsWellFormed c → IsMappedImage c x
+    → block_reading x ≡ Ok r → AreDistinct (places_recorded r.0.gates) × (c ≡ undone r.0 (comment_behind r.0 r.1) x)
+undone_by_read c x r good (order, least, is) read =
+    let same : (map_block order c, unwrap_or c.comment []) ≡ r = one_reading (block_reading x) _ r
+    (ap block_reading is ∙ mapped_reading c order good least) read in
+    subst (λ (s : MapBlock × List ℕ). AreDistinct (places_recorded s.0.gates) × (c ≡ undone s.0 (comment_behind s.0 s.1) x))
+    same (recorded_once c order good least, rw is (sym (carried_back c order good least)))
+
 -- no two well-formed circuits have one mapped image
 pub one_source : (c d x : Circuit) → IsWellFormed c → IsWellFormed d → IsMappedImage c x → IsMappedImage d x → c ≡ d
 one_source c d x good good_too is is_too =
-    let first = recovered c x good is in
-    let second = recovered d x good_too is_too in
-    let read : (first.block, first.rest) ≡ (second.block, second.rest) =
-    one_reading (block_reading x) (first.block, first.rest) (second.block, second.rest) first.read second.read in
-    first.is ∙ ap (λ (recorded : MapBlock × List ℕ). undone recorded.0 (comment_behind recorded.0 recorded.1) x) read
-    ∙ sym second.is
+    let read = is_read c x good is in
+    (undone_by_read c x read.0 good is read.1).1 ∙ sym (undone_by_read d x read.0 good_too is_too read.1).1
 
 pub undoing_recovers : (c image : Circuit) → IsWellFormed c → IsMappedImage c image
     → IsUndoneFrom image c × ((other : Circuit) → IsUndoneFrom image other → other ≡ c)

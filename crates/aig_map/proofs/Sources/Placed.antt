@@ -2,18 +2,32 @@
 use Rattle.std.proofs.Common.{rules}
 use Rattle.std.proofs.Common.{◌≡◌, ◌≢◌, ◌<◌, ℕ, zero, suc, List, [], ◌∷◌, Some, None, true, false}
 use Rattle.std.proofs.Common.{length, map, get_or, set, replicate, refl, sym, subst, ◌∙◌, inl, inr, ⊎_elim, arith}
-use Rattle.std.proofs.Common.{eqb, zero-add, get_or-set_same, get_or-set_other}
+use Rattle.std.proofs.Common.{eqb, zero-add, get_or-set_same, get_or-set_other, ◌≤◌, Option, eqb-true}
 use Rattle.std.specs.Prelude.{◌==◌, if◌then◌else◌}
 use Rattle.std.specs.List.{AllByRecursion, range_with_len}
 use Rattle.std.proofs.lemmas.Bool.Decides.{eqb_tells}
-use Rattle.std.proofs.lemmas.Grind.{same_number_lists}
+use Rattle.std.proofs.lemmas.Grind.{same_number_lists, common_steps}
 use Rattle.std.proofs.lemmas.List.{length-set, length-replicate}
 use Rattle.std.proofs.lemmas.List.FromFn.{get_or-map-range_with_len, length-map-range_with_len}
+use Rattle.std.proofs.lemmas.Bool.{ne_eqb}
 use Rattle.aig_circuit.specs.Wellformed.{IsAmong, AreDistinct, IsVariableUpTo}
 use Rattle.aig_map.specs.declared.map_block.MappedGate.{MappedGate}
 use Rattle.aig_map.specs.Parts.Placed.{with_gates, table_of}
 use Rattle.aig_map.specs.Undone.{places_recorded, variable_at_place}
-use Rattle.aig_map.proofs.Sources.AtZero.{only_at_zero, at_zero, elsewhere, or_zero}
+
+-- what goes on only where a number is 0, and gives something, went on
+pub only_at_zero : (v : ℕ) (next : Option (List ℕ)) (table : List ℕ)
+    → (if v == 0 then next else None) ≡ Some table → (v ≡ 0) × (next ≡ Some table)
+only_at_zero v next table is = search (rules, eqb-true)
+
+pub at_zero : {X : Type 0} (v : ℕ) (x y : X) → v ≡ 0 → (if v == 0 then x else y) ≡ x
+at_zero v x y free = subst (λ w. (if w == 0 then x else y) ≡ x) (sym free) refl
+
+pub elsewhere : (v x y : ℕ) → 1 ≤ v → (if v == 0 then x else y) ≡ y
+elsewhere v x y some = let differs : v ≢ 0 = omega (arith, some) in rw (ne_eqb v 0 differs) refl
+
+pub or_zero : (v : ℕ) → v ≡ (if v == 0 then 0 else v)
+or_zero v = grind (arith, common_steps)
 
 -- the variable of a place is that of the first gate if it has this place, and otherwise that of a later gate
 module _ (g : MappedGate) (gates : List MappedGate) (p : ℕ) where

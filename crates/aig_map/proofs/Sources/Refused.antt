@@ -21,8 +21,7 @@ use Rattle.aig_map.specs.Undone.{IsMapFault, IsUndoneFrom, comment_behind, place
 use Rattle.aig_map.proofs.BlockReading.Block.{read_is_within}
 use Rattle.aig_map.proofs.Confirming.Exchanges.{source_differs}
 use Rattle.aig_map.proofs.Confirming.RecordedRight.{recorded_right}
-use Rattle.aig_map.proofs.Sources.OneSource.{IsRecovered, one_reading, one_source, recovered}
-use Rattle.aig_map.proofs.Sources.OneSource.{undoing_recovers}
+use Rattle.aig_map.proofs.Sources.OneSource.{is_read, one_source, undone_by_read, undoing_recovers}
 use Rattle.aig_map.proofs.Mapping.MappedOrder.{mapped_image_is_ordered}
 
 -- a circuit has one mapped image, since its gates have one order
@@ -102,9 +101,9 @@ unread x NotOrdered in_order recorded =
 unread x Forged in_order recorded = ⊎_elim (λ e. absurd cc) (λ failed. absurd (of_reading x Forged failed)) recorded
 
 -- what is read is no fault
-no_fault : (b : MapBlock) (rest : List ℕ) (e : MapFault) (read : Result (MapBlock × List ℕ) MapFault)
-    → read ≡ Ok (b, rest) → ¬ (read ≡ Err e)
-no_fault b rest e read a failed = absurd cc
+no_fault : {r : MapBlock × List ℕ} {e : MapFault} {read : Result (MapBlock × List ℕ) MapFault} → read ≡ Ok r
+    → ¬ (read ≡ Err e)
+no_fault is failed = cc
 
 -- a block that is read, where no circuit is undone by it
 module _ (x : Circuit) (b : MapBlock) (rest : List ℕ) (in_order : IsInBinaryOrder x)
@@ -118,56 +117,36 @@ module _ (x : Circuit) (b : MapBlock) (rest : List ℕ) (in_order : IsInBinaryOr
   -- the circuit that is undone from x is undone by this block
   by_block : (c : Circuit) → IsUndoneFrom x c
       → AreDistinct (places_recorded b.gates) × (c ≡ undone b (comment_behind b rest) x)
-  by_block c p =
-      let r : IsRecovered x c = recovered c x p.well_formed p.image in
-      let same : (r.block, r.rest) ≡ (b, rest) =
-      one_reading (block_reading x) (r.block, r.rest) (b, rest) r.read read in (
-        subst (λ (recorded : MapBlock × List ℕ). AreDistinct (places_recorded recorded.0.gates)) same
-            r.places,
-        r.is ∙ ap (λ (recorded : MapBlock × List ℕ). undone recorded.0 (comment_behind recorded.0 recorded.1) x) same,
-      )
+  by_block c p = undone_by_read c x (b, rest) p.well_formed p.image read
+
+  -- so what does not hold of it is forged
+  unless : (P : Type 0) → ((c : Circuit) → IsUndoneFrom x c → P) → (e : MapFault)
+      → (e ≡ OutOfMemory) ⊎ ((e ≡ Forged) × (¬ P)) → IsMapFault x e
+  unless P holds e (inl memory) = subst (IsMapFault x) (sym memory) tt
+  unless P holds e (inr other) = forged e (λ c p. other.1 (holds c p)) (inr other.0)
 
   pub of_places : (e : MapFault)
       → (e ≡ OutOfMemory) ⊎ ((e ≡ Forged) × (¬ AreDistinct (places_recorded b.gates))) → IsMapFault x e
-  of_places e (inl memory) = subst (IsMapFault x) (sym memory) tt
-  of_places e (inr twice) = forged e (λ c p. twice.1 (by_block c p).0) (inr twice.0)
+  of_places = unless (AreDistinct (places_recorded b.gates)) (λ c p. (by_block c p).0)
 
   -- operands that are equal and recorded as exchanged
   pub of_exchanges : (e : MapFault) → IsWellFormed x
       → (e ≡ OutOfMemory) ⊎ ((e ≡ Forged) × (¬ ExchangesDiffer b x)) → IsMapFault x e
-  of_exchanges e good (inl memory) = subst (IsMapFault x) (sym memory) tt
-  of_exchanges e good (inr equal) =
+  of_exchanges e good =
+      unless (ExchangesDiffer b x) (λ c p.
       let within = read_is_within x b rest read in
-      forged e
-      (λ c p.
       let by = by_block c p in
-      equal.1
-      (source_differs b x rest
+      source_differs b x rest
       (record { ordered = in_order; counts = within.0; bounds = within.1; once = by.0 }) good
       (subst (λ (d : Circuit). AreDistinct (defined_variables d)) by.1 p.well_formed.once)
-      (recorded_right c x b rest p.well_formed p.image read).0)) (inr equal.0)
-
-  of_source : (source : Circuit) (e : MapFault) → source ≡ undone b (comment_behind b rest) x
-      → (e ≡ OutOfMemory) ⊎ ((e ≡ Forged) × (¬ IsWellFormed source)) → IsMapFault x e
-  of_source source e is (inl memory) = subst (IsMapFault x) (sym memory) tt
-  of_source source e is (inr ill) =
-      forged e (λ c p. ill.1 (subst IsWellFormed ((by_block c p).1 ∙ sym is) p.well_formed)) (inr ill.0)
+      (recorded_right c x b rest p.well_formed p.image read).0) e
 
   pub of_judged : (source : Circuit) (judged : Result Circuit MapFault) → source ≡ undone b (comment_behind b rest) x
       → IfErr judged (λ e. (e ≡ OutOfMemory) ⊎ ((e ≡ Forged) × (¬ IsWellFormed source)))
       → IfErr judged (IsMapFault x)
   of_judged source (Ok c) is refused = tt
-  of_judged source (Err e) is refused = of_source source e is refused
-
-  of_image : (source : Circuit) (e : MapFault) → source ≡ undone b (comment_behind b rest) x
-      → (e ≡ OutOfMemory) ⊎ ((e ≡ Forged) × (¬ (IsWellFormed source × IsMappedImage source x))) → IsMapFault x e
-  of_image source e is (inl memory) = subst (IsMapFault x) (sym memory) tt
-  of_image source e is (inr other) =
-      forged e
-      (λ c p.
-      let same : c ≡ source = (by_block c p).1 ∙ sym is in
-      other.1
-      (subst IsWellFormed same p.well_formed, subst (λ (d : Circuit). IsMappedImage d x) same p.image)) (inr other.0)
+  of_judged source (Err e) is refused =
+      unless (IsWellFormed source) (λ c p. subst IsWellFormed ((by_block c p).1 ∙ sym is) p.well_formed) e refused
 
   -- so why the image is not the one that the block tells of
   pub of_confirmed : (source : Circuit) (recorded : Result Circuit MapFault)
@@ -176,7 +155,10 @@ module _ (x : Circuit) (b : MapBlock) (rest : List ℕ) (in_order : IsInBinaryOr
       (λ e. (e ≡ OutOfMemory) ⊎ ((e ≡ Forged) × (¬ (IsWellFormed source × IsMappedImage source x))))
       → IfErr recorded (IsMapFault x)
   of_confirmed source (Ok c) is refused = tt
-  of_confirmed source (Err e) is refused = of_image source e is refused
+  of_confirmed source (Err e) is refused =
+      unless (IsWellFormed source × IsMappedImage source x)
+      (λ c p. subst (λ (d : Circuit). IsWellFormed d × IsMappedImage d x) ((by_block c p).1 ∙ sym is)
+      (p.well_formed, p.image)) e refused
 
 -- what is undone, once it is found to be well formed
 pub undone_where_judged : (x source : Circuit) (judged : Result Circuit MapFault)
@@ -189,15 +171,9 @@ undone_where_judged x source (Err e) image is formed = tt
 -- a circuit that has an undone one is refused for want of memory alone
 pub only_memory : (x : Circuit) (e : MapFault) → IsMapFault x e → (c : Circuit) → IsUndoneFrom x c → e ≡ OutOfMemory
 only_memory x NotOrdered fault c p = absurd (fault (mapped_image_is_ordered c x p.well_formed p.image).1)
-only_memory x Missing fault c p =
-    let r = recovered c x p.well_formed p.image in
-    absurd (no_fault r.block r.rest Missing (block_reading x) r.read fault.1)
-only_memory x (Malformed line) fault c p =
-    let r = recovered c x p.well_formed p.image in
-    absurd (no_fault r.block r.rest (Malformed line) (block_reading x) r.read fault.1)
-only_memory x Mismatch fault c p =
-    let r = recovered c x p.well_formed p.image in
-    absurd (no_fault r.block r.rest Mismatch (block_reading x) r.read fault.1)
+only_memory x Missing fault c p = absurd (no_fault (is_read c x p.well_formed p.image).1 fault.1)
+only_memory x (Malformed line) fault c p = absurd (no_fault (is_read c x p.well_formed p.image).1 fault.1)
+only_memory x Mismatch fault c p = absurd (no_fault (is_read c x p.well_formed p.image).1 fault.1)
 only_memory x Forged fault c p = absurd (fault.2 c p)
 only_memory x OutOfMemory fault c p = refl
 

@@ -3,7 +3,7 @@ use Rattle.aig_circuit.specs.declared.circuit.Circuit.{Circuit}
 use Rattle.aig_io.specs.Output.{Put}
 use Rattle.aig_map.specs.MapBlock.{first_line_text}
 use Rattle.aig_map.proofs.BlockText.Added.{block_put}
-use Rattle.aig_map.proofs.BlockText.NewGates.{as_many_inputs, as_many_latches, same_counts}
+use Rattle.aig_map.proofs.BlockText.Added.{as_many_inputs, as_many_latches, same_counts}
 use Rattle.aig_map.proofs.map_text.put_new_block.Goals as goal
 
 pub returns : goal.returns

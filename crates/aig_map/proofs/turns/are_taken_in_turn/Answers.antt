@@ -12,8 +12,7 @@ loop-gate-preserved c =
     let items : c.push.new.self.items ≡ links ++ at ∷ [] = c.in_ok-push-in-Some.ensures.items in
     let long : length links ≡ c.loop-gate.gate-index = c.loop-gate.invariant.many in
     let back : at ≤ length links = subst (λ (xs : List ℕ). at ≤ length xs) slice c.in-Some.ensures.back in
-    let clear : IsClear places at (length links) =
-    subst (λ (xs : List ℕ). IsClear places at (length xs)) slice c.in-Some.ensures.clear in
+    let clear = subst (λ (xs : List ℕ). IsClear places at (length xs)) slice c.in-Some.ensures.clear in
     record {
       many = ap length items ∙ length-append links (at ∷ []) ∙ ap (λ n. n + 1) long;
       links = subst (AreLinks places) (sym items)

@@ -52,20 +52,15 @@ returns-clause-ok c =
     let found = c.in_ok-gates.ensures.ok.0 in
     let there = put_as_recorded block image c.requires.counts c.requires.bounds c.requires.once _ _ _ found
     c.requires.variables c.requires.are c.as_slice.ensures c.in_ok-gates.ensures.ok.1 in
-    let gates : c.in_ok-gates.gates
-    ≡ map (relabelled_gate (source_variable (source_variables block))) (map (gate_had image.gates) block.gates) =
-    c.in_ok-gates.ensures.ok.3
+    let gates = c.in_ok-gates.ensures.ok.3
     ∙ ap₂ (λ (flags : List Bool) (gs : List Gate). exchanged_by flags gs)
     (c.as_slice-2.ensures.value ∙ c.requires.taken.exchanged) there
     ∙ exchanged_as_recorded block image c.requires.counts c.requires.bounds c.requires.once in
-    let front : c.in_ok-others.others ≡ without_gates block.max_var comment image =
-    c.in_ok-others.ensures
+    let front = c.in_ok-others.ensures
     ∙ ap₂ (λ (max_var : ℕ) (has : Bool).
     without_gates max_var (if has then Some c.args.comment.now else None) image) c.requires.taken.max_var
     c.requires.taken.has_comment in
-    let others : c.relabel.result
-    ≡ relabelled (source_variable (source_variables block)) (without_gates block.max_var comment image) =
-    c.relabel.ensures
+    let others = c.relabel.ensures
     ∙ ap₂ (λ (vs : List ℕ) (d : Circuit). relabelled (source_variable vs) d) c.requires.variables front in
     ap₂ (λ (d : Circuit) (gs : List Gate). record d { gates = gs }) others gates
     ∙ undone_is block comment image

@@ -24,26 +24,20 @@ returns-then-place_gates-clause-ok c =
     let all = c.if-place_gates.ensures.all in
     let front : List ℕ = block.inputs ++ block.latches in
     let behind : List ℕ = map (variable_at_place block.gates) (range_with_len 0 (length block.gates)) in
-    let gates : all.0 ≡ behind =
-    table_is block.max_var block.gates c.requires.bounds.gates all.0 (rw c.as_slice-3.ensures at all.1) in
+    let gates = table_is block.max_var block.gates c.requires.bounds.gates all.0 (rw c.as_slice-3.ensures at all.1) in
     let many : length front ≡ length block.inputs + length block.latches = length-append block.inputs block.latches in
-    let before : c.extend_from_slice-2.new.self.items ≡ front =
-    c.in_ok-extend_from_slice-2.ensures.items
+    let before = c.in_ok-extend_from_slice-2.ensures.items
     ∙ ap₂ (λ s t. s ++ t)
     (c.in_ok-extend_from_slice.ensures.items
     ∙ ap₂ (λ s t. s ++ t) c.in_ok-variables.ensures.items c.as_slice.ensures) c.as_slice-2.ensures in
     let count : ℕ = c.len.result + c.len-2.result + c.len-3.result in
     let zeros : List ℕ = replicate (count - c.extend_from_slice-2.new.self.len) 0 in
-    let longer : c.resize.new.self.items ≡ take count c.extend_from_slice-2.new.self.items ++ zeros =
-    c.in_ok-resize.ensures.items in
-    let first : take (c.len.result + c.len-2.result) c.as_mut_slice.result.now ≡ front =
-    front_stays front zeros c.as_mut_slice.result.now (c.len.result + c.len-2.result) count
+    let longer = c.in_ok-resize.ensures.items in
+    let first = front_stays front zeros c.as_mut_slice.result.now (c.len.result + c.len-2.result) count
     (omega (arith, many, c.len.ensures, c.len-2.ensures)) (omega arith)
     (c.as_mut_slice.ensures.value ∙ longer ∙ ap (λ (xs : List ℕ). take count xs ++ zeros) before) in
-    let new : c.place_gates.new.variables ≡ source_variables block =
-    all.2 ∙ ap₂ (λ s t. s ++ t) first gates in
-    let long : length c.place_gates.new.variables ≡ length front + length block.gates =
-    ap length new ∙ length-append front behind
+    let new = all.2 ∙ ap₂ (λ s t. s ++ t) first gates in
+    let long = ap length new ∙ length-append front behind
     ∙ ap (λ n. length front + n) (length-map-range_with_len (variable_at_place block.gates) 0 (length block.gates)) in
     all_taken c.place_gates.new.variables (drop (length c.place_gates.new.variables) c.resize.new.self.items)
     c.resize.new.self.len

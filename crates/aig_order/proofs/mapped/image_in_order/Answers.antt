@@ -6,8 +6,8 @@ use Rattle.aig_circuit.specs.Wellformed.{IsWellFormed}
 use Rattle.aig_circuit.proofs.Checking.Fitting.{definitions_fit}
 use Rattle.aig_image.specs.Parts.Numbers.{number_of}
 use Rattle.aig_map.specs.MapBlock.{IsMappedImage, block_by, mapped_comment}
-use Rattle.aig_map.proofs.BlockText.NewGates.{as_many_gates, as_many_inputs, as_many_latches}
-use Rattle.aig_map.proofs.Mapping.InOrder.{made, made_is_mapped, made_is_ordered, sorted_with}
+use Rattle.aig_map.proofs.BlockText.Added.{as_many_gates, as_many_inputs, as_many_latches}
+use Rattle.aig_map.proofs.Mapping.Alone.{made, made_is_mapped, made_is_ordered, sorted_with}
 use Rattle.aig_map.proofs.Mapping.Recorded.{few_before_gates}
 use Rattle.aig_order.proofs.mapped.image_in_order.Goals as goal
 

@@ -5,7 +5,7 @@ use Rattle.aig_circuit.specs.Wellformed.{AreDistinct, IsWellFormed, defined_vari
 use Rattle.aig_map.specs.Parts.Tables.{block_read, source_read}
 use Rattle.aig_map.specs.Undone.{comment_behind}
 use Rattle.aig_map.proofs.BlockReading.Block.{read_is_within}
-use Rattle.aig_map.proofs.Restoring.Formed.{well_formed_again}
+use Rattle.aig_map.proofs.Restoring.Source.{well_formed_again}
 use Rattle.aig_map.proofs.Sources.Refused.{of_exchanges, of_confirmed}
 use Rattle.aig_order.proofs.undoing.source_by_places.Goals as goal
 
