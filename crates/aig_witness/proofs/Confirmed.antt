@@ -163,4 +163,5 @@ tells_nothing p s unbegun = record {
 pub tells_more : (p : ℕ) (rows : List Row) (row : Row) (s : Search) (is_bad hold : Bool) → Tells p rows s
     → (is_bad ≡ true → IsBad p row) → (is_bad ≡ false → ¬ IsBad p row) → (hold ≡ true → Holds row)
     → (hold ≡ false → ¬ Holds row) → Tells p (rows ++ row ∷ []) (looked s is_bad hold)
-tells_more p rows row s is_bad hold before bad fine holds breaks = search (rules, both_held, one_broken, length_push, told)
+tells_more p rows row s is_bad hold before bad fine holds breaks =
+    search (rules, both_held, one_broken, length_push, told)
