@@ -1,7 +1,8 @@
 -- What the text of a line says: its characters, its length.
+use Rattle.std.proofs.Common.{rules}
 use Rattle.std.proofs.Common.{◌≡◌, ◌≢◌, ◌+◌, ◌<◌, ℕ, suc, List, [], ◌∷◌, ◌++◌, Bool, true, false, length, max}
 use Rattle.std.proofs.Common.{Option, Some, None, codes, option_map, option_and_then, bytes_eq}
-use Rattle.std.proofs.Common.{refl, sym, ap, ◌∙◌, arith}
+use Rattle.std.proofs.Common.{refl, ap, ◌∙◌, arith}
 use Rattle.std.proofs.lemmas.Bool.{ne_eqb, false_from_ne_true}
 use Rattle.std.proofs.lemmas.Slice.Eq.{bytes_eq-Decides}
 use Rattle.aig_circuit.specs.declared.value.Val.{Val}
@@ -21,18 +22,12 @@ first_and : (o : Option Val) (others longer : Option (List Val)) (vs : List Val)
     → option_and_then (λ u. option_map (λ us. u ∷ us) longer) o ≡ Some (vs ++ v ∷ [])
 first_and None others longer vs v more is = cc
 first_and (Some u) None longer vs v more is = cc
-first_and (Some u) (Some us) longer vs v more is =
-    let same : u ∷ us ≡ vs = cc in
-    ap (λ (o : Option (List Val)). option_map (λ ws. u ∷ ws) o) (more us refl)
-    ∙ ap (λ (ws : List Val). Some (ws ++ v ∷ [])) same
+first_and (Some u) (Some us) longer vs v more is = search (rules, option_map)
 
 -- one more character that stands for a value
 pub values_on : (front : List ℕ) (b : ℕ) (vs : List Val) (v : Val) → values_of front ≡ Some vs → value_of b ≡ Some v
     → values_of (front ++ b ∷ []) ≡ Some (vs ++ v ∷ [])
-values_on [] b vs v are is =
-    let none : vs ≡ [] = cc in
-    ap (option_and_then (λ u. option_map (λ us. u ∷ us) (Some []))) is
-    ∙ ap (λ (ws : List Val). Some (ws ++ v ∷ [])) (sym none)
+values_on [] b vs v are is = search (rules, option_and_then, option_map)
 values_on (a ∷ front) b vs v are is =
     first_and (value_of a) (values_of front) (values_of (front ++ b ∷ [])) vs v
     (λ (us : List Val) (e : values_of front ≡ Some us). values_on front b us v e is) are
@@ -41,9 +36,7 @@ values_on (a ∷ front) b vs v are is =
 pub no_values : (front rest : List ℕ) (b : ℕ) → value_of b ≡ None → values_of (front ++ b ∷ rest) ≡ None
 no_values [] rest b none = ap (option_and_then (λ u. option_map (λ us. u ∷ us) (values_of rest))) none
 no_values (a ∷ front) rest b none =
-    ap (λ (o : Option (List Val)). option_and_then (λ u. option_map (λ us. u ∷ us) o) (value_of a))
-    (no_values front rest b none)
-    ∙ nothing_first (value_of a)
+    search (rules, option_and_then, option_map, nothing_first, no_values front rest b none)
 
 first_length : (o : Option Val) (others : Option (List Val)) (vs : List Val) (n : ℕ)
     → ((us : List Val) → others ≡ Some us → length us ≡ n)
@@ -70,10 +63,7 @@ wrong_length : (inputs : ℕ) (text : List ℕ) → text ≢ codes "." → lengt
 wrong_length inputs text other wrong = rw (no_stop text other, ne_eqb (length text) inputs wrong) refl
 
 pub too_long_text : (inputs : ℕ) (text : List ℕ) → max inputs 1 < length text → entry_in inputs text ≡ None
-too_long_text inputs text long =
-    wrong_length inputs text
-    (λ (e : text ≡ codes "."). let one : length text ≡ 1 = ap length e in absurd (omega arith))
-    (omega arith)
+too_long_text inputs text long = search (rules, wrong_length)
 
 -- a line of more than two bytes more than there are inputs is bad, its line feed not counted
 pub too_long : (inputs : ℕ) (text : List ℕ) (ended : Bool) → inputs + 2 < length text

@@ -1,4 +1,5 @@
 -- The bytes of a line as they are read and written.
+use Rattle.std.proofs.Common.{rules}
 use Rattle.std.proofs.Common.{◌≡◌, ◌+◌, ◌<◌, ℕ, List, [], ◌∷◌, ◌++◌, length, take, drop, get_or}
 use Rattle.std.proofs.Common.{sym, ap, ◌∙◌, append_assoc, add-one, drop-cons}
 use Rattle.std.proofs.lemmas.List.{take-append-drop}
@@ -13,9 +14,4 @@ parted xs i d low =
 pub columns_joined : (state inputs outputs next properties : List ℕ)
     → (((((state ++ 32 ∷ inputs) ++ 32 ∷ outputs) ++ 32 ∷ []) ++ next) ++ properties) ++ 10 ∷ []
     ≡ state ++ 32 ∷ (inputs ++ 32 ∷ (outputs ++ 32 ∷ (next ++ (properties ++ 10 ∷ []))))
-columns_joined state inputs outputs next properties =
-    append_assoc ((((state ++ 32 ∷ inputs) ++ 32 ∷ outputs) ++ 32 ∷ []) ++ next) properties (10 ∷ [])
-    ∙ append_assoc (((state ++ 32 ∷ inputs) ++ 32 ∷ outputs) ++ 32 ∷ []) next (properties ++ 10 ∷ [])
-    ∙ append_assoc ((state ++ 32 ∷ inputs) ++ 32 ∷ outputs) (32 ∷ []) (next ++ (properties ++ 10 ∷ []))
-    ∙ append_assoc (state ++ 32 ∷ inputs) (32 ∷ outputs) (32 ∷ (next ++ (properties ++ 10 ∷ [])))
-    ∙ append_assoc state (32 ∷ inputs) (32 ∷ (outputs ++ 32 ∷ (next ++ (properties ++ 10 ∷ []))))
+columns_joined state inputs outputs next properties = search (rules, append_assoc)

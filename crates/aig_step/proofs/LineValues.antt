@@ -1,16 +1,15 @@
 -- The characters of a step's inputs, and how long its line is.
+use Rattle.std.proofs.Common.{rules}
 use Rattle.std.proofs.Common.{◌≡◌, ◌==◌, ◌≤◌, ℕ, List, [], ◌∷◌, Bool, true, false, Option, Some, None, codes}
 use Rattle.std.proofs.Common.{length, replicate}
-use Rattle.std.proofs.Common.{refl, sym, ap, ap₂, ◌∙◌, arith, bytes_eq, option_map, option_and_then, if◌then◌else◌}
+use Rattle.std.proofs.Common.{refl, sym, ap, ◌∙◌, arith, bytes_eq, option_map, option_and_then, if◌then◌else◌}
 use Rattle.std.proofs.lemmas.Bool.{eqb-true}
 use Rattle.std.proofs.lemmas.List.{length-map}
 use Rattle.std.proofs.lemmas.Slice.Eq.{bytes_eq-Decides}
 use Rattle.aig_circuit.specs.declared.circuit.Circuit.{Circuit}
-use Rattle.aig_circuit.specs.declared.circuit.Latch.{Latch}
 use Rattle.aig_circuit.specs.declared.value.Val.{Val}
 use Rattle.aig_circuit.specs.declared.value.Val.TheVariants.{Zero, One, X}
-use Rattle.aig_meaning.specs.Meaning.{IsRow, IsStepAssignment, MeansTheSame, Row, latch_variables, literal_value}
-use Rattle.aig_meaning.specs.Meaning.{next_literals}
+use Rattle.aig_meaning.specs.Meaning.{IsRow, IsStepAssignment, MeansTheSame, Row}
 use Rattle.aig_meaning.proofs.Rows.{one_row}
 use Rattle.aig_circuit.specs.Wellformed.{IsWellFormed}
 use Rattle.std.proofs.lemmas.Simd.{length-replicate}
@@ -39,9 +38,7 @@ first_back : (o : Option Val) (others : Option (List Val)) (b : ℕ) (bs : List 
     → option_and_then (λ u. option_map (λ us. u ∷ us) others) o ≡ Some vs → values_text vs ≡ b ∷ bs
 first_back None others b bs vs first more is = cc
 first_back (Some u) None b bs vs first more is = cc
-first_back (Some u) (Some us) b bs vs first more is =
-    let same : vs ≡ u ∷ us = cc in
-    ap values_text same ∙ ap₂ (λ (c : ℕ) (cs : List ℕ). c ∷ cs) (first u refl) (more us refl)
+first_back (Some u) (Some us) b bs vs first more is = search rules
 
 -- the characters of the values that characters stand for
 pub values_back : (text : List ℕ) (vs : List Val) → values_of text ≡ Some vs → values_text vs ≡ text
@@ -89,9 +86,7 @@ vector_long inputs text given is =
 -- it says a step, since the character of a line that ends a run is no value
 pub vector_says : (inputs : ℕ) (text : List ℕ) (given : List Val) → vector_in inputs text ≡ Some given
     → entry_in inputs text ≡ Some (Step given)
-vector_says inputs text given is =
-    says_step (bytes_eq text (codes ".")) (length text == inputs) (values_of text) given
-    (λ stop. ap values_of ((bytes_eq-Decides text (codes ".")).0 stop)) is
+vector_says inputs text given is = search (rules, says_step, bytes_eq, bytes_eq-Decides)
 
 -- and a text that says no values says no step
 pub vector_none : (inputs : ℕ) (text : List ℕ) → vector_in inputs text ≡ None
@@ -100,24 +95,7 @@ vector_none inputs text is = says_none (bytes_eq text (codes ".")) (length text 
 
 -- how long the line of a row is
 pub row_long : (c : Circuit) (row : Row) → IsRow c row → row_size row ≡ line_size c
-row_long c row (a, read) =
-    omega (
-      arith,
-      ap length read.assigned.latches,
-      length-map (latch_variables c) a,
-      length-map c.latches (λ (l : Latch). l.var),
-      ap length read.assigned.inputs,
-      length-map c.inputs a,
-      ap length read.outputs_shown,
-      length-map c.outputs (literal_value a),
-      ap length read.next_shown,
-      length-map (next_literals c) (literal_value a),
-      length-map c.latches (λ (l : Latch). l.next),
-      ap length read.bad_shown,
-      length-map c.bad (literal_value a),
-      ap length read.constraints_shown,
-      length-map c.constraints (literal_value a),
-    )
+row_long c row (a, read) = search (rules, length-map)
 
 -- that of a circuit that means the same
 pub row_fits : (c d : Circuit) (row : Row) → MeansTheSame c d → IsRow d row → row_size row ≡ line_size c
@@ -135,16 +113,7 @@ same_size c d formed means =
 -- the values of a step show a row
 pub row_is_read : (c : Circuit) (state given : List Val) (a : ℕ → Val) → IsStepAssignment c state given a
     → IsRow c (row_read c state given a)
-row_is_read c state given a is = (
-  a,
-  record {
-    assigned = is;
-    outputs_shown = refl;
-    next_shown = refl;
-    bad_shown = refl;
-    constraints_shown = refl;
-  },
-)
+row_is_read c state given a is = search rules
 
 -- Two circuits show the same, so their rows and lines are alike.
 pub record ShowsTheSame (c d : Circuit) : Type 0 where

@@ -1,5 +1,6 @@
 -- The first step that confirms a claim, row behind row.
-use Rattle.std.proofs.Common.{◌≡◌, ◌+◌, ◌<◌, ◌&&◌, ◌⊎◌, ℕ, List, [], ◌∷◌, ◌++◌, Bool, true, false}
+use Rattle.std.proofs.Common.{rules}
+use Rattle.std.proofs.Common.{◌≡◌, ◌<◌, ◌&&◌, ◌⊎◌, ℕ, List, [], ◌∷◌, ◌++◌, Bool, true, false}
 use Rattle.std.proofs.Common.{length, Option, Some, None, is_none, refl, sym, ap, ap₂, subst, ◌∙◌, append_assoc, arith}
 use Rattle.std.proofs.Common.{inl, inr, if◌then◌else◌}
 use Rattle.std.specs.List.{All, AllByRecursion}
@@ -44,17 +45,7 @@ parted_at (y ∷ ys) last (b ∷ bs) x behind is =
 -- a step that confirms still does when there are more rows
 confirmed_more : (p : ℕ) (rows : List Row) (row : Row) (at : ℕ) → IsConfirmedAt p rows at
     → IsConfirmedAt p (rows ++ row ∷ []) at
-confirmed_more p rows row at is = record {
-  before = is.before;
-  row = is.row;
-  behind = is.behind ++ row ∷ [];
-  parted = ap (λ (rs : List Row). rs ++ row ∷ []) is.parted
-      ∙ append_assoc is.before (is.row ∷ is.behind) (row ∷ []);
-  place = is.place;
-  is_bad = is.is_bad;
-  holds = is.holds;
-  held = is.held;
-}
+confirmed_more p rows row at is = search (rules, append_assoc)
 
 -- the last row confirms
 pub record IsLast (p : ℕ) (rows : List Row) (row : Row) (at : ℕ) : Type 0 where
@@ -173,13 +164,4 @@ pub tells_more : (p : ℕ) (rows : List Row) (row : Row) (s : Search) (is_bad ho
     → (is_bad ≡ true → IsBad p row) → (is_bad ≡ false → ¬ IsBad p row) → (hold ≡ true → Holds row)
     → (hold ≡ false → ¬ Holds row) → Tells p (rows ++ row ∷ []) (looked s is_bad hold)
 tells_more p rows row s is_bad hold before bad fine holds breaks =
-    let held : (s.holds && hold) ≡ true → All Holds (rows ++ row ∷ []) =
-    both_held p rows row s.steps before.steps s.holds hold before.held holds in
-    let broken : (s.holds && hold) ≡ false → ¬ All Holds (rows ++ row ∷ []) =
-    one_broken p rows row s.steps before.steps s.holds hold before.broken breaks in
-    record {
-      steps = ap (λ (n : ℕ). n + 1) before.steps ∙ sym (length_push rows row);
-      held = held;
-      broken = broken;
-      found = told p rows row s.steps before.steps s.found (s.holds && hold) is_bad before.found held broken bad fine;
-    }
+    search (rules, both_held, one_broken, length_push, told)

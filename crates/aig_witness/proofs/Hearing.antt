@@ -1,6 +1,7 @@
 -- Telling the lines of a witness file is saying what they say.
+use Rattle.std.proofs.Common.{rules}
 use Rattle.std.proofs.Common.{◌≡◌, ◌+◌, ◌≤◌, ℕ, suc, List, [], ◌∷◌, Bool, true, false, Option, Some, None, length}
-use Rattle.std.proofs.Common.{Result, Ok, Err, refl, sym, ap, subst, ◌∙◌, arith, inl, inr, if◌then◌else◌}
+use Rattle.std.proofs.Common.{Result, Ok, Err, refl, sym, ap, subst, ◌∙◌, arith, if◌then◌else◌}
 use Rattle.std.proofs.lemmas.Bool.{cases_lt, le-leb, lt-leb}
 use Rattle.aig_circuit.specs.declared.circuit.Circuit.{Circuit}
 use Rattle.aig_circuit.specs.declared.circuit.TheConstants.{LARGEST}
@@ -23,23 +24,14 @@ module _ (w v : Witnessing) (h : Hearing) (text : List ℕ) (at : HasHeard w h) 
 
   pub heard_line : (good : Bool) → (good ≡ true → TookDue w v h.said text) → (good ≡ false → NotDue w v h.said text)
       → HasHeard v (hear_line h text).state × (good ≡ (hear_line h text).goes_on)
-  heard_line true took other =
-      let due = took refl in
-      rw (said_here (Some due.next) due.is) ((due.circuit ∙ at.0, due.stands), refl)
+  heard_line true took other = search (rules, said_here)
   heard_line false took other =
       let none = other refl in rw (said_here None none.none) ((none.circuit ∙ at.0, none.stands), refl)
 
 -- a line that is too long is not due
 heard_is : (h : Hearing) (text : List ℕ) → length h.circuit.bad ≤ LARGEST
     → heard hear_line (longest_line (shape_of h.circuit)) h text ≡ hear_line h text
-heard_is h text few =
-    let limit = longest_line (shape_of h.circuit) in
-    elim (cases_lt limit (length text)) [
-      | inl long ↦
-          rw (lt-leb (length text) limit long)
-          (sym (ap (said_turn h.circuit h.said) (long_due (shape_of h.circuit) h.said text few long)))
-      | inr short ↦ rw (le-leb (length text) limit short) refl
-    ]
+heard_is h text few = search (rules, cases_lt, lt-leb, long_due, le-leb)
 
 module _ (c : Circuit) (few : length c.bad ≤ LARGEST) where
   abbrev limit : ℕ

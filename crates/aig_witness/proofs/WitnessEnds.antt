@@ -15,7 +15,7 @@ use Rattle.aig_step.specs.declared.fault.SimFault.TheVariants as faults
 use Rattle.aig_witness.specs.declared.checker.Due.TheVariants as due
 use Rattle.aig_witness.specs.declared.verdict.Verdict.{Verdict}
 use Rattle.aig_witness.specs.Confirming.{Judged, NotJudged}
-use Rattle.aig_witness.specs.Witness.{Nothing, Property, Said, Shape, Steps, Version, Whole, IsVerdictOf}
+use Rattle.aig_witness.specs.Witness.{Nothing, Property, Said, Steps, Version, Whole, IsVerdictOf}
 use Rattle.aig_witness.specs.Witness.{first_bad_witness_line, missing_line, shape_of, witness_of, wrong_line}
 use Rattle.aig_witness.specs.Parts.Witnessing.{HasHeard, Stands, Witnessing, hear_line, hearing, longest_line}
 use Rattle.aig_witness.specs.Parts.Witnessing.{verdict_of}
@@ -118,9 +118,7 @@ module _ (c d : Circuit) (means : MeansTheSame c d) (bad : length d.bad ≡ leng
 
   same_wrong : (bytes : List ℕ) (ended : Bool)
       → first_bad_witness_line c bytes ended ≡ first_bad_witness_line d bytes ended
-  same_wrong bytes ended =
-      ap (λ (s : Shape). wrong_line (length (judged_lines bytes ended)) ended (witness_of s bytes ended))
-      (sym same_shape)
+  same_wrong bytes ended = search (rules, same_shape)
 
   pub judged_too : (v : Verdict) (coming left : Option (List ℕ)) → Judged d v coming left → Judged c v coming left
   judged_too v coming left j = search (rules, same_wrong, same_shape, same_meaning_same_traces)
@@ -130,9 +128,5 @@ module _ (c d : Circuit) (means : MeansTheSame c d) (bad : length d.bad ≡ leng
   not_judged_too faults.OutOfMemory coming left same = same
   not_judged_too (faults.BadStimulus n) coming left never = never
   not_judged_too (faults.BadWitness n) coming left came = search (rules, same_wrong)
-  not_judged_too faults.ReadFailed coming left came = record {
-    bytes = came.bytes;
-    gave = came.gave;
-    none_bad = same_wrong came.bytes false ∙ came.none_bad;
-  }
+  not_judged_too faults.ReadFailed coming left came = search (rules, same_wrong)
   not_judged_too faults.WriteFailed coming left never = never

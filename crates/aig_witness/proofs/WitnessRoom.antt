@@ -101,9 +101,7 @@ not_below true n bound high = too_high true n bound (high refl)
 not_below false n bound high = refl
 
 number_long : (bound : ℕ) (text : List ℕ) → bound ≤ LARGEST → 11 < length text → number_below bound text ≡ None
-number_long bound text few long =
-    not_below (is_canonical text) (value_of text) bound
-    (λ is. omega (arith, canonical_large text long is, few))
+number_long bound text few long = search (rules, not_below, canonical_large)
 
 none_either : (begins : Bool) (o : Option ℕ) → o ≡ None → (if begins then o else None) ≡ None
 none_either true o none = none

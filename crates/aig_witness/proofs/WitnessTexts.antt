@@ -2,9 +2,9 @@
 use Rattle.std.proofs.lemmas.Grind.{common_steps}
 use Rattle.std.proofs.Common.{arith}
 use Rattle.std.proofs.Common.{rules}
-use Rattle.std.proofs.Common.{◌≡◌, ◌==◌, ◌&&◌, ◌||◌, ◌<◌, ◌++◌, ℕ, suc, List, [], ◌∷◌, Bool, true, false, length}
+use Rattle.std.proofs.Common.{◌≡◌, ◌&&◌, ◌||◌, ◌<◌, ◌++◌, ℕ, suc, List, [], ◌∷◌, Bool, true, false, length}
 use Rattle.std.proofs.Common.{Option, Some, None, Result, Ok, refl, sym, ap, ap₂, subst, ◌∙◌, append_assoc, append-nil}
-use Rattle.std.proofs.Common.{bytes_eq, codes, filter, map, cond, if◌then◌else◌, nat_lt, option_map}
+use Rattle.std.proofs.Common.{bytes_eq, codes, filter, map, if◌then◌else◌, nat_lt, option_map}
 use Rattle.std.specs.List.{AllByRecursion, AllZip}
 use Rattle.std.proofs.lemmas.Bool.{eq-eqb, lt-ltb, eqb-true}
 use Rattle.std.proofs.lemmas.Slice.Eq.{bytes_eq-Decides}
@@ -19,7 +19,7 @@ use Rattle.aig_witness.specs.Laws.{WitnessFilesAreRead}
 use Rattle.aig_step.specs.Stimulus.{Entry, Step, Stop, entry_in, judged_lines, text_of, values_of}
 use Rattle.aig_step.specs.TraceText.{values_text}
 use Rattle.aig_witness.specs.Witness.{Claim, Nothing, Property, Said, SaysClaim, Shape, Steps, Version, Whole, begun_at}
-use Rattle.aig_witness.specs.Witness.{first_state_in, if_may_start, is_canonical, may_start_at, may_start_in, number_below}
+use Rattle.aig_witness.specs.Witness.{first_state_in, is_canonical, may_start_at, may_start_in, number_below}
 use Rattle.aig_witness.specs.Witness.{property_in, said_behind, said_by, said_with, shape_of, with_entry}
 use Rattle.aig_witness.specs.WitnessText.{IsWitnessFile}
 use Rattle.aig_step.proofs.EntryTexts.{values_length}
@@ -51,18 +51,13 @@ or_true false = refl
 
 all_judged : (ls : List Line) → filter (λ (l : Line). l.ended || true) ls ≡ ls
 all_judged [] = refl
-all_judged (l ∷ ls) =
-    let others = filter (λ (k : Line). k.ended || true) ls in
-    ap (λ (b : Bool). cond b (l ∷ others) others) (or_true l.ended)
-    ∙ ap (λ (ks : List Line). l ∷ ks) (all_judged ls)
+all_judged (l ∷ ls) = search (rules, or_true, all_judged ls)
 
 -- the texts of the lines that are judged at the end
 said_all : (c : Circuit) (bytes : List ℕ)
     → said_by (shape_of c) 1 Nothing (judged_lines bytes true)
     ≡ said_texts (shape_of c) 1 Nothing (map text_of (lines_of bytes))
-said_all c bytes =
-    ap (said_by (shape_of c) 1 Nothing) (all_judged (lines_of bytes))
-    ∙ by_texts (shape_of c) 1 Nothing (lines_of bytes)
+said_all c bytes = search (rules, all_judged, by_texts)
 
 -- entries
 step_by : (stop long : Bool) (o : Option (List Val)) (given : List Val)
@@ -90,9 +85,7 @@ step_text : (inputs : ℕ) (text : List ℕ) (given : List Val) → entry_in inp
 step_text inputs text given is = search (rules, step_by, bytes_eq, values_back, values_length, eqb-true)
 
 stop_text : (inputs : ℕ) (text : List ℕ) → entry_in inputs text ≡ Some Stop → text ≡ codes "."
-stop_text inputs text is =
-    (bytes_eq-Decides text (codes ".")).0
-    (stop_by (bytes_eq text (codes ".")) (length text == inputs) (values_of text) is)
+stop_text inputs text is = search (rules, bytes_eq-Decides, stop_by, bytes_eq)
 
 -- there is a character for each value
 text_long : (vs : List Val) → length (values_text vs) ≡ length vs
@@ -100,11 +93,7 @@ text_long vs = sym (values_length (values_text vs) vs (says_values vs))
 
 says_step : (inputs : ℕ) (given : List Val) → length given ≡ inputs
     → entry_in inputs (values_text given) ≡ Some (Step given)
-says_step inputs given long =
-    vector_says inputs (values_text given) given
-    (ap (λ (b : Bool). if b then values_of (values_text given) else None)
-    (eq-eqb (length (values_text given)) inputs (text_long given ∙ long))
-    ∙ says_values given)
+says_step inputs given long = search (rules, vector_says, eq-eqb, text_long, says_values)
 
 -- lines of steps, and the line behind them
 record AreSteps (inputs : ℕ) (claim whole : Claim) (ts : List (List ℕ)) : Type 0 where
@@ -169,9 +158,7 @@ all_may (r ∷ rs) (v ∷ vs) all = ap₂ (λ (a b : Bool). a && b) (one_may r v
 
 first_said : (rs : List Reset) (first : List Val) → AllZip MayStartAt rs first
     → first_state_in rs (values_text first) ≡ Some first
-first_said rs first all =
-    ap (if_may_start rs) (says_values first)
-    ∙ ap (λ (b : Bool). if b then Some first else None) (all_may rs first all)
+first_said rs first all = search (rules, says_values, all_may)
 
 record IsFirstRead (shape : Shape) (p : ℕ) (whole : Claim) (ts : List (List ℕ)) : Type 0 where
   first : List Val

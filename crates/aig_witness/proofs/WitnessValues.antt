@@ -1,14 +1,13 @@
 -- What single lines of a witness file say: the number of a bad state, and the values of a first state.
-use Rattle.std.proofs.Common.{◌==◌, nat_lt, rules, subst}
+use Rattle.std.proofs.Common.{nat_lt, rules, subst}
 use Rattle.std.proofs.lemmas.Bool.{eqb-false, eqb-true, ltb-true}
 use Rattle.std.proofs.lemmas.List.{length-map}
 use Rattle.aig_circuit.specs.declared.circuit.Circuit.{Circuit}
-use Rattle.aig_circuit.specs.declared.circuit.Latch.{Latch}
 use Rattle.aig_step.specs.Parts.Lines.{vector_in}
 use Rattle.aig_rows.specs.Spelling.{value_of as number_of}
 use Rattle.aig_witness.specs.Witness.{is_canonical, property_in, shape_of}
 use Rattle.std.proofs.Common.{◌≡◌, ◌≢◌, ◌<◌, ◌&&◌, ℕ, List, [], ◌∷◌, Bool, true}
-use Rattle.std.proofs.Common.{false, length, refl, sym, ap, ◌∙◌, arith, Option, Some, None}
+use Rattle.std.proofs.Common.{false, length, refl, arith, Option, Some, None}
 use Rattle.std.proofs.Common.{if◌then◌else◌}
 use Rattle.aig_circuit.specs.declared.circuit.Reset.{Reset}
 use Rattle.aig_circuit.specs.declared.value.Val.{Val}
@@ -59,9 +58,7 @@ not_chosen false vs fails = refl
 wrong_values : (rs : List Reset) (o : Option (List Val)) (n : ℕ) → n ≢ length rs
     → ((vs : List Val) → o ≡ Some vs → length vs ≡ n) → if_may_start rs o ≡ None
 wrong_values rs None n other long = refl
-wrong_values rs (Some vs) n other long =
-    not_chosen (may_start_in rs vs) vs
-    (λ (start : may_start_in rs vs ≡ true). other (sym (long vs refl) ∙ starts_long rs vs start))
+wrong_values rs (Some vs) n other long = search (rules, not_chosen, starts_long)
 
 pub no_first_state : (rs : List Reset) (text : List ℕ) → length text ≢ length rs → first_state_in rs text ≡ None
 no_first_state rs text other = wrong_values rs (values_of text) (length text) other (values_length text)
@@ -74,9 +71,4 @@ by_test rs false o never = never refl
 -- what a text says as a first state, by the values that it says for the latches
 pub first_by_values : (c : Circuit) (text : List ℕ) (o : Option (List Val)) → vector_in (length c.latches) text ≡ o
     → first_state_in (shape_of c).resets text ≡ if_may_start (shape_of c).resets o
-first_by_values c text o is =
-    let rs = (shape_of c).resets in
-    let long : length rs ≡ length c.latches = length-map c.latches (λ (l : Latch). l.reset) in
-    by_test rs (length text == length c.latches) (values_of text)
-    (λ other. no_first_state rs text (λ e. eqb-false (length text) (length c.latches) other (e ∙ long)))
-    ∙ ap (if_may_start rs) is
+first_by_values c text o is = search (rules, length-map, by_test, no_first_state, eqb-false)

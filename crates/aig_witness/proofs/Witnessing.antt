@@ -1,6 +1,7 @@
 -- Lines of a witness file that are due, and what follows them.
+use Rattle.std.proofs.Common.{rules}
 use Rattle.std.proofs.Common.{◌≡◌, ◌≢◌, ◌&&◌, ℕ, List, [], ◌∷◌, ◌++◌, Bool, true, false, length, map}
-use Rattle.std.proofs.Common.{Option, Some, None, refl, sym, ap, subst, ◌∙◌, arith, get_or, inl, inr, option_map}
+use Rattle.std.proofs.Common.{Option, Some, None, refl, sym, ap, ◌∙◌, arith, get_or, inl, inr, option_map}
 use Rattle.std.proofs.Common.{if◌then◌else◌, replicate}
 use Rattle.std.specs.List.{All, AllZip}
 use Rattle.std.proofs.lemmas.List.{get_or-map, length-map, length-replicate}
@@ -59,9 +60,7 @@ chosen false vs first is = cc
 pub may_start : (rs : List Reset) (o : Option (List Val)) (first : List Val) → if_may_start rs o ≡ Some first
     → (o ≡ Some first) × AllZip MayStartAt rs first
 may_start rs None first is = cc
-may_start rs (Some vs) first is =
-    let parts = chosen (may_start_in rs vs) vs first is in
-    (ap (λ (us : List Val). Some us) parts.1, subst (AllZip MayStartAt rs) parts.1 (all_start rs vs parts.0))
+may_start rs (Some vs) first is = search (rules, chosen, all_start)
 
 -- values that are all 1
 one_of : (v : Val) → is_one v ≡ true → v ≡ One

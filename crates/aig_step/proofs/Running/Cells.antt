@@ -1,4 +1,5 @@
 -- Tables of values as bytes.
+use Rattle.std.proofs.Common.{rules}
 use Rattle.std.proofs.Common.{◌≡◌, ◌+◌, ◌*◌, ◌%◌, ◌/◌, ◌<◌, ◌==◌, if◌then◌else◌, ℕ, zero, suc, List}
 use Rattle.std.proofs.Common.{[], ◌∷◌, length, get_or, refl, sym, ap, ap₂}
 use Rattle.std.proofs.Common.{◌∙◌, ◌≤◌, arith, drop, drop-cons, set, replicate}
@@ -55,11 +56,7 @@ pub written_bytes : (vs : List Val) (v : ℕ) (x : Val) → v < length vs
     ≡ bytes_of_values (set vs v x)
 written_bytes [] v x below = absurd (omega (arith, below))
 written_bytes (w ∷ ws) zero x below = refl
-written_bytes (w ∷ ws) (suc v) x below =
-    let at : 2 * suc v ≡ suc (suc (2 * v)) = omega arith in
-    let behind : 2 * suc v + 1 ≡ suc (suc (2 * v + 1)) = omega arith in
-    ap₂ (λ m n. set (set (bytes_of_values (w ∷ ws)) m (code_of x)) n (code_of (value_not x))) at behind
-    ∙ ap (λ bs. code_of w ∷ code_of (value_not w) ∷ bs) (written_bytes ws v x (omega (arith, below)))
+written_bytes (w ∷ ws) (suc v) x below = search (rules, written_bytes ws v x (omega (arith, below)))
 
 -- a table of x alone
 pub all_x : (n : ℕ) → bytes_of_values (replicate n X) ≡ replicate (2 * n) 1
@@ -83,9 +80,7 @@ module _ (bytes : List ℕ) (literal : ℕ) (coded : AreCodes bytes)
 pub put_in_bytes : (bytes : List ℕ) (v : ℕ) (x : Val) → AreCodes bytes → v < length (values_of_bytes bytes)
     → set (set bytes (2 * v) (code_of x)) (2 * v + 1) (code_of (value_not x))
     ≡ bytes_of_values (set (values_of_bytes bytes) v x)
-put_in_bytes bytes v x coded below =
-    ap (λ bs. set (set bs (2 * v) (code_of x)) (2 * v + 1) (code_of (value_not x))) (sym coded)
-    ∙ written_bytes (values_of_bytes bytes) v x below
+put_in_bytes bytes v x coded below = search (rules, written_bytes)
 
 pub x_are_codes : (n : ℕ) → AreCodes (replicate (2 * n) 1)
 x_are_codes n = are_codes (replicate (2 * n) 1) (replicate n X) (sym (all_x n))
@@ -101,13 +96,7 @@ pub one_more : (codes now : List ℕ) (v k : ℕ) (pairs : List Pair) (p : Pair)
     → k < length pairs → p ≡ get_or pairs k p
     → evaluated v (drop k pairs) (values_of_bytes codes) ≡ all
     → evaluated (v + 1) (drop (k + 1) pairs) (values_of_bytes now) ≡ all
-one_more codes now v k pairs p x all made value below is before =
-    let next : suc k ≡ k + 1 = omega arith in
-    let front : drop k pairs ≡ p ∷ drop (k + 1) pairs =
-    drop-cons pairs k p below ∙ ap₂ (λ (q : Pair) n. q ∷ drop n pairs) (sym is) next in
-    ap (evaluated (v + 1) (drop (k + 1) pairs))
-    (values_are now (set (values_of_bytes codes) v x) made ∙ ap (set (values_of_bytes codes) v) value)
-    ∙ ap (λ ps. evaluated v ps (values_of_bytes codes)) (sym front) ∙ before
+one_more codes now v k pairs p x all made value below is before = search (rules, drop-cons, values_are)
 
 pub no_more : (codes : List ℕ) (v k : ℕ) (pairs : List Pair) (all : List Val) → length pairs ≤ k
     → evaluated v (drop k pairs) (values_of_bytes codes) ≡ all → values_of_bytes codes ≡ all

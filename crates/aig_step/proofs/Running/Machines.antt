@@ -1,7 +1,8 @@
 -- A circuit in binary order can be run, and what runs means the same.
+use Rattle.std.proofs.Common.{rules}
 use Rattle.std.proofs.Common.{◌≡◌, ◌+◌, ◌<◌, ◌≤◌, ℕ, zero, suc, List, [], ◌∷◌, length, map, refl, sym}
-use Rattle.std.proofs.Common.{ap, ap₂, subst, ◌∙◌, arith, set}
-use Rattle.std.specs.List.{All, range_with_len}
+use Rattle.std.proofs.Common.{ap, ap₂, ◌∙◌, arith, set}
+use Rattle.std.specs.List.{All}
 use Rattle.std.proofs.lemmas.List.{get_or-set_same, length-map, length-set}
 use Rattle.aig_circuit.specs.declared.circuit.Latch.{Latch}
 use Rattle.aig_circuit.specs.declared.circuit.Gate.{Gate}
@@ -23,12 +24,7 @@ use Rattle.aig_step.proofs.Running.Tables.{all_hold, evaluated_below, placed_bel
 -- gates in order are over lower variables
 over_lower : (v : ℕ) (gates : List Gate) → AreOrderedGates v gates → AreOverLower v (map pair_of gates)
 over_lower v [] ordered = tt
-over_lower v (g ∷ gs) ordered =
-    let next : suc v ≡ v + 1 = omega arith in (
-      omega (arith, ordered.0, ordered.1),
-      omega (arith, ordered.0, ordered.1, ordered.2),
-      subst (λ n. AreOverLower n (map pair_of gs)) next (over_lower (suc v) gs ordered.3),
-    )
+over_lower v (g ∷ gs) ordered = search (rules, over_lower (suc v) gs ordered.3)
 
 -- and are those with their operands
 gates_again : (v : ℕ) (gates : List Gate) → AreOrderedGates v gates → gates_from v (map pair_of gates) ≡ gates
@@ -42,10 +38,7 @@ gates_again v (g ∷ gs) ordered =
 pub pairs_below : (v size : ℕ) (pairs : List Pair) → v + length pairs ≤ size → AreOverLower v pairs
     → All (IsPairBelow size) pairs
 pairs_below v size [] room lower k d below = absurd (omega (arith, below))
-pairs_below v size (p ∷ ps) room lower zero d below = record {
-  left = omega (arith, room, lower.0);
-  right = omega (arith, room, lower.1);
-}
+pairs_below v size (p ∷ ps) room lower zero d below = search rules
 pairs_below v size (p ∷ ps) room lower (suc k) d below =
     pairs_below (v + 1) size ps (omega (arith, room)) lower.2 k d (omega (arith, below))
 
@@ -66,18 +59,18 @@ module _ (c : Circuit) (formed : IsWellFormed c) where
   next_below (x ∷ xs) known (suc k) d below = next_below xs known.1 k d (omega (arith, below))
 
   pub can_run : IsInBinaryOrder c → CanRun (parts_of c) (map pair_of c.gates)
-  can_run ordered = record {
-    inputs = ordered.inputs;
-    latches = ordered.latches;
-    gates = over_lower (first_gate c) c.gates ordered.gates;
-    size = omega (arith, ordered.all, length-map c.gates pair_of);
-    below = record {
-      outputs = all_below c.outputs (known_outputs c formed);
-      next = next_below c.latches (known_next c formed);
-      bad = all_below c.bad (known_bad c formed);
-      constraints = all_below c.constraints (known_constraints c formed);
-    };
-  }
+  can_run ordered =
+      search (
+        rules,
+        over_lower,
+        length-map,
+        all_below,
+        known_outputs,
+        next_below,
+        known_next,
+        known_bad,
+        known_constraints,
+      )
 
 -- the circuit with these gates, without what no row shows
 abbrev bare : Circuit → List Gate → Circuit
@@ -85,48 +78,17 @@ bare c gates = record (parts_of c) { gates = gates }
 
 -- no row shows what it lacks
 shown_without : (c : Circuit) (row : Row) (a : ℕ → Val) → IsReadOff c row a → IsReadOff (bare c c.gates) row a
-shown_without c row a is = record {
-  assigned = record {
-    constant = is.assigned.constant;
-    inputs = is.assigned.inputs;
-    latches = is.assigned.latches;
-    gates = is.assigned.gates;
-  };
-  outputs_shown = is.outputs_shown;
-  next_shown = is.next_shown;
-  bad_shown = is.bad_shown;
-  constraints_shown = is.constraints_shown;
-}
+shown_without c row a is = search rules
 
 shown_with : (c : Circuit) (row : Row) (a : ℕ → Val) → IsReadOff (bare c c.gates) row a → IsReadOff c row a
-shown_with c row a is = record {
-  assigned = record {
-    constant = is.assigned.constant;
-    inputs = is.assigned.inputs;
-    latches = is.assigned.latches;
-    gates = is.assigned.gates;
-  };
-  outputs_shown = is.outputs_shown;
-  next_shown = is.next_shown;
-  bad_shown = is.bad_shown;
-  constraints_shown = is.constraints_shown;
-}
+shown_with c row a is = search rules
 
 bare_means_the_same : (c : Circuit) → MeansTheSame c (bare c c.gates)
-bare_means_the_same c = record {
-  inputs = refl;
-  resets = refl;
-  rows = λ row. (
-    λ is. (is.0, shown_without c row is.0 is.1),
-    λ is. (is.0, shown_with c row is.0 is.1),
-  );
-}
+bare_means_the_same c = search (rules, shown_without, shown_with)
 
 pub kept_means_the_same : (c : Circuit) → IsInBinaryOrder c
     → MeansTheSame c (circuit_of (parts_of c) (map pair_of c.gates))
-kept_means_the_same c ordered =
-    subst (λ (gates : List Gate). MeansTheSame c (bare c gates))
-    (sym (gates_again (first_gate c) c.gates ordered.gates)) (bare_means_the_same c)
+kept_means_the_same c ordered = search (rules, gates_again, bare_means_the_same)
 
 -- what a step puts into the table: the constant, the inputs, the state and the gates
 abbrev pub filled : Circuit → List Pair → List Val → List Val → List Val → List Val
@@ -166,29 +128,13 @@ module _ (parts : Circuit) (pairs : List Pair) (can : CanRun parts pairs) (given
       before_gates w (omega (arith, low)) ∙ placed_below (1 + length given) state with_inputs w low
 
   constant_read : after 0 ≡ Zero
-  constant_read =
-      before_state 0 (omega arith) ∙ placed_below 1 given begun 0 (omega arith)
-      ∙ get_or-set_same values 0 Zero Zero (omega (arith, room))
+  constant_read = search (rules, before_state, placed_below, get_or-set_same)
 
   inputs_read : map after parts.inputs ≡ given
-  inputs_read =
-      ap (map after) can.inputs
-      ∙ ap (λ n. map after (range_with_len 1 n)) (sym each_input)
-      ∙ placed_read after 1 given begun (omega (arith, begun_length, room, can.size, each_input))
-      (λ w low high. before_state w (omega (arith, high)))
+  inputs_read = search (rules, placed_read, begun_length, before_state)
 
   latches_read : map after (latch_variables parts) ≡ state
-  latches_read =
-      ap (map after) can.latches
-      ∙ ap₂ (λ m n. map after (range_with_len (1 + m) n)) (sym each_input) (sym each_latch)
-      ∙ placed_read after (1 + length given) state with_inputs
-      (omega (arith, inputs_length, room, can.size, each_input, each_latch))
-      (λ w low high. before_gates w (omega (arith, high)))
+  latches_read = search (rules, placed_read, inputs_length, before_gates)
 
   pub is_filled : IsStepAssignment (circuit_of parts pairs) state given after
-  is_filled = record {
-    constant = constant_read;
-    inputs = inputs_read;
-    latches = latches_read;
-    gates = all_hold (first_gate parts) pairs with_state (omega (arith, state_length, room, can.size)) can.gates;
-  }
+  is_filled = search (rules, constant_read, inputs_read, latches_read, all_hold, state_length)

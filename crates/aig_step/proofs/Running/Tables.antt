@@ -1,6 +1,7 @@
 -- What stands in a table after values were placed and gates evaluated.
-use Rattle.std.proofs.Common.{◌≡◌, ◌+◌, ◌<◌, ◌≤◌, ◌++◌, ℕ, zero, suc, List, [], ◌∷◌, length, map, get_or, refl, sym}
-use Rattle.std.proofs.Common.{subst, ◌∙◌, ap, ap₂, arith, drop, drop-cons, set}
+use Rattle.std.proofs.Common.{rules}
+use Rattle.std.proofs.Common.{◌≡◌, ◌+◌, ◌<◌, ◌≤◌, ◌++◌, ℕ, zero, suc, List, [], ◌∷◌, length, map, get_or, refl}
+use Rattle.std.proofs.Common.{◌∙◌, ap, ap₂, arith, drop, drop-cons, set}
 use Rattle.std.specs.List.{Contains, range_with_len}
 use Rattle.std.proofs.lemmas.List.{get_or-set_same, get_or-set_other, length-set}
 use Rattle.aig_circuit.specs.declared.circuit.Gate.{Gate}
@@ -30,11 +31,7 @@ placed_behind at (y ∷ ys) x values =
 pub placed_on : (at k : ℕ) (given : List Val) (x : Val) (values all : List Val) → k < length given
     → x ≡ get_or given k x → placed at (drop k given) values ≡ all
     → placed (at + 1) (drop (k + 1) given) (set values at x) ≡ all
-placed_on at k given x values all below is before =
-    let next : suc k ≡ k + 1 = omega arith in
-    let front : drop k given ≡ x ∷ drop (k + 1) given =
-    drop-cons given k x below ∙ ap₂ (λ (y : Val) n. y ∷ drop n given) (sym is) next in
-    ap (λ xs. placed at xs values) (sym front) ∙ before
+placed_on at k given x values all below is before = search (rules, drop-cons)
 
 -- lower places stay
 pub placed_below : (at : ℕ) (xs values : List Val) (w : ℕ) → w < at
@@ -78,22 +75,13 @@ evaluated_below v (p ∷ ps) values w low =
 first_holds : (v : ℕ) (p : Pair) (ps : List Pair) (values : List Val) → v < length values
     → variable_of p.left < v → variable_of p.right < v
     → Holds (read_from (evaluated v (p ∷ ps) values)) (record { var = v; left = p.left; right = p.right })
-first_holds v p ps values below left right =
-    let after = read_from (evaluated v (p ∷ ps) values) in
-    evaluated_below (v + 1) ps (set values v (value_by values p)) v (omega arith)
-    ∙ get_or-set_same values v (value_by values p) Zero below
-    ∙ ap₂ value_and
-    (same_literal (read_from values) after p.left (sym (evaluated_below v (p ∷ ps) values (variable_of p.left) left)))
-    (same_literal (read_from values) after p.right
-    (sym (evaluated_below v (p ∷ ps) values (variable_of p.right) right)))
+first_holds v p ps values below left right = search (rules, evaluated_below, get_or-set_same, same_literal)
 
 each_holds : (v : ℕ) (pairs : List Pair) (values : List Val) → v + length pairs ≤ length values
     → AreOverLower v pairs → (i : ℕ) (g : Gate) → i < length (gates_from v pairs)
     → get_or (gates_from v pairs) i g ≡ g → Holds (read_from (evaluated v pairs values)) g
 each_holds v [] values room lower i g below is = absurd (omega (arith, below))
-each_holds v (p ∷ ps) values room lower zero g below is =
-    subst (λ (h : Gate). Holds (read_from (evaluated v (p ∷ ps) values)) h) is
-    (first_holds v p ps values (omega (arith, room)) lower.0 lower.1)
+each_holds v (p ∷ ps) values room lower zero g below is = search (rules, first_holds)
 each_holds v (p ∷ ps) values room lower (suc i) g below is =
     each_holds (v + 1) ps (set values v (value_by values p))
     (omega (arith, room, length-set values v (value_by values p))) lower.2 i g (omega (arith, below)) is

@@ -1,4 +1,5 @@
-use Rattle.std.proofs.Common.{◌*◌, get_or, arith}
+use Rattle.std.proofs.Common.{rules}
+use Rattle.std.proofs.Common.{arith}
 use Rattle.std.proofs.lemmas.List.{length-set}
 use Rattle.aig_step.proofs.Running.Cells.{codes_length, put_in_bytes}
 use Rattle.aig_step.proofs.cells.put_bytes.Goals as goal
@@ -16,13 +17,7 @@ pub overflow_add-codes : goal.overflow_add-codes
 overflow_add-codes c = grind (arith, codes_length c.args.codes.now c.requires.coded)
 
 pub bounds-codes-variable-2 : goal.bounds-codes-variable-2
-bounds-codes-variable-2 c =
-    omega (
-      arith,
-      c.requires.below,
-      codes_length c.args.codes.now c.requires.coded,
-      length-set c.args.codes.now (2 * c.args.variable) (get_or c.args.bytes 0 0),
-    )
+bounds-codes-variable-2 c = search (rules, codes_length, length-set)
 
 pub returns : goal.returns
 returns c v is =

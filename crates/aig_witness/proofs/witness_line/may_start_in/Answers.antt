@@ -1,4 +1,6 @@
-use Rattle.std.proofs.Common.{◌≡◌, ◌<◌, ◌+◌, ◌&&◌, ℕ, List, Bool, true, false, length, map, get_or, drop, ◌∙◌, sym, refl}
+use Rattle.std.proofs.lemmas.Grind.{common_steps}
+use Rattle.std.proofs.Common.{rules}
+use Rattle.std.proofs.Common.{◌≡◌, ◌<◌, ◌+◌, ◌&&◌, ℕ, List, Bool, length, map, get_or, drop, refl}
 use Rattle.std.proofs.Common.{add-one, arith, drop-cons}
 use Rattle.std.proofs.lemmas.List.{drop_all}
 use Rattle.aig_circuit.specs.declared.circuit.Latch.{Latch}
@@ -17,20 +19,10 @@ from_here latches state i k v w b low lower value same is =
     rw (add-one, drop-cons latches i k low, drop-cons state i v lower, ← value, is, same) refl
 
 pub loop-i-preserved : goal.loop-i-preserved
-loop-i-preserved c =
-    sym (from_here c.args.latches.now c.args.state.now c.loop-i.i c.index-latches-i.result c.index-state-i.result
-    c.value.result true c.loop-i-test.true (omega arith) c.index-state-i.is c.value.ensures
-    (sym c.if-not-may_start_at.false ∙ c.may_start_at.ensures))
-    ∙ c.loop-i.invariant
+loop-i-preserved c = grind (arith, common_steps, from_here)
 
 pub returns-then-not-may_start_at : goal.returns-then-not-may_start_at
-returns-then-not-may_start_at c =
-    sym (from_here c.args.latches.now c.args.state.now c.loop-i.i c.index-latches-i.result c.index-state-i.result
-    c.value.result false c.loop-i-test.true (omega arith) c.index-state-i.is c.value.ensures
-    (sym c.if-not-may_start_at.true ∙ c.may_start_at.ensures))
-    ∙ c.loop-i.invariant
+returns-then-not-may_start_at c = grind (arith, common_steps, from_here)
 
 pub returns : goal.returns
-returns c =
-    rw (drop_all c.loop-i.i c.args.latches.now c.loop-i-test.false, drop_all c.loop-i.i c.args.state.now (omega arith))
-    at c.loop-i.invariant
+returns c = search (rules, drop_all)

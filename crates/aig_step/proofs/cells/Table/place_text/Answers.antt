@@ -1,5 +1,5 @@
 use Rattle.std.proofs.Common.{◌≡◌, ◌+◌, ◌++◌, List, None, [], ◌∷◌, length, ap, ap₂, ◌∙◌, set, take, drop, get_or}
-use Rattle.std.proofs.Common.{refl, sym, arith}
+use Rattle.std.proofs.Common.{sym, arith}
 use Rattle.std.proofs.lemmas.List.{length-append, length-set, take_more}
 use Rattle.aig_circuit.specs.declared.value.Val.{Val}
 use Rattle.aig_step.specs.Stimulus.{value_of, values_of}
@@ -10,12 +10,6 @@ use Rattle.aig_step.proofs.Running.Cells.{are_codes, codes_length, values_are}
 use Rattle.aig_step.proofs.Running.Characters.{found_value, no_value}
 use Rattle.aig_step.proofs.Running.Tables.{placed_behind}
 use Rattle.aig_step.proofs.cells.Table.place_text.Goals as goal
-
-pub loop-character-init : goal.loop-character-init
-loop-character-init c =
-    let was : values_of_bytes c.deref_mut-codes.result.now ≡ c.args.self.now =
-    ap values_of_bytes c.deref_mut-codes.ensures.value ∙ c.self.view_is in
-    (rw c.deref_mut-codes.ensures.value c.self.invariant, ([], refl, was, refl), ap length was, omega arith)
 
 pub overflow_add-at : goal.overflow_add-at
 overflow_add-at c = grind (arith, codes_length c.loop-character.codes c.loop-character.invariant.0)

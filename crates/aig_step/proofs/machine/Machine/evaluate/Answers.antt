@@ -1,3 +1,4 @@
+use Rattle.std.proofs.Common.{rules}
 use Rattle.std.proofs.Common.{◌≡◌, ◌+◌, ◌-◌, ◌≤◌, length, ap, refl, sym, subst, ◌∙◌, arith, set}
 use Rattle.std.proofs.lemmas.List.{length-set}
 use Rattle.aig_circuit.specs.declared.circuit.Circuit.{Circuit}
@@ -10,14 +11,7 @@ use Rattle.aig_step.proofs.Running.Tables.{evaluated_length, placed_length}
 use Rattle.aig_step.proofs.machine.Machine.evaluate.Goals as goal
 
 pub evaluate-requires-clause-room : goal.evaluate-requires-clause-room
-evaluate-requires-clause-room c =
-    let largest : c.self.inside.parts.max_var ≡ c.args.self.now.max_var =
-    ap (λ (k : Circuit). k.max_var) c.self.view_is in
-    let size : length c.put_codes.new.self ≡ length c.args.values.now =
-    ap length c.put_codes.ensures ∙ placed_length (1 + c.len.result) c.args.state.now c.args.values.now in
-    let pairs : length c.as_slice-pairs.result.now ≡ length c.self.inside.pairs.items =
-    ap length c.as_slice-pairs.ensures.value in
-    omega (arith, largest, size, pairs, c.requires.room, c.self.invariant.size)
+evaluate-requires-clause-room c = search (rules, placed_length)
 
 pub evaluate-requires-clause-below : goal.evaluate-requires-clause-below
 evaluate-requires-clause-below c =
@@ -32,11 +26,7 @@ evaluate-requires-clause-below c =
     c.self.invariant.gates)
 
 pub returns-clause-room : goal.returns-clause-room
-returns-clause-room c =
-    ap length c.evaluate.ensures
-    ∙ evaluated_length (length c.put_codes.new.self - length c.as_slice-pairs.result.now) c.as_slice-pairs.result.now
-    c.put_codes.new.self
-    ∙ ap length c.put_codes.ensures ∙ placed_length (1 + c.len.result) c.args.state.now c.args.values.now
+returns-clause-room c = search (rules, evaluated_length, placed_length)
 
 pub returns-clause-assigned : goal.returns-clause-assigned
 returns-clause-assigned c given table long was =

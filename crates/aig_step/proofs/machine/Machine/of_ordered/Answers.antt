@@ -1,3 +1,4 @@
+use Rattle.std.proofs.Common.{rules}
 use Rattle.std.proofs.Common.{◌≡◌, sym, subst, ◌∙◌}
 use Rattle.aig_circuit.specs.declared.circuit.Circuit.{Circuit}
 use Rattle.aig_checked.specs.BinaryOrder.{IsInBinaryOrder}
@@ -18,10 +19,4 @@ invariant_of-result c =
     (can_run c.into_circuit-circuit.result formed ordered)
 
 pub returns : goal.returns
-returns c =
-    let same : c.into_circuit-circuit.result ≡ c.args.ordered =
-    c.into_circuit-circuit.ensures.value ∙ c.into_checked.ensures.value in
-    let ordered : IsInBinaryOrder c.into_circuit-circuit.result =
-    subst (λ (k : Circuit). IsInBinaryOrder k) (sym same) c.into_checked.ensures.ordered in
-    rw (← same, c.into_parts.ensures, c.in-Ok.ensures, c.as_slice.ensures)
-    (kept_means_the_same c.into_circuit-circuit.result ordered)
+returns c = search (rules, kept_means_the_same)

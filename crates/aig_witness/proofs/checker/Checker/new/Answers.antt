@@ -1,11 +1,10 @@
+use Rattle.std.proofs.Common.{rules}
 use Rattle.std.proofs.Common.{arith}
 use Rattle.aig_witness.proofs.Witnessing.{same_bad}
 use Rattle.aig_witness.proofs.checker.Checker.new.Goals as goal
 
 pub returns-clause-bad : goal.returns-clause-bad
-returns-clause-bad c =
-    same_bad c.args.checked.now c.in_ok-stepper.stepper.circuit c.circuit-circuit.ensures.well_formed
-    c.in_ok-stepper.ensures.same
+returns-clause-bad c = search (rules, same_bad)
 
 pub returns-clause-few : goal.returns-clause-few
 returns-clause-few c = omega (arith, returns-clause-bad c, c.circuit-circuit.ensures.well_formed.limits.literals.1.0)
