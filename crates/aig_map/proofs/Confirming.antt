@@ -1,7 +1,6 @@
 -- Whether what a block records is the record of a mapped image.
 pub mod LeastFirst
 pub mod TakenInTurn
-pub mod Links
 pub mod PositionsPut
 pub mod RecordedRight
 pub mod Judged

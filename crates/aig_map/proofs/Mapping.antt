@@ -1,4 +1,3 @@
 -- The mapped image.
-pub mod Recorded
 pub mod MappedOrder
 pub mod Alone

@@ -3,4 +3,3 @@ pub mod Refused
 pub mod RecordedAt
 pub mod OneSource
 pub mod Placed
-pub mod SourceVariables

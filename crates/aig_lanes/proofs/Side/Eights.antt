@@ -5,10 +5,8 @@ use Rattle.std.proofs.Common.{if◌then◌else◌, length, get_or, set, take, dr
 use Rattle.std.proofs.Common.{inl, inr}
 use Rattle.std.specs.Int.{bit_at}
 use Rattle.std.specs.Simd.Lanes.{digits_l, number_l, pick_l, zip2, Each1}
-use Rattle.std.proofs.Math.Nat.{pow-suc}
 use Rattle.std.proofs.lemmas.Bool.{cases_lt}
-use Rattle.std.proofs.lemmas.Nat.{pow-add}
-use Rattle.std.proofs.lemmas.Grind.{and_numeral, same_number_lists}
+use Rattle.std.proofs.lemmas.Grind.{same_number_lists}
 use Rattle.std.proofs.lemmas.List.{append-nil, drop-drop, drop_all, get_or-append-add, get_or-drop, get_or-map}
 use Rattle.std.proofs.lemmas.List.{get_or-set_other, get_or-set_same, get_or-take, get_or_append_left, length-append}
 use Rattle.std.proofs.lemmas.List.{length-drop, length-map, length-set, length-take, length-take-le}
@@ -21,7 +19,8 @@ use Rattle.aig_circuit.specs.declared.value.Val.TheVariants.{Zero}
 use Rattle.aig_lanes.specs.Parts.Lanes.{IsPair, bit_in}
 use Rattle.aig_lanes.specs.Parts.Sheets.{BytesText, byte_at, bytes_text, character_by, eight_at, overwritten}
 use Rattle.aig_step.specs.TraceText.{character_of, values_text}
-use Rattle.aig_lanes.proofs.Side.Sheets.{byte_bit, rows_with, text_long, zip_drop, zip_take}
+use Rattle.aig_lanes.proofs.Side.InputBits.{bit_of_byte}
+use Rattle.aig_lanes.proofs.Side.Sheets.{rows_with, text_long, zip_drop, zip_take}
 use borrow.Rule.Slice.PartMut.{put_mid}
 
 -- two lists, each with another behind it
@@ -95,19 +94,6 @@ module _ (octet place : ℕ) (ones zeros : List ℕ) (all : length ones ≡ 256)
       ∙ ap₂ by (get_or-take 8 (drop (8 * octet) ones) k 0 in_eight ∙ get_or-drop (8 * octet) ones k 0)
       (get_or-take 8 (drop (8 * octet) zeros) k 0 in_eight ∙ get_or-drop (8 * octet) zeros k 0)
 
--- eight bits at a time
-bytes_power : (i : ℕ) → 256 ^ i ≡ 2 ^ (8 * i)
-bytes_power zero = refl
-bytes_power (suc i) =
-    pow-suc 256 i ∙ ap (λ (n : ℕ). n * 256) (bytes_power i) ∙ sym (pow-add 2 (8 * i) 8)
-    ∙ ap (λ (n : ℕ). 2 ^ n) (omega arith)
-
-byte_bits : (x i j : ℕ) → j < 8 → bit_at (x / 256 ^ i % 256) j ≡ bit_at x (8 * i + j)
-byte_bits x i j below =
-    ap (λ (n : ℕ). bit_at (x / n % 256) j) (bytes_power i)
-    ∙ ap (λ (n : ℕ). bit_at n j) (sym (and_numeral (x / 2 ^ (8 * i)) 254 refl))
-    ∙ byte_bit x (8 * i) j below
-
 -- a byte of a plane has the bits of eight lanes
 pub plane_byte : (plane : List ℕ) (octet j : ℕ) → Each1 (λ (x : ℕ). x < 2 ^ 64) plane → octet < 32 → j < 8
     → (bytes : List ℕ) → bytes ≡ digits_l 256 32 (number_l (2 ^ 64) plane)
@@ -116,12 +102,11 @@ plane_byte plane octet j fit in_plane in_byte bytes are =
     let word = octet / 8 in
     let i = octet % 8 in
     let place : octet ≡ 8 * word + i = omega arith in
-    let byte : get_or bytes octet 0 ≡ get_or plane word 0 / 256 ^ i % 256 =
-    ap (λ (xs : List ℕ). get_or xs octet 0) are
+    let byte = ap (λ (xs : List ℕ). get_or xs octet 0) are
     ∙ ap (λ (n : ℕ). get_or (digits_l 256 32 (number_l (2 ^ 64) plane)) n 0) place
     ∙ get_or_narrower (2 ^ 64) 8 256 32 plane word i refl fit (omega arith) (omega (arith, in_plane)) in
     ap (λ (n : ℕ). bit_at n j) byte
-    ∙ byte_bits (get_or plane word 0) i j in_byte
+    ∙ bit_of_byte (get_or plane word 0) i j in_byte
     ∙ ap₂ (λ (v b : ℕ). bit_at (get_or plane v 0) b) (omega (arith, in_byte)) (omega (arith, in_byte))
 
 abbrev first_places : List ℕ

@@ -1,12 +1,12 @@
 -- The characters of literals in all lanes.
 use Rattle.std.proofs.Common.{◌≡◌, ◌≢◌, ◌+◌, ◌*◌, ◌/◌, ◌%◌, ◌^◌, ◌<◌, ◌≤◌, ℕ, zero, suc, List, [], ◌∷◌}
-use Rattle.std.proofs.Common.{drop, length, take, refl, sym, ap, ap₂, ◌∙◌, arith}
+use Rattle.std.proofs.Common.{drop, length, take, refl, sym, ap, ap₂, ◌∙◌, arith, get_or, min, max}
 use Rattle.std.proofs.Math.Nat.{add-mul, mul-le-mul_right, one-mul}
 use Rattle.std.proofs.lemmas.List.{drop-take, take-take}
 use Rattle.std.proofs.lemmas.Nat.{pow_below, pow_pos, shr-shr}
-use Rattle.std.proofs.lemmas.Nat.Bits.{and_pow, bit_at_and, bit_at_ones, bit_at-lt}
+use Rattle.std.proofs.lemmas.Nat.Bits.{and_pow, bit_at_and, bit_at_ones, bit_at-lt, bit_at_or, bit_at-zero}
 use Rattle.std.specs.Int.{bit_at}
-use Rattle.std.specs.Int.Bits.{bit_and}
+use Rattle.std.specs.Int.Bits.{bit_and, bit_or}
 use Rattle.std.specs.Simd.Lanes.{zip2}
 use Rattle.aig_circuit.specs.declared.value.Val.{Val}
 use Rattle.aig_circuit.specs.declared.value.Val.TheVariants.{Zero, One, X}
@@ -95,7 +95,53 @@ part_same from count end xs ys within same =
 -- the places of a step are among those of the steps before a later one
 pub steps_within : (step end width : ℕ) → step < end → step * width + width ≤ end * width
 steps_within step end width below =
-    let next : (step + 1) * width ≡ step * width + width =
-    add-mul step 1 width ∙ ap (λ (n : ℕ). step * width + n) (one-mul width) in
+    let next = add-mul step 1 width ∙ ap (λ (n : ℕ). step * width + n) (one-mul width) in
     let more : step + 1 ≤ end = omega arith in
     omega (arith, next, mul-le-mul_right {m = step + 1} {n = end} width more)
+
+-- a word of a plane that was computed word by word
+pub zip_at : (f : ℕ → ℕ → ℕ) → f 0 0 ≡ 0 → (p q : List ℕ) (i : ℕ) → length p ≡ length q
+    → get_or (zip2 f p q) i 0 ≡ f (get_or p i 0) (get_or q i 0)
+zip_at f none [] [] i same = sym none
+zip_at f none [] (y ∷ ys) i same = absurd (omega (arith, same))
+zip_at f none (x ∷ xs) [] i same = absurd (omega (arith, same))
+zip_at f none (x ∷ xs) (y ∷ ys) zero same = refl
+zip_at f none (x ∷ xs) (y ∷ ys) (suc i) same = zip_at f none xs ys i (omega (arith, same))
+
+pub and_in : (l : ℕ) (p q : List ℕ) → length p ≡ length q
+    → bit_in l (zip2 bit_and p q) ≡ min (bit_in l p) (bit_in l q)
+and_in l p q same =
+    ap (λ n. bit_at n (l % 64)) (zip_at bit_and refl p q (l / 64) same)
+    ∙ bit_at_and (get_or p (l / 64) 0) (get_or q (l / 64) 0) (l % 64)
+
+pub or_in : (l : ℕ) (p q : List ℕ) → length p ≡ length q
+    → bit_in l (zip2 bit_or p q) ≡ max (bit_in l p) (bit_in l q)
+or_in l p q same =
+    ap (λ n. bit_at n (l % 64)) (zip_at bit_or refl p q (l / 64) same)
+    ∙ bit_at_or (get_or p (l / 64) 0) (get_or q (l / 64) 0) (l % 64)
+
+-- four words that are one
+abbrev pub four : ℕ → List ℕ
+four n = n ∷ n ∷ n ∷ n ∷ []
+
+four_at : (n i : ℕ) → i < 4 → get_or (four n) i 0 ≡ n
+four_at n zero below = refl
+four_at n (suc zero) below = refl
+four_at n (suc (suc zero)) below = refl
+four_at n (suc (suc (suc zero))) below = refl
+four_at n (suc (suc (suc (suc k)))) below = absurd (omega (arith, below))
+
+zeros_at : (i : ℕ) → get_or (four 0) i 0 ≡ 0
+zeros_at zero = refl
+zeros_at (suc zero) = refl
+zeros_at (suc (suc zero)) = refl
+zeros_at (suc (suc (suc zero))) = refl
+zeros_at (suc (suc (suc (suc k)))) = refl
+
+pub all_ones : (l : ℕ) → l < 256 → bit_in l (four 18446744073709551615) ≡ 1
+all_ones l below =
+    ap (λ n. bit_at n (l % 64)) (four_at 18446744073709551615 (l / 64) (omega (arith, below)))
+    ∙ bit_at_ones 64 (l % 64) (omega arith)
+
+pub all_zeros : (l : ℕ) → bit_in l (four 0) ≡ 0
+all_zeros l = ap (λ n. bit_at n (l % 64)) (zeros_at (l / 64)) ∙ bit_at-zero (l % 64)

@@ -2,12 +2,13 @@
 use Rattle.std.proofs.Common.{rules}
 use Rattle.std.proofs.Common.{◌≡◌, ◌+◌, ◌*◌, ◌/◌, ◌%◌, ◌<◌, ◌≤◌, ◌==◌, ℕ, zero, suc, List, [], ◌∷◌}
 use Rattle.std.proofs.Common.{length, map, get_or, set, take, drop, refl, sym, ap, ap₂, ◌∙◌, arith, min, max}
-use Rattle.std.proofs.Common.{◌++◌, if◌then◌else◌, inl, inr, drop-cons}
+use Rattle.std.proofs.Common.{◌++◌, if◌then◌else◌, inl, inr, drop-cons, zero-add}
 use Rattle.std.specs.Int.Bits.{bit_and, bit_or}
 use Rattle.std.specs.Simd.Lanes.{zip2}
 use Rattle.std.proofs.lemmas.Bool.{cases_lt}
 use Rattle.std.proofs.lemmas.List.{append-nil, drop_all, get_or-map, length-map, length-take, map-set}
 use Rattle.std.proofs.lemmas.List.{take_all, take_more}
+use Rattle.std.proofs.lemmas.List.Edits.{paste_more}
 use Rattle.std.proofs.lemmas.List.Elements.{All-set}
 use Rattle.std.proofs.lemmas.Simd.{length-zip2}
 use Rattle.aig_circuit.specs.declared.value.Val.{Val}
@@ -19,7 +20,7 @@ use Rattle.aig_lanes.specs.Parts.Lanes.{IsLane, IsPair, IsPlane, bit_in, bits_of
 use Rattle.aig_step.specs.declared.evaluate.Pair.{Pair}
 use Rattle.aig_step.specs.Parts.Tables.{evaluated, placed, read_from}
 use Rattle.aig_step.proofs.Running.Tables.{placed_behind}
-use Rattle.aig_lanes.proofs.Side.Bits.{and_in, or_in}
+use Rattle.aig_lanes.proofs.Side.Sheets.{and_in, or_in}
 
 pub bits_length : (vs : List Val) → length (bits_of_values vs) ≡ 2 * length vs
 bits_length [] = refl
@@ -142,24 +143,14 @@ pub evaluated_on : (v k : ℕ) (pairs : List Pair) (p : Pair) (now all : List Va
     (set now v (value_and (literal_value (read_from now) p.left) (literal_value (read_from now) p.right))) ≡ all
 evaluated_on v k pairs p now all below is before =
     let next : suc k ≡ k + 1 = omega arith in
-    let front : drop k pairs ≡ p ∷ drop (k + 1) pairs =
-    drop-cons pairs k p below ∙ ap₂ (λ (q : Pair) n. q ∷ drop n pairs) (sym is) next in
+    let front = drop-cons pairs k p below ∙ ap₂ (λ (q : Pair) n. q ∷ drop n pairs) (sym is) next in
     ap (λ ps. evaluated v ps now) (sym front) ∙ before
 
 -- one more value is put in the front of a list
-filled_next : (i : ℕ) (xs before : List Val) (d : Val) → i < length xs → length before ≡ length xs
-    → take (suc i) xs ++ drop (suc i) before ≡ set (take i xs ++ drop i before) i (get_or xs i d)
-filled_next i [] before d below same = absurd (omega (arith, below))
-filled_next i (x ∷ xs) [] d below same = absurd (omega (arith, same))
-filled_next zero (x ∷ xs) (b ∷ bs) d below same = refl
-filled_next (suc i) (x ∷ xs) (b ∷ bs) d below same =
-    ap (λ ys. x ∷ ys) (filled_next i xs bs d (omega (arith, below)) (omega (arith, same)))
-
 pub filled_more : (i : ℕ) (xs before : List Val) (d x : Val) → i < length xs → length before ≡ length xs
     → x ≡ get_or xs i d → take (i + 1) xs ++ drop (i + 1) before ≡ set (take i xs ++ drop i before) i x
 filled_more i xs before d x below same is =
-    let next : i + 1 ≡ suc i = omega arith in
-    rw (next, is) (filled_next i xs before d below same)
+    rw is (sym (simp zero-add at (paste_more before 0 xs i d (omega (arith, below, same)) below)))
 
 pub filled_all : (i : ℕ) (xs before : List Val) → length xs ≤ i → length before ≡ length xs
     → take i xs ++ drop i before ≡ xs

@@ -33,8 +33,7 @@ pub number_is_read : (n m : ℕ) (ns rest : List ℕ) → IsSmall n
 number_is_read n m ns rest small = search (rules, append_assoc, canonical_is_read)
 
 pub last_is_read : (n : ℕ) (rest : List ℕ) → IsSmall n → last_number_at (line (n ∷ []) rest) ≡ Some (n, rest)
-last_is_read n rest small =
-    ap (canonical_before 10) (append_assoc (decimal n) (10 ∷ []) rest) ∙ canonical_is_read n 10 rest small refl
+last_is_read n rest small = search (rules, append_assoc, canonical_is_read)
 
 -- so one of two digits is, by its own byte and the line feed behind it
 pub flag_is_read : (bytes : List ℕ) → 1 < length bytes → get_or bytes 1 0 ≡ 10 → 48 ≤ get_or bytes 0 0

@@ -13,7 +13,7 @@ use Rattle.aig_map.specs.Undone.{undone, comment_behind, places_recorded}
 use Rattle.aig_map.proofs.BlockReading.Block.{read_is_within, read_is_text}
 use Rattle.aig_map.proofs.Confirming.RecordedRight.{order_recorded, recorded_right}
 use Rattle.aig_map.proofs.Restoring.Again.{image_again}
-use Rattle.aig_map.proofs.Restoring.Places.{IsFit}
+use Rattle.aig_map.proofs.Restoring.AtPositions.{IsFit}
 
 pub confirmed_by_order : (x : Circuit) (b : MapBlock) (rest : List ℕ) → IsWellFormed x → IsInBinaryOrder x
     → block_reading x ≡ Ok (b, rest) → AreDistinct (places_recorded b.gates)

@@ -2,20 +2,24 @@
 -- have it.
 use Rattle.std.proofs.Common.{rules}
 use Rattle.std.proofs.Common.{◌≡◌, ◌+◌, ◌<◌, ◌≤◌, ℕ, zero, suc, List, [], ◌∷◌, map}
-use Rattle.std.proofs.Common.{refl, sym, ap, subst, inl, inr, ⊎_elim, arith}
+use Rattle.std.proofs.Common.{refl, sym, ap, subst, inl, inr, ⊎_elim, arith, ◌++◌, length, length-append, get_or, ◌∙◌}
 use Rattle.std.specs.List.{range_with_len}
 use Rattle.std.proofs.lemmas.Bool.{cases_lt}
+use Rattle.std.proofs.lemmas.List.{get_or_append_left, get_or_default}
+use Rattle.std.proofs.Math.Seq.{get_or-append_seam}
 use Rattle.aig_circuit.specs.Wellformed.{IsAmong}
 use Rattle.aig_topo.specs.Order.{IsReady, TakesLeast, IsFull}
 use Rattle.aig_circuit.proofs.Checking.Fitting.{each}
-use Rattle.aig_topo.proofs.Ordering.Ranked.{all_served}
+use Rattle.aig_circuit.specs.declared.circuit.Gate.{Gate}
+use Rattle.aig_topo.proofs.Ordering.Ranked.{all_served, no_gate}
+use Rattle.aig_map.specs.Parts.Turns.{ready_from, ready_at, AreLinks, IsClear}
 
 -- what a function gives at a number is among what it gives at numbers in a row
 among_given : (f : ℕ → ℕ) (k a n : ℕ) → a ≤ k → k < a + n → IsAmong (f k) (map f (range_with_len a n))
 among_given f k a zero low high = absurd (omega (arith, low, high))
 among_given f k a (suc n) low high =
     ⊎_elim (λ (above : a < k). inr (among_given f k (a + 1) n (omega (arith, above)) (omega (arith, high))))
-    (λ (l : k ≤ a). let same : k ≡ a = omega (arith, l, low) in inl (ap f same)) (cases_lt a k)
+    (search rules) (cases_lt a k)
 
 -- a gate may have its place from ready on, which is just behind one that it needs, or 0
 module _ (count : ℕ) (needs : ℕ → List ℕ) (place at ready : ℕ → ℕ)
@@ -47,10 +51,7 @@ module _ (count : ℕ) (needs : ℕ → List ℕ) (place at ready : ℕ → ℕ)
   place_there : (p q : ℕ) (seen : List ℕ) → q < count → AreBefore p seen → IsReady count needs seen (at q)
       → (p ≤ q) × (ready q ≤ p)
   place_there p q seen there before is = (
-    ⊎_elim (λ (l : q < p).
-        let here = by_place q there in
-        absurd (is.left (before.0 (at q) here.0 (omega (arith, l, here.1)))))
-        (λ (l : p ≤ q). l) (cases_lt q p),
+    search (rules, cases_lt),
     from_last (ready q) refl,
   )
     where
@@ -83,9 +84,7 @@ module _ (count : ℕ) (needs : ℕ → List ℕ) (place at ready : ℕ → ℕ)
   pub takes_all : IsFull count needs (map at (range_with_len 0 count))
   takes_all g there served =
       let here = by_gate g there in
-      let low : place g < count = here.0 in
-      subst (λ i. IsAmong i (map at (range_with_len 0 count))) here.1
-      (among_given at (place g) 0 count (omega arith) (omega (arith, low)))
+      search (rules, among_given)
 
   least_from : (n k : ℕ) (seen : List ℕ) → k + n ≡ count → AreBefore k seen
       → TakesLeast count needs seen (map at (range_with_len k n))
@@ -105,3 +104,21 @@ module _ (count : ℕ) (needs : ℕ → List ℕ) (place at ready : ℕ → ℕ)
   pub least_at_each : TakesLeast count needs [] (map at (range_with_len 0 count)) → IsLeastAtEach
   least_at_each takes p q there behind free =
       least_from count 0 [] (omega arith) none_before takes p q (omega arith) there behind free
+
+-- the next place gets a link
+pub one_more_link : (places links : List ℕ) (at : ℕ)
+    → AreLinks places links → at ≤ length links → IsClear places at (length links) → AreLinks places (links ++ at ∷ [])
+one_more_link places links at are back clear j low =
+    ⊎_elim (search (rules, get_or_append_left))
+    (λ (l : length links ≤ j).
+    let same : length links ≡ j = omega (arith, l, low, length-append links (at ∷ [])) in
+    search (rules, get_or-append_seam))
+    (cases_lt j (length links))
+
+-- what is clear up to the next place, by what a link recorded
+pub one_more_clear : (first : ℕ) (gates : List Gate) (places : List ℕ) (k at ready : ℕ) (g : Gate)
+    → k < length gates → g ≡ get_or gates k g → ready ≡ ready_from first g → at ≤ ready → IsClear places at k
+    → ((q : ℕ) → q < k → IsClear places (ready_at first gates q) q)
+    → (q : ℕ) → q < k + 1 → IsClear places (ready_at first gates q) q
+one_more_clear first gates places k at ready g there is ready_is before clear all q low =
+    search (rules, no_gate, get_or_default, cases_lt)

@@ -1,4 +1,5 @@
 -- Positions that are put at their gates' places one by one.
+use Rattle.std.proofs.Common.{rules}
 use Rattle.std.proofs.Common.{◌≡◌, ◌≢◌, ◌+◌, ◌<◌, ◌≤◌, ℕ, List, length, get_or, set, refl, sym, ap, ◌∙◌}
 use Rattle.std.proofs.Common.{get_or-set_same, get_or-set_other, ⊎_elim, arith}
 use Rattle.std.specs.List.{AllByRecursion}
@@ -11,7 +12,7 @@ use Rattle.aig_image.proofs.Relabelling.Standing.{at_place, same_place}
 use Rattle.aig_map.specs.declared.map_block.MappedGate.{MappedGate}
 use Rattle.aig_map.specs.Parts.Turns.{positions}
 use Rattle.aig_map.specs.Undone.{places_recorded}
-use Rattle.aig_map.proofs.Restoring.Places.{place_each, position_at}
+use Rattle.aig_map.proofs.Restoring.AtPositions.{place_each, position_at}
 use Rattle.aig_map.proofs.Sources.RecordedAt.{none_recorded, recorded_at}
 
 places_many : (gates : List MappedGate) → length (places_recorded gates) ≡ length gates
@@ -49,20 +50,11 @@ module _ (gates : List MappedGate) (once : AreDistinct (places_recorded gates))
       let here = ap (λ (m : MappedGate). m.place) (is ∙ get_or_default gates k g none_recorded there) in
       let now : set found g.place k ≡ set found (place_of k) k = ap (λ p. set found p k) here in
       let fits = at_place (λ (m : MappedGate). m.place < length gates) none_recorded gates below k there in
-      ⊎_elim (λ (l : i < k).
-      ap (λ xs. get_or xs (place_of i) 0) now
-      ∙ get_or-set_other found (place_of k) (place_of i) k 0 (differ i k l there) ∙ put i l)
-      (λ (l : k ≤ i).
-      let same : i ≡ k = omega (arith, l, low) in
-      ap (λ xs. get_or xs (place_of i) 0) now ∙ ap (λ j. get_or (set found (place_of k) k) (place_of j) 0) same
-      ∙ get_or-set_same found (place_of k) k 0 (omega (arith, many, fits)) ∙ sym same)
+      ⊎_elim (search (rules, get_or-set_other, differ))
+      (search (rules, get_or-set_same))
       (cases_lt i k)
 
   -- where all did, each place has its position
   pub all_put : (found : List ℕ) → length found ≡ length gates → ArePut (length gates) found → found ≡ positions gates
   all_put found many put =
-      same_number_lists found (positions gates) (many ∙ sym (positions_many gates)) (λ p low.
-      let here = (place_each gates (length gates) once below refl).1.1 p (omega (arith, low, many)) in
-      let i : ℕ = get_or (positions gates) p 0 in
-      let there : i < length gates = omega (arith, here.0, places_many gates) in
-      ap (λ q. get_or found q 0) (sym here.1 ∙ place_at i there) ∙ put i there)
+      same_number_lists found (positions gates) (many ∙ sym (positions_many gates)) (search (rules, place_each, places_many, place_at))

@@ -18,7 +18,7 @@ use Rattle.aig_image.proofs.Relabelling.Formed.{variable_there as carried_variab
 use Rattle.aig_map.specs.declared.map_block.MappedGate.{MappedGate}
 use Rattle.aig_map.specs.declared.map_block.MapBlock.{MapBlock}
 use Rattle.aig_map.specs.Undone.{undone}
-use Rattle.aig_map.proofs.Restoring.Places.{IsFit, places, order, are, too, position_at}
+use Rattle.aig_map.proofs.Restoring.AtPositions.{IsFit, places, order, are, too, position_at}
 use Rattle.aig_map.proofs.Restoring.Source.{vs, source, start, gates_are, gates_many, back}
 use Rattle.aig_map.proofs.Sources.RecordedAt.{gate_had, none_recorded, recorded_at}
 use Rattle.aig_topo.specs.Order.{IsLeastReadyOrder, TakesLeast, IsFull, gate_operands}
@@ -79,18 +79,12 @@ module _ (b : MapBlock) (x : Circuit) (comment : Option (List ℕ)) (fit : IsFit
   at_gate : (i : ℕ) → i < count → ((recorded i).place < count) × (position (recorded i).place ≡ i)
   at_gate i low =
       let here = (are b x fit).1 i (omega (arith, low, image_many)) in
-      let there : (recorded i).place < count = omega (arith, here.0, place_at i low, (too b x fit).0, image_many) in (
-        there,
-        sym (position_there (recorded i).place there) ∙ ap (λ p. get_or (order b x fit) p 0) (sym (place_at i low))
-            ∙ here.1,
-      )
+      search (rules, place_at, too, image_many, position_there, order)
 
   at_place : (p : ℕ) → p < count → (position p < count) × ((recorded (position p)).place ≡ p)
   at_place p low =
       let here = (too b x fit).1 p (omega (arith, low, image_many)) in
-      let same = position_there p low in
-      let there : position p < count = omega (arith, here.0, same) in
-      (there, sym (place_at (position p) there) ∙ ap (λ k. get_or (places b x fit) k 0) (sym same) ∙ here.1)
+      search (rules, position_there, place_at, places)
 
   -- a gate of the source is the one at its place, carried back
   gate_at : (i : ℕ) → i < count → at gates i ≡ relabelled_gate g (gate_had x.gates (recorded i))
@@ -138,10 +132,7 @@ module _ (b : MapBlock) (x : Circuit) (comment : Option (List ℕ)) (fit : IsFit
   -- the source's gate of a place
   of_place : (q : ℕ) → q < count
       → at gates (position q) ≡ relabelled_gate g (exchanged_if (exchanged q) (at x.gates q))
-  of_place q low =
-      let here = at_place q low in
-      gate_at (position q) here.0
-      ∙ ap (λ k. relabelled_gate g (exchanged_if (exchanged q) (at x.gates k))) here.1
+  of_place q low = search (rules, at_place, gate_at, at)
 
   -- a gate that a gate needs has a place before its ready one
   enough : (q h : ℕ) → q < count → IsAmong h (needs (position q)) → (h < count) × (place h < ready q)
@@ -152,16 +143,7 @@ module _ (b : MapBlock) (x : Circuit) (comment : Option (List ℕ)) (fit : IsFit
       let uses = subst (Uses v) (of_place q low) over.1 in
       let image = image_at q low in
       let left : ℕ = variable_of (at x.gates q).left in
-      let right : ℕ = variable_of (at x.gates q).right in (
-        there,
-        ⊎_elim (λ (e : v ≡ g left).
-            let number = place_by_number h left there (omega (arith, image.0, image.1, low)) e in
-            omega (arith, number))
-            (λ (e : v ≡ g right).
-            let number = place_by_number h right there (omega (arith, image.0, image.1, image.2, low)) e in
-            omega (arith, number, image.2))
-            (from_either g (at x.gates q) v (exchanged q) uses),
-      )
+      let right : ℕ = variable_of (at x.gates q).right in search (rules, place_by_number, from_either, at)
 
   -- and it needs the gate just before its ready place
   last : (q r : ℕ) → q < count → ready q ≡ suc r → IsAmong (position r) (needs (position q))
@@ -171,10 +153,7 @@ module _ (b : MapBlock) (x : Circuit) (comment : Option (List ℕ)) (fit : IsFit
       let r_there = at_place r r_low in
       let v : ℕ = (at gates (position r)).var in
       let number : first + place (position r) ≡ variable_of (at x.gates q).left = omega (arith, is, r_there.1) in
-      let same : v ≡ g (variable_of (at x.gates q).left) = variable_at (position r) r_there.0 ∙ ap g number in
-      needed_by gates gates_once (position q) (position r)
-      (omega (arith, (at_place q low).0, many)) (omega (arith, r_there.0, many))
-      (subst (Uses v) (sym (of_place q low)) (by_left g (at x.gates q) v (exchanged q) same))
+      search (rules, at, variable_at, needed_by, gates_once, at_place, many, of_place, by_left)
 
   pub in_turn : AreTakenInTurn first x.gates (positions b.gates)
       → IsLeastReadyOrder (undone b comment x) (positions b.gates)

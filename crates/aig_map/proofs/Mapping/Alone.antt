@@ -29,7 +29,7 @@ use Rattle.aig_image.proofs.Imaging.Ordered.{image_is_ordered}
 use Rattle.aig_image.proofs.Imaging.Renewed.{made_is_image}
 use Rattle.aig_map.specs.declared.map_block.MapBlock.{MapBlock}
 use Rattle.aig_map.specs.MapBlock.{block_by, mapped_comment, IsMappedImage}
-use Rattle.aig_map.proofs.Mapping.Recorded.{block_is, is_mapped_image, renumbering_stays}
+use Rattle.aig_map.proofs.Mapping.MappedOrder.{block_is, is_mapped_image, renumbering_stays}
 use Rattle.aig_map.proofs.Mapping.MappedOrder.{comment_is_free}
 
 -- the label of a variable that keeps it
@@ -54,9 +54,7 @@ module _ (c : Circuit) (good : IsWellFormed c) (numbered : IsNumberedInOrder c) 
   names_stay =
       let Same : ℕ → Type 0 = λ v. kept v ≡ renumbered all v in
       names_only Same c refl
-      (all_weaker (IsVariableUpTo c.max_var) Same
-      (λ v range. min-eq_left (omega (arith, range, good.limits.max_var)) ∙ sym (same_variable c.max_var v range.1))
-      (defined_variables c) good.in_range)
+      (search (rules, all_weaker, min-eq_left, same_variable))
       good
 
   pub with_map_is_image : (comment : List ℕ) → comment ≡ mapped_comment (block_by kept c) c
@@ -69,7 +67,7 @@ module _ (c : Circuit) (good : IsWellFormed c) (numbered : IsNumberedInOrder c) 
       let text = tells ∙ ap (λ (b : MapBlock). mapped_comment b c) (block_is c order kept names) in (
         order,
         least,
-        ap₂ (λ (d : Circuit) bytes. record d { comment = Some bytes }) (own.2 ∙ ap (λ at. image_by at c) same) text,
+        search rules,
       )
 
 -- the larger operand of each gate first, this comment, and as many variables as are defined
@@ -100,7 +98,7 @@ module _ (c : Circuit) (r : Renumbering) (good : IsWellFormed c) (of_it : IsRenu
   made_is =
       made_is_image commented r made c.gates (comment_is_free c (Some comment) good)
       (renumbering_stays c comment r of_it)
-      (ap (λ n. record (with_operands_sorted (relabelled f c)) { max_var = n; comment = Some comment }) count_is)
+      (search (rules, count_is))
       gates_are
 
   pub made_is_ordered : IsWellFormed made × IsInBinaryOrder made

@@ -31,7 +31,7 @@ use Rattle.aig_map.specs.MapBlock.{block_text, mapped_gate, map_block, mapped_by
 use Rattle.aig_map.specs.Parts.Confirmed.{TellsExchanges, TellsComment}
 use Rattle.aig_map.specs.Undone.{comment_behind, exchanges_recorded, undone}
 use Rattle.aig_map.proofs.Sources.RecordedAt.{gate_had, none_recorded, recorded_at}
-use Rattle.aig_map.proofs.Restoring.Places.{IsFit, places, order, too}
+use Rattle.aig_map.proofs.Restoring.AtPositions.{IsFit, places, order, too}
 use Rattle.aig_map.proofs.Restoring.Source.{vs, source, start, as_many, new_is, inputs_are, latches_are}
 use Rattle.aig_map.proofs.Restoring.Source.{variable_there, gates_are, back}
 
@@ -44,14 +44,12 @@ was_there false rest = refl
 was_this : (has : Bool) (rest : List ℕ) → (has ≡ true) ⊎ (rest ≡ [])
     → unwrap_or (if has then Some rest else None) [] ≡ rest
 was_this true rest recorded = refl
-was_this false rest recorded =
-    ⊎_elim (λ (e : false ≡ true). let bad : ⊥ = cc in absurd bad) (λ (e : rest ≡ []). sym e) recorded
+was_this false rest recorded = search rules
 
 -- of sorted operands, two different ones are exchanged where the smaller one is first
 exchanged_back : (e : Bool) (g : Gate) → g.right ≤ g.left → (e ≡ true → g.left ≢ g.right)
     → has_smaller_first (exchanged_if e g) ≡ e
-exchanged_back true g first two =
-    lt-ltb g.right g.left (let other : g.left ≢ g.right = two refl in omega (arith, first, other))
+exchanged_back true g first two = search (rules, lt-ltb)
 exchanged_back false g first two = le-ltb g.left g.right first
 
 abbrev recorded : ℕ → ℕ → Bool → MappedGate
@@ -114,11 +112,7 @@ module _ (b : MapBlock) (x : Circuit) (rest : List ℕ) (fit : IsFit b x) (good 
       λ m. m.exchanged ≡ true → (at x.gates m.place).left ≢ (at x.gates m.place).right in
       let all = by_places Again none_recorded b.gates (λ i low.
       let m : MappedGate = recorded_at b.gates i in
-      let within = at_place (λ (h : MappedGate). IsVariableUpTo b.max_var h.var × (h.place < length b.gates))
-      none_recorded
-      b.gates fit.bounds.gates i low in
-      recorded_again m (omega (arith, within.1, fit.counts.gates)) (variable_there b x comment fit i low)
-      (at_place Differs none_recorded b.gates exchanges i low)) in
+      search (rules, at_place, none_recorded, recorded_again, variable_there)) in
       ap (map (mapped_gate f first)) (gates_are b x comment fit)
       ∙ map-map (mapped_gate f first) made b.gates
       ∙ map_where Again (λ m. mapped_gate f first (made m)) (λ m. m) (λ m e. e) b.gates all
@@ -131,14 +125,7 @@ module _ (b : MapBlock) (x : Circuit) (rest : List ℕ) (fit : IsFit b x) (good 
       let latches = latches_are b x comment fit in
       let gates =
       ap (λ ns. map (mapped_gate (renumbered ns) first) from.gates) (new_is b x comment fit) ∙ gates_again exchanges in
-      let has = was_there b.has_comment rest in
-      λ i. record {
-        max_var = b.max_var;
-        inputs = inputs i;
-        latches = latches i;
-        gates = gates i;
-        has_comment = has i;
-      }
+      search (rules, was_there)
 
   -- and the image
   pub image_again : x.comment ≡ Some (block_text b ++ rest) → TellsExchanges x.gates b.gates

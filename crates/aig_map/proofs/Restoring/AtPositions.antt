@@ -1,54 +1,136 @@
 -- The gates of the source: those of the image, put at their positions, and exchanged there.
+use Rattle.std.proofs.Common.{rules}
 use Rattle.std.proofs.Common.{◌≡◌, ◌<◌, ℕ, List, Bool, true, false, length, map, refl, sym, ap, ap₂, subst, ◌∙◌, arith}
-use Rattle.std.specs.List.{AllByRecursion}
+use Rattle.std.proofs.Common.{◌≢◌, ◌+◌, suc, [], ◌∷◌, eqb, get_or, ⊎_elim}
+use Rattle.std.specs.List.{AllByRecursion, position_or_len, range_with_len}
 use Rattle.std.proofs.lemmas.List.{length-map}
 use Rattle.std.proofs.lemmas.Simd.{map-map}
+use Rattle.std.proofs.lemmas.Bool.Decides.{eqb_tells}
 use Rattle.aig_circuit.specs.declared.circuit.Gate.{Gate}
 use Rattle.aig_circuit.specs.declared.circuit.Circuit.{Circuit}
-use Rattle.aig_circuit.specs.Wellformed.{AreDistinct}
+use Rattle.aig_circuit.specs.Wellformed.{AreDistinct, IsVariableUpTo}
 use Rattle.aig_topo.proofs.Ordering.Ranked.{at}
 use Rattle.aig_image.specs.Relabelled.{relabelled_gate}
 use Rattle.aig_image.specs.Renumbering.{source_variable}
-use Rattle.aig_image.specs.Reordered.{ArePlaces, exchanged_by, exchanged_if, taken}
+use Rattle.aig_image.specs.Reordered.{ArePlaces, exchanged_by, exchanged_if, taken, positions_of}
 use Rattle.aig_image.proofs.Relabelling.Exchanged.{exchanged_each}
 use Rattle.aig_image.proofs.Relabelling.Lists.{map_each}
-use Rattle.aig_image.proofs.Relabelling.Positions.{places_apart}
-use Rattle.aig_map.proofs.Restoring.Places.{place_each}
+use Rattle.aig_image.proofs.Relabelling.Positions.{places_apart, have_positions}
 use Rattle.aig_image.proofs.Relabelling.Reordered.{taken_back, taken_mapped}
-use Rattle.aig_image.proofs.Relabelling.Standing.{by_places}
+use Rattle.aig_image.proofs.Relabelling.Standing.{by_places, at_place}
+use Rattle.aig_image.proofs.Relabelling.Formed.{all_through}
+use Rattle.aig_image.proofs.Numbering.Places.{further}
 use Rattle.aig_map.specs.declared.map_block.MappedGate.{MappedGate}
 use Rattle.aig_map.specs.declared.map_block.MapBlock.{MapBlock}
 use Rattle.aig_map.specs.MapReading.{HasCountsOf, IsWithinBounds}
 use Rattle.aig_map.specs.Parts.Had.{gates_there}
 use Rattle.aig_map.specs.Parts.Tables.{ArePut}
 use Rattle.aig_map.specs.Parts.Turns.{positions}
-use Rattle.aig_map.specs.Undone.{exchanges_recorded, places_recorded, source_variables}
+use Rattle.aig_map.specs.Undone.{exchanges_recorded, places_recorded, source_variables, variable_at_place}
 use Rattle.aig_map.proofs.Sources.RecordedAt.{gate_had}
-use Rattle.aig_map.proofs.Sources.SourceVariables.{places_there}
+use Rattle.aig_map.proofs.Sources.Placed.{places_there}
+use Rattle.aig_checked.specs.BinaryOrder.{IsInBinaryOrder}
+
+-- a circuit in binary order, and a block that fits it
+pub record IsFit (b : MapBlock) (x : Circuit) : Type 0 where
+  pub ordered : IsInBinaryOrder x
+  pub counts : HasCountsOf b x
+  pub bounds : IsWithinBounds b
+  pub once : AreDistinct (places_recorded b.gates)
+
+abbrev pub variables_recorded : List MappedGate → List ℕ
+variables_recorded gates = map (λ (g : MappedGate). g.var) gates
+
+abbrev pub position_at : List MappedGate → ℕ → ℕ
+position_at gates place = position_or_len (λ p. eqb p place) (places_recorded gates)
+
+-- the variable at a place is that of the gate at this place's position
+variable_by_position : (gates : List MappedGate) (p : ℕ)
+    → variable_at_place gates p ≡ get_or (variables_recorded gates) (position_at gates p) 0
+variable_by_position [] p = refl
+variable_by_position (g ∷ gates) p =
+    ⊎_elim (λ (t : (eqb g.place p ≡ true) × (g.place ≡ p)). rw t.0 refl)
+    (λ (f : (eqb g.place p ≡ false) × (g.place ≢ p)).
+    rw f.0 (variable_by_position gates p ∙ sym (further g.var (position_at gates p) (variables_recorded gates))))
+    (eqb_tells g.place p)
+
+-- so by their places the variables of gates are theirs in the order of the positions
+pub by_position : (gates : List MappedGate) → map (variable_at_place gates) (range_with_len 0 (length gates))
+    ≡ map (λ at. get_or (variables_recorded gates) at 0) (positions_of (places_recorded gates))
+by_position gates = search (rules, map_each, variable_by_position, length-map, map-map)
+
+-- distinct places of so many gates are each that of one of them
+pub place_each : (gates : List MappedGate) (n : ℕ) → AreDistinct (places_recorded gates)
+    → AllByRecursion (λ (g : MappedGate). g.place < n) gates → length gates ≡ n
+    → ArePlaces (positions_of (places_recorded gates)) (places_recorded gates) n
+    × ArePlaces (places_recorded gates) (positions_of (places_recorded gates)) n
+place_each gates n once below many =
+    have_positions n (places_recorded gates) once
+    (search (rules, all_through))
+    (length-map gates (λ (g : MappedGate). g.place) ∙ many)
+
+module _ (b : MapBlock) (x : Circuit) (fit : IsFit b x) where
+  abbrev pub places : List ℕ
+  places = places_recorded b.gates
+
+  abbrev pub order : List ℕ
+  order = positions_of places
+
+  both : ArePlaces order places (length x.gates) × ArePlaces places order (length x.gates)
+  both =
+      place_each b.gates (length x.gates) fit.once
+      (places_there b.max_var (length b.gates) b.gates fit.bounds.gates (length x.gates) fit.counts.gates)
+      fit.counts.gates
+
+  pub are : ArePlaces order places (length x.gates)
+  are = both.0
+
+  pub too : ArePlaces places order (length x.gates)
+  too = both.1
+
+  -- the variables by place are in range too
+  pub row_in_range : AllByRecursion (IsVariableUpTo b.max_var)
+      (map (variable_at_place b.gates) (range_with_len 0 (length b.gates)))
+  row_in_range =
+      let InRange : ℕ → Type 0 = IsVariableUpTo b.max_var in
+      let all : List ℕ = variables_recorded b.gates in
+      let recorded : AllByRecursion InRange all =
+      all_through (λ (g : MappedGate). InRange g.var × (g.place < length b.gates)) InRange (λ (g : MappedGate). g.var)
+      (λ g e. e.0) b.gates fit.bounds.gates in
+      let there = by_places (λ i. i < length all) 0 order (λ p low.
+      omega (
+        arith,
+        (too.1 p (omega (arith, low, too.0))).0,
+        length-map b.gates (λ (g : MappedGate). g.var),
+        length-map b.gates (λ (g : MappedGate). g.place),
+      )) in
+      subst (AllByRecursion InRange) (sym (by_position b.gates))
+      (all_through (λ i. i < length all) InRange (λ i. get_or all i 0)
+      (λ i low. at_place InRange 0 all recorded i low) order there)
 
 module _ (gates : List Gate) (recorded : List MappedGate) (once : AreDistinct (places_recorded recorded))
     (many : length recorded ≡ length gates)
     (there : AllByRecursion (λ (g : MappedGate). g.place < length gates) recorded) where
-  abbrev places : List ℕ
-  places = places_recorded recorded
+  abbrev told : List ℕ
+  told = places_recorded recorded
 
-  as_many : length places ≡ length gates
+  as_many : length told ≡ length gates
   as_many = length-map recorded (λ (g : MappedGate). g.place) ∙ many
 
-  both : ArePlaces (positions recorded) places (length gates) × ArePlaces places (positions recorded) (length gates)
-  both = place_each recorded (length gates) once there many
+  each_way : ArePlaces (positions recorded) told (length gates) × ArePlaces told (positions recorded) (length gates)
+  each_way = place_each recorded (length gates) once there many
 
   -- there are as many positions as gates, each is below their count, and no two are the same
   pub positions_many : length (positions recorded) ≡ length gates
-  positions_many = both.1.0
+  positions_many = each_way.1.0
 
   pub positions_there : AllByRecursion (λ p. p < length gates) (positions recorded)
   positions_there = by_places (λ p. p < length gates) 0 (positions recorded) (λ i low.
-      let here = both.1.1 i (omega (arith, low, positions_many)) in
+      let here = each_way.1.1 i (omega (arith, low, positions_many)) in
       omega (arith, here.0, as_many))
 
   pub positions_once : AreDistinct (positions recorded)
-  positions_once = places_apart places (positions recorded) (length gates) both.1
+  positions_once = places_apart told (positions recorded) (length gates) each_way.1
 
   module _ (vs : List ℕ) where
     abbrev f : ℕ → ℕ
@@ -58,10 +140,10 @@ module _ (gates : List Gate) (recorded : List MappedGate) (once : AreDistinct (p
     pub gates_put : (us : List Gate) → length us ≡ length gates
         → taken us (positions recorded) ≡ map (relabelled_gate f) gates → us ≡ gates_there f gates recorded
     gates_put us long put =
-        sym (taken_back us (positions recorded) places
-        (subst (ArePlaces (positions recorded) places) (sym long) both.0))
-        ∙ ap (λ (gs : List Gate). taken gs places) put
-        ∙ sym (taken_mapped (relabelled_gate f) refl gates places)
+        sym (taken_back us (positions recorded) told
+        (subst (ArePlaces (positions recorded) told) (sym long) each_way.0))
+        ∙ ap (λ (gs : List Gate). taken gs told) put
+        ∙ sym (taken_mapped (relabelled_gate f) refl gates told)
 
     exchanged_too : (e : Bool) (g : Gate) → exchanged_if e (relabelled_gate f g) ≡ relabelled_gate f (exchanged_if e g)
     exchanged_too true g = refl
@@ -101,9 +183,7 @@ module _ (b : MapBlock) (x : Circuit) (counts : HasCountsOf b x) (bounds : IsWit
   put_as_recorded vs positions_are gates found same_variables same_positions same_gates put =
       gates_put x.gates b.gates once counts.gates they_are_there (source_variables b) found
       (put.many ∙ ap length same_gates)
-      (ap (taken found) (sym same_positions) ∙ put.put
-      ∙ ap₂ (λ (us : List ℕ) (gs : List Gate). map (relabelled_gate (source_variable us)) gs) same_variables
-      same_gates)
+      (search rules)
 
   -- and with operands exchanged by the flags they are the gates of the source
   pub exchanged_as_recorded : exchanged_by (exchanges_recorded b.gates)

@@ -27,7 +27,7 @@ use Rattle.aig_map.specs.declared.map_block.MappedGate.{MappedGate}
 use Rattle.aig_map.specs.declared.map_block.MapBlock.{MapBlock}
 use Rattle.aig_map.specs.MapBlock.{mapped_gate, map_block, mapped_by}
 use Rattle.aig_map.specs.Undone.{comment_behind, exchanges_recorded, places_recorded, source_variables, undone}
-use Rattle.aig_map.proofs.Restoring.Places.{by_position}
+use Rattle.aig_map.proofs.Restoring.AtPositions.{by_position}
 
 -- the comment behind a block is that of the circuit
 comment_kept : (comment : Option (List ℕ)) (b : MapBlock) → b.has_comment ≡ is_some comment
@@ -73,14 +73,7 @@ module _ (c : Circuit) (order : List ℕ) (good : IsWellFormed c) (least : IsLea
       let is = get_or-append-add first (variables now) j 0
       ∙ get_or-map (λ (h : Gate). h.var) now j no_gate 0 (omega (arith, low, now_many))
       ∙ ap (λ (h : Gate). h.var) (get_or-map (at c.gates) order j 0 no_gate low) in
-      let fits : k < length vs = omega (arith, low, now_many, vars_many, length-append first (variables now)) in
-      let number : 1 + k ≡ start + j =
-      omega (
-        arith,
-        length-append c.inputs (map (λ (l : Latch). l.var) c.latches),
-        length-map c.latches (λ (l : Latch). l.var),
-      ) in
-      ap f (sym is) ∙ number_there c order good least k fits ∙ number
+      search (rules, length-append, variables, length-map, number_there)
 
   -- the place that is recorded of a gate
   pub place_at : (i : ℕ) → i < length c.gates → get_or places i 0 ≡ (tell (at c.gates i)).place
@@ -95,11 +88,7 @@ module _ (c : Circuit) (order : List ℕ) (good : IsWellFormed c) (least : IsLea
       let long : length places ≡ length (positions_of order) = omega (arith, recorded_many, places_many, position.0) in
       ext_get_or 0 places (positions_of order) long (λ i below.
       let low : i < length c.gates = omega (arith, below, places_many, recorded_many) in
-      let here = position.1 i low in
-      let p : ℕ = get_or (positions_of order) i 0 in
-      let number = number_taken p here.0 in
-      let place : f (at c.gates (get_or order p 0)).var - start ≡ p = omega (arith, number) in
-      place_at i low ∙ ap (λ k. f (at c.gates k).var - start) (sym here.1) ∙ place)
+      search (rules, number_taken, at, place_at))
 
   pub are : ArePlaces order places (length c.gates)
   are = subst (λ ps. ArePlaces order ps (length c.gates)) (sym places_are) (order_is_places c order good least).1

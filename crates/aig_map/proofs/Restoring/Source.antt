@@ -30,17 +30,15 @@ use Rattle.aig_map.specs.declared.map_block.MappedGate.{MappedGate}
 use Rattle.aig_map.specs.declared.map_block.MapBlock.{MapBlock}
 use Rattle.aig_map.specs.Parts.Had.{without_gates}
 use Rattle.aig_map.specs.Undone.{exchanges_recorded, places_recorded, source_variables, undone, variable_at_place}
-use Rattle.aig_map.proofs.Restoring.Places.{IsFit, places, order, are, too, by_position, row_in_range}
-use Rattle.aig_map.proofs.Restoring.Places.{variables_recorded}
+use Rattle.aig_map.proofs.Restoring.AtPositions.{IsFit, places, order, are, too, by_position, row_in_range}
+use Rattle.aig_map.proofs.Restoring.AtPositions.{variables_recorded}
 use Rattle.aig_map.proofs.Sources.RecordedAt.{gate_had, none_recorded, recorded_at}
 
 -- numbers from 1 on, carried back, are the variables in a row
 carried : (vs : List ℕ) → map (source_variable vs) (range_with_len 1 (length vs)) ≡ vs
 carried vs =
     let long = length-map-range_with_len (source_variable vs) 1 (length vs) in
-    ext_get_or 0 (map (source_variable vs) (range_with_len 1 (length vs))) vs long (λ i below.
-    get_or-map-range_with_len (source_variable vs) 1 (length vs) i (1 + i) 0 (omega (arith, below, long)) (omega arith)
-    ∙ by_place vs i)
+    ext_get_or 0 (map (source_variable vs) (range_with_len 1 (length vs))) vs long (search (rules, get_or-map-range_with_len, by_place))
 
 -- equal lists in two parts of equal lengths have equal parts
 parts : (xs ys s t : List ℕ) → length xs ≡ length ys → xs ++ s ≡ ys ++ t → (xs ≡ ys) × (s ≡ t)
@@ -88,8 +86,7 @@ module _ (b : MapBlock) (x : Circuit) (comment : Option (List ℕ)) (fit : IsFit
   as_many = omega (arith, length-append first row, row_many, first_many, fit.counts.gates, fit.ordered.all)
 
   numbers_are : map (source_variable vs) (defined_variables x) ≡ vs
-  numbers_are =
-      ap (map (source_variable vs)) (variables_are x fit.ordered ∙ ap (range_with_len 1) (sym as_many)) ∙ carried vs
+  numbers_are = search (rules, variables_are, as_many, carried)
 
   -- in its order, the source defines the variables that the block tells of
   pub new_is : in_new_order source (order b x fit) ≡ vs
@@ -179,5 +176,4 @@ well_formed_again b x comment good fit once =
     moved_good.in_range in
     form_is_kept g f b.max_var comment moved moved_good refl
     (names_only (λ v. f (g v) ≡ v) moved refl kept moved_good) fit.bounds.max_var
-    (all_weaker InRange (λ v. IsVariableUpTo b.max_var (g v)) (in_range b x comment fit) (defined_variables moved)
-    moved_good.in_range)
+    (search (rules, all_weaker, in_range))

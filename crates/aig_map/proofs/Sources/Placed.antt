@@ -2,7 +2,7 @@
 use Rattle.std.proofs.Common.{rules}
 use Rattle.std.proofs.Common.{◌≡◌, ◌≢◌, ◌<◌, ℕ, zero, suc, List, [], ◌∷◌, Some, None, true, false}
 use Rattle.std.proofs.Common.{length, map, get_or, set, replicate, refl, sym, subst, ◌∙◌, inl, inr, ⊎_elim, arith}
-use Rattle.std.proofs.Common.{eqb, zero-add, get_or-set_same, get_or-set_other, ◌≤◌, Option, eqb-true}
+use Rattle.std.proofs.Common.{eqb, zero-add, get_or-set_same, get_or-set_other, ◌≤◌, Option, eqb-true, ◌+◌, ◌++◌}
 use Rattle.std.specs.Prelude.{◌==◌, if◌then◌else◌}
 use Rattle.std.specs.List.{AllByRecursion, range_with_len}
 use Rattle.std.proofs.lemmas.Bool.Decides.{eqb_tells}
@@ -11,9 +11,15 @@ use Rattle.std.proofs.lemmas.List.{length-set, length-replicate}
 use Rattle.std.proofs.lemmas.List.FromFn.{get_or-map-range_with_len, length-map-range_with_len}
 use Rattle.std.proofs.lemmas.Bool.{ne_eqb}
 use Rattle.aig_circuit.specs.Wellformed.{IsAmong, AreDistinct, IsVariableUpTo}
+use Rattle.aig_circuit.proofs.Checking.Fitting.{all_weaker}
+use Rattle.aig_circuit.proofs.Checking.InForm.{joined}
 use Rattle.aig_map.specs.declared.map_block.MappedGate.{MappedGate}
 use Rattle.aig_map.specs.Parts.Placed.{with_gates, table_of}
-use Rattle.aig_map.specs.Undone.{places_recorded, variable_at_place}
+use Rattle.aig_map.specs.Undone.{places_recorded, variable_at_place, source_variables}
+use Rattle.aig_map.specs.declared.map_block.MapBlock.{MapBlock}
+use Rattle.aig_map.specs.MapReading.{IsWithinBounds}
+use Rattle.aig_image.specs.Relabelled.{FitIntoLiterals}
+use Rattle.aig_image.specs.Renumbering.{source_variable}
 
 -- what goes on only where a number is 0, and gives something, went on
 pub only_at_zero : (v : ℕ) (next : Option (List ℕ)) (table : List ℕ)
@@ -63,7 +69,7 @@ all_placed placed (g ∷ gates) once free is =
     let other : (p : ℕ) → IsAmong p (places_recorded gates) → p ≢ g.place =
     λ p i e. once.0 (subst (λ q. IsAmong q (places_recorded gates)) e i) in
     all_placed (put placed g) gates once.1 (λ p i. put_elsewhere placed g p (other p i) ∙ free p (inr i))
-    (sym (at_zero (get_or placed g.place 0) (with_gates (put placed g) gates) None (free g.place (inl refl))) ∙ is)
+    (search (rules, at_zero))
 
 module _ (most count : ℕ) where
   -- what a block tells of a gate is within bounds
@@ -82,11 +88,7 @@ module _ (most count : ℕ) where
       let new : get_or (put placed g) g.place 0 ≡ g.var = put_here placed g (omega (arith, many, good.0.1)) in
       let apart : ¬ IsAmong g.place (places_recorded gates) = λ a. omega (arith, later.1 g.place a, new, good.0.0.0) in
       let other : (p : ℕ) → IsAmong p (places_recorded gates) → p ≢ g.place =
-      λ p i e. apart (subst (λ q. IsAmong q (places_recorded gates)) e i) in (
-        (apart, later.0),
-        λ p a. ⊎_elim (λ (e : p ≡ g.place). subst (λ q. get_or placed q 0 ≡ 0) (sym e) here.0)
-            (λ (i : IsAmong p (places_recorded gates)). sym (put_elsewhere placed g p (other p i)) ∙ later.1 p i) a,
-      )
+      λ p i e. apart (subst (λ q. IsAmong q (places_recorded gates)) e i) in search (rules, put_elsewhere)
 
   -- what is expected stays while gates are placed
   expected_next : (placed : List ℕ) (g : MappedGate) (gates : List MappedGate)
@@ -132,3 +134,46 @@ module _ (most : ℕ) (gates : List MappedGate) (good : AllByRecursion (IsGood m
   -- where there is none, they are not
   pub place_twice : table_of gates ≡ None → ¬ AreDistinct (places_recorded gates)
   place_twice is once = all_placed none gates once (λ p _. zeros (length gates) p) is
+
+module _ (most count : ℕ) where
+  -- the variable of a place is not above the largest one
+  place_fits : (gates : List MappedGate) → AllByRecursion (IsGood most count) gates
+      → (p : ℕ) → variable_at_place gates p ≤ most
+  place_fits [] good p = omega arith
+  place_fits (g ∷ gates) good p =
+      ⊎_elim (search (rules, variable_here))
+      (search (rules, variable_later, place_fits gates good.1 p))
+      (eqb_tells g.place p)
+
+  -- nor are those of places in a row
+  places_fit : (gates : List MappedGate) → AllByRecursion (IsGood most count) gates
+      → (a n : ℕ) → AllByRecursion (λ v. v ≤ most) (map (variable_at_place gates) (range_with_len a n))
+  places_fit gates good a zero = tt
+  places_fit gates good a (suc n) = (place_fits gates good a, places_fit gates good (a + 1) n)
+
+  -- each place is that of one of so many gates
+  pub places_there : (gates : List MappedGate) → AllByRecursion (IsGood most count) gates
+      → (n : ℕ) → count ≡ n → AllByRecursion (λ (g : MappedGate). g.place < n) gates
+  places_there [] good n is = tt
+  places_there (g ∷ gates) good n is = (omega (arith, good.0.1, is), places_there gates good.1 n is)
+
+-- where all are at most so large, the item at an index is
+at_most_at : (most : ℕ) (vs : List ℕ) → AllByRecursion (λ v. v ≤ most) vs → (i : ℕ) → get_or vs i 0 ≤ most
+at_most_at most [] all i = omega arith
+at_most_at most (v ∷ vs) all zero = all.0
+at_most_at most (v ∷ vs) all (suc i) = at_most_at most vs all.1 i
+
+-- and the variable that had a number
+variable_fits : (most : ℕ) (vs : List ℕ) → AllByRecursion (λ v. v ≤ most) vs
+    → (number : ℕ) → source_variable vs number ≤ most
+variable_fits most vs all number = search (rules, at_most_at)
+
+pub they_fit : (b : MapBlock) → IsWithinBounds b → FitIntoLiterals (source_variable (source_variables b))
+they_fit b bounds number =
+    let top : ℕ → Type 0 = λ v. v ≤ b.max_var in
+    let inputs = all_weaker (IsVariableUpTo b.max_var) top (λ v is. is.1) b.inputs bounds.inputs in
+    let latches = all_weaker (IsVariableUpTo b.max_var) top (λ v is. is.1) b.latches bounds.latches in
+    let gates = places_fit b.max_var (length b.gates) b.gates bounds.gates 0 (length b.gates) in
+    let all = joined top (b.inputs ++ b.latches) _ (joined top b.inputs b.latches inputs latches) gates in
+    let fits = variable_fits b.max_var (source_variables b) all number in
+    omega (arith, fits, bounds.max_var)

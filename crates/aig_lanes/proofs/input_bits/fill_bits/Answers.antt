@@ -4,6 +4,7 @@ use Rattle.std.proofs.lemmas.Bool.{cases_eq}
 use Rattle.std.proofs.lemmas.List.{get_or-set_other, get_or-set_same, get_or_default, length-set}
 use Rattle.aig_lanes.specs.declared.input_bits.InputWord.{InputWord}
 use Rattle.aig_lanes.specs.Parts.InputBits.{HoldsBlock}
+use Rattle.aig_lanes.proofs.Side.InputBits.{put_more, same_sizes}
 use Rattle.aig_lanes.proofs.input_bits.fill_bits.Goals as goal
 
 pub fill-requires-clause-room : goal.fill-requires-clause-room
@@ -30,26 +31,13 @@ loop-block-preserved c =
     let was = get_or_default bits at c.index-bits-block.result [] inside in
     let size = λ (l : ℕ) (lanes : List (List InputWord)). length (get_or lanes l []) in
     record {
-      holds = λ block. below_more
-          (λ (i : ℕ). HoldsBlock (64 * i) runs (get_or (set bits at now) i [])) at
-          (λ i before.
-          subst (HoldsBlock (64 * i) runs) (sym (get_or-set_other bits at i now [] (omega (arith, before))))
-          (c.loop-block.invariant.holds i before))
-          (subst (HoldsBlock (64 * at) runs) (sym (get_or-set_same bits at now [] inside)) c.fill.ensures.holds)
-          block;
+      holds = put_more (λ i. HoldsBlock (64 * i) runs) bits at now [] inside c.loop-block.invariant.holds
+          c.fill.ensures.holds;
       same = record {
         count = length-set bits at now ∙ c.loop-block.invariant.same.count;
-        sizes = λ block l. elim (cases_eq block at) [
-          | inl is ↦
-              ap (λ (n : ℕ). size l (get_or (set bits at now) n [])) is
-              ∙ ap (size l) (get_or-set_same bits at now [] inside)
-              ∙ c.fill.ensures.sizes l
-              ∙ ap (size l) was
-              ∙ sym (ap (λ (n : ℕ). size l (get_or bits n [])) is)
-              ∙ c.loop-block.invariant.same.sizes block l
-          | inr other ↦
-              ap (size l) (get_or-set_other bits at block now [] other) ∙ c.loop-block.invariant.same.sizes block l
-        ];
+        sizes = λ block l.
+            same_sizes (size l) bits at now [] inside (c.fill.ensures.sizes l ∙ ap (size l) was) block
+            ∙ c.loop-block.invariant.same.sizes block l;
       };
     }
 

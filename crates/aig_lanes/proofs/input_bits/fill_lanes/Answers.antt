@@ -4,6 +4,7 @@ use Rattle.std.proofs.lemmas.List.{get_or-set_other, get_or-set_same, get_or_def
 use Rattle.aig_lanes.specs.declared.input_bits.InputWord.{InputWord}
 use Rattle.aig_lanes.specs.declared.run.Run.{Run}
 use Rattle.aig_lanes.specs.Parts.InputBits.{HoldsInputs}
+use Rattle.aig_lanes.proofs.Side.InputBits.{put_more, same_sizes}
 use Rattle.aig_lanes.proofs.input_bits.fill_lanes.Goals as goal
 
 pub loop-lane-preserved : goal.loop-lane-preserved
@@ -18,28 +19,16 @@ loop-lane-preserved c =
     omega (arith, in_runs, c.requires.lanes.0, c.requires.lanes.1, c.loop-lane.invariant.count) in
     let was = get_or_default lanes at c.index-lanes-lane.result [] inside in
     record {
-      holds = λ k d. below_more
-          (λ (i : ℕ). HoldsInputs first (get_or runs i d) (get_or (set lanes at now) i [])) at
-          (λ i before.
-          subst (HoldsInputs first (get_or runs i d))
-          (sym (get_or-set_other lanes at i now [] (omega (arith, before)))) (c.loop-lane.invariant.holds i d before))
-          (subst (HoldsInputs first (get_or runs at d)) (sym (get_or-set_same lanes at now [] inside))
+      holds = λ k d.
+          put_more (λ i. HoldsInputs first (get_or runs i d)) lanes at now [] inside
+          (λ i. c.loop-lane.invariant.holds i d)
           (subst (λ (run : Run). HoldsInputs first run now)
-          (c.index-runs-lane.is ∙ get_or_default runs at _ d in_runs) c.fill.ensures.holds))
-          k;
+          (c.index-runs-lane.is ∙ get_or_default runs at _ d in_runs) c.fill.ensures.holds) k;
       count = length-set lanes at now ∙ c.loop-lane.invariant.count;
-      sizes = λ k. elim (cases_eq k at) [
-        | inl is ↦
-            ap (λ (n : ℕ). length (get_or (set lanes at now) n [])) is
-            ∙ ap (λ (ws : List InputWord). length ws) (get_or-set_same lanes at now [] inside)
-            ∙ c.fill.ensures.size
-            ∙ ap (λ (ws : List InputWord). length ws) was
-            ∙ sym (ap (λ (n : ℕ). length (get_or lanes n [])) is)
-            ∙ c.loop-lane.invariant.sizes k
-        | inr other ↦
-            ap (λ (ws : List InputWord). length ws) (get_or-set_other lanes at k now [] other)
-            ∙ c.loop-lane.invariant.sizes k
-      ];
+      sizes = λ k.
+          same_sizes (λ (ws : List InputWord). length ws) lanes at now [] inside
+          (c.fill.ensures.size ∙ ap (λ (ws : List InputWord). length ws) was) k
+          ∙ c.loop-lane.invariant.sizes k;
     }
 
 pub returns-clause-holds : goal.returns-clause-holds

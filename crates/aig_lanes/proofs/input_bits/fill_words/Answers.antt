@@ -2,6 +2,7 @@ use Rattle.std.proofs.Common.{◌∙◌, ℕ, List, [], ap, arith, below_more, g
 use Rattle.std.proofs.lemmas.List.{get_or-set_other, get_or-set_same, length-map, length-set}
 use Rattle.aig_lanes.specs.Parts.InputBits.{IsWord}
 use Rattle.aig_step.specs.TraceText.{character_of, values_text}
+use Rattle.aig_lanes.proofs.Side.InputBits.{put_more}
 use Rattle.aig_lanes.proofs.input_bits.fill_words.Goals as goal
 
 pub word_of-requires : goal.word_of-requires
@@ -21,17 +22,11 @@ loop-step-preserved c =
     let word = c.word_of.result in
     let steps = c.args.run.now.steps in
     record {
-      holds = λ step d. below_more
-          (λ (i : ℕ). IsWord c.args.first (values_text (get_or steps i [])) (get_or (set words at word) i d)) at
-          (λ i before.
-          subst (IsWord c.args.first (values_text (get_or steps i [])))
-          (sym (get_or-set_other words at i word d (omega (arith, before))))
-          (c.loop-step.invariant.holds i d before))
-          (subst (IsWord c.args.first (values_text (get_or steps at [])))
-          (sym (get_or-set_same words at word d
-          (omega (arith, c.loop-step-test.true, c.len-step-end.ensures, c.requires.room, c.loop-step.invariant.size))))
-          (subst (λ (t : List ℕ). IsWord c.args.first t word) c.text.ensures c.word_of.ensures))
-          step;
+      holds = λ step d.
+          put_more (λ i. IsWord c.args.first (values_text (get_or steps i []))) words at word d
+          (omega (arith, c.loop-step-test.true, c.len-step-end.ensures, c.requires.room, c.loop-step.invariant.size))
+          (λ i. c.loop-step.invariant.holds i d)
+          (subst (λ (t : List ℕ). IsWord c.args.first t word) c.text.ensures c.word_of.ensures) step;
       size = length-set words at word ∙ c.loop-step.invariant.size;
     }
 

@@ -1,6 +1,6 @@
 use Rattle.std.proofs.Common.{◌<◌, ◌^◌, ℕ, refl}
 use Rattle.std.proofs.lemmas.Simd.{Each1-from_get_or}
-use Rattle.aig_lanes.proofs.Side.Squares.{column_at}
+use Rattle.aig_lanes.proofs.Side.InputBits.{column_at}
 use Rattle.aig_lanes.proofs.input_planes.columns_of.Goals as goal
 
 pub returns : goal.returns

@@ -29,8 +29,7 @@ loop-i-preserved c =
           let in_vector : at < length vector = omega (arith, c.loop-i-test.true, long) in
           let in_text : at < length (values_text vector) =
           omega (arith, in_vector, length-map vector character_of) in
-          let character : get_or (values_text vector) at 0 ≡ character_of x =
-          get_or-map character_of vector at Zero 0 in_vector in
+          let character = get_or-map character_of vector at Zero 0 in_vector in
           subst (λ (vs : List Val). IsLane k c.put_pair.new.planes vs)
           (ap (λ (n : ℕ). placed 1 (take n vector) values) (omega arith))
           (subst (λ (vs : List Val). IsLane k c.put_pair.new.planes vs)

@@ -1,7 +1,7 @@
 use Rattle.std.proofs.Common.{rules}
 use Rattle.std.proofs.lemmas.Bool.{cases_lt}
 use Rattle.std.proofs.lemmas.List.{get_or-drop, get_or-take, get_or_default, length-drop, length-set, length-take-le}
-use Rattle.aig_lanes.proofs.Side.Squares.{before_part, eight_are_put, lane_stays, others_stay}
+use Rattle.aig_lanes.proofs.Side.InputBits.{before_part, eight_are_put, lane_stays, others_stay}
 use Rattle.aig_lanes.proofs.input_planes.put_square.Goals as goal
 
 pub loop-k-init : goal.loop-k-init

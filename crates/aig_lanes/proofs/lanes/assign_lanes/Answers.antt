@@ -29,8 +29,7 @@ returns c l given values before long is from =
     let can = c.pairs-pairs.ensures.runs in
     let start = placed 1 given (set values 0 Zero) in
     let now = c.evaluate_lanes.new.planes in
-    let count : c.len.result ≡ length given =
-    c.len.ensures ∙ ap length c.parts-parts.ensures.inputs ∙ sym long in
+    let count = c.len.ensures ∙ ap length c.parts-parts.ensures.inputs ∙ sym long in
     let size : length c.place_lanes.new.planes ≡ length c.args.table.now = c.place_lanes.auto.planes in
     let size_too : length now ≡ length c.args.table.now = c.evaluate_lanes.auto.planes ∙ size in
     let first : length c.place_lanes.new.planes / 2 - length pairs ≡ first_gate machine =
@@ -44,8 +43,7 @@ returns c l given values before long is from =
     let full : evaluated (length c.place_lanes.new.planes / 2 - length pairs) pairs with_state
     ≡ filled machine pairs given before values =
     rw (first, count) refl in
-    let stand : IsLane l now (filled machine pairs given before values) =
-    subst (λ (vs : List Val). IsLane l now vs) full
+    let stand = subst (λ (vs : List Val). IsLane l now vs) full
     (c.evaluate_lanes.ensures l with_state (c.place_lanes.ensures l start before is from)) in
     record {
       now = record {

@@ -1,4 +1,4 @@
-use Rattle.aig_lanes.proofs.Side.Bits.{all_ones, all_zeros}
+use Rattle.aig_lanes.proofs.Side.Sheets.{all_ones, all_zeros}
 use Rattle.aig_lanes.proofs.planes.plane_of.Goals as goal
 use Rattle.aig_lanes.proofs.planes.plane_of.Goals.{then-bit, else-bit}
 

@@ -27,8 +27,7 @@ loop-k-preserved c =
             | inr more ↦
                 let same : k ≡ here = omega (arith, more, before) in
                 let at : c.min.result ≡ first + k = omega (arith, c.min.ensures, there, same) in
-                let literal : c.index-literals-min.result ≡ get_or literals (first + k) 0 =
-                c.index-literals-min.is
+                let literal = c.index-literals-min.is
                 ∙ get_or_default literals c.min.result c.index-literals-min.result 0 (omega (arith, at, there))
                 ∙ ap (λ (n : ℕ). get_or literals n 0) at in
                 pair_stands eight here one other long below t k x same

@@ -1,3 +1,4 @@
+use Rattle.std.proofs.Common.{rules}
 use Rattle.std.proofs.Common.{◌∙◌, ℕ, List, ap, refl, subst, arith}
 use Rattle.aig_circuit.specs.declared.circuit.Circuit.{Circuit}
 use Rattle.aig_io.specs.Output.{Put}
@@ -19,6 +20,5 @@ returns g c = λ f old kept is.
       as_many_latches f old c.args.circuit.now is,
     ))
     (c.as_slice.ensures ∙ kept.inputs) (c.as_slice-2.ensures ∙ kept.latches) refl
-    (subst (λ (row : List ℕ). Put c.args.output.now c.put_first_line.new.output (first_line_text row))
-    (same_counts f old c.args.circuit.now is) c.put_first_line.ensures)
+    (search (rules, same_counts))
     c.put_variables.ensures c.put_variables-2.ensures gates c.put.ensures.put

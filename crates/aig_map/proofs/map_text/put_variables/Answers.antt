@@ -1,3 +1,4 @@
+use Rattle.std.proofs.Common.{rules}
 use Rattle.std.proofs.Common.{◌∙◌, arith}
 use Rattle.aig_io.proofs.Puts.{put_more}
 use Rattle.aig_text.specs.AsciiText.{numbers_text}
@@ -8,4 +9,4 @@ pub loop-item-preserved : goal.loop-item-preserved
 loop-item-preserved g c =
     put_more (λ x. numbers_text (variable_row (g.T.Defines.variable x))) _ _ _ _ _ _ _ c.item-item.is
     c.loop-item.invariant
-    (rw (c.from-in-loop-item.ensures ∙ c.from.view_is ∙ c.variable.ensures) at c.put_numbers.ensures) (omega arith)
+    (search rules) (omega arith)

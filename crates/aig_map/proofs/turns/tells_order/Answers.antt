@@ -25,14 +25,5 @@ returns c = λ comment once.
     (λ recorded. IsTrue recorded
     ↔ AreTakenInTurn (1 + c.len.result + c.len-2.result) c.as_slice.result.now c.args.places.now)
     (λ recorded. IsTrue recorded ↔ IsLeastReadyOrder (undone b comment x) (positions b.gates))
-    (λ recorded is.
-    tells_order b x comment
-    (record {
-      ordered = c.requires.ordered;
-      counts = c.requires.counts;
-      bounds = c.requires.bounds;
-      once = c.requires.once;
-    })
-    once (1 + c.len.result + c.len-2.result) c.as_slice.result.now c.args.places.now recorded
-    start c.as_slice.ensures c.requires.are is)
+    (search (rules, tells_order))
     c.are_taken_in_turn.ensures

@@ -1,5 +1,5 @@
 use Rattle.std.proofs.Common.{rules}
-use Rattle.aig_map.proofs.Restoring.InPlace.{not_all_differ, one_more_differs, one_more_exchanged}
+use Rattle.aig_map.proofs.Confirming.Exchanges.{not_all_differ, one_more_differs, one_more_exchanged}
 use Rattle.aig_map.proofs.undone.exchange_recorded.Goals as goal
 
 pub returns-then-exchanges_equal-clause-differ : goal.returns-then-exchanges_equal-clause-differ

@@ -16,7 +16,7 @@ use Rattle.aig_map.proofs.Confirming.Exchanges.{exchanges_of_same}
 use Rattle.aig_map.proofs.Restoring.AtPositions.{exchanged_as_recorded, flags_fit, positions_fit, put_as_recorded}
 use Rattle.aig_map.proofs.Restoring.Source.{undone_is}
 use Rattle.aig_map.proofs.Sources.RecordedAt.{gate_had}
-use Rattle.aig_map.proofs.Sources.SourceVariables.{they_fit}
+use Rattle.aig_map.proofs.Sources.Placed.{they_fit}
 use Rattle.aig_map.proofs.undone.make_undone.Goals as goal
 
 pub source_gates-requires-clause-fit : goal.source_gates-requires-clause-fit
@@ -30,7 +30,7 @@ source_gates-requires-clause-there c =
     let image = c.args.image.now in
     let fit = positions_fit (block_read image) image c.requires.counts c.requires.bounds c.requires.once in
     subst (λ (gs : List Gate). AllByRecursion (λ p. p < length gs) c.args.places.now) (sym c.as_slice.ensures)
-    (subst (AllByRecursion (λ p. p < length image.gates)) (sym c.requires.are) fit.1)
+    (search rules)
 
 pub source_gates-requires-clause-once : goal.source_gates-requires-clause-once
 source_gates-requires-clause-once c = search (rules, positions_fit)

@@ -1,7 +1,7 @@
 use Rattle.std.proofs.Common.{rules}
 use Rattle.std.proofs.lemmas.List.{length-set}
 use Rattle.aig_image.proofs.Relabelling.Standing.{at_place}
-use Rattle.aig_map.proofs.Restoring.InPlace.{one_more_put}
+use Rattle.aig_map.proofs.Confirming.Exchanges.{one_more_put}
 use Rattle.aig_map.proofs.undone.put_at_positions.Goals as goal
 
 pub loop-place-preserved : goal.loop-place-preserved

@@ -35,13 +35,11 @@ returns-then-place_gates-clause-ok c =
     let longer = c.in_ok-resize.ensures.items in
     let first = front_stays front zeros c.as_mut_slice.result.now (c.len.result + c.len-2.result) count
     (omega (arith, many, c.len.ensures, c.len-2.ensures)) (omega arith)
-    (c.as_mut_slice.ensures.value ∙ longer ∙ ap (λ (xs : List ℕ). take count xs ++ zeros) before) in
+    (search rules) in
     let new = all.2 ∙ ap₂ (λ s t. s ++ t) first gates in
     let long = ap length new ∙ length-append front behind
     ∙ ap (λ n. length front + n) (length-map-range_with_len (variable_at_place block.gates) 0 (length block.gates)) in
-    all_taken c.place_gates.new.variables (drop (length c.place_gates.new.variables) c.resize.new.self.items)
-    c.resize.new.self.len
-    (omega (arith, c.in_ok-resize.ensures.len, long, many, c.len.ensures, c.len-2.ensures, c.len-3.ensures)) ∙ new
+    search (rules, all_taken)
 
 pub returns-then-place_gates-clause-places : goal.returns-then-place_gates-clause-places
 returns-then-place_gates-clause-places c =

@@ -8,7 +8,7 @@ use Rattle.aig_image.specs.Parts.Numbers.{number_of}
 use Rattle.aig_map.specs.MapBlock.{IsMappedImage, block_by, mapped_comment}
 use Rattle.aig_map.proofs.BlockText.Added.{as_many_gates, as_many_inputs, as_many_latches}
 use Rattle.aig_map.proofs.Mapping.Alone.{made, made_is_mapped, made_is_ordered, sorted_with}
-use Rattle.aig_map.proofs.Mapping.Recorded.{few_before_gates}
+use Rattle.aig_map.proofs.Mapping.MappedOrder.{few_before_gates}
 use Rattle.aig_order.proofs.mapped.image_in_order.Goals as goal
 
 pub new_map_comment-requires-clause-fits : goal.new_map_comment-requires-clause-fits

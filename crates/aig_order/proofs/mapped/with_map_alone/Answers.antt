@@ -8,7 +8,7 @@ use Rattle.aig_image.proofs.Relabelling.Relabelled.{with_gates}
 use Rattle.aig_map.specs.MapBlock.{IsMappedImage, block_by, mapped_comment}
 use Rattle.aig_map.proofs.Mapping.Alone.{kept, with_map_is_image}
 use Rattle.aig_map.proofs.Mapping.MappedOrder.{mapped_image_is_ordered}
-use Rattle.aig_map.proofs.Mapping.Recorded.{few_before_gates}
+use Rattle.aig_map.proofs.Mapping.MappedOrder.{few_before_gates}
 use Rattle.aig_order.proofs.mapped.with_map_alone.Goals as goal
 
 pub map_comment-requires-clause-fits : goal.map_comment-requires-clause-fits

@@ -7,7 +7,7 @@ use Rattle.aig_map.specs.declared.map_block.MappedGate.{MappedGate}
 use Rattle.aig_map.specs.Undone.{comment_behind, undone}
 use Rattle.aig_map.proofs.BlockReading.Block.{read_is_block, read_is_within}
 use Rattle.aig_map.proofs.Sources.Refused.{of_places}
-use Rattle.aig_map.proofs.Sources.SourceVariables.{places_there}
+use Rattle.aig_map.proofs.Sources.Placed.{places_there}
 use Rattle.aig_order.proofs.undoing.source_by_block.Goals as goal
 
 pub source_variables-requires : goal.source_variables-requires

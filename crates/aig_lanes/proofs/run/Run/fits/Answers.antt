@@ -11,8 +11,7 @@ loop-vector-preserved c =
     let items = c.as_slice-vector-items.result.now in
     let i = c.loop-vector.vector-index in
     let item = c.vector-item.result in
-    let here : length (get_or items i item) ≡ length c.args.checked.now.inputs =
-    ap length (sym c.vector-item.is) ∙ sym c.len.ensures ∙ c.if-len-inputs.false ∙ c.len-inputs.ensures
+    let here = ap length (sym c.vector-item.is) ∙ sym c.len.ensures ∙ c.if-len-inputs.false ∙ c.len-inputs.ensures
     ∙ ap (λ (k : Circuit). length k.inputs) c.circuit.ensures.value in
     All-more (λ (vector : List Val). length vector ≡ length c.args.checked.now.inputs) items i item
     c.loop-vector-test.true c.loop-vector.invariant here

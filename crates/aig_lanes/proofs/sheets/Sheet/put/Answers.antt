@@ -19,8 +19,7 @@ returns-clause-text c = λ l k below in_eight room.
     let cs = bytes_text (l % 8) (eight_at (l / 8) c.transposed.result c.transposed-2.result) in
     let size : length old ≡ 32 = ap length c.deref_mut.ensures.value ∙ c.self.invariant in
     let items = with_items_is inside.byte_rows new (c.put_bytes.ensures.size ∙ sym size ∙ c.deref_mut.ensures.len) in
-    let before : text_in l old ≡ text_in l c.args.self.now =
-    ap (text_in l) (c.deref_mut.ensures.value ∙ c.self.view_is) in
+    let before = ap (text_in l) (c.deref_mut.ensures.value ∙ c.self.view_is) in
     let put = c.put_bytes.ensures.text (l / 8) (l % 8) (rows_with [] []) (omega (arith, below)) in
     let ones = c.transposed.result in
     let zeros = c.transposed-2.result in

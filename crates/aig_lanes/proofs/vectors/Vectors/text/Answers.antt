@@ -8,28 +8,22 @@ use Rattle.aig_lanes.proofs.vectors.Vectors.text.Goals as goal
 pub overflow_mul-step : goal.overflow_mul-step
 overflow_mul-step c =
     let inside = c.self.inside in
-    let count : inside.steps ≡ length c.args.self.now.steps =
-    sym (vectors_count inside.inputs inside.stride inside.steps inside.lines.now)
-    ∙ ap (λ (r : Run). length r.steps) c.self.view_is in
-    let below : c.args.step < inside.steps = omega (arith, c.requires, count) in
+    let below : c.args.step < inside.steps =
+    omega (arith, c.requires, ap (λ (r : Run). length r.steps) c.self.view_is, vectors_count) in
     omega (arith, c.self.invariant.within c.args.step below)
 
 pub split_at-requires : goal.split_at-requires
 split_at-requires c =
     let inside = c.self.inside in
-    let count : inside.steps ≡ length c.args.self.now.steps =
-    sym (vectors_count inside.inputs inside.stride inside.steps inside.lines.now)
-    ∙ ap (λ (r : Run). length r.steps) c.self.view_is in
-    let below : c.args.step < inside.steps = omega (arith, c.requires, count) in
+    let below : c.args.step < inside.steps =
+    omega (arith, c.requires, ap (λ (r : Run). length r.steps) c.self.view_is, vectors_count) in
     omega (arith, c.self.invariant.within c.args.step below)
 
 pub split_at-requires-2 : goal.split_at-requires-2
 split_at-requires-2 c =
     let inside = c.self.inside in
-    let count : inside.steps ≡ length c.args.self.now.steps =
-    sym (vectors_count inside.inputs inside.stride inside.steps inside.lines.now)
-    ∙ ap (λ (r : Run). length r.steps) c.self.view_is in
-    let below : c.args.step < inside.steps = omega (arith, c.requires, count) in
+    let below : c.args.step < inside.steps =
+    omega (arith, c.requires, ap (λ (r : Run). length r.steps) c.self.view_is, vectors_count) in
     omega (
       arith,
       c.self.invariant.within c.args.step below,
@@ -41,10 +35,8 @@ pub returns : goal.returns
 returns c =
     let inside = c.self.inside in
     let step = c.args.step in
-    let count : inside.steps ≡ length c.args.self.now.steps =
-    sym (vectors_count inside.inputs inside.stride inside.steps inside.lines.now)
-    ∙ ap (λ (r : Run). length r.steps) c.self.view_is in
-    let below : step < inside.steps = omega (arith, c.requires, count) in
+    let below : step < inside.steps =
+    omega (arith, c.requires, ap (λ (r : Run). length r.steps) c.self.view_is, vectors_count) in
     c.split_at-2.ensures.front ∙ ap (take inside.inputs) c.split_at.ensures.back
     ∙ vector_text inside.inputs inside.stride inside.steps step inside.lines.now [] c.self.invariant below
     ∙ ap (λ (r : Run). values_text (get_or r.steps step [])) c.self.view_is
