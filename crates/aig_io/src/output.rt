@@ -85,12 +85,20 @@ impl<'a, W: Sink> Output<'a, W> {
         ensures put { Put self.entry (output_to W.taken W.longest W.failed result.1 [] (is_err result.0)) [] }
     {
         let sent = self.flush();
+        (sent, self.into_sink())
+    }
+
+    /// Hands the sink back. What is held is dropped.
+    pub fn into_sink(self) -> &'a mut W
+        ensures same { result.ghost_name ≡ self.entry.name }
+        ensures sink { self.entry ≡ output_to W.taken W.longest W.failed result self.entry.held self.entry.failed }
+    {
         let Output {
             block: _,
             failed: _,
             sink,
         } = self;
-        (sent, sink)
+        sink
     }
 
     /// Sends what is held where fewer bytes than these fit, and nothing where they fit.
