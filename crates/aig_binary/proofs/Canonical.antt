@@ -17,7 +17,7 @@ use Rattle.aig_text.specs.Sections.{header_row}
 use Rattle.aig_rows.specs.Rows.{Row, row, next_form, next_row}
 use Rattle.aig_text.proofs.Canonical.Lines.{IsFullRow, header_line, row_lines, header_is_first, header_line_is_good}
 use Rattle.aig_text.proofs.Canonical.Lines.{rows_are_first, rows_are_good}
-use Rattle.aig_rows.proofs.Kept.Plain.{all_joined}
+use Rattle.aig_circuit.proofs.Checking.InForm.{joined}
 use Rattle.aig_rows.proofs.Grammar.Entries.{IsLatchUpTo}
 use Rattle.aig_text.proofs.Grammar.Headers.{header_limited}
 use Rattle.aig_text.proofs.Grammar.Sections.{latches_up_to}
@@ -44,11 +44,8 @@ all_ended : (rows : List Row) → AllByRecursion (λ (l : Line). l.ended ≡ tru
 all_ended [] = tt
 all_ended (r ∷ rows) = (refl, all_ended rows)
 
-full_next : (m : ℕ) → m ≤ LARGEST → (l : Latch) → IsLatchUpTo m l → IsFullRow (row next_form (next_row l))
-full_next m top l h = search rules
-
 rows_full : (c : Circuit) → IsInForm c → AllByRecursion IsFullRow (binary_rows_of c)
-rows_full c form = search (rules, all_joined, entries_full, full_next, latches_up_to, literal_rows_full)
+rows_full c form = search (rules, joined, entries_full, latches_up_to, literal_rows_full)
 
 gates_spelled : (gs : List Gate) → AllByRecursion HasDeltas gs → SpellsGates (flat_map gate_text gs) gs
 gates_spelled [] h = refl

@@ -65,13 +65,13 @@ module _ (limit : ℕ) (ls : List Line) where
               → (e ≡ want_of_memory) ⊎ (binary_at limit ls ≡ Err e)
           unfolding binary_at
           no_gates e (inl m) = inl m
-          no_gates e (inr r) = let j = (pieces bytes).joined in inr (rw (is, all, found, j, r) refl)
+          no_gates e (inr r) = inr (rw (is, all, found, (pieces bytes).joined, r) refl)
 
           pub then_tail : (gates : List Gate) (behind : List ℕ)
               → gates_at (1 + h.inputs + h.latches) 1 h.gates bytes ≡ Ok (gates, behind)
               → binary_at limit ls ≡ tail_at h nothing_named (with_definitions h gates c) n (lines_of behind)
           unfolding binary_at
-          then_tail gates behind g = let j = (pieces bytes).joined in rw (is, all, found, j, g) refl
+          then_tail gates behind g = rw (is, all, found, (pieces bytes).joined, g) refl
 
 -- so many rows are read
 rows_count : (form : Form) (bound carried count : ℕ) (at after : Ahead) (rows : List (List ℕ))

@@ -1,7 +1,7 @@
 -- What the binary writer has put, part by part.
 use Rattle.std.proofs.Common.{rules}
-use Rattle.std.proofs.Common.{◌≡◌, ◌+◌, ◌≤◌, ℕ, suc, List, [], ◌∷◌, ◌++◌, length, take, drop, take-add, ap, subst, ◌∙◌}
-use Rattle.std.proofs.Common.{arith, sym}
+use Rattle.std.proofs.Common.{◌≡◌, ◌+◌, ◌≤◌, ℕ, suc, List, [], ◌∷◌, ◌++◌, length, take, drop, take-add, subst, ◌∙◌}
+use Rattle.std.proofs.Common.{arith}
 use Rattle.std.specs.List.{All, AllByRecursion, flat_map}
 use Rattle.std.proofs.lemmas.List.Concat.{flat_map-append}
 use Rattle.std.proofs.lemmas.List.Folds.{flat_map-map}
@@ -26,9 +26,7 @@ pub pieces_put : {W : Type 0} (a b c : Out W) (gs : List Gate) (at count : ℕ) 
     → Put a c (flat_map gate_text (take (at + count) gs))
 pieces_put a b c gs at count text before is put =
     subst (λ t. Put a c t)
-    (ap (λ (t : List ℕ). flat_map gate_text (take at gs) ++ t) is
-    ∙ sym (ap (flat_map gate_text) (take-add at count gs)
-    ∙ flat_map-append gate_text (take at gs) (take count (drop at gs))))
+    (search (rules, take-add, flat_map-append))
     (put_twice a b c (flat_map gate_text (take at gs)) text before put)
 
 -- the lines of latches, and those of the sections that ASCII files list alike

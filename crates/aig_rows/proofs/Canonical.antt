@@ -1,6 +1,7 @@
 -- Canonical numbers: what `decimal` writes is read as its number, and what is read is what `decimal` writes.
+use Rattle.aig_rows.specs.Parts.Plain.{BeginsWithNumber}
 use Rattle.std.proofs.Common.{rules}
-use Rattle.std.proofs.Common.{◌≡◌, ◌<◌, ◌^◌, ℕ, zero, suc, Bool, true, false, true≢false, cond, min, eqb, arith, List}
+use Rattle.std.proofs.Common.{◌≡◌, ◌<◌, ◌^◌, ℕ, zero, suc, Bool, true, false, true≢false, cond, min, arith, List}
 use Rattle.std.proofs.Common.{[], ◌∷◌, ◌++◌, length, get_or, Option, Some, None, refl, sym, ap, subst, ◌∙◌}
 use Rattle.std.specs.Prelude.{decimal}
 use Rattle.std.proofs.lemmas.Bool.{eqb-true, eq-eqb, ne_eqb}
@@ -10,7 +11,6 @@ use Rattle.std.proofs.lemmas.Option.{cond_some}
 use Rattle.aig_rows.specs.Spelling.{is_digit, IsNumber}
 use Rattle.aig_rows.specs.Scanning.{number_at}
 use Rattle.aig_rows.specs.CanonicalNumber.{after_byte, number_before, is_padded, canonical_before}
-use Rattle.aig_rows.specs.Parts.Plain.{BeginsWithNumber}
 use Rattle.aig_rows.proofs.Grammar.Spellings.{number_reads, number_is_read}
 use Rattle.aig_rows.proofs.Grammar.NumberLines.{some_then, and_no}
 use Rattle.aig_rows.proofs.Kept.Plain.{AreDigits, decimal_model}
@@ -21,9 +21,7 @@ decimal_is_number n small = search (rules, decimal_nonempty, digits_decimal, dec
 -- where a byte is read, it stands there
 byte_reads : (b : ℕ) (bytes rest : List ℕ) → after_byte b bytes ≡ Some rest → bytes ≡ b ∷ rest
 byte_reads b [] rest h = cc
-byte_reads b (a ∷ bytes) rest h =
-    let g : (eqb a b ≡ true) × (bytes ≡ rest) = cond_some (eqb a b) bytes rest h in
-    let e : a ≡ b = eqb-true a b g.0 in cc
+byte_reads b (a ∷ bytes) rest h = search (rules, cond_some, eqb-true)
 
 -- digits that begin with a zero only if it is all of them
 abbrev IsPlain : List ℕ → Type 0
@@ -84,10 +82,8 @@ canonical_reads n stop bytes rest small h =
     let same : a.0.0 ≡ n = small_is_kept a.0.0 n small (ap (λ (p : ℕ × List ℕ). p.0) is) in
     let read = number_reads bytes a.0.1 a.0.0 a.1 in
     let number : IsNumber read.0 n = subst (IsNumber read.0) same read.2 in
-    let digits : read.0 ≡ decimal n =
-    digits_are_decimal read.0 a.0.1 n (omega (arith, small)) number (ap is_padded (sym read.1) ∙ g.0) in
-    let after : a.0.1 ≡ stop ∷ rest = byte_reads stop a.0.1 b.0 b.1 ∙ ap (λ (p : ℕ × List ℕ). stop ∷ p.1) is in
-    read.1 ∙ (λ j. digits j ++ after j)
+    let digits = digits_are_decimal read.0 a.0.1 n (omega (arith, small)) number (ap is_padded (sym read.1) ∙ g.0) in
+    read.1 ∙ (λ j. digits j ++ (byte_reads stop a.0.1 b.0 b.1 ∙ ap (λ (p : ℕ × List ℕ). stop ∷ p.1) is) j)
 
 -- a number that is read at once is read
 pub short_is_read : (value stop : ℕ) (bytes rest : List ℕ) → is_digit stop ≡ false

@@ -1,5 +1,6 @@
 -- The parts of a text, one after another.
-use Rattle.std.proofs.Common.{◌≡◌, ℕ, List, [], ◌∷◌, ◌++◌, ap, ◌∙◌, append_assoc, append-nil, codes, refl}
+use Rattle.std.proofs.Common.{rules}
+use Rattle.std.proofs.Common.{◌≡◌, ℕ, List, [], ◌∷◌, ◌++◌, append_assoc, append-nil, codes, refl}
 use Rattle.std.specs.List.{flat_map}
 use Rattle.std.proofs.lemmas.List.Concat.{flat_map-append}
 use Rattle.std.proofs.lemmas.List.Folds.{flat_map-map}
@@ -11,9 +12,7 @@ use Rattle.aig_rows.specs.Rows.{input_row, latch_row, literal_row, size_row, gat
 -- numbers after spaces, and the line feed
 pub more_text : (ns : List ℕ) → flat_map spaced_number ns ++ codes "\n" ≡ more_numbers_text ns
 more_text [] = refl
-more_text (n ∷ ns) =
-    append_assoc (spaced_number n) (flat_map spaced_number ns) (codes "\n")
-    ∙ ap (λ (text : List ℕ). spaced_number n ++ text) (more_text ns)
+more_text (n ∷ ns) = search (rules, append_assoc, more_text ns)
 
 -- the lines of the sections between latches and gates, section by section
 pub literal_sections_text : (c : Circuit)

@@ -26,10 +26,7 @@ pub value_behind : (front : List ℕ) (b : ℕ)
     → value_of_groups (front ++ b ∷ []) ≡ value_of_groups front + b % 128 * 128 ^ length front
 value_behind [] b = omega arith
 value_behind (x ∷ front) b =
-    let e = value_behind front b in
-    let p : b % 128 * 128 ^ suc (length front) ≡ 128 * (b % 128 * 128 ^ length front) =
-    ap (λ n. b % 128 * n) (pow-succ' 128 (length front)) ∙ mul_left_comm (b % 128) 128 (128 ^ length front) in
-    omega arith
+    let e = value_behind front b in search (rules, pow-succ', mul_left_comm)
 
 pub no_end : (most : ℕ) (bytes : List ℕ) → AllByRecursion GoesOn bytes → groups_at most bytes ≡ None
 no_end most [] h = read_nothing most
@@ -53,21 +50,15 @@ pub record AreRead (bytes : List ℕ) (at value weight : ℕ) : Type 0 where
 pub read_first : (bytes : List ℕ) → AreRead bytes 0 0 1
 read_first bytes = record { within = omega arith; going = tt; spells = refl; weighs = refl }
 
-value_more : (bytes : List ℕ) (at : ℕ) → at < length bytes
-    → value_of_groups (take (at + 1) bytes) ≡ value_of_groups (take at bytes) + get_or bytes at 0 % 128 * 128 ^ at
-value_more bytes at h = grind (arith, common_steps, take_more, value_behind, length-take-le)
-
 value_with : (bytes : List ℕ) (at value weight : ℕ) → at < length bytes → AreRead bytes at value weight
     → value + get_or bytes at 0 % 128 * weight ≡ value_of_groups (take (at + 1) bytes)
-value_with bytes at value weight here h = search (rules, value_more)
+value_with bytes at value weight here h = grind (arith, common_steps, take_more, value_behind, length-take-le)
 
 pub read_on : (bytes : List ℕ) (at value weight : ℕ) → at < length bytes → GoesOn (get_or bytes at 0)
     → AreRead bytes at value weight → AreRead bytes (at + 1) (value + get_or bytes at 0 % 128 * weight) (weight * 128)
 read_on bytes at value weight here goes h = record {
   within = omega arith;
-  going =
-      subst (AllByRecursion GoesOn) (sym (take_more bytes at 0 here))
-      (all_go_on (take at bytes) (get_or bytes at 0) h.going goes);
+  going = grind (arith, common_steps, take_more, all_go_on);
   spells = value_with bytes at value weight here h;
   weighs = ap (λ n. n * 128) h.weighs ∙ sym (ap (λ k. 128 ^ k) (add-one at) ∙ pow-suc 128 at);
 }
@@ -91,7 +82,6 @@ read_without_end bytes at value weight all h =
 pub read_too_far : (bytes : List ℕ) (at value weight : ℕ) → at ≡ 5 → AreRead bytes at value weight
     → groups_at 5 bytes ≡ None
 read_too_far bytes at value weight e h =
-    let long : length (take at bytes) ≡ 5 = length-take-le at bytes h.within ∙ e in
     ap (groups_at 5) (sym (take-append-drop at bytes))
-    ∙ ap (λ n. groups_at n (take at bytes ++ drop at bytes)) (sym long)
+    ∙ ap (λ n. groups_at n (take at bytes ++ drop at bytes)) (sym (length-take-le at bytes h.within ∙ e))
     ∙ no_end_within (take at bytes) (drop at bytes) h.going

@@ -36,14 +36,19 @@ one_spells : (more value : ℕ) → value < 128 → Spell (suc more) value (valu
 one_spells more value h =
     record { groups = h; some = omega arith; short = omega arith; spells = one_value value h; ends = λ p. p }
 
-more_spell : (most value : ℕ) (d : List ℕ) → 128 ≤ value → Spell most (value / 128) d
-    → Spell (suc most) value ((128 + value % 128) ∷ d)
-more_spell most value d high h = search rules
-
 shortest_spell : (more value : ℕ) → value < 128 ^ suc more → Spell (suc more) value (shortest_groups more value)
 shortest_spell zero value h = subst (Spell 1 value) (sym (shortest_final value)) (one_spells 0 value h)
 shortest_spell (suc more) value h =
-    search (rules, cases_lt, shortest_last, one_spells, shortest_more, more_spell, one_group_less, shortest_spell more (value / 128) (one_group_less (suc more) value h))
+    search (
+      rules,
+      cases_lt,
+      shortest_last,
+      one_spells,
+      shortest_more,
+      one_group_less,
+      shortest_spell more
+          (value / 128) (one_group_less (suc more) value h),
+    )
 
 spell_shortest : (value : ℕ) → value < 2 ^ 32 → Spell 5 value (shortest_delta value)
 unfolding shortest_delta

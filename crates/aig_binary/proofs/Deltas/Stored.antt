@@ -8,11 +8,6 @@ use Rattle.std.proofs.lemmas.List.{length-set, take-set-le, take_more_set}
 use Rattle.aig_binary.specs.Delta.{shortest_delta, shortest_groups}
 use Rattle.aig_binary.proofs.Deltas.Shortest.{one_group_less, shortest_last, shortest_more, shortest_some}
 
--- two bytes behind the first ones
-two_stored : (bytes : List ℕ) (at b d : ℕ) → at + 1 < length bytes
-    → take (at + 1 + 1) (slice_set (slice_set bytes at b) (at + 1) d) ≡ take at bytes ++ b ∷ d ∷ []
-two_stored bytes at b d room = grind (arith, common_steps)
-
 shortest_two : (v : ℕ) → 128 ≤ v → v / 128 < 128 → shortest_groups 4 v ≡ (128 + v % 128) ∷ v / 128 ∷ []
 shortest_two v high low =
     shortest_more 3 v high ∙ ap (λ (xs : List ℕ). (128 + v % 128) ∷ xs) (shortest_last 3 (v / 128) low)
@@ -24,7 +19,7 @@ pub short_stored : (bytes : List ℕ) (at v : ℕ) → v < 2 ^ 14 → at + 2 ≤
     ≡ take at bytes ++ shortest_delta v
 unfolding shortest_delta
 short_stored bytes at v few room =
-    grind (arith, common_steps, cases_lt, slice_set, take-set-le, take_more_set, shortest_last, two_stored, shortest_two)
+    grind (arith, common_steps, cases_lt, slice_set, take-set-le, take_more_set, shortest_last, shortest_two)
 
 -- the groups of a number, stored one after the other from a place on: what is left of it is still to come
 pub record IsGoingOn (old bytes : List ℕ) (at end value left : ℕ) : Type 0 where
@@ -63,7 +58,5 @@ all_stored old bytes at end value left h low room = search (rules, take_more_set
 -- a number has a byte at least
 pub some_stored : (bytes : List ℕ) (n value : ℕ) → value < 2 ^ 32 → take n bytes ≡ shortest_delta value → 0 < n
 some_stored bytes zero value fits e =
-    let none : 0 ≡ length (shortest_delta value) = ap length e in
-    let some = shortest_some value fits in
-    absurd (omega arith)
+    let none : 0 ≡ length (shortest_delta value) = ap length e in search (rules, shortest_some)
 some_stored bytes (suc n) value fits e = omega arith

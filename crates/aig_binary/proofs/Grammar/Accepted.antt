@@ -5,10 +5,10 @@ use Rattle.std.proofs.Common.{rules}
 use Rattle.std.proofs.Common.{◌≡◌, ◌≤◌, ℕ, List, ◌∷◌, ◌++◌, length, Option, Ok, refl, sym, ap, subst, ◌∙◌}
 use Rattle.std.specs.List.{AllByRecursion, AllZip, sum}
 use Rattle.aig_circuit.specs.declared.circuit.Symbol.{Symbol}
-use Rattle.aig_circuit.specs.declared.circuit.Gate.{Gate}
 use Rattle.aig_circuit.specs.declared.circuit.Circuit.{Circuit}
 use Rattle.aig_core.specs.Names.{nothing_named}
 use Rattle.aig_circuit.specs.Wellformed.{IsWellFormed}
+use Rattle.aig_circuit.proofs.Checking.InForm.{front as before}
 use Rattle.aig_rows.specs.Lines.{Line, lines_of, bytes_of}
 use Rattle.aig_rows.specs.Laws.{IsOneLine, EndInLineFeeds}
 use Rattle.aig_rows.specs.Rows.{Row, IsRowLine}
@@ -16,9 +16,9 @@ use Rattle.aig_rows.proofs.Loops.Cutting.{pieces}
 use Rattle.aig_text.proofs.Grammar.Headers.{HasCounts, heads, limited, sizes_within_limit, within_limits}
 use Rattle.aig_rows.proofs.Grammar.Pieces.{lines_again, first_ended, ended_before, bytes_joined}
 use Rattle.aig_text.proofs.Grammar.Tail.{with_tail}
-use Rattle.aig_text.proofs.Grammar.WholeTail.{left_of, tail_holds, good_symbols}
+use Rattle.aig_text.proofs.Grammar.WholeTail.{tail_holds, good_symbols}
 use Rattle.aig_checked.specs.BinaryOrder.{IsInBinaryOrder}
-use Rattle.aig_binary.specs.BinaryGrammar.{binary_word, binary_rows_of, SpellsGates, EndsBefore, IsBinaryText}
+use Rattle.aig_binary.specs.BinaryGrammar.{binary_word, binary_rows_of, EndsBefore, IsBinaryText}
 use Rattle.aig_binary.specs.BinaryReading.{binary_at, binary_reading}
 use Rattle.aig_checked.proofs.Numbered.WellOrdered.{HasLiteralsUpTo, well_formed}
 use Rattle.aig_binary.proofs.Grammar.Numbered.{numbered_circuit, rows_are, literals_are, sizes_within}
@@ -39,9 +39,7 @@ module _ (limit : ℕ) (ls : List Line) (c : Circuit) (t : TellsBinary limit ls 
 
   pub ordered : IsInBinaryOrder c
   ordered =
-      subst IsInBinaryOrder t.numbers.tail.circuit (order_kept numbered t.numbers.tail.symbols t.numbers.tail.comment
-      (order_is t.header t.numbers.found t.numbers.fit t.numbers.gates t.numbers.are_gates.counted t.full
-      t.numbers.are_gates.ordered))
+      subst IsInBinaryOrder t.numbers.tail.circuit (search (rules, order_kept, order_is))
 
   literals : HasLiteralsUpTo c
   literals =
@@ -95,23 +93,17 @@ found_is_accepted limit text c t =
       text_is =
           sym (pieces text).joined ∙ ap bytes_of cut ∙ bytes_joined (front limit ls c t) t.numbers.last
           ∙ ap (λ (bytes : List ℕ). bytes_of (front limit ls c t) ++ bytes) t.numbers.are_gates.are;
-      lines =
-          lines_again (front limit ls c t) (left_of IsOneLine (front limit ls c t) t.numbers.last one)
-          (first_ended (front limit ls c t) t.numbers.last ended);
+      lines = search (rules, lines_again, before, first_ended);
       cut =
           subst (EndsBefore (front limit ls c t)) t.numbers.are_gates.are
           (ended_before (front limit ls c t) t.numbers.last ended);
       is_header = heads binary_word limit t.first t.header c t.heads (counts limit ls c t);
       are_rows = rows_spelled limit ls c t;
-      are_gates =
-          subst (λ (gs : List Gate). SpellsGates t.numbers.are_gates.spelling gs)
-          (ap (λ (d : Circuit). d.gates) t.numbers.tail.circuit) t.numbers.are_gates.spelled;
+      are_gates = search rules;
       is_tail =
           tail_holds t.header nothing_named (numbered limit ls c t) c (lines_of t.numbers.rest) t.numbers.tail refl;
       limited = limited binary_word limit t.first t.header c t.heads (counts limit ls c t);
-      sizes_limited =
-          sizes_within_limit binary_word limit t.first t.header c t.heads (counts limit ls c t)
-          (small_sizes limit ls c t);
+      sizes_limited = search (rules, sizes_within_limit, counts, small_sizes);
       ordered = ordered limit ls c t;
       well_formed = sound limit ls c t;
     }

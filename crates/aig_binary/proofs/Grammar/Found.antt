@@ -11,8 +11,7 @@ use Rattle.aig_rows.specs.Lines.{Line, Ahead, ahead, lines_of, bytes_of}
 use Rattle.aig_text.specs.declared.header_line.Header.{Header}
 use Rattle.aig_text.specs.Sections.{sections, in_binary}
 use Rattle.aig_text.specs.declared.section.Section.{Section}
-use Rattle.aig_text.specs.declared.section.Section.TheVariants.{Inputs, Latches, Outputs, Bad, Constraints}
-use Rattle.aig_text.specs.declared.section.Section.TheVariants.{JusticeSizes, JusticeLiterals, Fairness, Gates}
+use Rattle.aig_text.specs.declared.section.Section.TheVariants.{Inputs}
 use Rattle.aig_rows.specs.Rows.{IsRowLine}
 use Rattle.aig_text.specs.Reading.{header_of, header_at, sections_at, empty_circuit, tail_at}
 use Rattle.aig_rows.specs.Reading.{◌>>=◌, at_line}
@@ -67,21 +66,14 @@ then_filled header = at_line 1 (filled header.0) >>= then_numbers header
 
 sound : (s : Section) → IsSound (in_binary s).form
 sound Inputs = omega arith
-sound Latches = omega arith
-sound Outputs = omega arith
-sound Bad = omega arith
-sound Constraints = omega arith
-sound JusticeSizes = omega arith
-sound JusticeLiterals = omega arith
-sound Fairness = omega arith
-sound Gates = omega arith
+sound s = omega arith
 
 numbers_found : (h : Header) (at : Ahead) (c : Circuit) → numbers_at h at ≡ Ok c → TellsNumbers h at.lines c
 numbers_found h at c is =
     let a = both_ok (sections_at in_binary h sections (empty_circuit h.max_var) at) (then_gates h) c is in
     let b = both_ok (gates_at (1 + h.inputs + h.latches) 1 h.gates (bytes_of a.0.1.lines)) (then_tail h a.0) c a.2 in
     let s = sections_found in_binary h sound sections (empty_circuit h.max_var) at a.0 a.1 in
-    let tail : tail_at h nothing_named (numbered_circuit h s.found b.0.0) a.0.1.number (lines_of b.0.1) ≡ Ok c =
+    let tail =
     ap (λ (d : Circuit). tail_at h nothing_named (with_definitions h b.0.0 d) a.0.1.number (lines_of b.0.1)) s.circuit
     ∙ b.2 in
     record {

@@ -1,5 +1,7 @@
 -- The numbered lines of a binary file: latches by their next states, the sections that ASCII files list alike, and what
 -- they make of a circuit.
+use Rattle.std.proofs.lemmas.Grind.{common_steps}
+use Rattle.std.proofs.Common.{rules}
 use Rattle.std.proofs.Common.{◌≡◌, ◌+◌, ◌≤◌, ℕ, suc, List, [], ◌∷◌, ◌++◌, drop, get_or, length, map, refl, sym, ap}
 use Rattle.std.proofs.Common.{ap₂, subst, ◌∙◌, add-one, arith}
 use Rattle.std.specs.List.{AllByRecursion, range_with_len, sum}
@@ -13,12 +15,12 @@ use Rattle.aig_checked.specs.BinaryOrder.{AreOrderedGates, IsInBinaryOrder}
 use Rattle.aig_checked.proofs.Numbered.WellOrdered.{HasLiteralsUpTo}
 use Rattle.aig_text.specs.declared.header_line.Header.{Header}
 use Rattle.aig_text.specs.Sections.{latches_from, sections, in_ascii, in_binary}
-use Rattle.aig_rows.specs.Rows.{Row, row, next_form, next_row}
+use Rattle.aig_rows.specs.Rows.{Form, Row, row, next_form, next_row}
 use Rattle.aig_text.specs.Reading.{empty_circuit}
 use Rattle.aig_rows.proofs.Grammar.Entries.{AreGoodRows, reset_again}
 use Rattle.aig_text.proofs.Grammar.Headers.{HasCounts}
-use Rattle.aig_text.proofs.Grammar.Sections.{FoundIn, AllFit, rows_under, with_all, same_rows, same_counts, same_sizes}
-use Rattle.aig_text.proofs.Grammar.Sections.{small_sizes, entries_in_range}
+use Rattle.aig_text.proofs.Grammar.Sections.{FoundIn, FitRows, AllFit, rows_under, with_all, same_rows, same_counts}
+use Rattle.aig_text.proofs.Grammar.Sections.{same_sizes, small_sizes, entries_in_range}
 use Rattle.aig_binary.specs.BinaryGrammar.{binary_rows_of}
 use Rattle.aig_binary.specs.BinaryReading.{with_definitions}
 
@@ -38,8 +40,7 @@ next_rows_again m v [] good = refl
 next_rows_again m v ([] ∷ rows) good = absurd good.0
 next_rows_again m v ((n ∷ []) ∷ rows) good = absurd good.0.1
 next_rows_again m v ((n ∷ r ∷ []) ∷ rows) good =
-    let others : AreGoodRows next_form m (literal_of (suc v)) rows =
-    subst (λ (k : ℕ). AreGoodRows next_form m k rows) (next_literal v) good.1 in
+    let others = subst (λ (k : ℕ). AreGoodRows next_form m k rows) (next_literal v) good.1 in
     ap₂ (λ (s : ℕ) (others : List (List ℕ)). (n ∷ s ∷ []) ∷ others) (reset_again (literal_of v) r good.0.1.0)
     (next_rows_again m (suc v) rows others)
 next_rows_again m v ((n ∷ r ∷ o ∷ ns) ∷ rows) good = absurd good.0.1.1
@@ -75,46 +76,17 @@ header_between h = record h { inputs = 0; latches = 0; gates = 0 }
 
 abbrev rows_between : FoundIn sections → FoundIn sections
 rows_between found =
-    let literals = found.1.1 in (
-      [],
-      (
-        [],
-        (
-          literals.0,
-          (
-            literals.1.0,
-            (literals.1.1.0, (literals.1.1.1.0, (literals.1.1.1.1.0, (literals.1.1.1.1.1.0, ([], tt))))),
-          ),
-        ),
-      ),
-    )
+    let r = found.1.1 in
+    ([], ([], (r.0, (r.1.0, (r.1.1.0, (r.1.1.1.0, (r.1.1.1.1.0, (r.1.1.1.1.1.0, ([], tt)))))))))
+
+-- a section of no lines
+pub no_rows : {form : Form} {bound start : ℕ} → FitRows form bound start 0 []
+no_rows = record { good = tt; counted = refl }
 
 module _ (h : Header) (found : FoundIn sections) (fit : AllFit in_binary h sections found (empty_circuit h.max_var))
   where
     fit_between : AllFit in_ascii (header_between h) sections (rows_between found) (empty_circuit h.max_var)
-    fit_between =
-        let literals = fit.1.1 in (
-          record { good = tt; counted = refl },
-          (
-            record { good = tt; counted = refl },
-            (
-              literals.0,
-              (
-                literals.1.0,
-                (
-                  literals.1.1.0,
-                  (
-                    literals.1.1.1.0,
-                    (
-                      literals.1.1.1.1.0,
-                      (literals.1.1.1.1.1.0, (record { good = tt; counted = refl }, tt)),
-                    ),
-                  ),
-                ),
-              ),
-            ),
-          ),
-        )
+    fit_between = search (rules, no_rows)
 
     abbrev nexts : List (List ℕ)
     nexts = found.1.0
@@ -150,26 +122,8 @@ module _ (h : Header) (found : FoundIn sections) (fit : AllFit in_binary h secti
       with_counts inputs latches gates row = get_or row 0 0 ∷ inputs ∷ latches ∷ get_or row 3 0 ∷ gates ∷ drop 5 row
 
       pub counts_are : length gates ≡ h.gates → HasCounts h numbered
-      counts_are g =
-          let inputs : length (range_with_len 1 h.inputs) ≡ h.inputs = length-range_with_len 1 h.inputs in
-          let latches : length (latches_from (1 + h.inputs) nexts) ≡ h.latches =
-          as_many (1 + h.inputs) nexts ∙ fit.1.0.counted in
-          ap
-          (with_counts (length (range_with_len 1 h.inputs)) (length (latches_from (1 + h.inputs) nexts)) (length gates))
-          (same_counts (header_between h) (rows_between found) fit_between)
-          ∙ rw (inputs, latches, g) refl
+      counts_are g = grind (arith, common_steps, length-range_with_len, as_many, same_counts, fit_between)
 
       pub order_is : length gates ≡ h.gates → h.max_var ≡ h.inputs + h.latches + h.gates
           → AreOrderedGates (1 + h.inputs + h.latches) gates → IsInBinaryOrder numbered
-      order_is g full ordered =
-          let inputs : length (range_with_len 1 h.inputs) ≡ h.inputs = length-range_with_len 1 h.inputs in
-          let many : length (latches_from (1 + h.inputs) nexts) ≡ length nexts = as_many (1 + h.inputs) nexts in
-          let latches : length (latches_from (1 + h.inputs) nexts) ≡ h.latches = many ∙ fit.1.0.counted in
-          record {
-            inputs = ap (range_with_len 1) (sym inputs);
-            latches = define (1 + h.inputs) nexts ∙ ap₂ (λ (i k : ℕ). range_with_len (1 + i) k) (sym inputs) (sym many);
-            gates =
-                subst (λ (v : ℕ). AreOrderedGates v gates)
-                (ap₂ (λ (i k : ℕ). 1 + i + k) (sym inputs) (sym latches)) ordered;
-            all = full ∙ ap₂ (λ (k n : ℕ). k + n) (ap₂ (λ (i k : ℕ). i + k) (sym inputs) (sym latches)) (sym g);
-          }
+      order_is g full ordered = search (rules, length-range_with_len, as_many, define)

@@ -30,7 +30,7 @@ use Rattle.aig_text.proofs.Grammar.WholeTail.{own_tail}
 use Rattle.aig_binary.specs.BinaryGrammar.{binary_word, IsBinaryText}
 use Rattle.aig_binary.specs.BinaryReading.{filled, gates_at, with_definitions, binary_at, binary_reading}
 use Rattle.aig_binary.proofs.Grammar.Gates.{gates_found}
-use Rattle.aig_binary.proofs.Grammar.Numbered.{numbered_circuit}
+use Rattle.aig_binary.proofs.Grammar.Numbered.{numbered_circuit, no_rows}
 
 -- latches of this variable and the next ones are those of their rows
 pub latches_again : (variable : ℕ) (ls : List Latch) → 1 ≤ variable
@@ -84,29 +84,12 @@ module _ (limit : ℕ) (c : Circuit) where
   rows_fit : IsInForm c → IsInBinaryOrder c → sum c.justice.sizes ≤ limit
       → AllFit in_binary own sections rows (empty_circuit c.max_var)
   rows_fit form order small =
-      let literals = (own_rows limit c form small).1.1 in (
-        record { good = tt; counted = refl },
+      let f = (own_rows limit c form small).1.1 in
+      let nexts = next_rows_good c.max_var (1 + length c.inputs) c.latches order.latches (nexts_up_to form) in (
+        no_rows,
         (
-          record {
-            good = next_rows_good c.max_var (1 + length c.inputs) c.latches order.latches (nexts_up_to form);
-            counted = length-map c.latches next_row;
-          },
-          (
-            literals.0,
-            (
-              literals.1.0,
-              (
-                literals.1.1.0,
-                (
-                  literals.1.1.1.0,
-                  (
-                    literals.1.1.1.1.0,
-                    (literals.1.1.1.1.1.0, (record { good = tt; counted = refl }, tt)),
-                  ),
-                ),
-              ),
-            ),
-          ),
+          record { good = nexts; counted = length-map c.latches next_row },
+          (f.0, (f.1.0, (f.1.1.0, (f.1.1.1.0, (f.1.1.1.1.0, (f.1.1.1.1.1.0, (no_rows, tt))))))),
         ),
       )
 

@@ -1,7 +1,7 @@
 -- What each entry of a section is to its row: one record of facts for each kind.
 use Rattle.std.proofs.Common.{rules}
-use Rattle.std.proofs.Common.{◌≡◌, ℕ, zero, suc, ◌+◌, ◌*◌, ◌<◌, ◌≤◌, ◌/◌, ◌%◌, List, [], ◌∷◌, map, get_or, refl, ap}
-use Rattle.std.proofs.Common.{ap₂, ◌∙◌, sym, arith, ◌⊎◌, inl, inr, ◌++◌}
+use Rattle.std.proofs.Common.{◌≡◌, ℕ, suc, ◌+◌, ◌*◌, ◌<◌, ◌≤◌, ◌/◌, ◌%◌, List, [], ◌∷◌, map, get_or, refl, ap}
+use Rattle.std.proofs.Common.{ap₂, sym, arith, ◌⊎◌, inl, inr, ◌++◌}
 use Rattle.std.specs.List.{AllByRecursion, AllZip, sum}
 use Rattle.std.proofs.lemmas.Bool.{ne_eqb}
 use Rattle.aig_circuit.specs.declared.circuit.Reset.{Reset}
@@ -20,9 +20,8 @@ use Rattle.aig_rows.specs.Reading.{own_literal, carried_on}
 pub zips_joined : {A B : Type 0} (R : A → B → Type 0) (us vs : List A) (ys zs : List B) → AllZip R us ys
     → AllZip R vs zs → AllZip R (us ++ vs) (ys ++ zs)
 zips_joined R [] vs [] zs g h = h
-zips_joined R [] vs (y ∷ ys) zs g h = absurd g
-zips_joined R (u ∷ us) vs [] zs g h = absurd g
 zips_joined R (u ∷ us) vs (y ∷ ys) zs g h = (g.0, zips_joined R us vs ys zs g.1 h)
+zips_joined R us vs ys zs g h = absurd g
 
 -- a literal that may stand where a variable of this circuit is defined
 pub record IsDefinition (max_var n : ℕ) : Type 0 where
@@ -48,22 +47,11 @@ AreGoodRows form bound carried [] = Unit {0}
 AreGoodRows form bound carried (ns ∷ rows) =
     IsGoodRow form bound carried ns × AreGoodRows form bound (carried_on form.first carried (get_or ns 0 0)) rows
 
--- a row that may stand in a section beside something
-abbrev pub IsGoodBeside : Form → ℕ → List ℕ → Type 0
-IsGoodBeside form bound ns = (carried : ℕ) × IsGoodRow form bound carried ns
-
-pub each_good : (form : Form) (bound carried : ℕ) (rows : List (List ℕ)) → AreGoodRows form bound carried rows
-    → AllByRecursion (IsGoodBeside form bound) rows
-each_good form bound carried [] good = tt
-each_good form bound carried (ns ∷ rows) good =
-    ((carried, good.0), each_good form bound (carried_on form.first carried (get_or ns 0 0)) rows good.1)
-
 -- an entry and its row: each tells the other, and the one may stand in a circuit where the other may stand in a file
 pub record IsEntry {X : Type 0} (form : Form) (row : X → List ℕ) (found : List ℕ → X)
     (IsUpTo : ℕ → X → Type 0) : Type 0 where
   pub again : (m : ℕ) (x : X) → IsUpTo m x → found (row x) ≡ x
-  pub row_again : (m k : ℕ) (ns : List ℕ) → IsGoodRow form m k ns → row (found ns) ≡ ns
-  pub up_to : (m k : ℕ) (ns : List ℕ) → IsGoodRow form m k ns → IsUpTo m (found ns)
+  pub back : (m k : ℕ) (ns : List ℕ) → IsGoodRow form m k ns → (row (found ns) ≡ ns) × IsUpTo m (found ns)
 
 -- the row of an entry may stand in a file, whatever is carried
 abbrev pub HasGoodRow : {X : Type 0} → Form → (X → List ℕ) → (ℕ → X → Type 0) → Type 0
@@ -90,92 +78,73 @@ definition m v h = search rules
 variable_up_to : (m n : ℕ) → IsDefinition m n → IsVariableUpTo m (n / 2)
 variable_up_to m n h = search rules
 
-input_again : (m k : ℕ) (ns : List ℕ) → IsGoodRow input_form m k ns → input_row (input_of ns) ≡ ns
-input_again m k [] g = absurd g
-input_again m k (n ∷ []) g = ap (λ (k : ℕ). k ∷ []) (twice_half n g.0.even)
-input_again m k (n ∷ o ∷ ns) g = absurd g.1
-
-input_up_to : (m k : ℕ) (ns : List ℕ) → IsGoodRow input_form m k ns → IsVariableUpTo m (input_of ns)
-input_up_to m k [] g = absurd g
-input_up_to m k (n ∷ ns) g = variable_up_to m n g.0
+input_back : (m k : ℕ) (ns : List ℕ) → IsGoodRow input_form m k ns
+    → (input_row (input_of ns) ≡ ns) × IsVariableUpTo m (input_of ns)
+input_back m k [] g = absurd g
+input_back m k (n ∷ []) g = (ap (λ (k : ℕ). k ∷ []) (twice_half n g.0.even), variable_up_to m n g.0)
+input_back m k (n ∷ o ∷ ns) g = absurd g.1
 
 pub input_entry : IsEntry input_form input_row input_of IsVariableUpTo
-input_entry = record { again = λ m v h. half_of_twice v; row_again = input_again; up_to = input_up_to }
+input_entry = record { again = λ m v h. half_of_twice v; back = input_back }
 
 pub good_input : HasGoodRow input_form input_row IsVariableUpTo
 good_input m k v h = (definition m v h, tt)
 
 -- a reset and its number
 pub reset_told : (own : ℕ) (reset : Reset) → 2 ≤ own → reset_of (reset_number own reset) ≡ reset
-reset_told own resets.Zero low = refl
-reset_told own resets.One low = refl
 reset_told own resets.Uninit low = rw (ne_eqb own 0 (λ e. omega arith), ne_eqb own 1 (λ e. omega arith)) refl
+reset_told own r low = refl
 
 pub reset_again : (own n : ℕ) → (n < 2) ⊎ (n ≡ own) → reset_number own (reset_of n) ≡ n
-reset_again own zero h = refl
-reset_again own (suc zero) h = refl
 reset_again own (suc (suc n)) (inl small) = absurd (omega arith)
 reset_again own (suc (suc n)) (inr same) =
     rw (ne_eqb (suc (suc n)) 0 (λ e. omega arith), ne_eqb (suc (suc n)) 1 (λ e. omega arith)) (sym same)
+reset_again own n h = refl
 
 pub good_reset : (own : ℕ) (reset : Reset) → (reset_number own reset < 2) ⊎ (reset_number own reset ≡ own)
-good_reset own resets.Zero = inl (omega arith)
-good_reset own resets.One = inl (omega arith)
 good_reset own resets.Uninit = inr refl
-
-latch_is : (v n : ℕ) (r s : Reset) (w : ℕ) → v ≡ w → r ≡ s
-    → ◌≡◌ {A = Latch} (record { var = v; next = n; reset = r }) (record { var = w; next = n; reset = s })
-latch_is v n r s w e f = cc
+good_reset own r = inl (omega arith)
 
 latch_told : (m : ℕ) (l : Latch) → IsLatchUpTo m l → latch_of (latch_row l) ≡ l
-latch_told m l h = search (rules, latch_is, half_of_twice, reset_told)
+latch_told m l h = search (rules, half_of_twice, reset_told)
 
-latch_again : (m k : ℕ) (ns : List ℕ) → IsGoodRow latch_form m k ns → latch_row (latch_of ns) ≡ ns
-latch_again m k [] g = absurd g
-latch_again m k (n ∷ []) g = absurd g.1
-latch_again m k (n ∷ o ∷ []) g = absurd g.1.1
-latch_again m k (n ∷ o ∷ r ∷ []) g =
-    ap (λ (own : ℕ). own ∷ o ∷ reset_number own (reset_of r) ∷ []) (twice_half n g.0.even)
-    ∙ ap (λ (s : ℕ). n ∷ o ∷ s ∷ []) (reset_again n r g.1.1.0)
-latch_again m k (n ∷ o ∷ r ∷ p ∷ ns) g = absurd g.1.1.1
-
-latch_up_to : (m k : ℕ) (ns : List ℕ) → IsGoodRow latch_form m k ns → IsLatchUpTo m (latch_of ns)
-latch_up_to m k [] g = absurd g
-latch_up_to m k (n ∷ []) g = absurd g.1
-latch_up_to m k (n ∷ o ∷ ns) g = (variable_up_to m n g.0, g.1.0)
+latch_back : (m k : ℕ) (ns : List ℕ) → IsGoodRow latch_form m k ns
+    → (latch_row (latch_of ns) ≡ ns) × IsLatchUpTo m (latch_of ns)
+latch_back m k [] g = absurd g
+latch_back m k (n ∷ []) g = absurd g.1
+latch_back m k (n ∷ o ∷ []) g = absurd g.1.1
+latch_back m k (n ∷ o ∷ r ∷ []) g = (
+  search (rules, twice_half, reset_again),
+  (variable_up_to m n g.0, g.1.0),
+)
+latch_back m k (n ∷ o ∷ r ∷ p ∷ ns) g = absurd g.1.1.1
 
 pub latch_entry : IsEntry latch_form latch_row latch_of IsLatchUpTo
-latch_entry = record { again = latch_told; row_again = latch_again; up_to = latch_up_to }
+latch_entry = record { again = latch_told; back = latch_back }
 
 pub good_latch : HasGoodRow latch_form latch_row IsLatchUpTo
 good_latch m k l h = (definition m l.var h.0, (h.1, (good_reset (2 * l.var) l.reset, tt)))
 
-literal_again : (m k : ℕ) (ns : List ℕ) → IsGoodRow literal_form m k ns → literal_row (literal_in ns) ≡ ns
-literal_again m k [] g = absurd g
-literal_again m k (n ∷ []) g = refl
-literal_again m k (n ∷ o ∷ ns) g = absurd g.1
-
-literal_up_to : (m k : ℕ) (ns : List ℕ) → IsGoodRow literal_form m k ns → IsLiteralUpTo m (literal_in ns)
-literal_up_to m k [] g = absurd g
-literal_up_to m k (n ∷ ns) g = g.0
+literal_back : (m k : ℕ) (ns : List ℕ) → IsGoodRow literal_form m k ns
+    → (literal_row (literal_in ns) ≡ ns) × IsLiteralUpTo m (literal_in ns)
+literal_back m k [] g = absurd g
+literal_back m k (n ∷ []) g = (refl, g.0)
+literal_back m k (n ∷ o ∷ ns) g = absurd g.1
 
 pub literal_entry : IsEntry literal_form literal_row literal_in IsLiteralUpTo
-literal_entry = record { again = λ m n h. refl; row_again = literal_again; up_to = literal_up_to }
+literal_entry = record { again = λ m n h. refl; back = literal_back }
 
 pub good_literal : HasGoodRow literal_form literal_row IsLiteralUpTo
 good_literal m k n h = (h, tt)
 
-size_again : (m k : ℕ) (ns : List ℕ) → IsGoodRow size_form m k ns → size_row (size_of ns) ≡ ns
-size_again m k [] g = absurd g
-size_again m k (n ∷ []) g = refl
-size_again m k (n ∷ o ∷ ns) g = absurd g.1
-
-size_up_to : (m k : ℕ) (ns : List ℕ) → IsGoodRow size_form m k ns → IsSizeUpTo m (size_of ns)
-size_up_to m k [] g = absurd g
-size_up_to m k (n ∷ ns) g = omega (arith, g.0)
+size_back : (m k : ℕ) (ns : List ℕ) → IsGoodRow size_form m k ns
+    → (size_row (size_of ns) ≡ ns) × IsSizeUpTo m (size_of ns)
+size_back m k [] g = absurd g
+size_back m k (n ∷ []) g = (refl, omega (arith, g.0))
+size_back m k (n ∷ o ∷ ns) g = absurd g.1
 
 pub size_entry : IsEntry size_form size_row size_of IsSizeUpTo
-size_entry = record { again = λ m n h. refl; row_again = size_again; up_to = size_up_to }
+size_entry = record { again = λ m n h. refl; back = size_back }
 
 -- the rows of sizes may stand in a file where the sum of them all is within the limit
 pub good_sizes : (m before : ℕ) (sizes : List ℕ) → before + sum sizes ≤ m
@@ -190,26 +159,23 @@ pub sizes_within : (m before : ℕ) (rows : List (List ℕ)) → before ≤ m �
 sizes_within m before [] low good = omega arith
 sizes_within m before ([] ∷ rows) low good = absurd good.0
 sizes_within m before ((n ∷ ns) ∷ rows) low good =
-    let whole : sum (n ∷ map size_of rows) ≡ n + sum (map size_of rows) =
-    sum_by-cons (λ (k : ℕ). k) n (map size_of rows) in
+    let whole = sum_by-cons (λ (k : ℕ). k) n (map size_of rows) in
     let rest : before + n + sum (map size_of rows) ≤ m = sizes_within m (before + n) rows good.0.0 good.1 in
     omega arith
 
-gate_again : (m k : ℕ) (ns : List ℕ) → IsGoodRow gate_form m k ns → gate_row (gate_of ns) ≡ ns
-gate_again m k [] g = absurd g
-gate_again m k (n ∷ []) g = absurd g.1
-gate_again m k (n ∷ o ∷ []) g = absurd g.1.1
-gate_again m k (n ∷ o ∷ p ∷ []) g = ap (λ (k : ℕ). k ∷ o ∷ p ∷ []) (twice_half n g.0.even)
-gate_again m k (n ∷ o ∷ p ∷ q ∷ ns) g = absurd g.1.1.1
-
-gate_up_to : (m k : ℕ) (ns : List ℕ) → IsGoodRow gate_form m k ns → IsGateUpTo m (gate_of ns)
-gate_up_to m k [] g = absurd g
-gate_up_to m k (n ∷ []) g = absurd g.1
-gate_up_to m k (n ∷ o ∷ []) g = absurd g.1.1
-gate_up_to m k (n ∷ o ∷ p ∷ ns) g = (variable_up_to m n g.0, g.1.0, g.1.1.0)
+gate_back : (m k : ℕ) (ns : List ℕ) → IsGoodRow gate_form m k ns
+    → (gate_row (gate_of ns) ≡ ns) × IsGateUpTo m (gate_of ns)
+gate_back m k [] g = absurd g
+gate_back m k (n ∷ []) g = absurd g.1
+gate_back m k (n ∷ o ∷ []) g = absurd g.1.1
+gate_back m k (n ∷ o ∷ p ∷ []) g = (
+  ap (λ (k : ℕ). k ∷ o ∷ p ∷ []) (twice_half n g.0.even),
+  (variable_up_to m n g.0, g.1.0, g.1.1.0),
+)
+gate_back m k (n ∷ o ∷ p ∷ q ∷ ns) g = absurd g.1.1.1
 
 pub gate_entry : IsEntry gate_form gate_row gate_of IsGateUpTo
-gate_entry = search (rules, half_of_twice, gate_again, gate_up_to)
+gate_entry = search (rules, half_of_twice, gate_back)
 
 pub good_gate : HasGoodRow gate_form gate_row IsGateUpTo
 good_gate m k g h = (definition m g.var h.0, (h.1, (h.2, tt)))
@@ -221,12 +187,15 @@ all_again P row found again [] h = refl
 all_again P row found again (x ∷ xs) h =
     ap₂ (λ (y : _) (ys : List _). y ∷ ys) (again x h.0) (all_again P row found again xs h.1)
 
-pub rows_again : {X : Type 0} (P : List ℕ → Type 0) (row : X → List ℕ) (found : List ℕ → X)
-    → ((ns : List ℕ) → P ns → row (found ns) ≡ ns) → (rows : List (List ℕ)) → AllByRecursion P rows
-    → map row (map found rows) ≡ rows
-rows_again P row found again [] h = refl
-rows_again P row found again (ns ∷ rows) h =
-    ap₂ (λ (y : List ℕ) (ys : List (List ℕ)). y ∷ ys) (again ns h.0) (rows_again P row found again rows h.1)
+pub entries_back : {X : Type 0} (form : Form) (row : X → List ℕ) (found : List ℕ → X) (IsUpTo : ℕ → X → Type 0)
+    → IsEntry form row found IsUpTo → (m carried : ℕ) (rows : List (List ℕ)) → AreGoodRows form m carried rows
+    → (map row (map found rows) ≡ rows) × AllByRecursion (IsUpTo m) (map found rows)
+entries_back form row found IsUpTo entry m carried [] good = (refl, tt)
+entries_back form row found IsUpTo entry m carried (ns ∷ rows) good =
+    let here = entry.back m carried ns good.0 in
+    let next : ℕ = carried_on form.first carried (get_or ns 0 0) in
+    let later = entries_back form row found IsUpTo entry m next rows good.1 in
+    (ap₂ (λ (os : List ℕ) (oss : List (List ℕ)). os ∷ oss) here.0 later.0, (here.1, later.1))
 
 pub all_mapped : {X Y : Type 0} (P : X → Type 0) (Q : Y → Type 0) (f : X → Y) → ((x : X) → P x → Q (f x))
     → (xs : List X) → AllByRecursion P xs → AllByRecursion Q (map f xs)

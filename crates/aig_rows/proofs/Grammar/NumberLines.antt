@@ -128,13 +128,10 @@ more_is_read : (ended : Bool) (least most : ℕ) (numbers ending written : List 
     → length written + left_out ≡ most
     → more_numbers_at ended least most (numbers ++ ending) ≡ Some (written ++ zeros left_out)
 more_is_read ended least most numbers ending [] left_out h ends enough all =
-    let none : least ≡ 0 = omega arith in
-    let count : left_out ≡ most = omega arith in
-    rw (h, none, count) (left_out_is_read ended ending most (end_is_read ended ending ends))
+    let none : least ≡ 0 = omega arith in search (rules, left_out_is_read, end_is_read)
 more_is_read ended least zero numbers ending (n ∷ ns) left_out h ends enough all = absurd (omega arith)
 more_is_read ended least (suc most) numbers ending (n ∷ ns) left_out h ends enough all =
-    let text : numbers ++ ending ≡ h.0 ++ (h.1 ++ (h.2 ++ ending)) = ap (λ (t : List ℕ). t ++ ending) h.3
-    ∙ simp append_assoc in
+    let text : numbers ++ ending ≡ h.0 ++ (h.1 ++ (h.2 ++ ending)) = search (rules, append_assoc) in
     rw text
     (one_more_is_read ended least most h.0 h.1 (h.2 ++ ending) n (ns ++ zeros left_out) h.4 h.5
     (more_begins ended h.2 ending ns h.6 ends)
@@ -186,7 +183,4 @@ pub row_is_read : (l : Line) (least most : ℕ) (ns : List ℕ) → IsNumberLine
     → numbers_at l.ended least most l.text ≡ Some ns
 row_is_read l least most ns h long =
     let count : length h.more ≡ most = let e : length ns ≡ length (h.first ∷ h.more) = ap length h.are in omega arith in
-    rw (h.begins, h.are)
-    (numbers_are_read l.ended least most h.digits h.rest h.first h.more h.spelled
-    (numbers_begin l.ended least h.rest h.more h.others)
-    (end_is_numbers l.ended least most h.rest h.more h.others count))
+    search (rules, numbers_are_read, numbers_begin, end_is_numbers, h.begins, h.are)

@@ -1,6 +1,6 @@
 -- Lines that are the pieces of a text: which texts have them, and how they are cut in two.
 use Rattle.std.proofs.Common.{rules}
-use Rattle.std.proofs.Common.{◌≡◌, ◌≢◌, ℕ, List, [], ◌∷◌, ◌++◌, Bool, true, false, refl, sym, ap, subst, ◌∙◌}
+use Rattle.std.proofs.Common.{◌≡◌, ◌≢◌, ℕ, List, [], ◌∷◌, ◌++◌, Bool, true, false, refl, sym, ap, ◌∙◌}
 use Rattle.std.proofs.Common.{append_assoc, append-nil, inl, inr}
 use Rattle.std.specs.Prelude.{◌⊎◌}
 use Rattle.std.specs.List.{AllByRecursion}
@@ -37,19 +37,12 @@ last_line text true h some = ap lines_of (append-nil (text ++ 10 ∷ [])) ∙ en
 last_line [] false h some = absurd (some refl refl)
 last_line (b ∷ bs) false h some = ap lines_of (append-nil ((b ∷ bs) ++ []) ∙ append-nil (b ∷ bs)) ∙ last_piece b bs h
 
--- a line with its line feed, and bytes behind it
-ended_line : (l : Line) (following : List ℕ) → IsOneLine l → l.ended ≡ true
-    → lines_of (line_bytes l ++ following) ≡ l ∷ lines_of following
-ended_line l following one e = search (rules, append_assoc, ended_piece)
-
 -- lines, joined, are cut into them again
 pub lines_again : (ls : List Line) → AllByRecursion IsOneLine ls → EndInLineFeeds ls → lines_of (bytes_of ls) ≡ ls
 unfolding lines_of
 lines_again [] one ended = refl
 lines_again (l ∷ []) one ended = last_line l.text l.ended one.0 ended
-lines_again (l ∷ m ∷ ls) one ended =
-    ended_line l (bytes_of (m ∷ ls)) one.0 ended.0
-    ∙ ap (λ (ks : List Line). l ∷ ks) (lines_again (m ∷ ls) one.1 ended.1)
+lines_again (l ∷ m ∷ ls) one ended = search (rules, lines_again (m ∷ ls) one.1 ended.1, append_assoc, ended_piece)
 
 -- the pieces of a text, cut in two
 pub first_ended : (front rest : List Line) → EndInLineFeeds (front ++ rest) → EndInLineFeeds front
@@ -74,7 +67,8 @@ bytes_joined front rest = flat_map-append line_bytes front rest
 lines_and : (ls : List Line) (following : List ℕ) → AllByRecursion IsOneLine ls → AreEnded ls
     → lines_of (bytes_of ls ++ following) ≡ ls ++ lines_of following
 lines_and [] following one ended = refl
-lines_and (l ∷ ls) following one ended = search (rules, append_assoc, ended_line, lines_and ls following one.1 ended.1)
+lines_and (l ∷ ls) following one ended =
+    search (rules, append_assoc, lines_and ls following one.1 ended.1, ended_piece)
 
 nothing_behind : (front : List ℕ) → lines_of (front ++ []) ≡ lines_of front ++ lines_of []
 unfolding lines_of
@@ -83,9 +77,7 @@ nothing_behind front = ap lines_of (append-nil front) ∙ sym (append-nil (lines
 -- a text whose lines end before what follows
 pub lines_joined : (front following : List ℕ) → EndBefore (lines_of front) following
     → lines_of (front ++ following) ≡ lines_of front ++ lines_of following
-lines_joined front following (inl none) =
-    subst (λ (rest : List ℕ). lines_of (front ++ rest) ≡ lines_of front ++ lines_of rest) (sym none)
-    (nothing_behind front)
+lines_joined front following (inl none) = search (rules, nothing_behind)
 lines_joined front following (inr ended) =
     ap (λ (t : List ℕ). lines_of (t ++ following)) (sym (pieces front).joined)
     ∙ lines_and (lines_of front) following (pieces front).one_each ended

@@ -1,6 +1,6 @@
 -- Rows that are read spell the grammar's, and the other way round.
 use Rattle.std.proofs.Common.{rules}
-use Rattle.std.proofs.Common.{◌≡◌, ℕ, zero, suc, ◌+◌, ◌*◌, ◌<◌, ◌≤◌, ◌%◌, true, false, List, [], ◌∷◌, ◌++◌, map, length}
+use Rattle.std.proofs.Common.{◌≡◌, ℕ, zero, suc, ◌+◌, ◌*◌, ◌<◌, ◌≤◌, true, false, List, [], ◌∷◌, ◌++◌, map, length}
 use Rattle.std.proofs.Common.{get_or, Bool, Option, None, Some, Result, Ok, refl, ap, subst, sym, arith, inl, inr, not}
 use Rattle.std.proofs.Common.{◌⊎◌, ◌||◌}
 use Rattle.std.specs.List.{AllZip}
@@ -15,20 +15,13 @@ use Rattle.aig_rows.specs.declared.row.Role.TheVariants as roles
 use Rattle.aig_rows.specs.Lines.{Line, Ahead, ahead}
 use Rattle.aig_rows.specs.Scanning.{numbers_at}
 use Rattle.aig_rows.specs.Rows.{Role, Form, roles_of, row, IsRowLine}
-use Rattle.aig_rows.specs.Reading.{◌>>=◌, Found, at_line, is_no_variable, misdefines, exceeds, misresets, oversizes}
-use Rattle.aig_rows.specs.Reading.{own_literal, carried_on, any_number, fault_in_row, unless_wrong, checked_row, row_of}
+use Rattle.aig_rows.specs.Reading.{◌>>=◌, Found}
+use Rattle.aig_rows.specs.Reading.{own_literal, carried_on, fault_in_row, unless_wrong, checked_row, row_of}
 use Rattle.aig_rows.specs.Reading.{line_found, row_at, rows_at}
 use Rattle.aig_rows.proofs.Steps.{both_ok, ok_at_line, ok_same}
-use Rattle.aig_rows.proofs.Kept.Checks.{right_parts, reset_is}
+use Rattle.aig_rows.proofs.Kept.Checks.{IsRight, AreRight, first_is_right, right_parts, reset_is}
 use Rattle.aig_rows.proofs.Grammar.NumberLines.{row_reads, row_is_read}
 use Rattle.aig_rows.proofs.Grammar.Entries.{MayStand, IsGoodRow, AreGoodRows}
-
--- one number
-variable_is : (n : ℕ) → is_no_variable n ≡ false → (n % 2 ≡ 0) × (2 ≤ n)
-variable_is n h = search (rules, or_parts, eqb-false, ltb-false)
-
-is_variable : (n : ℕ) → n % 2 ≡ 0 → 2 ≤ n → is_no_variable n ≡ false
-is_variable n e h = or_from (eqb (n % 2) 1) (ltb n 2) (ne_eqb (n % 2) 1 (λ odd. omega arith)) (le-ltb n 2 h)
 
 pub or_yes : (a : Bool) → (a || true) ≡ true
 or_yes true = refl
@@ -38,24 +31,16 @@ is_reset : (own n : ℕ) → (n < 2) ⊎ (n ≡ own) → not (ltb n 2 || eqb n o
 is_reset own n (inl small) = rw (lt-ltb n 2 small) refl
 is_reset own n (inr same) = rw (eq-eqb n own same, or_yes (ltb n 2)) refl
 
--- a number with which nothing is wrong, by the four tests
-record IsRight (bound carried own : ℕ) (r : Role) (n : ℕ) : Type 0 where
-  pub defined : misdefines r n ≡ false
-  pub within : exceeds bound r n ≡ false
-  pub reset : misresets own r n ≡ false
-  pub sized : oversizes bound carried r n ≡ false
-
+-- a number with which nothing is wrong may stand
 may_stand : (bound carried own : ℕ) (r : Role) (n : ℕ) → IsRight bound carried own r n
     → MayStand bound carried own r n
-may_stand bound carried own roles.Definition n h =
-    let v = variable_is n h.defined in
-    record { even = v.0; no_constant = v.1; within = ltb-false (2 * bound + 1) n h.within }
+may_stand bound carried own roles.Definition n h = search (rules, ltb-false, or_parts, eqb-false)
 may_stand bound carried own roles.Literal n h = ltb-false (2 * bound + 1) n h.within
 may_stand bound carried own roles.Reset n h = reset_is own n h.reset
 may_stand bound carried own roles.Size n h = ltb-false bound (carried + n) h.sized
 
 is_right : (bound carried own : ℕ) (r : Role) (n : ℕ) → MayStand bound carried own r n → IsRight bound carried own r n
-is_right bound carried own roles.Definition n h = search (rules, is_variable, le-ltb)
+is_right bound carried own roles.Definition n h = search (rules, le-ltb, or_from, ne_eqb)
 is_right bound carried own roles.Literal n h =
     record { defined = refl; within = le-ltb (2 * bound + 1) n h; reset = refl; sized = refl }
 is_right bound carried own roles.Reset n h =
@@ -63,18 +48,7 @@ is_right bound carried own roles.Reset n h =
 is_right bound carried own roles.Size n h =
     record { defined = refl; within = refl; reset = refl; sized = le-ltb bound (carried + n) h }
 
--- numbers with which nothing is wrong
-pub record AreRight (bound carried own : ℕ) (rs : List Role) (ns : List ℕ) : Type 0 where
-  pub defined : any_number misdefines rs ns ≡ false
-  pub within : any_number (exceeds bound) rs ns ≡ false
-  pub reset : any_number (misresets own) rs ns ≡ false
-  pub sized : any_number (oversizes bound carried) rs ns ≡ false
-
 module _ (bound carried own : ℕ) where
-  first_right : (r : Role) (n : ℕ) (rs : List Role) (ns : List ℕ) → AreRight bound carried own (r ∷ rs) (n ∷ ns)
-      → IsRight bound carried own r n × AreRight bound carried own rs ns
-  first_right r n rs ns h = search (rules, or_parts)
-
   more_right : (r : Role) (n : ℕ) (rs : List Role) (ns : List ℕ) → IsRight bound carried own r n
       → AreRight bound carried own rs ns → AreRight bound carried own (r ∷ rs) (n ∷ ns)
   more_right r n rs ns h g = search (rules, or_from)
@@ -82,19 +56,17 @@ module _ (bound carried own : ℕ) where
   pub all_may_stand : (rs : List Role) (ns : List ℕ) → length ns ≡ length rs → AreRight bound carried own rs ns
       → AllZip (MayStand bound carried own) rs ns
   all_may_stand [] [] long h = tt
-  all_may_stand [] (n ∷ ns) long h = absurd (omega arith)
-  all_may_stand (r ∷ rs) [] long h = absurd (omega arith)
   all_may_stand (r ∷ rs) (n ∷ ns) long h =
-      let p = first_right r n rs ns h in
+      let p = first_is_right bound carried own r n rs ns h in
       (may_stand bound carried own r n p.0, all_may_stand rs ns (omega arith) p.1)
+  all_may_stand rs ns long h = absurd (omega arith)
 
   none_wrong : (rs : List Role) (ns : List ℕ) → AllZip (MayStand bound carried own) rs ns
       → AreRight bound carried own rs ns
   none_wrong [] [] h = record { defined = refl; within = refl; reset = refl; sized = refl }
-  none_wrong [] (n ∷ ns) h = absurd h
-  none_wrong (r ∷ rs) [] h = absurd h
   none_wrong (r ∷ rs) (n ∷ ns) h =
       more_right r n rs ns (is_right bound carried own r n h.0) (none_wrong rs ns h.1)
+  none_wrong rs ns h = absurd h
 
 -- the own literal of the variable that a row is for
 abbrev own_of : Form → ℕ → List ℕ → ℕ
@@ -103,13 +75,6 @@ own_of form carried ns = own_literal form.first carried (get_or ns 0 0)
 unless_none : {A : Type 0} (x y : A) (o : Option _) → unless_wrong x o ≡ Ok y → (o ≡ None) × (x ≡ y)
 unless_none x y None h = (refl, ok_same x y h)
 unless_none x y (Some k) h = cc
-
--- a row without a fault passes all tests
-right_of_none : (form : Form) (bound carried : ℕ) (ns : List ℕ) → fault_in_row form bound carried ns ≡ None
-    → AreRight bound carried (own_of form carried ns) (roles_of form) ns
-right_of_none form bound carried ns h =
-    let p = right_parts form bound carried ns h in
-    record { defined = p.0; within = p.1; reset = p.2; sized = p.3 }
 
 -- a line that is read as a row holds it
 abbrev pub IsSound : Form → Type 0
@@ -127,7 +92,7 @@ row_meant form bound carried l None ns s is h = cc
 row_meant form bound carried l (Some ms) ns s is h =
     let u = unless_none ms ns (fault_in_row form bound carried ms) h in
     let t = row_reads l form.least (length form.others) ms s is in
-    let p = right_of_none form bound carried ms u.0 in
+    let p = right_parts form bound carried ms u.0 in
     subst (IsRowThere form bound carried l) u.1
     (t.0, all_may_stand bound carried (own_of form carried ms) (roles_of form) ms t.1 p)
 
@@ -143,8 +108,7 @@ pub row_is_found : (form : Form) (bound carried : ℕ) (l : Line) (ns : List ℕ
 unfolding row_of checked_row
 row_is_found form bound carried l ns h g =
     let own = own_of form carried ns in
-    let long : length ns ≡ suc (length form.others) =
-    AllZip-long (MayStand bound carried own) (roles_of form) ns g in
+    let long = AllZip-long (MayStand bound carried own) (roles_of form) ns g in
     let right = none_wrong bound carried own (roles_of form) ns g in
     rw (
       row_is_read l form.least (length form.others) ns h long,
@@ -166,9 +130,6 @@ pub record AreRows (form : Form) (bound carried count : ℕ) (ls : List Line) (r
   pub spelled : AllZip IsRowLine front (map (row form) rows)
   pub good : AreGoodRows form bound carried rows
   pub counted : length rows ≡ count
-
-no_rows : (form : Form) (bound carried : ℕ) (ls : List Line) → AreRows form bound carried 0 ls [] ls
-no_rows form bound carried ls = record { front = []; lines = refl; spelled = tt; good = tt; counted = refl }
 
 one_row : (form : Form) (bound carried count : ℕ) (l : Line) (ls : List Line) (ns : List ℕ) (rows : List (List ℕ))
     (rest : List Line) → IsRowThere form bound carried l ns
@@ -193,14 +154,12 @@ then_rows form bound carried count first =
 pub first_found : {A : Type 0} (missing : ReadKind) (tell : Line → Result A ReadKind) (n : ℕ) (l : Line)
     (ls : List Line) (p : A × Ahead)
     → line_found missing tell n (l ∷ ls) ≡ Ok p → (x : A) × (tell l ≡ Ok x) × ((x, ahead (n + 1) ls) ≡ p)
-first_found missing tell n l ls p h =
-    let r = both_ok (at_line n (tell l)) (λ x. Ok (x, ahead (n + 1) ls)) p h in
-    (r.0, ok_at_line n (tell l) r.0 r.1, ok_same {E = ReadFault} _ _ r.2)
+first_found missing tell n l ls p h = search (rules, both_ok, ok_at_line, ok_same)
 
 rows_from : (form : Form) (bound carried count n : ℕ) (ls : List Line) (p : List (List ℕ) × Ahead) → IsSound form
     → rows_at form bound carried count (ahead n ls) ≡ Ok p → AreRows form bound carried count ls p.0 p.1.lines
 unfolding rows_at
-rows_from form bound carried zero n ls p s h = search (rules, ok_same, no_rows)
+rows_from form bound carried zero n ls p s h = search (rules, ok_same)
 rows_from form bound carried (suc count) n [] p s h = cc
 rows_from form bound carried (suc count) n (l ∷ ls) p s h =
     let f = both_ok (row_at form bound carried (ahead n (l ∷ ls))) (then_rows form bound carried count) p h in
@@ -208,14 +167,12 @@ rows_from form bound carried (suc count) n (l ∷ ls) p s h =
     let next : ℕ = carried_behind form carried f.0.0 in
     let o = both_ok (rows_at form bound next count f.0.1) (with_first f.0.0) p f.2 in
     let whole : (f.0.0 ∷ o.0.0, o.0.1) ≡ p = ok_same {E = ReadFault} _ _ o.2 in
-    let others : AreRows form bound next count f.0.1.lines o.0.0 o.0.1.lines =
-    rows_from form bound next count f.0.1.number f.0.1.lines o.0 s o.1 in
-    let here : IsRowThere form bound carried l f.0.0 =
+    let others = rows_from form bound next count f.0.1.number f.0.1.lines o.0 s o.1 in
+    let here =
     subst (λ (q : List ℕ × Ahead). IsRowThere form bound carried l q.0) r.2
     (row_tells form bound carried l r.0 s r.1) in
     let after : ls ≡ f.0.1.lines = ap (λ (q : List ℕ × Ahead). q.1.lines) r.2 in
-    subst (λ (q : List (List ℕ) × Ahead). AreRows form bound carried (suc count) (l ∷ ls) q.0 q.1.lines) whole
-    (one_row form bound carried count l ls f.0.0 o.0.0 o.0.1.lines here
+    rw (← whole) (one_row form bound carried count l ls f.0.0 o.0.0 o.0.1.lines here
     (subst (λ (ks : List Line). AreRows form bound next count ks o.0.0 o.0.1.lines) (sym after) others))
 
 pub rows_meant : (form : Form) (bound carried count : ℕ) (at : Ahead) (p : List (List ℕ) × Ahead) → IsSound form
@@ -232,8 +189,7 @@ pub rows_are_found : (form : Form) (bound carried n : ℕ) (front rest : List Li
     → ReadsRows form bound carried (length rows) n (front ++ rest) rows rest
 unfolding rows_at
 rows_are_found form bound carried n [] rest [] h g = (n, refl)
-rows_are_found form bound carried n [] rest (ns ∷ rows) h g = absurd h
-rows_are_found form bound carried n (l ∷ ls) rest [] h g = absurd h
 rows_are_found form bound carried n (l ∷ ls) rest (ns ∷ rows) h g =
     let others = rows_are_found form bound (carried_behind form carried ns) (n + 1) ls rest rows h.1 g.1 in
     (others.0, rw (row_is_found form bound carried l ns h.0 g.0, others.1) refl)
+rows_are_found form bound carried n front rest rows h g = absurd h

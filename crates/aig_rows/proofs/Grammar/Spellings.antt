@@ -1,6 +1,6 @@
 -- How a number, a gap and the end of a line are spelled and how they are read: each follows from the other.
 use Rattle.std.proofs.Common.{rules}
-use Rattle.std.proofs.Common.{◌≡◌, ◌≢◌, ◌+◌, ◌<◌, ◌≤◌, ℕ, suc, Bool, true, false, cond, List, [], ◌∷◌, ◌++◌, length}
+use Rattle.std.proofs.Common.{◌≡◌, ◌+◌, ◌<◌, ◌≤◌, ℕ, suc, Bool, true, false, cond, List, [], ◌∷◌, ◌++◌, length}
 use Rattle.std.proofs.Common.{take, drop, None, Some, refl, sym, ap, subst, ◌∙◌, arith, eqb, ◌&&◌, ◌||◌, ◌⊎◌, inl, inr}
 use Rattle.std.proofs.Common.{append_assoc, append-nil}
 use Rattle.std.specs.List.{AllByRecursion, prefix_len}
@@ -43,21 +43,13 @@ some_cond : {X : Type 0} (t : Bool) (x : X) → t ≡ false → cond t None (Som
 some_cond true x h = cc
 some_cond false x h = refl
 
-not_none : (n : ℕ) → eqb n 0 ≡ false → 0 < n
-not_none n h = let ne : n ≢ 0 = eqb-false n 0 h in omega arith
-
 front_is_long : (p : ℕ → Bool) (bs : List ℕ) → eqb (prefix_len p bs) 0 ≡ false → 0 < length (take (prefix_len p bs) bs)
-front_is_long p bs h =
-    subst (λ m. 0 < m) (sym (length-take-le (prefix_len p bs) bs (prefix_len-le-length p bs)))
-    (not_none (prefix_len p bs) h)
+front_is_long p bs h = search (rules, length-take-le, prefix_len-le-length, eqb-false)
 
 cut_at_front : (p : ℕ → Bool) (bs rest : List ℕ) → drop (prefix_len p bs) bs ≡ rest
     → bs ≡ take (prefix_len p bs) bs ++ rest
 cut_at_front p bs rest h =
     sym (take-append-drop (prefix_len p bs) bs) ∙ ap (λ (r : List ℕ). take (prefix_len p bs) bs ++ r) h
-
-long_is_some : (text : List ℕ) → 0 < length text → eqb (length text) 0 ≡ false
-long_is_some text long = ne_eqb (length text) 0 (λ e. omega arith)
 
 -- one number
 pub number_reads : (bytes rest : List ℕ) (n : ℕ) → number_at bytes ≡ Some (n, rest)
@@ -69,7 +61,7 @@ pub number_is_read : (digits rest : List ℕ) (n : ℕ) → IsNumber digits n �
     → number_at (digits ++ rest) ≡ Some (n, rest)
 unfolding number_at
 number_is_read digits rest n h follows =
-    search (rules, front_len, take-append_seam, drop-append_seam, some_cond, long_is_some)
+    search (rules, front_len, take-append_seam, drop-append_seam, some_cond, ne_eqb)
 
 -- one gap
 pub gap_reads : (bytes rest : List ℕ) → after_gap bytes ≡ Some rest → (gap : List ℕ) × (bytes ≡ gap ++ rest) × IsGap gap
@@ -84,9 +76,7 @@ gap_reads bytes rest h =
 
 pub gap_is_read : (gap rest : List ℕ) → IsGap gap → StopsAt is_space rest → after_gap (gap ++ rest) ≡ Some rest
 unfolding after_gap
-gap_is_read gap rest h follows =
-    rw (front_len is_space gap rest h.1 follows, drop-append_seam gap rest)
-    (some_cond (eqb (length gap) 0) rest (long_is_some gap h.0))
+gap_is_read gap rest h follows = search (rules, front_len, drop-append_seam, some_cond, ne_eqb)
 
 -- the end of a line
 no_bytes : (xs : List ℕ) → eqb (length xs) 0 ≡ true → xs ≡ []
@@ -95,14 +85,12 @@ no_bytes (x ∷ xs) h = let e : length (x ∷ xs) ≡ 0 = eqb-true _ _ h in absu
 
 one_byte : (xs : List ℕ) (b : ℕ) → (eqb (length xs) 1 && eqb (slice_index xs 0) b) ≡ true → xs ≡ b ∷ []
 one_byte [] b h = cc
-one_byte (x ∷ []) b h =
-    let e : x ≡ b = eqb-true x b (and_parts (eqb (length (x ∷ [])) 1) (eqb x b) h).1 in ap (λ (y : ℕ). y ∷ []) e
+one_byte (x ∷ []) b h = ap (λ (y : ℕ). y ∷ []) (eqb-true x b (and_parts (eqb (length (x ∷ [])) 1) (eqb x b) h).1)
 one_byte (x ∷ y ∷ xs) b h = let e : length (x ∷ y ∷ xs) ≡ 1 = eqb-true _ _ (and_parts _ _ h).0 in absurd (omega arith)
 
 no_and : (a b : Bool) → (a && (b && false)) ≡ false
 no_and true true = refl
-no_and true false = refl
-no_and false b = refl
+no_and b d = refl
 
 -- what may follow the spaces at the end of a line
 abbrev IsRest : Bool → List ℕ → Type 0
@@ -146,9 +134,7 @@ end_reads ended bytes h =
 end_at : (ended : Bool) (spaces rest : List ℕ) → AreSpaces spaces → IsRest ended rest
     → is_line_end ended (spaces ++ rest) ≡ true
 unfolding is_line_end
-end_at ended spaces rest h e =
-    rw (front_len is_space spaces rest h (rest_begins is_space refl ended rest e), drop-append_seam spaces rest)
-    (test_from_rest ended rest e)
+end_at ended spaces rest h e = search (rules, front_len, rest_begins, drop-append_seam, test_from_rest)
 
 pub end_is_read : (ended : Bool) (bytes : List ℕ) → IsLineEnd ended bytes → is_line_end ended bytes ≡ true
 end_is_read ended bytes h =
@@ -180,11 +166,8 @@ end_begins ended ending h = search (rules, parts_of_end, spaces_begin, rest_begi
 
 pub more_begins : (ended : Bool) (numbers ending ns : List ℕ) → AreMoreNumbers numbers ns → IsLineEnd ended ending
     → StopsAt is_digit (numbers ++ ending)
-more_begins ended numbers ending [] h ends =
-    subst (λ t. StopsAt is_digit (t ++ ending)) (sym h) (end_begins ended ending ends)
-more_begins ended numbers ending (n ∷ ns) h ends =
-    subst (StopsAt is_digit) (sym (ap (λ (t : List ℕ). t ++ ending) h.3 ∙ append_assoc h.0 (h.1 ++ h.2) ending))
-    (gap_begins h.0 ((h.1 ++ h.2) ++ ending) h.4)
+more_begins ended numbers ending [] h ends = rw h (end_begins ended ending ends)
+more_begins ended numbers ending (n ∷ ns) h ends = search (rules, append_assoc, gap_begins, h.1 ++ h.2)
 
 -- a line does not end where a number follows
 digit_is_no_rest : (ended : Bool) (digits rest : List ℕ) (n : ℕ) → IsNumber digits n

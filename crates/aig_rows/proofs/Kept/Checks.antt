@@ -1,7 +1,8 @@
 -- Lines are judged by what is kept of their numbers as by the numbers.
+use Rattle.std.proofs.Common.{subst}
 use Rattle.std.proofs.Common.{rules}
 use Rattle.std.proofs.Common.{◌≡◌, ◌<◌, ◌≤◌, ◌+◌, ◌*◌, ◌^◌, ℕ, List, [], ◌∷◌, Bool, true, false, cond, ◌||◌, ◌&&◌}
-use Rattle.std.proofs.Common.{map, length, drop, get_or, zero, subst, Ok, refl, sym, ap, ap₂, ◌∙◌, arith, eqb, ltb, inl}
+use Rattle.std.proofs.Common.{map, length, drop, get_or, zero, Ok, refl, sym, ap, ap₂, ◌∙◌, arith, eqb, ltb, inl}
 use Rattle.std.proofs.Common.{inr, Option, Some, None, Err, suc, pred, ◌⊎◌}
 use Rattle.std.specs.Prelude.{not}
 use Rattle.std.proofs.lemmas.Bool.{lt-ltb, le-ltb, ltb-false, ltb-true, eqb-true, ne_eqb, cases_lt, cases_Bool}
@@ -32,15 +33,12 @@ variable_kept n = search (rules, cases_lt, kept_small, kept_large, le-ltb)
 
 misdefines_kept : (r : Role) (n : ℕ) → misdefines r (kept n) ≡ misdefines r n
 misdefines_kept roles.Definition n = variable_kept n
-misdefines_kept roles.Literal n = refl
-misdefines_kept roles.Reset n = refl
-misdefines_kept roles.Size n = refl
+misdefines_kept r n = refl
 
 exceeds_kept : (m : ℕ) → m ≤ LARGEST → (r : Role) (n : ℕ) → exceeds m r (kept n) ≡ exceeds m r n
-exceeds_kept m l roles.Definition n = above_kept (2 * m + 1) n (omega arith)
-exceeds_kept m l roles.Literal n = above_kept (2 * m + 1) n (omega arith)
 exceeds_kept m l roles.Reset n = refl
 exceeds_kept m l roles.Size n = refl
+exceeds_kept m l r n = above_kept (2 * m + 1) n (omega arith)
 
 below_kept : (n : ℕ) → ltb (kept n) 2 ≡ ltb n 2
 below_kept n = search (rules, cases_lt, kept_small, kept_large, le-ltb)
@@ -49,82 +47,68 @@ same_kept : (own n : ℕ) → own < 2 ^ 36 → eqb (kept n) own ≡ eqb n own
 same_kept own n l = search (rules, cases_lt, kept_small, kept_large, ne_eqb)
 
 misresets_kept : (own : ℕ) → own < 2 ^ 36 → (r : Role) (n : ℕ) → misresets own r (kept n) ≡ misresets own r n
-misresets_kept own l roles.Definition n = refl
-misresets_kept own l roles.Literal n = refl
 misresets_kept own l roles.Reset n = ap₂ (λ a b. not (a || b)) (below_kept n) (same_kept own n l)
-misresets_kept own l roles.Size n = refl
+misresets_kept own l r n = refl
 
 sum_kept : (m c n : ℕ) → m ≤ LARGEST → ltb m (c + kept n) ≡ ltb m (c + n)
 sum_kept m c n l = search (rules, cases_lt, kept_small, kept_large, lt-ltb)
 
 oversizes_kept : (m c : ℕ) → m ≤ LARGEST → (r : Role) (n : ℕ) → oversizes m c r (kept n) ≡ oversizes m c r n
-oversizes_kept m c l roles.Definition n = refl
-oversizes_kept m c l roles.Literal n = refl
-oversizes_kept m c l roles.Reset n = refl
 oversizes_kept m c l roles.Size n = sum_kept m c n l
+oversizes_kept m c l r n = refl
 
 any_number_kept : (test : Role → ℕ → Bool) → ((r : Role) (n : ℕ) → test r (kept n) ≡ test r n)
     → (rs : List Role) (ns : List ℕ) → any_number test rs (map kept ns) ≡ any_number test rs ns
-any_number_kept test h [] ns = refl
-any_number_kept test h (r ∷ rs) [] = refl
 any_number_kept test h (r ∷ rs) (n ∷ ns) = ap₂ (λ (a b : Bool). a || b) (h r n) (any_number_kept test h rs ns)
+any_number_kept test h rs ns = refl
 
 -- a number that passes each test is kept as it is
 pub reset_is : (own n : ℕ) → not (ltb n 2 || eqb n own) ≡ false → (n < 2) ⊎ (n ≡ own)
 reset_is own n h = search (rules, cases_Bool, ltb-true, eqb-true, not-false)
 
-small_number : (m c own : ℕ) (r : Role) (n : ℕ) → m ≤ LARGEST → own < 2 ^ 36 → exceeds m r n ≡ false
-    → misresets own r n ≡ false → oversizes m c r n ≡ false → n < 2 ^ 36
-small_number m c own roles.Definition n l k e d o =
-    let low : n ≤ 2 * m + 1 = ltb-false (2 * m + 1) n e in omega arith
-small_number m c own roles.Literal n l k e d o =
-    let low : n ≤ 2 * m + 1 = ltb-false (2 * m + 1) n e in omega arith
-small_number m c own roles.Reset n l k e d o = search (rules, reset_is)
-small_number m c own roles.Size n l k e d o = let low : c + n ≤ m = ltb-false m (c + n) o in omega arith
+-- a number with which nothing is wrong, by the four tests
+pub record IsRight (bound carried own : ℕ) (r : Role) (n : ℕ) : Type 0 where
+  pub defined : misdefines r n ≡ false
+  pub within : exceeds bound r n ≡ false
+  pub reset : misresets own r n ≡ false
+  pub sized : oversizes bound carried r n ≡ false
 
--- the tests that tell a row apart from a right one, each of all its numbers
-record AllPass (m c own : ℕ) (rs : List Role) (ns : List ℕ) : Type 0 where
-  pub within : any_number (exceeds m) rs ns ≡ false
-  pub resets : any_number (misresets own) rs ns ≡ false
-  pub sizes : any_number (oversizes m c) rs ns ≡ false
+-- numbers with which nothing is wrong
+pub record AreRight (bound carried own : ℕ) (rs : List Role) (ns : List ℕ) : Type 0 where
+  pub defined : any_number misdefines rs ns ≡ false
+  pub within : any_number (exceeds bound) rs ns ≡ false
+  pub reset : any_number (misresets own) rs ns ≡ false
+  pub sized : any_number (oversizes bound carried) rs ns ≡ false
 
-first_passes : (m c own : ℕ) (r : Role) (rs : List Role) (n : ℕ) (ns : List ℕ) → AllPass m c own (r ∷ rs) (n ∷ ns)
-    → (exceeds m r n ≡ false) × (misresets own r n ≡ false) × (oversizes m c r n ≡ false)
-first_passes m c own r rs n ns p = search (rules, or_parts)
+pub first_is_right : (bound carried own : ℕ) (r : Role) (n : ℕ) (rs : List Role) (ns : List ℕ)
+    → AreRight bound carried own (r ∷ rs) (n ∷ ns)
+    → IsRight bound carried own r n × AreRight bound carried own rs ns
+first_is_right bound carried own r n rs ns h = search (rules, or_parts)
 
-others_pass : (m c own : ℕ) (r : Role) (rs : List Role) (n : ℕ) (ns : List ℕ) → AllPass m c own (r ∷ rs) (n ∷ ns)
-    → AllPass m c own rs ns
-others_pass m c own r rs n ns p = search (rules, or_parts)
+small_number : (m c own : ℕ) (r : Role) (n : ℕ) → m ≤ LARGEST → own < 2 ^ 36 → IsRight m c own r n → n < 2 ^ 36
+small_number m c own roles.Reset n l k h = search (rules, reset_is)
+small_number m c own roles.Size n l k h = omega (arith, ltb-false m (c + n) h.sized)
+small_number m c own r n l k h = omega (arith, ltb-false (2 * m + 1) n h.within)
 
 none_large : (m c own : ℕ) (rs : List Role) (ns : List ℕ) → m ≤ LARGEST → own < 2 ^ 36 → length ns ≡ length rs
-    → AllPass m c own rs ns → map kept ns ≡ ns
-none_large m c own [] [] l k long p = refl
-none_large m c own [] (n ∷ ns) l k long p = absurd (omega arith)
-none_large m c own (r ∷ rs) [] l k long p = absurd (omega arith)
-none_large m c own (r ∷ rs) (n ∷ ns) l k long p =
-    search (
-      rules,
-      first_passes,
-      kept_small,
-      small_number,
-      none_large m c own rs ns l k (omega arith) (others_pass m c own r rs n ns p),
-    )
+    → AreRight m c own rs ns → map kept ns ≡ ns
+none_large m c own [] [] l k long h = refl
+none_large m c own (r ∷ rs) (n ∷ ns) l k long h =
+    let p = first_is_right m c own r n rs ns h in
+    search (rules, kept_small, small_number, none_large m c own rs ns l k (omega arith) p.1)
+none_large m c own rs ns l k long h = absurd (omega arith)
 
 -- The literal of the row's own variable is kept as it is, where no number exceeds its bound.
 own_kept : (m c : ℕ) (r : Role) (n : ℕ) → m ≤ LARGEST → exceeds m r n ≡ false
     → own_literal r c (kept n) ≡ own_literal r c n
 own_kept m c roles.Definition n l e =
     let low : n ≤ 2 * m + 1 = ltb-false (2 * m + 1) n e in kept_small n (omega arith)
-own_kept m c roles.Literal n l e = refl
-own_kept m c roles.Reset n l e = refl
-own_kept m c roles.Size n l e = refl
+own_kept m c r n l e = refl
 
 own_small : (m c : ℕ) (r : Role) (n : ℕ) → m ≤ LARGEST → c ≤ 2 ^ 35 → exceeds m r n ≡ false
     → own_literal r c n < 2 ^ 36
 own_small m c roles.Definition n l k e = let low : n ≤ 2 * m + 1 = ltb-false (2 * m + 1) n e in omega arith
-own_small m c roles.Literal n l k e = omega arith
-own_small m c roles.Reset n l k e = omega arith
-own_small m c roles.Size n l k e = omega arith
+own_small m c r n l k e = omega arith
 
 -- the first test that is not passed tells the fault
 abbrev told : Bool → Bool → Bool → Bool → Option ReadKind
@@ -137,12 +121,10 @@ wrong_anyway : (x y : List ℕ) (a d e f g : Bool)
 wrong_anyway x y true d e f g = refl
 wrong_anyway x y false d e f g = refl
 
-same_unless_wrong : (x y : List ℕ) (a d e : Bool) → (d ≡ false → e ≡ false → x ≡ y)
+same_unless_wrong : (x y : List ℕ) (a d e : Bool) → (a ≡ false → d ≡ false → e ≡ false → x ≡ y)
     → unless_wrong x (told a false d e) ≡ unless_wrong y (told a false d e)
-same_unless_wrong x y true d e h = refl
-same_unless_wrong x y false true e h = refl
-same_unless_wrong x y false false true h = refl
-same_unless_wrong x y false false false h = ap (λ (ns : List ℕ). unless_wrong ns None) (h refl refl)
+same_unless_wrong x y false false false h = ap (λ (ns : List ℕ). unless_wrong ns None) (h refl refl refl)
+same_unless_wrong x y a d e h = refl
 
 module _ (form : Form) (m c : ℕ) (l : m ≤ LARGEST) (k : c ≤ 2 ^ 35) where
   abbrev own_of : ℕ → ℕ
@@ -162,32 +144,26 @@ module _ (form : Form) (m c : ℕ) (l : m ≤ LARGEST) (k : c ≤ 2 ^ 35) where
   within_kept n ns long within =
       let first = (or_parts (exceeds m form.first n) (any_number (exceeds m) form.others ns) within).0 in
       let small : own_of n < 2 ^ 36 = own_small m c form.first n l k first in
-      let defined : any_number misdefines (roles_of form) (map kept (n ∷ ns))
-      ≡ any_number misdefines (roles_of form) (n ∷ ns) =
-      any_number_kept misdefines misdefines_kept (roles_of form) (n ∷ ns) in
-      let exceeded : any_number (exceeds m) (roles_of form) (map kept (n ∷ ns)) ≡ false =
-      any_number_kept (exceeds m) (exceeds_kept m l) (roles_of form) (n ∷ ns) ∙ within in
-      let reset : resets_of (kept n) (map kept (n ∷ ns)) ≡ resets_of n (n ∷ ns) =
+      let defined = any_number_kept misdefines misdefines_kept (roles_of form) (n ∷ ns) in
+      let exceeded = any_number_kept (exceeds m) (exceeds_kept m l) (roles_of form) (n ∷ ns) ∙ within in
+      let reset =
       ap (λ own. any_number (misresets own) (roles_of form) (map kept (n ∷ ns))) (own_kept m c form.first n l first)
       ∙ any_number_kept (misresets (own_of n)) (misresets_kept (own_of n) small) (roles_of form) (n ∷ ns) in
-      let sized : sizes_of (map kept (n ∷ ns)) ≡ sizes_of (n ∷ ns) =
-      any_number_kept (oversizes m c) (oversizes_kept m c l) (roles_of form) (n ∷ ns) in
+      let sized = any_number_kept (oversizes m c) (oversizes_kept m c l) (roles_of form) (n ∷ ns) in
       rw (defined, exceeded, reset, sized, within)
       (same_unless_wrong (map kept (n ∷ ns)) (n ∷ ns) (any_number misdefines (roles_of form) (n ∷ ns))
       (resets_of n (n ∷ ns)) (sizes_of (n ∷ ns))
-      (λ d e. none_large m c (own_of n) (roles_of form) (n ∷ ns) l small (ap suc long)
-      (record { within = within; resets = d; sizes = e })))
+      (λ a d e. none_large m c (own_of n) (roles_of form) (n ∷ ns) l small (ap suc long)
+      (record { defined = a; within = within; reset = d; sized = e })))
 
   -- where one does
   exceeding_kept : (ns : List ℕ) → any_number (exceeds m) (roles_of form) ns ≡ true
       → checked_row form m c (Some (map kept ns)) ≡ checked_row form m c (Some ns)
   unfolding checked_row
   exceeding_kept ns h =
-      let defined : any_number misdefines (roles_of form) (map kept ns) ≡ any_number misdefines (roles_of form) ns =
-      any_number_kept misdefines misdefines_kept (roles_of form) ns in
       let exceeded : any_number (exceeds m) (roles_of form) (map kept ns) ≡ true =
       any_number_kept (exceeds m) (exceeds_kept m l) (roles_of form) ns ∙ h in
-      rw (defined, exceeded, h)
+      rw (any_number_kept misdefines misdefines_kept (roles_of form) ns, exceeded, h)
       (wrong_anyway (map kept ns) ns (any_number misdefines (roles_of form) ns)
       (resets_of (get_or (map kept ns) 0 0) (map kept ns)) (sizes_of (map kept ns))
       (resets_of (get_or ns 0 0) ns) (sizes_of ns))
@@ -248,45 +224,33 @@ module _ (form : Form) (m c most : ℕ) (text : List ℕ) (ended : Bool) (small 
   row_right ns h e = row_is (Some ns) h ∙ ap (unless_wrong ns) e
 
 by_tests : (a b d e : Bool) → told a b d e ≡ None → (a ≡ false) × (b ≡ false) × (d ≡ false) × (e ≡ false)
-by_tests true b d e h = cc
-by_tests false true d e h = cc
-by_tests false false true e h = cc
-by_tests false false false true h = cc
 by_tests false false false false h = (refl, refl, refl, refl)
+by_tests a b d e h = cc
 
 -- a row with no fault passes each test
 pub right_parts : (form : Form) (m c : ℕ) (ns : List ℕ) → fault_in_row form m c ns ≡ None
-    → (any_number misdefines (roles_of form) ns ≡ false) × (any_number (exceeds m) (roles_of form) ns ≡ false)
-    × (any_number (misresets (own_literal form.first c (get_or ns 0 0))) (roles_of form) ns ≡ false)
-    × (any_number (oversizes m c) (roles_of form) ns ≡ false)
+    → AreRight m c (own_literal form.first c (get_or ns 0 0)) (roles_of form) ns
 right_parts form m c ns h = search (rules, by_tests)
 
 -- no number of a row that passes is above the largest literal, unless it is a reset
-bounded : (m c : ℕ) (r : Role) (n : ℕ) → exceeds m r n ≡ false → oversizes m c r n ≡ false → IsBounded m r n
-bounded m c roles.Definition n e o = ltb-false (2 * m + 1) n e
-bounded m c roles.Literal n e o = ltb-false (2 * m + 1) n e
-bounded m c roles.Reset n e o = tt
-bounded m c roles.Size n e o = let low : c + n ≤ m = ltb-false m (c + n) o in omega arith
+bounded : (m c own : ℕ) (r : Role) (n : ℕ) → IsRight m c own r n → IsBounded m r n
+bounded m c own roles.Reset n h = tt
+bounded m c own roles.Size n h = omega (arith, ltb-false m (c + n) h.sized)
+bounded m c own r n h = ltb-false (2 * m + 1) n h.within
 
-all_bounded : (m c : ℕ) (rs : List Role) (ns : List ℕ) → length ns ≡ length rs
-    → any_number (exceeds m) rs ns ≡ false → any_number (oversizes m c) rs ns ≡ false
+all_bounded : (m c own : ℕ) (rs : List Role) (ns : List ℕ) → length ns ≡ length rs → AreRight m c own rs ns
     → (k : ℕ) → IsBounded m (get_or rs k roles.Reset) (get_or ns k 0)
-all_bounded m c [] ns long e o k = tt
-all_bounded m c (r ∷ rs) [] long e o k = absurd (omega arith)
-all_bounded m c (r ∷ rs) (n ∷ ns) long e o zero =
-    bounded m c r n (or_parts (exceeds m r n) (any_number (exceeds m) rs ns) e).0
-    (or_parts (oversizes m c r n) (any_number (oversizes m c) rs ns) o).0
-all_bounded m c (r ∷ rs) (n ∷ ns) long e o (suc k) =
-    all_bounded m c rs ns (omega arith) (or_parts (exceeds m r n) (any_number (exceeds m) rs ns) e).1
-    (or_parts (oversizes m c r n) (any_number (oversizes m c) rs ns) o).1 k
+all_bounded m c own [] ns long h k = tt
+all_bounded m c own (r ∷ rs) [] long h k = absurd (omega arith)
+all_bounded m c own (r ∷ rs) (n ∷ ns) long h zero = bounded m c own r n (first_is_right m c own r n rs ns h).0
+all_bounded m c own (r ∷ rs) (n ∷ ns) long h (suc k) =
+    all_bounded m c own rs ns (omega arith) (first_is_right m c own r n rs ns h).1 k
 
 -- the numbers of a row that passes
 pub are_bounded : (form : Form) (m c n : ℕ) (ns : List ℕ) → length ns ≡ length form.others
     → fault_in_row form m c (n ∷ ns) ≡ None → AreBounded form m n ns
 are_bounded form m c n ns long right =
-    let p = right_parts form m c (n ∷ ns) right in
-    let within : (k : ℕ) → IsBounded m (get_or (roles_of form) k roles.Reset) (get_or (n ∷ ns) k 0) =
-    all_bounded m c (roles_of form) (n ∷ ns) (ap suc long) p.1 p.3 in
+    let within = all_bounded m c _ (roles_of form) (n ∷ ns) (ap suc long) (right_parts form m c (n ∷ ns) right) in
     (within 0, λ k. within (suc k))
 
 -- numbers that are right, each with all tests at once, pass every test
@@ -294,36 +258,26 @@ not_and : (a b : Bool) → (not a && b) ≡ true → (a ≡ false) × (b ≡ tru
 not_and true b h = cc
 not_and false b h = (refl, h)
 
-record PassTests (bound own carried : ℕ) (rs : List Role) (ns : List ℕ) : Type 0 where
-  defined : any_number misdefines rs ns ≡ false
-  within : any_number (exceeds bound) rs ns ≡ false
-  reset : any_number (misresets own) rs ns ≡ false
-  sized : any_number (oversizes bound carried) rs ns ≡ false
-
 pass_tests : (bound own carried : ℕ) (rs : List Role) (ns : List ℕ) → are_right bound own carried rs ns ≡ true
-    → PassTests bound own carried rs ns
-pass_tests bound own carried [] ns h = record { defined = refl; within = refl; reset = refl; sized = refl }
-pass_tests bound own carried (r ∷ rs) [] h = record { defined = refl; within = refl; reset = refl; sized = refl }
+    → AreRight bound carried own rs ns
 pass_tests bound own carried (r ∷ rs) (n ∷ ns) h =
     let here = and_parts (is_right bound own carried r n) (are_right bound own carried rs ns) h in
     let a = not_and (misdefines r n) _ here.0 in
     let b = not_and (exceeds bound r n) _ a.1 in
     let d = not_and (misresets own r n) _ b.1 in
-    let e = not-true (oversizes bound carried r n) d.1 in
     let later = pass_tests bound own carried rs ns here.1 in
     record {
       defined = or_from (misdefines r n) _ a.0 later.defined;
       within = or_from (exceeds bound r n) _ b.0 later.within;
       reset = or_from (misresets own r n) _ d.0 later.reset;
-      sized = or_from (oversizes bound carried r n) _ e later.sized;
+      sized = or_from (oversizes bound carried r n) _ (not-true (oversizes bound carried r n) d.1) later.sized;
     }
+pass_tests bound own carried rs ns h = record { defined = refl; within = refl; reset = refl; sized = refl }
 
 pub right_row : (form : Form) (bound carried n : ℕ) (ns : List ℕ)
     → are_right bound (own_literal form.first carried n) carried (roles_of form) (n ∷ ns) ≡ true
     → fault_in_row form bound carried (n ∷ ns) ≡ None
-right_row form bound carried n ns h =
-    let p = pass_tests bound (own_literal form.first carried n) carried (roles_of form) (n ∷ ns) h in
-    rw (p.defined, p.within, p.reset, p.sized) refl
+right_row form bound carried n ns h = search (rules, pass_tests)
 
 module _ (bound own carried : ℕ) where
   nothing_right : (rs : List Role) (at : ℕ) → are_right bound own carried rs (drop at []) ≡ true

@@ -8,7 +8,7 @@ use Rattle.std.proofs.lemmas.Bool.{lt-ltb, le-ltb, and_parts, eqb-true}
 use Rattle.std.proofs.lemmas.List.Sums.{prefix_len_is}
 use Rattle.std.proofs.lemmas.List.{take_more_set, take-append-drop, drop-set-lt, drop-replicate, drop-drop}
 use Rattle.std.proofs.Math.ListN.{set, length-set}
-use Rattle.aig_rows.specs.Spelling.{is_digit, value_of, zeros}
+use Rattle.aig_rows.specs.Spelling.{is_digit, zeros}
 use Rattle.aig_rows.specs.Scanning.{after_gap, number_at, more_numbers_at, is_line_end, ◌>>=◌}
 use Rattle.aig_rows.specs.Kept.{kept, kept_numbers, kept_first}
 
@@ -22,10 +22,6 @@ kept_large n h = rw (le-ltb n (2 ^ 36) h) refl
 pub digits_end : (bytes : List ℕ) (i : ℕ) → i ≤ length bytes → ((k : ℕ) → k < i → is_digit (get_or bytes k 0) ≡ true)
     → (i < length bytes → is_digit (get_or bytes i 0) ≡ false) → i ≡ prefix_len is_digit bytes
 digits_end bytes i within before here = sym (prefix_len_is is_digit bytes i 0 within before here)
-
-pub value_ends : (bytes : List ℕ) (i value : ℕ) → i ≡ prefix_len is_digit bytes
-    → value ≡ kept (value_of (take i bytes)) → value ≡ kept (value_of (take (prefix_len is_digit bytes) bytes))
-value_ends bytes i value e h = h ∙ ap (λ n. kept (value_of (take n bytes))) e
 
 -- numbers with others before them
 abbrev pub put_before : List ℕ → Option (List ℕ) → Option (List ℕ)
@@ -44,9 +40,7 @@ Behind value after read = (n : ℕ) × (read ≡ Some (n, after)) × (kept n ≡
 pub behind : (read : Option (ℕ × List ℕ)) (value : ℕ) (after : List ℕ) → kept_first read ≡ Some (value, after)
     → Behind value after read
 behind None value after h = cc
-behind (Some x) value after h =
-    let p : (kept x.0, x.1) ≡ (value, after) = cc in
-    (x.0, ap (λ (r : List ℕ). Some (x.0, r)) (ap (λ (q : ℕ × List ℕ). q.1) p), ap (λ (q : ℕ × List ℕ). q.0) p)
+behind (Some x) value after h = search rules
 
 kept_more : (n : ℕ) (r : Option (List ℕ))
     → kept_numbers (r >>= λ others. Some (n ∷ others)) ≡ put_before (kept n ∷ []) (kept_numbers r)
@@ -83,12 +77,6 @@ unfolding more_numbers_at
 left_out_at ended zero bytes h = rw h refl
 left_out_at ended (suc count) bytes h = rw h refl
 
--- the others are left out
-pub numbers_end : (ended : Bool) (least count : ℕ) (front bytes : List ℕ) → least ≡ 0 → is_line_end ended bytes ≡ true
-    → put_before front (kept_numbers (more_numbers_at ended least count bytes)) ≡ Some (front ++ zeros count)
-numbers_end ended least count front bytes none h =
-    rw (none, left_out_at ended count bytes h) (ap (λ (ns : List ℕ). Some (front ++ ns)) (kept-zeros count))
-
 -- the numbers that are stored, and zeros at the places of the others
 pub record AreStored (ended : Bool) (least n i : ℕ) (items bytes : List ℕ) (whole : Option (List ℕ)) : Type 0 where
   pub long : length items ≡ n
@@ -99,10 +87,8 @@ pub still_empty : (n i : ℕ) (items : List ℕ) (value : ℕ) → drop i items 
     → drop (i + 1) (set items i value) ≡ zeros (n - (i + 1))
 still_empty n i items value h =
     let left : n - (i + 1) ≡ n - i - 1 = omega arith in
-    let behind : drop (i + 1) (set items i value) ≡ drop 1 (drop i items) =
-    drop-set-lt (i + 1) items i value (omega arith) ∙ sym (drop-drop 1 i items) in
     let others : drop 1 (zeros (n - i)) ≡ zeros (n - i - 1) = drop-replicate 1 (n - i) 0 in
-    rw (behind, h, others, left) refl
+    rw (drop-set-lt (i + 1) items i value (omega arith) ∙ sym (drop-drop 1 i items), h, others, left) refl
 
 -- one more number is stored at its place
 pub stored_more : (ended : Bool) (least n i : ℕ) (items bytes digits after : List ℕ) (value : ℕ)
@@ -128,4 +114,5 @@ stored_more ended least n i items bytes digits after value whole l s goes gap h 
 pub stored_all : (ended : Bool) (least n i : ℕ) (items bytes : List ℕ) (whole : Option (List ℕ))
     → AreStored ended least n i items bytes whole → (eqb (least - i) 0 && is_line_end ended bytes) ≡ true
     → whole ≡ Some items
-stored_all ended least n i items bytes whole s ends = search (rules, and_parts, numbers_end, eqb-true, take-append-drop)
+stored_all ended least n i items bytes whole s ends =
+    search (rules, and_parts, eqb-true, take-append-drop, left_out_at, kept-zeros)

@@ -1,14 +1,16 @@
 -- Rows in plain spelling are rows.
-use Rattle.std.proofs.Common.{◌≡◌, ◌≢◌, ◌+◌, ◌*◌, ◌-◌, ◌%◌, ◌^◌, ◌<◌, ◌≤◌, ◌==◌, ℕ, zero, suc, List, [], ◌∷◌, ◌++◌}
+use Rattle.std.proofs.lemmas.List.{length-append}
+use Rattle.std.proofs.Common.{◌≡◌, ◌≢◌, ◌+◌, ◌*◌, ◌-◌, ◌%◌, ◌^◌, ◌<◌, ◌≤◌, ◌==◌, ℕ, suc, List, [], ◌∷◌, ◌++◌}
 use Rattle.std.proofs.Common.{take, drop, length, get_or, true, false, cond, refl, sym, ap, ap₂, subst, ◌∙◌, arith}
 use Rattle.std.proofs.Common.{rules, append_assoc, append-nil, Ok, inl, None}
-use Rattle.std.specs.Prelude.{slice_range, fold}
+use Rattle.std.specs.Prelude.{fold}
 use Rattle.std.specs.List.{AllByRecursion}
 use Rattle.std.specs.Float.Numeral.{digits_len}
 use Rattle.std.specs.Str.Parse.{digits_value}
 use Rattle.std.proofs.lemmas.Str.Parse.{IsNumeralModel, numerals_by_fold, digits_value_short}
-use Rattle.std.proofs.lemmas.List.{take-append-drop, drop_more, length-append, length-take-le, take_more_set, take-take}
+use Rattle.std.proofs.lemmas.List.{take-append-drop, drop_more, length-take-le, take_more_set, take-take}
 use Rattle.std.proofs.Math.ListN.{set, length-set}
+use Rattle.aig_circuit.proofs.Checking.InForm.{joined}
 use Rattle.aig_rows.specs.Lines.{ahead, line, lines_of}
 use Rattle.aig_rows.specs.Rows.{Form, row, IsRowLine}
 use Rattle.aig_rows.specs.Reading.{fault_in_row, unless_wrong, checked_row, row_of, row_at}
@@ -49,9 +51,8 @@ pub plain_number_is : (bytes rest : List ℕ) (end value behind : ℕ) → end �
     → end ≡ digits_len bytes → value ≡ digits_value 10 (take end bytes) % 2 ^ 64 → behind ≡ get_or bytes end 0
     → rest ≡ drop (end + 1) bytes → BeginsWithNumber bytes value (behind ∷ rest)
 plain_number_is bytes rest end value behind some few within is found next after =
-    let are : AreDigits (take end bytes) =
-    subst (λ k. AreDigits (take k bytes)) (sym is) (front_passes is_digit bytes) in
-    let short : value_of (take end bytes) < 10 ^ 18 =
+    let are = subst (λ k. AreDigits (take k bytes)) (sym is) (front_passes is_digit bytes) in
+    let short =
     digits_value_short decimal_model (take end bytes) 18 are (omega (arith, length-take-le end bytes (omega arith))) in
     digits_are_number bytes (behind ∷ rest) end value some (omega arith) are
     (sym
@@ -59,14 +60,13 @@ plain_number_is bytes rest end value behind some few within is found next after 
     ∙ small_mod (value_of (take end bytes)) short)) (behind_is bytes rest end behind within next after)
 
 first_digits : (n : ℕ) (bytes : List ℕ) → n ≤ digits_len bytes → AreDigits (take n bytes)
-first_digits zero bytes h = tt
-first_digits (suc n) [] h = tt
 first_digits (suc n) (b ∷ bytes) h =
     elim (is_digit b) as
     (λ d. is_digit b ≡ d → suc n ≤ cond d (1 + digits_len bytes) 0 → AreDigits (b ∷ take n bytes)) [
       | true ↦ λ is more. (is, first_digits n bytes (omega arith))
       | false ↦ λ is more. absurd (omega arith)
     ] refl h
+first_digits n bytes h = tt
 
 -- digits of the first eight bytes, and the byte behind them
 pub short_number_is : (bytes rest : List ℕ) (end value behind : ℕ) → end ≢ 0 → end ≤ 8 → 8 < length bytes
@@ -80,12 +80,6 @@ short_number_is bytes rest end value behind some few long read next after =
     (same_value (take end bytes) are ∙ ap (digits_value 10) (sym same) ∙ sym read.1)
     (behind_is bytes rest end behind (omega arith) next after)
 
--- the digits that are read from the beginning of the bytes, with no number before them
-pub read_value : (bytes : List ℕ) (end : ℕ)
-    → (0 * 10 ^ (end - 0) + digits_value 10 (slice_range bytes 0 end)) % 2 ^ 64
-    ≡ digits_value 10 (take end bytes) % 2 ^ 64
-read_value bytes end = search rules
-
 -- numbers, each after a space
 one_more : (text ns digits : List ℕ) (n : ℕ) → AreMoreNumbers text ns → IsNumber digits n
     → AreMoreNumbers (text ++ 32 ∷ digits) (ns ++ n ∷ [])
@@ -96,8 +90,7 @@ one_more text (m ∷ ns) digits n h d = (
   h.0,
   h.1,
   h.2 ++ 32 ∷ digits,
-  ap (λ (t : List ℕ). t ++ 32 ∷ digits) h.3
-      ∙ simp append_assoc,
+  search (rules, append_assoc),
   h.4,
   h.5,
   one_more h.2 ns digits n h.6 d,
@@ -110,23 +103,13 @@ pub digits_have_no_line_feed : (text : List ℕ) → AreDigits text → HasNoLin
 digits_have_no_line_feed [] h = tt
 digits_have_no_line_feed (b ∷ bs) h = (digit_is_no_line_feed b h.0, digits_have_no_line_feed bs h.1)
 
--- what holds of the parts holds of the whole
-pub all_joined : {X : Type 0} (P : X → Type 0) (xs ys : List X) → AllByRecursion P xs → AllByRecursion P ys
-    → AllByRecursion P (xs ++ ys)
-all_joined P [] ys h k = k
-all_joined P (x ∷ xs) ys h k = (h.0, all_joined P xs ys h.1 k)
-
 pub begins_with_more : (bytes rest digits after ns : List ℕ) (n : ℕ) → BeginsWithMore bytes ns rest
     → rest ≡ 32 ∷ digits → BeginsWithNumber digits n after → BeginsWithMore bytes (ns ++ n ∷ []) after
 begins_with_more bytes rest digits after ns n b space m = record {
   text = b.text ++ 32 ∷ m.digits;
-  are =
-      b.are ∙ ap (λ (r : List ℕ). b.text ++ r) (space ∙ ap (λ (d : List ℕ). 32 ∷ d) m.are)
-      ∙ sym (append_assoc b.text (32 ∷ m.digits) after);
+  are = search (rules, append_assoc);
   spelled = one_more b.text ns m.digits n b.spelled m.spelled;
-  one_line =
-      all_joined (λ b. (b == 10) ≡ false) b.text (32 ∷ m.digits) b.one_line
-      (refl, digits_have_no_line_feed m.digits m.spelled.digits);
+  one_line = search (rules, joined, digits_have_no_line_feed);
 }
 
 -- the numbers that are stored, zeros at the places of the others, and what the bytes begin with behind the numbers
@@ -150,7 +133,7 @@ plain_end least n i items bytes rest behind l enough feed p = record {
   left_out = n - i;
   are = sym (take-append-drop i items) ∙ ap (λ (others : List ℕ). take i items ++ others) p.empty;
   enough = let e : length items ≡ n = p.long in omega (arith, length-take-le i items (omega arith));
-  begins = subst (λ (b : ℕ). BeginsWithMore bytes (take i items) (b ∷ rest)) feed p.begins;
+  begins = rw feed at p.begins;
 }
 
 -- a number and one that is left out, two numbers, where the first may not be left out
@@ -200,7 +183,7 @@ module _ (form : Form) (bytes rest after more : List ℕ) (first : ℕ) (b : Beg
   text = b.digits ++ m.begins.text
 
   cut : lines_of bytes ≡ line text true ∷ lines_of after
-  cut = search (rules, append_assoc, first_line, all_joined, digits_have_no_line_feed)
+  cut = search (rules, append_assoc, first_line, joined, digits_have_no_line_feed)
 
   holds : IsRowLine (line text true) (row form (first ∷ more))
   holds = record {

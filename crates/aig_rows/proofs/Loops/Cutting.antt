@@ -15,16 +15,13 @@ unfolding lines_of
 cut [] at l before here = absurd (omega arith)
 cut (b ∷ bs) zero l before here = rw here refl
 cut (b ∷ bs) (suc n) l before here =
-    let first : eqb b 10 ≡ false = before 0 (omega arith) in
-    rw (first, cut bs n (omega arith) (λ k m. before (suc k) (omega arith)) here) refl
+    rw (before 0 (omega arith), cut bs n (omega arith) (λ k m. before (suc k) (omega arith)) here) refl
 
 uncut : (b : ℕ) (bs : List ℕ) → ((k : ℕ) → k < length (b ∷ bs) → eqb (get_or (b ∷ bs) k 0) 10 ≡ false)
     → lines_of (b ∷ bs) ≡ line (b ∷ bs) false ∷ []
 unfolding lines_of
-uncut b [] free = let first : eqb b 10 ≡ false = free 0 (omega arith) in rw first refl
-uncut b (c ∷ bs) free =
-    let first : eqb b 10 ≡ false = free 0 (omega arith) in
-    rw first (ap (begun_by b) (uncut c bs (λ k m. free (suc k) (omega arith))))
+uncut b [] free = rw (free 0 (omega arith)) refl
+uncut b (c ∷ bs) free = rw (free 0 (omega arith)) (ap (begun_by b) (uncut c bs (λ k m. free (suc k) (omega arith))))
 
 pub line_some : (bs : List ℕ) (at : ℕ) → IsFirstByte (is_byte 10) bs (Some at)
     → lines_of bs ≡ line (take at bs) true ∷ lines_of (drop 1 (drop at bs))
@@ -44,8 +41,7 @@ no_lines (b ∷ bs) h = absurd (omega arith)
 -- the pieces of a text
 begun : (b : ℕ) (bs : List ℕ) (ls : List Line) → b ≢ 10 → AreLines bs ls → AreLines (b ∷ bs) (begun_by b ls)
 begun b bs [] h a = record { joined = ap (λ (t : List ℕ). b ∷ t) a.joined; one_each = ((h, tt), tt); ended = λ _ e. cc }
-begun b bs (l ∷ []) h a = search rules
-begun b bs (l ∷ m ∷ ls) h a = search rules
+begun b bs xs h a = search rules
 
 ended_line : (bs : List ℕ) (ls : List Line) → AreLines bs ls → AreLines (10 ∷ bs) (line [] true ∷ ls)
 ended_line bs [] a =

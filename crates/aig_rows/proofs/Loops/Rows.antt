@@ -1,23 +1,26 @@
 -- Reading rows one after another.
-use Rattle.std.proofs.lemmas.Grind.{common_steps}
+use Rattle.std.proofs.Common.{subst}
+use Rattle.std.proofs.Common.{append-nil}
+use Rattle.std.proofs.Common.{sym}
+use Rattle.aig_rows.specs.Scanning.{numbers_at}
+use Rattle.std.proofs.Common.{length}
 use Rattle.std.proofs.Common.{rules}
-use Rattle.std.proofs.Common.{◌≡◌, ◌+◌, ◌-◌, ◌<◌, ◌≤◌, ℕ, zero, suc, List, [], ◌∷◌, ◌++◌, map, length, get_or, false}
-use Rattle.std.proofs.Common.{Option, Some, None, Ok, Err, refl, sym, ap, subst, ◌∙◌, append_assoc, append-nil, arith}
+use Rattle.std.proofs.Common.{◌≡◌, ◌+◌, ◌-◌, ◌<◌, ◌≤◌, ℕ, zero, suc, List, [], ◌∷◌, ◌++◌, map, get_or, false}
+use Rattle.std.proofs.Common.{Option, Some, None, Ok, Err, refl, ap, ◌∙◌, append_assoc, arith}
 use Rattle.std.specs.Prelude.{Result, OnOk}
 use Rattle.std.specs.List.{sum}
-use Rattle.std.proofs.lemmas.Bool.{ltb-false, or_parts}
+use Rattle.std.proofs.lemmas.Bool.{ltb-false}
 use Rattle.std.proofs.lemmas.List.Sums.{sum_by-cons, sum_by-append}
 use Rattle.aig_rows.specs.declared.fault.ReadFault.{ReadFault}
 use Rattle.aig_rows.specs.declared.fault.ReadKind.TheVariants as kinds
 use Rattle.aig_rows.specs.declared.row.Role.TheVariants as roles
 use Rattle.aig_rows.specs.Lines.{Line, Ahead}
-use Rattle.aig_rows.specs.Scanning.{numbers_at}
 use Rattle.aig_rows.specs.Rows.{Role, Form, size_form, size_of}
 use Rattle.aig_rows.specs.Outcomes.{row_meant, rows_meant, GivesOrMemory}
-use Rattle.aig_rows.specs.Reading.{◌>>=◌, Found, carried_on, oversizes, any_number, fault_in_row}
+use Rattle.aig_rows.specs.Reading.{◌>>=◌, Found, carried_on, oversizes, fault_in_row}
 use Rattle.aig_rows.specs.Reading.{checked_row, row_of, line_found, row_at, rows_at}
 use Rattle.aig_rows.proofs.Steps.{both_ok, ok_at_line, ok_same}
-use Rattle.aig_rows.proofs.Kept.Checks.{right_parts}
+use Rattle.aig_rows.proofs.Kept.Checks.{first_is_right, right_parts}
 
 -- what comes behind a row that is right
 abbrev with_first : {X : Type 0} → X → List X × Ahead → Found (List X)
@@ -54,31 +57,24 @@ row_is_right form m carried at ns after h = right_ahead form m carried at.number
 first_fits : (form : Form) (m carried n : ℕ) (ns : List ℕ) → fault_in_row form m carried (n ∷ ns) ≡ None
     → oversizes m carried form.first n ≡ false
 first_fits form m carried n ns right =
-    let p = right_parts form m carried (n ∷ ns) right in
-    (or_parts (oversizes m carried form.first n) (any_number (oversizes m carried) form.others ns) p.3).0
+    (first_is_right m carried _ form.first n form.others ns (right_parts form m carried (n ∷ ns) right)).0.sized
 
 -- a size that is read does not make the sum too large
 size_small : (form : Form) (m carried : ℕ) (ns : List ℕ) → fault_in_row form m carried ns ≡ None → carried ≤ m
     → form.first ≡ roles.Size → carried + get_or ns 0 0 ≤ m
 size_small form m carried [] right l is = omega arith
-size_small form m carried (n ∷ ns) right l is =
-    ltb-false m (carried + n)
-    (ap (λ (r : Role). oversizes m carried r n) (sym is) ∙ first_fits form m carried n ns right)
+size_small form m carried (n ∷ ns) right l is = search (rules, ltb-false, first_fits)
 
 -- what is carried on is not much larger than what was carried, or within the bound
 on_nothing : (r : Role) (carried limit : ℕ) → carried ≤ limit → carried_on r carried 0 ≤ limit + 2
-on_nothing roles.Definition carried limit low = omega arith
-on_nothing roles.Literal carried limit low = omega arith
-on_nothing roles.Reset carried limit low = omega arith
 on_nothing roles.Size carried limit low = omega arith
+on_nothing r carried limit low = omega arith
 
 on_number : (r : Role) (m carried limit n : ℕ) → oversizes m carried r n ≡ false → carried ≤ limit → m ≤ limit
     → carried_on r carried n ≤ limit + 2
-on_number roles.Definition m carried limit n h low bound = omega arith
-on_number roles.Literal m carried limit n h low bound = omega arith
-on_number roles.Reset m carried limit n h low bound = omega arith
 on_number roles.Size m carried limit n h low bound =
     let small : carried + n ≤ m = ltb-false m (carried + n) h in omega arith
+on_number r m carried limit n h low bound = omega arith
 
 on_small : (form : Form) (m carried limit : ℕ) (ns : List ℕ) → fault_in_row form m carried ns ≡ None
     → carried ≤ limit → m ≤ limit → carried_on form.first carried (get_or ns 0 0) ≤ limit + 2
@@ -107,21 +103,11 @@ module _ {A : Type 0} (tell : List ℕ → A) (form : Form) (m : ℕ) where
   abbrev pub IsCarried : ℕ → A → ℕ → Type 0
   IsCarried carried x next = (ns : List ℕ) → tell ns ≡ x → next ≡ carried_on form.first carried (get_or ns 0 0)
 
-  right_numbers : (carried next count : ℕ) (after : Ahead) (found : List A) (x : A) (ns : List ℕ)
-      (r : Found (List ℕ)) → r ≡ Ok (ns, after) → tell ns ≡ x → next ≡ carried_on form.first carried (get_or ns 0 0)
-      → rows_meant tell (found ++ x ∷ []) (rows_at form m next count after)
-      ≡ rows_meant tell found (r >>= then_rows carried count)
-  right_numbers carried next count after found x ns r is means same =
-      rw (is, same, ← means)
-      (found_first tell found ns (rows_at form m (carried_on form.first carried (get_or ns 0 0)) count after))
-
   right_row : (carried next count : ℕ) (after : Ahead) (found : List A) (x : A) (r : Found (List ℕ))
       → row_meant tell r ≡ Ok (x, after) → IsCarried carried x next
       → rows_meant tell (found ++ x ∷ []) (rows_at form m next count after)
       ≡ rows_meant tell found (r >>= then_rows carried count)
-  right_row carried next count after found x r h goes =
-      let row = meant_row tell x after r h in
-      right_numbers carried next count after found x row.numbers r row.is row.means (goes row.numbers row.means)
+  right_row carried next count after found x r h goes = search (rules, meant_row, found_first)
 
   wrong_row : (carried count : ℕ) (found : List A) (e : ReadFault) (r : Found (List ℕ)) → row_meant tell r ≡ Err e
       → rows_meant tell found (r >>= then_rows carried count) ≡ Err e
@@ -143,9 +129,7 @@ module _ {A : Type 0} (tell : List ℕ → A) (form : Form) (m : ℕ) where
       → i < count → row_meant tell (row_at form m carried at) ≡ Err e
       → rows_meant tell found (rows_at form m carried (count - i) at) ≡ whole → whole ≡ Err e
   unfolding rows_at
-  rows_wrong carried i count at found e whole l h w =
-      let one : count - i ≡ suc (count - (i + 1)) = omega arith in
-      sym w ∙ rw one (wrong_row carried (count - (i + 1)) found e (row_at form m carried at) h)
+  rows_wrong carried i count at found e whole l h w = search (rules, wrong_row)
 
   -- no row is left
   pub rows_done : (carried i count : ℕ) (at : Ahead) (found : List A) (whole : Found (List A)) → count ≤ i
@@ -162,18 +146,13 @@ module _ {A : Type 0} (tell : List ℕ → A) (form : Form) (m : ℕ) where
   carried_small carried next limit at after x h goes low bound = search (rules, meant_row, row_is_right, on_small)
 
 -- sizes that are read add up to no more than their bound
-no_sizes : (m carried : ℕ) → carried ≤ m → carried + sum [] ≤ m
-no_sizes m carried l = omega arith
-
 more_sizes : (m carried n : ℕ) (ns : List ℕ) → carried + n + sum ns ≤ m → carried + sum (n ∷ ns) ≤ m
 more_sizes m carried n ns l = omega (arith, l, sum_by-cons (λ (k : ℕ). k) n ns)
 
 pub sizes_small : (m carried count : ℕ) (at after : Ahead) (rows : List (List ℕ)) → carried ≤ m
     → rows_at size_form m carried count at ≡ Ok (rows, after) → carried + sum (map size_of rows) ≤ m
 unfolding rows_at
-sizes_small m carried zero at after rows l h =
-    let none : ([], at) ≡ (rows, after) = ok_same {E = ReadFault} ([], at) (rows, after) h in
-    subst (λ (q : List (List ℕ) × Ahead). carried + sum (map size_of q.0) ≤ m) none (no_sizes m carried l)
+sizes_small m carried zero at after rows l h = search (rules, ok_same)
 sizes_small m carried (suc count) at after rows l h =
     let f = both_ok (row_at size_form m carried at) (then_rows size_of size_form m carried count) (rows, after) h in
     let n = get_or f.0.0 0 0 in
@@ -186,22 +165,15 @@ sizes_small m carried (suc count) at after rows l h =
     (more_sizes m carried n (map size_of o.0.0)
     (sizes_small m (carried + n) count f.0.1 o.0.1 o.0.0 (size_small size_form m carried f.0.0 right l refl) o.1))
 
--- also with those that were there before
-both_sizes : (m start : ℕ) (before ns : List ℕ) → start ≡ sum before → start + sum ns ≤ m → sum (before ++ ns) ≤ m
-both_sizes m start before ns from l = omega (arith, from, l, sum_by-append (λ (k : ℕ). k) before ns)
-
 sizes_fit : (m start count : ℕ) (at after : Ahead) (before rows : List ℕ) (r : Found (List (List ℕ)))
     → rows_at size_form m start count at ≡ r → start ≡ sum before → start ≤ m
     → rows_meant size_of before r ≡ Ok (rows, after) → sum rows ≤ m
 sizes_fit m start count at after before rows (Err e) is from l h = cc
-sizes_fit m start count at after before rows (Ok x) is from l h =
-    grind (arith, common_steps, ok_same, both_sizes, sizes_small)
+sizes_fit m start count at after before rows (Ok x) is from l h = search (rules, ok_same, sizes_small, sum_by-append)
 
 pub sizes_read : {X : Type 0} (m start count : ℕ) (at after : Ahead) (before found : List ℕ)
     (result : Result X ReadFault) → start ≡ sum before → sum before ≤ m
     → GivesOrMemory (λ _. (found, after)) result (rows_meant size_of before (rows_at size_form m start count at))
     → OnOk result (sum found ≤ m)
-sizes_read m start count at after before found (Ok x) from l h =
-    sizes_fit m start count at after before found (rows_at size_form m start count at) refl from
-    (omega (arith, from, l)) h
+sizes_read m start count at after before found (Ok x) from l h = search (rules, sizes_fit)
 sizes_read m start count at after before found (Err e) from l h = tt

@@ -1,6 +1,6 @@
 -- The lines of the canonical text: each number's digits spell it, and no line holds a line feed but at its end.
 use Rattle.std.proofs.Common.{rules}
-use Rattle.std.proofs.Common.{◌≡◌, ◌<◌, ◌≤◌, ◌^◌, ℕ, true, List, [], ◌∷◌, ◌++◌, length, map, refl, sym, ap, ◌∙◌, inl}
+use Rattle.std.proofs.Common.{◌≡◌, ◌<◌, ◌≤◌, ◌^◌, ℕ, true, List, [], ◌∷◌, ◌++◌, length, map, refl, sym, inl}
 use Rattle.std.proofs.Common.{arith}
 use Rattle.std.specs.List.{AllByRecursion, AllZip, flat_map}
 use Rattle.std.specs.Prelude.{decimal}
@@ -10,7 +10,8 @@ use Rattle.aig_rows.specs.Spelling.{AreMoreNumbers, IsLineEnd, EndInNumbers, IsN
 use Rattle.aig_text.specs.AsciiGrammar.{IsHeaderLine}
 use Rattle.aig_rows.specs.Rows.{Row, IsRowLine}
 use Rattle.aig_rows.specs.Parts.Plain.{HasNoLineFeed}
-use Rattle.aig_rows.proofs.Kept.Plain.{all_joined, digits_have_no_line_feed, first_line}
+use Rattle.aig_circuit.proofs.Checking.InForm.{joined}
+use Rattle.aig_rows.proofs.Kept.Plain.{digits_have_no_line_feed, first_line}
 use Rattle.aig_text.specs.declared.header_line.TheConstants.{HEADER_LEAST}
 use Rattle.aig_text.specs.AsciiText.{more_numbers_text, numbers_text, shortened, row_text, line_text, header_text}
 use Rattle.aig_text.proofs.Canonical.Shortened.{leaves_out, enough_are_left, all_left}
@@ -32,21 +33,17 @@ front (n ∷ ns) = decimal n ++ more_front ns
 
 more_text_is : (ns : List ℕ) (rest : List ℕ) → more_numbers_text ns ++ rest ≡ more_front ns ++ 10 ∷ rest
 more_text_is [] rest = refl
-more_text_is (n ∷ ns) rest = ap (λ (t : List ℕ). 32 ∷ t)
-    (append_assoc (decimal n) (more_numbers_text ns) rest ∙ ap (λ (t : List ℕ). decimal n ++ t) (more_text_is ns rest)
-    ∙ sym (append_assoc (decimal n) (more_front ns) (10 ∷ rest)))
+more_text_is (n ∷ ns) rest = search (rules, append_assoc, more_text_is ns rest)
 
 text_is : (ns : List ℕ) (rest : List ℕ) → numbers_text ns ++ rest ≡ front ns ++ 10 ∷ rest
 text_is [] rest = refl
-text_is (n ∷ ns) rest =
-    append_assoc (decimal n) (more_numbers_text ns) rest ∙ ap (λ (t : List ℕ). decimal n ++ t) (more_text_is ns rest)
-    ∙ sym (append_assoc (decimal n) (more_front ns) (10 ∷ rest))
+text_is (n ∷ ns) rest = search (rules, append_assoc, more_text_is)
 
 more_front_has_no_line_feed : (ns : List ℕ) → AreSmall ns → HasNoLineFeed (more_front ns)
 more_front_has_no_line_feed [] small = tt
 more_front_has_no_line_feed (n ∷ ns) small = (
   refl,
-  all_joined _ (decimal n) (more_front ns)
+  joined _ (decimal n) (more_front ns)
       (digits_have_no_line_feed (decimal n) (decimal_is_number n small.0).digits)
       (more_front_has_no_line_feed ns small.1),
 )
@@ -54,7 +51,7 @@ more_front_has_no_line_feed (n ∷ ns) small = (
 front_has_no_line_feed : (ns : List ℕ) → AreSmall ns → HasNoLineFeed (front ns)
 front_has_no_line_feed [] small = tt
 front_has_no_line_feed (n ∷ ns) small =
-    all_joined _ (decimal n) (more_front ns)
+    joined _ (decimal n) (more_front ns)
     (digits_have_no_line_feed (decimal n) (decimal_is_number n small.0).digits) (more_front_has_no_line_feed ns small.1)
 
 -- the numbers that a row's line holds
@@ -78,15 +75,10 @@ number_line least ns = line (front (written least ns)) true
 abbrev pub header_line : List ℕ → List ℕ → Line
 header_line word ns = line (word ++ more_front (shortened HEADER_LEAST ns)) true
 
-pub row_is_first : (least : ℕ) (ns rest : List ℕ) → AreSmall ns
-    → lines_of (row_text least ns ++ rest) ≡ number_line least ns ∷ lines_of rest
-row_is_first least ns rest small =
-    search (rules, row_text_is, text_is, first_line, front_has_no_line_feed, written_are_small)
-
 pub header_is_first : (word ns rest : List ℕ) → HasNoLineFeed word → AreSmall ns
     → lines_of (header_text word ns ++ rest) ≡ header_line word ns ∷ lines_of rest
 header_is_first word ns rest plain small =
-    search (rules, append_assoc, more_text_is, first_line, all_joined, more_front_has_no_line_feed, all_left)
+    search (rules, append_assoc, more_text_is, first_line, joined, more_front_has_no_line_feed, all_left)
 
 -- a line may end where its text ends
 ends_at_once : IsLineEnd true []
@@ -137,7 +129,17 @@ row_lines rows = map (λ (r : Row). number_line r.form.least r.numbers) rows
 pub rows_are_first : (rows : List Row) (rest : List ℕ) → AllByRecursion IsFullRow rows
     → lines_of (flat_map line_text rows ++ rest) ≡ row_lines rows ++ lines_of rest
 rows_are_first [] rest h = refl
-rows_are_first (r ∷ rows) rest h = search (rules, append_assoc, row_is_first, rows_are_first rows rest h.1)
+rows_are_first (r ∷ rows) rest h =
+    search (
+      rules,
+      append_assoc,
+      rows_are_first rows rest h.1,
+      row_text_is,
+      text_is,
+      first_line,
+      front_has_no_line_feed,
+      written_are_small,
+    )
 
 number_line_is_good : (least : ℕ) (ns : List ℕ) → least < length ns → AreSmall ns
     → IsNumberLine least (number_line least ns) ns

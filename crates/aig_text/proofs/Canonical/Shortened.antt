@@ -2,7 +2,7 @@
 use Rattle.std.proofs.lemmas.Grind.{common_steps}
 use Rattle.std.proofs.Common.{rules}
 use Rattle.std.proofs.Common.{◌≡◌, ◌≢◌, ◌<◌, ◌≤◌, ◌-◌, ◌&&◌, ℕ, zero, suc, Bool, true, false, cond, List, [], ◌∷◌, ◌++◌}
-use Rattle.std.proofs.Common.{length, take, get_or, eqb, refl, ap, subst, ◌∙◌, arith}
+use Rattle.std.proofs.Common.{length, take, get_or, eqb, refl, ap, ◌∙◌, arith}
 use Rattle.std.specs.List.{AllByRecursion}
 use Rattle.std.proofs.lemmas.List.{length-take}
 use Rattle.std.proofs.lemmas.Bool.{eqb-true, eq-eqb, ne_eqb, and_parts}
@@ -39,9 +39,7 @@ one_or_none least n false none small = omega arith
 
 enough_before : (least n : ℕ) (written : List ℕ) → least - 1 ≤ length written
     → least ≤ length (number_before least n written)
-enough_before least n [] h =
-    one_or_none least n (eqb least 0 && eqb n 0) (λ both. eqb-true least 0 (and_parts (eqb least 0) (eqb n 0) both).0)
-    (omega arith)
+enough_before least n [] h = search (rules, one_or_none, eqb-true, and_parts)
 enough_before least n (m ∷ ms) h = omega arith
 
 pub enough_are_left : (least : ℕ) (ns : List ℕ) → least ≤ length ns → least ≤ length (shortened least ns)
@@ -84,11 +82,10 @@ needed_are_left least (n ∷ ns) h =
 
 pub last_is_left : (least end : ℕ) (ns : List ℕ) → end < length ns → get_or ns end 0 ≢ 0
     → shortened least (take (suc end) ns) ≡ take (suc end) ns
-last_is_left least end [] high is = absurd (omega arith)
 last_is_left least zero (n ∷ ns) high is = rw (ne_eqb n 0 is, and_no (eqb least 0)) refl
-last_is_left least (suc end) (n ∷ []) high is = absurd (omega arith)
 last_is_left least (suc end) (n ∷ m ∷ ns) high is =
     ap (number_before least n) (last_is_left (least - 1) end (m ∷ ns) (omega arith) is)
+last_is_left least end xs high is = absurd (omega arith)
 
 -- the same at an end that is moved to the front
 pub one_less : (least end : ℕ) (ns : List ℕ) → least < end → end ≤ length ns → get_or ns (end - 1) 0 ≡ 0
@@ -97,9 +94,7 @@ one_less least end ns low high is = grind (arith, common_steps, zero_is_left_out
 
 pub no_less : (least end : ℕ) (ns : List ℕ) → least < end → end ≤ length ns → get_or ns (end - 1) 0 ≢ 0
     → shortened least (take end ns) ≡ take end ns
-no_less least end ns low high is =
-    let more : suc (end - 1) ≡ end = omega arith in
-    subst (λ (k : ℕ). shortened least (take k ns) ≡ take k ns) more (last_is_left least (end - 1) ns (omega arith) is)
+no_less least end ns low high is = search (rules, last_is_left)
 
 pub all_needed : (least end : ℕ) (ns : List ℕ) → end ≤ least → shortened least (take end ns) ≡ take end ns
 all_needed least end ns low = needed_are_left least (take end ns) (simp length-take (omega arith))

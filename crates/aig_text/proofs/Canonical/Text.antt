@@ -6,16 +6,15 @@ use Rattle.std.specs.List.{AllByRecursion, AllZip, flat_map, sum}
 use Rattle.std.specs.Prelude.{decimal}
 use Rattle.std.proofs.lemmas.Bool.{ne_eqb}
 use Rattle.aig_circuit.specs.declared.circuit.Circuit.{Circuit}
-use Rattle.aig_circuit.specs.declared.circuit.Gate.{Gate}
 use Rattle.aig_circuit.specs.declared.circuit.Kind.{Kind}
 use Rattle.aig_circuit.specs.declared.circuit.Kind.TheVariants as named
-use Rattle.aig_circuit.specs.declared.circuit.Latch.{Latch}
 use Rattle.aig_circuit.specs.declared.circuit.Reset.{Reset}
 use Rattle.aig_circuit.specs.declared.circuit.Reset.TheVariants as resets
 use Rattle.aig_circuit.specs.declared.circuit.Symbol.{Symbol}
 use Rattle.aig_circuit.specs.declared.circuit.TheConstants.{LARGEST}
-use Rattle.aig_circuit.specs.Wellformed.{IsWellFormed, IsWithinLimits, IsVariableUpTo, IsAmong, count_of}
+use Rattle.aig_circuit.specs.Wellformed.{IsWellFormed, IsWithinLimits, IsAmong, count_of}
 use Rattle.aig_circuit.specs.Form.{IsInForm}
+use Rattle.aig_circuit.proofs.Checking.InForm.{in_range, joined}
 use Rattle.aig_core.proofs.Checking.Properties.{sum_cons}
 use Rattle.aig_text.specs.declared.section.Section.TheVariants.{Inputs, Latches, Outputs, Bad, Constraints}
 use Rattle.aig_text.specs.declared.section.Section.TheVariants.{JusticeSizes, JusticeLiterals, Fairness, Gates}
@@ -26,14 +25,13 @@ use Rattle.aig_text.specs.Tail.{kind_letter, IsSymbolLine, IsComment, AreTailLin
 use Rattle.aig_rows.specs.Parts.Plain.{HasNoLineFeed}
 use Rattle.aig_text.specs.Sections.{ascii_word, header_row, rows_in, rows_of, literal_rows_of, Section, sections}
 use Rattle.aig_text.specs.Sections.{in_ascii}
-use Rattle.aig_rows.specs.Rows.{row, Form, input_form, latch_form, literal_form, size_form, gate_form, reset_number}
-use Rattle.aig_rows.specs.Rows.{input_row, latch_row, literal_row, size_row, gate_row}
+use Rattle.aig_rows.specs.Rows.{row, Form, literal_form, size_form, reset_number}
+use Rattle.aig_rows.specs.Rows.{literal_row, size_row}
 use Rattle.aig_rows.proofs.Loops.Cutting.{pieces}
-use Rattle.aig_rows.proofs.Grammar.Entries.{IsLiteralUpTo, IsLatchUpTo, IsGateUpTo}
-use Rattle.aig_text.proofs.Grammar.Sections.{inputs_up_to, latches_up_to, gates_up_to, outputs_up_to, bad_up_to}
-use Rattle.aig_text.proofs.Grammar.Sections.{constraints_up_to, justice_up_to, fairness_up_to}
+use Rattle.aig_rows.proofs.Grammar.Entries.{IsLiteralUpTo}
+use Rattle.aig_text.proofs.Grammar.Sections.{inputs_up_to, latches_up_to, gates_up_to}
 use Rattle.aig_text.proofs.Grammar.Headers.{header_limited}
-use Rattle.aig_rows.proofs.Kept.Plain.{all_joined, digits_have_no_line_feed, first_line}
+use Rattle.aig_rows.proofs.Kept.Plain.{digits_have_no_line_feed, first_line}
 use Rattle.aig_text.proofs.Canonical.Lines.{AreSmall, IsFullRow, header_line, row_lines, header_is_first}
 use Rattle.aig_text.proofs.Canonical.Lines.{header_line_is_good, rows_are_first, rows_are_good}
 use Rattle.aig_rows.proofs.Canonical.{decimal_is_number}
@@ -44,26 +42,15 @@ pub entries_full : {X : Type 0} (P : X → Type 0) (form : Form) (of : X → Lis
 entries_full P form of full [] h = tt
 entries_full P form of full (x ∷ xs) h = (full x h.0, entries_full P form of full xs h.1)
 
-full_input : (m : ℕ) → m ≤ LARGEST → (v : ℕ) → IsVariableUpTo m v → IsFullRow (row input_form (input_row v))
-full_input m top v h =
-    let high : v ≤ m = h.1 in record { some = omega arith; small = (omega arith, tt) }
-
 pub small_reset : (own : ℕ) (reset : Reset) → own < 2 ^ 64 → reset_number own reset < 2 ^ 64
-small_reset own resets.Zero small = omega arith
-small_reset own resets.One small = omega arith
 small_reset own resets.Uninit small = small
-
-full_latch : (m : ℕ) → m ≤ LARGEST → (l : Latch) → IsLatchUpTo m l → IsFullRow (row latch_form (latch_row l))
-full_latch m top l h = search (rules, small_reset)
+small_reset own r small = omega arith
 
 full_literal : (m : ℕ) → m ≤ LARGEST → (n : ℕ) → IsLiteralUpTo m n → IsFullRow (row literal_form (literal_row n))
 full_literal m top n h = record { some = omega arith; small = (omega arith, tt) }
 
 full_size : (n : ℕ) → n ≤ LARGEST → IsFullRow (row size_form (size_row n))
 full_size n h = record { some = omega arith; small = (omega arith, tt) }
-
-full_gate : (m : ℕ) → m ≤ LARGEST → (g : Gate) → IsGateUpTo m g → IsFullRow (row gate_form (gate_row g))
-full_gate m top g h = search rules
 
 -- no size is above the sum
 each_in_sum : (top : ℕ) (sizes : List ℕ) → sum sizes ≤ top → AllByRecursion (λ n. n ≤ top) sizes
@@ -81,30 +68,20 @@ module _ (c : Circuit) (form : IsInForm c) where
       entries_full (IsLiteralUpTo c.max_var) literal_form literal_row (full_literal c.max_var form.limits.max_var) ns h
 
   section_full : (s : Section) → AllByRecursion IsFullRow (map (row (in_ascii s).form) ((in_ascii s).rows c))
-  section_full Inputs =
-      entries_full (IsVariableUpTo c.max_var) input_form input_row (full_input c.max_var form.limits.max_var) c.inputs
-      (inputs_up_to c form)
-  section_full Latches =
-      entries_full (IsLatchUpTo c.max_var) latch_form latch_row (full_latch c.max_var form.limits.max_var) c.latches
-      (latches_up_to c form)
-  section_full Outputs = literals_full c.outputs (outputs_up_to c form)
-  section_full Bad = literals_full c.bad (bad_up_to c form)
-  section_full Constraints = literals_full c.constraints (constraints_up_to c form)
-  section_full JusticeSizes =
-      entries_full (λ n. n ≤ LARGEST) size_form size_row full_size c.justice.sizes
-      (each_in_sum LARGEST c.justice.sizes (sizes_are_small c form.limits))
-  section_full JusticeLiterals = literals_full c.justice.literals (justice_up_to c form)
-  section_full Fairness = literals_full c.fairness (fairness_up_to c form)
-  section_full Gates =
-      entries_full (IsGateUpTo c.max_var) gate_form gate_row (full_gate c.max_var form.limits.max_var) c.gates
-      (gates_up_to c form)
+  section_full Inputs = search (rules, entries_full, inputs_up_to)
+  section_full Latches = search (rules, entries_full, latches_up_to, small_reset)
+  section_full Outputs = literals_full c.outputs (in_range c form).literals.0
+  section_full Bad = literals_full c.bad (in_range c form).literals.1.0
+  section_full Constraints = literals_full c.constraints (in_range c form).literals.1.1.0
+  section_full JusticeSizes = search (rules, entries_full, full_size, each_in_sum, sizes_are_small)
+  section_full JusticeLiterals = literals_full c.justice.literals (in_range c form).literals.1.1.1.0
+  section_full Fairness = literals_full c.fairness (in_range c form).literals.1.1.1.1.0
+  section_full Gates = search (rules, entries_full, gates_up_to)
 
   -- the rows of these sections, as an ASCII file lists them
   pub sections_full : (ss : List Section) → AllByRecursion IsFullRow (rows_in in_ascii ss c)
   sections_full [] = tt
-  sections_full (s ∷ ss) =
-      all_joined IsFullRow (map (row (in_ascii s).form) ((in_ascii s).rows c)) (rows_in in_ascii ss c) (section_full s)
-      (sections_full ss)
+  sections_full (s ∷ ss) = search (rules, joined, section_full, sections_full ss)
 
   -- the rows of the sections between latches and gates, which ASCII and binary files list alike
   pub literal_rows_full : AllByRecursion IsFullRow (literal_rows_of c)
@@ -128,12 +105,7 @@ symbol_is s rest = simp append_assoc
 
 letter_is_plain : (k : Kind) → HasNoLineFeed (kind_letter k)
 letter_is_plain named.Input = (refl, tt)
-letter_is_plain named.Latch = (refl, tt)
-letter_is_plain named.Output = (refl, tt)
-letter_is_plain named.Bad = (refl, tt)
-letter_is_plain named.Constraint = (refl, tt)
-letter_is_plain named.Justice = (refl, tt)
-letter_is_plain named.Fairness = (refl, tt)
+letter_is_plain k = (refl, tt)
 
 name_is_plain : (name : List ℕ) → ¬ IsAmong 10 name → HasNoLineFeed name
 name_is_plain [] h = tt
@@ -144,8 +116,8 @@ IsFound s = (s.position < 2 ^ 64) × (¬ IsAmong 10 s.name)
 
 plain_symbol : (s : Symbol) → IsFound s → HasNoLineFeed (kind_letter s.kind ++ (decimal s.position ++ (32 ∷ s.name)))
 plain_symbol s h =
-    all_joined _ (kind_letter s.kind) (decimal s.position ++ (32 ∷ s.name)) (letter_is_plain s.kind)
-    (all_joined _ (decimal s.position) (32 ∷ s.name)
+    joined _ (kind_letter s.kind) (decimal s.position ++ (32 ∷ s.name)) (letter_is_plain s.kind)
+    (joined _ (decimal s.position) (32 ∷ s.name)
     (digits_have_no_line_feed (decimal s.position) (decimal_is_number s.position h.0).digits)
     (refl, name_is_plain s.name h.1))
 
@@ -180,13 +152,8 @@ comment_is_good (Some bytes) =
     (record { ending = []; text = refl; ends = ([], tt, inl refl) }, sym (pieces bytes).joined)
 
 count_within : (c : Circuit) → IsWithinLimits c → (k : Kind) → count_of c k ≤ LARGEST
-count_within c limits named.Input = limits.inputs
-count_within c limits named.Latch = limits.latches
-count_within c limits named.Output = limits.literals.0
-count_within c limits named.Bad = limits.literals.1.0
-count_within c limits named.Constraint = limits.literals.1.1.0
-count_within c limits named.Justice = limits.justice
-count_within c limits named.Fairness = limits.literals.1.1.1.1.0
+count_within c limits named.Input = search rules
+count_within c limits k = search rules
 
 -- what may be said of a symbol can be found in a line
 all_found : (c : Circuit) → IsWithinLimits c → (ss : List Symbol)
@@ -199,11 +166,8 @@ all_found c limits (s ∷ ss) p l =
     ((omega arith, l.0), all_found c limits ss p.1 l.1)
 
 -- the lines of the canonical tail
-tail_lines : (c : Circuit) → IsInForm c → lines_of (tail_text c) ≡ symbol_lines c.symbols ++ comment_lines c.comment
-tail_lines c form = search (rules, symbols_are_first, all_found, comment_is_first)
-
 pub tail_is_good : (c : Circuit) → IsInForm c → AreTailLines (lines_of (tail_text c)) c
-tail_is_good c form = search (rules, tail_lines, symbols_are_good, all_found, comment_is_good)
+tail_is_good c form = search (rules, symbols_are_good, all_found, comment_is_good, symbols_are_first, comment_is_first)
 
 canonical_lines : (c : Circuit) → IsInForm c
     → lines_of (ascii_text c)

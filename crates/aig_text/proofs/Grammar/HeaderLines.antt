@@ -49,9 +49,7 @@ word_len (c ∷ word) b rest h e =
 word_before_gap : (word gap rest : List ℕ) → AllByRecursion (λ c. ends_word c ≡ false) word → IsGap gap
     → before_first ends_word (word ++ (gap ++ rest)) ≡ word
 word_before_gap word [] rest h g = let long : 0 < 0 = g.0 in absurd (omega arith)
-word_before_gap word (b ∷ bs) rest h g =
-    let ends : ends_word b ≡ true = rw (eqb-true b 32 g.1.0) refl in
-    rw (word_len word b (bs ++ rest) h ends) (take-append_seam word (b ∷ (bs ++ rest)))
+word_before_gap word (b ∷ bs) rest h g = search (rules, eqb-true, word_len, take-append_seam)
 
 word_before_numbers : (word numbers ending written : List ℕ) → 0 < length written
     → AllByRecursion (λ c. ends_word c ≡ false) word → AreMoreNumbers numbers written
@@ -68,9 +66,8 @@ header_is_read word l least most ns some plain h long =
     let enough : least ≤ length h.others.written = h.others.enough in
     let is_word : before_first ends_word l.text ≡ word =
     rw (h.begins, h.others.text_is)
-    (word_before_numbers word h.others.numbers h.others.ending h.others.written (omega arith) plain h.others.spelled) in
-    let rest : drop (length word) l.text ≡ h.rest = ap (drop (length word)) h.begins ∙ drop-append_seam word h.rest in (
+    (word_before_numbers word h.others.numbers h.others.ending h.others.written (omega arith) plain h.others.spelled) in (
       (bytes_eq-Decides (before_first ends_word l.text) word).1 is_word,
-      rw rest
+      rw (ap (drop (length word)) h.begins ∙ drop-append_seam word h.rest)
           (end_is_numbers l.ended least most h.rest ns h.others long),
     )

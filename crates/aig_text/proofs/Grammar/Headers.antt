@@ -2,7 +2,7 @@
 use Rattle.std.proofs.lemmas.Grind.{common_steps}
 use Rattle.std.proofs.Common.{rules}
 use Rattle.std.proofs.Common.{◌≡◌, ℕ, ◌+◌, ◌≤◌, min, true, false, cond, List, [], ◌∷◌, drop, length, get_or, Option}
-use Rattle.std.proofs.Common.{None, Some, Result, Ok, Err, refl, ap, subst, ◌∙◌, sym, arith}
+use Rattle.std.proofs.Common.{None, Some, Result, Ok, Err, refl, ap, ◌∙◌, sym, arith}
 use Rattle.std.specs.List.{AllByRecursion, list_any, before_first, sum}
 use Rattle.std.specs.Str.{bytes_eq}
 use Rattle.std.proofs.lemmas.Bool.{ltb-false, le-ltb, or_parts, or_from}
@@ -66,17 +66,8 @@ found_header word limit l h t = search (rules, all_within, le-ltb)
 
 -- the header's row
 all_numbers : (limit : ℕ) (ns : List ℕ) → length ns ≡ HEADER_NUMBERS → row_of_header (header_of_row limit ns) ≡ ns
-all_numbers limit [] h = absurd (omega arith)
-all_numbers limit (a ∷ []) h = absurd (omega arith)
-all_numbers limit (a ∷ b ∷ []) h = absurd (omega arith)
-all_numbers limit (a ∷ b ∷ d ∷ []) h = absurd (omega arith)
-all_numbers limit (a ∷ b ∷ d ∷ e ∷ []) h = absurd (omega arith)
-all_numbers limit (a ∷ b ∷ d ∷ e ∷ f ∷ []) h = absurd (omega arith)
-all_numbers limit (a ∷ b ∷ d ∷ e ∷ f ∷ g ∷ []) h = absurd (omega arith)
-all_numbers limit (a ∷ b ∷ d ∷ e ∷ f ∷ g ∷ i ∷ []) h = absurd (omega arith)
-all_numbers limit (a ∷ b ∷ d ∷ e ∷ f ∷ g ∷ i ∷ j ∷ []) h = absurd (omega arith)
 all_numbers limit (a ∷ b ∷ d ∷ e ∷ f ∷ g ∷ i ∷ j ∷ k ∷ []) h = refl
-all_numbers limit (a ∷ b ∷ d ∷ e ∷ f ∷ g ∷ i ∷ j ∷ k ∷ o ∷ ns) h = absurd (omega arith)
+all_numbers limit ns h = absurd (omega arith)
 
 -- a circuit has the counts that a header tells
 abbrev pub HasCounts : Header → Circuit → Type 0
@@ -91,34 +82,25 @@ module _ (word : List ℕ) (limit : ℕ) (l : Line) (h : Header) (c : Circuit) (
       counts ∙ ap row_of_header (sym t.is) ∙ all_numbers (min limit LARGEST) t.numbers s.1
 
   pub heads : IsHeaderLine word HEADER_LEAST l (header_row c)
-  heads =
-      let s = header_reads word l HEADER_LEAST HEADER_NUMBERS t.numbers (omega arith) t.begins t.read in
-      subst (λ (ns : List ℕ). IsHeaderLine word HEADER_LEAST l ns) (sym numbers_are) s.0
+  heads = search (rules, header_reads, numbers_are)
 
   -- what is said of all numbers up to the smaller limit is said of the circuit's
   all_of : (top : ℕ) → min limit LARGEST ≤ top → AllByRecursion (λ n. n ≤ top) (header_row c)
-  all_of top small =
-      subst (λ (ns : List ℕ). AllByRecursion (λ n. n ≤ top) ns) (sym numbers_are)
-      (all_weaker (λ n. n ≤ min limit LARGEST) (λ n. n ≤ top) (λ n h. omega arith) t.numbers t.within)
+  all_of top small = search (rules, numbers_are, all_weaker)
 
   pub limited : AllByRecursion (λ n. n ≤ limit) (header_row c)
   limited = all_of limit (omega arith)
 
-  -- the limit of the header is both limits
-  pub limit_is : h.limit ≡ min limit LARGEST
-  limit_is = ap (λ (k : Header). k.limit) (sym t.is)
-
   pub sizes_within_limit : sum c.justice.sizes ≤ h.limit → sum c.justice.sizes ≤ limit
-  sizes_within_limit small = omega (arith, limit_is)
+  sizes_within_limit small = search rules
 
   pub definitions_counted : length c.inputs + length c.latches + length c.gates ≤ c.max_var
-  definitions_counted =
-      subst (λ (ns : List ℕ). get_or ns 1 0 + get_or ns 2 0 + get_or ns 4 0 ≤ get_or ns 0 0) (sym numbers_are) t.counted
+  definitions_counted = rw (← numbers_are) at t.counted
 
   -- where the sizes are those of the literals
   pub within_limits : sum c.justice.sizes ≡ length c.justice.literals → sum c.justice.sizes ≤ h.limit
       → IsWithinLimits c
-  within_limits sizes small = grind (arith, common_steps, all_of, limit_is)
+  within_limits sizes small = grind (arith, common_steps, all_of)
 
 -- all numbers of the header row of a circuit within the limits are within them
 pub header_limited : (c : Circuit) → IsWithinLimits c → AllByRecursion (λ n. n ≤ LARGEST) (header_row c)

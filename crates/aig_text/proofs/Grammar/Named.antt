@@ -32,12 +32,7 @@ same_kind _ _ = false
 kind_is_same : (k : Kind) → same_kind k k ≡ true
 unfolding same_kind
 kind_is_same Input = refl
-kind_is_same Latch = refl
-kind_is_same Output = refl
-kind_is_same Bad = refl
-kind_is_same Constraint = refl
-kind_is_same Justice = refl
-kind_is_same Fairness = refl
+kind_is_same k = refl
 
 same_is_kind : (k j : Kind) → same_kind k j ≡ true → k ≡ j
 unfolding same_kind
@@ -68,12 +63,7 @@ named_after b _ _ p q = refl
 
 none_named : (k : Kind) (q : ℕ) → is_named nothing_named k q ≡ false
 none_named Input q = contains-empty nat_cmp q
-none_named Latch q = contains-empty nat_cmp q
-none_named Output q = contains-empty nat_cmp q
-none_named Bad q = contains-empty nat_cmp q
-none_named Constraint q = contains-empty nat_cmp q
-none_named Justice q = contains-empty nat_cmp q
-none_named Fairness q = contains-empty nat_cmp q
+none_named k q = contains-empty nat_cmp q
 
 -- each symbol names something that is there and has no name before it
 abbrev pub AreNew : Header → Names → List Symbol → Type 0
@@ -91,9 +81,6 @@ IsPlaced h s = s.position < count_named h s.kind
 not_both : (s t : Symbol) → (same_kind s.kind t.kind && eqb t.position s.position) ≡ false → ¬ NameTheSame s t
 not_both s t h same = search (rules, same_kind, kind_is_same, eq-eqb)
 
-both_false : (s t : Symbol) → ¬ NameTheSame s t → (same_kind s.kind t.kind && eqb t.position s.position) ≡ false
-both_false s t h = search (rules, same_kind, and_parts, same_is_kind, eqb-true)
-
 old_and_apart : (before : Names) (s : Symbol) (ss : List Symbol)
     → AllByRecursion (Unnamed (with_name before s.kind s.position)) ss
     → AllByRecursion (Unnamed before) ss × AllByRecursion (λ t. ¬ NameTheSame s t) ss
@@ -109,9 +96,7 @@ all_new : (h : Header) (before : Names) (ss : List Symbol) → AreNew h before s
     → AllByRecursion (Unnamed before) ss × NameApart ss
 all_new h before [] n = (tt, tt)
 all_new h before (s ∷ ss) n =
-    let rest = all_new h (with_name before s.kind s.position) ss n.2 in
-    let parts = old_and_apart before s ss rest.0 in
-    ((n.1, parts.0), (parts.1, rest.1))
+    let rest = all_new h (with_name before s.kind s.position) ss n.2 in search (rules, old_and_apart)
 
 pub new_apart : (h : Header) (ss : List Symbol) → AreNew h nothing_named ss → NameApart ss
 new_apart h ss n = (all_new h nothing_named ss n).1
@@ -125,9 +110,7 @@ still_new : (before : Names) (s : Symbol) (ss : List Symbol) → AllByRecursion 
     → AllByRecursion (λ t. ¬ NameTheSame s t) ss → AllByRecursion (Unnamed (with_name before s.kind s.position)) ss
 still_new before s [] old apart = tt
 still_new before s (t ∷ ts) old apart = (
-  named_after before s.kind t.kind s.position t.position
-      ∙ or_from (same_kind s.kind t.kind && eqb t.position s.position) (is_named before t.kind t.position)
-      (both_false s t apart.0) old.0,
+  search (rules, named_after, or_from, same_kind, and_parts, same_is_kind, eqb-true),
   still_new before s ts old.1 apart.1,
 )
 

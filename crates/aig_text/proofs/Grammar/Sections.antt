@@ -1,7 +1,7 @@
 -- Sections that are read hold the rows of the circuit, and the other way round.
 use Rattle.std.proofs.lemmas.Grind.{common_steps}
 use Rattle.std.proofs.Common.{rules}
-use Rattle.std.proofs.Common.{◌≡◌, ℕ, ◌≤◌, List, [], ◌∷◌, ◌++◌, map, length, None, Ok, refl, ap, subst, ◌∙◌, sym, arith}
+use Rattle.std.proofs.Common.{◌≡◌, ℕ, ◌≤◌, List, [], ◌∷◌, ◌++◌, map, length, None, Ok, refl, ap, ◌∙◌, sym, arith}
 use Rattle.std.proofs.Common.{append_assoc}
 use Rattle.std.specs.List.{AllByRecursion, AllZip, sum}
 use Rattle.std.proofs.lemmas.List.{length-map}
@@ -13,8 +13,7 @@ use Rattle.aig_circuit.specs.Wellformed.{IsWithinLimits, IsVariableUpTo, operand
 use Rattle.aig_circuit.specs.Form.{AreInRange, HasEntriesInRange, IsInForm}
 use Rattle.aig_circuit.proofs.Checking.InForm.{by_parts, in_range}
 use Rattle.aig_rows.specs.declared.fault.ReadFault.{ReadFault}
-use Rattle.aig_text.specs.declared.section.Section.TheVariants.{Inputs, Latches, Outputs, Bad, Constraints}
-use Rattle.aig_text.specs.declared.section.Section.TheVariants.{JusticeSizes, JusticeLiterals, Fairness, Gates}
+use Rattle.aig_text.specs.declared.section.Section.TheVariants.{Inputs}
 use Rattle.aig_rows.specs.Lines.{Line, Ahead, ahead}
 use Rattle.aig_text.specs.Sections.{Header, Section, sections, Listed, in_ascii, rows_of, header_row}
 use Rattle.aig_rows.specs.Rows.{Form, Row, row, input_row, latch_row, literal_row, size_row, gate_row, input_of}
@@ -23,10 +22,10 @@ use Rattle.aig_rows.specs.Rows.{gate_form, IsRowLine}
 use Rattle.aig_text.specs.Reading.{section_at, sections_at, header_of_row, empty_circuit}
 use Rattle.aig_rows.specs.Reading.{Found, rows_at}
 use Rattle.aig_rows.proofs.Steps.{both_ok, ok_same}
-use Rattle.aig_rows.proofs.Grammar.Entries.{AreGoodRows, IsGoodBeside, each_good, IsEntry, HasGoodRow, IsLiteralUpTo}
+use Rattle.aig_rows.proofs.Grammar.Entries.{AreGoodRows, IsEntry, HasGoodRow, IsLiteralUpTo}
 use Rattle.aig_rows.proofs.Grammar.Entries.{IsLatchUpTo, IsSizeUpTo, IsGateUpTo, input_entry, latch_entry}
 use Rattle.aig_rows.proofs.Grammar.Entries.{literal_entry, size_entry, gate_entry, good_input, good_latch, good_literal}
-use Rattle.aig_rows.proofs.Grammar.Entries.{good_gate, good_sizes, sizes_within, all_again, rows_again, all_mapped}
+use Rattle.aig_rows.proofs.Grammar.Entries.{good_gate, good_sizes, sizes_within, all_again, entries_back}
 use Rattle.aig_rows.proofs.Grammar.Entries.{all_good, zips_joined}
 use Rattle.aig_rows.proofs.Grammar.Rows.{IsSound, AreRows, rows_meant, rows_are_found}
 
@@ -102,9 +101,7 @@ module _ (listed : Section → Listed) (h : Header) where
     found = (rows, o.found);
     front = a.front ++ o.front;
     lines = a.lines ∙ ap (λ (ks : List Line). a.front ++ ks) o.lines ∙ sym (append_assoc a.front o.front rest);
-    spelled =
-        zips_joined IsRowLine a.front o.front (map (row (listed s).form) rows)
-        (rows_under ss o.found) a.spelled o.spelled;
+    spelled = search (rules, zips_joined);
     fit = (record { good = a.good; counted = a.counted }, o.fit);
     circuit = o.circuit;
   }
@@ -128,12 +125,12 @@ module _ (listed : Section → Listed) (h : Header) where
       let f = both_ok (section_at (listed s) h c at) (then_sections ss) p is in
       let r = both_ok (rows_of_section s c at) (after_rows s c) f.0 f.1 in
       let e : ((listed s).with_rows h r.0.0 c, r.0.1) ≡ f.0 = ok_same {E = ReadFault} _ _ r.2 in
-      let rows : AreRowsOf s c r.0.0 at.lines r.0.1.lines =
-      rows_meant (listed s).form ((listed s).bound h) ((listed s).start h c) ((listed s).count h c) at r.0 (sound s) r.1
-      in
+      let rows =
+      rows_meant (listed s).form ((listed s).bound h) ((listed s).start h c) ((listed s).count h c) at r.0 (sound s)
+      r.1 in
       let others : AreSections ss f.0.0 p.0 f.0.1.lines p.1.lines = sections_found sound ss f.0.0 f.0.1 p f.2 in
       one_section s ss c p.0 r.0.0 at.lines r.0.1.lines p.1.lines rows
-      (subst (λ (q : Circuit × Ahead). AreSections ss q.0 p.0 q.1.lines p.1.lines) (sym e) others)
+      (rw (← e) at others)
 
   -- and lines that hold such rows are read as them
   abbrev ReadsSections : (ss : List Section) → FoundIn ss → Circuit → ℕ → List Line → List Line → Type 0
@@ -169,8 +166,7 @@ module _ (listed : Section → Listed) (h : Header) where
       (two.second ++ rest) found.0 two.first_zips fit.0.good in
       let o = sections_are_found ss found.1 ((listed s).with_rows h found.0 c) r.0 two.second rest two.second_zips
       fit.1 in
-      let lines : front ++ rest ≡ two.first ++ (two.second ++ rest) = ap (λ (ks : List Line). ks ++ rest) two.are
-      ∙ append_assoc two.first two.second rest in
+      let lines = ap (λ (ks : List Line). ks ++ rest) two.are ∙ append_assoc two.first two.second rest in
       let here = rows_here s c found.0 n r.0 (front ++ rest) two.first (two.second ++ rest) fit.0 lines r.1 in
       (o.0, one_is_read s ss c found n r.0 o.0 (front ++ rest) (two.second ++ rest) rest here o.1)
 
@@ -186,14 +182,7 @@ all_weaker_of P Q weaker (x ∷ xs) h = (weaker x h.0, all_weaker_of P Q weaker 
 
 sound : (s : Section) → IsSound (in_ascii s).form
 sound Inputs = omega arith
-sound Latches = omega arith
-sound Outputs = omega arith
-sound Bad = omega arith
-sound Constraints = omega arith
-sound JusticeSizes = omega arith
-sound JusticeLiterals = omega arith
-sound Fairness = omega arith
-sound Gates = omega arith
+sound s = omega arith
 
 -- what rows of a section are to the entries that they tell
 pub record AreEntries {X : Type 0} (row : X → List ℕ) (IsUpTo : ℕ → X → Type 0) (m count : ℕ)
@@ -206,12 +195,8 @@ pub entries_are : {X : Type 0} (form : Form) (row : X → List ℕ) (found : Lis
     → IsEntry form row found IsUpTo → (m start count : ℕ) (rows : List (List ℕ)) → FitRows form m start count rows
     → AreEntries row IsUpTo m count rows (map found rows)
 entries_are form row found IsUpTo entry m start count rows fit =
-    let good = each_good form m start rows fit.good in
-    record {
-      again = rows_again (IsGoodBeside form m) row found (λ ns g. entry.row_again m g.0 ns g.1) rows good;
-      counted = length-map rows found ∙ fit.counted;
-      up_to = all_mapped (IsGoodBeside form m) (IsUpTo m) found (λ ns g. entry.up_to m g.0 ns g.1) rows good;
-    }
+    let back = entries_back form row found IsUpTo entry m start rows fit.good in
+    record { again = back.0; counted = length-map rows found ∙ fit.counted; up_to = back.1 }
 
 -- a section of literals, one on each line, as ASCII and binary files have it
 pub literals_are : (m count : ℕ) (rows : List (List ℕ)) → FitRows literal_form m 0 count rows
@@ -271,9 +256,7 @@ module _ (h : Header) (found : FoundIn sections)
   constraints = literals_are h.max_var h.constraints found.1.1.1.1.0 fit.1.1.1.1.0
 
   sizes : AreEntries size_row IsSizeUpTo h.limit h.justice found.1.1.1.1.1.0 (map size_of found.1.1.1.1.1.0)
-  sizes =
-      entries_are size_form size_row size_of IsSizeUpTo size_entry h.limit 0 h.justice found.1.1.1.1.1.0
-      fit.1.1.1.1.1.0
+  sizes = search (rules, entries_are, size_entry)
 
   justice : Literals (sum (map size_of found.1.1.1.1.1.0)) found.1.1.1.1.1.1.0
   justice =
@@ -283,9 +266,7 @@ module _ (h : Header) (found : FoundIn sections)
   fairness = literals_are h.max_var h.fairness found.1.1.1.1.1.1.1.0 fit.1.1.1.1.1.1.1.0
 
   gates : AreEntries gate_row IsGateUpTo h.max_var h.gates found.1.1.1.1.1.1.1.1.0 (map gate_of found.1.1.1.1.1.1.1.1.0)
-  gates =
-      entries_are gate_form gate_row gate_of IsGateUpTo gate_entry h.max_var 0 h.gates found.1.1.1.1.1.1.1.1.0
-      fit.1.1.1.1.1.1.1.1.0
+  gates = search (rules, entries_are, gate_entry)
 
   -- the rows of the circuit are those that were read
   pub same_rows : rows_under in_ascii h sections found ≡ rows_of (circuit_of h.max_var found)
@@ -340,14 +321,13 @@ module _ (h : Header) (c : Circuit) (ls rest : List Line) (a : AreAllSections h 
   rows_read = same_rows h a.found a.fit ∙ ap rows_of a.circuit
 
   pub counts_read : header_row c ≡ row_of_header h
-  counts_read = subst (λ (d : Circuit). header_row d ≡ row_of_header h) a.circuit (same_counts h a.found a.fit)
+  counts_read = rw (← a.circuit) (same_counts h a.found a.fit)
 
   pub sizes_read : sum c.justice.sizes ≡ length c.justice.literals
-  sizes_read =
-      subst (λ (d : Circuit). sum d.justice.sizes ≡ length d.justice.literals) a.circuit (same_sizes h a.found a.fit)
+  sizes_read = rw (← a.circuit) (same_sizes h a.found a.fit)
 
   pub sizes_limited : sum c.justice.sizes ≤ h.limit
-  sizes_limited = subst (λ (d : Circuit). sum d.justice.sizes ≤ h.limit) a.circuit (small_sizes h a.found a.fit)
+  sizes_limited = rw (← a.circuit) (small_sizes h a.found a.fit)
 
   -- what is made of good rows is in form
   pub in_form : IsWithinLimits c → IsInForm c
@@ -377,22 +357,6 @@ module _ (c : Circuit) (form : IsInForm c) where
       all_weaker_of (λ (g : Gate). AreInRange c.max_var (g.var ∷ []) (operands g)) (IsGateUpTo c.max_var)
       (λ g p. (p.0.0, p.1.0, p.1.1.0)) c.gates (recursion_from_All _ c.gates ranged.gates)
 
-  -- the lists of literals, in the order of the file
-  pub outputs_up_to : AllByRecursion (IsLiteralUpTo c.max_var) c.outputs
-  outputs_up_to = ranged.literals.0
-
-  pub bad_up_to : AllByRecursion (IsLiteralUpTo c.max_var) c.bad
-  bad_up_to = ranged.literals.1.0
-
-  pub constraints_up_to : AllByRecursion (IsLiteralUpTo c.max_var) c.constraints
-  constraints_up_to = ranged.literals.1.1.0
-
-  pub justice_up_to : AllByRecursion (IsLiteralUpTo c.max_var) c.justice.literals
-  justice_up_to = ranged.literals.1.1.1.0
-
-  pub fairness_up_to : AllByRecursion (IsLiteralUpTo c.max_var) c.fairness
-  fairness_up_to = ranged.literals.1.1.1.1.0
-
 -- the rows of entries fit, where there are as many as the header tells
 pub entries_fit : {X : Type 0} (form : Form) (row : X → List ℕ) (IsUpTo : ℕ → X → Type 0) → HasGoodRow form row IsUpTo
     → (m start : ℕ) (xs : List X) → AllByRecursion (IsUpTo m) xs → FitRows form m start (length xs) (map row xs)
@@ -415,9 +379,7 @@ literals_again (n ∷ ns) = ap (λ (ms : List ℕ). n ∷ ms) (literals_again ns
 -- as many literals of justice properties as the sizes tell
 pub justice_fit : (m : ℕ) (sizes ns : List ℕ) → sum sizes ≡ length ns → AllByRecursion (IsLiteralUpTo m) ns
     → FitRows literal_form m 0 (sum (map size_of (map size_row sizes))) (map literal_row ns)
-justice_fit m sizes ns same h =
-    subst (λ count. FitRows literal_form m 0 count (map literal_row ns))
-    (sym same ∙ ap sum (sym (literals_again sizes))) (literals_fit m ns h)
+justice_fit m sizes ns same h = search (rules, literals_again, sizes, literals_fit)
 
 -- lines that hold the rows of a circuit are read as them
 module _ (limit : ℕ) (c : Circuit) (form : IsInForm c) (small : sum c.justice.sizes ≤ limit) where
@@ -427,31 +389,18 @@ module _ (limit : ℕ) (c : Circuit) (form : IsInForm c) (small : sum c.justice.
   pub own_rows : AllFit in_ascii own_header sections (own_found in_ascii own_header sections c)
       (empty_circuit c.max_var)
   own_rows =
-      let m : ℕ = c.max_var in (
-        entries_fit input_form input_row IsVariableUpTo good_input m 0 c.inputs (inputs_up_to c form),
-        (
-          entries_fit latch_form latch_row IsLatchUpTo good_latch m 0 c.latches (latches_up_to c form),
-          (
-            literals_fit m c.outputs (outputs_up_to c form),
-            (
-              literals_fit m c.bad (bad_up_to c form),
-              (
-                literals_fit m c.constraints (constraints_up_to c form),
-                (
-                  sizes_fit limit c.justice.sizes small,
-                  (
-                    justice_fit m c.justice.sizes c.justice.literals form.limits.sizes (justice_up_to c form),
-                    (
-                      literals_fit m c.fairness (fairness_up_to c form),
-                      (entries_fit gate_form gate_row IsGateUpTo good_gate m 0 c.gates (gates_up_to c form), tt),
-                    ),
-                  ),
-                ),
-              ),
-            ),
-          ),
-        ),
-      )
+      let m : ℕ = c.max_var in
+      let inputs = entries_fit input_form input_row IsVariableUpTo good_input m 0 c.inputs (inputs_up_to c form) in
+      let latches = entries_fit latch_form latch_row IsLatchUpTo good_latch m 0 c.latches (latches_up_to c form) in
+      let literals = (in_range c form).literals in
+      let outputs = literals_fit m c.outputs literals.0 in
+      let bad = literals_fit m c.bad literals.1.0 in
+      let constraints = literals_fit m c.constraints literals.1.1.0 in
+      let sizes = sizes_fit limit c.justice.sizes small in
+      let justice = justice_fit m c.justice.sizes c.justice.literals form.limits.sizes literals.1.1.1.0 in
+      let fairness = literals_fit m c.fairness literals.1.1.1.1.0 in
+      let gates = entries_fit gate_form gate_row IsGateUpTo good_gate m 0 c.gates (gates_up_to c form) in
+      (inputs, (latches, (outputs, (bad, (constraints, (sizes, (justice, (fairness, (gates, tt)))))))))
 
   -- the rows of the circuit tell the circuit, but for its tail
   rows_tell : with_all in_ascii own_header sections (own_found in_ascii own_header sections c) (empty_circuit c.max_var)

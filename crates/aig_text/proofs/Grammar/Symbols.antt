@@ -1,11 +1,10 @@
 -- How symbol lines and the line `c` are spelled and how they are read: each follows from the other.
 use Rattle.std.proofs.Common.{rules}
-use Rattle.std.proofs.Common.{◌≡◌, ℕ, Bool, true, false, cond, List, [], ◌∷◌, ◌++◌, Option, Some, refl, eqb, ap}
-use Rattle.std.proofs.Common.{subst, ◌∙◌}
+use Rattle.std.proofs.Common.{◌≡◌, ℕ, Bool, true, false, List, [], ◌∷◌, ◌++◌, Some, refl, ap}
+use Rattle.std.proofs.Common.{◌∙◌}
 use Rattle.std.proofs.lemmas.Bool.{eqb-true, and_parts}
 use Rattle.aig_circuit.specs.declared.circuit.Kind.{Kind}
-use Rattle.aig_circuit.specs.declared.circuit.Kind.TheVariants.{Input, Latch, Output, Bad, Constraint, Justice}
-use Rattle.aig_circuit.specs.declared.circuit.Kind.TheVariants.{Fairness}
+use Rattle.aig_circuit.specs.declared.circuit.Kind.TheVariants.{Input, Constraint}
 use Rattle.aig_circuit.specs.declared.circuit.Symbol.{Symbol}
 use Rattle.aig_rows.specs.Lines.{Line}
 use Rattle.aig_rows.specs.Spelling.{IsNumber}
@@ -19,13 +18,8 @@ use Rattle.aig_rows.proofs.Grammar.NumberLines.{some_then}
 abbrev IsLetter : ℕ → Kind → Type 0
 IsLetter b k = b ∷ [] ≡ kind_letter k
 
--- the letter of a kind, or one of those that are looked for after it
-letter_or : (b letter : ℕ) (kind k : Kind) (others : Option Kind) → letter ∷ [] ≡ kind_letter kind
-    → (others ≡ Some k → IsLetter b k) → cond (eqb b letter) (Some kind) others ≡ Some k → IsLetter b k
-letter_or b letter kind k others is rest h = search (rules, eqb-true)
-
 letter_reads : (b : ℕ) (k : Kind) → kind_at b ≡ Some k → IsLetter b k
-letter_reads b k h = search (rules, letter_or)
+letter_reads b k h = search (rules, eqb-true)
 
 -- one space
 space_reads : (bytes rest : List ℕ) → after_space bytes ≡ Some rest → bytes ≡ 32 ∷ rest
@@ -44,7 +38,7 @@ symbol_reads l (b ∷ bytes) s is h =
     let number = number_reads bytes p.0.1 p.0.0 p.1 in
     let space : p.0.1 ≡ 32 ∷ n.0 = space_reads p.0.1 n.0 n.1 in
     let whole : symbol a.0 p.0.0 n.0 ≡ s = cc in
-    subst (λ (t : Symbol). IsSymbolLine l t) whole (record {
+    rw (← whole) (record {
       digits = number.0;
       text =
           is ∙ ap (λ (t : List ℕ). b ∷ t) number.1 ∙ ap (λ (t : List ℕ). t ++ (number.0 ++ p.0.1)) letter
@@ -56,12 +50,7 @@ read_of : (k : Kind) (digits name : List ℕ) (n : ℕ) → IsNumber digits n
     → symbol_at (kind_letter k ++ (digits ++ (32 ∷ name))) ≡ Some (symbol k n name)
 unfolding symbol_at
 read_of Input digits name n h = rw (number_is_read digits (32 ∷ name) n h refl) refl
-read_of Latch digits name n h = rw (number_is_read digits (32 ∷ name) n h refl) refl
-read_of Output digits name n h = rw (number_is_read digits (32 ∷ name) n h refl) refl
-read_of Bad digits name n h = rw (number_is_read digits (32 ∷ name) n h refl) refl
-read_of Constraint digits name n h = rw (number_is_read digits (32 ∷ name) n h refl) refl
-read_of Justice digits name n h = rw (number_is_read digits (32 ∷ name) n h refl) refl
-read_of Fairness digits name n h = rw (number_is_read digits (32 ∷ name) n h refl) refl
+read_of k digits name n h = rw (number_is_read digits (32 ∷ name) n h refl) refl
 
 pub symbol_is_read : (l : Line) (s : Symbol) → IsSymbolLine l s → symbol_at l.text ≡ Some s
 symbol_is_read l s h = ap symbol_at h.text ∙ read_of s.kind h.digits s.name s.position h.position
@@ -69,13 +58,8 @@ symbol_is_read l s h = ap symbol_at h.text ∙ read_of s.kind h.digits s.name s.
 -- a symbol line does not begin the comment: its letter is another, or a number follows the letter
 no_comment : (k : Kind) (ended : Bool) (rest : List ℕ) → is_line_end ended rest ≡ false
     → begins_comment ended (kind_letter k ++ rest) ≡ false
-no_comment Input ended rest more = refl
-no_comment Latch ended rest more = refl
-no_comment Output ended rest more = refl
-no_comment Bad ended rest more = refl
 no_comment Constraint ended rest more = more
-no_comment Justice ended rest more = refl
-no_comment Fairness ended rest more = refl
+no_comment k ended rest more = refl
 
 pub symbol_is_no_comment : (l : Line) (s : Symbol) → IsSymbolLine l s → is_comment_line l ≡ false
 unfolding is_comment_line

@@ -1,8 +1,7 @@
 -- A tail that is read tells its symbols and its comment, and the other way round.
 use Rattle.std.proofs.Common.{rules}
-use Rattle.std.proofs.Common.{◌≡◌, ◌≢◌, ◌+◌, ◌<◌, ℕ, Bool, true, false, cond, List, [], ◌∷◌, ◌++◌, Option, None, Some}
-use Rattle.std.proofs.Common.{Ok, Result, refl, sym, ap, subst, ◌∙◌, append_assoc, append-nil, inl, inr}
-use Rattle.std.specs.Prelude.{◌⊎◌, nat_le}
+use Rattle.std.proofs.Common.{◌≡◌, ◌≢◌, ◌+◌, ◌<◌, ℕ, Bool, false, cond, List, [], ◌∷◌, ◌++◌, Option, None, Some}
+use Rattle.std.proofs.Common.{Ok, Result, refl, sym, ap, ◌∙◌, append_assoc, append-nil, inl, inr}
 use Rattle.std.specs.List.{AllByRecursion, AllZip}
 use Rattle.std.proofs.lemmas.Bool.{leb-false, lt-leb}
 use Rattle.aig_core.specs.declared.names.Names.{Names}
@@ -10,6 +9,7 @@ use Rattle.aig_circuit.specs.declared.circuit.Circuit.{Circuit}
 use Rattle.aig_circuit.specs.declared.circuit.Symbol.{Symbol}
 use Rattle.aig_core.specs.Names.{is_named, with_name}
 use Rattle.aig_circuit.specs.Wellformed.{IsAmong}
+use Rattle.aig_circuit.proofs.Checking.InForm.{back}
 use Rattle.aig_rows.specs.declared.fault.ReadFault.{ReadFault}
 use Rattle.aig_rows.specs.declared.fault.ReadKind.{ReadKind}
 use Rattle.aig_rows.specs.declared.fault.ReadKind.TheVariants as kinds
@@ -18,7 +18,7 @@ use Rattle.aig_rows.specs.Laws.{IsOneLine}
 use Rattle.aig_text.specs.Sections.{Header}
 use Rattle.aig_text.specs.Tail.{IsSymbolLine, IsComment}
 use Rattle.aig_text.specs.Scanning.{symbol_at, is_comment_line}
-use Rattle.aig_text.specs.Reading.{count_named, fault_in_symbol, checked_symbol, with_comment, with_symbol, tail_at}
+use Rattle.aig_text.specs.Reading.{count_named, checked_symbol, with_comment, with_symbol, tail_at}
 use Rattle.aig_rows.specs.Reading.{◌>>=◌, at_line, unless_wrong}
 use Rattle.aig_rows.proofs.Steps.{both_ok, ok_at_line, ok_same}
 use Rattle.aig_text.proofs.Grammar.Symbols.{symbol_reads, symbol_is_read, symbol_is_no_comment, comment_reads}
@@ -48,26 +48,18 @@ IsNew h before s = (s.position < count_named h s.kind) × (is_named before s.kin
 
 by_tests : (far twice : Bool) → cond far (Some kinds.SymbolRange) (cond twice (Some kinds.SymbolTwice) None) ≡ None
     → (far ≡ false) × (twice ≡ false)
-by_tests true b h = cc
-by_tests false true h = cc
 by_tests false false h = (refl, refl)
+by_tests b d h = cc
 
 unless_none : {A : Type 0} (x y : A) (o : Option ReadKind) → unless_wrong x o ≡ Ok y → (o ≡ None) × (x ≡ y)
 unless_none x y None h = (refl, ok_same x y h)
 unless_none x y (Some k) h = cc
 
-new_of_none : (h : Header) (before : Names) (s : Symbol) → fault_in_symbol h before s ≡ None → IsNew h before s
-new_of_none h before s e =
-    let p = by_tests (nat_le (count_named h s.kind) s.position) (is_named before s.kind s.position) e in
-    (leb-false (count_named h s.kind) s.position p.0, p.1)
-
 checked_tells : (h : Header) (before : Names) (o : Option Symbol) (s : Symbol) → checked_symbol h before o ≡ Ok s
     → (o ≡ Some s) × IsNew h before s
 unfolding checked_symbol
 checked_tells h before None s e = cc
-checked_tells h before (Some t) s e =
-    let u = unless_none t s (fault_in_symbol h before t) e in
-    (ap (λ (x : Symbol). Some x) u.1, subst (IsNew h before) u.1 (new_of_none h before t u.0))
+checked_tells h before (Some t) s e = search (rules, unless_none, by_tests, leb-false)
 
 new_is_checked : (h : Header) (before : Names) (s : Symbol) → IsNew h before s → checked_symbol h before (Some s) ≡ Ok s
 unfolding checked_symbol
@@ -86,9 +78,7 @@ more_tail h before c d l ls s line n t = record {
   spelled = (line, t.spelled);
   new = (n.0, n.1, t.new);
   is_comment = t.is_comment;
-  circuit =
-      ap (λ (ss : List Symbol). record c { symbols = ss; comment = t.comment })
-      (sym (append_assoc c.symbols (s ∷ []) t.symbols)) ∙ t.circuit;
+  circuit = search (rules, append_assoc);
 }
 
 whole_tail : (h : Header) (before : Names) (c : Circuit) (ls : List Line) (comment : Option (List ℕ))
@@ -115,16 +105,13 @@ unfolding tail_at
 tail_tells h before c n [] d none is =
     let same : c ≡ d = ok_same {E = ReadFault} c d is in
     let bare : record c { comment = None } ≡ c = ap (λ (o : Option (List ℕ)). record c { comment = o }) (sym none) in
-    subst (λ (e : Circuit). TellsTail h before c e []) (bare ∙ same) (whole_tail h before c [] None tt)
+    rw (bare ∙ same) at (whole_tail h before c [] None tt)
 tail_tells h before c n (l ∷ ls) d none is =
     elim
     (branch (is_comment_line l) (Ok (with_comment c (bytes_of ls)))
     (at_line n (checked_symbol h before (symbol_at l.text)) >>= then_tail h before c n ls) (Ok d) is) as
     (λ _. TellsTail h before c d (l ∷ ls)) [
-      | inl e ↦
-          subst (λ (f : Circuit). TellsTail h before c f (l ∷ ls))
-          (ok_same {E = ReadFault} (with_comment c (bytes_of ls)) d e.1)
-          (whole_tail h before c (l ∷ ls) (Some (bytes_of ls)) (comment_reads l e.0, refl))
+      | inl e ↦ search (rules, ok_same, whole_tail, comment_reads)
       | inr e ↦
           let b = both_ok (at_line n (checked_symbol h before (symbol_at l.text))) (then_tail h before c n ls) d e.1 in
           let s =
@@ -139,41 +126,32 @@ comment_found : (h : Header) (before : Names) (c : Circuit) (n : ℕ) (ls : List
     → c.comment ≡ None → IsComment ls comment → tail_at h before c n ls ≡ Ok (record c { comment = comment })
 unfolding tail_at
 comment_found h before c n [] None none is = ap (λ (o : Option (List ℕ)). Ok (record c { comment = o })) none
-comment_found h before c n [] (Some bytes) none is = absurd is
-comment_found h before c n (l ∷ ls) None none is = absurd is
 comment_found h before c n (l ∷ ls) (Some bytes) none is =
     rw (comment_is_read l is.0) (ap (λ (b : List ℕ). Ok (with_comment c b)) (sym is.1))
+comment_found h before c n ls comment none is = absurd is
 
 pub tail_is_found : (h : Header) (before : Names) (c : Circuit) (n : ℕ) (named rest : List Line) (ss : List Symbol)
     (comment : Option (List ℕ)) → c.comment ≡ None → AllZip IsSymbolLine named ss → AreNew h before ss → IsComment
     rest comment
     → tail_at h before c n (named ++ rest) ≡ Ok (with_tail c ss comment)
 unfolding tail_at
-tail_is_found h before c n [] rest [] comment none z new is =
-    comment_found h before c n rest comment none is
-    ∙ ap (λ (ss : List Symbol). Ok (record c { symbols = ss; comment = comment })) (sym (append-nil c.symbols))
-tail_is_found h before c n [] rest (s ∷ ss) comment none z new is = absurd z
-tail_is_found h before c n (l ∷ ls) rest [] comment none z new is = absurd z
+tail_is_found h before c n [] rest [] comment none z new is = search (rules, comment_found, append-nil)
 tail_is_found h before c n (l ∷ ls) rest (s ∷ ss) comment none z new is =
     rw (symbol_is_no_comment l s z.0, symbol_is_read l s z.0, new_is_checked h before s (new.0, new.1))
     (tail_is_found h (with_name before s.kind s.position) (with_symbol c s) (n + 1) ls rest ss comment none z.1 new.2 is
     ∙ ap (λ (ts : List Symbol). Ok (record c { symbols = ts; comment = comment })) (append_assoc c.symbols (s ∷ []) ss))
+tail_is_found h before c n ls rest ss comment none z new is = absurd z
 
 -- a name stands in one line, as the line does
-right_of : (P : ℕ → Type 0) (xs ys : List ℕ) → AllByRecursion P (xs ++ ys) → AllByRecursion P ys
-right_of P [] ys h = h
-right_of P (x ∷ xs) ys h = right_of P xs ys h.1
-
 none_among : (xs : List ℕ) → AllByRecursion (λ b. b ≢ 10) xs → ¬ IsAmong 10 xs
 none_among [] h = λ a. a
 none_among (x ∷ xs) h = λ a. elim a as (λ _. ⊥) [ inl e ↦ h.0 (sym e) | inr r ↦ none_among xs h.1 r ]
 
 pub name_in_line : (l : Line) (s : Symbol) → IsSymbolLine l s → IsOneLine l → ¬ IsAmong 10 s.name
-name_in_line l s h one = search (rules, none_among, right_of)
+name_in_line l s h one = search (rules, none_among, back)
 
 pub names_in_lines : (named : List Line) (ss : List Symbol) → AllZip IsSymbolLine named ss
     → AllByRecursion IsOneLine named → AllByRecursion (λ (s : Symbol). ¬ IsAmong 10 s.name) ss
 names_in_lines [] [] z one = tt
-names_in_lines [] (s ∷ ss) z one = absurd z
-names_in_lines (l ∷ ls) [] z one = absurd z
 names_in_lines (l ∷ ls) (s ∷ ss) z one = (name_in_line l s z.0 one.0, names_in_lines ls ss z.1 one.1)
+names_in_lines ls ss z one = absurd z

@@ -2,7 +2,7 @@
 use Rattle.std.proofs.Common.{rules}
 use Rattle.std.proofs.Common.{◌≡◌, ℕ, ◌≤◌, List, [], ◌∷◌, ◌++◌, Option, None, Some, Result, Ok, refl, ap}
 use Rattle.std.proofs.Common.{subst, ◌∙◌, sym, length, min}
-use Rattle.std.specs.List.{AllByRecursion, AllZip, sum}
+use Rattle.std.specs.List.{AllByRecursion, sum}
 use Rattle.aig_circuit.specs.declared.circuit.Circuit.{Circuit}
 use Rattle.aig_circuit.specs.declared.circuit.TheConstants.{LARGEST}
 use Rattle.aig_core.specs.declared.fault.CheckFault.{CheckFault}
@@ -13,13 +13,13 @@ use Rattle.aig_circuit.specs.declared.circuit.Symbol.{Symbol}
 use Rattle.aig_core.specs.Names.{nothing_named}
 use Rattle.aig_circuit.specs.Wellformed.{IsWellFormed, IsWithinLimits, HasGoodSymbols}
 use Rattle.aig_circuit.specs.Form.{IsInForm}
+use Rattle.aig_circuit.proofs.Checking.InForm.{back}
 use Rattle.aig_rows.specs.declared.fault.ReadFault.{ReadFault}
 use Rattle.aig_rows.specs.declared.fault.ReadKind.TheVariants as kinds
 use Rattle.aig_rows.specs.Lines.{Line, Ahead, ahead, lines_of}
 use Rattle.aig_text.specs.Sections.{ascii_word, Header, header_row, rows_of, sections, in_ascii}
 use Rattle.aig_rows.specs.Laws.{IsOneLine}
 use Rattle.aig_text.specs.AsciiGrammar.{IsAsciiText}
-use Rattle.aig_rows.specs.Rows.{IsRowLine}
 use Rattle.aig_text.specs.Reading.{header_of, tail_at, header_at, sections_at, empty_circuit, circuit_at, unless_faulty}
 use Rattle.aig_text.specs.Reading.{reading}
 use Rattle.aig_rows.specs.Reading.{◌>>=◌}
@@ -30,7 +30,7 @@ use Rattle.aig_text.proofs.Grammar.Sections.{sizes_limited, sections_are_read, b
 use Rattle.aig_text.proofs.Grammar.Headers.{TellsHeader, HasCounts, own_header, header_tells, header_is_found, heads}
 use Rattle.aig_text.proofs.Grammar.Headers.{limited, sizes_within_limit, definitions_counted, within_limits}
 use Rattle.aig_text.proofs.Grammar.Headers.{sizes_in_both}
-use Rattle.aig_text.proofs.Grammar.WholeTail.{right_of, tail_holds, good_symbols, own_tail}
+use Rattle.aig_text.proofs.Grammar.WholeTail.{tail_holds, good_symbols, own_tail}
 use Rattle.aig_text.proofs.Grammar.Tail.{TellsTail, with_tail, tail_tells}
 use Rattle.aig_rows.proofs.Loops.Cutting.{pieces}
 
@@ -54,7 +54,7 @@ then_sections header =
     sections_at in_ascii header.0 sections (empty_circuit header.0.max_var) header.1 >>= then_tail header.0
 
 no_comment : (h : Header) (c : Circuit) (ls rest : List Line) → AreAllSections h c ls rest → c.comment ≡ None
-no_comment h c ls rest f = subst (λ (d : Circuit). d.comment ≡ None) f.circuit refl
+no_comment h c ls rest f = rw (← f.circuit) refl
 
 circuit_found : (limit : ℕ) (ls : List Line) (c : Circuit) → circuit_at limit ls ≡ Ok c → TellCircuit limit ls c
 unfolding circuit_at
@@ -64,7 +64,7 @@ circuit_found limit (l ∷ ls) c is =
     let f = first_found kinds.NotAiger (header_of ascii_word limit) 1 l ls a.0 a.1 in
     let b = both_ok (sections_at in_ascii a.0.0 sections (empty_circuit a.0.0.max_var) a.0.1) (then_tail a.0.0) c a.2 in
     let s : AreAllSections a.0.0 b.0.0 a.0.1.lines b.0.1.lines = all_found a.0.0 a.0.1 b.0 b.1 in
-    let t : TellsTail a.0.0 nothing_named b.0.0 c b.0.1.lines =
+    let t =
     tail_tells a.0.0 nothing_named b.0.0 b.0.1.number b.0.1.lines c
     (no_comment a.0.0 b.0.0 a.0.1.lines b.0.1.lines s) b.2 in
     record {
@@ -91,15 +91,13 @@ counts_kept limit ls c t =
 sizes_kept : (limit : ℕ) (ls : List Line) (c : Circuit) (t : TellCircuit limit ls c)
     → (sum c.justice.sizes ≡ length c.justice.literals) × (sum c.justice.sizes ≤ t.header.limit)
 sizes_kept limit ls c t =
-    subst
-    (λ (d : Circuit). (sum d.justice.sizes ≡ length d.justice.literals) × (sum d.justice.sizes ≤ t.header.limit))
-    t.tail.circuit (
+    rw (← t.tail.circuit) (
       sizes_read t.header t.numbered t.others t.rest t.sections,
       sizes_limited t.header t.numbered t.others t.rest t.sections,
     )
 
 no_symbols : (h : Header) (c : Circuit) (ls rest : List Line) → AreAllSections h c ls rest → c.symbols ≡ []
-no_symbols h c ls rest f = subst (λ (d : Circuit). d.symbols ≡ []) f.circuit refl
+no_symbols h c ls rest f = rw (← f.circuit) refl
 
 -- a circuit in form stays so with good symbols
 stays_in_form : (c d : Circuit) (ss : List Symbol) (comment : Option (List ℕ)) → with_tail c ss comment ≡ d
@@ -118,13 +116,12 @@ circuit_in_form limit ls c one is =
     let counts = counts_kept limit ls c t in
     let sizes = sizes_kept limit ls c t in
     let limits = within_limits ascii_word limit t.first t.header c t.heads counts sizes.0 sizes.1 in
-    let numbered : IsInForm t.numbered =
+    let numbered =
     in_form t.header t.numbered t.others t.rest t.sections
     (limits_back t.numbered c t.tail.symbols t.tail.comment t.tail.circuit limits) in
-    let lines : ls ≡ (t.first ∷ t.sections.front) ++ t.rest = t.are
-    ∙ ap (λ (ks : List Line). t.first ∷ ks) t.sections.lines in
-    let behind : AllByRecursion IsOneLine t.rest =
-    right_of IsOneLine (t.first ∷ t.sections.front) t.rest
+    let lines = t.are ∙ ap (λ (ks : List Line). t.first ∷ ks) t.sections.lines in
+    let behind =
+    back IsOneLine (t.first ∷ t.sections.front) t.rest
     (subst (λ (ks : List Line). AllByRecursion IsOneLine ks) lines one) in
     stays_in_form t.numbered c t.tail.symbols t.tail.comment t.tail.circuit limits numbered
     (good_symbols t.header t.numbered c t.rest t.tail
@@ -142,12 +139,9 @@ found_is_accepted limit text c t w =
       lines = t.are ∙ ap (λ (ms : List Line). t.first ∷ ms) t.sections.lines;
       is_header = heads ascii_word limit t.first t.header c t.heads counts;
       are_rows =
-          subst (λ (rows : List _). AllZip IsRowLine t.sections.front rows)
-          (rows_read t.header t.numbered t.others t.rest t.sections ∙ rows_kept limit (lines_of text) c t)
-          t.sections.spelled;
-      is_tail =
-          tail_holds t.header nothing_named t.numbered c t.rest t.tail
-          (no_symbols t.header t.numbered t.others t.rest t.sections);
+          rw (rows_read t.header t.numbered t.others t.rest t.sections ∙ rows_kept limit (lines_of text) c t)
+          at t.sections.spelled;
+      is_tail = search (rules, tail_holds, no_symbols);
       limited = limited ascii_word limit t.first t.header c t.heads counts;
       sizes_limited =
           sizes_within_limit ascii_word limit t.first t.header c t.heads counts
@@ -169,8 +163,8 @@ reading_is_accepted limit text c h =
     h in
     let n = no_fault r.0 c (first_structural_fault r.0) r.2 in
     let form : IsInForm r.0 = circuit_in_form limit (lines_of text) r.0 (pieces text).one_each r.1 in
-    subst (λ (d : Circuit). IsAsciiText text limit d) n.1
-    (found_is_accepted limit text r.0 (circuit_found limit (lines_of text) r.0 r.1) (well_formed r.0 form n.0))
+    rw n.1 at (found_is_accepted limit text r.0 (circuit_found limit (lines_of text) r.0 r.1)
+    (well_formed r.0 form n.0))
 
 -- the lines of a circuit's file are read as the circuit
 steps : (limit k : ℕ) (h : Header) (l : Line) (others rest : List Line) (c : Circuit)

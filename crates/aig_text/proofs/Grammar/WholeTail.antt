@@ -2,16 +2,16 @@
 use Rattle.std.proofs.lemmas.Grind.{common_steps}
 use Rattle.std.proofs.Common.{arith}
 use Rattle.std.proofs.Common.{rules}
-use Rattle.std.proofs.Common.{◌≡◌, ℕ, ◌<◌, List, [], ◌∷◌, ◌++◌, get_or, Ok, refl, sym, ap, subst, ◌∙◌}
+use Rattle.std.proofs.Common.{◌≡◌, ℕ, ◌<◌, List, [], ◌∷◌, Ok, refl, ap, ◌∙◌}
 use Rattle.std.specs.List.{AllByRecursion}
 use Rattle.aig_circuit.specs.declared.circuit.Circuit.{Circuit}
 use Rattle.aig_circuit.specs.declared.circuit.Kind.{Kind}
-use Rattle.aig_circuit.specs.declared.circuit.Kind.TheVariants.{Input, Latch, Output, Bad, Constraint, Justice}
-use Rattle.aig_circuit.specs.declared.circuit.Kind.TheVariants.{Fairness}
+use Rattle.aig_circuit.specs.declared.circuit.Kind.TheVariants.{Input}
 use Rattle.aig_circuit.specs.declared.circuit.Symbol.{Symbol}
 use Rattle.aig_core.specs.declared.names.Names.{Names}
 use Rattle.aig_core.specs.Names.{nothing_named}
 use Rattle.aig_circuit.specs.Wellformed.{HasGoodSymbols, count_of}
+use Rattle.aig_circuit.proofs.Checking.InForm.{front}
 use Rattle.aig_rows.specs.Lines.{Line}
 use Rattle.aig_text.specs.Sections.{Header}
 use Rattle.aig_rows.specs.Laws.{IsOneLine}
@@ -24,57 +24,36 @@ use Rattle.aig_text.proofs.Grammar.Tail.{TellsTail, tail_is_found, names_in_line
 
 -- as many things as the header tells may be named
 count_is : (h : Header) (c : Circuit) → HasCounts h c → (k : Kind) → count_named h k ≡ count_of c k
-count_is h c e Input = sym (ap (λ (ns : List ℕ). get_or ns 1 0) e)
-count_is h c e Latch = sym (ap (λ (ns : List ℕ). get_or ns 2 0) e)
-count_is h c e Output = sym (ap (λ (ns : List ℕ). get_or ns 3 0) e)
-count_is h c e Bad = sym (ap (λ (ns : List ℕ). get_or ns 5 0) e)
-count_is h c e Constraint = sym (ap (λ (ns : List ℕ). get_or ns 6 0) e)
-count_is h c e Justice = sym (ap (λ (ns : List ℕ). get_or ns 7 0) e)
-count_is h c e Fairness = sym (ap (λ (ns : List ℕ). get_or ns 8 0) e)
+count_is h c e Input = cc
+count_is h c e k = cc
 
 placed : (h : Header) (c : Circuit) → HasCounts h c → (ss : List Symbol) → AllByRecursion (IsPlaced h) ss
     → AllByRecursion (λ (s : Symbol). s.position < count_of c s.kind) ss
 placed h c e [] p = tt
-placed h c e (s ∷ ss) p = (subst (λ n. s.position < n) (count_is h c e s.kind) p.0, placed h c e ss p.1)
-
-pub left_of : {X : Type 0} (P : X → Type 0) (xs ys : List X) → AllByRecursion P (xs ++ ys) → AllByRecursion P xs
-left_of P [] ys h = tt
-left_of P (x ∷ xs) ys h = (h.0, left_of P xs ys h.1)
-
-pub right_of : {X : Type 0} (P : X → Type 0) (xs ys : List X) → AllByRecursion P (xs ++ ys) → AllByRecursion P ys
-right_of P [] ys h = h
-right_of P (x ∷ xs) ys h = right_of P xs ys h.1
+placed h c e (s ∷ ss) p = (rw (count_is h c e s.kind) at p.0, placed h c e ss p.1)
 
 -- lines that tell the tail of a circuit that had none
 module _ (h : Header) (before : Names) (c d : Circuit) (ls : List Line) (t : TellsTail h before c d ls)
     (none : c.symbols ≡ []) where
-  symbols_found : t.symbols ≡ d.symbols
-  symbols_found = ap (λ (ss : List Symbol). ss ++ t.symbols) (sym none) ∙ ap (λ (e : Circuit). e.symbols) t.circuit
-
   pub tail_holds : AreTailLines ls d
-  tail_holds = search (rules, symbols_found)
+  tail_holds = search rules
 
 -- the symbols that lines tell are good
 pub good_symbols : (h : Header) (c d : Circuit) (ls : List Line) → TellsTail h nothing_named c d ls → c.symbols ≡ []
     → HasCounts h d → AllByRecursion IsOneLine ls → HasGoodSymbols d
 good_symbols h c d ls t none counts one =
-    grind (arith, common_steps, left_of, symbols_found, placed, new_placed, new_apart, names_in_lines)
+    grind (arith, common_steps, front, placed, new_placed, new_apart, names_in_lines)
 
 own_count : (limit : ℕ) (c : Circuit) (k : Kind) → count_of c k ≡ count_named (own_header limit c) k
 own_count limit c Input = refl
-own_count limit c Latch = refl
-own_count limit c Output = refl
-own_count limit c Bad = refl
-own_count limit c Constraint = refl
-own_count limit c Justice = refl
-own_count limit c Fairness = refl
+own_count limit c k = refl
 
 own_placed : (limit : ℕ) (c : Circuit) (ss : List Symbol)
     → AllByRecursion (λ (s : Symbol). s.position < count_of c s.kind) ss
     → AllByRecursion (IsPlaced (own_header limit c)) ss
 own_placed limit c [] p = tt
 own_placed limit c (s ∷ ss) p =
-    (subst (λ n. s.position < n) (own_count limit c s.kind) p.0, own_placed limit c ss p.1)
+    (rw (own_count limit c s.kind) at p.0, own_placed limit c ss p.1)
 
 -- the tail of a circuit with good symbols is read as it
 pub own_tail : (limit : ℕ) (c : Circuit) (n : ℕ) (ls : List Line) → HasGoodSymbols c → AreTailLines ls c

@@ -1,7 +1,7 @@
 -- Headers are judged by what is kept of their numbers as by the numbers.
 use Rattle.std.proofs.Common.{rules}
-use Rattle.std.proofs.Common.{◌≡◌, ◌<◌, ◌≤◌, ◌^◌, ℕ, List, [], ◌∷◌, Bool, true, false, ◌||◌, map, min, length, drop}
-use Rattle.std.proofs.Common.{refl, ap₂, arith, ltb, Option, Some, None, Err}
+use Rattle.std.proofs.Common.{◌≡◌, ◌<◌, ◌^◌, ℕ, List, [], ◌∷◌, Bool, true, false, ◌||◌, map, min, length, drop}
+use Rattle.std.proofs.Common.{refl, ap₂, ltb, Option, Some, None, Err}
 use Rattle.std.specs.List.{list_any, before_first}
 use Rattle.std.specs.Str.{bytes_eq}
 use Rattle.std.proofs.lemmas.Bool.{ltb-false, cases_Bool, or_parts}
@@ -24,8 +24,7 @@ all_kept : (limit : ℕ) (ns : List ℕ) → limit < 2 ^ 33 → list_any (λ n. 
 all_kept limit [] l h = refl
 all_kept limit (n ∷ ns) l h =
     let p = or_parts (ltb limit n) (list_any (λ n. ltb limit n) ns) h in
-    let small : n ≤ limit = ltb-false limit n p.0 in
-    ap₂ (λ m ms. m ∷ ms) (kept_small n (omega arith)) (all_kept limit ns l p.1)
+    search (rules, ltb-false, kept_small, all_kept limit ns l p.1)
 
 -- the header
 pub header_kept : (limit : ℕ) (read : Option (List ℕ)) → limit < 2 ^ 33
@@ -39,9 +38,7 @@ pub header_found : (word text rest : List ℕ) (limit : ℕ) (ended : Bool) (rea
     → kept_numbers (more_numbers_at ended HEADER_LEAST HEADER_NUMBERS rest) ≡ read
     → header_within (min limit LARGEST) read ≡ header_of word limit (line text ended)
 unfolding header_of
-header_found word text rest limit ended read same is h =
-    rw (same, ← is, ← h)
-    (header_kept (min limit LARGEST) (more_numbers_at ended HEADER_LEAST HEADER_NUMBERS rest) (omega arith))
+header_found word text rest limit ended read same is h = search (rules, header_kept)
 
 pub no_header_found : (word text rest : List ℕ) (limit : ℕ) (ended : Bool)
     → bytes_eq (before_first ends_word text) word ≡ true → rest ≡ drop (length word) text

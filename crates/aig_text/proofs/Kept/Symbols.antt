@@ -1,6 +1,6 @@
 -- Symbol lines are judged by what is kept of their positions as by the positions.
 use Rattle.std.proofs.Common.{rules}
-use Rattle.std.proofs.Common.{◌≡◌, ◌<◌, ◌≤◌, ◌^◌, ℕ, List, Bool, true, false, cond, refl, ap, subst, ◌∙◌, arith}
+use Rattle.std.proofs.Common.{◌≡◌, ◌<◌, ◌≤◌, ◌^◌, ℕ, List, Bool, true, false, cond, refl, ap, ◌∙◌}
 use Rattle.std.proofs.Common.{Option, Some, None, Ok, Err}
 use Rattle.std.specs.Prelude.{nat_le}
 use Rattle.std.proofs.lemmas.Bool.{cases_lt, le-leb, lt-leb}
@@ -25,16 +25,7 @@ record Behind (o : Option Symbol) (k : Symbol) : Type 0 where
 
 behind : (o : Option Symbol) (k : Symbol) → kept_symbol o ≡ Some k → Behind o k
 behind None k h = cc
-behind (Some s) k h =
-    let same : symbol s.kind (kept s.position) s.name ≡ k = cc in
-    subst (λ (t : Symbol). Behind (Some s) t) same (record { position = s.position; is = refl; kept_is = refl })
-
--- what is kept of a number below the bound is the number
-small_behind : (n k : ℕ) → kept n ≡ k → k < 2 ^ 33 → n ≡ k
-small_behind n k h small = search (rules, cases_lt, kept_small, kept_large)
-
-far_behind : (count n k : ℕ) → kept n ≡ k → count < 2 ^ 33 → count ≤ k → count ≤ n
-far_behind count n k h small far = search (rules, cases_lt, kept_small)
+behind (Some s) k h = search rules
 
 module _ (h : Header) (before : Names) where
   pub no_symbol : (o : Option Symbol) → kept_symbol o ≡ None → checked_symbol h before o ≡ Err kinds.BadSymbol
@@ -57,14 +48,12 @@ module _ (h : Header) (before : Names) where
   pub symbol_far : (o : Option Symbol) (kind : Kind) (position : ℕ) (name : List ℕ)
       → kept_symbol o ≡ Some (symbol kind position name) → count_named h kind < 2 ^ 33 → count_named h kind ≤ position
       → checked_symbol h before o ≡ Err kinds.SymbolRange
-  symbol_far o kind position name e small far = search (rules, behind, judged_far, le-leb, far_behind)
+  symbol_far o kind position name e small far = search (rules, behind, judged_far, le-leb, cases_lt, kept_small)
 
   near : (o : Option Symbol) (kind : Kind) (position : ℕ) (name : List ℕ)
       → kept_symbol o ≡ Some (symbol kind position name) → count_named h kind < 2 ^ 33 → position < count_named h kind
       → o ≡ Some (symbol kind position name)
-  near o kind position name e small close =
-      let b = behind o (symbol kind position name) e in
-      b.is ∙ ap (λ n. Some (symbol kind n name)) (small_behind b.position position b.kept_is (omega arith))
+  near o kind position name e small close = search (rules, behind, cases_lt, kept_small, kept_large)
 
   pub symbol_twice : (o : Option Symbol) (kind : Kind) (position : ℕ) (name : List ℕ)
       → kept_symbol o ≡ Some (symbol kind position name) → count_named h kind < 2 ^ 33 → position < count_named h kind

@@ -44,4 +44,4 @@ module _ (listed : Section → Listed) (h : Header) where
   pub sections_done : (i : ℕ) (c : Circuit) (at : Ahead) (whole : Found Circuit) → length sections ≤ i
       → sections_at listed h (left_from i) c at ≡ whole → whole ≡ Ok (c, at)
   unfolding sections_at
-  sections_done i c at whole l w = let none : left_from i ≡ [] = rest_none sections i l in sym w ∙ rw none refl
+  sections_done i c at whole l w = sym w ∙ rw (rest_none sections i l) refl

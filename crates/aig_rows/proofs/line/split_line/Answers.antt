@@ -1,5 +1,6 @@
+use Rattle.std.proofs.Common.{rules}
 use Rattle.aig_rows.proofs.Loops.Cutting.{line_some, line_none, no_lines}
-use Rattle.std.proofs.Common.{◌≢◌, length, arith, sym, ◌∙◌}
+use Rattle.std.proofs.Common.{sym, ◌∙◌}
 use Rattle.std.proofs.lemmas.Bool.{eqb-true, eqb-false}
 use Rattle.aig_rows.proofs.line.split_line.Goals as goal
 
@@ -8,10 +9,7 @@ returns-then-is_empty-clause-lines c = no_lines _ (eqb-true _ _ (sym c.is_empty.
 
 pub returns-in-Some-clause-lines : goal.returns-in-Some-clause-lines
 returns-in-Some-clause-lines c =
-    rw (c.split_at-in-Some.ensures.back, c.split_at.ensures.back, c.split_at.ensures.front)
-    (line_some _ _ c.in-Some.ensures)
+    search (rules, line_some, c.split_at-in-Some.ensures.back, c.split_at.ensures.back, c.split_at.ensures.front)
 
 pub returns-in-None-clause-lines : goal.returns-in-None-clause-lines
-returns-in-None-clause-lines c =
-    let some : length c.args.bytes.now ≢ 0 = eqb-false _ _ (sym c.is_empty.ensures ∙ c.if-is_empty.false) in
-    line_none _ (omega arith) c.in-None.ensures
+returns-in-None-clause-lines c = search (rules, eqb-false, line_none)

@@ -1,9 +1,10 @@
+use Rattle.aig_rows.proofs.Kept.Plain.{shorter}
 use Rattle.std.proofs.Common.{rules}
 use Rattle.std.proofs.Common.{◌≡◌, ◌∷◌, None, refl, sym, subst, ◌∙◌}
 use Rattle.aig_rows.specs.Rows.{Form}
 use Rattle.aig_rows.specs.Reading.{fault_in_row}
 use Rattle.aig_rows.proofs.Kept.Checks.{are_bounded}
-use Rattle.aig_rows.proofs.Kept.Plain.{plain_row_is, shorter}
+use Rattle.aig_rows.proofs.Kept.Plain.{plain_row_is}
 use Rattle.aig_rows.proofs.row.plain_row.Goals as goal
 
 pub returns-clause-row : goal.returns-clause-row
@@ -18,7 +19,7 @@ pub returns-clause-bounded : goal.returns-clause-bounded
 returns-clause-bounded g c =
     let form : Form =
     record { first = c.form.inside.first; others = c.form.inside.others; least = c.form.inside.least } in
-    let right : fault_in_row form c.args.bound c.args.carried (c.in_ok-first.first ∷ c.in-Some.found.0) ≡ None =
+    let right =
     subst (λ (f : Form). fault_in_row f c.args.bound c.args.carried (c.in_ok-first.first ∷ c.in-Some.found.0) ≡ None)
     (sym c.form.view_is) (c.if-not-is_right_row.ensures refl) in
     rw (← c.form.view_is)

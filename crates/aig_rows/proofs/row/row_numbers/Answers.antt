@@ -1,6 +1,5 @@
 use Rattle.std.proofs.Common.{rules}
-use Rattle.std.proofs.Common.{◌≡◌, ◌∷◌, ◌∙◌, length, suc, sym, refl, pred, ap}
-use Rattle.aig_rows.specs.Lines.{line}
+use Rattle.std.proofs.Common.{◌≡◌, ◌∷◌, ◌∙◌, length, suc, sym, pred, ap}
 use Rattle.aig_rows.specs.Rows.{Form}
 use Rattle.aig_rows.proofs.Kept.Checks.{no_row, row_wrong, row_right, are_bounded, kept_long}
 use Rattle.aig_rows.proofs.row.row_numbers.Goals as goal
@@ -26,9 +25,7 @@ returns-in-None-clause-row g c =
 pub returns-in-None-clause-bounded : goal.returns-in-None-clause-bounded
 returns-in-None-clause-bounded g c =
     let long : length (c.in-Some.found.0 ∷ c.in-Some.found.1) ≡ suc g.row.N =
-    kept_long c.form.inside.least g.row.N (line c.args.line.text.now c.args.line.ended) _
-    (c.in-Some.found.0 ∷ c.in-Some.found.1)
-    c.form.invariant.0 refl c.in-Some.ensures in
+    search (rules, kept_long, c.in-Some.found.0 ∷ c.in-Some.found.1) in
     let form : Form =
     record { first = c.form.inside.first; others = c.form.inside.others; least = c.form.inside.least } in
     rw (← c.form.view_is)

@@ -1,11 +1,12 @@
+use Rattle.aig_rows.proofs.Loops.Rows.{rows_done}
 use Rattle.std.proofs.Common.{rules}
-use Rattle.std.proofs.Common.{◌≡◌, ◌+◌, ◌*◌, ◌^◌, ◌<◌, ◌≤◌, ◌∙◌, Ok, inr, length, arith}
+use Rattle.std.proofs.Common.{◌≡◌, ◌+◌, ◌*◌, ◌^◌, ◌<◌, ◌∙◌, Ok, inr, length, arith}
 use Rattle.std.proofs.lemmas.Result.{err_from_is_err_and}
 use Rattle.aig_rows.specs.Lines.{ahead, lines_of}
 use Rattle.aig_rows.specs.Outcomes.{row_meant}
 use Rattle.aig_rows.specs.Reading.{row_at}
 use Rattle.aig_rows.proofs.rows.read_rows.Goals.{in-Some, in-None+in_ok-row-in-None}
-use Rattle.aig_rows.proofs.Loops.Rows.{rows_more, rows_wrong, rows_done, carried_small}
+use Rattle.aig_rows.proofs.Loops.Rows.{rows_more, rows_wrong, carried_small}
 use Rattle.aig_rows.proofs.rows.read_rows.Goals as goal
 
 pub returns-in_err-row-in-None-clause-rows : goal.returns-in_err-row-in-None-clause-rows
@@ -42,7 +43,7 @@ loop-preserved g c =
           ∙ c.loop.invariant.found);
       counted = counted;
       small =
-          let low : c.carry-carried.result ≤ limit + 2 =
+          let low =
           carried_small g.T.FromRow.meant_by g.T.FromRow.form c.args.bound c.loop.carried c.carry-carried.result limit
           at after next.row found c.carry-carried.ensures c.loop.invariant.small (omega arith) in
           omega arith;

@@ -1,9 +1,6 @@
 use Rattle.std.proofs.Common.{rules}
-use Rattle.std.proofs.Common.{◌≡◌}
 use Rattle.std.proofs.lemmas.Result.{err_from_is_err_and}
-use Rattle.aig_core.specs.Names.{nothing_named}
 use Rattle.aig_rows.specs.Lines.{lines_of}
-use Rattle.aig_text.specs.Reading.{circuit_at, tail_at}
 use Rattle.aig_text.proofs.Loops.Text.{no_header, no_sections, then_tail}
 use Rattle.aig_text.proofs.reader.read_circuit.Goals as goal
 
@@ -18,10 +15,4 @@ returns-in-Err c =
 
 pub returns-in-Ok : goal.returns-in-Ok
 returns-in-Ok c =
-    let after = c.read_numbered.new.at in
-    let same : circuit_at c.args.limits.max_var (lines_of c.args.bytes.now)
-    ≡ tail_at c.in_ok-header.header nothing_named c.in-Ok.circuit after.number after.lines =
-    then_tail c.args.limits.max_var
-    (lines_of c.args.bytes.now) c.header.new.at after c.in_ok-header.header c.in-Ok.circuit
-    (rw c.new-at.ensures at c.in_ok-header.ensures.header) c.in-Ok.ensures in
-    rw same c.tail.ensures
+    let after = c.read_numbered.new.at in search (rules, then_tail)

@@ -1,3 +1,4 @@
+use Rattle.std.proofs.Common.{rules}
 use Rattle.std.proofs.Common.{◌∙◌}
 use Rattle.aig_text.specs.Sections.{in_ascii}
 use Rattle.aig_text.proofs.Loops.Sections.{sections_more, sections_wrong, sections_done}
@@ -20,6 +21,4 @@ loop-section-preserved c = record {
 }
 
 pub returns : goal.returns
-returns c =
-    sections_done in_ascii c.args.header.now c.loop-section.section-index c.loop-section.circuit c.loop-section.at _
-    c.loop-section-test.false c.loop-section.invariant.read
+returns c = search (rules, sections_done)

@@ -1,7 +1,6 @@
 use Rattle.std.proofs.Common.{rules}
 use Rattle.aig_text.proofs.Canonical.Shortened.{one_less, no_less, all_needed}
 use Rattle.aig_text.proofs.writer.shortened.Goals as goal
-use Rattle.aig_text.proofs.writer.shortened.Goals.{then-loop-end-test+else-numbers-end-eq0, else-loop-end-test}
 
 pub loop-end-preserved : goal.loop-end-preserved
 loop-end-preserved c = search (rules, one_less)
