@@ -8,6 +8,7 @@ use Rattle.std.proofs.Math.Dec.{eqb-suc-zero}
 use Rattle.std.specs.List.{All, AllByRecursion, range_with_len}
 use Rattle.std.proofs.lemmas.Bool.{cases_lt, le-leb, le-ltb, lt-leb, lt-ltb}
 use Rattle.std.proofs.lemmas.List.{get_or_append_left, get_or-append_right}
+use Rattle.std.proofs.lemmas.List.Elements.{All-from_recursion}
 use Rattle.std.proofs.lemmas.List.FromFn.{get_or-map-range_with_len, length-map-range_with_len}
 use Rattle.aig_circuit.specs.declared.circuit.Circuit.{Circuit}
 use Rattle.aig_circuit.specs.declared.circuit.Gate.{Gate}
@@ -16,7 +17,7 @@ use Rattle.aig_circuit.specs.declared.circuit.TheConstants.{LARGEST}
 use Rattle.aig_checked.specs.BinaryOrder.{AreOrderedGates, IsInBinaryOrder}
 use Rattle.aig_circuit.specs.Literal.{literal_of, variable_of}
 use Rattle.aig_circuit.specs.Wellformed.{IsKnown, IsWellFormed, defined_variables}
-use Rattle.aig_circuit.proofs.Checking.Fitting.{known_in_range}
+use Rattle.aig_circuit.proofs.Checking.Fitting.{all_weaker, known_in_range}
 use Rattle.aig_meaning.proofs.Known.{AreDefined, known_next, known_outputs, known_bad, known_constraints}
 use Rattle.aig_unroll.specs.Unrolled.{IsTooLarge, all_inputs, at, first_gate, first_input, frame_size, latches_at}
 use Rattle.aig_unroll.specs.Unrolled.{chain_at, chain_behind, first_constraint, first_latches, next_of, resets_of}
@@ -24,7 +25,7 @@ use Rattle.aig_unroll.specs.Unrolled.{standing_for, uninitialised}
 use Rattle.aig_unroll.specs.Parts.Standing.{GateHasRoom, HasRoom, stood, with_sign}
 use Rattle.aig_unroll.specs.Parts.Frames.{IsFrame, table, table_at}
 use Rattle.aig_unroll.proofs.Ordering.Frames.{latches_length}
-use Rattle.aig_unroll.proofs.Ordering.Rows.{row_end}
+use Rattle.aig_unroll.proofs.Ordering.Frames.{row_end}
 
 pub table_length : (first inputs : ℕ) (latches : List ℕ)
     → length (table first inputs latches) ≡ 1 + inputs + length latches
@@ -70,12 +71,7 @@ pub stands_at : (c : Circuit) (frames t gate : ℕ) (standing : List ℕ) → ga
 stands_at c frames t gate standing gate_is standing_is =
     ap₂ stood standing_is gate_is ∙ fun_ext (stands_in_frame c frames t)
 
--- what holds of each
-each_place : {X : Type 0} (P : X → Type 0) (xs : List X) → AllByRecursion P xs → All P xs
-each_place P [] all k d below = absurd (omega (arith, below))
-each_place P (x ∷ xs) all zero d below = all.0
-each_place P (x ∷ xs) all (suc k) d below = each_place P xs all.1 k d (omega (arith, below))
-
+-- what holds of each next literal
 next_places : (P : ℕ → Type 0) (latches : List Latch) → AllByRecursion P (map (λ (l : Latch). l.next) latches)
     → All (λ (l : Latch). P l.next) latches
 next_places P [] all k d below = absurd (omega (arith, below))
@@ -119,18 +115,19 @@ module _ (c : Circuit) (frames t : ℕ) (formed : IsWellFormed c) (ordered : IsI
   known_has_room literal known = search (rules, known_in_range, places_are, gates_fit)
 
   all_have_room : (literals : List ℕ) → AreDefined c literals → AllByRecursion (HasRoom places here) literals
-  all_have_room [] known = tt
-  all_have_room (x ∷ xs) known = (known_has_room x known.0, all_have_room xs known.1)
+  all_have_room = all_weaker (IsKnown (defined_variables c)) (HasRoom places here) known_has_room
+
+  have_room : (literals : List ℕ) → AreDefined c literals → All (HasRoom places here) literals
+  have_room literals known = All-from_recursion (HasRoom places here) literals (all_have_room literals known)
 
   pub outputs_have_room : All (HasRoom places here) c.outputs
-  outputs_have_room = each_place (HasRoom places here) c.outputs (all_have_room c.outputs (known_outputs c formed))
+  outputs_have_room = have_room c.outputs (known_outputs c formed)
 
   pub bad_has_room : All (HasRoom places here) c.bad
-  bad_has_room = each_place (HasRoom places here) c.bad (all_have_room c.bad (known_bad c formed))
+  bad_has_room = have_room c.bad (known_bad c formed)
 
   pub constraints_have_room : All (HasRoom places here) c.constraints
-  constraints_have_room =
-      each_place (HasRoom places here) c.constraints (all_have_room c.constraints (known_constraints c formed))
+  constraints_have_room = have_room c.constraints (known_constraints c formed)
 
   pub nexts_have_room : All (λ (l : Latch). HasRoom places here l.next) c.latches
   nexts_have_room =

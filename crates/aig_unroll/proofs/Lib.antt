@@ -3,5 +3,4 @@ pub mod Traces
 pub mod Placed
 pub mod Standings
 pub mod InFrame
-pub mod Whole
 pub mod Written

@@ -1,6 +1,4 @@
 -- The unrolled circuit: one of each circuit, and in binary order.
-pub mod One
-pub mod Rows
 pub mod Frames
 pub mod Lower
 pub mod Gates

@@ -7,7 +7,7 @@ use Rattle.std.proofs.lemmas.List.{drop_all, length-drop, length-take-le, take-a
 use Rattle.std.proofs.lemmas.Slice.{take-put_mid}
 use borrow.Rule.Slice.PartMut.{put_mid}
 use Rattle.aig_unroll.specs.Parts.Frames.{IsPutAt}
-use Rattle.aig_unroll.proofs.Ordering.Rows.{one_row_more}
+use Rattle.aig_unroll.proofs.Ordering.Frames.{one_row_more}
 
 -- the last part
 pub last_put : {X : Type 0} (b : ℕ) (xs ys : List X) → put_mid b (length xs - b) xs ys ≡ take b xs ++ ys

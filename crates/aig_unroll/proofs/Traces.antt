@@ -1,6 +1,4 @@
 -- The rows of a trace side by side are a row of the unrolled circuit.
-pub mod Places
-pub mod Literals
 pub mod Gates
 pub mod OneFrame
 pub mod Frames

@@ -1,13 +1,15 @@
 -- The text of an unrolled circuit, frame by frame.
 use Rattle.std.proofs.lemmas.Grind.{common_steps}
 use Rattle.std.proofs.Common.{◌≡◌, ◌+◌, ◌*◌, ◌<◌, ℕ, List, [], ◌++◌, false, ap, arith, subst, sym, ◌∙◌, rules}
-use Rattle.std.proofs.Common.{append-nil, append_assoc}
+use Rattle.std.proofs.Common.{append-nil, append_assoc, length}
 use Rattle.std.specs.List.{All, flat_map, range_with_len}
 use Rattle.std.specs.Io.KnownBytes.{Appends}
 use Rattle.std.proofs.lemmas.List.Concat.{flat_map-append}
+use Rattle.std.proofs.lemmas.List.FromFn.{length-range_with_len}
 use Rattle.aig_circuit.specs.declared.circuit.Circuit.{Circuit}
 use Rattle.aig_checked.specs.BinaryOrder.{IsInBinaryOrder}
 use Rattle.aig_circuit.specs.Wellformed.{IsWellFormed}
+use Rattle.aig_circuit.specs.declared.circuit.Gate.{Gate}
 use Rattle.aig_checked.proofs.Numbered.Ranges.{range_more}
 use Rattle.aig_io.specs.Output.{Out, Put}
 use Rattle.aig_io.proofs.Puts.{put_twice}
@@ -17,24 +19,27 @@ use Rattle.aig_text.proofs.Written.{literal_sections_text, sections_text}
 use Rattle.aig_binary.specs.BinaryGrammar.{binary_word}
 use Rattle.aig_binary.specs.BinaryText.{HasDeltas, binary_text, gate_text}
 use Rattle.aig_binary.proofs.Written.{has_deltas, lines_text}
-use Rattle.aig_unroll.specs.Unrolled.{IsTooLarge, frame_size, gates_at, unrolled}
-use Rattle.aig_unroll.specs.Parts.Frames.{Frame}
+use Rattle.aig_unroll.specs.Unrolled.{IsTooLarge, frame_size, gates_at, unrolled, all_inputs, bad_at, outputs_at}
+use Rattle.aig_unroll.specs.Parts.Frames.{Frame, circuit_with}
 use Rattle.aig_unroll.specs.Parts.Writing.{gate_lines, input_lines, literal_lines}
 use Rattle.aig_unroll.proofs.Ordering.Frames.{frame_length, gate_stands, gates_length}
 use Rattle.aig_unroll.proofs.Ordering.Ordered.{unrolled_ordered, unrolled_well_formed}
-use Rattle.aig_unroll.proofs.Ordering.Rows.{in_row, one_row_more}
+use Rattle.aig_unroll.proofs.Ordering.Frames.{in_row, one_row_more}
 
 module _ {W : Type 0} where
   -- the texts of so many frames, and that of the next one
-  pub frame_more : {X : Type 0} (f : ℕ → List X) (text : X → List ℕ) (t : ℕ) (items : List X) (a b c : Out W)
-      → items ≡ f t → Put a b (flat_map text (flat_map f (range_with_len 0 t))) → Put b c (flat_map text items)
-      → Put a c (flat_map text (flat_map f (range_with_len 0 (t + 1))))
-  frame_more {X} f text t items a b c is p q =
-      let before = flat_map f (range_with_len 0 t) in
+  pub frame_more : {X : Type 0} (f : Circuit → ℕ → ℕ → List X) (text : X → List ℕ) (copies now : Frame) (t : ℕ)
+      (a b c : Out W) → now ≡ record copies { frame = now.frame }
+      → Put a b (flat_map text (flat_map (f copies.circuit copies.frames) (range_with_len 0 t)))
+      → Put b c (flat_map text (f now.circuit now.frames t))
+      → Put a c (flat_map text (flat_map (f copies.circuit copies.frames) (range_with_len 0 (t + 1))))
+  frame_more {X} f text copies now t a b c kept p q =
+      let items : ℕ → List X = f copies.circuit copies.frames in
+      let before = flat_map items (range_with_len 0 t) in
       subst (λ (whole : List ℕ). Put a c whole)
-      (sym (ap (flat_map text) (one_row_more f t) ∙ flat_map-append text before (f t)))
-      (put_twice a b c (flat_map text before) (flat_map text (f t)) p
-      (subst (λ (xs : List X). Put b c (flat_map text xs)) is q))
+      (sym (ap (flat_map text) (one_row_more items t) ∙ flat_map-append text before (items t)))
+      (put_twice a b c (flat_map text before) (flat_map text (items t)) p
+      (subst (λ (xs : List X). Put b c (flat_map text xs)) (ap (λ (k : Frame). f k.circuit k.frames t) kept) q))
 
   -- the texts of so many variables, and that of the next one
   pub variable_more : (text : ℕ → List ℕ) (first n : ℕ) (a b c : Out W)
@@ -67,9 +72,7 @@ module _ (c : Circuit) (frames : ℕ) where
       ≡ ascii_text d
   unfolding ascii_text
   ascii_parts =
-      let rest : input_lines d.inputs ++ (literal_lines d.outputs ++ (literal_lines d.bad ++ gate_lines d.gates))
-      ≡ flat_map line_text (rows_of d) ++ [] =
-      ap (λ (text : List ℕ). input_lines d.inputs ++ text)
+      let rest = ap (λ (text : List ℕ). input_lines d.inputs ++ text)
       (sym (append_assoc (literal_lines d.outputs) (literal_lines d.bad) (gate_lines d.gates))
       ∙ ap (λ (text : List ℕ). text ++ gate_lines d.gates) literals_text)
       ∙ sections_text d ∙ sym (append-nil (flat_map line_text (rows_of d))) in
@@ -91,3 +94,14 @@ module _ (c : Circuit) (frames : ℕ) where
       (has_deltas d (unrolled_well_formed c frames formed ordered fits).limits
       (unrolled_ordered c frames formed ordered)
       (t * frame_size c + i) default (omega (arith, place, gates_length c frames 0 frames)))
+
+module _ (c : Circuit) (frames : ℕ) (inputs outputs bad : List ℕ) (gates : List Gate)
+    (inputs_are : inputs ≡ range_with_len 1 (all_inputs c frames)) (size : length gates ≡ frames * frame_size c) where
+  pub variables_are : length inputs + length gates ≡ all_inputs c frames + frames * frame_size c
+  variables_are = omega (arith, ap length inputs_are, length-range_with_len 1 (all_inputs c frames), size)
+
+  pub is_unrolled : outputs ≡ flat_map (outputs_at c frames) (range_with_len 0 frames)
+      → bad ≡ flat_map (bad_at c frames) (range_with_len 0 frames)
+      → gates ≡ flat_map (gates_at c frames) (range_with_len 0 frames)
+      → circuit_with inputs outputs bad gates ≡ unrolled c frames
+  is_unrolled outputs_are bad_are gates_are = search (rules, variables_are)

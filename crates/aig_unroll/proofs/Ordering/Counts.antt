@@ -1,6 +1,6 @@
 -- The binary image of a circuit has as many of each as the circuit, so both unroll to circuits of one size.
 use Rattle.std.proofs.Common.{◌≡◌, ◌+◌, ◌*◌, ℕ, List, length, map, sym, ap₂, subst, rules}
-use Rattle.std.proofs.Common.{arith}
+use Rattle.std.proofs.Common.{arith, ap, ◌∙◌, refl}
 use Rattle.std.proofs.lemmas.List.{length-map}
 use Rattle.std.proofs.lemmas.Simd.{map-map}
 use Rattle.aig_circuit.specs.declared.circuit.Gate.{Gate}
@@ -13,7 +13,9 @@ use Rattle.aig_image.specs.Relabelled.{relabelled_gate}
 use Rattle.aig_image.specs.Renumbering.{in_new_order, renumbered}
 use Rattle.aig_image.proofs.Imaging.Members.{all_taken}
 use Rattle.aig_image.proofs.Imaging.Ordered.{image_is_ordered}
+use Rattle.aig_image.proofs.Imaging.Ordered.{image_is_one}
 use Rattle.aig_unroll.specs.Unrolled.{IsTooLarge, IsUnrolled, all_inputs, frame_size, resets_of, uninitialised}
+use Rattle.aig_unroll.specs.Unrolled.{unrolled}
 use Rattle.aig_unroll.proofs.Ordering.Ordered.{unrolled_ordered, unrolled_well_formed}
 
 -- as many of each that bounds the size of what is unrolled
@@ -59,3 +61,12 @@ unrolled_is_ordered c d frames good is small =
     λ large. small (as_large c image frames (image_counts c image good is.1) large) in
     subst (λ (x : Circuit). IsWellFormed x × IsInBinaryOrder x) (sym is.2)
     (unrolled_well_formed image frames formed.0 formed.1 fits, unrolled_ordered image frames formed.0 formed.1)
+
+pub one_unrolled : (c : Circuit) (frames : ℕ)
+    → (d : Circuit) × IsUnrolled c frames d × ((other : Circuit) → IsUnrolled c frames other → other ≡ d)
+one_unrolled c frames =
+    let made = image_is_one c in (
+      unrolled made.0 frames,
+      (made.0, made.1, refl),
+      λ other is. is.2 ∙ ap (λ image. unrolled image frames) (made.2 is.0 is.1),
+    )

@@ -62,18 +62,15 @@ module _ (c : Circuit) (frames : ℕ) (ordered : AreOrderedGates (own_gates c) c
       let chain_start : ℕ = first_constraint c frames t in
       let bad_start : ℕ = first_bad c frames t in
       let copies : List Gate = copied (at c frames t) start c.gates in
-      let own : AreOrderedGates start copies =
-      copied_ordered (at c frames t) (own_gates c) start
+      let own = copied_ordered (at c frames t) (own_gates c) start
       (λ k literal. at_below c frames next_below t k literal there) 0 (own_gates c) start c.gates (omega arith)
       (omega arith) ordered in
       let before : IsBelow start (chain_at c frames t) = chain_at_below c frames t in
       let constraints : List ℕ = map (at c frames t) c.constraints in
-      let held : AreOrderedGates chain_start (chained chain_start (chain_at c frames t) constraints) =
-      chained_ordered chain_start (chain_at c frames t) constraints (omega arith)
+      let held = chained_ordered chain_start (chain_at c frames t) constraints (omega arith)
       (all_at_below c frames next_below t there c.constraints constraints_below) in
       let bads : List ℕ = map (at c frames t) c.bad in
-      let seen : AreOrderedGates bad_start (guarded bad_start (chain_at c frames (suc t)) bads) =
-      guarded_ordered bad_start (chain_at c frames (suc t)) bads (chain_behind_below c frames t)
+      let seen = guarded_ordered bad_start (chain_at c frames (suc t)) bads (chain_behind_below c frames t)
       (all_below_more chain_start bad_start (omega arith) bads
       (all_at_below c frames next_below t there c.bad bad_below)) in
       ordered_joined start chain_start copies
@@ -86,9 +83,7 @@ module _ (c : Circuit) (frames : ℕ) (ordered : AreOrderedGates (own_gates c) c
       → AreOrderedGates (first_gate c frames s) (flat_map (gates_at c frames) (range_with_len s n))
   frames_ordered s zero fits = tt
   frames_ordered s (suc n) fits =
-      let later : AreOrderedGates (first_gate c frames (s + 1))
-      (flat_map (gates_at c frames) (range_with_len (s + 1) n)) =
-      frames_ordered (s + 1) n (omega arith) in
+      let later = frames_ordered (s + 1) n (omega arith) in
       let next : first_gate c frames (s + 1) ≡ first_gate c frames (suc s) = ap (first_gate c frames) (add-one s) in
       ordered_joined (first_gate c frames s) (first_gate c frames (s + 1)) (gates_at c frames s)
       (flat_map (gates_at c frames) (range_with_len (s + 1) n))

@@ -14,7 +14,7 @@ use Rattle.aig_unroll.specs.Unrolled.{at, chain_at, chain_behind, first_constrai
 use Rattle.aig_unroll.specs.Unrolled.{first_latches, latches_at, literal_in, next_of, resets_of, standing_for}
 use Rattle.aig_unroll.specs.Unrolled.{uninitialised}
 use Rattle.aig_unroll.proofs.Ordering.Frames.{next_gate}
-use Rattle.aig_unroll.proofs.Ordering.Rows.{by_order, in_row, read_anywhere}
+use Rattle.aig_unroll.proofs.Ordering.Frames.{by_order, in_row, read_anywhere}
 use Rattle.aig_rows.proofs.Grammar.Entries.{all_mapped}
 
 -- a literal is over a variable below n
@@ -43,8 +43,7 @@ first_below n v (resets.Uninit ∷ rs) some fits =
 pub chain_below : (v chain : ℕ) (xs : List ℕ) → IsBelow v chain → IsBelow (v + length xs) (chain_behind v chain xs)
 chain_below v chain [] below = omega arith
 chain_below v chain (x ∷ xs) below =
-    let later : IsBelow (v + 1 + length xs) (chain_behind (v + 1) (literal_of v) xs) =
-    chain_below (v + 1) (literal_of v) xs (omega arith) in
+    let later = chain_below (v + 1) (literal_of v) xs (omega arith) in
     subst (λ n. IsBelow n (chain_behind (v + 1) (literal_of v) xs)) (omega arith) later
 
 -- where the circuit's gates begin
@@ -70,15 +69,13 @@ module _ (c : Circuit) (frames : ℕ) where
       (λ above.
       by_order Fits v (i + l) _ _
       (λ latch.
-      let below : IsBelow (start t) (get_or latches (v - 1 - i) 0) =
-      read_anywhere (IsBelow (start t)) 0 (omega arith) latches all (v - 1 - i) in omega arith)
+      let below = read_anywhere (IsBelow (start t)) 0 (omega arith) latches all (v - 1 - i) in omega arith)
       (λ gate. omega arith)))
 
   pub literal_below : (t k literal : ℕ) (latches : List ℕ) → t < frames → AllByRecursion (IsBelow (start t)) latches
       → IsBelow (own_gates c + k) literal → IsBelow (start t + k) (literal_in c frames t latches literal)
   literal_below t k literal latches there all fits =
-      let below : IsBelow (start t + k) (standing_for c frames t latches (variable_of literal)) =
-      standing_below t k (variable_of literal) latches there all (omega arith) in
+      let below = standing_below t k (variable_of literal) latches there all (omega arith) in
       cond_both (eqb (literal % 2) 0) (standing_for c frames t latches (variable_of literal))
       (negation_of (standing_for c frames t latches (variable_of literal))) (IsBelow (start t + k))
       (λ _. below) (λ _. negation_below (start t + k) (standing_for c frames t latches (variable_of literal)) below)
@@ -117,8 +114,7 @@ module _ (c : Circuit) (frames : ℕ) where
   chain_at_below zero = omega arith
   chain_at_below (suc t) =
       let before : IsBelow (start t) (chain_at c frames t) = chain_at_below t in
-      let behind : IsBelow (first_constraint c frames t + length c.constraints) (chain_at c frames (suc t)) =
-      chain_below (first_constraint c frames t) (chain_at c frames t) c.constraints (omega arith) in
+      let behind = chain_below (first_constraint c frames t) (chain_at c frames t) c.constraints (omega arith) in
       omega (arith, next_gate c frames t)
 
   -- and behind its constraints, before the gates of bad states

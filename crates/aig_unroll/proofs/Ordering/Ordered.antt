@@ -1,6 +1,6 @@
 -- The unrolled circuit of a circuit in binary order is in binary order, and well formed where it is not too large.
 use Rattle.std.proofs.Common.{◌≡◌, ◌+◌, ◌*◌, ◌<◌, ◌≤◌, ℕ, List, ◌++◌, length, map, refl, sym, ap}
-use Rattle.std.proofs.Common.{subst, inl, inr, arith}
+use Rattle.std.proofs.Common.{subst, arith, rules}
 use Rattle.std.specs.List.{AllByRecursion, concat, flat_map, range_with_len}
 use Rattle.std.proofs.lemmas.Bool.{cases_lt}
 use Rattle.std.proofs.lemmas.List.FromFn.{length-range_with_len}
@@ -21,7 +21,7 @@ use Rattle.aig_unroll.proofs.Ordering.Frames.{bad_length, gates_length, outputs_
 use Rattle.aig_unroll.proofs.Ordering.Gates.{frames_ordered}
 use Rattle.aig_unroll.proofs.Ordering.Lower.{IsBelow, all_at_below}
 use Rattle.aig_unroll.proofs.Ordering.Lower.{own_end}
-use Rattle.aig_unroll.proofs.Ordering.Rows.{all_rows, row_end}
+use Rattle.aig_unroll.proofs.Ordering.Frames.{all_rows, row_end}
 use Rattle.aig_rows.proofs.Grammar.Entries.{all_mapped}
 
 module _ (c : Circuit) (frames : ℕ) (good : IsWellFormed c) (ordered : IsInBinaryOrder c) where
@@ -97,19 +97,13 @@ module _ (c : Circuit) (frames : ℕ) (good : IsWellFormed c) (ordered : IsInBin
 
   module _ (small : ¬ IsTooLarge c frames) where
     variables_fit : d.max_var ≤ LARGEST
-    variables_fit = elim (cases_lt LARGEST d.max_var) [ inl above ↦ absurd (small (inl above)) | inr fits ↦ fits ]
+    variables_fit = search (rules, cases_lt)
 
     outputs_fit : frames * length c.outputs ≤ LARGEST
-    outputs_fit = elim (cases_lt LARGEST (frames * length c.outputs)) [
-      | inl above ↦ absurd (small (inr (inl above)))
-      | inr fits ↦ fits
-    ]
+    outputs_fit = search (rules, cases_lt)
 
     bad_fit : frames * length c.bad ≤ LARGEST
-    bad_fit = elim (cases_lt LARGEST (frames * length c.bad)) [
-      | inl above ↦ absurd (small (inr (inr above)))
-      | inr fits ↦ fits
-    ]
+    bad_fit = search (rules, cases_lt)
 
     limits : IsWithinLimits d
     limits = record {

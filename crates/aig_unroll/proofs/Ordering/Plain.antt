@@ -9,7 +9,7 @@ use Rattle.aig_circuit.specs.Literal.{literal_of}
 use Rattle.aig_unroll.specs.Laws.{IsPlainlyUnrolled}
 use Rattle.aig_unroll.specs.Unrolled.{all_inputs, at, bad_at, copied, first_bad}
 use Rattle.aig_unroll.specs.Unrolled.{first_gate, frame_size, gates_at, resets_of, uninitialised, unrolled}
-use Rattle.aig_unroll.proofs.Ordering.Rows.{no_rows, same_rows}
+use Rattle.aig_unroll.proofs.Ordering.Frames.{no_rows, same_rows}
 
 none_uninitialised : (rs : List Reset) → AllByRecursion (λ (r : Reset). r ≡ resets.Zero) rs → uninitialised rs ≡ 0
 none_uninitialised [] all = refl

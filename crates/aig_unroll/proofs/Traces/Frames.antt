@@ -19,8 +19,8 @@ use Rattle.aig_meaning.proofs.Rows.{bad_length, constraints_length, inputs_lengt
 use Rattle.aig_unroll.specs.Unrolled.{at, bad_at, chain_at, chained, copied, first_bad, first_constraint, first_gate}
 use Rattle.aig_unroll.specs.Unrolled.{first_input, frame_size, gates_at, guarded, latches_at, outputs_at}
 use Rattle.aig_unroll.specs.SideBySide.{and_all, bad_side_by_side}
-use Rattle.aig_unroll.proofs.Traces.Places.{StandAt, stand_back, stand_front}
-use Rattle.aig_unroll.proofs.Traces.Literals.{variables_values}
+use Rattle.aig_unroll.proofs.Traces.Gates.{StandAt, stand_back, stand_front}
+use Rattle.aig_unroll.proofs.Traces.Gates.{variables_values}
 use Rattle.aig_unroll.proofs.Traces.Gates.{chain_goes_on, chain_values, chain_values_length, chained_hold, copied_hold}
 use Rattle.aig_unroll.proofs.Traces.Gates.{guarded_hold}
 use Rattle.aig_unroll.proofs.Traces.OneFrame.{bad_carried, constraints_carried, gates_carried, next_carried}
@@ -179,8 +179,7 @@ module _ (c : Circuit) (formed : IsWellFormed c) (ordered : IsInBinaryOrder c) (
       let inputs : List Val = flat_map (λ (vector : List Val). vector) vs in
       let values : List Val = frames_values c held_too r.next vs rs follow.3 in
       let here : map (literal_value a) (latches_at c frames t) ≡ r.state = from ∙ sym follow.0 in
-      let given_here : StandAt a (first_input c t) (r.inputs ++ inputs) =
-      subst (λ xs. StandAt a (first_input c t) (xs ++ inputs)) (sym follow.1) all_given in
+      let given_here = subst (λ xs. StandAt a (first_input c t) (xs ++ inputs)) (sym follow.1) all_given in
       one_more c formed ordered a constant frames t held r b is here chain inputs values given_here there (length vs) rs
       (frames_show (suc t) held_too r.next vs rs follow.3
       (next_state c formed ordered a constant frames t held r b is here chain inputs values given_here there)

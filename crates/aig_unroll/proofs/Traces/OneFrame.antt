@@ -19,8 +19,8 @@ use Rattle.aig_meaning.proofs.Known.{known_operands}
 use Rattle.aig_meaning.proofs.Lists.{contained_later, variables_of}
 use Rattle.aig_meaning.proofs.Rows.{inputs_length, state_length}
 use Rattle.aig_unroll.specs.Unrolled.{at, first_gate, first_input, latches_at, standing_for}
-use Rattle.aig_unroll.proofs.Traces.Places.{StandAt, at_place, same_place, stand_self}
-use Rattle.aig_unroll.proofs.Traces.Literals.{signed_value, variable_value}
+use Rattle.aig_unroll.proofs.Traces.Gates.{StandAt, at_place, same_place, stand_self}
+use Rattle.aig_unroll.proofs.Traces.Gates.{signed_value, variable_value}
 use Rattle.aig_unroll.proofs.Traces.Gates.{IsCarried}
 
 -- what holds of each gate in a list

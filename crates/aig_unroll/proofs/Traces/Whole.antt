@@ -21,8 +21,8 @@ use Rattle.aig_unroll.specs.Laws.{UnrollingKeepsTraces}
 use Rattle.aig_unroll.specs.Unrolled.{all_inputs, first_gate, first_input, first_latches, gates_at, resets_of}
 use Rattle.aig_unroll.specs.Unrolled.{uninitialised, unrolled}
 use Rattle.aig_unroll.specs.SideBySide.{inputs_side_by_side, side_by_side, uninitialised_values}
-use Rattle.aig_unroll.proofs.Traces.Places.{StandAt, read_off, stand_back, stand_front, stand_looked_up}
-use Rattle.aig_unroll.proofs.Traces.Literals.{variable_value}
+use Rattle.aig_unroll.proofs.Traces.Gates.{StandAt, read_off, stand_back, stand_front, stand_looked_up}
+use Rattle.aig_unroll.proofs.Traces.Gates.{variable_value}
 use Rattle.aig_unroll.proofs.Traces.Frames.{FramesShow, frames_show, frames_values}
 
 -- there is a value for each uninitialised latch
@@ -149,12 +149,9 @@ unrolling_keeps_traces c d first vectors rows good good_too unrolled_is trace ot
     let given : List (List Val) = side.inputs ∷ [] in
     let trace_too : IsTrace b first vectors rows =
     (image_keeps_traces c b good unrolled_is.1 first vectors rows).0 trace in
-    let of_image : IsRow (unrolled b (length vectors)) (side_by_side b first vectors rows) =
-    is_row b b_is.0 b_is.1 first vectors rows trace_too in
-    let same : side_by_side b first vectors rows ≡ side =
-    same_side_by_side b c (image_means_the_same c b good unrolled_is.1).resets first vectors rows in
-    let is_side : IsRow d side =
-    subst (λ (e : Circuit). IsRow e side) (sym unrolled_is.2)
+    let of_image = is_row b b_is.0 b_is.1 first vectors rows trace_too in
+    let same = same_side_by_side b c (image_means_the_same c b good unrolled_is.1).resets first vectors rows in
+    let is_side = subst (λ (e : Circuit). IsRow e side) (sym unrolled_is.2)
     (subst (λ (row : Row). IsRow (unrolled b (length vectors)) row) same of_image) in
     let starts : IsFirstState d [] = subst (λ (e : Circuit). IsFirstState e []) (sym unrolled_is.2) tt in
     let one : Follow d [] given (side ∷ []) = (refl, refl, is_side, tt) in (

@@ -1,4 +1,5 @@
 use Rattle.std.proofs.Common.{◌≡◌, ◌+◌, ◌*◌, ◌<◌, ◌≤◌, ◌∙◌, ℕ, List, [], ap, arith, length, refl, subst₂, take}
+use Rattle.std.specs.List.{flat_map, range_with_len}
 use Rattle.std.proofs.lemmas.List.{length-map}
 use Rattle.std.proofs.lemmas.List.FromFn.{length-map-range_with_len}
 use Rattle.aig_circuit.specs.declared.circuit.Circuit.{Circuit}
@@ -6,7 +7,7 @@ use Rattle.aig_circuit.specs.Literal.{literal_of}
 use Rattle.aig_unroll.specs.Unrolled.{at, bad_at, first_bad, frame_size, gates_at, outputs_at}
 use Rattle.aig_unroll.specs.Parts.Frames.{Frame, IsPutAt}
 use Rattle.aig_unroll.proofs.Ordering.Frames.{frame_length}
-use Rattle.aig_unroll.proofs.Ordering.Rows.{row_end}
+use Rattle.aig_unroll.proofs.Ordering.Frames.{row_end}
 use Rattle.aig_unroll.proofs.Placed.{frame_put}
 use Rattle.aig_unroll.proofs.unrolling.put_frames.Goals as goal
 
@@ -19,11 +20,11 @@ module _ (c : Circuit) (frames t : ℕ) where
   bad_length = length-map-range_with_len literal_of (first_bad c frames t) (length c.bad)
 
 -- before frame 0 nothing is written
-none_before : {X : Type 0} (width : ℕ) (xs : List X) → take (0 * width) xs ≡ []
-none_before width xs = let none : 0 * width ≡ 0 = omega arith in ap (λ n. take n xs) none
-
-none_fit : {X : Type 0} (width : ℕ) (xs : List X) → 0 * width ≤ length xs
-none_fit width xs = omega arith
+first_put : {X : Type 0} (f : ℕ → List X) (width : ℕ) (before after : List X) → IsPutAt f width 0 before after
+    → length (f 0) ≡ width → take ((0 + 1) * width) after ≡ flat_map f (range_with_len 0 (0 + 1))
+first_put f width before after put size =
+    let none : 0 * width ≡ 0 = omega arith in
+    frame_put f width 0 before after put size (omega arith) (ap (λ n. take n before) none)
 
 pub loop-frame-init : goal.loop-frame-init
 loop-frame-init c =
@@ -34,16 +35,12 @@ loop-frame-init c =
       at = omega (arith, c.requires.first);
       circuit = refl;
       frames = refl;
-      outputs = frame_put (outputs_at circuit frames) (length circuit.outputs) 0
-          c.args.outputs.now c.put_frame.new.outputs
-          put.outputs (outputs_length circuit frames 0) (none_fit (length circuit.outputs) c.args.outputs.now)
-          (none_before (length circuit.outputs) c.args.outputs.now);
-      bad = frame_put (bad_at circuit frames) (length circuit.bad) 0 c.args.bad.now c.put_frame.new.bad
-          put.bad (bad_length circuit frames 0) (none_fit (length circuit.bad) c.args.bad.now)
-          (none_before (length circuit.bad) c.args.bad.now);
-      gates = frame_put (gates_at circuit frames) (frame_size circuit) 0 c.args.gates.now c.put_frame.new.gates
-          put.gates (frame_length circuit frames 0) (none_fit (frame_size circuit) c.args.gates.now)
-          (none_before (frame_size circuit) c.args.gates.now);
+      outputs = first_put (outputs_at circuit frames) (length circuit.outputs) c.args.outputs.now _ put.outputs
+          (outputs_length circuit frames 0);
+      bad = first_put (bad_at circuit frames) (length circuit.bad) c.args.bad.now _ put.bad
+          (bad_length circuit frames 0);
+      gates = first_put (gates_at circuit frames) (frame_size circuit) c.args.gates.now _ put.gates
+          (frame_length circuit frames 0);
     }
 
 pub loop-frame-preserved : goal.loop-frame-preserved

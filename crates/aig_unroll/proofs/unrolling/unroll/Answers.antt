@@ -8,8 +8,7 @@ pub unroll_image-requires-clause-fits : goal.unroll_image-requires-clause-fits
 unroll_image-requires-clause-fits c large =
     let source : Circuit = c.args.checked.now in
     let image : Circuit = c.in_ok-image.image in
-    let fits : ¬ IsTooLarge source c.args.frames =
-    subst (λ (k : Circuit). ¬ IsTooLarge k c.args.frames) c.circuit.ensures.value
+    let fits = subst (λ (k : Circuit). ¬ IsTooLarge k c.args.frames) c.circuit.ensures.value
     c.in_ok-check_supported.ensures.supported.1 in
     fits
     (as_large source image c.args.frames (image_counts source image c.circuit.ensures.well_formed c.in_ok-image.ensures)
@@ -18,8 +17,7 @@ unroll_image-requires-clause-fits c large =
 pub from_well_ordered-requires-clause-well_formed : goal.from_well_ordered-requires-clause-well_formed
 from_well_ordered-requires-clause-well_formed c =
     let source : Circuit = c.args.checked.now in
-    let fits : ¬ IsTooLarge source c.args.frames =
-    subst (λ (k : Circuit). ¬ IsTooLarge k c.args.frames) c.circuit.ensures.value
+    let fits = subst (λ (k : Circuit). ¬ IsTooLarge k c.args.frames) c.circuit.ensures.value
     c.in_ok-check_supported.ensures.supported.1 in
     (unrolled_is_ordered source c.in_ok-circuit.circuit c.args.frames c.circuit.ensures.well_formed
     (c.in_ok-image.image, c.in_ok-image.ensures, c.in_ok-circuit.ensures) fits).0
@@ -27,8 +25,7 @@ from_well_ordered-requires-clause-well_formed c =
 pub from_well_ordered-requires-clause-in_order : goal.from_well_ordered-requires-clause-in_order
 from_well_ordered-requires-clause-in_order c =
     let source : Circuit = c.args.checked.now in
-    let fits : ¬ IsTooLarge source c.args.frames =
-    subst (λ (k : Circuit). ¬ IsTooLarge k c.args.frames) c.circuit.ensures.value
+    let fits = subst (λ (k : Circuit). ¬ IsTooLarge k c.args.frames) c.circuit.ensures.value
     c.in_ok-check_supported.ensures.supported.1 in
     (unrolled_is_ordered source c.in_ok-circuit.circuit c.args.frames c.circuit.ensures.well_formed
     (c.in_ok-image.image, c.in_ok-image.ensures, c.in_ok-circuit.ensures) fits).1

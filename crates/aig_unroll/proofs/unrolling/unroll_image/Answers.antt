@@ -5,7 +5,7 @@ use Rattle.aig_circuit.specs.declared.circuit.Circuit.{Circuit}
 use Rattle.aig_unroll.specs.Unrolled.{all_inputs, bad_at, frame_size, gates_at, outputs_at}
 use Rattle.aig_unroll.specs.Parts.Frames.{Frame, circuit_with}
 use Rattle.aig_unroll.proofs.InFrame.{all_fit}
-use Rattle.aig_unroll.proofs.Whole.{is_unrolled, variables_are}
+use Rattle.aig_unroll.proofs.Written.{is_unrolled, variables_are}
 use Rattle.aig_unroll.proofs.unrolling.unroll_image.Goals as goal
 
 pub circuit_of-requires : goal.circuit_of-requires
@@ -16,14 +16,11 @@ returns-in-Ok c =
     let circuit : Circuit = c.args.image in
     let frames : ℕ = c.args.frames in
     let inputs : List ℕ = c.in-Ok.inputs.items in
-    let kept : length c.put_frames.new.gates ≡ c.in-Ok.gates.len =
-    c.put_frames.auto.gates ∙ c.deref_mut-in-Ok-2.ensures.len in
+    let kept = c.put_frames.auto.gates ∙ c.deref_mut-in-Ok-2.ensures.len in
     let gates = with_items_is c.in-Ok.gates c.put_frames.new.gates kept in
-    let inputs_are : inputs ≡ range_with_len 1 (all_inputs circuit frames) =
-    c.in-Ok.ensures.inputs
+    let inputs_are = c.in-Ok.ensures.inputs
     ∙ ap (λ (k : Frame). range_with_len 1 (all_inputs k.circuit k.frames)) c.in_ok-copies.ensures in
-    let size : length c.put_frames.new.gates ≡ frames * frame_size circuit =
-    c.put_frames.auto.gates ∙ ap length c.deref_mut-in-Ok-2.ensures.value ∙ c.in-Ok.ensures.gates
+    let size = c.put_frames.auto.gates ∙ ap length c.deref_mut-in-Ok-2.ensures.value ∙ c.in-Ok.ensures.gates
     ∙ ap (λ (k : Frame). k.frames * frame_size k.circuit) c.in_ok-copies.ensures in
     let outputs =
     with_items_is c.in-Ok.outputs c.put_frames.new.outputs

@@ -10,14 +10,11 @@ use Rattle.aig_unroll.proofs.writing.put_gate_lines.Goals as goal
 pub loop-frame-preserved : goal.loop-frame-preserved
 loop-frame-preserved g c =
     let loop = c.loop-frame in
-    let copies : Frame = c.args.copies.now in
     let done = c.put_frame_lines.ensures in
     record {
       kept = done.kept
           ∙ ap (λ (k : Frame). record k { frame = c.put_frame_lines.new.copies.frame }) loop.invariant.kept;
       behind = λ good _. ap (λ n. n + 1) (sym (done.here good));
-      put = frame_more (gates_at copies.circuit copies.frames) (λ (gate : Gate). numbers_text (gate_row gate))
-          loop.frame _ _ _ _
-          (ap (λ (k : Frame). gates_at k.circuit k.frames loop.frame) loop.invariant.kept)
-          loop.invariant.put done.put;
+      put = frame_more gates_at (λ (gate : Gate). numbers_text (gate_row gate)) c.args.copies.now _ loop.frame _ _ _
+          loop.invariant.kept loop.invariant.put done.put;
     }

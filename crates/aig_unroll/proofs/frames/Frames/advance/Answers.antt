@@ -22,11 +22,9 @@ invariant_of-self c =
     let f = c.self.inside in
     let is = c.self.invariant in
     let latches : List ℕ = c.deref-2.result.now in
-    let more : f.frame + 1 < f.frames =
-    subst (λ (k : Frame). k.frame + 1 < k.frames) (sym c.self.view_is) c.requires in
+    let more = subst (λ (k : Frame). k.frame + 1 < k.frames) (sym c.self.view_is) c.requires in
     let kept : length c.put_nexts.new.out ≡ f.next.len = c.put_nexts.auto.out ∙ c.deref_mut.ensures.len in
-    let written : latches ≡ map (stood f.standing.items f.first_gate) (next_of f.circuit) =
-    c.deref-2.ensures.value ∙ with_items_is f.next c.put_nexts.new.out kept ∙ c.put_nexts.ensures
+    let written = c.deref-2.ensures.value ∙ with_items_is f.next c.put_nexts.new.out kept ∙ c.put_nexts.ensures
     ∙ ap₂ (λ (s : List ℕ) (ls : List Latch). map (stood s f.first_gate) (map (λ (l : Latch). l.next) ls))
     c.deref.ensures.value c.as_slice-latches.ensures in
     let then =
@@ -40,10 +38,8 @@ invariant_of-self c =
       ap length is.standing_is,
       places_are f.circuit f.frames f.frame is.formed is.ordered is.fits is.within,
     ) in
-    let first : f.first_input + c.len.result ≡ f.first_input + length f.circuit.inputs =
-    ap (λ n. f.first_input + n) c.len.ensures in
-    let changed : length c.change_standing.new.standing ≡ f.standing.len =
-    c.change_standing.auto.standing ∙ c.deref_mut-2.ensures.len in
+    let first = ap (λ n. f.first_input + n) c.len.ensures in
+    let changed = c.change_standing.auto.standing ∙ c.deref_mut-2.ensures.len in
     record {
       formed = then.formed;
       ordered = then.ordered;

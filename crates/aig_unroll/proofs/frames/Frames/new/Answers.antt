@@ -12,13 +12,10 @@ invariant_of-result c =
     let circuit : Circuit = c.into_circuit-circuit.result in
     let frames = c.args.frames in
     let same : circuit ≡ c.args.image = c.into_circuit-circuit.ensures.value ∙ c.into_checked.ensures.value in
-    let ordered : IsInBinaryOrder circuit =
-    subst (λ (k : Circuit). IsInBinaryOrder k) (sym same) c.into_checked.ensures.ordered in
-    let formed : IsWellFormed circuit =
-    subst (λ (k : Circuit). IsWellFormed k) (sym c.into_circuit-circuit.ensures.value)
+    let ordered = subst (λ (k : Circuit). IsInBinaryOrder k) (sym same) c.into_checked.ensures.ordered in
+    let formed = subst (λ (k : Circuit). IsWellFormed k) (sym c.into_circuit-circuit.ensures.value)
     c.into_circuit-circuit.ensures.well_formed in
-    let fits : ¬ IsTooLarge circuit frames =
-    subst (λ (k : Circuit). ¬ IsTooLarge k frames) (sym same) c.requires.fits in
+    let fits = subst (λ (k : Circuit). ¬ IsTooLarge k frames) (sym same) c.requires.fits in
     let reset = λ (l : Latch). l.reset in
     let first = 1 + c.count_uninitialised-uninitialised.result in
     first_frame circuit frames first (first + frames * c.len-inputs.result) c.in-Ok.standing.items c.in-Ok.next.items

@@ -27,11 +27,9 @@ returns-clause-gates c =
     let f = c.self.inside in
     let is = c.self.invariant in
     let standing = c.as_slice-standing.result.now in
-    let stands : stood standing f.first_gate ≡ at f.circuit f.frames f.frame =
-    stands_at f.circuit f.frames f.frame f.first_gate standing is.gate_is
+    let stands = stands_at f.circuit f.frames f.frame f.first_gate standing is.gate_is
     (c.as_slice-standing.ensures.value ∙ is.standing_is) in
-    let chain : c.chain.result ≡ chain_at f.circuit f.frames f.frame =
-    c.chain.ensures ∙ sym (ap (λ (k : Frame). chain_at k.circuit k.frames k.frame) c.self.view_is) in
+    let chain = c.chain.ensures ∙ sym (ap (λ (k : Frame). chain_at k.circuit k.frames k.frame) c.self.view_is) in
     c.put_parts.ensures
     ∙ ap₂ (λ (g : ℕ → ℕ) n. gates_by g n c.chain.result f.circuit) stands is.gate_is
     ∙ ap (λ n. gates_by (at f.circuit f.frames f.frame) (first_gate f.circuit f.frames f.frame) n f.circuit) chain

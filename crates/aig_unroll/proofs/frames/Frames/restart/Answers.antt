@@ -12,8 +12,7 @@ invariant_of-self c =
     let is = c.self.invariant in
     let reset = λ (l : Latch). l.reset in
     let first = 1 + c.count_uninitialised.result in
-    let kept : length c.put_standing.new.standing ≡ f.standing.len =
-    c.put_standing.auto.standing ∙ c.deref_mut.ensures.len in
+    let kept = c.put_standing.auto.standing ∙ c.deref_mut.ensures.len in
     first_frame f.circuit f.frames first (first + f.frames * c.len-inputs.result) _ f.next.items
     is.formed is.ordered is.fits (omega (arith, is.within))
     (ap (λ n. 1 + n)

@@ -8,8 +8,7 @@ pub of_image-requires-clause-fits : goal.of_image-requires-clause-fits
 of_image-requires-clause-fits c large =
     let source : Circuit = c.args.checked in
     let image : Circuit = c.in_ok-image-in-Ok.image in
-    let fits : ¬ IsTooLarge source c.args.frames =
-    subst (λ (k : Circuit). ¬ IsTooLarge k c.args.frames) c.circuit.ensures.value
+    let fits = subst (λ (k : Circuit). ¬ IsTooLarge k c.args.frames) c.circuit.ensures.value
     c.in-Ok.ensures.supported.1 in
     fits
     (as_large source image c.args.frames

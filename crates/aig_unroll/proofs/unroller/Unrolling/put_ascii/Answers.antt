@@ -15,8 +15,7 @@ returns g c =
     let of : Frame → Circuit = λ k. unrolled k.circuit k.frames in
     let behind : Frame = c.put_output_lines.new.copies in
     let once : of behind ≡ of f = same_circuit f behind c.put_output_lines.ensures.kept in
-    let twice : of c.put_bad_lines.new.copies ≡ of f =
-    same_circuit behind c.put_bad_lines.new.copies c.put_bad_lines.ensures.kept ∙ once in
+    let twice = same_circuit behind c.put_bad_lines.new.copies c.put_bad_lines.ensures.kept ∙ once in
     let bad =
     subst (λ (d : Circuit). Put c.put_output_lines.new.output c.put_bad_lines.new.output (literal_lines d.bad)) once
     c.put_bad_lines.ensures.put in
