@@ -16,7 +16,7 @@ use crate::fault::UnrollFault;
 use crate::frames::{Frames, gates_of_frame};
 use crate::unrolling::check_supported;
 use crate::writing::{
-    header_numbers, put_bad_lines, put_gate_deltas, put_gate_lines, put_inputs, put_output_lines,
+    BadLines, GateDeltas, GateLines, OutputLines, header_numbers, put_inputs, put_section,
 };
 use aig_binary::BINARY_WORD;
 use aig_core::{Checked, Circuit, Gate, Lit, Ordered, OutOfMemory, Output, Sink, Var};
@@ -128,9 +128,9 @@ impl Unrolling {
         } = self;
         put_header(output, ASCII_WORD, &header_numbers(&copies));
         put_inputs(output, copies.count_inputs());
-        put_output_lines(output, &mut copies, &mut outputs);
-        put_bad_lines(output, &mut copies, &mut bad);
-        put_gate_lines(output, &mut copies, &mut gates);
+        put_section::<OutputLines, W>(output, &mut copies, &mut outputs);
+        put_section::<BadLines, W>(output, &mut copies, &mut bad);
+        put_section::<GateLines, W>(output, &mut copies, &mut gates);
         drop(copies);
     }
 
@@ -145,9 +145,9 @@ impl Unrolling {
             mut gates,
         } = self;
         put_header(output, BINARY_WORD, &header_numbers(&copies));
-        put_output_lines(output, &mut copies, &mut outputs);
-        put_bad_lines(output, &mut copies, &mut bad);
-        put_gate_deltas(output, &mut copies, &mut gates);
+        put_section::<OutputLines, W>(output, &mut copies, &mut outputs);
+        put_section::<BadLines, W>(output, &mut copies, &mut bad);
+        put_section::<GateDeltas, W>(output, &mut copies, &mut gates);
         drop(copies);
     }
 

@@ -4,9 +4,8 @@ ghost use Rattle.std.specs.List.{flat_map, range_with_len};
 ghost use Rattle.aig_circuit.specs.declared.circuit.TheConstants.{LARGEST};
 ghost use Rattle.aig_io.specs.Output.{Put};
 ghost use Rattle.aig_text.specs.Sections.{header_row};
-ghost use Rattle.aig_binary.specs.BinaryText.{gate_text};
-ghost use Rattle.aig_unroll.specs.Unrolled.{bad_at, frame_size, gates_at, outputs_at, unrolled};
-ghost use Rattle.aig_unroll.specs.Parts.Writing.{gate_lines, input_lines, literal_lines};
+ghost use Rattle.aig_unroll.specs.Unrolled.{unrolled};
+ghost use Rattle.aig_unroll.specs.Parts.Writing.{input_lines};
 
 use crate::frames::Frames;
 use aig_binary::put_gates;
@@ -38,145 +37,152 @@ pub(crate) fn put_inputs<W: Sink>(output: &mut Output<W>, count: u32)
     }
 }
 
-/// Puts the lines of a frame's outputs, unless the sink failed: nobody takes them then.
-fn put_frame_outputs<W: Sink>(
+/// A section whose text is put frame by frame.
+pub(crate) trait FrameSection {
+    ghost use Rattle.std.specs.Prelude.{◌≡◌, ℕ, List, length};
+    ghost use Rattle.std.specs.List.{flat_map};
+    ghost use Rattle.aig_circuit.specs.declared.circuit.Circuit.{Circuit as CircuitRecord};
+    ghost use Rattle.aig_io.specs.Output.{Put};
+
+    /// What it lists.
+    type Item;
+
+    /// How many of them a frame of a circuit has.
+    ghost size: { CircuitRecord → ℕ };
+
+    /// Those of a circuit that is unrolled over so many frames, in a frame.
+    ghost at: { CircuitRecord → ℕ → ℕ → List Self.Item };
+
+    /// The text of one.
+    ghost text: { Self.Item → List ℕ };
+
+    /// Puts the text of those in the frame. There is room for them.
+    fn put<W: Sink>(output: &mut Output<W>, copies: &Frames, room: &mut [Self::Item])
+        requires { length room.old ≡ size copies.now.circuit }
+        ensures { Put output.old output.new
+            (flat_map text (at copies.now.circuit copies.now.frames copies.now.frame)) };
+}
+
+/// The lines of the outputs.
+pub(crate) struct OutputLines;
+
+/// The lines of the bad states.
+pub(crate) struct BadLines;
+
+/// The lines of the gates.
+pub(crate) struct GateLines;
+
+/// The gates by their deltas.
+pub(crate) struct GateDeltas;
+
+impl FrameSection for OutputLines {
+    ghost use Rattle.std.specs.Prelude.{length};
+    ghost use Rattle.aig_unroll.specs.Unrolled.{outputs_at};
+    ghost use Rattle.aig_unroll.specs.Parts.Writing.{literal_line};
+
+    type Item = Lit;
+
+    ghost size = { λ c. length c.outputs };
+
+    ghost at = { outputs_at };
+
+    ghost text = { literal_line };
+
+    fn put<W: Sink>(output: &mut Output<W>, copies: &Frames, room: &mut [Lit]) {
+        copies.put_outputs(room);
+        put_lines(output, room);
+    }
+}
+
+impl FrameSection for BadLines {
+    ghost use Rattle.std.specs.Prelude.{length};
+    ghost use Rattle.aig_unroll.specs.Unrolled.{bad_at};
+    ghost use Rattle.aig_unroll.specs.Parts.Writing.{literal_line};
+
+    type Item = Lit;
+
+    ghost size = { λ c. length c.bad };
+
+    ghost at = { bad_at };
+
+    ghost text = { literal_line };
+
+    fn put<W: Sink>(output: &mut Output<W>, copies: &Frames, room: &mut [Lit]) {
+        copies.put_bad(room);
+        put_lines(output, room);
+    }
+}
+
+impl FrameSection for GateLines {
+    ghost use Rattle.aig_unroll.specs.Unrolled.{frame_size, gates_at};
+    ghost use Rattle.aig_unroll.specs.Parts.Writing.{gate_line};
+
+    type Item = Gate;
+
+    ghost size = { frame_size };
+
+    ghost at = { gates_at };
+
+    ghost text = { gate_line };
+
+    fn put<W: Sink>(output: &mut Output<W>, copies: &Frames, room: &mut [Gate]) {
+        copies.put_gates(room);
+        put_lines(output, room);
+    }
+}
+
+impl FrameSection for GateDeltas {
+    ghost use Rattle.aig_binary.specs.BinaryText.{gate_text};
+    ghost use Rattle.aig_unroll.specs.Unrolled.{frame_size, gates_at};
+
+    type Item = Gate;
+
+    ghost size = { frame_size };
+
+    ghost at = { gates_at };
+
+    ghost text = { gate_text };
+
+    fn put<W: Sink>(output: &mut Output<W>, copies: &Frames, room: &mut [Gate]) {
+        copies.put_gates(room);
+        put_gates(output, room);
+    }
+}
+
+/// Puts the text of a section in a frame, unless the sink failed: nobody takes it then.
+fn put_frame<S: FrameSection, W: Sink>(
     output: &mut Output<W>,
     copies: &mut Frames,
-    room: &mut [Lit],
+    room: &mut [S::Item],
     frame: u32,
 )
     requires within { frame < copies.old.frames }
     requires behind { output.old.failed ≡ false → 0 < frame → frame ≡ copies.old.frame + 1 }
-    requires room { length room.old ≡ length copies.old.circuit.outputs }
+    requires room { length room.old ≡ S.size copies.old.circuit }
     ensures kept { copies.new ≡ record copies.old { frame = copies.new.frame } }
     ensures here { output.new.failed ≡ false → copies.new.frame ≡ frame }
     ensures put { Put output.old output.new
-        (literal_lines (outputs_at copies.old.circuit copies.old.frames frame)) }
+        (flat_map S.text (S.at copies.old.circuit copies.old.frames frame)) }
 {
     if output.has_failed() {
         return;
     }
     copies.enter(frame);
-    copies.put_outputs(room);
-    put_lines(output, room);
+    S::put(output, copies, room);
 }
 
-/// Puts the lines of the outputs of all frames. The room is for those of one frame.
-pub(crate) fn put_output_lines<W: Sink>(
+/// Puts the text of a section in all frames. The room is for what one frame has of it.
+pub(crate) fn put_section<S: FrameSection, W: Sink>(
     output: &mut Output<W>,
     copies: &mut Frames,
-    room: &mut [Lit],
+    room: &mut [S::Item],
 )
-    requires { length room.old ≡ length copies.old.circuit.outputs }
+    requires { length room.old ≡ S.size copies.old.circuit }
     ensures kept { copies.new ≡ record copies.old { frame = copies.new.frame } }
-    ensures put { Put output.old output.new
-        (literal_lines (unrolled copies.old.circuit copies.old.frames).outputs) }
+    ensures put { Put output.old output.new (flat_map S.text
+        (flat_map (S.at copies.old.circuit copies.old.frames) (range_with_len 0 copies.old.frames))) }
 {
     for frame in 0..copies.frames() {
-        put_frame_outputs(output, copies, room, frame);
-    }
-}
-
-/// Puts the lines of a frame's bad states, unless the sink failed.
-fn put_frame_bad<W: Sink>(output: &mut Output<W>, copies: &mut Frames, room: &mut [Lit], frame: u32)
-    requires within { frame < copies.old.frames }
-    requires behind { output.old.failed ≡ false → 0 < frame → frame ≡ copies.old.frame + 1 }
-    requires room { length room.old ≡ length copies.old.circuit.bad }
-    ensures kept { copies.new ≡ record copies.old { frame = copies.new.frame } }
-    ensures here { output.new.failed ≡ false → copies.new.frame ≡ frame }
-    ensures put { Put output.old output.new
-        (literal_lines (bad_at copies.old.circuit copies.old.frames frame)) }
-{
-    if output.has_failed() {
-        return;
-    }
-    copies.enter(frame);
-    copies.put_bad(room);
-    put_lines(output, room);
-}
-
-/// Puts the lines of the bad states of all frames. The room is for those of one frame.
-pub(crate) fn put_bad_lines<W: Sink>(output: &mut Output<W>, copies: &mut Frames, room: &mut [Lit])
-    requires { length room.old ≡ length copies.old.circuit.bad }
-    ensures kept { copies.new ≡ record copies.old { frame = copies.new.frame } }
-    ensures put { Put output.old output.new
-        (literal_lines (unrolled copies.old.circuit copies.old.frames).bad) }
-{
-    for frame in 0..copies.frames() {
-        put_frame_bad(output, copies, room, frame);
-    }
-}
-
-/// Puts the lines of a frame's gates, unless the sink failed.
-fn put_frame_lines<W: Sink>(
-    output: &mut Output<W>,
-    copies: &mut Frames,
-    room: &mut [Gate],
-    frame: u32,
-)
-    requires within { frame < copies.old.frames }
-    requires behind { output.old.failed ≡ false → 0 < frame → frame ≡ copies.old.frame + 1 }
-    requires room { length room.old ≡ frame_size copies.old.circuit }
-    ensures kept { copies.new ≡ record copies.old { frame = copies.new.frame } }
-    ensures here { output.new.failed ≡ false → copies.new.frame ≡ frame }
-    ensures put { Put output.old output.new (gate_lines (gates_at copies.old.circuit copies.old.frames frame)) }
-{
-    if output.has_failed() {
-        return;
-    }
-    copies.enter(frame);
-    copies.put_gates(room);
-    put_lines(output, room);
-}
-
-/// Puts the lines of the gates of all frames. The room is for those of one frame.
-pub(crate) fn put_gate_lines<W: Sink>(
-    output: &mut Output<W>,
-    copies: &mut Frames,
-    room: &mut [Gate],
-)
-    requires { length room.old ≡ frame_size copies.old.circuit }
-    ensures { Put output.old output.new (gate_lines (unrolled copies.old.circuit copies.old.frames).gates) }
-{
-    for frame in 0..copies.frames() {
-        put_frame_lines(output, copies, room, frame);
-    }
-}
-
-/// Puts a frame's gates by their deltas, unless the sink failed.
-fn put_frame_deltas<W: Sink>(
-    output: &mut Output<W>,
-    copies: &mut Frames,
-    room: &mut [Gate],
-    frame: u32,
-)
-    requires within { frame < copies.old.frames }
-    requires behind { output.old.failed ≡ false → 0 < frame → frame ≡ copies.old.frame + 1 }
-    requires room { length room.old ≡ frame_size copies.old.circuit }
-    ensures kept { copies.new ≡ record copies.old { frame = copies.new.frame } }
-    ensures here { output.new.failed ≡ false → copies.new.frame ≡ frame }
-    ensures put { Put output.old output.new
-        (flat_map gate_text (gates_at copies.old.circuit copies.old.frames frame)) }
-{
-    if output.has_failed() {
-        return;
-    }
-    copies.enter(frame);
-    copies.put_gates(room);
-    put_gates(output, room);
-}
-
-/// Puts the gates of all frames by their deltas. The room is for those of one frame.
-pub(crate) fn put_gate_deltas<W: Sink>(
-    output: &mut Output<W>,
-    copies: &mut Frames,
-    room: &mut [Gate],
-)
-    requires { length room.old ≡ frame_size copies.old.circuit }
-    ensures { Put output.old output.new
-        (flat_map gate_text (unrolled copies.old.circuit copies.old.frames).gates) }
-{
-    for frame in 0..copies.frames() {
-        put_frame_deltas(output, copies, room, frame);
+        put_frame::<S, W>(output, copies, room, frame);
     }
 }

@@ -14,12 +14,19 @@ pub record IsReady (f : Frame) (outputs bad : List ℕ) (gates : List Gate) : Ty
   pub bad_fit : length bad ≡ length f.circuit.bad
   pub gates_fit : length gates ≡ frame_size f.circuit
 
+-- the line of a literal that is listed by itself, and of a gate
+abbrev pub literal_line : ℕ → List ℕ
+literal_line literal = numbers_text (literal_row literal)
+
+abbrev pub gate_line : Gate → List ℕ
+gate_line gate = numbers_text (gate_row gate)
+
 -- the lines of inputs, of literals that are listed by themselves, and of gates
 abbrev pub input_lines : List ℕ → List ℕ
 input_lines = flat_map (λ variable. numbers_text (input_row variable))
 
 abbrev pub literal_lines : List ℕ → List ℕ
-literal_lines = flat_map (λ literal. numbers_text (literal_row literal))
+literal_lines = flat_map literal_line
 
 abbrev pub gate_lines : List Gate → List ℕ
-gate_lines = flat_map (λ gate. numbers_text (gate_row gate))
+gate_lines = flat_map gate_line

@@ -13,17 +13,17 @@ pub returns : goal.returns
 returns g c =
     let f : Frame = c.self.inside.copies in
     let of : Frame → Circuit = λ k. unrolled k.circuit k.frames in
-    let behind : Frame = c.put_output_lines.new.copies in
-    let once : of behind ≡ of f = same_circuit f behind c.put_output_lines.ensures.kept in
-    let twice = same_circuit behind c.put_bad_lines.new.copies c.put_bad_lines.ensures.kept ∙ once in
+    let behind : Frame = c.put_section.new.copies in
+    let once : of behind ≡ of f = same_circuit f behind c.put_section.ensures.kept in
+    let twice = same_circuit behind c.put_section-2.new.copies c.put_section-2.ensures.kept ∙ once in
     let bad =
-    subst (λ (d : Circuit). Put c.put_output_lines.new.output c.put_bad_lines.new.output (literal_lines d.bad)) once
-    c.put_bad_lines.ensures.put in
+    subst (λ (d : Circuit). Put c.put_section.new.output c.put_section-2.new.output (literal_lines d.bad)) once
+    c.put_section-2.ensures.put in
     let gates =
-    subst (λ (d : Circuit). Put c.put_bad_lines.new.output c.put_gate_lines.new.output (gate_lines d.gates)) twice
-    c.put_gate_lines.ensures in
-    subst (λ (text : List ℕ). Put c.args.output.now c.put_gate_lines.new.output text)
+    subst (λ (d : Circuit). Put c.put_section-2.new.output c.put_section-3.new.output (gate_lines d.gates)) twice
+    c.put_section-3.ensures.put in
+    subst (λ (text : List ℕ). Put c.args.output.now c.put_section-3.new.output text)
     (ascii_parts f.circuit f.frames ∙ ap ascii_text c.self.view_is)
     (put_twice _ _ _ _ _ (rw c.header_numbers.ensures at c.put_header.ensures)
     (put_twice _ _ _ _ _ (rw c.count_inputs.ensures at c.put_inputs.ensures)
-    (put_twice _ _ _ _ _ c.put_output_lines.ensures.put (put_twice _ _ _ _ _ bad gates))))
+    (put_twice _ _ _ _ _ c.put_section.ensures.put (put_twice _ _ _ _ _ bad gates))))
