@@ -3,4 +3,3 @@ pub mod Tables
 pub mod Machines
 pub mod Simulators
 pub mod Lines
-pub mod Seen
