@@ -1,86 +1,77 @@
 -- A stimulus without a bad line, whose bytes are all taken at once.
-use Rattle.std.proofs.Common.{◌≡◌, ◌+◌, ◌++◌, ℕ, List, [], Bool, true, false, None, Option}
-use Rattle.std.proofs.Common.{length, refl, sym, subst, ◌∙◌, append_assoc, arith}
+use Rattle.std.proofs.Common.{◌≡◌, ◌++◌, ◌∙◌, ℕ, List, [], None, Option, ap, codes, if◌then◌else◌, length}
+use Rattle.std.proofs.Common.{append_assoc, false, refl, subst, sym, true}
 use Rattle.aig_circuit.specs.declared.circuit.Circuit.{Circuit}
 use Rattle.aig_io.specs.Output.{Out, Put}
 use Rattle.aig_io.proofs.Puts.{put_twice}
+use Rattle.aig_meaning.specs.Meaning.{MeansTheSame}
+use Rattle.aig_meaning.proofs.Traces.{reset_state_is_first}
 use Rattle.aig_step.specs.declared.trace.Columns.{Columns}
 use Rattle.aig_step.specs.declared.fault.SimFault.{SimFault}
 use Rattle.aig_step.specs.declared.fault.SimFault.TheVariants.{OutOfMemory, BadStimulus, BadWitness, ReadFailed}
 use Rattle.aig_step.specs.declared.fault.SimFault.TheVariants.{WriteFailed}
-use Rattle.aig_batch.specs.Batched.{AllGood, NotBatched}
 use Rattle.aig_step.specs.Outcome.{Simulated, first_bad_line}
-use Rattle.aig_step.specs.Parts.Seen.{IsHeard}
-use Rattle.aig_trace.specs.Parts.Streaming.{NotTraced, SentAll}
-use Rattle.aig_trace.specs.Parts.Tracing.{Advanced, Finished, FoundBad, IsAt, IsFresh, Reading}
-use Rattle.aig_trace.specs.Parts.Progress.{Goes, Point, begin_of}
-use Rattle.aig_batch.specs.Parts.RunsRead.{IsFront}
+use Rattle.aig_step.specs.Stimulus.{Entry, stimulus}
 use Rattle.aig_step.specs.TraceText.{IsTraceText}
-use Rattle.aig_trace.proofs.Heard.{heard_nothing}
-use Rattle.aig_lines.proofs.LineBytes.{take_none}
+use Rattle.aig_lanes.specs.declared.run.Run.{Run}
+use Rattle.aig_trace.specs.Parts.Progress.{begin_of}
+use Rattle.aig_trace.specs.Parts.Tracing.{PutText, Tracing}
+use Rattle.aig_batch.specs.Batched.{AllGood, NotBatched}
+use Rattle.aig_batch.specs.Parts.RunsRead.{PutRuns, Says, entries_of_groups}
+use Rattle.aig_batch.specs.Parts.Sent.{NotTraced, SentAll}
+use Rattle.aig_batch.proofs.Side.Fronts.{front_goes, goes_too}
+use Rattle.aig_trace.proofs.Ending.{sent}
+use Rattle.aig_trace.proofs.Traced.{put_sent}
+use Rattle.aig_trace.proofs.Going.{goes_over}
+use Rattle.std.specs.Io.KnownBytes.{Appends}
+use Rattle.aig_trace.proofs.RunTexts.{closing, goes_is_text}
 
-module _ {W : Type 0} (c : Circuit) (columns : Columns) (bytes : List ℕ) (none : first_bad_line c bytes true ≡ None)
-  where
-    -- no bad line is found
-    not_bad : {P : Type 0} (text : List ℕ) (number : ℕ) (a b : Out W)
-        → FoundBad c columns bytes true text number a b → P
-    not_bad text number a b found = let bad = found.bad in cc
+-- the whole text was put
+pub record PutAll {W : Type 0} (c : Circuit) (columns : Columns) (bytes : List ℕ) (a b : Out W) : Type 0 where
+  pub text : List ℕ
+  pub is_text : IsTraceText c columns bytes true text
+  pub put : Put a b text
 
-    pub advanced : (good : Bool) (text : List ℕ) (at : Reading) (number : ℕ) (a b : Out W)
-        → (good ≡ true → Advanced c columns bytes text at a b)
-        → (good ≡ false → FoundBad c columns bytes true text number a b) → Advanced c columns bytes text at a b
-    advanced true text at number a b fine bad = fine refl
-    advanced false text at number a b fine bad = not_bad text number a b (bad refl)
-
-    pub finished : (good : Bool) (text : List ℕ) (number : ℕ) (a b : Out W)
-        → (good ≡ true → Finished c columns bytes text a b)
-        → (good ≡ false → FoundBad c columns bytes true text number a b) → Finished c columns bytes text a b
-    finished true text number a b fine bad = fine refl
-    finished false text number a b fine bad = not_bad text number a b (bad refl)
-
-    -- the text of the front, all bytes behind it, and their end
-    pub finished_behind : (text : List ℕ) (at : Reading) (a f b o : Out W) → Put a f text
-        → Advanced c columns bytes text at f b
-        → ((t : List ℕ) → IsAt c columns bytes t at → Finished c columns bytes t b o)
-        → Finished c columns bytes [] a o
-    finished_behind text at a f b o front p last =
-        let q = last (text ++ p.more) p.stands in
-        record {
-          more = text ++ (p.more ++ q.more);
-          none_bad = none;
-          is_text = subst (IsTraceText c columns bytes true) (append_assoc text p.more q.more) q.is_text;
-          put = put_twice a f o text (p.more ++ q.more) front (put_twice f b o p.more q.more p.put q.put);
-        }
-
--- a reader that stands behind the front
-pub behind_front : (c : Circuit) (columns : Columns) (bytes text : List ℕ) (lines : ℕ) (rest : List ℕ)
-    (before after : Reading) (fresh : IsFresh c columns before) (front : IsFront c columns bytes text lines rest)
-    → after ≡ record before { number = before.number + lines }
-    → IsAt c columns front.says.passed text after
-behind_front c columns bytes text lines rest before after fresh front is =
-    let inputs = length c.inputs in
-    let sum : 0 + lines ≡ lines = omega arith in
-    let heard_so_far = subst (λ (n : ℕ). IsHeard inputs front.says.passed n [] front.entries) sum
-    (front.says.heard [] 0 [] (heard_nothing inputs)) in
-    rw is record {
-      means = fresh.means;
-      same_columns = fresh.same_columns;
-      lines = lines;
-      rest = [];
-      entries = front.entries;
-      heard = heard_so_far;
-      number = omega (arith, fresh.number);
-      kept = fresh.kept ∙ sym (take_none (inputs + 3));
-      goes = subst (λ (p : Point). Goes c columns (begin_of c) front.entries p text) (sym fresh.begun) front.goes;
+-- the text of the front was put, and then that of all lines behind it
+pub put_behind : {W : Type 0} (c d : Circuit) (t : Tracing) (bytes rest : List ℕ) (groups : List (List Run))
+    (a mid b : Out W) → MeansTheSame c t.circuit → MeansTheSame c d
+    → Says (length c.inputs) bytes (entries_of_groups groups) rest → first_bad_line c bytes true ≡ None
+    → PutRuns d t.columns groups a mid → PutText t rest mid b → PutAll c t.columns bytes a b
+put_behind c d t bytes rest groups a mid b means runs says none front back =
+    let entries = (stimulus (length t.circuit.inputs) rest true).entries in
+    let end : List ℕ = if back.point.has_step then codes ".\n" else [] in
+    let same : entries ≡ (stimulus (length c.inputs) rest true).entries =
+    ap (λ (n : ℕ). (stimulus n rest true).entries) means.inputs in
+    let goes = goes_over c t.columns (begin_of c) (begin_of c) back.point (entries_of_groups groups) entries front.text
+    back.text
+    (front_goes c d t.columns (entries_of_groups groups) front.text runs front.goes)
+    (goes_too c t.circuit t.columns back.point entries back.text means back.goes) in
+    record {
+      text = (front.text ++ back.text) ++ end;
+      is_text = subst
+          (λ (o : Option ℕ). IsTraceText c t.columns bytes true
+          ((front.text ++ back.text) ++ closing true o back.point.has_step))
+          none
+          (goes_is_text c t.columns back.point (entries_of_groups groups ++ entries) (front.text ++ back.text)
+          (reset_state_is_first c) goes bytes true
+          (says.parted ∙ ap (λ (es : List Entry). entries_of_groups groups ++ es) (sym same)));
+      put = subst (Put a b) (sym (append_assoc front.text back.text end))
+          (put_twice a mid b front.text (back.text ++ end) front.put back.put);
     }
+
+-- an output was finished that took all of a text
+pub all_sent : {W : Type 0} (o a b e : Out W) (text : List ℕ) → a ≡ o → o.held ≡ [] → Put a b text → Put b e []
+    → e.held ≡ [] → e.failed ≡ false → Appends o.taken e.taken text
+all_sent {W} o a b e text same unheld put last empty well =
+    sent o e text (subst (λ (x : Out W). Put x e text) same (put_sent a b e text put last)) unheld empty well
 
 -- what comes of an answer, where the whole stimulus came and is good
 module _ (c : Circuit) (columns : Columns) (coming left taken filled : Option (List ℕ)) (bytes : List ℕ)
     (good : AllGood c coming left bytes) where
-  pub batched : SentAll c columns bytes [] taken filled → Simulated c columns coming left taken filled
+  pub batched : SentAll c columns bytes taken filled → Simulated c columns coming left taken filled
   batched sent = record {
     bytes = bytes;
-    text = sent.more;
+    text = sent.text;
     gave = good.gave;
     none_bad = good.none_bad;
     is_text = sent.is_text;
@@ -95,7 +86,7 @@ module _ (c : Circuit) (columns : Columns) (coming left taken filled : Option (L
   not_batched ReadFailed said = absurd said
   not_batched WriteFailed said = record {
     bytes = bytes;
-    text = said.more;
+    text = said.text;
     good = good;
     is_text = said.is_text;
     took = said.took;

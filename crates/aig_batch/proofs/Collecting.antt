@@ -6,25 +6,25 @@ use Rattle.aig_circuit.specs.declared.circuit.Circuit.{Circuit}
 use Rattle.aig_io.proofs.KnownBytes.{consumes_twice}
 use Rattle.aig_io.specs.Transfer.{GaveSome}
 use Rattle.aig_lines.specs.Fed.{Feeder, IsFed}
-use Rattle.aig_lines.specs.Feeding.{Feeding, ended_if, fed, feeding}
+use Rattle.aig_lines.specs.Feeding.{Feeding, ended_if, fed}
 use Rattle.aig_lines.proofs.Sources.{consumes_end, consumes_kept}
-use Rattle.aig_lines.proofs.Tells.{fed_twice, has_told}
+use Rattle.aig_lines.proofs.Tells.{fed_twice}
 use Rattle.aig_step.specs.Outcome.{first_bad_line}
-use Rattle.aig_trace.specs.Parts.Saying.{Saying, longest_entry, nothing_said, say_line}
-use Rattle.aig_trace.proofs.Saying.{bad_told}
+use Rattle.aig_trace.specs.Parts.Saying.{Saying, before_lines, say_line}
+use Rattle.aig_trace.proofs.Saying.{has_said}
 use Rattle.aig_batch.specs.Batched.{AllGood, CameToBadLine, CameToNoBadLine}
 
-module _ {T : Type 0} (IsAt : T → Saying → Type 0) (c : Circuit) where
+module _ {T : Type 0} (IsAt : T → Saying (Unit {0}) → Type 0) (c : Circuit) where
   -- where the feeder stands before the first byte
-  abbrev pub start : Feeding Saying
-  start = feeding (longest_entry (length c.inputs)) (nothing_said (length c.inputs))
+  abbrev pub start : Feeding (Saying (Unit {0}))
+  start = before_lines tt (length c.inputs)
 
   -- these bytes were fed, which are over or not
   abbrev pub HasFed : Feeder → T → List ℕ → Bool → Type 0
   HasFed f t bytes over = IsFed IsAt f t (ended_if say_line over (fed say_line start bytes))
 
   pub fed_more : (f g : Feeder) (t u : T) (bytes chunk all : List ℕ) → all ≡ bytes ++ chunk
-      → ((at : Feeding Saying) → IsFed IsAt f t at → IsFed IsAt g u (fed say_line at chunk))
+      → ((at : Feeding (Saying (Unit {0}))) → IsFed IsAt f t at → IsFed IsAt g u (fed say_line at chunk))
       → HasFed f t bytes false → HasFed g u all false
   fed_more f g t u bytes chunk all is more stands =
       subst (IsFed IsAt g u) (sym (ap (fed say_line start) is ∙ fed_twice say_line start bytes chunk))
@@ -32,10 +32,7 @@ module _ {T : Type 0} (IsAt : T → Saying → Type 0) (c : Circuit) where
 
   module _ (f : Feeder) (t : T) (bytes : List ℕ) (over : Bool) (stands : HasFed f t bytes over) where
     bad_is : first_bad_line c bytes over ≡ (if f.refused then Some f.number else None)
-    bad_is =
-        let inputs = length c.inputs in
-        bad_told IsAt inputs bytes over f t
-        (has_told say_line IsAt f t over (longest_entry inputs) (nothing_said inputs) bytes stands)
+    bad_is = (has_said IsAt tt (length c.inputs) bytes over f t stands).bad
 
     none_bad : f.refused ≡ false → first_bad_line c bytes over ≡ None
     none_bad going = bad_is ∙ ap (λ (b : Bool). if b then Some f.number else None) going

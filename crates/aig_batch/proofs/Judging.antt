@@ -30,10 +30,10 @@ values_more (a ∷ text) b =
     ∙ ap (λ (s : Bool). s && is_some (value_of b)) (sym (first_some (value_of a) (values_of text)))
 
 -- a line is good that says an entry, and none changes the number of inputs
-pub entry_judged : (s : Saying) (o : Option Entry) → is_some o ≡ (entry_turn s o).goes_on
+pub entry_judged : {K : Type 0} (s : Saying K) (o : Option Entry) → is_some o ≡ (entry_turn s o).goes_on
 entry_judged s None = refl
 entry_judged s (Some e) = refl
 
-pub same_inputs : (s : Saying) (o : Option Entry) → s.inputs ≡ (entry_turn s o).state.inputs
+pub same_inputs : {K : Type 0} (s : Saying K) (o : Option Entry) → s.inputs ≡ (entry_turn s o).state.inputs
 same_inputs s None = refl
 same_inputs s (Some e) = refl

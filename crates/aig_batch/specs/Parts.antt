@@ -1,2 +1,3 @@
 pub mod RunsRead
+pub mod Sent
 pub mod Benches

@@ -10,7 +10,7 @@ ghost use Rattle.aig_batch.specs.Batched.{NotBatched};
 ghost use Rattle.aig_step.specs.Outcome.{Simulated, first_bad_line, sink_failures, source_failures};
 ghost use Rattle.aig_batch.specs.Parts.Benches.{Fits, HasRoomFor, IsBench};
 ghost use Rattle.aig_batch.specs.Parts.RunsRead.{PutRuns, Says, entries_of_groups};
-ghost use Rattle.aig_trace.specs.Parts.Streaming.{NotTraced, SentAll, SentInPart};
+ghost use Rattle.aig_batch.specs.Parts.Sent.{NotTraced, SentAll, SentInPart};
 ghost use Rattle.aig_trace.specs.Parts.Tracing.{IsFresh};
 ghost use Rattle.aig_lanes.specs.Runs.{IsRunOf};
 ghost use Rattle.aig_meaning.specs.Meaning.{MeansTheSame};
@@ -46,32 +46,29 @@ fn put_groups<W: Sink>(
 
 /// Sends the text for the front of a stimulus that has no bad line, and the text for what comes behind it.
 fn trace_good<W: Sink>(
-    reader: &mut Reader,
+    reader: Reader,
     sink: &mut W,
     machine: &Machine,
     groups: &[RunGroup],
     bench: &mut Bench,
-    lines: usize,
     rest: &[u8],
 ) -> Result<(), SimFault>
-    requires number { reader.old.number ≡ 1 }
-    requires lines { lines + length rest.now < 2 ^ 64 - 1 }
+    requires fresh { IsFresh reader }
+    requires same { reader.tracing.columns ≡ bench.old.shown.columns }
     requires sink { W.failed sink.old < 2 ^ 64 - 1 }
     requires lanes { All (λ (runs : List RunRecord). length runs ≤ 256) groups.now }
     requires fits { All (λ (runs : List RunRecord). All (IsRunOf machine.now) runs) groups.now }
     requires is { IsBench machine.now bench.old }
     requires counts { All (All (Fits machine.now)) groups.now }
     requires room { All (HasRoomFor bench.old) groups.now }
-    ensures ok { OnOk result ((c : CircuitRecord) (bytes : List ℕ) → IsFresh c bench.old.shown.columns reader.old
-        → MeansTheSame c machine.now
-        → Says (length c.inputs) bytes lines (entries_of_groups groups.now) rest.now
-        → first_bad_line c bytes true ≡ None → SentAll c bench.old.shown.columns bytes [] (W.taken sink.old)
-        (W.taken sink.new)) }
-    ensures err { IfErr result (λ e. (c : CircuitRecord) (bytes : List ℕ) → IsFresh c bench.old.shown.columns reader.old
-        → MeansTheSame c machine.now
-        → Says (length c.inputs) bytes lines (entries_of_groups groups.now) rest.now
+    ensures ok { OnOk result ((c : CircuitRecord) (bytes : List ℕ) → MeansTheSame c reader.tracing.circuit
+        → MeansTheSame c machine.now → Says (length c.inputs) bytes (entries_of_groups groups.now) rest.now
         → first_bad_line c bytes true ≡ None
-        → SentInPart c bench.old.shown.columns bytes true [] (W.taken sink.old) (W.taken sink.new)) }
+        → SentAll c reader.tracing.columns bytes (W.taken sink.old) (W.taken sink.new)) }
+    ensures err { IfErr result (λ e. (c : CircuitRecord) (bytes : List ℕ) → MeansTheSame c reader.tracing.circuit
+        → MeansTheSame c machine.now → Says (length c.inputs) bytes (entries_of_groups groups.now) rest.now
+        → first_bad_line c bytes true ≡ None
+        → SentInPart c reader.tracing.columns bytes (W.taken sink.old) (W.taken sink.new)) }
     ensures kind { IfErr result (λ e. e ≡ WriteFailed) }
     ensures ok_count { OnOk result (W.failed sink.new ≡ W.failed sink.old) }
     ensures count { IfErr result (λ _. W.failed sink.new ≡ W.failed sink.old + 1) }
@@ -79,10 +76,8 @@ fn trace_good<W: Sink>(
 {
     let mut output = Gathered::new(sink);
     put_groups(&mut output, machine, groups, bench);
-    reader.pass(lines as u64);
-    let _all = reader.take_chunk(&mut output, rest);
-    let _last = reader.take_end(&mut output);
-    let (sent, _sink) = output.finish();
+    // No line is bad, so the text is that for all of the rest.
+    let (sent, _sink) = reader.put_text(output, rest).finish();
     if sent.is_err() {
         return Err(SimFault::WriteFailed);
     }
@@ -94,15 +89,16 @@ fn trace_collected<W: Sink>(
     alloc: Global,
     checked: &Checked,
     columns: Columns,
-    reader: &mut Reader,
+    reader: Reader,
     sink: &mut W,
     bytes: &[u8],
 ) -> Result<(), SimFault>
-    requires number { reader.old.number ≡ 1 }
-    requires fresh { IsFresh checked.now columns reader.old }
+    requires fresh { IsFresh reader }
+    requires same { MeansTheSame checked.now reader.tracing.circuit }
+    requires columns { reader.tracing.columns ≡ columns }
     requires none_bad { first_bad_line checked.now bytes.now true ≡ None }
     requires sink { W.failed sink.old < 2 ^ 64 - 1 }
-    ensures ok { OnOk result (SentAll checked.now columns bytes.now [] (W.taken sink.old) (W.taken sink.new)) }
+    ensures ok { OnOk result (SentAll checked.now columns bytes.now (W.taken sink.old) (W.taken sink.new)) }
     ensures err { IfErr result (λ e. NotTraced checked.now columns bytes.now e (W.taken sink.old) (W.taken sink.new)) }
     ensures unsent { IfErr result (λ e. e ≢ WriteFailed → sink.new ≡ sink.old) }
     ensures ok_count { OnOk result (W.failed sink.new ≡ W.failed sink.old) }
@@ -111,12 +107,16 @@ fn trace_collected<W: Sink>(
     ensures short { W.longest sink.new ≤ max (W.longest sink.old) ROOM }
 {
     let inputs = checked.circuit().inputs.len();
-    let (groups, lines, rest) = read_front(alloc, inputs, bytes)?;
+    let Ok((groups, rest)) = read_front(alloc, inputs, bytes) else {
+        drop(reader);
+        return Err(SimFault::OutOfMemory);
+    };
     let Ok((machine, mut bench)) = set_up(alloc, checked, columns, &groups) else {
+        drop(reader);
         drop(groups);
         return Err(SimFault::OutOfMemory);
     };
-    let traced = trace_good(reader, sink, &machine, &groups, &mut bench, lines, rest);
+    let traced = trace_good(reader, sink, &machine, &groups, &mut bench, rest);
     drop(groups);
     drop(machine);
     drop(bench);
@@ -149,7 +149,7 @@ pub fn simulate_batched<R: Source, W: Sink>(
     ensures sink_count { IfErr result (λ error. W.failed sink.new ≡ W.failed sink.old + sink_failures error) }
     ensures short { W.longest sink.new ≤ max (W.longest sink.old) ROOM }
 {
-    let mut reader = Reader::new(alloc, checked, columns)?;
+    let reader = Reader::new(alloc, checked, columns)?;
     let bytes = match collect(alloc, checked, source) {
         Ok(bytes) => bytes,
         Err(fault) => {
@@ -157,8 +157,7 @@ pub fn simulate_batched<R: Source, W: Sink>(
             return Err(fault);
         }
     };
-    let traced = trace_collected(alloc, checked, columns, &mut reader, sink, &bytes);
-    drop(reader);
+    let traced = trace_collected(alloc, checked, columns, reader, sink, &bytes);
     drop(bytes);
     traced
 }

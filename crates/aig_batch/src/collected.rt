@@ -22,7 +22,7 @@ impl LineTaker for Judge {
     ghost use Rattle.std.specs.Prelude.{◌≡◌};
     ghost use Rattle.aig_trace.specs.Parts.Saying.{Saying, say_line};
 
-    ghost State = { Saying };
+    ghost State = { Saying (Unit {0}) };
 
     ghost step = { say_line };
 

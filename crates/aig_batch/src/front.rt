@@ -13,30 +13,28 @@ use std::alloc::Global;
 /// The fewest runs that are worth stepping side by side.
 const FEWEST: usize = 16;
 
-/// The runs at the front of a stimulus, as far as there are enough to step them side by side, group by group; how many
-/// lines they have, and what comes behind them.
+/// The runs at the front of a stimulus, as far as there are enough to step them side by side, group by group, and what
+/// comes behind them.
 pub(crate) fn read_front<'a>(
     alloc: Global,
     inputs: usize,
     bytes: &'a [u8],
-) -> Result<(Vec<RunGroup<'a>>, usize, &'a [u8]), OutOfMemory>
+) -> Result<(Vec<RunGroup<'a>>, &'a [u8]), OutOfMemory>
     requires { HasNoBadLine inputs bytes.now }
     ensures says { IfOk result (λ front.
-        Says inputs bytes.now front.1 (entries_of_groups front.0.items) front.2.now) }
+        Says inputs bytes.now (entries_of_groups front.0.items) front.1.now) }
     ensures few { IfOk result (λ front. All (λ (runs : List RunRecord). length runs ≤ 256) front.0.items) }
     ensures fits { IfOk result (λ front. All (λ (runs : List RunRecord). All (λ (run : RunRecord).
         All (λ (vector : List Value). length vector ≡ inputs) run.steps) runs) front.0.items) }
 {
     let mut groups = Vec::new(alloc);
-    let mut lines = 0;
     let mut rest = bytes;
     loop {
-        let (group, count, more) = read_group(alloc, inputs, rest)?;
+        let (group, more) = read_group(alloc, inputs, rest)?;
         if group.as_slice().len() < FEWEST {
-            return Ok((groups, lines, rest));
+            return Ok((groups, rest));
         }
         groups.push(group)?;
-        lines += count;
         rest = more;
     }
 }

@@ -1,5 +1,5 @@
 //! Runs that are read at the front of a stimulus.
-ghost use Rattle.std.specs.Prelude.{◌≡◌, ◌+◌, ◌≤◌, List, IfOk, IfSome, length};
+ghost use Rattle.std.specs.Prelude.{◌≡◌, ◌+◌, ◌<◌, ◌≤◌, List, IfOk, IfSome, length};
 ghost use Rattle.std.specs.List.{All, flat_map};
 ghost use Rattle.aig_circuit.specs.declared.value.Val.{Val as Value};
 ghost use Rattle.aig_lanes.specs.declared.run.Run.{Run as RunRecord};
@@ -41,8 +41,8 @@ fn first_end(inputs: usize, bytes: &[u8]) -> Option<usize>
 /// for the last, which ends it. No line is judged again.
 fn read_run<'a>(inputs: usize, bytes: &'a [u8]) -> Option<(Vectors<'a>, &'a [u8])>
     requires { HasNoBadLine inputs bytes.now }
-    ensures says { IfSome result (λ read. Says inputs bytes.now (length read.0.steps + 1)
-        (entries_of_run read.0) read.1.now) }
+    ensures says { IfSome result (λ read. Says inputs bytes.now (entries_of_run read.0) read.1.now) }
+    ensures shorter { IfSome result (λ read. length read.1.now < length bytes.now) }
     ensures fits { IfSome result (λ read. All (λ (vector : List Value). length vector ≡ inputs) read.0.steps) }
     ensures good { IfSome result (λ read. HasNoBadLine inputs read.1.now) }
 {
@@ -64,32 +64,28 @@ fn read_run<'a>(inputs: usize, bytes: &'a [u8]) -> Option<(Vectors<'a>, &'a [u8]
     None
 }
 
-/// The runs at the front of the bytes, as many as are stepped side by side or fewer, how many lines they have, and what
-/// comes behind them.
+/// The runs at the front of the bytes, as many as are stepped side by side or fewer, and what comes behind them.
 pub(crate) fn read_group<'a>(
     alloc: Global,
     inputs: usize,
     bytes: &'a [u8],
-) -> Result<(RunGroup<'a>, usize, &'a [u8]), OutOfMemory>
+) -> Result<(RunGroup<'a>, &'a [u8]), OutOfMemory>
     requires { HasNoBadLine inputs bytes.now }
-    ensures says { IfOk result (λ read.
-        Says inputs bytes.now read.1 (flat_map entries_of_run read.0) read.2.now) }
+    ensures says { IfOk result (λ read. Says inputs bytes.now (flat_map entries_of_run read.0) read.1.now) }
     ensures fits { IfOk result (λ read. All (λ (run : RunRecord).
         All (λ (vector : List Value). length vector ≡ inputs) run.steps) read.0) }
     ensures few { IfOk result (λ read. length read.0 ≤ 256) }
-    ensures some { IfOk result (λ read. length read.0 ≤ read.1) }
-    ensures good { IfOk result (λ read. HasNoBadLine inputs read.2.now) }
+    ensures shorter { IfOk result (λ read. length read.1.now + length read.0 ≤ length bytes.now) }
+    ensures good { IfOk result (λ read. HasNoBadLine inputs read.1.now) }
 {
     let mut runs = Vec::with_capacity(alloc, LANES)?;
-    let mut lines = 0;
     let mut rest = bytes;
     while runs.len() < LANES {
         let Some((run, more)) = read_run(inputs, rest) else {
             break;
         };
-        lines += run.len() + 1;
         runs.push(run)?;
         rest = more;
     }
-    Ok((RunGroup::new(runs), lines, rest))
+    Ok((RunGroup::new(runs), rest))
 }

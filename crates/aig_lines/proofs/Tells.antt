@@ -12,7 +12,7 @@ use Rattle.aig_lines.specs.Texts.{HasNoLineFeed, judged_lines, without_return}
 use Rattle.aig_lines.proofs.Feeds.{at_byte, at_line_feed, fed_refused}
 
 -- the lines of bytes that begin one
-lines_end : (begun rest : List ℕ) → HasNoLineFeed begun
+pub lines_end : (begun rest : List ℕ) → HasNoLineFeed begun
     → lines_of (begun ++ 10 ∷ rest) ≡ line begun true ∷ lines_of rest
 unfolding lines_of
 lines_end [] rest none = refl

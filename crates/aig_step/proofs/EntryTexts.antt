@@ -6,10 +6,7 @@ use Rattle.std.proofs.Common.{refl, ap, ◌∙◌, arith}
 use Rattle.std.proofs.lemmas.Bool.{ne_eqb, false_from_ne_true}
 use Rattle.std.proofs.lemmas.Slice.Eq.{bytes_eq-Decides}
 use Rattle.aig_circuit.specs.declared.value.Val.{Val}
-use Rattle.aig_rows.specs.Lines.{line}
-use Rattle.aig_lines.specs.Texts.{without_return}
-use Rattle.aig_lines.proofs.LineBytes.{one_shorter}
-use Rattle.aig_step.specs.Stimulus.{entry_in, entry_of, value_of, values_of}
+use Rattle.aig_step.specs.Stimulus.{entry_in, value_of, values_of}
 
 -- characters, one by one
 nothing_first : (o : Option Val) → option_and_then (λ v. option_map (λ vs. v ∷ vs) None) o ≡ None
@@ -64,9 +61,3 @@ wrong_length inputs text other wrong = rw (no_stop text other, ne_eqb (length te
 
 pub too_long_text : (inputs : ℕ) (text : List ℕ) → max inputs 1 < length text → entry_in inputs text ≡ None
 too_long_text inputs text long = search (rules, wrong_length)
-
--- a line of more than two bytes more than there are inputs is bad, its line feed not counted
-pub too_long : (inputs : ℕ) (text : List ℕ) (ended : Bool) → inputs + 2 < length text
-    → entry_of inputs (line text ended) ≡ None
-too_long inputs text true long = too_long_text inputs (without_return text) (omega (arith, one_shorter text))
-too_long inputs text false long = too_long_text inputs text (omega arith)

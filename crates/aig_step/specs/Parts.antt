@@ -4,4 +4,3 @@ pub mod Machines
 pub mod Stepping
 pub mod Simulators
 pub mod Lines
-pub mod Seen

@@ -1,13 +1,10 @@
 pub mod Going
-pub mod Heard
-pub mod LinesSay
 pub mod RunTexts
 pub mod Saying
 pub mod StepsTaken
-pub mod Taking
+pub mod Traced
+pub mod Ending
 pub mod Gathering
-pub mod Sending
-pub mod Streams
 pub mod KnownLines
 pub mod KnownTexts
 pub mod LongEnough

@@ -281,6 +281,27 @@ impl<'a, W: Sink> Gathered<'a, W> {
         self.lines.fill_line(line);
     }
 
+    /// Sends all. Ok means that the sink took all that was put.
+    pub(crate) fn flush(&mut self) -> Result<(), DeviceFault>
+        ensures put { Put self.old self.new [] }
+        ensures empty { self.new.held ≡ [] }
+        ensures reported { self.new.failed ≡ is_err result }
+    {
+        put_lines(&mut self.output, &mut self.lines);
+        self.output.flush()
+    }
+
+    /// Hands the sink back. What was put and is not sent is dropped.
+    pub(crate) fn into_sink(self) -> &'a mut W
+        ensures same { result.ghost_name ≡ self.entry.name }
+        ensures taken { W.taken result.now ≡ self.entry.taken }
+        ensures longest { W.longest result.now ≡ self.entry.longest }
+        ensures failed { W.failed result.now ≡ self.entry.failures }
+    {
+        let Gathered { output, lines: _ } = self;
+        output.into_sink()
+    }
+
     /// Sends all, and hands the sink back. Ok means that the sink took all that was put.
     pub fn finish(self) -> (Result<(), DeviceFault>, &'a mut W)
         ensures same { result.1.ghost_name ≡ self.entry.name }

@@ -5,7 +5,7 @@
 //!
 //! Modules:
 //! - `gathered`: lines that are gathered before an output.
-//! - `tracer`, `reader`: a line and what is written for it; bytes as they come.
+//! - `tracer`, `line_tracer`: a line and what is written for it; lines as they come. `reader`: what their bytes take.
 //! - `stream`: `simulate`.
 //! - `laws`: facts about the definitions alone, each the contract of a function with an empty body.
 //!
@@ -15,6 +15,7 @@
 
 mod gathered;
 pub mod laws;
+mod line_tracer;
 mod reader;
 mod stream;
 mod tracer;

@@ -1,18 +1,22 @@
 //! A circuit over a stimulus text.
-ghost use Rattle.std.specs.Prelude.{◌≡◌, ◌≢◌, ◌+◌, ◌-◌, ◌^◌, ◌<◌, ◌≤◌, ◌++◌, [], ℕ, List, Err, IfErr, OnOk};
-ghost use Rattle.std.specs.Prelude.{false, length, max, true};
-ghost use Rattle.aig_circuit.specs.declared.circuit.Circuit.{Circuit as CircuitRecord};
+ghost use Rattle.std.specs.Prelude.{◌≡◌, ◌≢◌, ◌+◌, ◌-◌, ◌^◌, ◌<◌, ◌≤◌, [], ℕ, List, Err, IfErr, OnOk};
+ghost use Rattle.std.specs.Prelude.{false, length, max, not, true};
 ghost use Rattle.aig_io.specs.declared.block.TheConstants.{ROOM};
+ghost use Rattle.aig_lines.specs.Fed.{IsFed, IsUnfed};
+ghost use Rattle.aig_lines.specs.Feeding.{Feeding, fed};
 ghost use Rattle.aig_step.specs.declared.fault.SimFault.TheVariants.{OutOfMemory};
-ghost use Rattle.aig_step.specs.declared.trace.Columns.{Columns as ColumnsAsked};
 ghost use Rattle.aig_step.specs.Outcome.{NotSimulated, Simulated, sink_failures, source_failures};
-ghost use Rattle.aig_trace.specs.Parts.Streaming.{IsOfLines, NotSent, SentAll, SentLines, ended_so};
-ghost use Rattle.aig_trace.specs.Parts.Tracing.{IsAt};
+ghost use Rattle.aig_trace.specs.Parts.Progress.{begin_of};
+ghost use Rattle.aig_trace.specs.Parts.Saying.{Saying, before_lines, longest_entry, say_line};
+ghost use Rattle.aig_trace.specs.Parts.Streaming.{Ends, IsOfLines, IsTraced, ended_so};
+ghost use Rattle.aig_trace.specs.Parts.Tracing.{HasTraced, Task, point_of};
 
 use crate::gathered::Gathered;
+use crate::line_tracer::LineTracer;
 use crate::reader::Reader;
 use aig_checked::Checked;
 use aig_io::{ROOM, Sink, Source};
+use aig_lines::LineFeeder;
 use aig_step::{Columns, SimFault};
 use std::alloc::Global;
 
@@ -31,66 +35,59 @@ fn ended(failed: bool, good: bool, number: u64) -> Result<(), SimFault>
 }
 
 /// Takes the bytes that came next, and sends the text for the lines that ended among them.
-fn trace_chunk<W: Sink>(reader: &mut Reader, sink: &mut W, chunk: &[u8]) -> Result<(), SimFault>
-    requires sink { W.failed sink.old < 2 ^ 64 - 1 }
-    requires number { reader.old.number + length chunk.now < 2 ^ 64 }
-    ensures ok { OnOk result ((c : CircuitRecord) (columns : ColumnsAsked) (bytes text : List ℕ)
-        → IsAt c columns bytes text reader.old
-        → SentLines c columns (bytes ++ chunk.now) text reader.new (W.taken sink.old) (W.taken sink.new)) }
-    ensures err { IfErr result (λ e. (c : CircuitRecord) (columns : ColumnsAsked) (bytes text : List ℕ)
-        → IsAt c columns bytes text reader.old
-        → NotSent c columns (bytes ++ chunk.now) false text e (W.taken sink.old) (W.taken sink.new)) }
-    ensures number { reader.new.number ≤ reader.old.number + length chunk.now }
+fn trace_chunk<W: Sink>(
+    feeder: &mut LineFeeder,
+    lines: &mut LineTracer<W>,
+    chunk: &[u8],
+) -> Result<(), SimFault>
+    requires { feeder.old.number + length chunk.now < 2 ^ 64 }
+    ensures fed { (at : Feeding (Saying (Task W))) → IsFed HasTraced feeder.old lines.old at
+        → IsFed HasTraced feeder.new lines.new (fed say_line at chunk.now) }
+    ensures number { feeder.new.number ≤ feeder.old.number + length chunk.now }
+    ensures empty { lines.new.output.held ≡ [] }
+    ensures ended { result ≡ ended_so lines.new.output.failed (not feeder.new.refused) feeder.new.number }
     ensures kind { IfErr result IsOfLines }
-    ensures ok_count { OnOk result (W.failed sink.new ≡ W.failed sink.old) }
-    ensures count { IfErr result (λ e. W.failed sink.new ≡ W.failed sink.old + sink_failures e) }
-    ensures short { W.longest sink.new ≤ max (W.longest sink.old) ROOM }
 {
-    let mut output = Gathered::new(sink);
-    let good = reader.take_chunk(&mut output, chunk);
-    let (sent, _sink) = output.finish();
-    ended(sent.is_err(), good, reader.number())
+    let good = feeder.feed(lines, chunk);
+    let sent = lines.flush();
+    ended(sent.is_err(), good, feeder.number())
 }
 
 /// Takes the end of the bytes, and sends the text for it.
-fn trace_end<W: Sink>(reader: &mut Reader, sink: &mut W) -> Result<(), SimFault>
-    requires { W.failed sink.old < 2 ^ 64 - 1 }
-    ensures ok { OnOk result ((c : CircuitRecord) (columns : ColumnsAsked) (bytes text : List ℕ)
-        → IsAt c columns bytes text reader.old
-        → SentAll c columns bytes text (W.taken sink.old) (W.taken sink.new)) }
-    ensures err { IfErr result (λ e. (c : CircuitRecord) (columns : ColumnsAsked) (bytes text : List ℕ)
-        → IsAt c columns bytes text reader.old
-        → NotSent c columns bytes true text e (W.taken sink.old) (W.taken sink.new)) }
+fn trace_end<W: Sink>(feeder: &mut LineFeeder, lines: &mut LineTracer<W>) -> Result<(), SimFault>
+    requires { feeder.old.number < 2 ^ 64 - 1 }
+    ensures traced { (task : Task W) (bytes : List ℕ) → IsFed HasTraced feeder.old lines.old
+        (fed say_line (before_lines task (length task.circuit.inputs)) bytes)
+        → IsTraced task.circuit task.columns bytes true task.from lines.new.output feeder.new }
+    ensures empty { lines.new.output.held ≡ [] }
+    ensures ended { result ≡ ended_so lines.new.output.failed (not feeder.new.refused) feeder.new.number }
     ensures kind { IfErr result IsOfLines }
-    ensures ok_count { OnOk result (W.failed sink.new ≡ W.failed sink.old) }
-    ensures count { IfErr result (λ e. W.failed sink.new ≡ W.failed sink.old + sink_failures e) }
-    ensures short { W.longest sink.new ≤ max (W.longest sink.old) ROOM }
 {
-    let mut output = Gathered::new(sink);
-    let good = reader.take_end(&mut output);
-    let (sent, _sink) = output.finish();
-    ended(sent.is_err(), good, reader.number())
+    let good = feeder.end(lines);
+    if good {
+        lines.close();
+    }
+    let sent = lines.flush();
+    ended(sent.is_err(), good, feeder.number())
 }
 
 /// Takes all bytes of the source, and sends the text for them.
 fn trace_all<R: Source, W: Sink>(
-    reader: &mut Reader,
+    feeder: &mut LineFeeder,
+    lines: &mut LineTracer<W>,
     source: &mut R,
-    sink: &mut W,
 ) -> Result<(), SimFault>
-    requires number { reader.old.number ≡ 1 }
+    requires unfed { IsUnfed feeder.old }
+    requires limit { feeder.old.limit ≡ longest_entry (length lines.old.tracing.circuit.inputs) }
+    requires begun { point_of lines.old.tracing ≡ begin_of lines.old.tracing.circuit }
+    requires empty { lines.old.output.held ≡ [] }
+    requires fine { lines.old.output.failed ≡ false }
     requires source { R.failed source.old < 2 ^ 64 - 1 }
-    requires sink { W.failed sink.old < 2 ^ 64 - 1 }
-    ensures ok { OnOk result ((c : CircuitRecord) (columns : ColumnsAsked) → IsAt c columns [] [] reader.old
-        → Simulated c columns (R.coming source.old) (R.coming source.new) (W.taken sink.old) (W.taken sink.new)) }
-    ensures err { IfErr result (λ e. (c : CircuitRecord) (columns : ColumnsAsked) → IsAt c columns [] [] reader.old
-        → NotSimulated c columns e (R.coming source.old) (R.coming source.new) (W.taken sink.old) (W.taken sink.new)) }
+    ensures ends { Ends lines.old.tracing.circuit lines.old.tracing.columns result
+        (R.coming source.old) (R.coming source.new) lines.old.output lines.new.output }
     ensures kind { IfErr result (λ e. e ≢ OutOfMemory) }
-    ensures ok_counts { OnOk result ((R.failed source.new ≡ R.failed source.old)
-        × (W.failed sink.new ≡ W.failed sink.old)) }
-    ensures source_count { IfErr result (λ e. R.failed source.new ≡ R.failed source.old + source_failures e) }
-    ensures sink_count { IfErr result (λ e. W.failed sink.new ≡ W.failed sink.old + sink_failures e) }
-    ensures short { W.longest sink.new ≤ max (W.longest sink.old) ROOM }
+    ensures ok_count { OnOk result (R.failed source.new ≡ R.failed source.old) }
+    ensures count { IfErr result (λ e. R.failed source.new ≡ R.failed source.old + source_failures e) }
 {
     let mut block = [0u8; ROOM];
     loop {
@@ -98,10 +95,10 @@ fn trace_all<R: Source, W: Sink>(
             return Err(SimFault::ReadFailed);
         };
         if count == 0 {
-            return trace_end(reader, sink);
+            return trace_end(feeder, lines);
         }
         let (chunk, _) = block.split_at(count);
-        trace_chunk(reader, sink, chunk)?;
+        trace_chunk(feeder, lines, chunk)?;
     }
 }
 
@@ -129,8 +126,10 @@ pub fn simulate<R: Source, W: Sink>(
     ensures sink_count { IfErr result (λ error. W.failed sink.new ≡ W.failed sink.old + sink_failures error) }
     ensures short { W.longest sink.new ≤ max (W.longest sink.old) ROOM }
 {
-    let mut reader = Reader::new(alloc, checked, columns)?;
-    let traced = trace_all(&mut reader, source, sink);
-    drop(reader);
+    let reader = Reader::new(alloc, checked, columns)?;
+    let (mut feeder, mut lines) = reader.start(Gathered::new(sink));
+    let traced = trace_all(&mut feeder, &mut lines, source);
+    drop(feeder);
+    let _sink = lines.into_output().into_sink();
     traced
 }

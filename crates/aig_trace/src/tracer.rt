@@ -7,7 +7,7 @@ ghost use Rattle.aig_step.specs.declared.fault.SimFault.TheVariants.{OutOfMemory
 ghost use Rattle.aig_step.specs.Stimulus.{entry_in};
 ghost use Rattle.aig_step.specs.Parts.Lines.{HasLineRoom, line_size, vector_in};
 ghost use Rattle.aig_trace.specs.Parts.Progress.{begin_of};
-ghost use Rattle.aig_trace.specs.Parts.Tracing.{IsSameTracer, PutSome, TookLine, TookStep, point_of};
+ghost use Rattle.aig_trace.specs.Parts.Tracing.{IsSameTracer, TookLine, TookStep, point_of};
 
 use crate::gathered::Gathered;
 use aig_checked::Checked;
@@ -118,14 +118,6 @@ impl Tracer {
         Ok(tracer)
     }
 
-    /// How many inputs a step has.
-    #[inline(always)]
-    pub(crate) fn inputs(&self) -> usize
-        ensures { result ≡ length self.now.circuit.inputs }
-    {
-        self.machine.parts().inputs.len()
-    }
-
     /// Whether the run that is going on has a step.
     pub(crate) fn has_step(&self) -> bool
         ensures { result ≡ self.now.has_step }
@@ -149,7 +141,6 @@ impl Tracer {
         ensures bad { result ≡ false → vector_in (length self.old.circuit.inputs) text.now ≡ None }
         ensures none { result ≡ false → output.new ≡ output.old }
         ensures stays { result ≡ false → self.new ≡ self.old }
-        ensures put { PutSome output.old output.new }
         ensures same { IsSameTracer self.old self.new }
     {
         if !self
@@ -186,7 +177,7 @@ impl Tracer {
         ensures good { result ≡ true → TookLine self.old self.new output.old output.new text.now }
         ensures bad { result ≡ false → entry_in (length self.old.circuit.inputs) text.now ≡ None }
         ensures none { result ≡ false → output.new ≡ output.old }
-        ensures put { PutSome output.old output.new }
+        ensures stays { result ≡ false → self.new ≡ self.old }
         ensures same { IsSameTracer self.old self.new }
     {
         if self.take_step(output, text) {

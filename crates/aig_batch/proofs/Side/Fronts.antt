@@ -1,7 +1,6 @@
 -- The front of a stimulus, group by group.
-use Rattle.std.proofs.Common.{rules}
-use Rattle.std.proofs.Common.{◌≡◌, ◌++◌, ◌∷◌, ◌∙◌, ℕ, List, [], ap, append-nil, codes, length, map, refl, sym, subst}
-use Rattle.std.proofs.Common.{true}
+use Rattle.std.proofs.Common.{◌≡◌, ◌++◌, ◌∷◌, ◌∙◌, ℕ, List, [], ap, append-nil, codes, map, refl, sym, subst}
+use Rattle.std.proofs.Common.{false, true}
 use Rattle.std.specs.List.{AllZip, flat_map}
 use Rattle.aig_circuit.specs.declared.circuit.Circuit.{Circuit}
 use Rattle.aig_circuit.specs.declared.value.Val.{Val}
@@ -12,14 +11,14 @@ use Rattle.aig_step.specs.declared.trace.Columns.{Columns}
 use Rattle.aig_step.specs.Stimulus.{Entry, Step, Stop}
 use Rattle.aig_step.specs.TraceText.{row_text, rows_text}
 use Rattle.aig_lanes.specs.Parts.LaneTexts.{IsTextOf}
-use Rattle.aig_trace.specs.Parts.Progress.{Goes, Point, begin_of}
-use Rattle.aig_batch.specs.Parts.RunsRead.{IsFront, PutRuns, Says, entries_of_group, entries_of_groups}
+use Rattle.aig_trace.specs.Parts.Progress.{Does, Goes, Point, begin_of}
+use Rattle.aig_batch.specs.Parts.RunsRead.{PutRuns, entries_of_group, entries_of_groups}
 use Rattle.aig_batch.specs.Parts.RunsRead.{entries_of_run, text_of_group}
 use Rattle.aig_io.specs.Output.{Out, Put}
 use Rattle.aig_io.proofs.Puts.{put_twice}
 use Rattle.std.proofs.lemmas.List.Concat.{flat_map-append}
 use Rattle.aig_trace.proofs.Going.{goes_on, goes_over}
-use Rattle.aig_trace.proofs.Taking.{begin_same, does_same}
+use Rattle.aig_step.proofs.States.{same_reset_state}
 
 -- a trace is a way
 goes_rows : (c : Circuit) (columns : Columns) (p : Point) (vectors : List (List Val)) (rows : List Row)
@@ -88,7 +87,24 @@ put_more c columns groups runs texts before between after so_far each put = reco
       so_far.text (text_of_group texts) so_far.goes (goes_runs c columns runs texts each));
 }
 
--- of circuits that mean the same
+-- circuits that mean the same begin in the same state
+begin_same : (c d : Circuit) → MeansTheSame c d → begin_of d ≡ begin_of c
+begin_same c d means =
+    ap (λ (s : List Val). record { state = s; has_step = false }) (same_reset_state c d means)
+
+-- and the same lines do the same
+does_same : (c d : Circuit) (columns : Columns) (p q : Point) (e : Entry) (t : List ℕ) → MeansTheSame c d
+    → Does d columns p e q t → Does c columns p e q t
+does_same c d columns p q (Step given) t means does = record {
+  row = does.row;
+  is_row = (means.rows does.row).1 does.is_row;
+  from = does.from;
+  inputs = does.inputs;
+  leads = does.leads;
+  is = does.is;
+}
+does_same c d columns p q Stop t means does = (does.0 ∙ begin_same c d means, does.1)
+
 goes_same : (c d : Circuit) (columns : Columns) (p q : Point) (es : List Entry) (text : List ℕ) → MeansTheSame c d
     → Goes d columns p es q text → Goes c columns p es q text
 goes_same c d columns p q [] text means goes = goes
@@ -101,9 +117,16 @@ goes_same c d columns p q (e ∷ es) text means (between, front, rest, does, goe
   joined,
 )
 
--- what was read and the text for it
-pub front_of : (c d : Circuit) (columns : Columns) (bytes : List ℕ) (groups : List (List Run)) (lines : ℕ)
-    (rest text : List ℕ) → MeansTheSame c d → Says (length c.inputs) bytes lines (entries_of_groups groups) rest
-    → Goes d columns (begin_of d) (entries_of_groups groups) (begin_of d) text
-    → IsFront c columns bytes text lines rest
-front_of c d columns bytes groups lines rest text means says goes = search (rules, begin_same, goes_same)
+-- a run from the reset state of either
+pub goes_too : (c d : Circuit) (columns : Columns) (q : Point) (es : List Entry) (text : List ℕ) → MeansTheSame c d
+    → Goes d columns (begin_of d) es q text → Goes c columns (begin_of c) es q text
+goes_too c d columns q es text means goes =
+    goes_same c d columns (begin_of c) q es text means
+    (subst (λ (p : Point). Goes d columns p es q text) (begin_same c d means) goes)
+
+-- and one that ends there
+pub front_goes : (c d : Circuit) (columns : Columns) (es : List Entry) (text : List ℕ) → MeansTheSame c d
+    → Goes d columns (begin_of d) es (begin_of d) text → Goes c columns (begin_of c) es (begin_of c) text
+front_goes c d columns es text means goes =
+    subst (λ (q : Point). Goes c columns (begin_of c) es q text) (begin_same c d means)
+    (goes_too c d columns (begin_of d) es text means goes)

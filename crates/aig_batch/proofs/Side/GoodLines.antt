@@ -16,21 +16,8 @@ use Rattle.aig_step.specs.Stimulus.{values_of, without_return}
 use Rattle.aig_step.specs.Parts.Lines.{vector_in}
 use Rattle.aig_batch.specs.Parts.RunsRead.{HasNoBadLine}
 use Rattle.aig_step.proofs.LineValues.{vector_long}
-use Rattle.aig_batch.proofs.Side.RunsRead.{text_in_front, text_shorter}
+use Rattle.aig_batch.proofs.Side.RunsRead.{judged_first, text_in_front, text_shorter}
 use Rattle.aig_lines.proofs.LineBytes.{first_line}
-use Rattle.aig_step.proofs.WholeLines.{judged_before}
-
-judged_first : (bytes : List ℕ) (next : ℕ) → IsFirstByte (is_byte 10) bytes (Some next)
-    → judged_lines bytes true ≡ line (take next bytes) true ∷ judged_lines (drop 1 (drop next bytes)) true
-judged_first bytes next found =
-    let cut = first_line bytes next found in
-    let piece = take next bytes in
-    let rest = drop 1 (drop next bytes) in
-    let whole : List Line = line piece true ∷ [] in
-    let joined : bytes ≡ bytes_of whole ++ rest =
-    cut.1 ∙ sym (append_assoc piece (10 ∷ []) rest)
-    ∙ ap (λ (t : List ℕ). t ++ rest) (sym (append-nil (piece ++ 10 ∷ []))) in
-    ap (λ (bs : List ℕ). judged_lines bs true) joined ∙ judged_before whole rest true (cut.0, tt) (refl, tt)
 
 before_good : (number : ℕ) (o : Option Entry) (rest : Stimulus) → (before_rest number o rest).bad ≡ None
     → ((e : Entry) × (o ≡ Some e)) × (rest.bad ≡ None)

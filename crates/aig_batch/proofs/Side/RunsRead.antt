@@ -3,7 +3,7 @@ use Rattle.std.proofs.Common.{rules}
 use Rattle.std.proofs.Common.{◌≡◌, ◌+◌, ◌*◌, ◌≤◌, ◌==◌, ◌&&◌, ◌++◌, ◌∷◌, Bool, false, ℕ, List, [], Option, Some}
 use Rattle.std.proofs.Common.{if◌then◌else◌, is_some, length, take, drop, refl, sym, ap}
 use Rattle.std.proofs.Common.{subst, ◌∙◌, append_assoc, append-nil, arith}
-use Rattle.std.proofs.Common.{bytes_eq, codes, map, true}
+use Rattle.std.proofs.Common.{bytes_eq, codes, filter, map, suc, true, ◌||◌, None}
 use Rattle.std.proofs.lemmas.Bool.{eq-eqb}
 use Rattle.std.specs.List.{flat_map}
 use Rattle.std.proofs.lemmas.List.{drop-drop, length-append, length-drop, map-append, take-append-le}
@@ -11,48 +11,56 @@ use Rattle.std.proofs.lemmas.List.Concat.{flat_map-append}
 use Rattle.memchr.specs.Find.{IsFirstByte, is_byte}
 use Rattle.aig_circuit.specs.declared.value.Val.{Val}
 use Rattle.aig_lanes.specs.declared.run.Run.{Run}
-use Rattle.aig_step.specs.Stimulus.{Entry, Step, Stop, entry_in, values_of, without_return}
+use Rattle.aig_step.specs.Stimulus.{Entry, Step, Stop, Stimulus, before_rest, entry_in, entry_of, judged_lines}
+use Rattle.aig_step.specs.Stimulus.{lines_say, stimulus, values_of, without_return}
 use Rattle.aig_step.specs.Parts.Lines.{vector_in}
 use Rattle.aig_batch.specs.Parts.RunsRead.{Says, entries_of_run}
-use Rattle.aig_step.specs.Parts.Seen.{IsHeard}
 use Rattle.aig_lanes.specs.Parts.Vectors.{AreVectors, said, vectors_in}
 use Rattle.aig_lines.proofs.LineBytes.{kept_first}
-use Rattle.aig_trace.proofs.Heard.{heard_line}
 use Rattle.aig_step.proofs.LineValues.{vector_long, vector_says}
 use Rattle.aig_lanes.proofs.Side.Vectors.{more_vectors, vectors_push}
 use Rattle.aig_lines.proofs.LineBytes.{first_line}
+use Rattle.aig_lines.proofs.Tells.{lines_end}
+use Rattle.aig_rows.specs.Lines.{Line, line}
 
 -- lines behind lines
-pub says_then : (inputs : ℕ) (bytes mid rest : List ℕ) (m n : ℕ) (es fs : List Entry) → Says inputs bytes m es mid
-    → Says inputs mid n fs rest → Says inputs bytes (m + n) (es ++ fs) rest
-says_then inputs bytes mid rest m n es fs p q = record {
-  passed = p.passed ++ q.passed;
-  parted = p.parted ∙ ap (λ (t : List ℕ). p.passed ++ t) q.parted ∙ sym (append_assoc p.passed q.passed rest);
-  few = omega (arith, p.few, q.few);
-  heard = λ front count before is.
-      let sum : count + m + n ≡ count + (m + n) = omega arith in
-      let both = q.heard (front ++ p.passed) (count + m) (before ++ es) (p.heard front count before is) in
-      subst (λ (k : ℕ). IsHeard inputs (front ++ (p.passed ++ q.passed)) k [] (before ++ (es ++ fs))) sum
-      (subst (λ (gs : List Entry). IsHeard inputs (front ++ (p.passed ++ q.passed)) (count + m + n) [] gs)
-      (append_assoc before es fs)
-      (subst (λ (bs : List ℕ). IsHeard inputs bs (count + m + n) [] ((before ++ es) ++ fs))
-      (append_assoc front p.passed q.passed) both));
+pub says_then : (inputs : ℕ) (bytes mid rest : List ℕ) (es fs : List Entry) → Says inputs bytes es mid
+    → Says inputs mid fs rest → Says inputs bytes (es ++ fs) rest
+says_then inputs bytes mid rest es fs p q = record {
+  parted = p.parted ∙ ap (λ (gs : List Entry). es ++ gs) q.parted
+      ∙ sym (append_assoc es fs (stimulus inputs rest true).entries);
 }
+
+-- the lines that are judged, where the first has its line feed
+pub judged_first : (bytes : List ℕ) (next : ℕ) → IsFirstByte (is_byte 10) bytes (Some next)
+    → judged_lines bytes true ≡ line (take next bytes) true ∷ judged_lines (drop 1 (drop next bytes)) true
+judged_first bytes next found =
+    let cut = first_line bytes next found in
+    ap (λ (bs : List ℕ). judged_lines bs true) cut.1
+    ∙ ap (filter (λ (l : Line). l.ended || true)) (lines_end (take next bytes) (drop 1 (drop next bytes)) cut.0)
+
+-- what lines say does not depend on their numbers
+entry_before : (m n : ℕ) (o : Option Entry) (s t : Stimulus) → s.entries ≡ t.entries
+    → (before_rest m o s).entries ≡ (before_rest n o t).entries
+entry_before m n None s t same = refl
+entry_before m n (Some e) s t same = ap (λ (es : List Entry). e ∷ es) same
+
+same_entries : (inputs m n : ℕ) (ls : List Line) → (lines_say inputs m ls).entries ≡ (lines_say inputs n ls).entries
+same_entries inputs m n [] = refl
+same_entries inputs m n (l ∷ ls) =
+    entry_before m n (entry_of inputs l) _ _ (same_entries inputs (suc m) (suc n) ls)
 
 -- one line
 pub says_line : (inputs : ℕ) (bytes : List ℕ) (next : ℕ) (e : Entry)
     → IsFirstByte (is_byte 10) bytes (Some next)
     → entry_in inputs (without_return (take next bytes)) ≡ Some e
-    → Says inputs bytes 1 (e ∷ []) (drop 1 (drop next bytes))
+    → Says inputs bytes (e ∷ []) (drop 1 (drop next bytes))
 says_line inputs bytes next e found is =
-    let cut = first_line bytes next found in
-    let piece = take next bytes in
-    let rest = drop 1 (drop next bytes) in
+    let rest = judged_lines (drop 1 (drop next bytes)) true in
     record {
-      passed = piece ++ 10 ∷ [];
-      parted = cut.1 ∙ sym (append_assoc piece (10 ∷ []) rest);
-      few = omega (arith, ap length cut.1, length-append piece (10 ∷ rest));
-      heard = λ front count before heard. heard_line inputs front count [] before heard piece e cut.0 is;
+      parted = ap (λ (ls : List Line). (lines_say inputs 1 ls).entries) (judged_first bytes next found)
+          ∙ ap (λ (o : Option Entry). (before_rest 1 o (lines_say inputs 2 rest)).entries) is
+          ∙ ap (λ (es : List Entry). e ∷ es) (same_entries inputs 2 1 rest);
     }
 
 -- a line that ends a run
@@ -64,32 +72,32 @@ pub vector_is : (inputs : ℕ) (text : List ℕ) → length text ≡ inputs → 
 vector_is inputs text long = rw (eq-eqb (length text) inputs long) refl
 
 module _ (inputs : ℕ) (bytes : List ℕ) (steps : List (List Val)) (before rest : List ℕ) (next : ℕ)
-    (says : Says inputs bytes (length steps) (map Step steps) before)
+    (says : Says inputs bytes (map Step steps) before)
     (found : IsFirstByte (is_byte 10) before (Some next)) (same : rest ≡ drop 1 (drop next before)) where
   one_more : (e : Entry) → entry_in inputs (without_return (take next before)) ≡ Some e
-      → Says inputs bytes (length steps + 1) (map Step steps ++ e ∷ []) rest
+      → Says inputs bytes (map Step steps ++ e ∷ []) rest
   one_more e is =
-      subst (λ (r : List ℕ). Says inputs bytes (length steps + 1) (map Step steps ++ e ∷ []) r) (sym same)
-      (says_then inputs bytes before (drop 1 (drop next before)) (length steps) 1 (map Step steps) (e ∷ []) says
+      subst (Says inputs bytes (map Step steps ++ e ∷ [])) (sym same)
+      (says_then inputs bytes before (drop 1 (drop next before)) (map Step steps) (e ∷ []) says
       (says_line inputs before next e found is))
 
   -- the run ends
   pub run_ends : bytes_eq (without_return (take next before)) (codes ".") ≡ true
-      → Says inputs bytes (length steps + 1) (map Step steps ++ Stop ∷ []) rest
+      → Says inputs bytes (map Step steps ++ Stop ∷ []) rest
   run_ends is = one_more Stop (stop_says inputs (without_return (take next before)) is)
 
   -- it has one more step
   pub one_step : (given : List Val) (now : List (List Val)) → now ≡ steps ++ given ∷ []
       → vector_in inputs (without_return (take next before)) ≡ Some given
-      → Says inputs bytes (length now) (map Step now) rest
-  one_step given now is said = search (rules, length-append, map-append, one_more, vector_says)
+      → Says inputs bytes (map Step now) rest
+  one_step given now is said = search (rules, map-append, one_more, vector_says)
 
 -- one more run
-pub one_run : (inputs : ℕ) (bytes before rest : List ℕ) (lines : ℕ) (runs now : List Run) (run : Run)
-    → now ≡ runs ++ run ∷ [] → Says inputs bytes lines (flat_map entries_of_run runs) before
-    → Says inputs before (length run.steps + 1) (entries_of_run run) rest
-    → Says inputs bytes (lines + (length run.steps + 1)) (flat_map entries_of_run now) rest
-one_run inputs bytes before rest lines runs now run is front next = search (rules, append-nil, flat_map-append, says_then)
+pub one_run : (inputs : ℕ) (bytes before rest : List ℕ) (runs now : List Run) (run : Run)
+    → now ≡ runs ++ run ∷ [] → Says inputs bytes (flat_map entries_of_run runs) before
+    → Says inputs before (entries_of_run run) rest
+    → Says inputs bytes (flat_map entries_of_run now) rest
+one_run inputs bytes before rest runs now run is front next = search (rules, append-nil, flat_map-append, says_then)
 
 last_cut : (p : Bool) (b : ℕ) → (if p then [] else b ∷ []) ≡ take (length (if p then [] else b ∷ [])) (b ∷ [])
 last_cut true b = refl

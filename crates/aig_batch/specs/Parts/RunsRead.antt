@@ -1,5 +1,5 @@
 -- Runs that are read at the front of a stimulus. Only private functions cite this.
-use Rattle.std.specs.Prelude.{◌≡◌, ◌+◌, ◌≤◌, ◌++◌, ℕ, zero, suc, List, [], ◌∷◌, None, codes, length, map}
+use Rattle.std.specs.Prelude.{◌≡◌, ◌++◌, ℕ, zero, suc, List, [], ◌∷◌, None, codes, length, map}
 use Rattle.std.specs.Prelude.{slice_index_or, true}
 use Rattle.std.specs.List.{flat_map}
 use Rattle.aig_circuit.specs.declared.circuit.Circuit.{Circuit}
@@ -7,11 +7,10 @@ use Rattle.aig_io.specs.Output.{Out, Put}
 use Rattle.aig_lanes.specs.declared.run.Run.{Run}
 use Rattle.aig_lanes.specs.declared.shown.Shown.{Shown}
 use Rattle.aig_step.specs.declared.trace.Columns.{Columns}
-use Rattle.aig_step.specs.Stimulus.{Entry, Step, Stop, judged_lines, lines_say}
+use Rattle.aig_step.specs.Stimulus.{Entry, Step, Stop, judged_lines, lines_say, stimulus}
 use Rattle.aig_lanes.specs.Parts.LaneTexts.{kept_text}
 use Rattle.aig_lanes.specs.Parts.Sheets.{BytesText, text_in}
 use Rattle.aig_trace.specs.Parts.Progress.{Goes, begin_of}
-use Rattle.aig_step.specs.Parts.Seen.{IsHeard}
 
 -- what the lines of a run say, with that of its end
 abbrev pub entries_of_run : Run → List Entry
@@ -21,13 +20,9 @@ entries_of_run run = map Step run.steps ++ Stop ∷ []
 abbrev pub HasNoBadLine : ℕ → List ℕ → Type 0
 HasNoBadLine inputs bytes = (number : ℕ) × ((lines_say inputs number (judged_lines bytes true)).bad ≡ None)
 
--- The bytes begin with so many whole lines, which say these entries, and the rest comes behind them.
-pub record Says (inputs : ℕ) (bytes : List ℕ) (lines : ℕ) (entries : List Entry) (rest : List ℕ) : Type 0 where
-  pub passed : List ℕ
-  pub parted : bytes ≡ passed ++ rest
-  pub few : lines + length rest ≤ length bytes
-  pub heard : (front : List ℕ) (count : ℕ) (before : List Entry) → IsHeard inputs front count [] before
-      → IsHeard inputs (front ++ passed) (count + lines) [] (before ++ entries)
+-- The lines of the bytes say these entries first, and then what those of the rest say.
+pub record Says (inputs : ℕ) (bytes : List ℕ) (entries : List Entry) (rest : List ℕ) : Type 0 where
+  pub parted : (stimulus inputs bytes true).entries ≡ entries ++ (stimulus inputs rest true).entries
 
 abbrev pub entries_of_group : List Run → List Entry
 entries_of_group runs = flat_map entries_of_run runs
@@ -58,9 +53,3 @@ pub record PutRuns {W : Type 0} (c : Circuit) (columns : Columns) (groups : List
   pub text : List ℕ
   pub put : Put before after text
   pub goes : Goes c columns (begin_of c) (entries_of_groups groups) (begin_of c) text
-
--- The bytes begin with so many lines, which are whole runs, and this is the text for them.
-pub record IsFront (c : Circuit) (columns : Columns) (bytes text : List ℕ) (lines : ℕ) (rest : List ℕ) : Type 0 where
-  pub entries : List Entry
-  pub says : Says (length c.inputs) bytes lines entries rest
-  pub goes : Goes c columns (begin_of c) entries (begin_of c) text

@@ -1,17 +1,15 @@
--- How far the lines of a stimulus were taken, and what was put for them. Only the simulator cites this.
-use Rattle.std.specs.Prelude.{◌≡◌, ◌++◌, ◌+◌, ℕ, List, [], Bool, true, None, Some, length, take}
+-- What takes the lines of a stimulus, and what was put for them. Only the simulator cites this.
+use Rattle.std.specs.Prelude.{◌≡◌, ◌++◌, ℕ, List, [], Bool, true, Some, codes, if◌then◌else◌, length}
 use Rattle.aig_circuit.specs.declared.circuit.Circuit.{Circuit}
 use Rattle.aig_circuit.specs.declared.value.Val.{Val}
 use Rattle.aig_io.specs.Output.{Out, Put}
+use Rattle.aig_lines.specs.Fed.{Feeder, IsUnfed}
 use Rattle.aig_meaning.specs.Meaning.{MeansTheSame}
 use Rattle.aig_step.specs.declared.trace.Columns.{Columns}
 use Rattle.aig_step.specs.Stimulus.{Entry, entry_in, stimulus}
-use Rattle.aig_step.specs.TraceText.{IsTraceText}
-use Rattle.aig_step.specs.Outcome.{first_bad_line}
-use Rattle.aig_lines.specs.Keeping.{Keeping}
 use Rattle.aig_step.specs.Parts.Lines.{vector_in}
 use Rattle.aig_trace.specs.Parts.Progress.{Does, Goes, Point, Steps, begin_of}
-use Rattle.aig_step.specs.Parts.Seen.{IsHeard, all_good}
+use Rattle.aig_trace.specs.Parts.Saying.{Saying, longest_entry}
 
 -- a circuit that is run, with the columns that are asked for, the state before its next step, and whether the run that
 -- is going on has a step
@@ -23,11 +21,6 @@ pub record Tracing : Type 0 where
 
 abbrev pub point_of : Tracing → Point
 point_of t = record { state = t.state; has_step = t.has_step }
-
--- some text was put
-pub record PutSome {W : Type 0} (a b : Out W) : Type 0 where
-  pub text : List ℕ
-  pub put : Put a b text
 
 -- it runs the same circuit, with the same columns
 pub record IsSameTracer (before after : Tracing) : Type 0 where
@@ -50,68 +43,44 @@ pub record TookStep {W : Type 0} (before after : Tracing) (a b : Out W) (text : 
   pub steps : Steps before.circuit before.columns (point_of before) given (point_of after) line
   pub put : Put a b line
 
--- what takes the bytes of a stimulus: the tracer, the bytes that are kept of the line that has not ended, and the
--- number of that line
-pub record Reading : Type 0 where
+-- a tracer, and the output for the text
+pub record LineTracing (W : Type 0) : Type 0 where
   pub tracing : Tracing
-  pub kept : Keeping
-  pub number : ℕ
+  pub output : Out W
 
--- The bytes that came lie before a reader so: whole lines, none of them bad, led to where it stands and to this
--- text, and it keeps the beginning of the line behind them.
-pub record IsAt (c : Circuit) (columns : Columns) (bytes text : List ℕ) (at : Reading) : Type 0 where
-  pub means : MeansTheSame c at.tracing.circuit
-  pub same_columns : at.tracing.columns ≡ columns
-  pub lines : ℕ
-  pub rest : List ℕ
-  pub entries : List Entry
-  pub heard : IsHeard (length c.inputs) bytes lines rest entries
-  pub number : at.number ≡ lines + 1
-  pub kept : at.kept.bytes ≡ take (length c.inputs + 3) rest
-  pub goes : Goes c columns (begin_of c) entries (point_of at.tracing) text
+-- what stays while lines are taken: the circuit that is run, the columns, and the output before the first line
+pub record Task (W : Type 0) : Type 0 where
+  pub circuit : Circuit
+  pub columns : Columns
+  pub from : Out W
 
--- A reader stands before the first byte.
-pub record IsFresh (c : Circuit) (columns : Columns) (at : Reading) : Type 0 where
-  pub means : MeansTheSame c at.tracing.circuit
-  pub same_columns : at.tracing.columns ≡ columns
-  pub begun : point_of at.tracing ≡ begin_of c
-  pub kept : at.kept.bytes ≡ []
-  pub number : at.number ≡ 1
+abbrev pub task_of : {W : Type 0} → LineTracing W → Task W
+task_of t = record { circuit = t.tracing.circuit; columns = t.tracing.columns; from = t.output }
 
--- bytes came behind others, and the text for them was put
-pub record Advanced {W : Type 0} (c : Circuit) (columns : Columns) (bytes text : List ℕ) (at : Reading) (a b : Out W)
-    : Type 0 where
-  pub more : List ℕ
-  pub stands : IsAt c columns bytes (text ++ more) at
-  pub put : Put a b more
+-- what these lines say led to where it stands, and the text for them was put
+pub record HasTraced {W : Type 0} (t : LineTracing W) (s : Saying (Task W)) : Type 0 where
+  pub circuit : t.tracing.circuit ≡ s.known.circuit
+  pub columns : t.tracing.columns ≡ s.known.columns
+  pub inputs : s.inputs ≡ length s.known.circuit.inputs
+  pub text : List ℕ
+  pub goes : Goes s.known.circuit s.known.columns (begin_of s.known.circuit) s.entries (point_of t.tracing) text
+  pub put : Put s.known.from t.output text
 
--- among the bytes that came is a bad line, the first of which has this number; the text was put for all before it
-pub record FoundBad {W : Type 0} (c : Circuit) (columns : Columns) (bytes : List ℕ) (ended : Bool) (text : List ℕ)
-    (number : ℕ) (a b : Out W) : Type 0 where
-  pub more : List ℕ
-  pub bad : first_bad_line c bytes ended ≡ Some number
-  pub is_text : IsTraceText c columns bytes ended (text ++ more)
-  pub put : Put a b more
+-- the text was put for all lines of these bytes up to the first bad one, and the end of the run that was going on
+pub record PutText {W : Type 0} (t : Tracing) (bytes : List ℕ) (a b : Out W) : Type 0 where
+  pub point : Point
+  pub text : List ℕ
+  pub goes : let entries = (stimulus (length t.circuit.inputs) bytes true).entries in
+      Goes t.circuit t.columns (begin_of t.circuit) entries point text
+  pub put : Put a b (text ++ (if point.has_step then codes ".\n" else []))
 
--- the bytes have ended, no line is bad, and the rest of the text was put
-pub record Finished {W : Type 0} (c : Circuit) (columns : Columns) (bytes text : List ℕ) (a b : Out W) : Type 0 where
-  pub more : List ℕ
-  pub none_bad : first_bad_line c bytes true ≡ None
-  pub is_text : IsTraceText c columns bytes true (text ++ more)
-  pub put : Put a b more
+-- what takes the bytes of a stimulus: what cuts them into lines, and the tracer
+pub record Reading : Type 0 where
+  pub feeder : Feeder
+  pub tracing : Tracing
 
--- the bytes have ended and no line is bad; the text was put but for the end of a run that is going on
-pub record TookLast {W : Type 0} (c : Circuit) (columns : Columns) (bytes text : List ℕ) (after : Tracing) (a b : Out W)
-    : Type 0 where
-  pub more : List ℕ
-  pub entries : List Entry
-  pub said : stimulus (length c.inputs) bytes true ≡ all_good entries
-  pub goes : Goes c columns (begin_of c) entries (point_of after) (text ++ more)
-  pub put : Put a b more
-
--- of a chunk of bytes all but the rest was taken
-pub record Passed {W : Type 0} (c : Circuit) (columns : Columns) (bytes text chunk rest : List ℕ) (at : Reading)
-    (a b : Out W) : Type 0 where
-  pub passed : List ℕ
-  pub parted : chunk ≡ passed ++ rest
-  pub advanced : Advanced c columns (bytes ++ passed) text at a b
+-- it stands before the first byte
+pub record IsFresh (r : Reading) : Type 0 where
+  pub unfed : IsUnfed r.feeder
+  pub limit : r.feeder.limit ≡ longest_entry (length r.tracing.circuit.inputs)
+  pub begun : point_of r.tracing ≡ begin_of r.tracing.circuit

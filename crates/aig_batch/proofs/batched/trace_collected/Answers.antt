@@ -7,17 +7,14 @@ use Rattle.aig_lanes.specs.declared.run.Run.{Run}
 use Rattle.aig_step.specs.Outcome.{sink_failures}
 use Rattle.aig_batch.specs.Parts.Benches.{HasRoomFor}
 use Rattle.aig_batch.specs.Parts.RunsRead.{Says, entries_of_groups}
-use Rattle.aig_trace.specs.Parts.Streaming.{NotTraced}
+use Rattle.aig_batch.specs.Parts.Sent.{NotTraced}
 use Rattle.aig_batch.proofs.batched.trace_collected.Goals as goal
 
 -- what is said of groups is said where they are passed on
-says_of : (circuit : Circuit) (bytes : List ℕ) (lines : ℕ) (rest : List ℕ) (inputs : ℕ)
-    (groups passed : List (List Run))
-    → inputs ≡ length circuit.inputs → passed ≡ groups → Says inputs bytes lines (entries_of_groups groups) rest
-    → Says (length circuit.inputs) bytes lines (entries_of_groups passed) rest
-says_of circuit bytes lines rest inputs groups passed count same says =
-    subst (λ (n : ℕ). Says n bytes lines (entries_of_groups passed) rest) count
-    (subst (λ (gs : List (List Run)). Says inputs bytes lines (entries_of_groups gs) rest) (sym same) says)
+says_of : (circuit : Circuit) (bytes rest : List ℕ) (inputs : ℕ) (groups passed : List (List Run))
+    → inputs ≡ length circuit.inputs → passed ≡ groups → Says inputs bytes (entries_of_groups groups) rest
+    → Says (length circuit.inputs) bytes (entries_of_groups passed) rest
+says_of circuit bytes rest inputs groups passed count same says = rw (← count, same) says
 
 -- what follows from two things that hold of an error
 if_err_too : {A E : Type 0} {K P Q : E → Type 0} (r : Result A E) → ((e : E) → K e → P e → Q e) → IfErr r K
@@ -29,31 +26,25 @@ pub returns-clause-ok : goal.returns-clause-ok
 returns-clause-ok g c =
     let checked = c.args.checked.now in
     let bytes = c.args.bytes.now in
-    let lines = c.in_ok-groups.lines in
-    let rest = c.in_ok-groups.rest.now in
-    let asks = c.in-Ok.ensures.asks in
-    on_ok_weaker c.trace_good-traced.result (λ sent. rw (← asks)
-    (sent checked bytes (rw asks c.requires.fresh) c.in-Ok.ensures.means
-    (says_of checked bytes lines rest c.len-inputs.result c.in_ok-groups.groups.items c.deref-2.result.now
+    on_ok_weaker c.trace_good-traced.result (λ sent. rw (← c.requires.columns)
+    (sent checked bytes c.requires.same c.in-Ok-set_up.ensures.means
+    (says_of checked bytes c.in-Ok.rest.now c.len-inputs.result c.in-Ok.groups.items c.deref-2.result.now
     (c.len-inputs.ensures ∙ ap (λ (k : Circuit). length k.inputs) c.circuit.ensures.value) c.deref-2.ensures.value
-    c.in_ok-groups.ensures.says) c.requires.none_bad))
+    c.in-Ok.ensures.says) c.requires.none_bad))
     c.trace_good-traced.ensures.ok
 
 pub returns-clause-err : goal.returns-clause-err
 returns-clause-err g c =
     let checked = c.args.checked.now in
     let bytes = c.args.bytes.now in
-    let lines = c.in_ok-groups.lines in
-    let rest = c.in_ok-groups.rest.now in
-    let asks = c.in-Ok.ensures.asks in
     if_err_too c.trace_good-traced.result
     (λ e kind said.
     subst (λ (k : SimFault). NotTraced checked c.args.columns bytes k (g.W.Sink.taken c.args.sink.now)
     (g.W.Sink.taken c.trace_good-traced.new.sink)) (sym kind)
-    (rw (← asks) (said checked bytes (rw asks c.requires.fresh) c.in-Ok.ensures.means
-    (says_of checked bytes lines rest c.len-inputs.result c.in_ok-groups.groups.items c.deref-2.result.now
+    (rw (← c.requires.columns) (said checked bytes c.requires.same c.in-Ok-set_up.ensures.means
+    (says_of checked bytes c.in-Ok.rest.now c.len-inputs.result c.in-Ok.groups.items c.deref-2.result.now
     (c.len-inputs.ensures ∙ ap (λ (k : Circuit). length k.inputs) c.circuit.ensures.value) c.deref-2.ensures.value
-    c.in_ok-groups.ensures.says) c.requires.none_bad)))
+    c.in-Ok.ensures.says) c.requires.none_bad)))
     c.trace_good-traced.ensures.kind c.trace_good-traced.ensures.err
 
 pub returns-clause-count : goal.returns-clause-count
@@ -65,8 +56,8 @@ returns-clause-count g c =
 
 pub trace_good-traced-requires-clause-room : goal.trace_good-traced-requires-clause-room
 trace_good-traced-requires-clause-room g c =
-    subst (λ (groups : List (List Run)). All (HasRoomFor c.in-Ok.bench) groups)
-    (c.deref.ensures.value ∙ sym c.deref-2.ensures.value) c.in-Ok.ensures.room
+    subst (λ (groups : List (List Run)). All (HasRoomFor c.in-Ok-set_up.bench) groups)
+    (c.deref.ensures.value ∙ sym c.deref-2.ensures.value) c.in-Ok-set_up.ensures.room
 
 pub returns-clause-unsent : goal.returns-clause-unsent
 returns-clause-unsent g c =

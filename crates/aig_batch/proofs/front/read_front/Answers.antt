@@ -21,11 +21,9 @@ loop-groups-preserved c =
     record {
       says =
           subst
-          (λ (es : List Entry). Says inputs c.args.bytes.now (c.loop-groups.lines + c.in_ok-group.count) es
-          c.in_ok-group.more.now) (sym entries)
-          (says_then inputs c.args.bytes.now c.loop-groups.rest.now c.in_ok-group.more.now c.loop-groups.lines
-          c.in_ok-group.count (entries_of_groups groups) (entries_of_group group) c.loop-groups.invariant.says
-          c.in_ok-group.ensures.says);
+          (λ (es : List Entry). Says inputs c.args.bytes.now es c.in_ok-group.more.now) (sym entries)
+          (says_then inputs c.args.bytes.now c.loop-groups.rest.now c.in_ok-group.more.now (entries_of_groups groups)
+          (entries_of_group group) c.loop-groups.invariant.says c.in_ok-group.ensures.says);
       good = c.in_ok-group.ensures.good;
       few = subst (λ (gs : List (List Run)). All (λ (runs : List Run). length runs ≤ 256) gs) (sym now)
           (All-push (λ (runs : List Run). length runs ≤ 256) groups group c.loop-groups.invariant.few

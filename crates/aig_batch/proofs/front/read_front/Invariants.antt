@@ -7,7 +7,7 @@ use Rattle.aig_batch.proofs.front.read_front.Given as goal
 
 abbrev pub invariant-loop-groups : goal.invariant-loop-groups
 invariant-loop-groups l = record {
-  says : Says l.inputs l.bytes l.lines (entries_of_groups l.groups.items) l.rest;
+  says : Says l.inputs l.bytes (entries_of_groups l.groups.items) l.rest;
   good : HasNoBadLine l.inputs l.rest;
   few : All (λ (runs : List Run). length runs ≤ 256) l.groups.items;
   fits : All (λ (runs : List Run). All (λ (run : Run).

@@ -15,14 +15,19 @@ loop-rest-preserved c =
     let now = c.push.new.self.items in
     let more : now ≡ runs ++ run ∷ [] = c.in_ok-push.ensures.items in
     record {
-      says = rw c.len-in-loop-rest.ensures
-          (one_run inputs c.args.bytes.now c.loop-rest.rest.now c.in-Some.more.now c.loop-rest.lines runs now run more
-          c.loop-rest.invariant.says c.in-Some.ensures.says);
+      says = one_run inputs c.args.bytes.now c.loop-rest.rest.now c.in-Some.more.now runs now run more
+          c.loop-rest.invariant.says c.in-Some.ensures.says;
       fits = subst (λ (rs : List Run). All (λ (r : Run). All (λ (v : List Val). length v ≡ inputs) r.steps) rs)
           (sym more)
           (All-push (λ (r : Run). All (λ (v : List Val). length v ≡ inputs) r.steps) runs run
           c.loop-rest.invariant.fits c.in-Some.ensures.fits);
       good = c.in-Some.ensures.good;
       few = omega (arith, ap length more, length-append runs (run ∷ []), c.loop-rest.invariant.few);
-      some = omega (arith, ap length more, length-append runs (run ∷ []), c.loop-rest.invariant.some);
+      shorter = omega (
+        arith,
+        ap length more,
+        length-append runs (run ∷ []),
+        c.loop-rest.invariant.shorter,
+        c.in-Some.ensures.shorter,
+      );
     }

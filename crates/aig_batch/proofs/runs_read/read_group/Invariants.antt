@@ -1,4 +1,4 @@
-use Rattle.std.specs.Prelude.{◌≡◌, ◌-◌, ◌≤◌, List, length}
+use Rattle.std.specs.Prelude.{◌≡◌, ◌+◌, ◌-◌, ◌≤◌, List, length}
 use Rattle.std.specs.List.{All, flat_map}
 use Rattle.aig_circuit.specs.declared.value.Val.{Val}
 use Rattle.aig_lanes.specs.declared.run.Run.{Run}
@@ -7,11 +7,11 @@ use Rattle.aig_batch.proofs.runs_read.read_group.Given as goal
 
 abbrev pub invariant-loop-rest : goal.invariant-loop-rest
 invariant-loop-rest l = record {
-  says : Says l.inputs l.bytes l.lines (flat_map entries_of_run l.runs.items) l.rest;
+  says : Says l.inputs l.bytes (flat_map entries_of_run l.runs.items) l.rest;
   fits : All (λ (run : Run). All (λ (vector : List Val). length vector ≡ l.inputs) run.steps) l.runs.items;
   good : HasNoBadLine l.inputs l.rest;
   few : length l.runs.items ≤ 256;
-  some : length l.runs.items ≤ l.lines;
+  shorter : length l.rest + length l.runs.items ≤ length l.bytes;
 }
 
 abbrev pub decreases-loop-rest : goal.decreases-loop-rest

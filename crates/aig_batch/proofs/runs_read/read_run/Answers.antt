@@ -1,4 +1,4 @@
-use Rattle.std.proofs.Common.{◌≡◌, ◌∙◌, ◌+◌, List, Some, ℕ, ap, bytes_eq, codes, drop, length}
+use Rattle.std.proofs.Common.{◌≡◌, ◌∙◌, ◌+◌, List, Some, ℕ, ap, arith, bytes_eq, codes, drop, length}
 use Rattle.std.proofs.Common.{subst, sym, take}
 use Rattle.std.specs.List.{All}
 use Rattle.aig_circuit.specs.declared.value.Val.{Val}
@@ -19,7 +19,7 @@ returns-then-is_stop-clause-says c =
     let text : c.without_return.result.now ≡ without_return (take c.in-Some.next before) =
     c.without_return.ensures ∙ ap without_return c.split_at.ensures.front in
     subst
-    (λ (vs : List (List Val)). Says c.args.inputs bytes (length vs + 1) (entries_of_run (record { steps = vs })) more)
+    (λ (vs : List (List Val)). Says c.args.inputs bytes (entries_of_run (record { steps = vs })) more)
     (sym c.new.ensures)
     (run_ends c.args.inputs bytes
     (vectors_in c.args.inputs c.first_stride-stride.result c.loop-next.steps bytes) before more c.in-Some.next
@@ -64,6 +64,7 @@ loop-next-preserved c =
           c.loop-next.invariant.rest_is c.in-Some.ensures c.if-next-stride.false here) here;
       good = subst (HasNoBadLine inputs) (sym behind)
           (good_line inputs before next c.in-Some.ensures c.loop-next.invariant.good).1;
+      shorter = omega (arith, c.loop-next.invariant.shorter, c.split_at.ensures.back_len, c.split_at-in-Some.ensures.back_len);
       are = vectors_more inputs stride steps next bytes before vector c.loop-next.invariant.are
           c.loop-next.invariant.rest_is c.in-Some.ensures c.if-next-stride.false here;
       rest_is = behind

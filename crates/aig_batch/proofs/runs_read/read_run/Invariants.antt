@@ -1,4 +1,4 @@
-use Rattle.std.specs.Prelude.{◌≡◌, ◌*◌, drop, length, map}
+use Rattle.std.specs.Prelude.{◌≡◌, ◌*◌, ◌≤◌, drop, length, map}
 use Rattle.aig_step.specs.Stimulus.{Step}
 use Rattle.aig_batch.specs.Parts.RunsRead.{HasNoBadLine, Says}
 use Rattle.aig_lanes.specs.Parts.Vectors.{AreVectors, vectors_in}
@@ -6,8 +6,8 @@ use Rattle.aig_batch.proofs.runs_read.read_run.Given as goal
 
 abbrev pub invariant-loop-next : goal.invariant-loop-next
 invariant-loop-next l = record {
-  says : Says l.inputs l.bytes (length (vectors_in l.inputs l.stride l.steps l.bytes))
-      (map Step (vectors_in l.inputs l.stride l.steps l.bytes)) l.rest;
+  says : Says l.inputs l.bytes (map Step (vectors_in l.inputs l.stride l.steps l.bytes)) l.rest;
+  shorter : length l.rest ≤ length l.bytes;
   are : AreVectors l.inputs l.stride l.steps l.bytes;
   good : HasNoBadLine l.inputs l.rest;
   rest_is : l.rest ≡ drop (l.steps * l.stride) l.bytes;

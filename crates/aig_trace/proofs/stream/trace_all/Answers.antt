@@ -1,61 +1,67 @@
-use Rattle.std.proofs.Common.{◌∙◌, arith}
+use Rattle.std.proofs.Common.{◌∙◌, false, refl, sym, true, arith}
 use Rattle.std.proofs.lemmas.Result.{err_from_is_err_and}
-use Rattle.aig_trace.proofs.Streams.{if_err, interrupted, on_ok, reached_more, simulated, stopped, stopped_at_end}
+use Rattle.aig_lines.proofs.Sources.{reached_end, reached_kept, reached_more, reached_none}
+use Rattle.aig_trace.specs.Parts.Saying.{say_line}
+use Rattle.aig_trace.specs.Parts.Tracing.{HasTraced, task_of}
+use Rattle.aig_trace.proofs.Ending.{ended_well, ends, interrupted}
+use Rattle.aig_trace.proofs.Traced.{begun, traced_so_far}
 use Rattle.aig_trace.proofs.stream.trace_all.Goals as goal
 
-pub returns-in_default-clause-err : goal.returns-in_default-clause-err
-returns-in_default-clause-err g c = λ circuit columns start.
-    interrupted circuit columns _ _ _ _ _ _ (g.W.Sink.taken c.loop-count.sink)
-    (c.loop-count.invariant.reached circuit columns start) c.in_default.ensures.bytes
+pub loop-count-init : goal.loop-count-init
+loop-count-init g c = record {
+  reached = reached_none say_line HasTraced _ _ c.args.feeder.now c.args.lines.now _ c.requires.unfed c.requires.limit
+      (begun c.args.lines.now c.requires.begun);
+  going = c.requires.unfed.refused;
+  empty = c.requires.empty;
+  fine = c.requires.fine;
+  number = λ low. omega (arith, c.requires.unfed.number, low);
+  failed = refl;
+}
 
-pub returns-then-count-eq0-clause-ok : goal.returns-then-count-eq0-clause-ok
-returns-then-count-eq0-clause-ok g c =
+pub returns-in_default-clause-ends : goal.returns-in_default-clause-ends
+returns-in_default-clause-ends g c =
+    let i = c.loop-count.invariant in
+    let now = reached_kept say_line HasTraced _ _ _ _ _ _ _ i.reached c.in_default.ensures.bytes in
+    interrupted _ _ now.bytes _ _ c.loop-count.feeder _ _ (traced_so_far (task_of c.args.lines.now) _ _ _ _ now)
+    c.requires.empty c.requires.fine i.empty i.fine i.going now.gave
+
+pub returns-then-count-eq0-clause-ends : goal.returns-then-count-eq0-clause-ends
+returns-then-count-eq0-clause-ends g c =
     let bytes = c.in-Ok.ensures.bytes in
     let gave = rw c.if-count-eq0.true at bytes.0 in
-    on_ok c.trace_end.result
-    (λ sent circuit columns start.
-    let reached = c.loop-count.invariant.reached circuit columns start in
-    simulated circuit columns _ _ _ _ _ _ _ reached gave (bytes.1 c.if-count-eq0.true (omega arith))
-    (sent circuit columns reached.bytes reached.text reached.stands))
-    c.trace_end.ensures.ok
+    let all = reached_end say_line HasTraced _ _ _ _ _ _ _ c.loop-count.invariant.reached gave in
+    ends _ _ all.bytes true _ _ c.trace_end.new.feeder
+    (c.trace_end.ensures.traced (task_of c.args.lines.now) all.bytes all.stands) c.requires.empty c.requires.fine
+    c.trace_end.ensures.empty _ _ (record { gave = all.gave; end = λ _. bytes.1 c.if-count-eq0.true (omega arith) })
+    c.trace_end.result c.trace_end.ensures.ended (λ _. refl)
 
-pub returns-then-count-eq0-clause-err : goal.returns-then-count-eq0-clause-err
-returns-then-count-eq0-clause-err g c =
-    let bytes = c.in-Ok.ensures.bytes in
-    let gave = rw c.if-count-eq0.true at bytes.0 in
-    if_err c.trace_end.result
-    (λ e sent circuit columns start.
-    let reached = c.loop-count.invariant.reached circuit columns start in
-    stopped_at_end circuit columns _ _ _ _ _ _ _ reached e gave (bytes.1 c.if-count-eq0.true (omega arith))
-    (sent circuit columns reached.bytes reached.text reached.stands))
-    c.trace_end.ensures.err
+pub returns-in_err-trace_chunk-clause-ends : goal.returns-in_err-trace_chunk-clause-ends
+returns-in_err-trace_chunk-clause-ends g c =
+    let gave = rw (← c.split_at.ensures.front) at c.in-Ok.ensures.bytes.0 in
+    let h = err_from_is_err_and c.from_residual.result c.from_residual.ensures.1 in
+    let now = reached_more say_line HasTraced _ _ _ _ _ _ _ c.loop-count.invariant.reached c.split_at.result.0.now _ _
+    gave c.trace_chunk.ensures.fed in
+    rw (h.1, h.2)
+    (ends _ _ now.bytes false _ _ c.trace_chunk.new.feeder (traced_so_far (task_of c.args.lines.now) _ _ _ _ now)
+    c.requires.empty c.requires.fine c.trace_chunk.ensures.empty _ _ (record { gave = now.gave; end = λ never. cc }) _
+    (sym c.in_err-trace_chunk.was ∙ c.trace_chunk.ensures.ended) (λ ok. cc))
 
 pub loop-count-preserved : goal.loop-count-preserved
 loop-count-preserved g c =
     let gave = rw (← c.split_at.ensures.front) at c.in-Ok.ensures.bytes.0 in
     record {
-      reached = λ circuit columns start.
-          let reached = c.loop-count.invariant.reached circuit columns start in
-          reached_more circuit columns _ _ _ _ _ _ _ reached c.split_at.result.0.now _ gave
-          (c.in_ok-trace_chunk.ensures.ok circuit columns reached.bytes reached.text reached.stands);
+      reached = reached_more say_line HasTraced _ _ _ _ _ _ _ c.loop-count.invariant.reached
+          c.split_at.result.0.now _ _ gave c.trace_chunk.ensures.fed;
+      going = (ended_well _ _ _ _ (sym c.trace_chunk.ensures.ended ∙ c.in_ok-trace_chunk.was)).1;
+      empty = c.trace_chunk.ensures.empty;
+      fine = (ended_well _ _ _ _ (sym c.trace_chunk.ensures.ended ∙ c.in_ok-trace_chunk.was)).0;
       number = λ _.
           omega (
             arith,
             c.loop-count.invariant.number c.fetch.ensures.limited,
             c.in-Ok.ensures.bound,
-            c.in_ok-trace_chunk.ensures.number,
+            c.trace_chunk.ensures.number,
             c.split_at.ensures.front_len,
           );
-      source_failed = omega (arith, c.in-Ok.ensures.failed, c.loop-count.invariant.source_failed);
-      sink_failed = c.in_ok-trace_chunk.ensures.ok_count ∙ c.loop-count.invariant.sink_failed;
-      short = omega (arith, c.trace_chunk.ensures.short, c.loop-count.invariant.short);
+      failed = omega (arith, c.in-Ok.ensures.failed, c.loop-count.invariant.failed);
     }
-
-pub returns-in_err-trace_chunk-clause-err : goal.returns-in_err-trace_chunk-clause-err
-returns-in_err-trace_chunk-clause-err g c =
-    let gave = rw (← c.split_at.ensures.front) at c.in-Ok.ensures.bytes.0 in
-    let h = err_from_is_err_and c.from_residual.result c.from_residual.ensures.1 in
-    rw (h.1, h.2) (λ circuit columns start.
-    let reached = c.loop-count.invariant.reached circuit columns start in
-    stopped circuit columns _ _ _ _ _ _ _ reached c.split_at.result.0.now c.in_err-trace_chunk.field-0.0 gave
-    (c.in_err-trace_chunk.ensures.err circuit columns reached.bytes reached.text reached.stands))

@@ -1,64 +1,15 @@
-use Rattle.std.proofs.Common.{◌∙◌, ℕ, Some, rules, refl, ap, sym}
-use Rattle.aig_io.proofs.Puts.{beginning_sent}
-use Rattle.aig_trace.proofs.Sending.{all_sent, failed_once, if_ended, not_failed, on_ended}
-use Rattle.aig_trace.proofs.Taking.{put_at_end}
+use Rattle.std.proofs.Common.{◌∙◌, false, sym, true}
+use Rattle.aig_trace.proofs.Traced.{put_sent, traced_all}
+use Rattle.aig_trace.proofs.stream.trace_end.Goals.{then-good, else-good}
 use Rattle.aig_trace.proofs.stream.trace_end.Goals as goal
 
-pub returns-clause-ok : goal.returns-clause-ok
-returns-clause-ok g c =
-    on_ended _ _ _ _ c.ended.ensures.so
-    (λ fine good circuit columns bytes text stands.
-    let finished = c.take_end-good.ensures.good good circuit columns bytes text stands in
-    let found = all_sent _ _ _ _ c.new-output.ensures refl refl refl c.finish-sent.ensures.put finished.more
-    (sym c.is_err.ensures.value ∙ fine) finished.put in
-    record {
-      more = finished.more;
-      none_bad = finished.none_bad;
-      is_text = finished.is_text;
-      took = search rules;
-    })
-
-pub returns-clause-err : goal.returns-clause-err
-returns-clause-err g c =
-    if_ended _ _ _ _ _ c.ended.ensures.so
-    (λ broke circuit columns bytes text stands.
-    let put = put_at_end circuit columns bytes text _ _ _ c.take_end-good.result
-    (λ good. c.take_end-good.ensures.good good circuit columns bytes text stands)
-    (λ bad. c.take_end-good.ensures.bad bad circuit columns bytes text stands) in
-    let found = beginning_sent _ _ _ _ _ c.new-output.ensures refl refl put.2 c.finish-sent.ensures.put
-    (sym c.is_err.ensures.value ∙ broke) in
-    record {
-      more = put.0;
-      is_text = put.1;
-      took = search rules;
-    })
-    (λ fine bad circuit columns bytes text stands.
-    let found_bad = c.take_end-good.ensures.bad bad circuit columns bytes text stands in
-    let found = all_sent _ _ _ _ c.new-output.ensures refl refl refl c.finish-sent.ensures.put found_bad.more
-    (sym c.is_err.ensures.value ∙ fine) found_bad.put in
-    record {
-      more = found_bad.more;
-      bad = found_bad.bad ∙ ap (λ (n : ℕ). Some n) (sym c.number.ensures);
-      is_text = found_bad.is_text;
-      took = search rules;
-    })
-
-pub returns-clause-ok_count : goal.returns-clause-ok_count
-returns-clause-ok_count g c =
-    on_ended _ _ _ _ c.ended.ensures.so
-    (λ fine good.
-    let found = not_failed _ _ _ _ c.new-output.ensures refl refl refl c.finish-sent.ensures.put
-    (sym c.is_err.ensures.value ∙ fine) c.take_end-good.ensures.put in
-    search rules)
-
-pub returns-clause-count : goal.returns-clause-count
-returns-clause-count g c =
-    if_ended _ _ _ _ _ c.ended.ensures.so
-    (λ broke.
-    let found = failed_once _ _ _ _ c.new-output.ensures refl refl refl c.finish-sent.ensures.put
-    (sym c.is_err.ensures.value ∙ broke) c.take_end-good.ensures.put in
-    search rules)
-    (λ fine bad.
-    let found = not_failed _ _ _ _ c.new-output.ensures refl refl refl c.finish-sent.ensures.put
-    (sym c.is_err.ensures.value ∙ fine) c.take_end-good.ensures.put in
-    search rules)
+pub returns-clause-traced : goal.returns-clause-traced
+returns-clause-traced g c = λ task bytes stands.
+    let fed = c.end-good.ensures.fed _ stands in
+    elim c.if-good.branch [
+      | then-good w ↦ traced_all task bytes c.end-good.new.self c.end-good.new.taker _ fed true
+          (sym w.if-good.true ∙ c.end-good.ensures.result)
+          (put_sent _ _ _ _ w.close.ensures (rw w.lines-is at c.flush-sent.ensures.put))
+      | else-good w ↦ traced_all task bytes c.end-good.new.self c.end-good.new.taker _ fed false
+          (sym w.if-good.false ∙ c.end-good.ensures.result) (rw w.lines-is at c.flush-sent.ensures.put)
+    ]

@@ -38,8 +38,3 @@ returns-clause-good g c = λ _.
     })
     c.deref_mut-2.ensures.value refl (state_new ∙ c.put_row.ensures.next) refl
     (c.put_row.ensures.put said.0 characters))
-
-pub returns-clause-put : goal.returns-clause-put
-returns-clause-put g c =
-    let took = returns-clause-good g c refl in
-    record { text = took.line; put = took.put }

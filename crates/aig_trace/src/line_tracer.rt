@@ -1,0 +1,77 @@
+//! What takes the lines of a stimulus, and puts the text for them.
+ghost use Rattle.std.specs.Prelude.{◌≡◌, [], codes, if◌then◌else◌, is_err};
+ghost use Rattle.aig_io.specs.Output.{Put};
+
+use crate::gathered::Gathered;
+use crate::tracer::Tracer;
+use aig_io::{DeviceFault, Sink};
+use aig_lines::LineTaker;
+use std::marker::Model;
+
+/// A tracer, and the output for the text.
+#[derive(Drop)]
+pub(crate) struct LineTracer<'a, W: Sink> {
+    tracer: Tracer,
+    output: Gathered<'a, W>,
+}
+
+impl<'a, W: Sink> Model for LineTracer<'a, W> {
+    ghost use Rattle.aig_trace.specs.Parts.Tracing.{LineTracing};
+
+    ghost Value = { LineTracing W };
+
+    ghost view = { λ t. record { tracing = t.tracer; output = t.output } };
+}
+
+impl<'a, W: Sink> LineTracer<'a, W> {
+    /// The tracer goes on from where it stands.
+    pub(crate) fn new(tracer: Tracer, output: Gathered<'a, W>) -> Self
+        ensures { result ≡ record { tracing = tracer; output = output.entry } }
+    {
+        LineTracer { tracer, output }
+    }
+
+    /// Ends the run that is going on, if it has a step. Another begins.
+    pub(crate) fn close(&mut self)
+        ensures { Put self.old.output self.new.output (if self.old.tracing.has_step then codes ".\n" else []) }
+    {
+        if self.tracer.has_step() {
+            self.output.put(b".\n");
+        }
+    }
+
+    /// Sends the text that was put. Ok means that the sink took all.
+    pub(crate) fn flush(&mut self) -> Result<(), DeviceFault>
+        ensures same { self.new.tracing ≡ self.old.tracing }
+        ensures put { Put self.old.output self.new.output [] }
+        ensures empty { self.new.output.held ≡ [] }
+        ensures reported { self.new.output.failed ≡ is_err result }
+    {
+        self.output.flush()
+    }
+
+    /// Hands the output back.
+    pub(crate) fn into_output(self) -> Gathered<'a, W>
+        ensures { result ≡ self.entry.output }
+    {
+        let LineTracer { tracer, output } = self;
+        drop(tracer);
+        output
+    }
+}
+
+impl<'a, W: Sink> LineTaker for LineTracer<'a, W> {
+    ghost use Rattle.aig_trace.specs.Parts.Saying.{Saying, say_line};
+    ghost use Rattle.aig_trace.specs.Parts.Tracing.{HasTraced, Task};
+
+    ghost State = { Saying (Task W) };
+
+    ghost step = { say_line };
+
+    ghost IsAt = { HasTraced };
+
+    #[inline(always)]
+    fn take(&mut self, text: &[u8]) -> bool {
+        self.tracer.take_line(&mut self.output, text)
+    }
+}
