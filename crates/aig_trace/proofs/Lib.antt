@@ -5,7 +5,6 @@ pub mod RunTexts
 pub mod Saying
 pub mod StepsTaken
 pub mod Taking
-pub mod Gathering
 pub mod Sending
 pub mod Streams
 pub mod KnownLines

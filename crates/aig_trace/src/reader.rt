@@ -7,10 +7,9 @@ ghost use Rattle.aig_step.specs.declared.trace.Columns.{Columns as ColumnsAsked}
 ghost use Rattle.aig_lines.specs.Texts.{HasNoLineFeed};
 ghost use Rattle.aig_trace.specs.Parts.Tracing.{Advanced, Finished, FoundBad, IsAt, IsFresh, Passed, PutSome, TookLast};
 
-use crate::gathered::Gathered;
 use crate::tracer::Tracer;
 use aig_checked::Checked;
-use aig_io::Sink;
+use aig_io::{Output, Sink};
 use aig_lines::{PartialLine, without_return};
 use aig_step::{Columns, SimFault};
 use memchr::memchr;
@@ -73,7 +72,7 @@ impl Reader {
 
     /// Takes the rest of a line up to its line feed, and answers whether the line is good.
     #[inline(always)]
-    fn take_ended<W: Sink>(&mut self, output: &mut Gathered<W>, piece: &[u8]) -> bool
+    fn take_ended<W: Sink>(&mut self, output: &mut Output<W>, piece: &[u8]) -> bool
         ensures good { result ≡ true → (c : CircuitRecord) (columns : ColumnsAsked) (bytes text : List ℕ)
             → HasNoLineFeed piece.now → IsAt c columns bytes text self.old
             → (number : ℕ) → number ≡ self.old.number + 1
@@ -101,7 +100,7 @@ impl Reader {
     #[inline(always)]
     fn take_next_step<'a, W: Sink>(
         &mut self,
-        output: &mut Gathered<W>,
+        output: &mut Output<W>,
         rest: &'a [u8],
     ) -> Option<&'a [u8]>
         requires { self.old.number + length rest.now < 2 ^ 64 }
@@ -128,7 +127,7 @@ impl Reader {
 
     /// Takes lines as long as each is a step, and answers what is left behind them.
     #[inline(always)]
-    fn take_steps<'a, W: Sink>(&mut self, output: &mut Gathered<W>, chunk: &'a [u8]) -> &'a [u8]
+    fn take_steps<'a, W: Sink>(&mut self, output: &mut Output<W>, chunk: &'a [u8]) -> &'a [u8]
         requires { self.old.number + length chunk.now < 2 ^ 64 }
         ensures passed { (c : CircuitRecord) (columns : ColumnsAsked) (bytes text : List ℕ)
             → IsAt c columns bytes text self.old
@@ -145,7 +144,7 @@ impl Reader {
     }
 
     /// Takes the bytes that came next, and answers whether each line that ended among them is good.
-    pub fn take_chunk<W: Sink>(&mut self, output: &mut Gathered<W>, chunk: &[u8]) -> bool
+    pub fn take_chunk<W: Sink>(&mut self, output: &mut Output<W>, chunk: &[u8]) -> bool
         requires { self.old.number + length chunk.now < 2 ^ 64 }
         ensures good { result ≡ true → (c : CircuitRecord) (columns : ColumnsAsked) (bytes text : List ℕ)
             → IsAt c columns bytes text self.old
@@ -172,7 +171,7 @@ impl Reader {
     }
 
     /// Takes a last line without its line feed, where there is one, and answers whether it is good.
-    fn take_last<W: Sink>(&mut self, output: &mut Gathered<W>) -> bool
+    fn take_last<W: Sink>(&mut self, output: &mut Output<W>) -> bool
         ensures good { result ≡ true → (c : CircuitRecord) (columns : ColumnsAsked) (bytes text : List ℕ)
             → IsAt c columns bytes text self.old
             → TookLast c columns bytes text self.new.tracing output.old output.new }
@@ -189,7 +188,7 @@ impl Reader {
 
     /// Takes the end of the bytes: a last line without its line feed, and the end of a run that has a step. Answers
     /// whether the line is good.
-    pub fn take_end<W: Sink>(&mut self, output: &mut Gathered<W>) -> bool
+    pub fn take_end<W: Sink>(&mut self, output: &mut Output<W>) -> bool
         ensures good { result ≡ true → (c : CircuitRecord) (columns : ColumnsAsked) (bytes text : List ℕ)
             → IsAt c columns bytes text self.old → Finished c columns bytes text output.old output.new }
         ensures bad { result ≡ false → (c : CircuitRecord) (columns : ColumnsAsked) (bytes text : List ℕ)

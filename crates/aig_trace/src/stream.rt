@@ -9,10 +9,9 @@ ghost use Rattle.aig_step.specs.Outcome.{NotSimulated, Simulated, sink_failures,
 ghost use Rattle.aig_trace.specs.Parts.Streaming.{IsOfLines, NotSent, SentAll, SentLines, ended_so};
 ghost use Rattle.aig_trace.specs.Parts.Tracing.{IsAt};
 
-use crate::gathered::Gathered;
 use crate::reader::Reader;
 use aig_checked::Checked;
-use aig_io::{ROOM, Sink, Source};
+use aig_io::{Output, ROOM, Sink, Source};
 use aig_step::{Columns, SimFault};
 use std::alloc::Global;
 
@@ -46,7 +45,7 @@ fn trace_chunk<W: Sink>(reader: &mut Reader, sink: &mut W, chunk: &[u8]) -> Resu
     ensures count { IfErr result (λ e. W.failed sink.new ≡ W.failed sink.old + sink_failures e) }
     ensures short { W.longest sink.new ≤ max (W.longest sink.old) ROOM }
 {
-    let mut output = Gathered::new(sink);
+    let mut output = Output::new(sink);
     let good = reader.take_chunk(&mut output, chunk);
     let (sent, _sink) = output.finish();
     ended(sent.is_err(), good, reader.number())
@@ -66,7 +65,7 @@ fn trace_end<W: Sink>(reader: &mut Reader, sink: &mut W) -> Result<(), SimFault>
     ensures count { IfErr result (λ e. W.failed sink.new ≡ W.failed sink.old + sink_failures e) }
     ensures short { W.longest sink.new ≤ max (W.longest sink.old) ROOM }
 {
-    let mut output = Gathered::new(sink);
+    let mut output = Output::new(sink);
     let good = reader.take_end(&mut output);
     let (sent, _sink) = output.finish();
     ended(sent.is_err(), good, reader.number())

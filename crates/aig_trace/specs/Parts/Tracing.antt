@@ -1,15 +1,16 @@
 -- How far the lines of a stimulus were taken, and what was put for them. Only the simulator cites this.
-use Rattle.std.specs.Prelude.{◌≡◌, ◌++◌, ◌+◌, ℕ, List, [], Bool, true, None, Some, length, take}
+use Rattle.std.specs.Prelude.{◌≡◌, ◌++◌, ◌+◌, ℕ, List, [], Bool, true, None, Option, Some, length, take}
 use Rattle.aig_circuit.specs.declared.circuit.Circuit.{Circuit}
 use Rattle.aig_circuit.specs.declared.value.Val.{Val}
 use Rattle.aig_io.specs.Output.{Out, Put}
 use Rattle.aig_meaning.specs.Meaning.{MeansTheSame}
 use Rattle.aig_step.specs.declared.trace.Columns.{Columns}
-use Rattle.aig_step.specs.Stimulus.{Entry, entry_in, stimulus}
-use Rattle.aig_step.specs.TraceText.{IsTraceText}
+use Rattle.aig_step.specs.Stimulus.{Entry, entry_in, stimulus, values_of}
+use Rattle.aig_step.specs.TraceText.{IsTraceText, values_text}
 use Rattle.aig_step.specs.Outcome.{first_bad_line}
 use Rattle.aig_lines.specs.Keeping.{Keeping}
 use Rattle.aig_step.specs.Parts.Lines.{vector_in}
+use Rattle.aig_step.specs.Parts.Machines.{ShowsBelow}
 use Rattle.aig_trace.specs.Parts.Progress.{Does, Goes, Point, Steps, begin_of}
 use Rattle.aig_step.specs.Parts.Seen.{IsHeard, all_good}
 
@@ -23,6 +24,21 @@ pub record Tracing : Type 0 where
 
 abbrev pub point_of : Tracing → Point
 point_of t = record { state = t.state; has_step = t.has_step }
+
+abbrev pub or_none : Option (List Val) → List Val
+or_none None = []
+or_none (Some values) = values
+
+-- the values that a text says, and none where it says none
+abbrev pub values_in : List ℕ → List Val
+values_in text = or_none (values_of text)
+
+-- the text of inputs, the state and a table of so many values are those of a step
+pub record IsStepOf (c : Circuit) (values : ℕ) (text : List ℕ) (state : List Val) : Type 0 where
+  pub says : values_text (values_in text) ≡ text
+  pub each_input : length text ≡ length c.inputs
+  pub each_latch : length state ≡ length c.latches
+  pub below : ShowsBelow values c
 
 -- some text was put
 pub record PutSome {W : Type 0} (a b : Out W) : Type 0 where

@@ -11,7 +11,7 @@ returns-clause-good g c = λ _ circuit columns bytes text stands.
     elim c.if-has_step.branch [
       | then-has_step w ↦
           rw w.output-is
-          (finished_stop circuit columns bytes text _ _ _ _ last (same ∙ w.if-has_step.true) w.put.ensures)
+          (finished_stop circuit columns bytes text _ _ _ _ last (same ∙ w.if-has_step.true) w.put.ensures.put)
       | else-has_step w ↦
           finished_none circuit columns bytes text _ _ _ _ last (same ∙ w.if-has_step.false) w.output-is
     ]
@@ -19,6 +19,6 @@ returns-clause-good g c = λ _ circuit columns bytes text stands.
 pub returns-clause-put : goal.returns-clause-put
 returns-clause-put g c =
     elim c.if-has_step.branch [
-      | then-has_step w ↦ rw w.output-is (some_then _ _ _ _ c.take_last.ensures.put w.put.ensures)
+      | then-has_step w ↦ rw w.output-is (some_then _ _ _ _ c.take_last.ensures.put w.put.ensures.put)
       | else-has_step w ↦ rw w.output-is c.take_last.ensures.put
     ]
