@@ -19,15 +19,15 @@ use crate::collected::collect;
 use crate::front::read_front;
 use crate::text_group::{Bench, set_up};
 use aig_checked::Checked;
-use aig_io::{Sink, Source};
+use aig_io::{Output, Sink, Source};
 use aig_lanes::RunGroup;
 use aig_step::{Columns, Machine, SimFault};
-use aig_trace::{Gathered, Reader};
+use aig_trace::Reader;
 use std::alloc::Global;
 
 /// Puts the texts of groups, one after the other.
 fn put_groups<W: Sink>(
-    output: &mut Gathered<W>,
+    output: &mut Output<W>,
     machine: &Machine,
     groups: &[RunGroup],
     bench: &mut Bench,
@@ -74,7 +74,7 @@ fn trace_good<W: Sink>(
     ensures count { IfErr result (λ _. W.failed sink.new ≡ W.failed sink.old + 1) }
     ensures short { W.longest sink.new ≤ max (W.longest sink.old) ROOM }
 {
-    let mut output = Gathered::new(sink);
+    let mut output = Output::new(sink);
     put_groups(&mut output, machine, groups, bench);
     // No line is bad, so the text is that for all of the rest.
     let (sent, _sink) = reader.put_text(output, rest).finish();

@@ -19,13 +19,13 @@ ghost use Rattle.aig_step.specs.declared.trace.Columns.TheVariants.{Properties};
 use crate::traces::take_traces;
 use aig_checked::Checked;
 use aig_circuit::OutOfMemory;
-use aig_io::Sink;
+use aig_io::{Line, Output, Sink};
 use aig_lanes::{
     BlockBits, Plane, Run, RunGroup, Sheet, Shown, Trace, Vectors, assign_lanes, fill_bits,
     longest, new_bits, new_table, put_vectors,
 };
 use aig_step::{Columns, Machine};
-use aig_trace::{Gathered, Line, line_room};
+use aig_trace::line_room;
 use std::alloc::Global;
 
 /// Before the first step of a group: all variables are x but the constant, and the state is that by the resets.
@@ -120,15 +120,19 @@ struct ShownLine<'a> {
 }
 
 impl<'a> Line for ShownLine<'a> {
-    ghost is_whole = { λ l. (l.lane < 256) × ((l.step + 1) * shown_size l.shown.now < 2 ^ 64)
+    type State = ();
+
+    ghost is_whole = { λ l _. (l.lane < 256) × ((l.step + 1) * shown_size l.shown.now < 2 ^ 64)
         × (end_of l.shown.now (l.step + 1) ≤ length (text_in l.lane l.sheet.now)) };
 
     ghost size = { λ l. shown_size l.shown.now + length l.given.now };
 
-    ghost text = { λ l. shown_text l.shown.now l.step l.given.now (text_in l.lane l.sheet.now) };
+    ghost text = { λ l _. shown_text l.shown.now l.step l.given.now (text_in l.lane l.sheet.now) };
+
+    ghost leads = { λ _ _ _. Unit {0} };
 
     #[inline(always)]
-    fn write(&self, line: &mut [u8], at: usize) -> usize {
+    fn write(&self, _state: &mut (), line: &mut [u8], at: usize) -> usize {
         self.shown
             .write(self.sheet, line, at, self.given, self.step, self.lane)
     }
@@ -136,7 +140,7 @@ impl<'a> Line for ShownLine<'a> {
 
 /// Puts the line of each step of a run, and the line that ends it.
 fn put_run<W: Sink>(
-    output: &mut Gathered<W>,
+    output: &mut Output<W>,
     line: &mut [u8],
     run: &Vectors,
     shown: &Shown,
@@ -159,14 +163,14 @@ fn put_run<W: Sink>(
             step,
             lane,
         };
-        output.put_line(line, &shown_line);
+        output.put_line(line, &shown_line, &mut ());
     }
     output.put(b".\n");
 }
 
 /// Puts the texts of runs.
 fn put_runs<W: Sink>(
-    output: &mut Gathered<W>,
+    output: &mut Output<W>,
     line: &mut [u8],
     runs: &[Vectors],
     shown: &Shown,
@@ -290,7 +294,7 @@ impl Bench {
         &mut self,
         machine: &Machine,
         runs: &[Vectors],
-        output: &mut Gathered<W>,
+        output: &mut Output<W>,
     )
         requires lanes { length runs.now ≤ 256 }
         requires runs { All (IsRunOf machine.now) runs.now }

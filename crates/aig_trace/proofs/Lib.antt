@@ -4,7 +4,6 @@ pub mod Saying
 pub mod StepsTaken
 pub mod Traced
 pub mod Ending
-pub mod Gathering
 pub mod KnownLines
 pub mod KnownTexts
 pub mod LongEnough

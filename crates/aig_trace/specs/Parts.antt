@@ -1,5 +1,4 @@
 pub mod Progress
-pub mod Gathering
 pub mod Tracing
 pub mod Saying
 pub mod Streaming

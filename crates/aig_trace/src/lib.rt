@@ -1,10 +1,10 @@
 //! The trace text of a stimulus that is taken line by line.
 //!
 //! Others call `simulate`. Where a whole stimulus is read first, `aig_batch` calls `Reader` for the
-//! lines that it does not step side by side, and `Gathered` for the text.
+//! lines that it does not step side by side.
 //!
 //! Modules:
-//! - `gathered`: lines that are gathered before an output.
+//! - `row_line`: the line of a step.
 //! - `tracer`, `line_tracer`: a line and what is written for it; lines as they come. `reader`: what their bytes take.
 //! - `stream`: `simulate`.
 //! - `laws`: facts about the definitions alone, each the contract of a function with an empty body.
@@ -13,14 +13,13 @@
 //! functions inside the simulator cite. What is promised of `simulate` stands in `Outcome` of `aig_step`.
 #![tactic(auto)]
 
-mod gathered;
 pub mod laws;
 mod line_tracer;
 mod reader;
+mod row_line;
 mod stream;
 mod tracer;
 
-pub use crate::gathered::{Gathered, Line};
 pub use crate::reader::Reader;
 pub use crate::stream::simulate;
 pub use crate::tracer::line_room;

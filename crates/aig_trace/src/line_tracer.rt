@@ -2,9 +2,8 @@
 ghost use Rattle.std.specs.Prelude.{◌≡◌, [], codes, if◌then◌else◌, is_err};
 ghost use Rattle.aig_io.specs.Output.{Put};
 
-use crate::gathered::Gathered;
 use crate::tracer::Tracer;
-use aig_io::{DeviceFault, Sink};
+use aig_io::{DeviceFault, Output, Sink};
 use aig_lines::LineTaker;
 use std::marker::Model;
 
@@ -12,7 +11,7 @@ use std::marker::Model;
 #[derive(Drop)]
 pub(crate) struct LineTracer<'a, W: Sink> {
     tracer: Tracer,
-    output: Gathered<'a, W>,
+    output: Output<'a, W>,
 }
 
 impl<'a, W: Sink> Model for LineTracer<'a, W> {
@@ -25,7 +24,7 @@ impl<'a, W: Sink> Model for LineTracer<'a, W> {
 
 impl<'a, W: Sink> LineTracer<'a, W> {
     /// The tracer goes on from where it stands.
-    pub(crate) fn new(tracer: Tracer, output: Gathered<'a, W>) -> Self
+    pub(crate) fn new(tracer: Tracer, output: Output<'a, W>) -> Self
         ensures { result ≡ record { tracing = tracer; output = output.entry } }
     {
         LineTracer { tracer, output }
@@ -51,7 +50,7 @@ impl<'a, W: Sink> LineTracer<'a, W> {
     }
 
     /// Hands the output back.
-    pub(crate) fn into_output(self) -> Gathered<'a, W>
+    pub(crate) fn into_output(self) -> Output<'a, W>
         ensures { result ≡ self.entry.output }
     {
         let LineTracer { tracer, output } = self;

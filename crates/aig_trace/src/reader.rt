@@ -4,11 +4,10 @@ ghost use Rattle.aig_meaning.specs.Meaning.{MeansTheSame};
 ghost use Rattle.aig_step.specs.declared.fault.SimFault.TheVariants.{OutOfMemory as IsOutOfMemory};
 ghost use Rattle.aig_trace.specs.Parts.Tracing.{IsFresh, PutText};
 
-use crate::gathered::Gathered;
 use crate::line_tracer::LineTracer;
 use crate::tracer::Tracer;
 use aig_checked::Checked;
-use aig_io::Sink;
+use aig_io::{Output, Sink};
 use aig_lines::LineFeeder;
 use aig_step::{Columns, SimFault};
 use std::alloc::Global;
@@ -50,7 +49,7 @@ impl Reader {
     /// It puts the text into this output.
     pub(crate) fn start<'a, W: Sink>(
         self,
-        output: Gathered<'a, W>,
+        output: Output<'a, W>,
     ) -> (LineFeeder, LineTracer<'a, W>)
         ensures feeder { result.0 ≡ self.feeder }
         ensures lines { result.1 ≡ record { tracing = self.tracing; output = output.entry } }
@@ -61,7 +60,7 @@ impl Reader {
 
     /// Puts the text for all lines of the bytes up to the first bad one, and ends the run that is going on then, if it
     /// has a step.
-    pub fn put_text<'a, W: Sink>(self, output: Gathered<'a, W>, bytes: &[u8]) -> Gathered<'a, W>
+    pub fn put_text<'a, W: Sink>(self, output: Output<'a, W>, bytes: &[u8]) -> Output<'a, W>
         requires { IsFresh self }
         ensures { PutText self.tracing bytes.now output.entry result }
     {

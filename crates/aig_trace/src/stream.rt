@@ -11,11 +11,10 @@ ghost use Rattle.aig_trace.specs.Parts.Saying.{Saying, before_lines, longest_ent
 ghost use Rattle.aig_trace.specs.Parts.Streaming.{Ends, IsOfLines, IsTraced, ended_so};
 ghost use Rattle.aig_trace.specs.Parts.Tracing.{HasTraced, Task, point_of};
 
-use crate::gathered::Gathered;
 use crate::line_tracer::LineTracer;
 use crate::reader::Reader;
 use aig_checked::Checked;
-use aig_io::{ROOM, Sink, Source};
+use aig_io::{Output, ROOM, Sink, Source};
 use aig_lines::LineFeeder;
 use aig_step::{Columns, SimFault};
 use std::alloc::Global;
@@ -127,7 +126,7 @@ pub fn simulate<R: Source, W: Sink>(
     ensures short { W.longest sink.new ≤ max (W.longest sink.old) ROOM }
 {
     let reader = Reader::new(alloc, checked, columns)?;
-    let (mut feeder, mut lines) = reader.start(Gathered::new(sink));
+    let (mut feeder, mut lines) = reader.start(Output::new(sink));
     let traced = trace_all(&mut feeder, &mut lines, source);
     drop(feeder);
     let _sink = lines.into_output().into_sink();

@@ -9,10 +9,10 @@ ghost use Rattle.aig_step.specs.Parts.Lines.{HasLineRoom, line_size, vector_in};
 ghost use Rattle.aig_trace.specs.Parts.Progress.{begin_of};
 ghost use Rattle.aig_trace.specs.Parts.Tracing.{IsSameTracer, TookLine, TookStep, point_of};
 
-use crate::gathered::Gathered;
+use crate::row_line::RowLine;
 use aig_checked::Checked;
 use aig_circuit::{Circuit, OutOfMemory, Val};
-use aig_io::Sink;
+use aig_io::{Output, Sink};
 use aig_step::{Code, Columns, Machine, SimFault, Table, is_stop, put_reset_state};
 use std::alloc::Global;
 use std::marker::Model;
@@ -136,7 +136,7 @@ impl Tracer {
 
     /// Takes a step if the text says its inputs, puts its line, and answers whether it does.
     #[inline(always)]
-    pub(crate) fn take_step<W: Sink>(&mut self, output: &mut Gathered<W>, text: &[u8]) -> bool
+    pub(crate) fn take_step<W: Sink>(&mut self, output: &mut Output<W>, text: &[u8]) -> bool
         ensures good { result ≡ true → TookStep self.old self.new output.old output.new text.now }
         ensures bad { result ≡ false → vector_in (length self.old.circuit.inputs) text.now ≡ None }
         ensures none { result ≡ false → output.new ≡ output.old }
@@ -149,20 +149,19 @@ impl Tracer {
         {
             return false;
         }
-        output.put_row(
-            &mut self.line,
-            self.columns,
-            text,
-            &self.values,
-            self.machine.parts(),
-            &mut self.state,
-        );
+        let line = RowLine {
+            columns: self.columns,
+            inputs: text,
+            values: &self.values,
+            parts: self.machine.parts(),
+        };
+        output.put_line(&mut self.line, &line, &mut self.state);
         self.has_step = true;
         true
     }
 
     /// Ends the run.
-    fn stop<W: Sink>(&mut self, output: &mut Gathered<W>)
+    fn stop<W: Sink>(&mut self, output: &mut Output<W>)
         ensures point { point_of self.new ≡ begin_of self.old.circuit }
         ensures put { Put output.old output.new (codes ".\n") }
         ensures same { IsSameTracer self.old self.new }
@@ -173,7 +172,7 @@ impl Tracer {
 
     /// Does what the text of a line says, puts the text for it, and answers whether it says anything.
     #[inline(always)]
-    pub(crate) fn take_line<W: Sink>(&mut self, output: &mut Gathered<W>, text: &[u8]) -> bool
+    pub(crate) fn take_line<W: Sink>(&mut self, output: &mut Output<W>, text: &[u8]) -> bool
         ensures good { result ≡ true → TookLine self.old self.new output.old output.new text.now }
         ensures bad { result ≡ false → entry_in (length self.old.circuit.inputs) text.now ≡ None }
         ensures none { result ≡ false → output.new ≡ output.old }

@@ -19,7 +19,7 @@ loop-step-preserved g c =
           (put_twice c.args.output.now c.loop-step.output now (kept_text shown run step text) _
           c.loop-step.invariant.put
           (subst (λ (given : List ℕ). Put c.loop-step.output now (shown_text shown step given text))
-          c.text.ensures c.put_line.ensures));
+          c.text.ensures c.put_line.ensures.put));
       line = c.put_line.auto.room ∙ c.loop-step.invariant.line;
     }
 
@@ -32,4 +32,4 @@ returns g c =
     (λ (n : ℕ). Put c.args.output.now c.loop-step.output
     (kept_text c.args.shown.now c.args.run.now n (text_in c.args.lane c.args.sheet.now)))
     end c.loop-step.invariant.put)
-    c.put.ensures
+    c.put.ensures.put
