@@ -6,7 +6,6 @@ use Rattle.std.proofs.Common.{◌∙◌, inr, append-nil, arith}
 use Rattle.std.specs.List.{AllByRecursion, flat_map}
 use Rattle.aig_circuit.specs.declared.circuit.TheConstants.{LARGEST}
 use Rattle.aig_circuit.specs.declared.circuit.Gate.{Gate}
-use Rattle.aig_circuit.specs.declared.circuit.Latch.{Latch}
 use Rattle.aig_circuit.specs.declared.circuit.Circuit.{Circuit}
 use Rattle.aig_circuit.specs.Literal.{literal_of}
 use Rattle.aig_circuit.specs.Wellformed.{IsWellFormed}
@@ -14,11 +13,10 @@ use Rattle.aig_circuit.specs.Form.{IsInForm}
 use Rattle.aig_rows.specs.Lines.{Line, lines_of}
 use Rattle.aig_text.specs.AsciiText.{header_text, line_text, tail_text}
 use Rattle.aig_text.specs.Sections.{header_row}
-use Rattle.aig_rows.specs.Rows.{Row, row, next_form, next_row}
+use Rattle.aig_rows.specs.Rows.{Row}
 use Rattle.aig_text.proofs.Canonical.Lines.{IsFullRow, header_line, row_lines, header_is_first, header_line_is_good}
 use Rattle.aig_text.proofs.Canonical.Lines.{rows_are_first, rows_are_good}
 use Rattle.aig_circuit.proofs.Checking.InForm.{joined}
-use Rattle.aig_rows.proofs.Grammar.Entries.{IsLatchUpTo}
 use Rattle.aig_text.proofs.Grammar.Headers.{header_limited}
 use Rattle.aig_text.proofs.Grammar.Sections.{latches_up_to}
 use Rattle.aig_text.proofs.Canonical.Text.{entries_full, literal_rows_full, sizes_are_small, header_is_small}
