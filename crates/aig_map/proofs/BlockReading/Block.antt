@@ -18,8 +18,8 @@ use Rattle.aig_map.specs.MapBlock.{first_row, variable_row, gate_row, rows_of, l
 use Rattle.aig_map.specs.MapSpelling.{after_text}
 use Rattle.aig_map.specs.MapReading.{rest_of_block, block_reading, HasCountsOf, IsWithinBounds}
 use Rattle.aig_map.specs.Parts.Tables.{block_in, block_read}
-use Rattle.aig_map.proofs.BlockReading.Lines.{line, IsGoodGate, variables_are_exact, gates_are_exact}
-use Rattle.aig_map.proofs.BlockReading.Entries.{AreLinesOf, lines, there, entries_are_read, entries_read}
+use Rattle.aig_map.proofs.BlockReading.Lines.{line, variables_are_exact, gates_are_exact}
+use Rattle.aig_map.proofs.BlockReading.Entries.{lines, there, entries_are_read, entries_read}
 use Rattle.aig_map.proofs.BlockReading.FirstLine.{IsFront, front_is_read, front_reads, text_reads}
 
 -- what the first line tells of a block

@@ -10,7 +10,7 @@ use Rattle.aig_circuit.specs.declared.circuit.Gate.{Gate}
 use Rattle.aig_circuit.specs.declared.circuit.Circuit.{Circuit}
 use Rattle.aig_circuit.specs.Wellformed.{AreDistinct, IsVariableUpTo, IsWellFormed, defined_variables, IsAmong}
 use Rattle.aig_topo.proofs.Ordering.Ranked.{at, no_gate}
-use Rattle.aig_image.specs.Relabelled.{GateNames, relabelled_gate, relabelled_literal}
+use Rattle.aig_image.specs.Relabelled.{GateNames, relabelled_gate}
 use Rattle.aig_image.specs.Renumbering.{renumbered, source_variable}
 use Rattle.aig_image.specs.Reordered.{taken, exchanged_by, exchanged_if}
 use Rattle.aig_image.proofs.Relabelling.Relabelled.{gate_back}
@@ -21,7 +21,7 @@ use Rattle.aig_map.specs.declared.map_block.MapBlock.{MapBlock}
 use Rattle.aig_map.specs.Parts.Confirmed.{DifferWhereExchanged, ExchangesDiffer, HasTwoOperands, TellsExchanges}
 use Rattle.aig_map.specs.Parts.Confirmed.{gate_in_place}
 use Rattle.aig_map.specs.Parts.Had.{gates_there}
-use Rattle.aig_map.specs.Undone.{comment_behind, exchanges_recorded, places_recorded, source_variables, undone}
+use Rattle.aig_map.specs.Undone.{comment_behind, exchanges_recorded, source_variables, undone}
 use Rattle.aig_map.proofs.Restoring.Again.{names}
 use Rattle.aig_map.proofs.Restoring.AtPositions.{IsFit}
 use Rattle.aig_map.proofs.Sources.RecordedAt.{none_recorded, recorded_at}

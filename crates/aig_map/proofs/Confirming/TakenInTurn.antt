@@ -1,7 +1,7 @@
 -- The gates of the source, by their positions and their places. Where the gates of an image are taken in turn, the places
 -- that a block tells are the least ready order of its source, and the other way round.
 use Rattle.std.proofs.Common.{rules, ◌≡◌, ◌+◌, ◌*◌, ◌<◌, ◌≤◌, ℕ, List, ◌++◌, Bool, true, false, Option, length, get_or}
-use Rattle.std.proofs.Common.{map, sym, ap, ◌∙◌, ◌⊎◌, inl, inr, arith, ◌↔◌, suc, [], IsTrue, subst, ⊎_elim}
+use Rattle.std.proofs.Common.{map, sym, ap, ◌∙◌, ◌⊎◌, inl, inr, arith, ◌↔◌, suc, [], IsTrue, subst}
 use Rattle.std.proofs.lemmas.List.{length-map, get_or-map}
 use Rattle.std.proofs.lemmas.List.FromFn.{get_or-map-range_with_len}
 use Rattle.aig_circuit.specs.declared.circuit.Latch.{Latch}

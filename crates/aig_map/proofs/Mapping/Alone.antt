@@ -1,5 +1,5 @@
 -- A circuit whose variables are numbered in order, with its map and its operands sorted, is its mapped image.
-use Rattle.std.proofs.Common.{◌≡◌, ℕ, List, ◌++◌, length, map, min, refl, sym, ap, ap₂, ◌∙◌, Some, arith, rules, ◌+◌}
+use Rattle.std.proofs.Common.{◌≡◌, ℕ, List, ◌++◌, length, map, min, refl, sym, ap, ◌∙◌, Some, rules, ◌+◌}
 use Rattle.std.proofs.Common.{None, length-append}
 use Rattle.std.specs.List.{range_with_len}
 use Rattle.std.proofs.Math.Nat.{min-eq_left}
@@ -10,12 +10,12 @@ use Rattle.aig_circuit.specs.declared.circuit.Latch.{Latch}
 use Rattle.aig_circuit.specs.declared.circuit.Circuit.{Circuit}
 use Rattle.aig_circuit.specs.declared.circuit.TheConstants.{LARGEST}
 use Rattle.aig_checked.specs.BinaryOrder.{IsNumberedInOrder, IsInBinaryOrder}
-use Rattle.aig_circuit.specs.Wellformed.{IsVariableUpTo, IsWellFormed, defined_variables}
+use Rattle.aig_circuit.specs.Wellformed.{IsWellFormed}
 use Rattle.aig_circuit.proofs.Checking.Fitting.{all_weaker}
 use Rattle.aig_checked.proofs.Numbered.Ranges.{numbered_variables_are}
 use Rattle.aig_topo.proofs.Ordering.LeastReady.{one_least_ready_order}
 use Rattle.aig_topo.proofs.Ordering.Ranked.{no_gate, variables}
-use Rattle.aig_image.specs.Image.{image_by, IsBinaryImage}
+use Rattle.aig_image.specs.Image.{IsBinaryImage}
 use Rattle.aig_image.specs.Relabelled.{NamesOnly, relabelled}
 use Rattle.aig_image.specs.Reordered.{with_operands_sorted}
 use Rattle.aig_image.specs.Renumbering.{in_new_order, renumbered}

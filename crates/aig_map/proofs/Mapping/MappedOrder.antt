@@ -13,7 +13,6 @@ use Rattle.aig_checked.specs.BinaryOrder.{IsInBinaryOrder}
 use Rattle.aig_image.specs.Image.{image_by, IsBinaryImage}
 use Rattle.aig_map.specs.MapBlock.{mapped_by, IsMappedImage, block_by, map_block, mapped_comment}
 use Rattle.aig_map.specs.declared.map_block.MappedGate.{MappedGate}
-use Rattle.aig_map.specs.declared.map_block.MapBlock.{MapBlock}
 use Rattle.aig_image.proofs.Imaging.Ordered.{image_is_ordered}
 use Rattle.aig_image.proofs.Relabelling.Formed.{symbols_kept, counts_kept}
 use Rattle.aig_image.specs.declared.image.Renumbering.{Renumbering}

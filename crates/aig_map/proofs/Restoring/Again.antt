@@ -1,11 +1,10 @@
 -- Where the places that a block tells are the least ready order of the undone circuit, its mapped image is the circuit
 -- that it was undone from.
 use Rattle.std.proofs.Common.{rules}
-use Rattle.std.proofs.Common.{◌≡◌, ◌≢◌, ◌+◌, ◌<◌, ◌≤◌, ℕ, suc, List, [], ◌∷◌, ◌++◌, Bool, true, false}
+use Rattle.std.proofs.Common.{◌≡◌, ◌≢◌, ◌+◌, ◌<◌, ◌≤◌, ℕ, List, [], ◌++◌, Bool, true, false}
 use Rattle.std.proofs.Common.{Option, None, Some, length, map, refl, sym, ap, ap₂, ◌∙◌}
-use Rattle.std.proofs.Common.{◌⊎◌, ⊎_elim, arith}
+use Rattle.std.proofs.Common.{◌⊎◌, arith}
 use Rattle.std.specs.Prelude.{is_some, if◌then◌else◌}
-use Rattle.std.specs.List.{AllByRecursion}
 use Rattle.std.specs.Option.{unwrap_or}
 use Rattle.std.proofs.lemmas.Bool.{lt-ltb, le-ltb}
 use Rattle.std.proofs.lemmas.List.{length-map}
@@ -17,7 +16,7 @@ use Rattle.aig_circuit.proofs.Checking.Fitting.{all_weaker}
 use Rattle.aig_topo.proofs.Ordering.Ranked.{at, no_gate}
 use Rattle.aig_image.specs.Relabelled.{relabelled_gate, relabelled_latch, GateNames, NamesOnly}
 use Rattle.aig_image.specs.Renumbering.{renumbered, source_variable}
-use Rattle.aig_image.specs.Reordered.{converted, exchanged_if, has_smaller_first, operands_sorted}
+use Rattle.aig_image.specs.Reordered.{converted, exchanged_if, has_smaller_first}
 use Rattle.aig_image.proofs.Imaging.OneByOne.{ordered_at}
 use Rattle.aig_image.proofs.Numbering.Same.{sorted_already}
 use Rattle.aig_image.proofs.Relabelling.Lists.{map_nothing, map_where}

@@ -1,7 +1,7 @@
 -- What is undone of a circuit's mapped image, by the block of that image, is the circuit.
 use Rattle.std.proofs.Common.{rules}
-use Rattle.std.proofs.Common.{◌≡◌, ◌+◌, ◌-◌, ◌<◌, ◌≤◌, ℕ, List, [], ◌++◌, Bool, length, length-append, get_or, map}
-use Rattle.std.proofs.Common.{Option, None, Some, refl, sym, ap, ap₂, subst, ◌∙◌, inr, arith}
+use Rattle.std.proofs.Common.{◌≡◌, ◌+◌, ◌<◌, ℕ, List, [], ◌++◌, Bool, length, length-append, get_or, map}
+use Rattle.std.proofs.Common.{Option, None, Some, refl, sym, ap, ap₂, subst, ◌∙◌, arith}
 use Rattle.std.specs.Prelude.{is_some}
 use Rattle.std.specs.Option.{unwrap_or}
 use Rattle.std.proofs.lemmas.List.{ext_get_or, length-map, get_or-map, get_or-append-add}
@@ -10,17 +10,14 @@ use Rattle.aig_circuit.specs.declared.circuit.Latch.{Latch}
 use Rattle.aig_circuit.specs.declared.circuit.Gate.{Gate}
 use Rattle.aig_circuit.specs.declared.circuit.Circuit.{Circuit}
 use Rattle.aig_topo.specs.Order.{IsLeastReadyOrder}
-use Rattle.aig_circuit.specs.Wellformed.{IsAmong, IsWellFormed, defined_variables}
-use Rattle.aig_circuit.proofs.Checking.Fitting.{each}
+use Rattle.aig_circuit.specs.Wellformed.{IsWellFormed}
 use Rattle.aig_topo.proofs.Ordering.Ranked.{at, no_gate, variables}
-use Rattle.aig_topo.proofs.Ordering.Steps.{all_of}
-use Rattle.aig_image.specs.Relabelled.{relabelled_gate, NamesOnly}
+use Rattle.aig_image.specs.Relabelled.{relabelled_gate}
 use Rattle.aig_image.specs.Renumbering.{in_new_order, renumbered, source_variable}
 use Rattle.aig_image.specs.Reordered.{ArePlaces, converted, operands_sorted, positions_of, restored, taken}
 use Rattle.aig_image.proofs.Numbering.OneToOne.{number_there}
 use Rattle.aig_image.proofs.Imaging.Ordered.{names_go_back}
 use Rattle.aig_image.proofs.Imaging.Members.{all_taken, order_is_places}
-use Rattle.aig_image.proofs.Relabelling.Relabelled.{names_only}
 use Rattle.aig_image.proofs.Relabelling.Positions.{positions_are}
 use Rattle.aig_image.proofs.Relabelling.Restored.{converted_in_places, converted_is_restored, variables_taken}
 use Rattle.aig_map.specs.declared.map_block.MappedGate.{MappedGate}

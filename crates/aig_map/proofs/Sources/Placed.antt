@@ -1,7 +1,7 @@
 -- Variables of gates that were placed one by one stand where their gates' places say.
 use Rattle.std.proofs.Common.{rules}
 use Rattle.std.proofs.Common.{◌≡◌, ◌≢◌, ◌<◌, ℕ, zero, suc, List, [], ◌∷◌, Some, None, true, false}
-use Rattle.std.proofs.Common.{length, map, get_or, set, replicate, refl, sym, subst, ◌∙◌, inl, inr, ⊎_elim, arith}
+use Rattle.std.proofs.Common.{length, map, get_or, set, replicate, refl, sym, subst, ◌∙◌, inr, ⊎_elim, arith}
 use Rattle.std.proofs.Common.{eqb, zero-add, get_or-set_same, get_or-set_other, ◌≤◌, Option, eqb-true, ◌+◌, ◌++◌}
 use Rattle.std.specs.Prelude.{◌==◌, if◌then◌else◌}
 use Rattle.std.specs.List.{AllByRecursion, range_with_len}

@@ -1,4 +1,4 @@
-use Rattle.std.proofs.Common.{◌≡◌, ◌*◌, ◌∙◌, ap, replicate}
+use Rattle.std.proofs.Common.{◌∙◌, ap, replicate}
 use Rattle.aig_lanes.proofs.Side.Groups.{table_of_x}
 use Rattle.aig_lanes.proofs.group.fill_table.Goals as goal
 

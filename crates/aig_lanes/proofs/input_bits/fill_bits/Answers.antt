@@ -1,7 +1,5 @@
-use Rattle.std.proofs.Common.{◌*◌, ◌<◌, ◌∙◌, ℕ, List, [], ap, arith, below_more, get_or, inl, inr, length, set}
-use Rattle.std.proofs.Common.{subst, sym}
-use Rattle.std.proofs.lemmas.Bool.{cases_eq}
-use Rattle.std.proofs.lemmas.List.{get_or-set_other, get_or-set_same, get_or_default, length-set}
+use Rattle.std.proofs.Common.{◌*◌, ◌<◌, ◌∙◌, ℕ, List, [], ap, arith, get_or, length}
+use Rattle.std.proofs.lemmas.List.{get_or_default, length-set}
 use Rattle.aig_lanes.specs.declared.input_bits.InputWord.{InputWord}
 use Rattle.aig_lanes.specs.Parts.InputBits.{HoldsBlock}
 use Rattle.aig_lanes.proofs.Side.InputBits.{put_more, same_sizes}

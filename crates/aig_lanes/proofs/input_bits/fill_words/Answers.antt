@@ -1,5 +1,5 @@
-use Rattle.std.proofs.Common.{◌∙◌, ℕ, List, [], ap, arith, below_more, get_or, length, set, subst, sym}
-use Rattle.std.proofs.lemmas.List.{get_or-set_other, get_or-set_same, length-map, length-set}
+use Rattle.std.proofs.Common.{◌∙◌, ℕ, List, [], ap, arith, get_or, length, subst}
+use Rattle.std.proofs.lemmas.List.{length-map, length-set}
 use Rattle.aig_lanes.specs.Parts.InputBits.{IsWord}
 use Rattle.aig_step.specs.TraceText.{character_of, values_text}
 use Rattle.aig_lanes.proofs.Side.InputBits.{put_more}

@@ -1,11 +1,11 @@
 use Rattle.std.proofs.Common.{rules}
-use Rattle.std.proofs.Common.{◌≡◌, ◌∙◌, ◌++◌, ◌+◌, ◌-◌, ◌≤◌, ℕ, List, take, drop, length}
+use Rattle.std.proofs.Common.{◌≡◌, ◌∙◌, ◌++◌, ◌+◌, ◌-◌, ◌≤◌, ℕ, List, take, length}
 use Rattle.std.proofs.Common.{map, replicate, ap, ap₂, arith, inr, refl}
 use Rattle.std.specs.List.{range_with_len}
 use Rattle.std.proofs.lemmas.List.{length-append, take_all}
 use Rattle.std.proofs.lemmas.List.FromFn.{length-map-range_with_len}
 use Rattle.std.proofs.Math.Seq.{take-append_seam}
-use Rattle.aig_map.specs.Undone.{source_variables, variable_at_place}
+use Rattle.aig_map.specs.Undone.{variable_at_place}
 use Rattle.aig_map.proofs.Sources.Placed.{places_once, place_twice, table_is}
 use Rattle.aig_map.proofs.undone.source_variables.Goals as goal
 

@@ -1,4 +1,4 @@
-use Rattle.std.proofs.Common.{◌≡◌, ◌∙◌, ◌*◌, ◌<◌, [], ap, arith, get_or, length, sym, take}
+use Rattle.std.proofs.Common.{◌∙◌, ◌*◌, ◌<◌, [], ap, arith, get_or, length, take}
 use Rattle.std.proofs.lemmas.List.{length-drop}
 use Rattle.aig_lanes.specs.declared.run.Run.{Run}
 use Rattle.aig_step.specs.TraceText.{values_text}
