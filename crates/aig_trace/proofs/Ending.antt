@@ -1,6 +1,6 @@
 -- What came of a source, and what the sink took for it.
-use Rattle.std.proofs.Common.{◌≡◌, ◌+◌, ◌++◌, ℕ, List, [], Bool, true, false, not, Option, Some, None, Result, Ok, Err}
-use Rattle.std.proofs.Common.{IfErr, OnOk, refl, sym, ap, ap₂, subst, ◌∙◌, append-nil, arith, rules, if◌then◌else◌}
+use Rattle.std.proofs.Common.{◌≡◌, ◌++◌, ℕ, List, [], Bool, true, false, not, Option, Some, None, Result, Ok, Err}
+use Rattle.std.proofs.Common.{IfErr, OnOk, refl, sym, ap, ap₂, subst, ◌∙◌, append-nil, arith, if◌then◌else◌}
 use Rattle.std.specs.Io.KnownBytes.{Appends, Consumes}
 use Rattle.aig_circuit.specs.declared.circuit.Circuit.{Circuit}
 use Rattle.aig_io.specs.Output.{Out, Put}
@@ -11,7 +11,7 @@ use Rattle.aig_step.specs.declared.fault.SimFault.{SimFault}
 use Rattle.aig_step.specs.declared.fault.SimFault.TheVariants.{OutOfMemory, BadStimulus, BadWitness, ReadFailed}
 use Rattle.aig_step.specs.declared.fault.SimFault.TheVariants.{WriteFailed}
 use Rattle.aig_step.specs.declared.trace.Columns.{Columns}
-use Rattle.aig_step.specs.Outcome.{Came, NotSimulated, Simulated, first_bad_line, sink_failures}
+use Rattle.aig_step.specs.Outcome.{Came, NotSimulated, Simulated, first_bad_line}
 use Rattle.aig_step.specs.TraceText.{IsTraceText}
 use Rattle.aig_trace.specs.Parts.Streaming.{Ends, IsTraced, Simulates, ended_so}
 use Rattle.aig_trace.proofs.SameTexts.{same_meaning_same_text}

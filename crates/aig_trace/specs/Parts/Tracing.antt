@@ -4,7 +4,6 @@ use Rattle.aig_circuit.specs.declared.circuit.Circuit.{Circuit}
 use Rattle.aig_circuit.specs.declared.value.Val.{Val}
 use Rattle.aig_io.specs.Output.{Out, Put}
 use Rattle.aig_lines.specs.Fed.{Feeder, IsUnfed}
-use Rattle.aig_meaning.specs.Meaning.{MeansTheSame}
 use Rattle.aig_step.specs.declared.trace.Columns.{Columns}
 use Rattle.aig_step.specs.Stimulus.{Entry, entry_in, stimulus, values_of}
 use Rattle.aig_step.specs.TraceText.{values_text}
