@@ -1,6 +1,6 @@
 -- A stimulus without a bad line, whose bytes are all taken at once.
 use Rattle.std.proofs.Common.{◌≡◌, ◌++◌, ◌∙◌, ℕ, List, [], None, Option, ap, codes, if◌then◌else◌, length}
-use Rattle.std.proofs.Common.{append_assoc, false, refl, subst, sym, true}
+use Rattle.std.proofs.Common.{append_assoc, false, subst, sym, true}
 use Rattle.aig_circuit.specs.declared.circuit.Circuit.{Circuit}
 use Rattle.aig_io.specs.Output.{Out, Put}
 use Rattle.aig_io.proofs.Puts.{put_twice}

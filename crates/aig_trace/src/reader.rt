@@ -47,10 +47,7 @@ impl Reader {
     }
 
     /// It puts the text into this output.
-    pub(crate) fn start<'a, W: Sink>(
-        self,
-        output: Output<'a, W>,
-    ) -> (LineFeeder, LineTracer<'a, W>)
+    pub(crate) fn start<'a, W: Sink>(self, output: Output<'a, W>) -> (LineFeeder, LineTracer<'a, W>)
         ensures feeder { result.0 ≡ self.feeder }
         ensures lines { result.1 ≡ record { tracing = self.tracing; output = output.entry } }
     {

@@ -1,23 +1,21 @@
 -- Lines of a stimulus that has no bad one.
 use Rattle.std.proofs.lemmas.Grind.{common_steps}
-use Rattle.std.proofs.Common.{◌≡◌, ◌≢◌, ◌+◌, ◌<◌, ◌≤◌, ◌==◌, ◌++◌, ℕ, zero, suc, List, [], ◌∷◌, Bool, true, false}
+use Rattle.std.proofs.Common.{◌≡◌, ◌≢◌, ◌+◌, ◌<◌, ◌≤◌, ◌==◌, ℕ, zero, suc, List, [], ◌∷◌, Bool, true, false}
 use Rattle.std.proofs.Common.{Option, None, Some, if◌then◌else◌, option_map, length, take, drop, bytes_eq, codes, refl}
 use Rattle.std.proofs.Common.{sym}
-use Rattle.std.proofs.Common.{ap, subst, ◌∙◌, append_assoc, append-nil, ⊎_elim, arith}
+use Rattle.std.proofs.Common.{ap, subst, ◌∙◌, ⊎_elim, arith}
 use Rattle.std.specs.Prelude.{slice_index}
 use Rattle.std.proofs.lemmas.Bool.{cases_lt}
 use Rattle.std.proofs.lemmas.Slice.Eq.{bytes_eq-Decides}
 use Rattle.std.proofs.lemmas.List.{length-take-le}
 use Rattle.memchr.specs.Find.{IsFirstByte, is_byte}
 use Rattle.aig_circuit.specs.declared.value.Val.{Val}
-use Rattle.aig_rows.specs.Lines.{Line, line, bytes_of}
-use Rattle.aig_step.specs.Stimulus.{Entry, Step, Stop, Stimulus, before_rest, entry_in, judged_lines}
+use Rattle.aig_step.specs.Stimulus.{Entry, Step, Stop, Stimulus, before_rest, entry_in}
 use Rattle.aig_step.specs.Stimulus.{values_of, without_return}
 use Rattle.aig_step.specs.Parts.Lines.{vector_in}
 use Rattle.aig_batch.specs.Parts.RunsRead.{HasNoBadLine}
 use Rattle.aig_step.proofs.LineValues.{vector_long}
 use Rattle.aig_batch.proofs.Side.RunsRead.{judged_first, text_in_front, text_shorter}
-use Rattle.aig_lines.proofs.LineBytes.{first_line}
 
 before_good : (number : ℕ) (o : Option Entry) (rest : Stimulus) → (before_rest number o rest).bad ≡ None
     → ((e : Entry) × (o ≡ Some e)) × (rest.bad ≡ None)

@@ -1,5 +1,5 @@
 -- The inputs of runs as characters.
-use Rattle.std.proofs.Common.{◌≡◌, ◌*◌, ◌<◌, ◌∙◌, ℕ, zero, suc, List, [], ◌∷◌, Option, Some, ap, ap₂}
+use Rattle.std.proofs.Common.{◌≡◌, ◌*◌, ◌<◌, ◌∙◌, ℕ, zero, suc, List, [], ◌∷◌, Option, ap, ap₂}
 use Rattle.std.proofs.Common.{arith, drop, is_some, length, refl, sym, take, true}
 use Rattle.std.specs.List.{All, flat_map}
 use Rattle.std.proofs.lemmas.List.{drop-drop, drop_at, length-append, length-map, take_at}

@@ -1,7 +1,7 @@
 -- Which variables the literals of a frame are over: none above what stands before the frame's gates, or above the copy
 -- of the gate that a literal is over.
 use Rattle.std.proofs.Common.{◌≡◌, ◌+◌, ◌-◌, ◌*◌, ◌%◌, ◌<◌, ◌≤◌, ℕ, zero, suc, List, [], ◌∷◌, length, map}
-use Rattle.std.proofs.Common.{subst, arith, eqb, get_or}
+use Rattle.std.proofs.Common.{subst, arith, eqb}
 use Rattle.std.specs.List.{AllByRecursion}
 use Rattle.std.proofs.lemmas.Bool.{cond_both}
 use Rattle.std.proofs.lemmas.Bool.Decides.{Decides-eqb, not_from_Decides}

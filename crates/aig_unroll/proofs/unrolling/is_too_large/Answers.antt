@@ -2,7 +2,7 @@ use Rattle.std.proofs.Common.{◌≡◌, ◌+◌, ◌*◌, ◌<◌, ◌≤◌, �
 use Rattle.std.proofs.lemmas.Bool.{lt-ltb, ltb-true}
 use Rattle.aig_circuit.specs.declared.circuit.Latch.{Latch}
 use Rattle.aig_circuit.specs.declared.circuit.TheConstants.{LARGEST}
-use Rattle.aig_unroll.specs.Unrolled.{all_inputs, frame_size, resets_of, uninitialised}
+use Rattle.aig_unroll.specs.Unrolled.{all_inputs, frame_size, uninitialised}
 use Rattle.aig_unroll.proofs.unrolling.is_too_large.Goals as goal
 
 pub returns-then-largest-uninitialised : goal.returns-then-largest-uninitialised

@@ -1,4 +1,4 @@
-use Rattle.std.proofs.Common.{◌≡◌, ◌*◌, ◌∙◌, ℕ, List, ap, length, rules}
+use Rattle.std.proofs.Common.{◌*◌, ◌∙◌, ℕ, List, ap, length, rules}
 use Rattle.std.specs.List.{flat_map, range_with_len}
 use Rattle.std.proofs.lemmas.List.{with_items_is}
 use Rattle.aig_circuit.specs.declared.circuit.Circuit.{Circuit}

@@ -2,7 +2,6 @@ use Rattle.std.proofs.Common.{◌≡◌, ◌+◌, ◌-◌, ◌<◌, ◌∙◌, L
 use Rattle.std.proofs.Common.{sym}
 use Rattle.std.proofs.lemmas.List.{with_items_is}
 use Rattle.aig_circuit.specs.declared.circuit.Latch.{Latch}
-use Rattle.aig_unroll.specs.Unrolled.{next_of}
 use Rattle.aig_unroll.specs.Parts.Frames.{Frame, table}
 use Rattle.aig_unroll.specs.Parts.Standing.{stood}
 use Rattle.aig_unroll.proofs.InFrame.{all_fit, inputs_fit, next_frame, nexts_have_room, places_are}

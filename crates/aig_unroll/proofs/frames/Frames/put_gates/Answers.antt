@@ -1,10 +1,9 @@
-use Rattle.std.proofs.Common.{◌≡◌, ◌∙◌, ℕ, List, ap, ap₂, subst, sym, rules}
+use Rattle.std.proofs.Common.{◌∙◌, ℕ, List, ap, ap₂, subst, sym, rules}
 use Rattle.std.specs.List.{All}
 use Rattle.aig_circuit.specs.declared.circuit.Gate.{Gate}
 use Rattle.aig_binary.specs.BinaryText.{HasDeltas}
 use Rattle.aig_unroll.specs.Unrolled.{at, chain_at, first_gate, gates_at}
 use Rattle.aig_unroll.specs.Parts.Frames.{Frame, gates_by}
-use Rattle.aig_unroll.specs.Parts.Standing.{stood}
 use Rattle.aig_unroll.proofs.InFrame.{bad_has_room, constraints_have_room, gates_have_room, stands_at}
 use Rattle.aig_unroll.proofs.Written.{frame_has_deltas}
 use Rattle.aig_unroll.proofs.frames.Frames.put_gates.Goals as goal

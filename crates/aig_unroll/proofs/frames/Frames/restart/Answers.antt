@@ -1,4 +1,4 @@
-use Rattle.std.proofs.Common.{◌≡◌, ◌+◌, ◌*◌, ◌∙◌, List, ap, ap₂, arith, length, map, rules}
+use Rattle.std.proofs.Common.{◌+◌, ◌*◌, ◌∙◌, List, ap, ap₂, arith, map, rules}
 use Rattle.std.proofs.lemmas.List.{with_items_is}
 use Rattle.aig_circuit.specs.declared.circuit.Latch.{Latch}
 use Rattle.aig_unroll.specs.Unrolled.{first_latches, uninitialised}
