@@ -5,9 +5,9 @@
 
 `rt ci` over all crates gives each of them one processor while any other is ready, so it takes no less than the longest
 chain of crates that stand on one another. Here each crate has a call of its own, `rt ci CRATE`, once those that it stands
-on are proved. The one with the longest chain above it gets two processors, the others one each. The last call is `rt ci`:
-it finds all others kept, proves the program's own crate and links it. Prints what these calls say, a crate at a time, and
-ends with the status of the last.
+on are proved: first those with the longest chains above them, which get two processors where no other crate waits for the
+second. The last call is `rt ci`: it finds all others kept, proves the program's own crate and links it. Prints what these
+calls say, a crate at a time, and ends with the status of the last.
 """
 
 import os
@@ -64,15 +64,13 @@ def prove_libraries(rt):
     proved, running = set(), {}
     with ThreadPoolExecutor(PROCESSORS) as pool:
         while True:
-            longest = max(map(chain, [*waiting, *(crate for crate, _ in running.values())]), default=0)
-            for crate in [it for it in waiting if proved.issuperset(below[it])]:
-                share = 2 if chain(crate) == longest and PROCESSORS > 2 else 1
-                share = min(share, idle)
-                # beside a crate that is not proved others go on; where rt ends otherwise, nothing more begins
-                if share and worst in (0, 1):
-                    waiting.remove(crate)
-                    idle -= share
-                    running[pool.submit(call, rt, [crate], share)] = crate, share
+            # beside a crate that is not proved others go on; where rt ends otherwise, nothing more begins
+            ready = [it for it in waiting if proved.issuperset(below[it])] if worst in (0, 1) else []
+            for begun, crate in enumerate(ready[:idle]):
+                share = 2 if idle > len(ready) - begun else 1
+                waiting.remove(crate)
+                idle -= share
+                running[pool.submit(call, rt, [crate], share)] = crate, share
             if not running:
                 return worst
             for ended in wait(running, return_when=FIRST_COMPLETED).done:
