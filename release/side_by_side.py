@@ -4,10 +4,10 @@
     release/side_by_side.py RT     in a copy of the sources; RT is the kit's command rt
 
 `rt ci` over all crates gives each of them one processor while any other is ready, so it takes no less than the longest
-chain of crates that stand on one another. Here each crate has a call of its own, `rt ci CRATE`, once those that it stands
-on are proved: first those with the longest chains above them, which get two processors where no other crate waits for the
-second. The last call is `rt ci`: it finds all others kept, proves the program's own crate and links it. Prints what these
-calls say, a crate at a time, and ends with the status of the last.
+chain of crates that stand on one another. Here each crate has a call of its own, `rt ci CRATE`, once those that it
+stands on are proved: first those with the longest chains above them, which get two processors where no other crate
+waits for the second. The last call is `rt ci`: it finds all others kept, proves the program's own crate and links it.
+Prints what these calls say, a crate at a time. Ends with the worst status, or with that of the last call.
 """
 
 import os
@@ -50,7 +50,7 @@ def call(rt, crates, processors):
 
 
 def tell(said, known):
-    """Prints what rt said, but for what is known: that these crates are kept, and that a call for one is not the gate."""
+    """Prints what rt said, but for what is known: that these crates are kept, and that such a call is not the gate."""
     for line in said.splitlines():
         kept = re.match(r"rt: (\w+) is kept: ", line)
         if not (kept and kept[1] in known or re.search("not the gate", line)):

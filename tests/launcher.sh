@@ -14,9 +14,9 @@ echo 'aag 0 0 0 0 0' > "$tree/crates/aiger/stdin"
 export TMPDIR=$work/copies
 mkdir "$TMPDIR"
 
-# It is called for one crate, or for all. The files slow, broken and kept name crates. The first is held up by the file held,
-# in a process of its own, so that it is proved after what it can be proved beside; if none is, low is proved before next.
-# The file stray says what else goes wrong.
+# It is called for one crate, or for all. The files slow, broken and kept name crates. The first is held up by the file
+# held, in a process of its own, so that it is proved after what it can be proved beside; if none is, low is proved before
+# next. The file stray says what else goes wrong. As rt, it takes no name where it runs as a gate.
 cat > "$work/rt" << 'RT'
 #!/usr/bin/env bash
 here=$(dirname "$0")
@@ -24,6 +24,7 @@ here=$(dirname "$0")
 is_named() { grep -qx "$name" "$here/$1" 2> /dev/null; }
 stray=$(cat "$here/stray" 2> /dev/null)
 echo "$*" >> "$here/calls"
+[ -z "$2" ] || [ "$CI" != true ] || { echo 'rt: a call with a name is not the gate' >&2; exit 2; }
 [ "$stray" != stop ] || { echo 'rt: HANDLES is one line' >&2; echo '0 passed, 1 failed'; exit 2; }
 if [ -z "$2" ]; then
     find . -type f | LC_ALL=C sort > "$here/copied"
