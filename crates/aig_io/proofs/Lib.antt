@@ -1,4 +1,4 @@
-pub mod KnownBytes
+pub mod Took
 pub mod DigitCounts
 pub mod DigitWords
 pub mod LeadingDigits

@@ -5,8 +5,8 @@ use Rattle.std.proofs.Common.{◌≡◌, ◌+◌, ◌<◌, ◌++◌, ℕ, List, 
 use Rattle.std.proofs.Common.{take-add, arith, sym, ap, subst, ◌∙◌}
 use Rattle.std.specs.List.{flat_map}
 use Rattle.std.proofs.lemmas.List.{append-nil, take-append-drop}
-use Rattle.aig_io.specs.Output.{IsLeftAlone, Out, Put}
-use Rattle.aig_io.specs.Transfer.{TookBeginning}
+use Rattle.aig_io.specs.Devices.{TookBeginning}
+use Rattle.aig_io.specs.Output.{Out, Put}
 use Rattle.aig_io.proofs.Outgoing.{beginning_after, beginning_longer, went_out_twice}
 
 -- the texts of one item more
@@ -16,16 +16,12 @@ text_of_more f xs i d low = grind (arith, common_steps)
 
 module _ {W : Type 0} where
   begun_twice : (a b c : Out W) (t u : List ℕ) (failed : Bool) → b.failed ≡ failed → Put a b t → Put b c u
-      → a.failed ≡ false → c.failed ≡ true
-      → (c.failures ≡ a.failures + 1) × TookBeginning a.taken c.taken (a.held ++ (t ++ u))
+      → a.failed ≡ false → c.failed ≡ true → TookBeginning (a.held ++ (t ++ u)) a.past c.past
   begun_twice a b c t u true e p q start end = search (rules, beginning_longer)
   begun_twice a b c t u false e p q start end = search (rules, beginning_after)
 
-  left_alone_twice : (a b c : Out W) → IsLeftAlone a b → IsLeftAlone b c → IsLeftAlone a c
-  left_alone_twice a b c p q = search rules
-
   pub put_twice : (a b c : Out W) (t u : List ℕ) → Put a b t → Put b c u → Put a c (t ++ u)
-  put_twice a b c t u p q = search (rules, went_out_twice, begun_twice, left_alone_twice)
+  put_twice a b c t u p q = search (rules, went_out_twice, begun_twice)
 
   -- a text is put into the block alone
   held : (a b : Out W) (text : List ℕ) → b ≡ record a { held = a.held ++ text } → Put a b text
@@ -67,9 +63,9 @@ module _ {W : Type 0} where
 
   -- an output of a text was finished, and the sink failed on the way
   pub beginning_sent : (o a b c : Out W) (text : List ℕ) → a ≡ o → o.held ≡ [] → o.failed ≡ false → Put a b text
-      → Put b c [] → c.failed ≡ true → TookBeginning o.taken c.taken text
+      → Put b c [] → c.failed ≡ true → TookBeginning text o.past c.past
   beginning_sent o a b c text same empty start put sent broke =
       let begun = (put_twice a b c text [] put sent).begun (ap (λ (x : Out W). x.failed) same ∙ start) broke in
-      subst (λ (bytes : List ℕ). TookBeginning o.taken c.taken bytes)
+      subst (λ (bytes : List ℕ). TookBeginning bytes o.past c.past)
       (ap (λ (held : List ℕ). held ++ (text ++ [])) empty ∙ append-nil text)
-      (subst (λ (x : Out W). TookBeginning x.taken c.taken (x.held ++ (text ++ []))) same begun.1)
+      (subst (λ (x : Out W). TookBeginning (x.held ++ (text ++ [])) x.past c.past) same begun)

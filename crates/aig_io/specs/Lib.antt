@@ -1,6 +1,7 @@
-pub mod Transfer
+pub mod Files
+pub mod Devices
+pub mod Notes
 pub mod Output
 pub mod Digits
-pub mod Failures
 pub mod Memory
 pub mod Streams

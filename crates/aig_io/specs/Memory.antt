@@ -1,25 +1,25 @@
 -- Devices in memory, as their callers see them (this project's devices).
-use Rattle.std.specs.Prelude.{◌+◌, ◌-◌, ◌==◌, ◌++◌, ℕ, List, [], Bool, false, Option, None, Some, min, max, length}
-use Rattle.std.specs.Prelude.{Err, Ok, Result, take, drop, if◌then◌else◌}
+use Rattle.std.specs.Prelude.{◌-◌, ◌==◌, ℕ, List, Bool, false, Option, None, Some, min, max, length}
+use Rattle.std.specs.Prelude.{Err, Ok, Result, drop, if◌then◌else◌}
+use Rattle.aig_io.specs.Devices.{Past, after_fetch, after_send, no_file, unused}
 use Rattle.aig_io.specs.declared.device.DeviceFault.{DeviceFault}
 
 -- `coming` are the bytes that it still gives, at most `piece` in a call; `fails_in` counts the calls before the one
 -- that fails
 pub record SourceInMemory : Type 0 where
+  pub past : Past
   pub coming : List ℕ
   pub piece : ℕ
   pub fails_in : Option ℕ
-  pub failures : ℕ
 
 -- it has room for `room` more bytes, and takes at most `piece` in a call; `longest` is the longest slice that it was
 -- handed
 pub record SinkInMemory : Type 0 where
-  pub taken : List ℕ
+  pub past : Past
   pub room : ℕ
   pub piece : ℕ
   pub longest : ℕ
   pub fails_in : Option ℕ
-  pub failures : ℕ
 
 -- the calls before the call of this number, counted from 1; there is no call of number 0
 abbrev pub calls_before : ℕ → Option ℕ
@@ -35,47 +35,40 @@ abbrev pub one_call_later : Option ℕ → Option ℕ
 one_call_later None = None
 one_call_later (Some calls) = calls_before calls
 
+-- how many bytes a call moved that answered so
+abbrev pub moved : Result ℕ DeviceFault → ℕ
+moved (Ok count) = count
+moved (Err fault) = 0
+
 abbrev pub new_source : List ℕ → ℕ → ℕ → SourceInMemory
-new_source bytes piece fails_at = record {
-  coming = bytes;
-  piece = piece;
-  fails_in = calls_before fails_at;
-  failures = 0;
-}
+new_source bytes piece fails_at =
+    record { past = unused no_file; coming = bytes; piece = piece; fails_in = calls_before fails_at }
 
 -- how many bytes a call gives that does not fail
 abbrev pub given : SourceInMemory → ℕ → ℕ
 given s room = min (min s.piece room) (length s.coming)
 
--- after a fetch that answered so
-abbrev pub after_fetch : Result ℕ DeviceFault → SourceInMemory → SourceInMemory
-after_fetch (Ok count) s = record s { coming = drop count s.coming; fails_in = one_call_later s.fails_in }
-after_fetch (Err fault) s = record s { fails_in = one_call_later s.fails_in; failures = s.failures + 1 }
+-- after a fetch into these bytes that answered so
+abbrev pub source_after : List ℕ → Result ℕ DeviceFault → SourceInMemory → SourceInMemory
+source_after into answer s = record s {
+  past = after_fetch into answer s.past;
+  coming = drop (moved answer) s.coming;
+  fails_in = one_call_later s.fails_in;
+}
 
 abbrev pub new_sink : ℕ → ℕ → ℕ → SinkInMemory
-new_sink room piece fails_at = record {
-  taken = [];
-  room = room;
-  piece = piece;
-  longest = 0;
-  fails_in = calls_before fails_at;
-  failures = 0;
-}
+new_sink room piece fails_at =
+    record { past = unused no_file; room = room; piece = piece; longest = 0; fails_in = calls_before fails_at }
 
 -- how many of the bytes a call takes that does not fail
 abbrev pub accepted : SinkInMemory → List ℕ → ℕ
 accepted s bytes = min (min s.piece (length bytes)) s.room
 
 -- after a send of these bytes that answered so
-abbrev pub after_send : List ℕ → Result ℕ DeviceFault → SinkInMemory → SinkInMemory
-after_send bytes (Ok count) s = record s {
-  taken = s.taken ++ take count bytes;
-  room = s.room - count;
+abbrev pub sink_after : List ℕ → Result ℕ DeviceFault → SinkInMemory → SinkInMemory
+sink_after bytes answer s = record s {
+  past = after_send bytes answer s.past;
+  room = s.room - moved answer;
   longest = max s.longest (length bytes);
   fails_in = one_call_later s.fails_in;
-}
-after_send bytes (Err fault) s = record s {
-  longest = max s.longest (length bytes);
-  fails_in = one_call_later s.fails_in;
-  failures = s.failures + 1;
 }

@@ -7,6 +7,7 @@
 //! Modules:
 //! - `device`: what a source and a sink are, and `DeviceFault`.
 //! - `memory`: devices in memory.
+//! - `record`: notes that only clauses read.
 //! - `streams`: devices over std's readers and writers.
 //! - `transfer`: all bytes of a source, and all bytes to a sink.
 //! - `block`: bytes on their way to a sink, in a block of fixed size.
@@ -14,11 +15,12 @@
 //! - `output`: a sink with the block before it.
 //! - `digits`: numbers in decimal, written where they are to stand.
 //!
-//! Definitions (`specs/`); those that matter most are `GaveAll`, `TookBeginning` and `Put`:
-//! - `Transfer`: what a call tells of the bytes that came from a source or went to a sink.
+//! Definitions (`specs/`); those that matter most are `Past`, `TookBeginning` and `Put`:
+//! - `Files`: what is done with the files of a system.
+//! - `Devices`: what a source gave and a sink took.
+//! - `Notes`: what a device notes that has no bytes of its own.
 //! - `Output`: a text on its way to a sink through a block.
 //! - `Digits`: the last digits of a number.
-//! - `Failures`: how many failures of a device an outcome tells.
 //! - `Memory`, `Streams`: the devices of these two modules, as their callers see them.
 #![tactic(auto)]
 
@@ -28,6 +30,7 @@ mod digits;
 mod line;
 mod memory;
 mod output;
+mod record;
 mod streams;
 mod transfer;
 
@@ -37,5 +40,6 @@ pub use crate::digits::MOST_DIGITS;
 pub use crate::line::Line;
 pub use crate::memory::{MemorySink, MemorySource};
 pub use crate::output::Output;
+pub use crate::record::Record;
 pub use crate::streams::{ReadSource, WriteSink};
 pub use crate::transfer::{ReadError, read_all};

@@ -1,10 +1,12 @@
 //! Devices in memory.
-ghost use Rattle.std.specs.Prelude.{◌≡◌, ◌-◌, ◌^◌, ◌<◌, ◌≤◌, ◌↔◌, Some, IsTrue, IfOk, is_ok, false, length, vec_len};
-ghost use Rattle.std.specs.Io.KnownBytes.{ReadConsumes};
-ghost use Rattle.aig_io.specs.Memory.{accepted, after_fetch, after_send, given, is_due, new_sink, new_source};
-ghost use Rattle.aig_io.specs.Memory.{one_call_later};
+ghost use Rattle.std.specs.Prelude.{◌≡◌, ◌^◌, ◌<◌, ◌≤◌, ◌↔◌, IsTrue, IfOk, is_ok, false, length, take, vec_len};
+ghost use Rattle.aig_io.specs.Devices.{CanFail};
+ghost use Rattle.aig_io.specs.Memory.{accepted, given, is_due, new_sink, new_source, one_call_later, sink_after};
+ghost use Rattle.aig_io.specs.Memory.{source_after};
+ghost use Rattle.aig_io.specs.declared.block.TheConstants.{ROOM};
 
 use crate::device::{DeviceFault, Sink, Source};
+use crate::record::Record;
 use std::alloc::{AllocError, Global};
 use std::marker::Model;
 
@@ -16,19 +18,27 @@ pub struct MemorySource {
     piece: usize,
     calls_before: Option<u64>,
     failures: u64,
+    log: Record,
 }
 
 impl Model for MemorySource {
-    ghost use Rattle.std.specs.Prelude.{drop, vec_len, ◌<◌, ◌≤◌, ◌^◌};
+    ghost use Rattle.std.specs.Prelude.{drop, take, vec_len, ◌<◌, ◌≤◌, ◌^◌};
+    ghost use Rattle.aig_io.specs.Devices.{no_file};
     ghost use Rattle.aig_io.specs.Memory.{SourceInMemory};
+    ghost use Rattle.aig_io.specs.Notes.{sum_of};
 
     ghost Value = { SourceInMemory };
 
     ghost view = { λ s. record {
+      past = record {
+        origin = no_file;
+        bytes = take s.at s.bytes.items;
+        ends = sum_of s.log.notes;
+        failures = s.failures;
+      };
       coming = drop s.at s.bytes.items;
       piece = s.piece;
       fails_in = s.calls_before;
-      failures = s.failures;
     } };
 
     ghost invariant = { λ s. (vec_len s.bytes ≤ 2 ^ 62) × (s.at ≤ vec_len s.bytes) × (0 < s.piece) };
@@ -47,6 +57,7 @@ impl MemorySource {
             piece,
             calls_before: fails_at.checked_sub(1),
             failures: 0,
+            log: Record::new(),
         }
     }
 }
@@ -66,20 +77,19 @@ fn fails_now(calls_before: &mut Option<u64>) -> bool
 }
 
 impl Source for MemorySource {
-    ghost coming = { λ s. Some s.coming };
+    ghost past = { λ s. s.past };
 
     ghost bound = { λ s. length s.coming };
 
-    ghost failed = { λ s. s.failures };
-
     fn fetch(&mut self, into: &mut [u8]) -> Result<usize, DeviceFault>
         requires room { 0 < length into.old }
-        requires countable { self.old.failures < 2 ^ 64 - 1 }
-        ensures bytes { ReadConsumes (Some self.old.coming) (Some self.new.coming) result into.new }
-        ensures limited { length self.old.coming ≤ 2 ^ 62 }
+        requires countable { CanFail self.old.past }
         ensures chosen { IsTrue (is_ok result) ↔ (is_due self.old.fails_in ≡ false) }
         ensures count { IfOk result (λ n. n ≡ given self.old (length into.old)) }
-        ensures state { self.new ≡ after_fetch result self.old }
+        ensures bytes { IfOk result (λ n. take n into.new ≡ take n self.old.coming) }
+        ensures length { length into.new ≡ length into.old }
+        ensures limited { length self.old.coming ≤ 2 ^ 62 }
+        ensures state { self.new ≡ source_after into.new result self.old }
     {
         if fails_now(&mut self.calls_before) {
             self.failures += 1;
@@ -88,6 +98,9 @@ impl Source for MemorySource {
         let count = self.piece.min(into.len()).min(self.bytes.len() - self.at);
         into[..count].copy_from_slice(&self.bytes[self.at..self.at + count]);
         self.at += count;
+        if count == 0 {
+            self.log.note(&[1], &[]);
+        }
         Ok(count)
     }
 
@@ -110,17 +123,17 @@ pub struct MemorySink {
 
 impl Model for MemorySink {
     ghost use Rattle.std.specs.Prelude.{vec_len, vec_capacity, ◌<◌, ◌≤◌, ◌+◌};
+    ghost use Rattle.aig_io.specs.Devices.{no_file};
     ghost use Rattle.aig_io.specs.Memory.{SinkInMemory};
 
     ghost Value = { SinkInMemory };
 
     ghost view = { λ s. record {
-      taken = s.taken.items;
+      past = record { origin = no_file; bytes = s.taken.items; ends = 0; failures = s.failures };
       room = s.room;
       piece = s.piece;
       longest = s.longest;
       fails_in = s.calls_before;
-      failures = s.failures;
     } };
 
     ghost invariant = { λ s. (vec_len s.taken + s.room ≤ vec_capacity s.taken) × (0 < s.piece) };
@@ -145,7 +158,7 @@ impl MemorySink {
 
     /// The bytes that it took.
     pub fn taken(&self) -> &[u8]
-        ensures { result.now ≡ self.now.taken }
+        ensures { result.now ≡ self.now.past.bytes }
     {
         self.taken.as_slice()
     }
@@ -159,19 +172,16 @@ impl MemorySink {
 }
 
 impl Sink for MemorySink {
-    ghost taken = { λ s. Some s.taken };
-
-    ghost longest = { λ s. s.longest };
-
-    ghost failed = { λ s. s.failures };
+    ghost past = { λ s. s.past };
 
     fn send(&mut self, bytes: &[u8]) -> Result<usize, DeviceFault>
         requires some { 0 < length bytes.now }
-        requires countable { self.old.failures < 2 ^ 64 - 1 }
+        requires short { length bytes.now ≤ ROOM }
+        requires countable { CanFail self.old.past }
         ensures moves { IfOk result (λ n. 0 < n) }
         ensures chosen { IsTrue (is_ok result) ↔ ((is_due self.old.fails_in ≡ false) × (0 < self.old.room)) }
         ensures count { IfOk result (λ n. n ≡ accepted self.old bytes.now) }
-        ensures state { self.new ≡ after_send bytes.now result self.old }
+        ensures state { self.new ≡ sink_after bytes.now result self.old }
     {
         self.longest = self.longest.max(bytes.len());
         let count = self.piece.min(bytes.len()).min(self.room);

@@ -1,6 +1,7 @@
 //! Output in blocks.
 ghost use Rattle.std.specs.Prelude.{◌≡◌, ◌+◌, ◌-◌, ◌*◌, ◌%◌, ◌^◌, ◌<◌, ◌≤◌, [], ◌++◌, length, take, false, decimal};
 ghost use Rattle.std.specs.Prelude.{is_err};
+ghost use Rattle.aig_io.specs.Devices.{CanFail};
 ghost use Rattle.aig_io.specs.Output.{output_to, Put, row_text};
 ghost use Rattle.aig_io.specs.declared.block.TheConstants.{ROOM};
 ghost use Rattle.aig_io.specs.declared.digits.TheConstants.{MOST_DIGITS};
@@ -22,21 +23,22 @@ pub struct Output<'a, W: Sink> {
 }
 
 impl<'a, W: Sink> Model for Output<'a, W> {
-    ghost use Rattle.std.specs.Prelude.{◌≡◌, false, ◌<◌, ◌-◌, ◌^◌};
+    ghost use Rattle.std.specs.Prelude.{◌≡◌, false};
+    ghost use Rattle.aig_io.specs.Devices.{CanFail};
     ghost use Rattle.aig_io.specs.Output.{Out, output_to};
 
     ghost Value = { Out W };
 
-    ghost view = { λ o. output_to W.taken W.longest W.failed o.sink o.block o.failed };
+    ghost view = { λ o. output_to W.past o.sink o.block o.failed };
 
-    ghost invariant = { λ o. o.failed ≡ false → W.failed o.sink.now < 2 ^ 64 - 1 };
+    ghost invariant = { λ o. o.failed ≡ false → CanFail (W.past o.sink.now) };
 }
 
 impl<'a, W: Sink> Output<'a, W> {
     /// Nothing is on its way yet.
     pub fn new(sink: &'a mut W) -> Self
-        requires { W.failed sink.old < 2 ^ 64 - 1 }
-        ensures { result ≡ output_to W.taken W.longest W.failed sink.entry [] false }
+        requires { CanFail (W.past sink.old) }
+        ensures { result ≡ output_to W.past sink.entry [] false }
     {
         Output {
             block: Block::new(),
@@ -82,7 +84,7 @@ impl<'a, W: Sink> Output<'a, W> {
     /// Sends what is held, and hands the sink back. Ok means that the sink took all that was put.
     pub fn finish(mut self) -> (Result<(), DeviceFault>, &'a mut W)
         ensures same { result.1.ghost_name ≡ self.entry.name }
-        ensures put { Put self.entry (output_to W.taken W.longest W.failed result.1 [] (is_err result.0)) [] }
+        ensures put { Put self.entry (output_to W.past result.1 [] (is_err result.0)) [] }
     {
         let sent = self.flush();
         (sent, self.into_sink())
@@ -91,7 +93,7 @@ impl<'a, W: Sink> Output<'a, W> {
     /// Hands the sink back. What is held is dropped.
     pub fn into_sink(self) -> &'a mut W
         ensures same { result.ghost_name ≡ self.entry.name }
-        ensures sink { self.entry ≡ output_to W.taken W.longest W.failed result self.entry.held self.entry.failed }
+        ensures sink { self.entry ≡ output_to W.past result self.entry.held self.entry.failed }
     {
         let Output {
             block: _,

@@ -1,9 +1,7 @@
 //! All bytes of a source, and all bytes to a sink.
-ghost use Rattle.std.specs.Prelude.{◌≡◌, ◌≢◌, ◌+◌, ◌-◌, ◌^◌, ◌<◌, ◌≤◌, ℕ, [], length, max, take, Some, IfOk, IfErr};
-ghost use Rattle.std.specs.Prelude.{IfSome, OnOk, OnErr, MatchResult, is_ok, if◌then◌else◌};
-ghost use Rattle.std.specs.Io.KnownBytes.{Appends};
-ghost use Rattle.aig_io.specs.Transfer.{GaveAll, GaveSome, TookBeginning};
-ghost use Rattle.aig_io.specs.Failures.{failures_of};
+ghost use Rattle.std.specs.Prelude.{◌≡◌, ◌≤◌, length, IfErr, IfOk, OnErr, OnOk};
+ghost use Rattle.aig_io.specs.Devices.{CanFail, failures_of, gave_all, GaveSome, took, TookBeginning};
+ghost use Rattle.aig_io.specs.declared.block.TheConstants.{ROOM};
 ghost use Rattle.aig_io.specs.declared.transfer.ReadError.TheVariants.{Source as SourceFault, OutOfMemory};
 
 use crate::device::{DeviceFault, Sink, Source};
@@ -39,11 +37,9 @@ impl From<AllocError> for ReadError {
 
 /// Reads all bytes that the source still gives, unless it or an allocation fails. After an error some may be lost.
 pub fn read_all<R: Source>(alloc: Global, source: &mut R) -> Result<Vec<u8>, ReadError>
-    requires { R.failed source.old < 2 ^ 64 - 1 }
-    ensures ok { IfOk result (λ all. GaveAll (R.coming source.old) (R.coming source.new) all.items) }
-    ensures ok_failed { OnOk result (R.failed source.new ≡ R.failed source.old) }
-    ensures err_gave { OnErr result (GaveSome (R.coming source.old) (R.coming source.new)) }
-    ensures err { IfErr result (λ e. R.failed source.new ≡ R.failed source.old + failures_of e) }
+    requires { CanFail (R.past source.old) }
+    ensures ok { IfOk result (λ all. R.past source.new ≡ gave_all all.items (R.past source.old)) }
+    ensures err { IfErr result (λ error. GaveSome (failures_of error) (R.past source.old) (R.past source.new)) }
 {
     let mut all = Vec::new(alloc);
     let mut block = [0u8; 8192];
@@ -58,11 +54,10 @@ pub fn read_all<R: Source>(alloc: Global, source: &mut R) -> Result<Vec<u8>, Rea
 
 /// Sends all bytes. On an error the sink took a beginning of them.
 pub(crate) fn send_all<W: Sink>(sink: &mut W, bytes: &[u8]) -> Result<(), DeviceFault>
-    requires { W.failed sink.old < 2 ^ 64 - 1 }
-    ensures ok { OnOk result (Appends (W.taken sink.old) (W.taken sink.new) bytes.now) }
-    ensures err { OnErr result (TookBeginning (W.taken sink.old) (W.taken sink.new) bytes.now) }
-    ensures longest { W.longest sink.new ≤ max (W.longest sink.old) (length bytes.now) }
-    ensures failed { W.failed sink.new ≡ W.failed sink.old + (if is_ok result then 0 else 1) }
+    requires short { length bytes.now ≤ ROOM }
+    requires countable { CanFail (W.past sink.old) }
+    ensures ok { OnOk result (W.past sink.new ≡ took bytes.now (W.past sink.old)) }
+    ensures err { OnErr result (TookBeginning bytes.now (W.past sink.old) (W.past sink.new)) }
 {
     let mut at = 0;
     while at < bytes.len() {

@@ -1,5 +1,5 @@
-use Rattle.std.proofs.Common.{◌≡◌, ◌≤◌, ◌-◌, length, max, take}
-use Rattle.std.specs.Io.KnownBytes.{Appends}
+use Rattle.std.proofs.Common.{◌≡◌, ◌≤◌, ◌-◌, length, take}
+use Rattle.aig_io.specs.Devices.{took}
 use Rattle.aig_io.proofs.transfer.send_all.Given as goal
 
 abbrev pub invariant-loop-at : goal.invariant-loop-at
@@ -7,9 +7,7 @@ invariant-loop-at g l =
     let d = g.W.Sink in
     record {
       within : l.at ≤ length l.bytes;
-      bytes : Appends (d.taken l.fn.sink) (d.taken l.sink) (take l.at l.bytes);
-      longest : d.longest l.sink ≤ max (d.longest l.fn.sink) (length l.bytes);
-      failed : d.failed l.sink ≡ d.failed l.fn.sink;
+      past : d.past l.sink ≡ took (take l.at l.bytes) (d.past l.fn.sink);
     }
 
 abbrev pub decreases-loop-at : goal.decreases-loop-at

@@ -1,0 +1,48 @@
+-- Bytes that move one part after another.
+use Rattle.std.proofs.Common.{◌≡◌, ℕ, zero, suc, ◌+◌, ◌-◌, List, ◌++◌, Ok, take, drop, take-add, length, length-drop}
+use Rattle.std.proofs.Common.{arith, ap, refl, ◌∙◌, ◌<◌, ◌≤◌, Option, append_assoc}
+use Rattle.std.proofs.lemmas.List.{drop-drop, take_all}
+use native.Mathlib.Numerals.{unary_clauses}
+use Rattle.aig_io.specs.declared.device.DeviceFault.{DeviceFault}
+use Rattle.aig_io.specs.Memory.{one_call_later, source_after}
+use Rattle.std.proofs.lemmas.Grind.{common_steps}
+use Rattle.aig_io.specs.Devices.{GaveSome, Past, after_fetch, no_file, took}
+
+-- the slice from n on is all that is left
+rest_is : (bs : List ℕ) (n : ℕ) → take (length bs - n) (drop n bs) ≡ drop n bs
+rest_is bs n = take_all (length bs - n) (drop n bs) (omega (arith, length-drop n bs))
+
+pub took_twice : (a b c : Past) (xs ys : List ℕ) → b ≡ took xs a → c ≡ took ys b → c ≡ took (xs ++ ys) a
+took_twice a b c xs ys p q =
+    q ∙ ap (took ys) p ∙ ap (λ (zs : List ℕ). record a { bytes = zs }) (append_assoc a.bytes xs ys)
+
+-- the first n bytes, and then k of the slice from n on
+pub took_more : (a b c : Past) (bs : List ℕ) (n k : ℕ) → b ≡ took (take n bs) a
+    → c ≡ took (take k (take (length bs - n) (drop n bs))) b → c ≡ took (take (n + k) bs) a
+took_more a b c bs n k p q = rw take-add (took_twice a b c _ _ p (rw rest_is at q))
+
+-- a fetch that is not at the end gives bytes
+pub gave_next : (into : List ℕ) (n : ℕ) (a : Past) → 0 < n → after_fetch {E = DeviceFault} into (Ok n) a ≡ took (take n into) a
+gave_next into zero a p =
+    let none : ⊥ = omega (arith, p) in
+    absurd none
+gave_next into (suc n) a p = refl
+
+-- a source in memory puts the next n of its bytes at the front
+pub front_is : (bs cs ys rest : List ℕ) (at n : ℕ) → ys ≡ take (at + n - at) (drop at cs) → cs ≡ bs → at + n ≤ length bs
+    → take n (ys ++ rest) ≡ take n (drop at bs)
+front_is bs cs ys rest at n is same fits = grind (arith, common_steps)
+
+pub fetched : (bs into : List ℕ) (at n ends failures piece : ℕ) (before later : Option ℕ) → later ≡ one_call_later before
+    → 0 < n → take n into ≡ take n (drop at bs)
+    → record { past = record { origin = no_file; bytes = take (at + n) bs; ends = ends; failures = failures }; coming = drop (at + n) bs; piece = piece; fails_in = later }
+    ≡ source_after into (Ok n) (record { past = record { origin = no_file; bytes = take at bs; ends = ends; failures = failures }; coming = drop at bs; piece = piece; fails_in = before })
+fetched bs into at n ends failures piece before later counted some front =
+    rw (gave_next into n (record { origin = no_file; bytes = take at bs; ends = ends; failures = failures }) some, front, take-add, drop-drop, counted) refl
+
+pub gave_more : (a b c : Past) (xs ys : List ℕ) → b ≡ took xs a → c ≡ took ys b → GaveSome 0 a c
+gave_more a b c xs ys p q = record {
+  bytes = xs ++ ys;
+  ends = 0;
+  gave = simp unary_clauses (took_twice a b c xs ys p q);
+}

@@ -1,0 +1,74 @@
+-- What a source gave and a sink took, whatever they are (this project's devices).
+use Rattle.std.specs.Prelude.{◌≡◌, ◌+◌, ◌-◌, ◌<◌, ◌^◌, ◌++◌, ℕ, zero, suc, List, [], Option, None, Result, Ok, Err, take}
+use Rattle.aig_io.specs.Files.{Use}
+use Rattle.aig_io.specs.declared.transfer.ReadError.{ReadError}
+use Rattle.aig_io.specs.declared.transfer.ReadError.TheVariants as errors
+
+-- What a device stands on: the borrow of the files that it holds, the file's name, and the uses of files before its own.
+-- A stream has none.
+pub record Origin : Type 0 where
+  pub lender : ℕ
+  pub name : Option (List ℕ)
+  pub before : List Use
+
+abbrev pub no_file : Origin
+no_file = record { lender = 0; name = None; before = [] }
+
+-- A device's past: the bytes that it gave or took since it was made, how often it answered that it is at its end, and
+-- how often it failed. Each call of it changes one of these.
+pub record Past : Type 0 where
+  pub origin : Origin
+  pub bytes : List ℕ
+  pub ends : ℕ
+  pub failures : ℕ
+
+-- no call was made yet
+abbrev pub unused : Origin → Past
+unused origin = record { origin = origin; bytes = []; ends = 0; failures = 0 }
+
+-- one more failure can be counted
+abbrev pub CanFail : Past → Type 0
+CanFail past = past.failures < 2 ^ 64 - 1
+
+-- after a fetch into these bytes that answered so
+abbrev pub after_fetch : {E : Type 0} → List ℕ → Result ℕ E → Past → Past
+after_fetch into (Ok zero) past = record past { ends = past.ends + 1 }
+after_fetch into (Ok (suc n)) past = record past { bytes = past.bytes ++ take (suc n) into }
+after_fetch into (Err fault) past = record past { failures = past.failures + 1 }
+
+-- after a send of these bytes that answered so
+abbrev pub after_send : {E : Type 0} → List ℕ → Result ℕ E → Past → Past
+after_send bytes (Ok n) past = record past { bytes = past.bytes ++ take n bytes }
+after_send bytes (Err fault) past = record past { failures = past.failures + 1 }
+
+-- it gave these bytes, and answered that it is at its end
+abbrev pub gave_all : List ℕ → Past → Past
+gave_all bytes past = record past { bytes = past.bytes ++ bytes; ends = past.ends + 1 }
+
+-- it took these bytes
+abbrev pub took : List ℕ → Past → Past
+took bytes past = record past { bytes = past.bytes ++ bytes }
+
+-- it failed
+abbrev pub failed_once : Past → Past
+failed_once past = record past { failures = past.failures + 1 }
+
+-- it gave some bytes, answered some times that it is at its end, and failed so often
+pub record GaveSome (failures : ℕ) (before after : Past) : Type 0 where
+  pub bytes : List ℕ
+  pub ends : ℕ
+  pub gave : after ≡ record before {
+    bytes = before.bytes ++ bytes;
+    ends = before.ends + ends;
+    failures = before.failures + failures;
+  }
+
+-- it took a beginning of these bytes, and failed
+pub record TookBeginning (bytes : List ℕ) (before after : Past) : Type 0 where
+  pub count : ℕ
+  pub past : after ≡ failed_once (took (take count bytes) before)
+
+-- how many failures of its source an error tells
+abbrev pub failures_of : ReadError → ℕ
+failures_of errors.Source = 1
+failures_of errors.OutOfMemory = 0
