@@ -1,6 +1,4 @@
 -- What an error of a tool puts at fault.
-use Rattle.std.specs.Prelude.{ℕ, Option, None, Some}
-use Rattle.aig_rows.specs.declared.fault.ReadFault.{ReadFault}
 use Rattle.aig_rows.specs.declared.fault.ReadKind.{ReadKind}
 use Rattle.aig_rows.specs.declared.fault.ReadKind.TheVariants as kinds
 use Rattle.aig_map.specs.declared.fault.MapFault.{MapFault}
@@ -55,27 +53,3 @@ at_fault (Unroll fault) = unroll_blamed fault
 at_fault Source = TheSource
 at_fault Sink = TheSink
 at_fault OutOfMemory = Memory
-
--- what is wrong with a text, where that is what is reported
-abbrev pub text_fault : ToolFault → Option ReadFault
-text_fault (Read fault) = Some fault
-text_fault _ = None
-
--- what is wrong with a map, where that is what is reported
-abbrev pub map_fault : ToolFault → Option MapFault
-map_fault (Map fault) = Some fault
-map_fault _ = None
-
--- why a circuit is not unrolled, where that is what is reported
-abbrev pub unroll_fault : ToolFault → Option UnrollFault
-unroll_fault (Unroll fault) = Some fault
-unroll_fault _ = None
-
--- how many failures of its source a run with this at fault has seen, and how many of its sink
-abbrev pub source_failures : Party → ℕ
-source_failures TheSource = 1
-source_failures _ = 0
-
-abbrev pub sink_failures : Party → ℕ
-sink_failures TheSink = 1
-sink_failures _ = 0

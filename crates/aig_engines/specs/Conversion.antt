@@ -1,13 +1,19 @@
 -- Which text a conversion writes (this project's profile): a circuit is read, changed as asked, and written.
-use Rattle.std.specs.Prelude.{◌≡◌, ℕ, List, [], Bool, true, false, None, if◌then◌else◌}
+use Rattle.std.specs.Prelude.{◌≡◌, ◌⊎◌, ℕ, List, [], Bool, true, false, None, if◌then◌else◌}
 use Rattle.aig_circuit.specs.declared.circuit.Circuit.{Circuit}
 use Rattle.aig_text.specs.AsciiText.{ascii_text}
 use Rattle.aig_binary.specs.BinaryText.{binary_text}
 use Rattle.aig_image.specs.Image.{IsBinaryImage}
 use Rattle.aig_map.specs.MapBlock.{IsMappedImage}
-use Rattle.aig_map.specs.Undone.{IsUndoneFrom}
+use Rattle.aig_map.specs.Undone.{IsMapFault, IsUndoneFrom}
+use Rattle.aig_map.specs.declared.fault.MapFault.{MapFault}
 use Rattle.aig_command.specs.declared.request.ToAig.{ToAig}
+use Rattle.aig_engines.specs.declared.conversion.Ready.{Ready}
+use Rattle.aig_engines.specs.declared.conversion.Ready.TheVariants.{Ascii, Binary}
+use Rattle.aig_engines.specs.declared.fault.ToolFault.{ToolFault}
+use Rattle.aig_engines.specs.declared.fault.ToolFault.TheVariants.{Map}
 use Rattle.aig_engines.specs.File.{IsFileOf}
+use Rattle.aig_engines.specs.Reading.{IsUnreadable}
 
 -- the circuit without its symbols and its comment
 abbrev pub stripped : Circuit → Circuit
@@ -39,3 +45,16 @@ pub record IsConversionText (request : ToAig) (bytes text : List ℕ) : Type 0 w
   pub read : IsFileOf bytes request.max_var found
   pub is_source : IsSource request.undo_map found source
   pub written_as : IsTextAs request.ascii request.keep_map (changed request source) text
+
+-- The bytes have no conversion text for this reason: they are no file of a circuit; or they are the file of one that was
+-- to be undone, and this is why it has no undone one, unless memory was refused.
+abbrev pub IsConversionRefused : ToAig → ToolFault → List ℕ → Type 0
+IsConversionRefused request fault bytes =
+    IsUnreadable request.max_var fault bytes
+    ⊎ ((found : Circuit) × IsFileOf bytes request.max_var found × (request.undo_map ≡ true)
+    × ((reason : MapFault) × (fault ≡ Map reason) × IsMapFault found reason))
+
+-- the text of what is ready to be written
+abbrev pub ready_text : Ready → List ℕ
+ready_text (Ascii circuit) = ascii_text circuit
+ready_text (Binary image) = binary_text image

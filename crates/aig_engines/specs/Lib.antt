@@ -4,12 +4,8 @@ pub mod Simulation
 pub mod WitnessAnswer
 pub mod Unrolling
 pub mod Blame
-pub mod Devices
 pub mod Reading
 pub mod Outcome
 pub mod WitnessOutcome
-pub mod UnrollingOutcome
 pub mod Messages
-pub mod Reported
 pub mod Laws
-pub mod Parts

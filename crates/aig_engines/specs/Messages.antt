@@ -1,7 +1,6 @@
 -- What is reported on standard error, in one line (this project's profile).
-use Rattle.std.specs.Prelude.{◌≡◌, ◌+◌, ◌++◌, ◌⊎◌, ℕ, List, [], Option, codes, string_bytes}
-use Rattle.std.specs.Io.KnownBytes.{Appends}
-use Rattle.aig_io.specs.Transfer.{TookBeginning}
+use Rattle.std.specs.Prelude.{◌≡◌, ◌++◌, ◌⊎◌, ℕ, List, [], Option, None, Some, codes, string_bytes}
+use Rattle.aig_io.specs.Devices.{Past, TookBeginning, took}
 use Rattle.aig_rows.specs.Messages.{fault_text}
 use Rattle.aig_map.specs.Messages.{map_fault_text}
 use Rattle.aig_step.specs.Messages.{sim_fault_text}
@@ -14,7 +13,11 @@ use Rattle.aig_command.specs.Words.{usage_words}
 use Rattle.aig_command.specs.declared.usage.Usage.{Usage}
 use Rattle.aig_command.specs.declared.usage.Usage.TheVariants as usages
 use Rattle.aig_engines.specs.Blame.{at_fault, Memory, Party, TheSink, TheSteps, TheStimulus}
-use Rattle.aig_engines.specs.Devices.{shown, SinkUse}
+
+-- a file by its name, and a stream by `-`
+abbrev pub shown : Option (List ℕ) → List ℕ
+shown None = codes "-"
+shown (Some name) = name
 
 -- a line of the program: what it is about, and what is wrong
 abbrev pub line_of : List ℕ → List ℕ → List ℕ
@@ -71,10 +74,6 @@ abbrev pub usage_text : Usage → List ℕ
 usage_text (usages.Words text) = string_bytes text
 usage_text usage = line_of [] (usage_words usage)
 
--- the sink took the line, or it failed once and took a beginning of it
-abbrev pub IsReported : {E : Type 0} → SinkUse E → List ℕ → Type 0
-IsReported errors line =
-    (Appends (errors.taken errors.before) (errors.taken errors.after) line
-    × (errors.failures errors.after ≡ errors.failures errors.before))
-    ⊎ (TookBeginning (errors.taken errors.before) (errors.taken errors.after) line
-    × (errors.failures errors.after ≡ errors.failures errors.before + 1))
+-- the sink took the line, or a beginning of it and failed
+abbrev pub IsReported : (errors errors_now : Past) → List ℕ → Type 0
+IsReported errors errors_now line = (errors_now ≡ took line errors) ⊎ TookBeginning line errors errors_now

@@ -1,39 +1,33 @@
--- What came of reading a circuit from a source, for the source and what is left of it.
-use Rattle.std.specs.Prelude.{◌≡◌, ◌+◌, ℕ, List, Option, IfSome, ⊤}
-use Rattle.aig_io.specs.Transfer.{GaveAll, GaveSome}
-use Rattle.aig_circuit.specs.declared.circuit.Circuit.{Circuit}
+-- What came of reading a source to its end, for its past as it was and as it is now.
+use Rattle.std.specs.Prelude.{◌≡◌, ◌⊎◌, ℕ, List}
+use Rattle.aig_io.specs.Devices.{GaveSome, Past, failures_of, gave_all}
+use Rattle.aig_io.specs.declared.transfer.ReadError.{ReadError}
+use Rattle.aig_io.specs.declared.transfer.ReadError.TheVariants as errors
 use Rattle.aig_rows.specs.declared.fault.ReadFault.{ReadFault}
 use Rattle.aig_text.specs.Reading.{IsFirstFault}
 use Rattle.aig_engines.specs.declared.fault.ToolFault.{ToolFault}
 use Rattle.aig_engines.specs.declared.fault.ToolFault.TheVariants as faults
-use Rattle.aig_engines.specs.Blame.{at_fault, source_failures, text_fault}
-use Rattle.aig_engines.specs.Devices.{SourceUse}
-use Rattle.aig_engines.specs.File.{first_fault, IsFileOf}
+use Rattle.aig_engines.specs.File.{first_fault}
 
--- the source gave all its bytes, which are the file of this circuit within this limit, and did not fail
-pub record HasRead {R : Type 0} (limit : ℕ) (found : Circuit) (source : SourceUse R) : Type 0 where
+-- the source gave all its bytes, and this holds of them
+pub record HasRead (Holds : List ℕ → Type 0) (source source_now : Past) : Type 0 where
   pub bytes : List ℕ
-  pub gave : GaveAll (source.coming source.before) (source.coming source.after) bytes
-  pub read : IsFileOf bytes limit found
-  pub held : source.failures source.after ≡ source.failures source.before
+  pub gave : source_now ≡ gave_all bytes source
+  pub holds : Holds bytes
 
--- the source gave all its bytes, and this is their first fault, unless memory was refused
-pub record Refused (limit : ℕ) (coming left : Option (List ℕ)) (fault : ReadFault) : Type 0 where
-  pub bytes : List ℕ
-  pub gave : GaveAll coming left bytes
-  pub is_first : IsFirstFault fault (first_fault limit bytes)
+-- an error of reading as a fault of a tool
+abbrev pub tool_fault_of : ReadError → ToolFault
+tool_fault_of errors.Source = faults.Source
+tool_fault_of errors.OutOfMemory = faults.OutOfMemory
 
--- the errors of reading a circuit
-abbrev pub IsOfReading : ToolFault → Type 0
-IsOfReading (faults.Read fault) = ⊤
-IsOfReading faults.Source = ⊤
-IsOfReading faults.OutOfMemory = ⊤
-IsOfReading other = ⊥
+-- Why nothing was made of what a source gives: it failed, or memory was refused, and some of its bytes came; or all of
+-- them came, and they are refused with this fault.
+abbrev pub NotRead : (ToolFault → List ℕ → Type 0) → ToolFault → (source source_now : Past) → Type 0
+NotRead IsRefused fault source source_now =
+    ((error : ReadError) × (fault ≡ tool_fault_of error) × GaveSome (failures_of error) source source_now)
+    ⊎ HasRead (IsRefused fault) source source_now
 
--- why no circuit was read
-pub record NotRead {R : Type 0} (limit : ℕ) (error : ToolFault) (source : SourceUse R) : Type 0 where
-  pub possible : IsOfReading error
-  pub gave : GaveSome (source.coming source.before) (source.coming source.after)
-  pub refused : IfSome (text_fault error) (Refused limit (source.coming source.before) (source.coming source.after))
-  -- The source is at fault where its count of failures rose, which is by one.
-  pub count : source.failures source.after ≡ source.failures source.before + source_failures (at_fault error)
+-- the bytes are no file of a circuit within this limit: this is their first fault, unless memory was refused
+abbrev pub IsUnreadable : ℕ → ToolFault → List ℕ → Type 0
+IsUnreadable limit fault bytes =
+    (first : ReadFault) × (fault ≡ faults.Read first) × IsFirstFault first (first_fault limit bytes)

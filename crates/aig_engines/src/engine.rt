@@ -1,19 +1,22 @@
 //! What the commands have in common that read one source and write one destination.
-ghost use Rattle.std.specs.Prelude.{◌≡◌, ◌+◌, ◌-◌, ◌≤◌, ◌^◌, ◌<◌, ℕ, List, Option, IfErr, OnOk, max};
-ghost use Rattle.std.specs.Io.KnownBytes.{Keeps};
-ghost use Rattle.aig_io.specs.declared.block.TheConstants.{ROOM};
+ghost use Rattle.std.specs.Prelude.{◌≡◌, ◌<◌, ℕ, List, Option, IfErr, IfOk, OnErr, OnOk, length};
+ghost use Rattle.aig_io.specs.Devices.{CanFail, took, TookBeginning};
 ghost use Rattle.aig_command.specs.Answer.{name_of};
-ghost use Rattle.aig_files.specs.Named.{FileSink};
 ghost use Rattle.aig_engines.specs.declared.fault.ToolFault.{ToolFault as Fault};
-ghost use Rattle.aig_engines.specs.declared.fault.ToolFault.TheVariants.{Sink as SinkFault};
-ghost use Rattle.aig_engines.specs.Devices.{SinkUse, SourceUse, sink_use, source_use, use_of_file_sink};
+ghost use Rattle.aig_engines.specs.Outcome.{Done, NotDone};
+ghost use Rattle.aig_engines.specs.Reading.{HasRead, NotRead};
 
 use crate::fault::ToolFault;
 use aig_core::{Sink, Source};
+use aig_text::WriteFault;
 use std::alloc::Global;
 
-/// What a request asks for that names one source and one destination.
+/// What a request asks for that names one source and one destination. All is read and found right before anything is
+/// written.
 pub trait Engine {
+    /// What was read and found right.
+    type Work: Drop;
+
     /// What holds of a request that can be done.
     ghost can_do: { Self → Type 0 };
 
@@ -23,22 +26,14 @@ pub trait Engine {
     /// The name of the destination, if it is a file.
     ghost destination_name: { Self → Option (List ℕ) };
 
-    /// What it did to a source and a sink where it was done.
-    ghost done: { Self → (R W : Type 0) → SourceUse R → SinkUse W → Type 0 };
+    /// The text that is written for these bytes of the source.
+    ghost is_text: { Self → List ℕ → List ℕ → Type 0 };
 
-    /// What an error says of a source and a sink.
-    ghost not_done: { Self → Fault → (R W : Type 0) → SourceUse R → SinkUse W → Type 0 };
+    /// These bytes of the source are refused with this fault.
+    ghost is_refused: { Self → Fault → List ℕ → Type 0 };
 
-    /// The sink did not fail where it was done.
-    ghost held: { (request : Self) (R W : Type 0) (source : SourceUse R) (sink : SinkUse W)
-        → done request R W source sink → sink.failures sink.after ≡ sink.failures sink.before };
-
-    /// It stays done where the sink is a file that is closed then; one that cannot be closed is a sink that failed.
-    ghost closed: { (request : Self) (R : Type 0) (source : SourceUse R) (file filled closed : FileSink)
-        → done request R FileSink source (use_of_file_sink file filled) → Keeps filled.taken closed.taken
-        → (closed.failures ≡ filled.failures → done request R FileSink source (use_of_file_sink file closed))
-        × (closed.failures ≡ filled.failures + 1
-        → not_done request SinkFault R FileSink source (use_of_file_sink file closed)) };
+    /// The text that is to be written.
+    ghost text: { Self → Self.Work → List ℕ };
 
     /// The source's name; `None` is the standard input.
     fn source(&self) -> &Option<String>
@@ -48,20 +43,40 @@ pub trait Engine {
     fn destination(&self) -> &Option<String>
         ensures { name_of result.now ≡ destination_name self.now };
 
-    /// Does what is asked for, from this source to this sink.
-    fn run<R: Source, W: Sink>(
-        &self,
-        alloc: Global,
-        source: &mut R,
-        sink: &mut W,
-    ) -> Result<(), ToolFault>
-        requires source { R.failed source.old < 2 ^ 64 - 1 }
-        requires sink { W.failed sink.old < 2 ^ 64 - 1 }
+    /// Reads the source to its end, and makes of it what is to be written. It fails if the source or an allocation
+    /// fails, or if the bytes are refused.
+    fn read<R: Source>(&self, alloc: Global, source: &mut R) -> Result<Self::Work, ToolFault>
+        requires source { CanFail (R.past source.old) }
         requires can_do { can_do self.now }
-        ensures ok { OnOk result (done self.now R W (source_use R.coming R.failed source.old source.new)
-            (sink_use W.taken W.longest W.failed sink.old sink.new)) }
-        ensures err { IfErr result (λ error. not_done self.now error R W
-            (source_use R.coming R.failed source.old source.new)
-            (sink_use W.taken W.longest W.failed sink.old sink.new)) }
-        ensures short { W.longest sink.new ≤ max (W.longest sink.old) ROOM };
+        ensures ok { IfOk result (λ work. HasRead (λ bytes. is_text self.now bytes (text self.now work))
+            (R.past source.old) (R.past source.new)) }
+        ensures some { IfOk result (λ work. 0 < length (text self.now work)) }
+        ensures err { IfErr result (λ fault. NotRead (is_refused self.now) fault
+            (R.past source.old) (R.past source.new)) };
+
+    /// Writes the text. It fails only where the sink fails, which then took a beginning of it.
+    fn write<W: Sink>(&self, work: Self::Work, sink: &mut W) -> Result<(), WriteFault>
+        requires { CanFail (W.past sink.old) }
+        ensures ok { OnOk result (W.past sink.new ≡ took (text self.now work) (W.past sink.old)) }
+        ensures err { OnErr result (TookBeginning (text self.now work) (W.past sink.old) (W.past sink.new)) };
+}
+
+/// Does what a request asks for, from this source to this sink: it reads, then writes.
+pub(crate) fn run<T: Engine, R: Source, W: Sink>(
+    alloc: Global,
+    request: &T,
+    source: &mut R,
+    sink: &mut W,
+) -> Result<(), ToolFault>
+    requires source { CanFail (R.past source.old) }
+    requires sink { CanFail (W.past sink.old) }
+    requires can_do { T.can_do request.now }
+    ensures ok { OnOk result (Done (T.is_text request.now)
+        (R.past source.old) (R.past source.new) (W.past sink.old) (W.past sink.new)) }
+    ensures err { IfErr result (λ fault. NotDone (T.is_text request.now) (T.is_refused request.now) fault
+        (R.past source.old) (R.past source.new) (W.past sink.old) (W.past sink.new)) }
+{
+    let work = request.read(alloc, source)?;
+    request.write(work, sink)?;
+    Ok(())
 }

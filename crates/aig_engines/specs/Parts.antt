@@ -1,2 +1,0 @@
--- What only private functions cite.
-pub mod Closing
