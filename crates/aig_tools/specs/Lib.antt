@@ -4,12 +4,10 @@ pub use Rattle.aig_engines.specs.Simulation
 pub use Rattle.aig_engines.specs.WitnessAnswer
 pub use Rattle.aig_engines.specs.Unrolling
 pub use Rattle.aig_engines.specs.Blame
-pub use Rattle.aig_engines.specs.Devices
 pub use Rattle.aig_engines.specs.Reading
 pub use Rattle.aig_engines.specs.Outcome
 pub use Rattle.aig_engines.specs.WitnessOutcome
-pub use Rattle.aig_engines.specs.UnrollingOutcome
 pub use Rattle.aig_engines.specs.Messages
-pub use Rattle.aig_engines.specs.Reported
+pub mod Named
 pub mod SimulationOutcome
 pub mod Ending

@@ -1,93 +1,97 @@
--- What came of a simulation, for a model and a stimulus and what is left of them, and a sink and how it is filled then.
--- Nothing is said of the bytes of a device that does not tell them.
-use Rattle.std.specs.Prelude.{◌≡◌, ◌≢◌, ◌+◌, ℕ, List, Bool, Option, None, Some, ⊤, true, false}
-use Rattle.std.specs.Io.KnownBytes.{Appends}
-use Rattle.aig_io.specs.Transfer.{GaveAll}
+-- What came of a simulation, or of judging a witness file.
+use Rattle.std.specs.Prelude.{◌≡◌, ◌⊎◌, ℕ, List, [], Bool, Option, None, Some, false, true}
+use Rattle.aig_io.specs.Devices.{Past, TookBeginning, took, unused}
+use Rattle.aig_io.specs.Files.{Files, Left}
+use Rattle.aig_files.specs.Named.{IsShown, named}
 use Rattle.aig_circuit.specs.declared.circuit.Circuit.{Circuit}
 use Rattle.aig_command.specs.Answer.{name_of}
 use Rattle.aig_command.specs.declared.request.Sim.{Sim}
 use Rattle.aig_step.specs.declared.fault.SimFault.{SimFault}
-use Rattle.aig_step.specs.declared.fault.SimFault.TheVariants as sim_faults
 use Rattle.aig_batch.specs.Batched.{NotBatched}
-use Rattle.aig_step.specs.Outcome.{NotSimulated, sink_failures, source_failures}
+use Rattle.aig_step.specs.Outcome.{NotSimulated, Simulated}
 use Rattle.aig_witness.specs.declared.verdict.Verdict.{Verdict}
+use Rattle.aig_witness.specs.Confirming.{Judged, NotJudged}
 use Rattle.aig_engines.specs.declared.fault.ToolFault.{ToolFault}
 use Rattle.aig_engines.specs.declared.fault.ToolFault.TheVariants as faults
-use Rattle.aig_engines.specs.Devices.{FilesByName, IsSentInBlocks, OfSource, SinkUse, SourceUse}
-use Rattle.aig_engines.specs.Reading.{HasRead, NotRead}
-use Rattle.aig_engines.specs.Simulation.{columns_of, IsSimulationText}
-use Rattle.aig_engines.specs.WitnessOutcome.{Answered, NotAnswered}
+use Rattle.aig_engines.specs.File.{IsFileOf}
+use Rattle.aig_engines.specs.Reading.{HasRead, IsUnreadable, NotRead}
+use Rattle.aig_engines.specs.Simulation.{columns_of}
+use Rattle.aig_engines.specs.WitnessAnswer.{answer_line}
+use Rattle.aig_tools.specs.Named.{HasReadFrom, NotReadFrom, World}
 
--- Model and stimulus gave all their bytes, the sink took the simulation text of them, and none of the three failed.
-pub record Traced {M R W : Type 0} (request : Sim)
-    (model : SourceUse M) (stimulus : SourceUse R) (sink : SinkUse W) : Type 0 where
-  pub model_bytes : List ℕ
-  pub stimulus_bytes : List ℕ
-  pub text : List ℕ
-  pub model_gave : GaveAll (model.coming model.before) (model.coming model.after) model_bytes
-  pub stimulus_gave : GaveAll (stimulus.coming stimulus.before) (stimulus.coming stimulus.after) stimulus_bytes
-  pub is_text : IsSimulationText request model_bytes stimulus_bytes text
-  pub took : Appends (sink.taken sink.before) (sink.taken sink.after) text
-  pub model_held : model.failures model.after ≡ model.failures model.before
-  pub stimulus_held : stimulus.failures stimulus.after ≡ stimulus.failures stimulus.before
-  pub sink_held : sink.failures sink.after ≡ sink.failures sink.before
+-- what an error of a simulation says, which runs as a batch or step by step
+abbrev pub NotSimulatedAs : Bool → Circuit → Sim → SimFault → (stimulus stimulus_now sink sink_now : Past) → Type 0
+NotSimulatedAs true c request fault stimulus stimulus_now sink sink_now =
+    NotBatched c (columns_of request) fault stimulus stimulus_now sink sink_now
+NotSimulatedAs false c request fault stimulus stimulus_now sink sink_now =
+    NotSimulated c (columns_of request) fault stimulus stimulus_now sink sink_now
 
--- The model gave all its bytes, which are the file of a circuit, and its simulation ended early for this reason.
-pub record Stopped {M R W : Type 0} (request : Sim) (fault : SimFault)
-    (model : SourceUse M) (stimulus : SourceUse R) (sink : SinkUse W) : Type 0 where
-  pub found : Circuit
-  pub has_read : HasRead request.max_var found model
-  pub came : request.batch ≡ false → NotSimulated found (columns_of request) fault
-      (stimulus.coming stimulus.before) (stimulus.coming stimulus.after)
-      (sink.taken sink.before) (sink.taken sink.after)
-  -- All growth comes before the first fetch.
-  pub untouched : request.batch ≡ false → fault ≡ sim_faults.OutOfMemory
-      → (stimulus.after ≡ stimulus.before) × (sink.after ≡ sink.before)
-  pub came_whole : request.batch ≡ true → NotBatched found (columns_of request) fault
-      (stimulus.coming stimulus.before) (stimulus.coming stimulus.after)
-      (sink.taken sink.before) (sink.taken sink.after)
-  -- The whole stimulus is read, and found right, before anything is sent.
-  pub unsent : request.batch ≡ true → fault ≢ sim_faults.WriteFailed → sink.after ≡ sink.before
-  -- A device is at fault where its count of failures rose, which is by one.
-  pub stimulus_count : stimulus.failures stimulus.after ≡ stimulus.failures stimulus.before + source_failures fault
-  pub sink_count : sink.failures sink.after ≡ sink.failures sink.before + sink_failures fault
+-- a fault of the steps, of which this holds
+abbrev pub OfSteps : (SimFault → Type 0) → ToolFault → Type 0
+OfSteps Holds fault = (sim : SimFault) × (fault ≡ faults.Sim sim) × Holds sim
 
--- What an error of a simulation says of its devices. Nothing is fetched of the stimulus, and nothing is sent, before
--- the whole model is read and found right.
-abbrev pub NotTraced : {M R W : Type 0} → Sim → ToolFault → SourceUse M → SourceUse R → SinkUse W → Type 0
-NotTraced request (faults.Sim fault) model stimulus sink = Stopped request fault model stimulus sink
-NotTraced request error model stimulus sink =
-    NotRead request.max_var error model × (stimulus.after ≡ stimulus.before) × (sink.after ≡ sink.before)
+-- the model's circuit was found, and the trace of the stimulus was written
+abbrev pub Traced : Sim → (model model_now stimulus stimulus_now sink sink_now : Past) → Type 0
+Traced request model model_now stimulus stimulus_now sink sink_now =
+    (found : Circuit) × HasRead (λ bytes. IsFileOf bytes request.max_var found) model model_now
+    × Simulated found (columns_of request) stimulus stimulus_now sink sink_now
 
--- What was done with a model and a stimulus: the trace was written, or, where a witness was to be judged, the file in
--- the stimulus's place got this verdict.
-abbrev pub DoneAs : {M R W : Type 0} → Bool → Sim → Option Verdict → SourceUse M → SourceUse R → SinkUse W → Type 0
-DoneAs true request (Some verdict) model stimulus sink = Answered request verdict model stimulus sink
-DoneAs true request None model stimulus sink = ⊥
-DoneAs false request (Some verdict) model stimulus sink = ⊥
-DoneAs false request None model stimulus sink = Traced request model stimulus sink
+-- What a fault of a simulation says. Nothing is fetched of the stimulus, and nothing is sent, before the whole model is
+-- read and found right.
+abbrev pub NotTraced : Sim → ToolFault → (model model_now stimulus stimulus_now sink sink_now : Past) → Type 0
+NotTraced request fault model model_now stimulus stimulus_now sink sink_now =
+    (NotRead (IsUnreadable request.max_var) fault model model_now × (stimulus_now ≡ stimulus) × (sink_now ≡ sink))
+    ⊎ ((found : Circuit) × HasRead (λ bytes. IsFileOf bytes request.max_var found) model model_now
+    × OfSteps (λ sim. NotSimulatedAs request.batch found request sim stimulus stimulus_now sink sink_now) fault)
 
--- what an error says where it was not done
-abbrev pub NotDoneAs : {M R W : Type 0} → Bool → Sim → ToolFault → SourceUse M → SourceUse R → SinkUse W → Type 0
-NotDoneAs true request error model stimulus sink = NotAnswered request error model stimulus sink
-NotDoneAs false request error model stimulus sink = NotTraced request error model stimulus sink
+-- What was done for a circuit with a stimulus: its trace was written; or it was judged as a witness file, and the line
+-- of the verdict was written.
+abbrev pub DoneAs : Sim → Circuit → Option Verdict → (stimulus stimulus_now sink sink_now : Past) → Type 0
+DoneAs request c None stimulus stimulus_now sink sink_now =
+    (request.witness ≡ false) × Simulated c (columns_of request) stimulus stimulus_now sink sink_now
+DoneAs request c (Some verdict) stimulus stimulus_now sink sink_now =
+    (request.witness ≡ true) × Judged c verdict stimulus stimulus_now × (sink_now ≡ took (answer_line verdict) sink)
 
--- the standard input is left alone where files are named for model and stimulus both
-abbrev pub IsUnusedWhereBoth : {X : Type 0} → Option (List ℕ) → Option (List ℕ) → X → X → Type 0
-IsUnusedWhereBoth (Some model) (Some stimulus) before after = after ≡ before
-IsUnusedWhereBoth model stimulus before after = ⊤
+-- what a fault says where a file was to be judged: there is no verdict, or its line was not written whole
+abbrev pub NotJudgedAs : Circuit → ToolFault → (stimulus stimulus_now sink sink_now : Past) → Type 0
+NotJudgedAs c fault stimulus stimulus_now sink sink_now =
+    (OfSteps (λ sim. NotJudged c sim stimulus stimulus_now) fault × (sink_now ≡ sink))
+    ⊎ ((fault ≡ faults.Sink) × ((verdict : Verdict) × Judged c verdict stimulus stimulus_now
+    × TookBeginning (answer_line verdict) sink sink_now))
 
--- The trace is written, or there is this verdict, for the model and the stimulus that the request names. One of them at
--- most is the standard input. No slice that the sink was handed is longer than a block.
-abbrev pub SimulationDone : {R W : Type 0} → Sim → Option Verdict → FilesByName → SourceUse R → SinkUse W → Type 0
-SimulationDone request verdict files input sink =
-    OfSource files (name_of request.model) input (λ M model.
-    OfSource files (name_of request.stimulus) input (λ R stimulus.
-    DoneAs request.witness request verdict model stimulus sink × IsSentInBlocks sink))
+-- what a fault says
+abbrev pub NotDoneAs : Sim → Circuit → ToolFault → (stimulus stimulus_now sink sink_now : Past) → Type 0
+NotDoneAs request c fault stimulus stimulus_now sink sink_now =
+    ((request.witness ≡ true) × NotJudgedAs c fault stimulus stimulus_now sink sink_now)
+    ⊎ ((request.witness ≡ false)
+    × OfSteps (λ sim. NotSimulatedAs request.batch c request sim stimulus stimulus_now sink sink_now) fault)
 
--- what an error says where it is not done
-abbrev pub SimulationNotDone : {R W : Type 0} → Sim → ToolFault → FilesByName → SourceUse R → SinkUse W → Type 0
-SimulationNotDone request error files input sink =
-    OfSource files (name_of request.model) input (λ M model.
-    OfSource files (name_of request.stimulus) input (λ R stimulus.
-    NotDoneAs request.witness request error model stimulus sink × IsSentInBlocks sink))
+-- P holds of the file with this name, as it was before anything was read of it and as it is left, which the files show.
+pub record OfFile (P : Past → Past → Type 0) (name : List ℕ) (files files_now : Files) : Type 0 where
+  pub lender : ℕ
+  pub after : Past
+  pub holds : P (unused (named lender name files.uses)) after
+  pub shown : IsShown false Left after files_now
+
+-- P holds of the source that a request names and of the output, and nothing else was done
+abbrev pub OfSource : (Past → Past → Past → Past → Type 0) → Option (List ℕ) → (before after : World) → Type 0
+OfSource P None before after =
+    P before.input after.input before.output after.output × (after.files ≡ before.files)
+OfSource P (Some name) before after =
+    OfFile (λ stimulus stimulus_now. P stimulus stimulus_now before.output after.output) name before.files after.files
+    × (after.input ≡ before.input)
+
+-- The model was read, and then this was done with the stimulus: its trace was written, or there is this verdict.
+abbrev pub SimulationDone : Sim → Option Verdict → (before after : World) → Type 0
+SimulationDone request verdict before after =
+    (found : Circuit) × (between : World)
+    × HasReadFrom (λ bytes. IsFileOf bytes request.max_var found) (name_of request.model) before between
+    × OfSource (DoneAs request found verdict) (name_of request.stimulus) between after
+
+-- what a fault says where it was not done
+abbrev pub SimulationNotDone : Sim → ToolFault → (before after : World) → Type 0
+SimulationNotDone request fault before after =
+    NotReadFrom (IsUnreadable request.max_var) fault (name_of request.model) before after
+    ⊎ ((found : Circuit) × (between : World)
+    × HasReadFrom (λ bytes. IsFileOf bytes request.max_var found) (name_of request.model) before between
+    × OfSource (NotDoneAs request found fault) (name_of request.stimulus) between after)

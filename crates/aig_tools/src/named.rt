@@ -1,179 +1,191 @@
-//! What is done between the devices that a request names: streams and files.
-ghost use Rattle.std.specs.Prelude.{◌≡◌, ◌-◌, ◌≤◌, ◌^◌, ◌<◌, IfErr, IfOk, OnOk, max, true};
-ghost use Rattle.aig_io.specs.declared.block.TheConstants.{ROOM};
+//! What is done with the streams and files that a request names. No two files are open at once.
+ghost use Rattle.std.specs.Prelude.{◌≡◌, ◌<◌, IfErr, IfOk, None, OnErr, OnOk, length};
+ghost use Rattle.aig_io.specs.Devices.{CanFail, Past};
 ghost use Rattle.aig_command.specs.Answer.{name_of};
-ghost use Rattle.aig_files.specs.Named.{FileSink, unwritten};
-ghost use Rattle.aig_engines.specs.Devices.{DoneBetween, files_by_name, IsSentInBlocks, NotDoneBetween, OfSink};
-ghost use Rattle.aig_engines.specs.Devices.{sink_use, source_use, use_of_file_sink};
-ghost use Rattle.aig_engines.specs.Outcome.{IsUnusedWhere};
-ghost use Rattle.aig_tools.specs.SimulationOutcome.{DoneAs, IsUnusedWhereBoth, NotDoneAs, SimulationDone};
-ghost use Rattle.aig_tools.specs.SimulationOutcome.{SimulationNotDone};
-ghost use Rattle.aig_command.specs.Answer.{HasOneStandardInput, IsWitnessAlone};
+ghost use Rattle.aig_engines.specs.File.{IsFileOf};
+ghost use Rattle.aig_engines.specs.Reading.{IsUnreadable};
+ghost use Rattle.aig_tools.specs.Named.{DoneBetween, FailedWriting, HasReadFrom, NotDoneBetween, NotReadFrom, world};
+ghost use Rattle.aig_tools.specs.Named.{written};
+ghost use Rattle.aig_tools.specs.SimulationOutcome.{DoneAs, NotDoneAs, OfSource, SimulationDone, SimulationNotDone};
 
-use crate::simulation::run_sim;
+use crate::simulation::trace_or_judge;
 use aig_command::Sim;
-use aig_core::{Sink, Source};
-use aig_engines::{Engine, ToolFault, run_witness};
+use aig_core::{Checked, Keep, Sink, Source};
+use aig_engines::{Engine, ToolFault, read_circuit};
 use aig_files::{FileAccess, NamedSink, NamedSource};
+use aig_text::WriteFault;
 use aig_witness::Verdict;
 use std::alloc::Global;
 
-/// Does what a request asks for, from a source to the file with a name, and closes that.
-fn run_to_file<T: Engine, A: FileAccess, S: Source>(
+/// Reads the source that a request names, and makes of it what is to be written.
+fn read_source<T: Engine, A: FileAccess, R: Source>(
     alloc: Global,
-    access: &A,
-    request: &T,
-    source: &mut S,
-    name: &str,
-) -> Result<(), ToolFault>
-    requires source { S.failed source.old < 2 ^ 64 - 1 }
-    requires can_do { T.can_do request.now }
-    ensures ok { OnOk result ((filled : FileSink)
-        × T.done request.now S FileSink (source_use S.coming S.failed source.old source.new)
-        (use_of_file_sink (unwritten name.now (A.made access.now name.now)) filled)
-        × (filled.longest ≤ max 0 ROOM) × (filled.closed ≡ true)) }
-    ensures err { IfErr result (λ error. (filled : FileSink)
-        × T.not_done request.now error S FileSink (source_use S.coming S.failed source.old source.new)
-        (use_of_file_sink (unwritten name.now (A.made access.now name.now)) filled)
-        × (filled.longest ≤ max 0 ROOM)) }
-{
-    let mut file = NamedSink::new(access, name);
-    request.run(alloc, source, &mut file)?;
-    // What a disk did not keep may show only now.
-    match file.close() {
-        Ok(()) => Ok(()),
-        Err(_) => Err(ToolFault::Sink),
-    }
-}
-
-/// Does what a request asks for, from a source to the destination that it names.
-fn run_from<T: Engine, A: FileAccess, S: Source, W: Sink>(
-    alloc: Global,
-    access: &A,
-    request: &T,
-    source: &mut S,
-    output: &mut W,
-) -> Result<(), ToolFault>
-    requires source { S.failed source.old < 2 ^ 64 - 1 }
-    requires output { W.failed output.old < 2 ^ 64 - 1 }
-    requires can_do { T.can_do request.now }
-    ensures ok { OnOk result (OfSink (files_by_name (A.holds access.now) (A.made access.now))
-        (T.destination_name request.now) (sink_use W.taken W.longest W.failed output.old output.new) (λ X sink closed.
-        T.done request.now S X (source_use S.coming S.failed source.old source.new) sink
-        × IsSentInBlocks sink × (closed sink.after ≡ true))) }
-    ensures err { IfErr result (λ error. OfSink (files_by_name (A.holds access.now) (A.made access.now))
-        (T.destination_name request.now) (sink_use W.taken W.longest W.failed output.old output.new) (λ X sink closed.
-        T.not_done request.now error S X (source_use S.coming S.failed source.old source.new) sink
-        × IsSentInBlocks sink)) }
-    ensures output { IsUnusedWhere (T.destination_name request.now) output.old output.new }
-{
-    match request.destination() {
-        Some(name) => run_to_file(alloc, access, request, source, name.as_str()),
-        None => request.run(alloc, source, output),
-    }
-}
-
-/// Does what a request asks for, from the source to the destination that it names: `input` and `output` where it names
-/// no file.
-pub(crate) fn run_between<T: Engine, A: FileAccess, R: Source, W: Sink>(
-    alloc: Global,
-    access: &A,
+    access: &mut A,
     request: &T,
     input: &mut R,
-    output: &mut W,
-) -> Result<(), ToolFault>
-    requires input { R.failed input.old < 2 ^ 64 - 1 }
-    requires output { W.failed output.old < 2 ^ 64 - 1 }
+) -> Result<T::Work, ToolFault>
+    requires input { CanFail (R.past input.old) }
+    requires idle { (A.files access.old).current ≡ None }
     requires can_do { T.can_do request.now }
-    ensures ok { OnOk result (DoneBetween (files_by_name (A.holds access.now) (A.made access.now))
-        (T.source_name request.now) (T.destination_name request.now)
-        (source_use R.coming R.failed input.old input.new)
-        (sink_use W.taken W.longest W.failed output.old output.new) (T.done request.now)) }
-    ensures err { IfErr result (λ error. NotDoneBetween (files_by_name (A.holds access.now) (A.made access.now))
-        (T.source_name request.now) (T.destination_name request.now)
-        (source_use R.coming R.failed input.old input.new)
-        (sink_use W.taken W.longest W.failed output.old output.new) (T.not_done request.now error)) }
-    ensures input { IsUnusedWhere (T.source_name request.now) input.old input.new }
-    ensures output { IsUnusedWhere (T.destination_name request.now) output.old output.new }
+    ensures idle { (A.files access.new).current ≡ None }
+    ensures ok { IfOk result (λ work. (output : Past) → HasReadFrom
+        (λ bytes. T.is_text request.now bytes (T.text request.now work)) (T.source_name request.now)
+        (world (A.files access.old) (R.past input.old) output) (world (A.files access.new) (R.past input.new) output)) }
+    ensures some { IfOk result (λ work. 0 < length (T.text request.now work)) }
+    ensures err { IfErr result (λ fault. (output : Past) → NotReadFrom (T.is_refused request.now) fault
+        (T.source_name request.now) (world (A.files access.old) (R.past input.old) output)
+        (world (A.files access.new) (R.past input.new) output)) }
 {
     match request.source() {
         Some(name) => {
             let mut file = NamedSource::new(access, name.as_str());
-            run_from(alloc, access, request, &mut file, output)
+            let work = request.read(alloc, &mut file);
+            file.finish();
+            work
         }
-        None => run_from(alloc, access, request, input, output),
+        None => request.read(alloc, input),
     }
 }
 
-/// Writes the trace of the stimulus, or judges it as a witness file, as the request asks. There is a verdict where it
-/// is judged.
-fn trace_or_judge<M: Source, R: Source, W: Sink>(
+/// Reads the model that a request names.
+fn read_model<A: FileAccess, R: Source>(
     alloc: Global,
+    access: &mut A,
     request: &Sim,
-    model: &mut M,
-    stimulus: &mut R,
+    input: &mut R,
+) -> Result<Checked, ToolFault>
+    requires input { CanFail (R.past input.old) }
+    requires idle { (A.files access.old).current ≡ None }
+    ensures idle { (A.files access.new).current ≡ None }
+    ensures ok { IfOk result (λ found. (output : Past) → HasReadFrom (λ bytes. IsFileOf bytes request.now.max_var found)
+        (name_of request.now.model) (world (A.files access.old) (R.past input.old) output)
+        (world (A.files access.new) (R.past input.new) output)) }
+    ensures unfailed { IfOk result (λ _. (R.past input.new).failures ≡ (R.past input.old).failures) }
+    ensures err { IfErr result (λ fault. (output : Past) → NotReadFrom (IsUnreadable request.now.max_var) fault
+        (name_of request.now.model) (world (A.files access.old) (R.past input.old) output)
+        (world (A.files access.new) (R.past input.new) output)) }
+{
+    match &request.model {
+        Some(name) => {
+            let mut file = NamedSource::new(access, name.as_str());
+            let found = read_circuit(alloc, &mut file, request.max_var, Keep::Order);
+            file.finish();
+            found
+        }
+        None => read_circuit(alloc, input, request.max_var, Keep::Order),
+    }
+}
+
+/// Writes to the destination that a request names.
+fn write_destination<T: Engine, A: FileAccess, W: Sink>(
+    access: &mut A,
+    request: &T,
+    work: T::Work,
+    output: &mut W,
+) -> Result<(), WriteFault>
+    requires output { CanFail (W.past output.old) }
+    requires idle { (A.files access.old).current ≡ None }
+    requires some { 0 < length (T.text request.now work) }
+    ensures idle { (A.files access.new).current ≡ None }
+    ensures ok { OnOk result ((input : Past) → world (A.files access.new) input (W.past output.new)
+        ≡ written (T.destination_name request.now) (T.text request.now work)
+        (world (A.files access.old) input (W.past output.old))) }
+    ensures err { OnErr result ((input : Past) → FailedWriting (T.destination_name request.now) (T.text request.now work)
+        (world (A.files access.old) input (W.past output.old))
+        (world (A.files access.new) input (W.past output.new))) }
+{
+    match request.destination() {
+        Some(name) => {
+            let mut file = NamedSink::new(access, name.as_str());
+            let sent = request.write(work, &mut file);
+            let (closed, _access) = file.finish();
+            sent?;
+            // What a disk did not keep may show only now.
+            Ok(closed?)
+        }
+        None => request.write(work, output),
+    }
+}
+
+/// Does what a request asks for, from the source to the destination that it names: `input` and `output` where it names
+/// no file. The destination is made once the source was read to its end and found right.
+pub(crate) fn run_between<T: Engine, A: FileAccess, R: Source, W: Sink>(
+    alloc: Global,
+    access: &mut A,
+    request: &T,
+    input: &mut R,
+    output: &mut W,
+) -> Result<(), ToolFault>
+    requires input { CanFail (R.past input.old) }
+    requires output { CanFail (W.past output.old) }
+    requires idle { (A.files access.old).current ≡ None }
+    requires can_do { T.can_do request.now }
+    ensures idle { (A.files access.new).current ≡ None }
+    ensures ok { OnOk result (DoneBetween (T.is_text request.now)
+        (T.source_name request.now) (T.destination_name request.now)
+        (world (A.files access.old) (R.past input.old) (W.past output.old))
+        (world (A.files access.new) (R.past input.new) (W.past output.new))) }
+    ensures err { IfErr result (λ fault. NotDoneBetween (T.is_text request.now) (T.is_refused request.now) fault
+        (T.source_name request.now) (T.destination_name request.now)
+        (world (A.files access.old) (R.past input.old) (W.past output.old))
+        (world (A.files access.new) (R.past input.new) (W.past output.new))) }
+{
+    let work = read_source(alloc, access, request, input)?;
+    write_destination(access, request, work, output)?;
+    Ok(())
+}
+
+/// Traces or judges the stimulus that a request names, which is opened at the first fetch.
+fn run_stimulus<A: FileAccess, R: Source, W: Sink>(
+    alloc: Global,
+    access: &mut A,
+    request: &Sim,
+    found: Checked,
+    input: &mut R,
     output: &mut W,
 ) -> Result<Option<Verdict>, ToolFault>
-    requires model { M.failed model.old < 2 ^ 64 - 1 }
-    requires stimulus { R.failed stimulus.old < 2 ^ 64 - 1 }
-    requires output { W.failed output.old < 2 ^ 64 - 1 }
-    requires alone { IsWitnessAlone request.now }
-    ensures ok { IfOk result (λ verdict. DoneAs request.now.witness request.now verdict
-        (source_use M.coming M.failed model.old model.new)
-        (source_use R.coming R.failed stimulus.old stimulus.new)
-        (sink_use W.taken W.longest W.failed output.old output.new)) }
-    ensures err { IfErr result (λ error. NotDoneAs request.now.witness request.now error
-        (source_use M.coming M.failed model.old model.new)
-        (source_use R.coming R.failed stimulus.old stimulus.new)
-        (sink_use W.taken W.longest W.failed output.old output.new)) }
-    ensures short { W.longest output.new ≤ max (W.longest output.old) ROOM }
+    requires input { CanFail (R.past input.old) }
+    requires output { CanFail (W.past output.old) }
+    requires idle { (A.files access.old).current ≡ None }
+    ensures idle { (A.files access.new).current ≡ None }
+    ensures ok { IfOk result (λ verdict. OfSource (DoneAs request.now found verdict) (name_of request.now.stimulus)
+        (world (A.files access.old) (R.past input.old) (W.past output.old))
+        (world (A.files access.new) (R.past input.new) (W.past output.new))) }
+    ensures err { IfErr result (λ fault. OfSource (NotDoneAs request.now found fault) (name_of request.now.stimulus)
+        (world (A.files access.old) (R.past input.old) (W.past output.old))
+        (world (A.files access.new) (R.past input.new) (W.past output.new))) }
 {
-    if request.witness {
-        let verdict = run_witness(alloc, request, model, stimulus, output)?;
-        return Ok(Some(verdict));
+    match &request.stimulus {
+        Some(name) => {
+            let mut file = NamedSource::new(access, name.as_str());
+            let done = trace_or_judge(alloc, request, found, &mut file, output);
+            file.finish();
+            done
+        }
+        None => trace_or_judge(alloc, request, found, input, output),
     }
-    run_sim(alloc, request, model, stimulus, output)?;
-    Ok(None)
 }
 
 /// Writes a trace, or judges a witness, of the model and the stimulus that the request names: `input` in the place of
-/// the one for which it names no file.
+/// one for which it names no file. The model is read to its end before the stimulus is opened.
 pub(crate) fn run_model<A: FileAccess, R: Source, W: Sink>(
     alloc: Global,
-    access: &A,
+    access: &mut A,
     request: &Sim,
     input: &mut R,
     output: &mut W,
 ) -> Result<Option<Verdict>, ToolFault>
-    requires input { R.failed input.old < 2 ^ 64 - 1 }
-    requires output { W.failed output.old < 2 ^ 64 - 1 }
-    requires one_input { HasOneStandardInput request.now }
-    requires alone { IsWitnessAlone request.now }
+    requires input { CanFail (R.past input.old) }
+    requires output { CanFail (W.past output.old) }
+    requires idle { (A.files access.old).current ≡ None }
+    ensures idle { (A.files access.new).current ≡ None }
     ensures ok { IfOk result (λ verdict. SimulationDone request.now verdict
-        (files_by_name (A.holds access.now) (A.made access.now))
-        (source_use R.coming R.failed input.old input.new)
-        (sink_use W.taken W.longest W.failed output.old output.new)) }
-    ensures err { IfErr result (λ error. SimulationNotDone request.now error
-        (files_by_name (A.holds access.now) (A.made access.now))
-        (source_use R.coming R.failed input.old input.new)
-        (sink_use W.taken W.longest W.failed output.old output.new)) }
-    ensures input { IsUnusedWhereBoth (name_of request.now.model) (name_of request.now.stimulus) input.old input.new }
-    ensures short { W.longest output.new ≤ max (W.longest output.old) ROOM }
+        (world (A.files access.old) (R.past input.old) (W.past output.old))
+        (world (A.files access.new) (R.past input.new) (W.past output.new))) }
+    ensures err { IfErr result (λ fault. SimulationNotDone request.now fault
+        (world (A.files access.old) (R.past input.old) (W.past output.old))
+        (world (A.files access.new) (R.past input.new) (W.past output.new))) }
 {
-    match (&request.model, &request.stimulus) {
-        (Some(model), Some(stimulus)) => {
-            let mut model = NamedSource::new(access, model.as_str());
-            let mut stimulus = NamedSource::new(access, stimulus.as_str());
-            trace_or_judge(alloc, request, &mut model, &mut stimulus, output)
-        }
-        (Some(model), None) => {
-            let mut model = NamedSource::new(access, model.as_str());
-            trace_or_judge(alloc, request, &mut model, input, output)
-        }
-        (None, Some(stimulus)) => {
-            let mut stimulus = NamedSource::new(access, stimulus.as_str());
-            trace_or_judge(alloc, request, input, &mut stimulus, output)
-        }
-        (None, None) => unreachable!(),
-    }
+    let found = read_model(alloc, access, request, input)?;
+    run_stimulus(alloc, access, request, found, input, output)
 }

@@ -1,11 +1,11 @@
 //! What the program does with its arguments.
-ghost use Rattle.std.specs.Prelude.{◌≡◌, ◌-◌, ◌^◌, ◌<◌, ◌≤◌, None, max};
-ghost use Rattle.aig_io.specs.declared.block.TheConstants.{ROOM};
+ghost use Rattle.std.specs.Prelude.{◌≡◌, ◌≤◌, None};
+ghost use Rattle.aig_io.specs.Devices.{CanFail, Past};
+ghost use Rattle.aig_io.specs.Files.{Files as UsedFiles};
 ghost use Rattle.aig_command.specs.Answer.{texts};
-ghost use Rattle.aig_tools.specs.Ending.{done_status, Ends, EndsBetween, SimulationEnds, status_of, TextEnds};
-ghost use Rattle.aig_engines.specs.Devices.{DoneBetween, files_by_name, NotDoneBetween, sink_use, source_use};
 ghost use Rattle.aig_engines.specs.Messages.{memory_line, IsReported, usage_text, words_line};
-ghost use Rattle.aig_command.specs.Answer.{HasOneStandardInput, IsWitnessAlone};
+ghost use Rattle.aig_tools.specs.Ending.{done_status, Ends, EndsBetween, SimulationEnds, status_of, TextEnds};
+ghost use Rattle.aig_tools.specs.Named.{no_files, world};
 
 use crate::named::{run_between, run_model};
 use aig_command::{Command, Sim, Usage, command};
@@ -28,33 +28,26 @@ const FAILED: u8 = 1;
 /// Refused arguments.
 const REFUSED: u8 = 2;
 
-/// Does what a request asks for that names one source and one destination, reports an error, and answers the status.
+/// Does what a request asks for that names one source and one destination, reports a fault, and answers the status.
 fn run_reporting<T: Engine, A: FileAccess, R: Source, W: Sink, E: Sink>(
     alloc: Global,
-    access: &A,
+    access: &mut A,
     request: &T,
     input: &mut R,
     output: &mut W,
     errors: &mut E,
 ) -> u8
-    requires input { R.failed input.old < 2 ^ 64 - 1 }
-    requires output { W.failed output.old < 2 ^ 64 - 1 }
-    requires errors { E.failed errors.old < 2 ^ 64 - 1 }
+    requires input { CanFail (R.past input.old) }
+    requires output { CanFail (W.past output.old) }
+    requires errors { CanFail (E.past errors.old) }
+    requires idle { (A.files access.old).current ≡ None }
     requires can_do { T.can_do request.now }
-    ensures ends { EndsBetween (T.source_name request.now) (T.destination_name request.now)
-        (DoneBetween (files_by_name (A.holds access.now) (A.made access.now))
+    ensures idle { (A.files access.new).current ≡ None }
+    ensures ends { EndsBetween (T.is_text request.now) (T.is_refused request.now)
         (T.source_name request.now) (T.destination_name request.now)
-        (source_use R.coming R.failed input.old input.new)
-        (sink_use W.taken W.longest W.failed output.old output.new) (T.done request.now))
-        (λ error. NotDoneBetween (files_by_name (A.holds access.now) (A.made access.now))
-        (T.source_name request.now) (T.destination_name request.now)
-        (source_use R.coming R.failed input.old input.new)
-        (sink_use W.taken W.longest W.failed output.old output.new) (T.not_done request.now error))
-        (source_use R.coming R.failed input.old input.new)
-        (sink_use W.taken W.longest W.failed output.old output.new)
-        (sink_use E.taken E.longest E.failed errors.old errors.new) result }
-    ensures short { W.longest output.new ≤ max (W.longest output.old) ROOM }
-    ensures reported_short { E.longest errors.new ≤ max (E.longest errors.old) ROOM }
+        (world (A.files access.old) (R.past input.old) (W.past output.old))
+        (world (A.files access.new) (R.past input.new) (W.past output.new))
+        (E.past errors.old) (E.past errors.new) result }
 {
     match run_between(alloc, access, request, input, output) {
         Ok(()) => DONE,
@@ -75,26 +68,24 @@ fn done_status(verdict: Option<Verdict>) -> u8
     }
 }
 
-/// Simulates or judges a witness as a request asks, reports an error, and answers the status.
+/// Simulates or judges a witness as a request asks, reports a fault, and answers the status.
 fn run_simulation<A: FileAccess, R: Source, W: Sink, E: Sink>(
     alloc: Global,
-    access: &A,
+    access: &mut A,
     request: &Sim,
     input: &mut R,
     output: &mut W,
     errors: &mut E,
 ) -> u8
-    requires input { R.failed input.old < 2 ^ 64 - 1 }
-    requires output { W.failed output.old < 2 ^ 64 - 1 }
-    requires errors { E.failed errors.old < 2 ^ 64 - 1 }
-    requires one_input { HasOneStandardInput request.now }
-    requires alone { IsWitnessAlone request.now }
-    ensures ends { SimulationEnds request.now (files_by_name (A.holds access.now) (A.made access.now))
-        (source_use R.coming R.failed input.old input.new)
-        (sink_use W.taken W.longest W.failed output.old output.new)
-        (sink_use E.taken E.longest E.failed errors.old errors.new) result }
-    ensures short { W.longest output.new ≤ max (W.longest output.old) ROOM }
-    ensures reported_short { E.longest errors.new ≤ max (E.longest errors.old) ROOM }
+    requires input { CanFail (R.past input.old) }
+    requires output { CanFail (W.past output.old) }
+    requires errors { CanFail (E.past errors.old) }
+    requires idle { (A.files access.old).current ≡ None }
+    ensures idle { (A.files access.new).current ≡ None }
+    ensures ends { SimulationEnds request.now
+        (world (A.files access.old) (R.past input.old) (W.past output.old))
+        (world (A.files access.new) (R.past input.new) (W.past output.new))
+        (E.past errors.old) (E.past errors.new) result }
 {
     match run_model(alloc, access, request, input, output) {
         Ok(verdict) => done_status(verdict),
@@ -107,12 +98,10 @@ fn run_simulation<A: FileAccess, R: Source, W: Sink, E: Sink>(
 
 /// Writes a text that was asked for, and answers the status.
 fn print_text<W: Sink, E: Sink>(text: &str, output: &mut W, errors: &mut E) -> u8
-    requires output { W.failed output.old < 2 ^ 64 - 1 }
-    requires errors { E.failed errors.old < 2 ^ 64 - 1 }
-    ensures ends { TextEnds text.now (sink_use W.taken W.longest W.failed output.old output.new)
-        (sink_use E.taken E.longest E.failed errors.old errors.new) result }
-    ensures short { W.longest output.new ≤ max (W.longest output.old) ROOM }
-    ensures reported_short { E.longest errors.new ≤ max (E.longest errors.old) ROOM }
+    requires output { CanFail (W.past output.old) }
+    requires errors { CanFail (E.past errors.old) }
+    ensures { (files : UsedFiles) (input : Past) → TextEnds text.now (world files input (W.past output.old))
+        (world files input (W.past output.new)) (E.past errors.old) (E.past errors.new) result }
 {
     let mut blocks = Output::new(output);
     blocks.put(text.as_bytes());
@@ -126,11 +115,9 @@ fn print_text<W: Sink, E: Sink>(text: &str, output: &mut W, errors: &mut E) -> u
 
 /// Reports why arguments are refused, and answers the status.
 fn refuse<E: Sink>(errors: &mut E, usage: &Usage) -> u8
-    requires { E.failed errors.old < 2 ^ 64 - 1 }
+    requires { CanFail (E.past errors.old) }
     ensures status { result ≡ status_of usage.now }
-    ensures reported { IsReported (sink_use E.taken E.longest E.failed errors.old errors.new)
-        (usage_text usage.now) }
-    ensures short { E.longest errors.new ≤ max (E.longest errors.old) ROOM }
+    ensures reported { IsReported (E.past errors.old) (E.past errors.new) (usage_text usage.now) }
 {
     report_usage(errors, usage);
     match usage {
@@ -143,23 +130,22 @@ fn refuse<E: Sink>(errors: &mut E, usage: &Usage) -> u8
 /// answers the status: 0 done; 1 refused input, a witness that is not confirmed, a device that failed or out of memory;
 /// 2 refused words. An error is reported on `errors`; whether `errors` takes that changes nothing.
 pub fn serve<A: FileAccess, R: Source, W: Sink, E: Sink>(
-    access: &A,
+    access: &mut A,
     alloc: Global,
     words: &[String],
     input: &mut R,
     output: &mut W,
     errors: &mut E,
 ) -> u8
-    requires input { R.failed input.old < 2 ^ 64 - 1 }
-    requires output { W.failed output.old < 2 ^ 64 - 1 }
-    requires errors { E.failed errors.old < 2 ^ 64 - 1 }
-    ensures ends { Ends (texts words.now) (files_by_name (A.holds access.now) (A.made access.now))
-        (source_use R.coming R.failed input.old input.new)
-        (sink_use W.taken W.longest W.failed output.old output.new)
-        (sink_use E.taken E.longest E.failed errors.old errors.new) result }
+    requires input { CanFail (R.past input.old) }
+    requires output { CanFail (W.past output.old) }
+    requires errors { CanFail (E.past errors.old) }
+    requires idle { (A.files access.old).current ≡ None }
+    ensures idle { (A.files access.new).current ≡ None }
+    ensures ends { Ends (texts words.now) (world (A.files access.old) (R.past input.old) (W.past output.old))
+        (world (A.files access.new) (R.past input.new) (W.past output.new))
+        (E.past errors.old) (E.past errors.new) result }
     ensures status { result ≤ 2 }
-    ensures short { W.longest output.new ≤ max (W.longest output.old) ROOM }
-    ensures reported_short { E.longest errors.new ≤ max (E.longest errors.old) ROOM }
 {
     match command(alloc, words) {
         Ok(Command::ToAig(request)) => {
@@ -186,27 +172,22 @@ pub fn start<T: Files, R: Source, W: Sink, E: Sink>(
     output: &mut W,
     errors: &mut E,
 ) -> u8
-    requires input { R.failed input.old < 2 ^ 64 - 1 }
-    requires output { W.failed output.old < 2 ^ 64 - 1 }
-    requires errors { E.failed errors.old < 2 ^ 64 - 1 }
-    ensures ends { Ends (texts words.now) (files_by_name (λ _. None) (λ _. None))
-        (source_use R.coming R.failed input.old input.new)
-        (sink_use W.taken W.longest W.failed output.old output.new)
-        (sink_use E.taken E.longest E.failed errors.old errors.new) result }
+    requires input { CanFail (R.past input.old) }
+    requires output { CanFail (W.past output.old) }
+    requires errors { CanFail (E.past errors.old) }
+    ensures ends { (files : UsedFiles) × Ends (texts words.now) (world no_files (R.past input.old) (W.past output.old))
+        (world files (R.past input.new) (W.past output.new)) (E.past errors.old) (E.past errors.new) result }
     ensures status { result ≤ 2 }
-    ensures short { W.longest output.new ≤ max (W.longest output.old) ROOM }
-    ensures reported_short { E.longest errors.new ≤ max (E.longest errors.old) ROOM }
 {
-    serve(&HostFiles::new(rt), alloc, words, input, output, errors)
+    let mut files = HostFiles::new(rt);
+    serve(&mut files, alloc, words, input, output, errors)
 }
 
 /// Reports that an argument is no text, and answers the status.
 pub fn refuse_words<E: Sink>(errors: &mut E) -> u8
-    requires { E.failed errors.old < 2 ^ 64 - 1 }
+    requires { CanFail (E.past errors.old) }
     ensures status { result ≡ 2 }
-    ensures reported { IsReported (sink_use E.taken E.longest E.failed errors.old errors.new)
-        words_line }
-    ensures short { E.longest errors.new ≤ max (E.longest errors.old) ROOM }
+    ensures reported { IsReported (E.past errors.old) (E.past errors.new) words_line }
 {
     report_words(errors);
     REFUSED
@@ -214,11 +195,9 @@ pub fn refuse_words<E: Sink>(errors: &mut E) -> u8
 
 /// Reports that memory ran out before the arguments were there, and answers the status.
 pub fn refuse_for_memory<E: Sink>(errors: &mut E) -> u8
-    requires { E.failed errors.old < 2 ^ 64 - 1 }
+    requires { CanFail (E.past errors.old) }
     ensures status { result ≡ 1 }
-    ensures reported { IsReported (sink_use E.taken E.longest E.failed errors.old errors.new)
-        memory_line }
-    ensures short { E.longest errors.new ≤ max (E.longest errors.old) ROOM }
+    ensures reported { IsReported (E.past errors.old) (E.past errors.new) memory_line }
 {
     report_memory(errors);
     FAILED

@@ -1,19 +1,18 @@
 //! `aigsim`: simulation of AIGER files.
-ghost use Rattle.std.specs.Prelude.{◌≡◌, ◌≢◌, ◌+◌, ◌-◌, ◌^◌, ◌<◌, ◌≤◌, max, IfErr, OnOk, true, false};
-ghost use Rattle.aig_io.specs.declared.block.TheConstants.{ROOM};
-ghost use Rattle.aig_step.specs.declared.fault.SimFault.TheVariants.{OutOfMemory, WriteFailed};
-ghost use Rattle.aig_batch.specs.Batched.{NotBatched};
-ghost use Rattle.aig_step.specs.Outcome.{NotSimulated, Simulated, sink_failures, source_failures};
-ghost use Rattle.aig_engines.specs.Devices.{sink_use, source_use};
+ghost use Rattle.std.specs.Prelude.{◌≡◌, IfErr, IfOk, OnOk, false};
+ghost use Rattle.aig_io.specs.Devices.{CanFail};
+ghost use Rattle.aig_command.specs.Answer.{IsWitnessAlone};
+ghost use Rattle.aig_step.specs.Outcome.{Simulated};
 ghost use Rattle.aig_engines.specs.Simulation.{columns_of};
-ghost use Rattle.aig_tools.specs.SimulationOutcome.{NotTraced, Traced};
+ghost use Rattle.aig_tools.specs.SimulationOutcome.{DoneAs, NotDoneAs, NotSimulatedAs, NotTraced, Traced};
 
 use aig_batch::simulate_batched;
 use aig_command::Sim;
 use aig_core::{Checked, Keep, Sink, Source};
-use aig_engines::{ToolFault, read_circuit};
+use aig_engines::{ToolFault, judge, read_circuit};
 use aig_step::{Columns, SimFault};
 use aig_trace::simulate;
+use aig_witness::Verdict;
 use std::alloc::Global;
 
 /// The columns that the request asks for.
@@ -35,32 +34,43 @@ fn simulate_as_asked<R: Source, W: Sink>(
     stimulus: &mut R,
     output: &mut W,
 ) -> Result<(), SimFault>
-    requires stimulus { R.failed stimulus.old < 2 ^ 64 - 1 }
-    requires output { W.failed output.old < 2 ^ 64 - 1 }
+    requires stimulus { CanFail (R.past stimulus.old) }
+    requires output { CanFail (W.past output.old) }
     ensures ok { OnOk result (Simulated found.now (columns_of request.now)
-        (R.coming stimulus.old) (R.coming stimulus.new) (W.taken output.old) (W.taken output.new)) }
-    ensures ok_counts { OnOk result ((R.failed stimulus.new ≡ R.failed stimulus.old)
-        × (W.failed output.new ≡ W.failed output.old)) }
-    ensures came { IfErr result (λ error. request.now.batch ≡ false
-        → NotSimulated found.now (columns_of request.now) error
-        (R.coming stimulus.old) (R.coming stimulus.new) (W.taken output.old) (W.taken output.new)) }
-    ensures untouched { IfErr result (λ error. request.now.batch ≡ false → error ≡ OutOfMemory
-        → (stimulus.new ≡ stimulus.old) × (output.new ≡ output.old)) }
-    ensures came_whole { IfErr result (λ error. request.now.batch ≡ true
-        → NotBatched found.now (columns_of request.now) error
-        (R.coming stimulus.old) (R.coming stimulus.new) (W.taken output.old) (W.taken output.new)) }
-    ensures unsent { IfErr result (λ error. request.now.batch ≡ true → error ≢ WriteFailed
-        → output.new ≡ output.old) }
-    ensures stimulus_count { IfErr result (λ error.
-        R.failed stimulus.new ≡ R.failed stimulus.old + source_failures error) }
-    ensures sink_count { IfErr result (λ error. W.failed output.new ≡ W.failed output.old + sink_failures error) }
-    ensures short { W.longest output.new ≤ max (W.longest output.old) ROOM }
+        (R.past stimulus.old) (R.past stimulus.new) (W.past output.old) (W.past output.new)) }
+    ensures err { IfErr result (λ fault. NotSimulatedAs request.now.batch found.now request.now fault
+        (R.past stimulus.old) (R.past stimulus.new) (W.past output.old) (W.past output.new)) }
 {
     if request.batch {
         simulate_batched(alloc, found, columns(request), stimulus, output)
     } else {
         simulate(alloc, found, columns(request), stimulus, output)
     }
+}
+
+/// Writes the trace of the stimulus for a circuit, or judges it as a witness file, as the request asks. There is a
+/// verdict where it is judged.
+pub(crate) fn trace_or_judge<R: Source, W: Sink>(
+    alloc: Global,
+    request: &Sim,
+    found: Checked,
+    stimulus: &mut R,
+    output: &mut W,
+) -> Result<Option<Verdict>, ToolFault>
+    requires stimulus { CanFail (R.past stimulus.old) }
+    requires output { CanFail (W.past output.old) }
+    ensures ok { IfOk result (λ verdict. DoneAs request.now found verdict
+        (R.past stimulus.old) (R.past stimulus.new) (W.past output.old) (W.past output.new)) }
+    ensures err { IfErr result (λ fault. NotDoneAs request.now found fault
+        (R.past stimulus.old) (R.past stimulus.new) (W.past output.old) (W.past output.new)) }
+{
+    if request.witness {
+        return Ok(Some(judge(alloc, found, stimulus, output)?));
+    }
+    let done = simulate_as_asked(alloc, request, &found, stimulus, output);
+    drop(found);
+    done?;
+    Ok(None)
 }
 
 /// Reads the model to its end, then writes the trace of the stimulus, step by step or as a batch. Nothing is fetched
@@ -74,18 +84,14 @@ pub fn run_sim<M: Source, R: Source, W: Sink>(
     stimulus: &mut R,
     output: &mut W,
 ) -> Result<(), ToolFault>
-    requires model { M.failed model.old < 2 ^ 64 - 1 }
-    requires stimulus { R.failed stimulus.old < 2 ^ 64 - 1 }
-    requires output { W.failed output.old < 2 ^ 64 - 1 }
+    requires model { CanFail (M.past model.old) }
+    requires stimulus { CanFail (R.past stimulus.old) }
+    requires output { CanFail (W.past output.old) }
     requires traced { request.now.witness ≡ false }
-    ensures ok { OnOk result (Traced request.now (source_use M.coming M.failed model.old model.new)
-        (source_use R.coming R.failed stimulus.old stimulus.new)
-        (sink_use W.taken W.longest W.failed output.old output.new)) }
-    ensures err { IfErr result (λ error. NotTraced request.now error
-        (source_use M.coming M.failed model.old model.new)
-        (source_use R.coming R.failed stimulus.old stimulus.new)
-        (sink_use W.taken W.longest W.failed output.old output.new)) }
-    ensures short { W.longest output.new ≤ max (W.longest output.old) ROOM }
+    ensures ok { OnOk result (Traced request.now (M.past model.old) (M.past model.new)
+        (R.past stimulus.old) (R.past stimulus.new) (W.past output.old) (W.past output.new)) }
+    ensures err { IfErr result (λ fault. NotTraced request.now fault (M.past model.old) (M.past model.new)
+        (R.past stimulus.old) (R.past stimulus.new) (W.past output.old) (W.past output.new)) }
 {
     let found = read_circuit(alloc, model, request.max_var, Keep::Order)?;
     let done = simulate_as_asked(alloc, request, &found, stimulus, output);
