@@ -1,106 +1,134 @@
 //! Files as sources.
-ghost use Rattle.std.specs.Prelude.{◌≡◌, ◌+◌, ◌-◌, ◌^◌, ◌<◌, ◌≤◌, ℕ, None, length, IfOk, MatchResult, is_ok};
-ghost use Rattle.std.specs.Prelude.{if◌then◌else◌};
-ghost use Rattle.std.specs.Io.KnownBytes.{ReadConsumes};
-ghost use Rattle.aig_files.specs.Named.{bytes_of, unread};
+ghost use Rattle.std.specs.Prelude.{◌≡◌, ◌+◌, ◌-◌, ◌^◌, ◌<◌, ◌≤◌, false, length, IfOk, None, true};
+ghost use Rattle.aig_io.specs.Devices.{unused};
+ghost use Rattle.aig_io.specs.Files.{is_read, Left};
+ghost use Rattle.aig_files.specs.Named.{bytes_at, is_open, IsAt, IsShown, let_go, Moved, named};
 
 use crate::access::FileAccess;
-use aig_io::{DeviceFault, Source};
-use std::io::Read;
+use crate::stage::Stage;
+use aig_io::{DeviceFault, Record, Source};
 use std::marker::Model;
 
 /// The file with a name as a source. It is opened at the first fetch; one that cannot be opened fails then. After 2^62
 /// bytes it fails.
 pub struct NamedSource<'a, A: FileAccess> {
-    access: &'a A,
+    access: &'a mut A,
     name: &'a str,
-    reader: Option<A::Reader>,
+    stage: Stage,
     left: u64,
     failures: u64,
+    ends: Record,
 }
 
 impl<'a, A: FileAccess> Model for NamedSource<'a, A> {
-    ghost use Rattle.std.specs.Prelude.{◌≤◌, ◌^◌};
-    ghost use Rattle.aig_files.specs.Named.{bytes_of, FileSource};
+    ghost use Rattle.std.specs.Prelude.{◌≡◌, ◌+◌, ◌^◌, false, length};
+    ghost use Rattle.aig_io.specs.Devices.{Past};
+    ghost use Rattle.aig_io.specs.Notes.{sum_of};
+    ghost use Rattle.aig_files.specs.Named.{bytes_at, IsAt, IsCounted, past_at};
 
-    ghost Value = { FileSource };
+    ghost Value = { Past };
 
-    ghost view = { λ s. record {
-      name = s.name.now;
-      coming = bytes_of (A.holds s.access.now s.name.now) A.Reader.remaining s.reader;
-      left = s.left;
-      failures = s.failures;
-    } };
+    ghost view = { λ s.
+        past_at s.access.ghost_name s.name.now s.stage (A.files s.access.now) (sum_of s.ends.notes) s.failures };
 
-    ghost invariant = { λ s. s.left ≤ 2 ^ 62 };
-}
-
-impl<A: FileAccess> Drop for NamedSource<'_, A> {
-    fn drop(self) {
-        let NamedSource {
-            access: _,
-            name: _,
-            reader: _,
-            left: _,
-            failures: _,
-        } = self;
-    }
+    ghost invariant = { λ s. IsAt false s.name.now s.stage (A.files s.access.now)
+        × IsCounted s.stage (bytes_at s.stage (A.files s.access.now)) (sum_of s.ends.notes) s.failures
+        × (s.left + length (bytes_at s.stage (A.files s.access.now)) ≡ 2 ^ 62) };
 }
 
 impl<'a, A: FileAccess> NamedSource<'a, A> {
     /// The file with this name, which is not opened yet.
-    pub fn new(access: &'a A, name: &'a str) -> Self
-        ensures { result ≡ unread name.now (A.holds access.now name.now) }
+    pub fn new(access: &'a mut A, name: &'a str) -> Self
+        requires { (A.files access.old).current ≡ None }
+        ensures { result ≡ unused (named access.entry.ghost_name name.now (A.files access.old).uses) }
     {
         NamedSource {
             access,
             name,
-            reader: None,
+            stage: Stage::Untouched,
             left: 1 << 62,
             failures: 0,
+            ends: Record::new(),
         }
+    }
+
+    /// Closes the file where it is open, and hands the files back.
+    pub fn finish(self) -> &'a mut A
+        ensures lender { result.ghost_name ≡ self.entry.origin.lender }
+        ensures idle { (A.files result.now).current ≡ None }
+        ensures shown { IsShown false Left self.entry (A.files result.now) }
+    {
+        let NamedSource {
+            access,
+            name: _,
+            stage,
+            left: _,
+            failures: _,
+            ends: _,
+        } = self;
+        leave(access, stage);
+        access
     }
 }
 
-/// Reads from the file with a name, which is opened first where it is not open.
+/// Closes the file where it is open.
+fn leave<A: FileAccess>(access: &mut A, stage: Stage)
+    requires { is_open stage ≡ true → is_read (A.files access.old).current ≡ true }
+    ensures { A.files access.new ≡ let_go Left stage (A.files access.old) }
+{
+    if let Stage::Open = stage {
+        access.leave();
+    }
+}
+
+/// Reads at most so many bytes from the file with a name, which is opened first where it was not.
 fn read_named<A: FileAccess>(
-    access: &A,
+    access: &mut A,
     name: &str,
-    reader: &mut Option<A::Reader>,
+    stage: Stage,
+    left: u64,
     into: &mut [u8],
 ) -> Result<usize, DeviceFault>
+    requires room { 0 < length into.old }
+    requires limit { left + length (bytes_at stage (A.files access.old)) ≡ 2 ^ 62 }
+    requires at { IsAt false name.now stage (A.files access.old) }
     ensures within { IfOk result (λ n. n ≤ length into.new) }
-    ensures bytes { ReadConsumes (bytes_of (A.holds access.now name.now) A.Reader.remaining reader.old)
-        (bytes_of (A.holds access.now name.now) A.Reader.remaining reader.new) result into.new }
+    ensures limited { IfOk result (λ n. n ≤ left) }
+    ensures moved { Moved false name.now into.new result stage (A.files access.old) (A.files access.new) }
 {
-    if reader.is_none() {
-        *reader = Some(access.open(name)?);
+    match stage {
+        Stage::Untouched => access.open(name)?,
+        Stage::Open => {}
+        Stage::Ended => return Ok(0),
+        Stage::Failed => return Err(DeviceFault),
     }
-    match reader {
-        Some(reader) => reader.read(into).map_err(|_| DeviceFault),
-        None => Err(DeviceFault),
+    if left == 0 {
+        access.leave();
+        return Err(DeviceFault);
     }
+    let room = left.min(into.len() as u64) as usize;
+    access.read(&mut into[..room])
 }
 
 impl<A: FileAccess> Source for NamedSource<'_, A> {
-    ghost coming = { λ s. s.coming };
+    ghost past = { λ s. s };
 
-    ghost bound = { λ s. s.left };
-
-    ghost failed = { λ s. s.failures };
+    ghost bound = { λ s. 2 ^ 62 - length s.bytes };
 
     fn fetch(&mut self, into: &mut [u8]) -> Result<usize, DeviceFault> {
-        if self.left == 0 {
-            self.failures += 1;
-            return Err(DeviceFault);
-        }
-        let room = self.left.min(into.len() as u64) as usize;
-        match read_named(self.access, self.name, &mut self.reader, &mut into[..room]) {
+        match read_named(self.access, self.name, self.stage, self.left, into) {
+            Ok(0) => {
+                self.stage = Stage::Ended;
+                self.ends.note(&[1], &[]);
+                Ok(0)
+            }
             Ok(count) => {
+                self.stage = Stage::Open;
                 self.left -= count as u64;
                 Ok(count)
             }
             Err(fault) => {
+                self.stage = Stage::Failed;
                 self.failures += 1;
                 Err(fault)
             }

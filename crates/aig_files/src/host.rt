@@ -1,0 +1,175 @@
+//! The files of the system. Each method makes one call of the system, and then notes it with its answer.
+ghost use Rattle.std.specs.Prelude.{◌≡◌, ◌<◌, ◌≤◌, [], length, IfOk};
+ghost use Rattle.aig_files.specs.Notes.{files_of};
+
+use crate::access::FileAccess;
+use aig_io::{DeviceFault, Record};
+use std::fs::OpenFile;
+use std::io::{Read, Write};
+use std::rt::Files;
+use std::{fs, io};
+
+pub(crate) const OPENED: u64 = 0;
+
+pub(crate) const NOT_OPENED: u64 = 1;
+
+pub(crate) const MOVED: u64 = 2;
+
+pub(crate) const ENDED: u64 = 3;
+
+pub(crate) const READ_FAILED: u64 = 4;
+
+pub(crate) const LEFT: u64 = 5;
+
+pub(crate) const MADE: u64 = 6;
+
+pub(crate) const NOT_MADE: u64 = 7;
+
+pub(crate) const WRITE_FAILED: u64 = 8;
+
+pub(crate) const CLOSED: u64 = 9;
+
+pub(crate) const NOT_CLOSED: u64 = 10;
+
+/// The files of the runtime.
+#[derive(Drop)]
+pub struct HostFiles<'a, T: Files> {
+    files: &'a T,
+    file: Option<T::File>,
+    log: Record,
+}
+
+impl<'a, T: Files> HostFiles<'a, T> {
+    /// The files of this runtime, with which nothing was done yet.
+    pub fn new(files: &'a T) -> Self
+        ensures { result.log.notes ≡ [] }
+    {
+        HostFiles {
+            files,
+            file: None,
+            log: Record::new(),
+        }
+    }
+}
+
+/// Reads from the file that is open.
+fn read<F: Read>(file: &mut Option<F>, into: &mut [u8]) -> io::Result<usize>
+    ensures { IfOk result (λ n. n ≤ length into.new) }
+{
+    match file {
+        Some(file) => file.read(into),
+        None => Err(io::Error::from(io::ErrorKind::NotFound)),
+    }
+}
+
+/// Writes to the file that is open. A write of no bytes is a failure.
+fn write<F: Write>(file: &mut Option<F>, bytes: &[u8]) -> io::Result<usize>
+    ensures within { IfOk result (λ n. n ≤ length bytes.now) }
+    ensures moves { IfOk result (λ n. 0 < n) }
+{
+    let Some(file) = file else {
+        return Err(io::Error::from(io::ErrorKind::NotFound));
+    };
+    match file.write(bytes)? {
+        0 => Err(io::Error::from(io::ErrorKind::WriteZero)),
+        count => Ok(count),
+    }
+}
+
+/// Waits until the system keeps what was written. Closing a file of std loses its error, and this reports it. A pipe or
+/// a device keeps nothing, and would refuse this.
+fn keep<F: OpenFile>(file: &Option<F>) -> io::Result<()> {
+    if let Some(file) = file {
+        if file.metadata()?.is_file() {
+            file.sync_data()?;
+        }
+    }
+    Ok(())
+}
+
+/// Where the program is started with its standard input closed, the first file that it opens gets that one's number.
+/// Were it kept open at its end, what reads the standard input then would read from that file.
+impl<T: Files> FileAccess for HostFiles<'_, T> {
+    ghost files = { λ h. files_of h.log.notes };
+
+    fn open(&mut self, name: &str) -> Result<(), DeviceFault> {
+        match fs::open(self.files, name) {
+            Ok(file) => {
+                self.file = Some(file);
+                self.log.note(&[OPENED], name.as_bytes());
+                Ok(())
+            }
+            Err(_) => {
+                self.log.note(&[NOT_OPENED], name.as_bytes());
+                Err(DeviceFault)
+            }
+        }
+    }
+
+    fn read(&mut self, into: &mut [u8]) -> Result<usize, DeviceFault> {
+        match read(&mut self.file, into) {
+            Ok(0) => {
+                self.file = None;
+                self.log.note(&[ENDED], &[]);
+                Ok(0)
+            }
+            Ok(count) => {
+                self.log.note(&[MOVED], &into[..count]);
+                Ok(count)
+            }
+            Err(_) => {
+                self.file = None;
+                self.log.note(&[READ_FAILED], &[]);
+                Err(DeviceFault)
+            }
+        }
+    }
+
+    fn leave(&mut self) {
+        self.file = None;
+        self.log.note(&[LEFT], &[]);
+    }
+
+    fn create(&mut self, name: &str) -> Result<(), DeviceFault> {
+        match fs::create(self.files, name) {
+            Ok(file) => {
+                self.file = Some(file);
+                self.log.note(&[MADE], name.as_bytes());
+                Ok(())
+            }
+            Err(_) => {
+                self.log.note(&[NOT_MADE], name.as_bytes());
+                Err(DeviceFault)
+            }
+        }
+    }
+
+    fn write(&mut self, bytes: &[u8]) -> Result<usize, DeviceFault> {
+        match write(&mut self.file, bytes) {
+            Ok(count) => {
+                self.log.note(&[MOVED], &bytes[..count]);
+                Ok(count)
+            }
+            Err(_) => {
+                self.file = None;
+                self.log.note(&[WRITE_FAILED], &[]);
+                Err(DeviceFault)
+            }
+        }
+    }
+
+    fn close(&mut self) -> Result<(), DeviceFault> {
+        let kept = keep(&self.file);
+        self.file = None;
+        match kept {
+            Ok(()) => {
+                self.log.note(&[CLOSED], &[]);
+                Ok(())
+            }
+            Err(_) => {
+                self.log.note(&[NOT_CLOSED], &[]);
+                Err(DeviceFault)
+            }
+        }
+    }
+}
