@@ -1,10 +1,8 @@
 //! The canonical binary text of a circuit in binary order, written to a sink in blocks.
-ghost use Rattle.std.specs.Io.KnownBytes.{Appends};
 ghost use Rattle.std.specs.List.{All, flat_map};
 ghost use Rattle.std.specs.Prelude.{◌≡◌, ◌+◌, ◌-◌, ◌*◌, ◌^◌, ◌<◌, ◌≤◌, length, max, take, is_ok, OnErr, OnOk};
-ghost use Rattle.std.specs.Prelude.{if◌then◌else◌};
 ghost use Rattle.aig_io.specs.Output.{Put};
-ghost use Rattle.aig_io.specs.Transfer.{TookBeginning};
+ghost use Rattle.aig_io.specs.Devices.{CanFail, took, TookBeginning};
 ghost use Rattle.aig_circuit.specs.Wellformed.{IsWithinLimits};
 ghost use Rattle.aig_io.specs.declared.block.TheConstants.{ROOM};
 ghost use Rattle.aig_circuit.specs.declared.circuit.Latch.{Latch as LatchRecord};
@@ -103,11 +101,9 @@ fn put_text<W: Sink>(output: &mut Output<W>, circuit: &Circuit)
 /// Writes the canonical binary text of a circuit, in slices of at most 8,192 bytes. It takes no memory and fails
 /// only where the sink fails; the sink then took a beginning of the text, and is not called again.
 pub fn write_binary<W: Sink>(ordered: &Ordered, sink: &mut W) -> Result<(), WriteFault>
-    requires { W.failed sink.old < 2 ^ 64 - 1 }
-    ensures ok { OnOk result (Appends (W.taken sink.old) (W.taken sink.new) (binary_text ordered.now)) }
-    ensures err { OnErr result (TookBeginning (W.taken sink.old) (W.taken sink.new) (binary_text ordered.now)) }
-    ensures failed { W.failed sink.new ≡ W.failed sink.old + (if is_ok result then 0 else 1) }
-    ensures short { W.longest sink.new ≤ max (W.longest sink.old) ROOM }
+    requires { CanFail (W.past sink.old) }
+    ensures ok { OnOk result (W.past sink.new ≡ took (binary_text ordered.now) (W.past sink.old)) }
+    ensures err { OnErr result (TookBeginning (binary_text ordered.now) (W.past sink.old) (W.past sink.new)) }
 {
     let mut output = Output::new(sink);
     put_text(&mut output, ordered.checked().circuit());

@@ -1,23 +1,31 @@
 //! `aigtoaig`: conversion of AIGER files.
-ghost use Rattle.std.specs.Io.KnownBytes.{Appends};
-ghost use Rattle.std.specs.Prelude.{◌≡◌, ◌+◌, ◌-◌, ◌^◌, ◌<◌, ◌≤◌, ◌⊎◌, max, ℕ, List, false, true, IfErr, IfOk, OnOk};
-ghost use Rattle.aig_io.specs.declared.block.TheConstants.{ROOM};
+ghost use Rattle.std.specs.Prelude.{◌≡◌, true, IfErr, IfOk, OnOk};
+ghost use Rattle.aig_io.specs.Devices.{CanFail};
 ghost use Rattle.aig_map.specs.Undone.{IsMapFault};
 ghost use Rattle.aig_command.specs.Answer.{IsKeptAlone, name_of};
-ghost use Rattle.aig_engines.specs.Conversion.{IsImageAs, IsSource, IsTextAs, changed};
-ghost use Rattle.aig_engines.specs.Parts.Closing.{conversion_closed};
-ghost use Rattle.aig_engines.specs.Devices.{sink_use, source_use};
-ghost use Rattle.aig_engines.specs.Outcome.{Converted, NotConverted, NotWritten};
+ghost use Rattle.aig_engines.specs.Conversion.{changed, IsConversionRefused, IsConversionText, IsImageAs, IsSource};
+ghost use Rattle.aig_engines.specs.Conversion.{IsTextAs, ready_text};
+ghost use Rattle.aig_engines.specs.Outcome.{Done, NotDone};
 
-use crate::engine::Engine;
+use crate::engine::{Engine, run};
 use crate::fault::ToolFault;
 use crate::file::read_circuit;
 use aig_binary::{Ordered, write_binary};
 use aig_command::ToAig;
 use aig_core::{Checked, Circuit, Keep, OutOfMemory, Sink, Source, Symbols};
 use aig_order::{MapFault, into_binary, into_binary_with_map, undo};
-use aig_text::write_ascii;
+use aig_text::{WriteFault, write_ascii};
 use std::alloc::Global;
+
+/// What is ready to be written. It is dropped by name, since a proof goes through all that goes out of scope by itself,
+/// wherever that is.
+#[derive(Drop)]
+pub enum Ready {
+    /// A circuit, in ASCII.
+    Ascii(Checked),
+    /// An image, in binary.
+    Binary(Ordered),
+}
 
 /// What is wanted of the check later: a binary image of the circuit that is read needs an order of its gates. ASCII
 /// needs none, and a circuit that is undone comes from gates in order.
@@ -68,30 +76,15 @@ fn image(alloc: Global, request: &ToAig, circuit: Checked) -> Result<Ordered, Ou
     }
 }
 
-/// Writes the circuit in the form that the request asks for. Nothing is sent before its whole image was made. What was
-/// written is dropped by name, since a proof goes through all that goes out of scope by itself, wherever that is.
-fn write<W: Sink>(
-    alloc: Global,
-    request: &ToAig,
-    circuit: Checked,
-    sink: &mut W,
-) -> Result<(), ToolFault>
-    requires { W.failed sink.old < 2 ^ 64 - 1 }
-    ensures ok { OnOk result ((text : List ℕ) × IsTextAs request.now.ascii request.now.keep_map circuit text
-        × Appends (W.taken sink.old) (W.taken sink.new) text × (W.failed sink.new ≡ W.failed sink.old)) }
-    ensures err { IfErr result (λ error. NotWritten request.now circuit error
-        (sink_use W.taken W.longest W.failed sink.old sink.new)) }
-    ensures short { W.longest sink.new ≤ max (W.longest sink.old) ROOM }
+/// The circuit in the form that the request asks for.
+fn ready(alloc: Global, request: &ToAig, circuit: Checked) -> Result<Ready, OutOfMemory>
+    ensures { IfOk result (λ ready.
+        IsTextAs request.now.ascii request.now.keep_map circuit (ready_text ready)) }
 {
     if request.ascii {
-        let written = write_ascii(&circuit, sink);
-        drop(circuit);
-        return Ok(written?);
+        return Ok(Ready::Ascii(circuit));
     }
-    let image = image(alloc, request, circuit)?;
-    let written = write_binary(&image, sink);
-    drop(image);
-    Ok(written?)
+    Ok(Ready::Binary(image(alloc, request, circuit)?))
 }
 
 /// Reads the source to its end, and writes what the request asks for. Nothing is sent before the whole source was read
@@ -103,37 +96,31 @@ pub fn run_toaig<R: Source, W: Sink>(
     source: &mut R,
     sink: &mut W,
 ) -> Result<(), ToolFault>
-    requires source { R.failed source.old < 2 ^ 64 - 1 }
-    requires sink { W.failed sink.old < 2 ^ 64 - 1 }
-    requires kept_alone { request.now.keep_map ≡ true
-        → (request.now.ascii ≡ false) × (request.now.strip ≡ false) × (request.now.undo_map ≡ false) }
-    ensures ok { OnOk result (Converted request.now (source_use R.coming R.failed source.old source.new)
-        (sink_use W.taken W.longest W.failed sink.old sink.new)) }
-    ensures err { IfErr result (λ error. NotConverted request.now error
-        (source_use R.coming R.failed source.old source.new)
-        (sink_use W.taken W.longest W.failed sink.old sink.new)) }
-    ensures short { W.longest sink.new ≤ max (W.longest sink.old) ROOM }
+    requires source { CanFail (R.past source.old) }
+    requires sink { CanFail (W.past sink.old) }
+    requires kept_alone { IsKeptAlone request.now }
+    ensures ok { OnOk result (Done (IsConversionText request.now)
+        (R.past source.old) (R.past source.new) (W.past sink.old) (W.past sink.new)) }
+    ensures err { IfErr result (λ fault. NotDone (IsConversionText request.now) (IsConversionRefused request.now)
+        fault (R.past source.old) (R.past source.new) (W.past sink.old) (W.past sink.new)) }
 {
-    let found = read_circuit(alloc, source, request.max_var, kept(request))?;
-    let source_circuit = undone(alloc, request, found)?;
-    let circuit = changed(alloc, request, source_circuit);
-    write(alloc, request, circuit, sink)
+    run(alloc, request, source, sink)
 }
 
 impl Engine for ToAig {
+    type Work = Ready;
+
     ghost can_do = { IsKeptAlone };
 
     ghost source_name = { λ request. name_of request.source };
 
     ghost destination_name = { λ request. name_of request.destination };
 
-    ghost done = { λ request R W source sink. Converted request source sink };
+    ghost is_text = { λ request. IsConversionText request };
 
-    ghost not_done = { λ request error R W source sink. NotConverted request error source sink };
+    ghost is_refused = { λ request. IsConversionRefused request };
 
-    ghost held = { λ request R W source sink done. done.sink_held };
-
-    ghost closed = { conversion_closed };
+    ghost text = { λ _ work. ready_text work };
 
     fn source(&self) -> &Option<String> {
         &self.source
@@ -143,12 +130,25 @@ impl Engine for ToAig {
         &self.destination
     }
 
-    fn run<R: Source, W: Sink>(
-        &self,
-        alloc: Global,
-        source: &mut R,
-        sink: &mut W,
-    ) -> Result<(), ToolFault> {
-        run_toaig(alloc, self, source, sink)
+    fn read<R: Source>(&self, alloc: Global, source: &mut R) -> Result<Ready, ToolFault> {
+        let found = read_circuit(alloc, source, self.max_var, kept(self))?;
+        let source_circuit = undone(alloc, self, found)?;
+        let circuit = changed(alloc, self, source_circuit);
+        Ok(ready(alloc, self, circuit)?)
+    }
+
+    fn write<W: Sink>(&self, work: Ready, sink: &mut W) -> Result<(), WriteFault> {
+        match work {
+            Ready::Ascii(circuit) => {
+                let written = write_ascii(&circuit, sink);
+                drop(circuit);
+                written
+            }
+            Ready::Binary(image) => {
+                let written = write_binary(&image, sink);
+                drop(image);
+                written
+            }
+        }
     }
 }

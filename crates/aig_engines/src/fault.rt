@@ -3,7 +3,7 @@ ghost use Rattle.std.specs.Prelude.{◌≡◌, ◌↔◌, IsTrue, Some};
 ghost use Rattle.aig_engines.specs.Messages.{error_text};
 ghost use Rattle.aig_engines.specs.declared.fault.ToolFault.TheVariants.{Map, OutOfMemory, Read, Sim, Sink, Unroll};
 ghost use Rattle.aig_engines.specs.Blame.{at_fault, Memory};
-ghost use Rattle.aig_engines.specs.Reported.{tool_fault_of};
+ghost use Rattle.aig_engines.specs.Reading.{tool_fault_of};
 
 use aig_core::ReadError;
 use aig_order::MapFault;

@@ -1,11 +1,11 @@
 //! Files of either kind.
-ghost use Rattle.std.specs.Prelude.{◌≡◌, ◌-◌, ◌^◌, ◌<◌, IfOk, IfErr, MatchResult};
+ghost use Rattle.std.specs.Prelude.{◌≡◌, IfOk, IfErr, MatchResult};
+ghost use Rattle.aig_io.specs.Devices.{CanFail};
 ghost use Rattle.aig_circuit.specs.declared.circuit.Circuit.{Circuit as CircuitRecord};
 ghost use Rattle.aig_text.specs.Reading.{IsFirstFault};
 ghost use Rattle.aig_rows.specs.Reading.{want_of_memory};
-ghost use Rattle.aig_engines.specs.Devices.{source_use};
 ghost use Rattle.aig_engines.specs.File.{IsFileOf, first_fault};
-ghost use Rattle.aig_engines.specs.Reading.{HasRead, NotRead};
+ghost use Rattle.aig_engines.specs.Reading.{HasRead, IsUnreadable, NotRead};
 
 use crate::fault::ToolFault;
 use aig_binary::{BINARY_WORD, read_binary};
@@ -47,10 +47,11 @@ pub fn read_circuit<R: Source>(
     max_var: u32,
     keep: Keep,
 ) -> Result<Checked, ToolFault>
-    requires { R.failed source.old < 2 ^ 64 - 1 }
-    ensures ok { IfOk result (λ found. HasRead max_var found (source_use R.coming R.failed source.old source.new)) }
-    ensures err { IfErr result (λ error. NotRead max_var error
-        (source_use R.coming R.failed source.old source.new)) }
+    requires { CanFail (R.past source.old) }
+    ensures ok { IfOk result (λ found. HasRead (λ bytes. IsFileOf bytes max_var found)
+        (R.past source.old) (R.past source.new)) }
+    ensures err { IfErr result (λ fault. NotRead (IsUnreadable max_var) fault
+        (R.past source.old) (R.past source.new)) }
 {
     let mut bytes = read_all(alloc, source)?;
     if !fit(&mut bytes) {

@@ -18,11 +18,9 @@
 //! `IsWitnessAnswer`, `IsUnrollingText` and `Headline`:
 //! - `File`: which texts are files of which circuits, and what is wrong with a text that is none.
 //! - `Conversion`, `Simulation`, `WitnessAnswer`, `Unrolling`: which text is written.
-//! - `Devices`: what a call did to a stream, or to a file with its name.
-//! - `Reading`, `Outcome`, `WitnessOutcome`, `UnrollingOutcome`: what came of reading a circuit, and of an engine's work.
-//! - `Blame`, `Reported`, `Messages`: what an error puts at fault, and the line that reports it.
+//! - `Reading`, `Outcome`, `WitnessOutcome`: what came of reading a source, and of an engine's work.
+//! - `Blame`, `Messages`: what an error puts at fault, and the line that reports it.
 //! - `Laws`: what the definitions say of one another.
-//! - `Parts`: what only private functions cite.
 #![tactic(auto)]
 
 mod conversion;

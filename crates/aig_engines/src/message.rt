@@ -1,13 +1,12 @@
 //! What is reported on standard error. Whether it could be sent changes nothing: there is no other place to report it.
 //! Formatting and sending take no memory, so that out of memory can be reported too.
-ghost use Rattle.std.specs.Prelude.{◌≡◌, ◌+◌, ◌-◌, ◌^◌, ◌<◌, ◌≤◌, [], codes, max};
+ghost use Rattle.std.specs.Prelude.{◌≡◌, [], codes};
+ghost use Rattle.aig_io.specs.Devices.{CanFail};
 ghost use Rattle.aig_io.specs.Output.{Put};
-ghost use Rattle.aig_io.specs.declared.block.TheConstants.{ROOM};
 ghost use Rattle.aig_command.specs.Answer.{name_of};
 ghost use Rattle.aig_engines.specs.Blame.{at_fault};
-ghost use Rattle.aig_engines.specs.Devices.{shown, sink_use};
 ghost use Rattle.aig_engines.specs.Messages.{error_line, error_text, IsReported, line_naming, line_of, memory_line};
-ghost use Rattle.aig_engines.specs.Messages.{name_between, simulation_error_line, simulation_name_at, usage_text};
+ghost use Rattle.aig_engines.specs.Messages.{name_between, shown, simulation_error_line, simulation_name_at, usage_text};
 ghost use Rattle.aig_engines.specs.Messages.{words_line};
 
 use crate::engine::Engine;
@@ -28,10 +27,8 @@ fn shown(name: &Option<String>) -> &str
 
 /// Sends a text.
 pub(crate) fn send<E: Sink>(errors: &mut E, text: &[u8])
-    requires { E.failed errors.old < 2 ^ 64 - 1 }
-    ensures reported { IsReported (sink_use E.taken E.longest E.failed errors.old errors.new)
-        text.now }
-    ensures short { E.longest errors.new ≤ max (E.longest errors.old) ROOM }
+    requires { CanFail (E.past errors.old) }
+    ensures { IsReported (E.past errors.old) (E.past errors.new) text.now }
 {
     let mut output = Output::new(errors);
     output.put(text);
@@ -40,10 +37,8 @@ pub(crate) fn send<E: Sink>(errors: &mut E, text: &[u8])
 
 /// Sends a line about no file: the program's name, and what is wrong.
 fn send_line<E: Sink>(errors: &mut E, text: &[u8])
-    requires { E.failed errors.old < 2 ^ 64 - 1 }
-    ensures reported { IsReported (sink_use E.taken E.longest E.failed errors.old errors.new)
-        (line_of [] text.now) }
-    ensures short { E.longest errors.new ≤ max (E.longest errors.old) ROOM }
+    requires { CanFail (E.past errors.old) }
+    ensures { IsReported (E.past errors.old) (E.past errors.new) (line_of [] text.now) }
 {
     let mut output = Output::new(errors);
     output.put(b"aiger: ");
@@ -54,40 +49,32 @@ fn send_line<E: Sink>(errors: &mut E, text: &[u8])
 
 /// Reports that memory ran out. No file is at fault, so none is named.
 pub fn report_memory<E: Sink>(errors: &mut E)
-    requires { E.failed errors.old < 2 ^ 64 - 1 }
-    ensures reported { IsReported (sink_use E.taken E.longest E.failed errors.old errors.new)
-        memory_line }
-    ensures short { E.longest errors.new ≤ max (E.longest errors.old) ROOM }
+    requires { CanFail (E.past errors.old) }
+    ensures { IsReported (E.past errors.old) (E.past errors.new) memory_line }
 {
     send_line(errors, OUT_OF_MEMORY.as_bytes());
 }
 
 /// Reports that an argument is no text.
 pub fn report_words<E: Sink>(errors: &mut E)
-    requires { E.failed errors.old < 2 ^ 64 - 1 }
-    ensures reported { IsReported (sink_use E.taken E.longest E.failed errors.old errors.new)
-        words_line }
-    ensures short { E.longest errors.new ≤ max (E.longest errors.old) ROOM }
+    requires { CanFail (E.past errors.old) }
+    ensures { IsReported (E.past errors.old) (E.past errors.new) words_line }
 {
     send_line(errors, b"an argument is not UTF-8 text");
 }
 
 /// Reports that the standard output takes no help text.
 pub fn report_unwritten<E: Sink>(errors: &mut E)
-    requires { E.failed errors.old < 2 ^ 64 - 1 }
-    ensures reported { IsReported (sink_use E.taken E.longest E.failed errors.old errors.new)
-        (line_of (codes "-: ") (codes "cannot write")) }
-    ensures short { E.longest errors.new ≤ max (E.longest errors.old) ROOM }
+    requires { CanFail (E.past errors.old) }
+    ensures { IsReported (E.past errors.old) (E.past errors.new) (line_of (codes "-: ") (codes "cannot write")) }
 {
     send_line(errors, b"-: cannot write");
 }
 
 /// Reports why arguments are refused.
 pub fn report_usage<E: Sink>(errors: &mut E, usage: &Usage)
-    requires { E.failed errors.old < 2 ^ 64 - 1 }
-    ensures reported { IsReported (sink_use E.taken E.longest E.failed errors.old errors.new)
-        (usage_text usage.now) }
-    ensures short { E.longest errors.new ≤ max (E.longest errors.old) ROOM }
+    requires { CanFail (E.past errors.old) }
+    ensures { IsReported (E.past errors.old) (E.past errors.new) (usage_text usage.now) }
 {
     match usage {
         Usage::Words(text) => send(errors, text.as_bytes()),
@@ -139,10 +126,8 @@ fn simulation_name_at_fault<'a>(request: &'a Sim, fault: &ToolFault) -> &'a str
 
 /// Reports an error, where the file or stream at fault has this name.
 fn report_naming<E: Sink>(errors: &mut E, name: &str, fault: &ToolFault)
-    requires { E.failed errors.old < 2 ^ 64 - 1 }
-    ensures reported { IsReported (sink_use E.taken E.longest E.failed errors.old errors.new)
-        (line_naming name.now fault.now) }
-    ensures short { E.longest errors.new ≤ max (E.longest errors.old) ROOM }
+    requires { CanFail (E.past errors.old) }
+    ensures { IsReported (E.past errors.old) (E.past errors.new) (line_naming name.now fault.now) }
 {
     if fault.is_want_of_memory() {
         report_memory(errors);
@@ -159,20 +144,16 @@ fn report_naming<E: Sink>(errors: &mut E, name: &str, fault: &ToolFault)
 
 /// Reports an error where there is one source and one destination.
 pub fn report_error<T: Engine, E: Sink>(errors: &mut E, request: &T, fault: &ToolFault)
-    requires { E.failed errors.old < 2 ^ 64 - 1 }
-    ensures reported { IsReported (sink_use E.taken E.longest E.failed errors.old errors.new)
-        (error_line (T.source_name request.now) (T.destination_name request.now) fault.now) }
-    ensures short { E.longest errors.new ≤ max (E.longest errors.old) ROOM }
+    requires { CanFail (E.past errors.old) }
+    ensures { IsReported (E.past errors.old) (E.past errors.new) (error_line (T.source_name request.now) (T.destination_name request.now) fault.now) }
 {
     report_naming(errors, name_at_fault(request, fault), fault);
 }
 
 /// Reports the error of a simulation.
 pub fn report_simulation_error<E: Sink>(errors: &mut E, request: &Sim, fault: &ToolFault)
-    requires { E.failed errors.old < 2 ^ 64 - 1 }
-    ensures reported { IsReported (sink_use E.taken E.longest E.failed errors.old errors.new)
-        (simulation_error_line request.now fault.now) }
-    ensures short { E.longest errors.new ≤ max (E.longest errors.old) ROOM }
+    requires { CanFail (E.past errors.old) }
+    ensures { IsReported (E.past errors.old) (E.past errors.new) (simulation_error_line request.now fault.now) }
 {
     report_naming(errors, simulation_name_at_fault(request, fault), fault);
 }

@@ -1,40 +1,18 @@
 //! `aigunroll`: copies of a circuit in time, as one circuit.
-ghost use Rattle.std.specs.Prelude.{◌≡◌, ◌+◌, ◌-◌, ◌^◌, ◌<◌, ◌≤◌, max, IfErr, OnOk};
-ghost use Rattle.std.specs.Io.KnownBytes.{Appends};
-ghost use Rattle.aig_io.specs.Transfer.{TookBeginning};
-ghost use Rattle.aig_io.specs.declared.block.TheConstants.{ROOM};
+ghost use Rattle.std.specs.Prelude.{IfErr, OnOk};
+ghost use Rattle.aig_io.specs.Devices.{CanFail};
 ghost use Rattle.aig_command.specs.Answer.{HasFrames, name_of};
-ghost use Rattle.aig_engines.specs.Parts.Closing.{unrolling_closed};
-ghost use Rattle.aig_engines.specs.declared.fault.ToolFault.TheVariants.{Sink as SinkFailed};
-ghost use Rattle.aig_engines.specs.Devices.{sink_use, source_use};
-ghost use Rattle.aig_engines.specs.Unrolling.{text_as};
-ghost use Rattle.aig_engines.specs.UnrollingOutcome.{UnrollingNotWritten, UnrollingWritten};
+ghost use Rattle.aig_engines.specs.Outcome.{Done, NotDone};
+ghost use Rattle.aig_engines.specs.Unrolling.{IsUnrollingRefused, IsUnrollingText, text_as};
 
-use crate::engine::Engine;
+use crate::engine::{Engine, run};
 use crate::fault::ToolFault;
 use crate::file::read_circuit;
 use aig_command::Unroll;
 use aig_core::{Keep, Sink, Source};
+use aig_text::WriteFault;
 use aig_unroll::Unrolling;
 use std::alloc::Global;
-
-/// Writes the unrolled circuit in the form that is asked for. It fails only where the sink fails, which then took a
-/// beginning of it.
-fn write<W: Sink>(ascii: bool, circuit: Unrolling, sink: &mut W) -> Result<(), ToolFault>
-    requires { W.failed sink.old < 2 ^ 64 - 1 }
-    ensures ok { OnOk result (Appends (W.taken sink.old) (W.taken sink.new) (text_as ascii circuit)
-        × (W.failed sink.new ≡ W.failed sink.old)) }
-    ensures err { IfErr result (λ error. (error ≡ SinkFailed) × (W.failed sink.new ≡ W.failed sink.old + 1)
-        × TookBeginning (W.taken sink.old) (W.taken sink.new) (text_as ascii circuit)) }
-    ensures short { W.longest sink.new ≤ max (W.longest sink.old) ROOM }
-{
-    if ascii {
-        circuit.write_ascii(sink)?;
-    } else {
-        circuit.write_binary(sink)?;
-    }
-    Ok(())
-}
 
 /// Reads the source to its end, and writes the circuit unrolled as the request asks. Nothing is sent before it is known
 /// that only the sink can fail. It fails if a device or an allocation fails, if the bytes are no file of a circuit, or
@@ -45,35 +23,31 @@ pub fn run_unroll<R: Source, W: Sink>(
     source: &mut R,
     sink: &mut W,
 ) -> Result<(), ToolFault>
-    requires source { R.failed source.old < 2 ^ 64 - 1 }
-    requires sink { W.failed sink.old < 2 ^ 64 - 1 }
+    requires source { CanFail (R.past source.old) }
+    requires sink { CanFail (W.past sink.old) }
     requires frames { HasFrames request.now }
-    ensures ok { OnOk result (UnrollingWritten request.now (source_use R.coming R.failed source.old source.new)
-        (sink_use W.taken W.longest W.failed sink.old sink.new)) }
-    ensures err { IfErr result (λ error. UnrollingNotWritten request.now error
-        (source_use R.coming R.failed source.old source.new)
-        (sink_use W.taken W.longest W.failed sink.old sink.new)) }
-    ensures short { W.longest sink.new ≤ max (W.longest sink.old) ROOM }
+    ensures ok { OnOk result (Done (IsUnrollingText request.now)
+        (R.past source.old) (R.past source.new) (W.past sink.old) (W.past sink.new)) }
+    ensures err { IfErr result (λ fault. NotDone (IsUnrollingText request.now) (IsUnrollingRefused request.now)
+        fault (R.past source.old) (R.past source.new) (W.past sink.old) (W.past sink.new)) }
 {
-    let found = read_circuit(alloc, source, request.max_var, Keep::Order)?;
-    let circuit = Unrolling::new(alloc, found, request.frames)?;
-    write(request.ascii, circuit, sink)
+    run(alloc, request, source, sink)
 }
 
 impl Engine for Unroll {
+    type Work = Unrolling;
+
     ghost can_do = { HasFrames };
 
     ghost source_name = { λ request. name_of request.source };
 
     ghost destination_name = { λ request. name_of request.destination };
 
-    ghost done = { λ request R W source sink. UnrollingWritten request source sink };
+    ghost is_text = { λ request. IsUnrollingText request };
 
-    ghost not_done = { λ request error R W source sink. UnrollingNotWritten request error source sink };
+    ghost is_refused = { λ request. IsUnrollingRefused request };
 
-    ghost held = { λ request R W source sink done. done.sink_held };
-
-    ghost closed = { unrolling_closed };
+    ghost text = { λ request circuit. text_as request.ascii circuit };
 
     fn source(&self) -> &Option<String> {
         &self.source
@@ -83,12 +57,16 @@ impl Engine for Unroll {
         &self.destination
     }
 
-    fn run<R: Source, W: Sink>(
-        &self,
-        alloc: Global,
-        source: &mut R,
-        sink: &mut W,
-    ) -> Result<(), ToolFault> {
-        run_unroll(alloc, self, source, sink)
+    fn read<R: Source>(&self, alloc: Global, source: &mut R) -> Result<Unrolling, ToolFault> {
+        let found = read_circuit(alloc, source, self.max_var, Keep::Order)?;
+        Ok(Unrolling::new(alloc, found, self.frames)?)
+    }
+
+    fn write<W: Sink>(&self, circuit: Unrolling, sink: &mut W) -> Result<(), WriteFault> {
+        if self.ascii {
+            circuit.write_ascii(sink)
+        } else {
+            circuit.write_binary(sink)
+        }
     }
 }

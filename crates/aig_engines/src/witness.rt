@@ -1,12 +1,8 @@
 //! `aigsim --witness`: a witness file, judged for the circuit of a model.
-ghost use Rattle.std.specs.Prelude.{◌≡◌, ◌+◌, ◌-◌, ◌^◌, ◌<◌, ◌≤◌, max, IfErr, IfOk, OnOk, true};
-ghost use Rattle.std.specs.Io.KnownBytes.{Appends};
-ghost use Rattle.aig_io.specs.Transfer.{TookBeginning};
-ghost use Rattle.aig_io.specs.declared.block.TheConstants.{ROOM};
+ghost use Rattle.std.specs.Prelude.{◌≡◌, IfErr, IfOk, OnErr, OnOk, true};
+ghost use Rattle.aig_io.specs.Devices.{CanFail, took, TookBeginning};
 ghost use Rattle.aig_rows.specs.Messages.{message_text};
 ghost use Rattle.aig_command.specs.Answer.{IsWitnessAlone};
-ghost use Rattle.aig_engines.specs.declared.fault.ToolFault.TheVariants.{Sink as SinkFailed};
-ghost use Rattle.aig_engines.specs.Devices.{sink_use, source_use};
 ghost use Rattle.aig_engines.specs.WitnessAnswer.{answer_line};
 ghost use Rattle.aig_engines.specs.WitnessOutcome.{Answered, NotAnswered};
 
@@ -14,7 +10,7 @@ use crate::fault::ToolFault;
 use crate::file::read_circuit;
 use aig_command::Sim;
 use aig_core::{Keep, Output, Sink, Source};
-use aig_text::Message;
+use aig_text::{Message, WriteFault};
 use aig_witness::{Verdict, confirm};
 use std::alloc::Global;
 
@@ -29,21 +25,15 @@ fn answer_line(verdict: Verdict) -> Message
 }
 
 /// Sends the line of a verdict. It fails only where the sink fails, which then took a beginning of the line.
-fn send_answer<W: Sink>(verdict: Verdict, sink: &mut W) -> Result<(), ToolFault>
-    requires { W.failed sink.old < 2 ^ 64 - 1 }
-    ensures ok { OnOk result (Appends (W.taken sink.old) (W.taken sink.new) (answer_line verdict)
-        × (W.failed sink.new ≡ W.failed sink.old)) }
-    ensures err { IfErr result (λ error. (error ≡ SinkFailed) × (W.failed sink.new ≡ W.failed sink.old + 1)
-        × TookBeginning (W.taken sink.old) (W.taken sink.new) (answer_line verdict)) }
-    ensures short { W.longest sink.new ≤ max (W.longest sink.old) ROOM }
+fn send_answer<W: Sink>(verdict: Verdict, sink: &mut W) -> Result<(), WriteFault>
+    requires { CanFail (W.past sink.old) }
+    ensures ok { OnOk result (W.past sink.new ≡ took (answer_line verdict) (W.past sink.old)) }
+    ensures err { OnErr result (TookBeginning (answer_line verdict) (W.past sink.old) (W.past sink.new)) }
 {
     let mut output = Output::new(sink);
     answer_line(verdict).put(&mut output);
     let (sent, _sink) = output.finish();
-    match sent {
-        Ok(()) => Ok(()),
-        Err(_) => Err(ToolFault::Sink),
-    }
+    Ok(sent?)
 }
 
 /// Reads the model to its end, then judges the witness file, and writes the verdict in a line. Nothing is fetched of
@@ -57,20 +47,15 @@ pub fn run_witness<M: Source, R: Source, W: Sink>(
     witness: &mut R,
     output: &mut W,
 ) -> Result<Verdict, ToolFault>
-    requires model { M.failed model.old < 2 ^ 64 - 1 }
-    requires witness { R.failed witness.old < 2 ^ 64 - 1 }
-    requires output { W.failed output.old < 2 ^ 64 - 1 }
+    requires model { CanFail (M.past model.old) }
+    requires witness { CanFail (R.past witness.old) }
+    requires output { CanFail (W.past output.old) }
     requires asked { request.now.witness ≡ true }
     requires alone { IsWitnessAlone request.now }
-    ensures ok { IfOk result (λ verdict. Answered request.now verdict
-        (source_use M.coming M.failed model.old model.new)
-        (source_use R.coming R.failed witness.old witness.new)
-        (sink_use W.taken W.longest W.failed output.old output.new)) }
-    ensures err { IfErr result (λ error. NotAnswered request.now error
-        (source_use M.coming M.failed model.old model.new)
-        (source_use R.coming R.failed witness.old witness.new)
-        (sink_use W.taken W.longest W.failed output.old output.new)) }
-    ensures short { W.longest output.new ≤ max (W.longest output.old) ROOM }
+    ensures ok { IfOk result (λ verdict. Answered request.now verdict (M.past model.old) (M.past model.new)
+        (R.past witness.old) (R.past witness.new) (W.past output.old) (W.past output.new)) }
+    ensures err { IfErr result (λ fault. NotAnswered request.now fault (M.past model.old) (M.past model.new)
+        (R.past witness.old) (R.past witness.new) (W.past output.old) (W.past output.new)) }
 {
     let found = read_circuit(alloc, model, request.max_var, Keep::Order)?;
     let judged = confirm(alloc, &found, witness);

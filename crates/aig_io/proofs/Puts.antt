@@ -2,10 +2,10 @@
 use Rattle.std.proofs.lemmas.Grind.{common_steps}
 use Rattle.std.proofs.Common.{rules}
 use Rattle.std.proofs.Common.{◌≡◌, ◌+◌, ◌<◌, ◌++◌, ℕ, List, [], Bool, true, false, length, take, drop, get_or}
-use Rattle.std.proofs.Common.{take-add, arith, sym, ap, subst, ◌∙◌}
+use Rattle.std.proofs.Common.{take-add, arith, sym, ap, ap₂, subst, ◌∙◌}
 use Rattle.std.specs.List.{flat_map}
 use Rattle.std.proofs.lemmas.List.{append-nil, take-append-drop}
-use Rattle.aig_io.specs.Devices.{TookBeginning}
+use Rattle.aig_io.specs.Devices.{TookBeginning, took}
 use Rattle.aig_io.specs.Output.{Out, Put}
 use Rattle.aig_io.proofs.Outgoing.{beginning_after, beginning_longer, went_out_twice}
 
@@ -69,3 +69,13 @@ module _ {W : Type 0} where
       subst (λ (bytes : List ℕ). TookBeginning bytes o.past c.past)
       (ap (λ (held : List ℕ). held ++ (text ++ [])) empty ∙ append-nil text)
       (subst (λ (x : Out W). TookBeginning (x.held ++ (text ++ [])) x.past c.past) same begun)
+
+  -- an output of a text was finished, and the sink did not fail
+  pub all_sent : (o a b c : Out W) (text : List ℕ) → a ≡ o → o.held ≡ [] → Put a b text → Put b c [] → c.held ≡ []
+      → c.failed ≡ false → c.past ≡ took text o.past
+  all_sent o a b c text same empty put sent none good =
+      let went = ((put_twice a b c text [] put sent).went good).1 in
+      let is : text ≡ went.sent =
+      sym (ap (λ (held : List ℕ). held ++ (text ++ [])) (ap (λ (x : Out W). x.held) same ∙ empty) ∙ append-nil text)
+      ∙ went.order ∙ ap (λ (held : List ℕ). went.sent ++ held) none ∙ append-nil went.sent in
+      went.past ∙ ap₂ took (sym is) (ap (λ (x : Out W). x.past) same)

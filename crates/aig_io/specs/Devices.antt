@@ -1,5 +1,6 @@
 -- What a source gave and a sink took, whatever they are (this project's devices).
-use Rattle.std.specs.Prelude.{◌≡◌, ◌+◌, ◌-◌, ◌<◌, ◌^◌, ◌++◌, ℕ, zero, suc, List, [], Option, None, Result, Ok, Err, take}
+use Rattle.std.specs.Prelude.{◌≡◌, ◌+◌, ◌-◌, ◌<◌, ◌^◌, ◌++◌, ℕ, zero, suc, List, [], Bool, true, false, take}
+use Rattle.std.specs.Prelude.{Option, None, Result, Ok, Err}
 use Rattle.aig_io.specs.Files.{Use}
 use Rattle.aig_io.specs.declared.transfer.ReadError.{ReadError}
 use Rattle.aig_io.specs.declared.transfer.ReadError.TheVariants as errors
@@ -48,6 +49,11 @@ gave_all bytes past = record past { bytes = past.bytes ++ bytes; ends = past.end
 -- it took these bytes
 abbrev pub took : List ℕ → Past → Past
 took bytes past = record past { bytes = past.bytes ++ bytes }
+
+-- it gave these bytes, and answered that it is at its end, or it did not so far
+abbrev pub gave : List ℕ → Bool → Past → Past
+gave bytes true past = gave_all bytes past
+gave bytes false past = took bytes past
 
 -- it failed
 abbrev pub failed_once : Past → Past

@@ -1,6 +1,6 @@
 -- Where a line feeder stands, and what came of the lines of a source.
-use Rattle.std.specs.Prelude.{◌≡◌, ◌+◌, ℕ, List, [], Bool, true, false, Option, Result, Ok, Err, take}
-use Rattle.std.specs.Io.KnownBytes.{Consumes, IsAtEnd}
+use Rattle.std.specs.Prelude.{◌≡◌, ◌+◌, ℕ, List, [], Bool, true, false, Result, Ok, Err, take}
+use Rattle.aig_io.specs.Devices.{Past, failed_once, gave}
 use Rattle.aig_io.specs.declared.device.DeviceFault.{DeviceFault}
 use Rattle.aig_lines.specs.Feeding.{Feeding, Told, Turn, told}
 use Rattle.aig_lines.specs.Keeping.{Keeping}
@@ -38,17 +38,19 @@ pub record HasTold {T S : Type 0} (IsAt : T → S → Type 0) (f : Feeder) (t : 
 
 -- The source gave bytes, which are over or not, and their lines were told; one was refused, or none.
 pub record ToldSource {T S : Type 0} (step : S → List ℕ → Turn S) (IsAt : T → S → Type 0) (limit : ℕ) (s : S)
-    (coming left : Option (List ℕ)) (over is_refused : Bool) (f : Feeder) (t : T) : Type 0 where
+    (source source_now : Past) (over is_refused : Bool) (f : Feeder) (t : T) : Type 0 where
   pub bytes : List ℕ
-  pub gave : Consumes coming left bytes
-  pub end : over ≡ true → IsAtEnd left
+  pub past : source_now ≡ gave bytes over source
   pub stands : HasTold IsAt f t (told step limit s 1 (judged_lines bytes over))
   pub refused : f.refused ≡ is_refused
 
--- what came of feeding the bytes of a source: they are over and no line was refused; one was; or the source failed
+-- What came of feeding the bytes of a source: they are over and no line was refused; one was; or the source failed,
+-- which is said as if it had failed before.
 abbrev pub FedSource : {T S : Type 0} → (S → List ℕ → Turn S) → (T → S → Type 0) → ℕ → S
-    → (coming left : Option (List ℕ)) → Result Bool DeviceFault → Feeder → T → Type 0
-FedSource step IsAt limit s coming left (Ok true) f t = ToldSource step IsAt limit s coming left true false f t
-FedSource step IsAt limit s coming left (Ok false) f t =
-    (over : Bool) × ToldSource step IsAt limit s coming left over true f t
-FedSource step IsAt limit s coming left (Err fault) f t = ToldSource step IsAt limit s coming left false false f t
+    → (source source_now : Past) → Result Bool DeviceFault → Feeder → T → Type 0
+FedSource step IsAt limit s source source_now (Ok true) f t =
+    ToldSource step IsAt limit s source source_now true false f t
+FedSource step IsAt limit s source source_now (Ok false) f t =
+    (over : Bool) × ToldSource step IsAt limit s source source_now over true f t
+FedSource step IsAt limit s source source_now (Err fault) f t =
+    ToldSource step IsAt limit s (failed_once source) source_now false false f t

@@ -1,5 +1,6 @@
 //! The bytes of a source, from the first to the end.
-ghost use Rattle.std.specs.Prelude.{◌≡◌, ◌+◌, ◌-◌, ◌^◌, ◌<◌, is_ok, if◌then◌else◌};
+ghost use Rattle.std.specs.Prelude.{◌≡◌};
+ghost use Rattle.aig_io.specs.Devices.{CanFail};
 ghost use Rattle.aig_lines.specs.Fed.{FedSource, IsUnfed};
 
 use crate::feeder::{LineFeeder, LineTaker};
@@ -14,10 +15,9 @@ pub fn feed_source<T: LineTaker, R: Source>(
 ) -> Result<bool, DeviceFault>
     requires unfed { IsUnfed feeder.old }
     requires counted { T.counted taker.old ≡ 0 }
-    requires source { R.failed source.old < 2 ^ 64 - 1 }
-    ensures fed { (s : T.State) → T.IsAt taker.old s → FedSource T.step T.IsAt feeder.old.limit s
-        (R.coming source.old) (R.coming source.new) result feeder.new taker.new }
-    ensures failed { R.failed source.new ≡ R.failed source.old + (if is_ok result then 0 else 1) }
+    requires source { CanFail (R.past source.old) }
+    ensures { (s : T.State) → T.IsAt taker.old s → FedSource T.step T.IsAt feeder.old.limit s
+        (R.past source.old) (R.past source.new) result feeder.new taker.new }
 {
     let mut block = [0u8; ROOM];
     loop {

@@ -1,7 +1,7 @@
 //! The text of a map block.
-ghost use Rattle.std.specs.Io.KnownBytes.{Appends};
 ghost use Rattle.std.specs.Prelude.{◌≡◌, ◌+◌, ◌-◌, ◌^◌, ◌<◌, ◌≤◌, ℕ, List, length, map, IfOk, OnOk};
 ghost use Rattle.std.specs.List.{flat_map};
+ghost use Rattle.aig_io.specs.Devices.{CanFail, took};
 ghost use Rattle.aig_io.specs.Output.{Put};
 ghost use Rattle.aig_text.specs.AsciiText.{numbers_text};
 ghost use Rattle.aig_circuit.specs.declared.circuit.Circuit.{Circuit as CircuitRecord};
@@ -134,9 +134,9 @@ fn write_comment<L: Labels, W: Sink>(
 ) -> Result<(), DeviceFault>
     requires small { FitIntoLiterals (L.label labels.now) }
     requires fits { length circuit.now.inputs + length circuit.now.latches ≤ LARGEST }
-    requires unfailed { W.failed sink.old < 2 ^ 64 - 1 }
-    ensures { OnOk result (Appends (W.taken sink.old) (W.taken sink.new)
-        (mapped_comment (block_by (L.label labels.now) circuit.now) circuit.now)) }
+    requires unfailed { CanFail (W.past sink.old) }
+    ensures { OnOk result (W.past sink.new
+        ≡ took (mapped_comment (block_by (L.label labels.now) circuit.now) circuit.now) (W.past sink.old)) }
 {
     let mut output = Output::new(sink);
     put_comment(&mut output, labels, circuit);
@@ -230,10 +230,9 @@ fn write_new_comment<W: Sink>(
 ) -> Result<(), DeviceFault>
     requires many { length variables.now.gates.items ≡ length circuit.now.gates }
     requires fits { length circuit.now.inputs + length circuit.now.latches ≤ LARGEST }
-    requires unfailed { W.failed sink.old < 2 ^ 64 - 1 }
+    requires unfailed { CanFail (W.past sink.old) }
     ensures { (f : ℕ → ℕ) (c : CircuitRecord) → AreVariablesOf variables.now c → circuit.now ≡ relabelled f c
-        → OnOk result (Appends (W.taken sink.old) (W.taken sink.new)
-        (mapped_comment (block_by f c) circuit.now)) }
+        → OnOk result (W.past sink.new ≡ took (mapped_comment (block_by f c) circuit.now) (W.past sink.old)) }
 {
     let mut output = Output::new(sink);
     put_new_comment(&mut output, variables, circuit);

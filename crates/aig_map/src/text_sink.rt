@@ -1,5 +1,6 @@
 //! A text that is gathered in memory.
-ghost use Rattle.std.specs.Prelude.{◌≡◌, Some, [], IfOk};
+ghost use Rattle.std.specs.Prelude.{◌≡◌, [], IfOk};
+ghost use Rattle.aig_io.specs.Devices.{no_file};
 
 use aig_core::{DeviceFault, Listing, Sink};
 use std::alloc::{AllocError, Global};
@@ -32,9 +33,7 @@ impl TextSink {
 }
 
 impl Sink for TextSink {
-    ghost taken = { λ s. Some s.text.items };
-
-    ghost failed = { λ s. s.failures };
+    ghost past = { λ s. record { origin = no_file; bytes = s.text.items; ends = 0; failures = s.failures } };
 
     fn send(&mut self, bytes: &[u8]) -> Result<usize, DeviceFault> {
         match self.text.extend_from_slice(bytes) {

@@ -1,10 +1,8 @@
 //! The canonical ASCII text of a circuit, written to a sink in blocks.
-ghost use Rattle.std.specs.Io.KnownBytes.{Appends};
 ghost use Rattle.std.specs.List.{flat_map};
 ghost use Rattle.std.specs.Prelude.{◌≡◌, ◌+◌, ◌-◌, ◌^◌, ◌<◌, ◌≤◌, ◌∷◌, ℕ, List, length, max, is_ok, OnErr, OnOk};
-ghost use Rattle.std.specs.Prelude.{if◌then◌else◌};
 ghost use Rattle.aig_io.specs.Output.{Put};
-ghost use Rattle.aig_io.specs.Transfer.{TookBeginning};
+ghost use Rattle.aig_io.specs.Devices.{CanFail, took, TookBeginning};
 ghost use Rattle.aig_io.specs.declared.block.TheConstants.{ROOM};
 ghost use Rattle.aig_text.specs.AsciiText.{ascii_text, comment_text, header_text, kind_letter, line_text};
 ghost use Rattle.aig_text.specs.AsciiText.{more_numbers_text, row_text, shortened, name_text, numbers_text};
@@ -294,11 +292,9 @@ fn put_text<W: Sink>(output: &mut Output<W>, circuit: &Circuit)
 /// Writes the canonical ASCII text of a circuit, in slices of at most 8,192 bytes. It takes no memory and fails
 /// only where the sink fails; the sink then took a beginning of the text, and is not called again.
 pub fn write_ascii<W: Sink>(circuit: &Checked, sink: &mut W) -> Result<(), WriteFault>
-    requires { W.failed sink.old < 2 ^ 64 - 1 }
-    ensures ok { OnOk result (Appends (W.taken sink.old) (W.taken sink.new) (ascii_text circuit.now)) }
-    ensures err { OnErr result (TookBeginning (W.taken sink.old) (W.taken sink.new) (ascii_text circuit.now)) }
-    ensures failed { W.failed sink.new ≡ W.failed sink.old + (if is_ok result then 0 else 1) }
-    ensures short { W.longest sink.new ≤ max (W.longest sink.old) ROOM }
+    requires { CanFail (W.past sink.old) }
+    ensures ok { OnOk result (W.past sink.new ≡ took (ascii_text circuit.now) (W.past sink.old)) }
+    ensures err { OnErr result (TookBeginning (ascii_text circuit.now) (W.past sink.old) (W.past sink.new)) }
 {
     let mut output = Output::new(sink);
     put_text(&mut output, circuit.circuit());

@@ -3,7 +3,6 @@ use Rattle.std.proofs.lemmas.Grind.{common_steps}
 use Rattle.std.proofs.Common.{◌≡◌, ◌+◌, ◌*◌, ◌<◌, ℕ, List, [], ◌++◌, false, ap, arith, subst, sym, ◌∙◌, rules}
 use Rattle.std.proofs.Common.{append-nil, append_assoc, length}
 use Rattle.std.specs.List.{All, flat_map, range_with_len}
-use Rattle.std.specs.Io.KnownBytes.{Appends}
 use Rattle.std.proofs.lemmas.List.Concat.{flat_map-append}
 use Rattle.std.proofs.lemmas.List.FromFn.{length-range_with_len}
 use Rattle.aig_circuit.specs.declared.circuit.Circuit.{Circuit}
@@ -46,11 +45,6 @@ module _ {W : Type 0} where
       → Put a b (flat_map text (range_with_len first n)) → Put b c (text (first + n))
       → Put a c (flat_map text (range_with_len first (n + 1)))
   variable_more text first n a b c p q = search (rules, range_more, flat_map-append, append-nil, put_twice)
-
-  -- An output of a text was finished, and the sink did not fail: it took the text.
-  pub all_sent : (o a b c : Out W) (text : List ℕ) → a ≡ o → o.held ≡ [] → Put a b text → Put b c [] → c.held ≡ []
-      → c.failed ≡ false → Appends o.taken c.taken text
-  all_sent o a b c text same empty put sent none good = grind (arith, common_steps, put_twice, append-nil)
 
 -- Whatever frame it is in, the unrolled circuit is the same.
 pub same_circuit : (f g : Frame) → g ≡ record f { frame = g.frame }

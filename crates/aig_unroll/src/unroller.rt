@@ -1,11 +1,9 @@
 //! The unrolled circuit, written frame by frame: it is never held. A circuit and its frames are dropped by name, since
 //! a proof goes through all that goes out of scope by itself.
-ghost use Rattle.std.specs.Io.KnownBytes.{Appends};
 ghost use Rattle.std.specs.Prelude.{◌≡◌, ◌+◌, ◌-◌, ◌^◌, ◌<◌, ◌≤◌, length, max, is_ok, IfErr, IfOk, OnErr, OnOk};
-ghost use Rattle.std.specs.Prelude.{if◌then◌else◌};
 ghost use Rattle.aig_circuit.specs.Wellformed.{IsWellFormed};
 ghost use Rattle.aig_io.specs.Output.{Put};
-ghost use Rattle.aig_io.specs.Transfer.{TookBeginning};
+ghost use Rattle.aig_io.specs.Devices.{CanFail, took, TookBeginning};
 ghost use Rattle.aig_io.specs.declared.block.TheConstants.{ROOM};
 ghost use Rattle.aig_text.specs.AsciiText.{ascii_text};
 ghost use Rattle.aig_binary.specs.BinaryText.{binary_text};
@@ -154,11 +152,9 @@ impl Unrolling {
     /// Writes the canonical ASCII text of the unrolled circuit, in slices of at most 8,192 bytes. It takes no memory
     /// and fails only where the sink fails; the sink then took a beginning of the text, and is not called again.
     pub fn write_ascii<W: Sink>(self, sink: &mut W) -> Result<(), WriteFault>
-        requires { W.failed sink.old < 2 ^ 64 - 1 }
-        ensures ok { OnOk result (Appends (W.taken sink.old) (W.taken sink.new) (ascii_text self)) }
-        ensures err { OnErr result (TookBeginning (W.taken sink.old) (W.taken sink.new) (ascii_text self)) }
-        ensures failed { W.failed sink.new ≡ W.failed sink.old + (if is_ok result then 0 else 1) }
-        ensures short { W.longest sink.new ≤ max (W.longest sink.old) ROOM }
+        requires { CanFail (W.past sink.old) }
+        ensures ok { OnOk result (W.past sink.new ≡ took (ascii_text self) (W.past sink.old)) }
+        ensures err { OnErr result (TookBeginning (ascii_text self) (W.past sink.old) (W.past sink.new)) }
     {
         let mut output = Output::new(sink);
         self.put_ascii(&mut output);
@@ -170,11 +166,9 @@ impl Unrolling {
     /// Writes the canonical binary text of the unrolled circuit, in slices of at most 8,192 bytes. It takes no memory
     /// and fails only where the sink fails; the sink then took a beginning of the text, and is not called again.
     pub fn write_binary<W: Sink>(self, sink: &mut W) -> Result<(), WriteFault>
-        requires { W.failed sink.old < 2 ^ 64 - 1 }
-        ensures ok { OnOk result (Appends (W.taken sink.old) (W.taken sink.new) (binary_text self)) }
-        ensures err { OnErr result (TookBeginning (W.taken sink.old) (W.taken sink.new) (binary_text self)) }
-        ensures failed { W.failed sink.new ≡ W.failed sink.old + (if is_ok result then 0 else 1) }
-        ensures short { W.longest sink.new ≤ max (W.longest sink.old) ROOM }
+        requires { CanFail (W.past sink.old) }
+        ensures ok { OnOk result (W.past sink.new ≡ took (binary_text self) (W.past sink.old)) }
+        ensures err { OnErr result (TookBeginning (binary_text self) (W.past sink.old) (W.past sink.new)) }
     {
         let mut output = Output::new(sink);
         self.put_binary(&mut output);

@@ -6,8 +6,8 @@ use Rattle.aig_engines.specs.Messages.{error_text}
 use Rattle.aig_engines.proofs.Lines.{line_of_a_file, reported_by}
 use Rattle.aig_engines.proofs.message.report_naming.Goals as goal
 
-pub returns-clause-reported : goal.returns-clause-reported
-returns-clause-reported g c =
+pub returns : goal.returns
+returns g c =
     let other : ¬ (at_fault c.args.fault.now ≡ Memory) =
     λ e. absurd (false≢true (sym c.if-is_want_of_memory.false ∙ c.is_want_of_memory.ensures.1 e)) in
     let reported =

@@ -3,8 +3,8 @@ use Rattle.aig_io.proofs.Puts.{put_twice}
 use Rattle.aig_engines.proofs.Lines.{reported_by}
 use Rattle.aig_engines.proofs.message.send_line.Goals as goal
 
-pub returns-clause-reported : goal.returns-clause-reported
-returns-clause-reported g c =
+pub returns : goal.returns
+returns g c =
     let reported =
     reported_by _ _ _ _ _ _ refl c.new-output.ensures refl refl
     (put_twice _ _ _ _ _ c.put.ensures.put (put_twice _ _ _ _ _ c.put-2.ensures.put c.put-3.ensures.put))

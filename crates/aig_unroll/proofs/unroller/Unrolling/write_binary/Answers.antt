@@ -1,6 +1,5 @@
 use Rattle.std.proofs.Common.{refl, rules}
-use Rattle.aig_io.proofs.Puts.{beginning_sent}
-use Rattle.aig_unroll.proofs.Written.{all_sent}
+use Rattle.aig_io.proofs.Puts.{all_sent, beginning_sent}
 use Rattle.aig_unroll.proofs.unroller.Unrolling.write_binary.Goals as goal
 
 pub returns-in_err-sent-clause-err : goal.returns-in_err-sent-clause-err
