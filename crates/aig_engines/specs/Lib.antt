@@ -1,7 +1,6 @@
 pub mod File
 pub mod Conversion
 pub mod Simulation
-pub mod WitnessAnswer
 pub mod Unrolling
 pub mod Blame
 pub mod Reading

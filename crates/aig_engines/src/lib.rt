@@ -15,9 +15,9 @@
 //! - `laws`: facts about the definitions alone, each the contract of a function with an empty body.
 //!
 //! Definitions (`specs/`); those that matter most are `IsConversionText`, `IsSimulationText`,
-//! `IsWitnessAnswer`, `IsUnrollingText` and `Headline`:
+//! `IsUnrollingText` and `Headline`:
 //! - `File`: which texts are files of which circuits, and what is wrong with a text that is none.
-//! - `Conversion`, `Simulation`, `WitnessAnswer`, `Unrolling`: which text is written.
+//! - `Conversion`, `Simulation`, `Unrolling`: which text is written.
 //! - `Reading`, `Outcome`, `WitnessOutcome`: what came of reading a source, and of an engine's work.
 //! - `Blame`, `Messages`: what an error puts at fault, and the line that reports it.
 //! - `Laws`: what the definitions say of one another.
@@ -41,4 +41,4 @@ pub use crate::message::{
     report_words,
 };
 pub use crate::unrolling::run_unroll;
-pub use crate::witness::run_witness;
+pub use crate::witness::{judge, run_witness};

@@ -3,13 +3,13 @@ ghost use Rattle.std.specs.Prelude.{◌≡◌, IfErr, IfOk, OnErr, OnOk, true};
 ghost use Rattle.aig_io.specs.Devices.{CanFail, took, TookBeginning};
 ghost use Rattle.aig_rows.specs.Messages.{message_text};
 ghost use Rattle.aig_command.specs.Answer.{IsWitnessAlone};
-ghost use Rattle.aig_engines.specs.WitnessAnswer.{answer_line};
-ghost use Rattle.aig_engines.specs.WitnessOutcome.{Answered, NotAnswered};
+ghost use Rattle.aig_witness.specs.Confirming.{Judged};
+ghost use Rattle.aig_engines.specs.WitnessOutcome.{answer_line, Answered, NotAnswered, NotAnsweredFor};
 
 use crate::fault::ToolFault;
 use crate::file::read_circuit;
 use aig_command::Sim;
-use aig_core::{Keep, Output, Sink, Source};
+use aig_core::{Checked, Keep, Output, Sink, Source};
 use aig_text::{Message, WriteFault};
 use aig_witness::{Verdict, confirm};
 use std::alloc::Global;
@@ -36,6 +36,29 @@ fn send_answer<W: Sink>(verdict: Verdict, sink: &mut W) -> Result<(), WriteFault
     Ok(sent?)
 }
 
+/// Judges a witness file for a circuit, and writes the verdict in a line. Nothing is sent before all of the file was
+/// judged. It fails if a device or an allocation fails, or at the first wrong line. Only an output that fails may have
+/// taken a beginning of the line.
+pub fn judge<R: Source, W: Sink>(
+    alloc: Global,
+    found: Checked,
+    witness: &mut R,
+    output: &mut W,
+) -> Result<Verdict, ToolFault>
+    requires witness { CanFail (R.past witness.old) }
+    requires output { CanFail (W.past output.old) }
+    ensures ok { IfOk result (λ verdict. Judged found verdict (R.past witness.old) (R.past witness.new)
+        × (W.past output.new ≡ took (answer_line verdict) (W.past output.old))) }
+    ensures err { IfErr result (λ fault. NotAnsweredFor found fault (R.past witness.old) (R.past witness.new)
+        (W.past output.old) (W.past output.new)) }
+{
+    let judged = confirm(alloc, &found, witness);
+    drop(found);
+    let verdict = judged?;
+    send_answer(verdict, output)?;
+    Ok(verdict)
+}
+
 /// Reads the model to its end, then judges the witness file, and writes the verdict in a line. Nothing is fetched of
 /// the witness file before the whole model was read and found right, and nothing is sent before all of the witness file
 /// was judged. It fails if a device or an allocation fails, if the model is no file of a circuit, or at the first wrong
@@ -58,9 +81,5 @@ pub fn run_witness<M: Source, R: Source, W: Sink>(
         (R.past witness.old) (R.past witness.new) (W.past output.old) (W.past output.new)) }
 {
     let found = read_circuit(alloc, model, request.max_var, Keep::Order)?;
-    let judged = confirm(alloc, &found, witness);
-    drop(found);
-    let verdict = judged?;
-    send_answer(verdict, output)?;
-    Ok(verdict)
+    judge(alloc, found, witness, output)
 }

@@ -1,7 +1,6 @@
 pub use Rattle.aig_engines.specs.File
 pub use Rattle.aig_engines.specs.Conversion
 pub use Rattle.aig_engines.specs.Simulation
-pub use Rattle.aig_engines.specs.WitnessAnswer
 pub use Rattle.aig_engines.specs.Unrolling
 pub use Rattle.aig_engines.specs.Blame
 pub use Rattle.aig_engines.specs.Reading

@@ -1,6 +1,6 @@
 -- What came of a simulation, or of judging a witness file.
 use Rattle.std.specs.Prelude.{◌≡◌, ◌⊎◌, ℕ, List, [], Bool, Option, None, Some, false, true}
-use Rattle.aig_io.specs.Devices.{Past, TookBeginning, took, unused}
+use Rattle.aig_io.specs.Devices.{Past, took, unused}
 use Rattle.aig_io.specs.Files.{Files, Left}
 use Rattle.aig_files.specs.Named.{IsShown, named}
 use Rattle.aig_circuit.specs.declared.circuit.Circuit.{Circuit}
@@ -10,13 +10,13 @@ use Rattle.aig_step.specs.declared.fault.SimFault.{SimFault}
 use Rattle.aig_batch.specs.Batched.{NotBatched}
 use Rattle.aig_step.specs.Outcome.{NotSimulated, Simulated}
 use Rattle.aig_witness.specs.declared.verdict.Verdict.{Verdict}
-use Rattle.aig_witness.specs.Confirming.{Judged, NotJudged}
+use Rattle.aig_witness.specs.Confirming.{Judged}
 use Rattle.aig_engines.specs.declared.fault.ToolFault.{ToolFault}
 use Rattle.aig_engines.specs.declared.fault.ToolFault.TheVariants as faults
 use Rattle.aig_engines.specs.File.{IsFileOf}
 use Rattle.aig_engines.specs.Reading.{HasRead, IsUnreadable, NotRead}
 use Rattle.aig_engines.specs.Simulation.{columns_of}
-use Rattle.aig_engines.specs.WitnessAnswer.{answer_line}
+use Rattle.aig_engines.specs.WitnessOutcome.{NotAnsweredFor, OfSteps, answer_line}
 use Rattle.aig_tools.specs.Named.{HasReadFrom, NotReadFrom, World}
 
 -- what an error of a simulation says, which runs as a batch or step by step
@@ -25,10 +25,6 @@ NotSimulatedAs true c request fault stimulus stimulus_now sink sink_now =
     NotBatched c (columns_of request) fault stimulus stimulus_now sink sink_now
 NotSimulatedAs false c request fault stimulus stimulus_now sink sink_now =
     NotSimulated c (columns_of request) fault stimulus stimulus_now sink sink_now
-
--- a fault of the steps, of which this holds
-abbrev pub OfSteps : (SimFault → Type 0) → ToolFault → Type 0
-OfSteps Holds fault = (sim : SimFault) × (fault ≡ faults.Sim sim) × Holds sim
 
 -- the model's circuit was found, and the trace of the stimulus was written
 abbrev pub Traced : Sim → (model model_now stimulus stimulus_now sink sink_now : Past) → Type 0
@@ -52,17 +48,10 @@ DoneAs request c None stimulus stimulus_now sink sink_now =
 DoneAs request c (Some verdict) stimulus stimulus_now sink sink_now =
     (request.witness ≡ true) × Judged c verdict stimulus stimulus_now × (sink_now ≡ took (answer_line verdict) sink)
 
--- what a fault says where a file was to be judged: there is no verdict, or its line was not written whole
-abbrev pub NotJudgedAs : Circuit → ToolFault → (stimulus stimulus_now sink sink_now : Past) → Type 0
-NotJudgedAs c fault stimulus stimulus_now sink sink_now =
-    (OfSteps (λ sim. NotJudged c sim stimulus stimulus_now) fault × (sink_now ≡ sink))
-    ⊎ ((fault ≡ faults.Sink) × ((verdict : Verdict) × Judged c verdict stimulus stimulus_now
-    × TookBeginning (answer_line verdict) sink sink_now))
-
 -- what a fault says
 abbrev pub NotDoneAs : Sim → Circuit → ToolFault → (stimulus stimulus_now sink sink_now : Past) → Type 0
 NotDoneAs request c fault stimulus stimulus_now sink sink_now =
-    ((request.witness ≡ true) × NotJudgedAs c fault stimulus stimulus_now sink sink_now)
+    ((request.witness ≡ true) × NotAnsweredFor c fault stimulus stimulus_now sink sink_now)
     ⊎ ((request.witness ≡ false)
     × OfSteps (λ sim. NotSimulatedAs request.batch c request sim stimulus stimulus_now sink sink_now) fault)
 
