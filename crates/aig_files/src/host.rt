@@ -1,5 +1,5 @@
 //! The files of the system. Each method makes one call of the system, and then notes it with its answer.
-ghost use Rattle.std.specs.Prelude.{◌≡◌, ◌<◌, ◌≤◌, [], length, IfOk};
+ghost use Rattle.std.specs.Prelude.{◌≡◌, ◌<◌, ◌≤◌, [], length, IfOk, is_some};
 ghost use Rattle.aig_files.specs.Notes.{files_of};
 
 use crate::access::FileAccess;
@@ -37,6 +37,7 @@ pub struct HostFiles<'a, T: Files> {
     files: &'a T,
     file: Option<T::File>,
     log: Record,
+    ghost closed: { is_some file ≡ is_some (files_of log.notes).current },
 }
 
 impl<'a, T: Files> HostFiles<'a, T> {
@@ -54,7 +55,8 @@ impl<'a, T: Files> HostFiles<'a, T> {
 
 /// Reads from the file that is open.
 fn read<F: Read>(file: &mut Option<F>, into: &mut [u8]) -> io::Result<usize>
-    ensures { IfOk result (λ n. n ≤ length into.new) }
+    ensures within { IfOk result (λ n. n ≤ length into.new) }
+    ensures stays { is_some file.new ≡ is_some file.old }
 {
     match file {
         Some(file) => file.read(into),
@@ -64,7 +66,8 @@ fn read<F: Read>(file: &mut Option<F>, into: &mut [u8]) -> io::Result<usize>
 
 /// Writes to the file that is open, and answers how many bytes; none is a failure.
 fn write<F: Write>(file: &mut Option<F>, bytes: &[u8]) -> usize
-    ensures { result ≤ length bytes.now }
+    ensures within { result ≤ length bytes.now }
+    ensures stays { is_some file.new ≡ is_some file.old }
 {
     match file {
         Some(file) => file.write(bytes).unwrap_or(0),
