@@ -101,17 +101,13 @@ impl<A: FileAccess> Sink for NamedSink<'_, A> {
     ghost past = { λ s. s };
 
     fn send(&mut self, bytes: &[u8]) -> Result<usize, DeviceFault> {
-        match write_named(self.access, self.name, self.stage, bytes) {
-            Ok(count) => {
-                self.stage = Stage::Open;
-                Ok(count)
-            }
-            Err(fault) => {
-                self.stage = Stage::Failed;
-                self.failures += 1;
-                Err(fault)
-            }
+        let answer = write_named(self.access, self.name, self.stage, bytes);
+        self.stage = Stage::Open;
+        if answer.is_err() {
+            self.stage = Stage::Failed;
+            self.failures += 1;
         }
+        answer
     }
 
     fn failures(&self) -> u64 {

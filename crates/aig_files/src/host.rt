@@ -1,5 +1,5 @@
 //! The files of the system. Each method makes one call of the system, and then notes it with its answer.
-ghost use Rattle.std.specs.Prelude.{◌≡◌, ◌<◌, ◌≤◌, [], length, IfOk};
+ghost use Rattle.std.specs.Prelude.{◌≡◌, ◌<◌, ◌≤◌, [], length, IfOk, is_some};
 ghost use Rattle.aig_files.specs.Notes.{files_of};
 
 use crate::access::FileAccess;
@@ -37,6 +37,7 @@ pub struct HostFiles<'a, T: Files> {
     files: &'a T,
     file: Option<T::File>,
     log: Record,
+    ghost closed: { is_some file ≡ is_some (files_of log.notes).current },
 }
 
 impl<'a, T: Files> HostFiles<'a, T> {
@@ -54,7 +55,8 @@ impl<'a, T: Files> HostFiles<'a, T> {
 
 /// Reads from the file that is open.
 fn read<F: Read>(file: &mut Option<F>, into: &mut [u8]) -> io::Result<usize>
-    ensures { IfOk result (λ n. n ≤ length into.new) }
+    ensures within { IfOk result (λ n. n ≤ length into.new) }
+    ensures stays { is_some file.new ≡ is_some file.old }
 {
     match file {
         Some(file) => file.read(into),
@@ -62,29 +64,24 @@ fn read<F: Read>(file: &mut Option<F>, into: &mut [u8]) -> io::Result<usize>
     }
 }
 
-/// Writes to the file that is open. A write of no bytes is a failure.
-fn write<F: Write>(file: &mut Option<F>, bytes: &[u8]) -> io::Result<usize>
-    ensures within { IfOk result (λ n. n ≤ length bytes.now) }
-    ensures moves { IfOk result (λ n. 0 < n) }
+/// Writes to the file that is open, and answers how many bytes; none is a failure.
+fn write<F: Write>(file: &mut Option<F>, bytes: &[u8]) -> usize
+    ensures within { result ≤ length bytes.now }
+    ensures stays { is_some file.new ≡ is_some file.old }
 {
-    let Some(file) = file else {
-        return Err(io::Error::from(io::ErrorKind::NotFound));
-    };
-    match file.write(bytes)? {
-        0 => Err(io::Error::from(io::ErrorKind::WriteZero)),
-        count => Ok(count),
+    match file {
+        Some(file) => file.write(bytes).unwrap_or(0),
+        None => 0,
     }
 }
 
 /// Waits until the system keeps what was written. Closing a file of std loses its error, and this reports it. A pipe or
 /// a device keeps nothing, and would refuse this.
 fn keep<F: OpenFile>(file: &Option<F>) -> io::Result<()> {
-    if let Some(file) = file {
-        if file.metadata()?.is_file() {
-            file.sync_data()?;
-        }
+    match file {
+        Some(file) if file.metadata()?.is_file() => file.sync_data(),
+        _ => Ok(()),
     }
-    Ok(())
 }
 
 /// Where the program is started with its standard input closed, the first file that it opens gets that one's number.
@@ -93,17 +90,13 @@ impl<T: Files> FileAccess for HostFiles<'_, T> {
     ghost files = { λ h. files_of h.log.notes };
 
     fn open(&mut self, name: &str) -> Result<(), DeviceFault> {
-        match fs::open(self.files, name) {
-            Ok(file) => {
-                self.file = Some(file);
-                self.log.note(&[OPENED], name.as_bytes());
-                Ok(())
-            }
-            Err(_) => {
-                self.log.note(&[NOT_OPENED], name.as_bytes());
-                Err(DeviceFault)
-            }
-        }
+        let Ok(file) = fs::open(self.files, name) else {
+            self.log.note(&[NOT_OPENED], name.as_bytes());
+            return Err(DeviceFault);
+        };
+        self.file = Some(file);
+        self.log.note(&[OPENED], name.as_bytes());
+        Ok(())
     }
 
     fn read(&mut self, into: &mut [u8]) -> Result<usize, DeviceFault> {
@@ -131,45 +124,34 @@ impl<T: Files> FileAccess for HostFiles<'_, T> {
     }
 
     fn create(&mut self, name: &str) -> Result<(), DeviceFault> {
-        match fs::create(self.files, name) {
-            Ok(file) => {
-                self.file = Some(file);
-                self.log.note(&[MADE], name.as_bytes());
-                Ok(())
-            }
-            Err(_) => {
-                self.log.note(&[NOT_MADE], name.as_bytes());
-                Err(DeviceFault)
-            }
-        }
+        let Ok(file) = fs::create(self.files, name) else {
+            self.log.note(&[NOT_MADE], name.as_bytes());
+            return Err(DeviceFault);
+        };
+        self.file = Some(file);
+        self.log.note(&[MADE], name.as_bytes());
+        Ok(())
     }
 
     fn write(&mut self, bytes: &[u8]) -> Result<usize, DeviceFault> {
-        match write(&mut self.file, bytes) {
-            Ok(count) => {
-                self.log.note(&[MOVED], &bytes[..count]);
-                Ok(count)
-            }
-            Err(_) => {
-                self.file = None;
-                self.log.note(&[WRITE_FAILED], &[]);
-                Err(DeviceFault)
-            }
+        let count = write(&mut self.file, bytes);
+        if count == 0 {
+            self.file = None;
+            self.log.note(&[WRITE_FAILED], &[]);
+            return Err(DeviceFault);
         }
+        self.log.note(&[MOVED], &bytes[..count]);
+        Ok(count)
     }
 
     fn close(&mut self) -> Result<(), DeviceFault> {
         let kept = keep(&self.file);
         self.file = None;
-        match kept {
-            Ok(()) => {
-                self.log.note(&[CLOSED], &[]);
-                Ok(())
-            }
-            Err(_) => {
-                self.log.note(&[NOT_CLOSED], &[]);
-                Err(DeviceFault)
-            }
+        if kept.is_err() {
+            self.log.note(&[NOT_CLOSED], &[]);
+            return Err(DeviceFault);
         }
+        self.log.note(&[CLOSED], &[]);
+        Ok(())
     }
 }
