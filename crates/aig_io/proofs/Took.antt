@@ -1,12 +1,12 @@
 -- Bytes that move one part after another.
 use Rattle.std.proofs.Common.{◌≡◌, ℕ, zero, suc, ◌+◌, ◌-◌, List, ◌++◌, Ok, take, drop, take-add, length, length-drop}
-use Rattle.std.proofs.Common.{arith, ap, refl, ◌∙◌, ◌<◌, ◌≤◌, Option, append_assoc}
+use Rattle.std.proofs.Common.{arith, ap, refl, sym, ◌∙◌, ◌<◌, ◌≤◌, Option, [], append_assoc, append-nil}
 use Rattle.std.proofs.lemmas.List.{drop-drop, take_all}
 use native.Mathlib.Numerals.{unary_clauses}
 use Rattle.aig_io.specs.declared.device.DeviceFault.{DeviceFault}
 use Rattle.aig_io.specs.Memory.{one_call_later, source_after}
 use Rattle.std.proofs.lemmas.Grind.{common_steps}
-use Rattle.aig_io.specs.Devices.{GaveSome, Past, after_fetch, no_file, took}
+use Rattle.aig_io.specs.Devices.{GaveSome, Past, after_fetch, gave_all, no_file, took}
 
 -- the slice from n on is all that is left
 rest_is : (bs : List ℕ) (n : ℕ) → take (length bs - n) (drop n bs) ≡ drop n bs
@@ -15,6 +15,10 @@ rest_is bs n = take_all (length bs - n) (drop n bs) (omega (arith, length-drop n
 pub took_twice : (a b c : Past) (xs ys : List ℕ) → b ≡ took xs a → c ≡ took ys b → c ≡ took (xs ++ ys) a
 took_twice a b c xs ys p q =
     q ∙ ap (took ys) p ∙ ap (λ (zs : List ℕ). record a { bytes = zs }) (append_assoc a.bytes xs ys)
+
+-- it took nothing yet
+pub took_none : (a : Past) → a ≡ took [] a
+took_none a = ap (λ (bytes : List ℕ). record a { bytes = bytes }) (sym (append-nil a.bytes))
 
 -- the first n bytes, and then k of the slice from n on
 pub took_more : (a b c : Past) (bs : List ℕ) (n k : ℕ) → b ≡ took (take n bs) a
@@ -40,9 +44,16 @@ pub fetched : (bs into : List ℕ) (at n ends failures piece : ℕ) (before late
 fetched bs into at n ends failures piece before later counted some front =
     rw (gave_next into n (record { origin = no_file; bytes = take at bs; ends = ends; failures = failures }) some, front, take-add, drop-drop, counted) refl
 
+-- in reading, where memory was refused then
+pub gave_all_some : (a b : Past) (xs : List ℕ) → b ≡ gave_all xs a → GaveSome 0 a b
+gave_all_some a b xs p = record { bytes = xs; ends = 1; gave = simp unary_clauses (simp unary_clauses at p) }
+
 pub gave_more : (a b c : Past) (xs ys : List ℕ) → b ≡ took xs a → c ≡ took ys b → GaveSome 0 a c
 gave_more a b c xs ys p q = record {
   bytes = xs ++ ys;
   ends = 0;
   gave = simp unary_clauses (took_twice a b c xs ys p q);
 }
+
+pub gave_none : (a : Past) → GaveSome 0 a a
+gave_none a = gave_more a a a [] [] (took_none a) (took_none a)

@@ -3,7 +3,7 @@ use Rattle.std.proofs.Common.{◌≡◌, ◌+◌, ◌<◌, ◌++◌, ◌∙◌, 
 use Rattle.std.proofs.Common.{subst, sym, take}
 use Rattle.aig_io.specs.declared.device.DeviceFault.{DeviceFault}
 use Rattle.aig_io.specs.Devices.{Past, after_fetch, gave, took}
-use Rattle.aig_io.proofs.Took.{gave_next, took_twice}
+use Rattle.aig_io.proofs.Took.{gave_next, took_none, took_twice}
 use Rattle.aig_lines.specs.Fed.{FedSource, Feeder, IsFed, IsUnfed, ToldSource}
 use Rattle.aig_lines.specs.Feeding.{Feeding, Turn, ended, ended_if, fed, feeding}
 use Rattle.aig_lines.proofs.Feeds.{fed_nothing, flipped}
@@ -24,7 +24,7 @@ module _ {T S : Type 0} (step : S → List ℕ → Turn S) (IsAt : T → S → T
       → Reached source source f t
   reached_none f t source unfed as_long at = record {
     bytes = [];
-    past = ap (λ (bytes : List ℕ). record source { bytes = bytes }) (sym (append-nil source.bytes));
+    past = took_none source;
     stands = subst (λ (n : ℕ). IsFed IsAt f t (feeding n s)) as_long (fed_nothing IsAt f t s unfed at);
   }
 

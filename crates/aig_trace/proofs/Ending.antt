@@ -1,92 +1,87 @@
 -- What came of a source, and what the sink took for it.
 use Rattle.std.proofs.Common.{◌≡◌, ◌++◌, ℕ, List, [], Bool, true, false, not, Option, Some, None, Result, Ok, Err}
-use Rattle.std.proofs.Common.{IfErr, OnOk, refl, sym, ap, ap₂, subst, ◌∙◌, append-nil, arith, if◌then◌else◌}
-use Rattle.std.specs.Io.KnownBytes.{Appends, Consumes}
+use Rattle.std.proofs.Common.{IfErr, OnOk, refl, sym, ap, ap₂, subst, ◌∙◌, append-nil, if◌then◌else◌}
 use Rattle.aig_circuit.specs.declared.circuit.Circuit.{Circuit}
+use Rattle.aig_io.specs.Devices.{Past, TookBeginning, failed_once, gave, took}
 use Rattle.aig_io.specs.Output.{Out, Put}
-use Rattle.aig_io.specs.Transfer.{TookBeginning}
 use Rattle.aig_lines.specs.Fed.{Feeder}
 use Rattle.aig_meaning.specs.Meaning.{MeansTheSame}
 use Rattle.aig_step.specs.declared.fault.SimFault.{SimFault}
 use Rattle.aig_step.specs.declared.fault.SimFault.TheVariants.{OutOfMemory, BadStimulus, BadWitness, ReadFailed}
 use Rattle.aig_step.specs.declared.fault.SimFault.TheVariants.{WriteFailed}
 use Rattle.aig_step.specs.declared.trace.Columns.{Columns}
-use Rattle.aig_step.specs.Outcome.{Came, NotSimulated, Simulated, first_bad_line}
-use Rattle.aig_step.specs.TraceText.{IsTraceText}
+use Rattle.aig_step.specs.Outcome.{NotSimulated, Simulated, Streamed, first_bad_line}
 use Rattle.aig_trace.specs.Parts.Streaming.{Ends, IsTraced, Simulates, ended_so}
 use Rattle.aig_trace.proofs.SameTexts.{same_meaning_same_text}
 
 -- A text was put into an output that held nothing, and nothing of it is left there.
 module _ {W : Type 0} (a b : Out W) (text : List ℕ) (put : Put a b text) (unheld : a.held ≡ []) where
   -- the sink failed on the way
-  pub begun : a.failed ≡ false → b.failed ≡ true → TookBeginning a.taken b.taken text
+  begun : a.failed ≡ false → b.failed ≡ true → TookBeginning text a.past b.past
   begun fine broke =
-      subst (λ (held : List ℕ). TookBeginning a.taken b.taken (held ++ text)) unheld (put.begun fine broke).1
+      subst (λ (held : List ℕ). TookBeginning (held ++ text) a.past b.past) unheld (put.begun fine broke)
 
   -- all was sent
-  pub sent : b.held ≡ [] → b.failed ≡ false → Appends a.taken b.taken text
+  pub sent : b.held ≡ [] → b.failed ≡ false → b.past ≡ took text a.past
   sent empty well =
-      let went = (put.went well).2 in
+      let went = (put.went well).1 in
       let is : text ≡ went.sent =
       sym (ap (λ (held : List ℕ). held ++ text) unheld) ∙ went.order
       ∙ ap (λ (held : List ℕ). went.sent ++ held) empty ∙ append-nil went.sent in
-      subst (Appends a.taken b.taken) (sym is) went.took
-
-module _ {W : Type 0} (c : Circuit) (columns : Columns) (bytes : List ℕ) (over : Bool) (from to : Out W) (f : Feeder)
-    (t : IsTraced c columns bytes over from to f) where
-  bad_is : (refused : Bool) → f.refused ≡ refused
-      → first_bad_line c bytes over ≡ (if refused then Some f.number else None)
-  bad_is refused is = t.bad ∙ ap (λ (b : Bool). if b then Some f.number else None) is
+      subst (λ (bytes : List ℕ). b.past ≡ took bytes a.past) (sym is) went.past
 
 module _ {W : Type 0} (c : Circuit) (columns : Columns) (bytes : List ℕ) (over : Bool) (from to : Out W) (f : Feeder)
     (t : IsTraced c columns bytes over from to f) (unheld : from.held ≡ []) (fine : from.failed ≡ false)
-    (empty : to.held ≡ []) (coming left : Option (List ℕ)) (came : Came coming left bytes over) where
+    (empty : to.held ≡ []) (source source_now : Past) (came : source_now ≡ gave bytes over source) where
+  all_sent : (refused : Bool) → f.refused ≡ refused → to.failed ≡ false
+      → Streamed c columns over (if refused then Some f.number else None) source source_now
+      (λ text. to.past ≡ took text from.past)
+  all_sent refused is well = record {
+    bytes = bytes;
+    came = record {
+      past = came;
+      first = t.bad ∙ ap (λ (b : Bool). if b then Some f.number else None) is;
+    };
+    traced = record {
+      text = t.traced.text;
+      is_text = t.traced.is_text;
+      done = sent from to t.traced.text t.traced.done unheld empty well;
+    };
+  }
+
+  sent_in_part : to.failed ≡ true
+      → Streamed c columns over (first_bad_line c bytes over) source source_now
+      (λ text. TookBeginning text from.past to.past)
+  sent_in_part broke = record {
+    bytes = bytes;
+    came = record { past = came; first = refl };
+    traced = record {
+      text = t.traced.text;
+      is_text = t.traced.is_text;
+      done = begun from to t.traced.text t.traced.done unheld fine broke;
+    };
+  }
+
   ends_by : (failed refused : Bool) → to.failed ≡ failed → f.refused ≡ refused
       → (failed ≡ false → refused ≡ false → over ≡ true)
-      → Ends c columns (ended_so failed (not refused) f.number) coming left from to
+      → Ends c columns (ended_so failed (not refused) f.number) source source_now from to
   ends_by true refused broke is whole = record {
-    is = record { bytes = bytes; ended = over; text = t.text; came = came; is_text = t.is_text; took = begun from to t.text t.put unheld fine broke };
-    failures = (t.put.begun fine broke).0;
-    same = t.put.same;
-    short = t.put.short;
+    is = (over, first_bad_line c bytes over, sent_in_part broke);
+    same = t.traced.done.same;
   }
-  ends_by false true well is whole = record {
-    is = record {
-      bytes = bytes;
-      ended = over;
-      text = t.text;
-      came = came;
-      bad = bad_is c columns bytes over from to f t true is;
-      is_text = t.is_text;
-      took = sent from to t.text t.put unheld empty well;
-    };
-    failures = let same = (t.put.went well).1 in omega arith;
-    same = t.put.same;
-    short = t.put.short;
+  ends_by false true well is whole = record { is = (over, all_sent true is well); same = t.traced.done.same }
+  ends_by false false well is whole = record {
+    is = subst (λ (b : Bool). Streamed c columns b None source source_now (λ text. to.past ≡ took text from.past))
+        (whole refl refl) (all_sent false is well);
+    same = t.traced.done.same;
   }
-  ends_by false false well is whole =
-      let all = whole refl refl in
-      record {
-        is = record {
-          bytes = bytes;
-          text = t.text;
-          gave = record { gave = came.gave; end = came.end all };
-          none_bad = subst (λ (b : Bool). first_bad_line c bytes b ≡ None) all
-              (bad_is c columns bytes over from to f t false is);
-          is_text = subst (λ (b : Bool). IsTraceText c columns bytes b t.text) all t.is_text;
-          took = sent from to t.text t.put unheld empty well;
-        };
-        failures = let same = (t.put.went well).1 in omega arith;
-        same = t.put.same;
-        short = t.put.short;
-      }
 
   -- lines were taken, and the text for them was to be sent
   pub ends : (r : Result (Unit {0}) SimFault)
       → r ≡ ended_so to.failed (not f.refused) f.number → (r ≡ Ok tt → over ≡ true)
-      → Ends c columns r coming left from to
+      → Ends c columns r source source_now from to
   ends r is whole =
-      subst (λ (s : Result (Unit {0}) SimFault). Ends c columns s coming left from to) (sym is)
+      subst (λ (s : Result (Unit {0}) SimFault). Ends c columns s source source_now from to) (sym is)
       (ends_by to.failed f.refused refl refl (λ well good. whole (is ∙ ap₂
       (λ (failed refused : Bool). ended_so failed (not refused) f.number) well good)))
 
@@ -99,74 +94,46 @@ ended_well false false number x is = (refl, refl)
 
 -- the source failed
 pub interrupted : {W : Type 0} (c : Circuit) (columns : Columns) (bytes : List ℕ) (from to : Out W) (f : Feeder)
-    (coming left : Option (List ℕ)) → IsTraced c columns bytes false from to f → from.held ≡ []
-    → from.failed ≡ false → to.held ≡ [] → to.failed ≡ false → f.refused ≡ false → Consumes coming left bytes
-    → Ends c columns (Err ReadFailed) coming left from to
-interrupted c columns bytes from to f coming left t unheld fine empty well going gave =
-    record {
-      is = record {
-        bytes = bytes;
-        text = t.text;
-        gave = gave;
-        none_bad = bad_is c columns bytes false from to f t false going;
-        is_text = t.is_text;
-        took = sent from to t.text t.put unheld empty well;
-      };
-      failures = let same = (t.put.went well).1 in omega arith;
-      same = t.put.same;
-      short = t.put.short;
-    }
+    (source source_now : Past) → IsTraced c columns bytes false from to f → from.held ≡ [] → from.failed ≡ false
+    → to.held ≡ [] → to.failed ≡ false → f.refused ≡ false → source_now ≡ failed_once (took bytes source)
+    → Ends c columns (Err ReadFailed) source source_now from to
+interrupted c columns bytes from to f source source_now t unheld fine empty well going came = record {
+  is = all_sent c columns bytes false from to f t unheld fine empty (failed_once source) source_now came false going
+      well;
+  same = t.traced.done.same;
+}
 
 -- what is said of a circuit that means the same
-module _ (c d : Circuit) (means : MeansTheSame c d) (columns : Columns) (coming left taken filled : Option (List ℕ))
-  where
-    bad_too : (bytes : List ℕ) (over : Bool) (o : Option ℕ) → first_bad_line d bytes over ≡ o
-        → first_bad_line c bytes over ≡ o
-    bad_too bytes over o is = sym (same_meaning_same_text c d means columns bytes over).0 ∙ is
+module _ (c d : Circuit) (means : MeansTheSame c d) (columns : Columns) where
+  streamed_too : (ended : Bool) (bad : Option ℕ) (source source_now : Past) (IsDone : List ℕ → Type 0)
+      → Streamed d columns ended bad source source_now IsDone → Streamed c columns ended bad source source_now IsDone
+  streamed_too ended bad source source_now IsDone s =
+      let same = same_meaning_same_text c d means columns s.bytes ended in
+      record {
+        bytes = s.bytes;
+        came = record { past = s.came.past; first = sym same.0 ∙ s.came.first };
+        traced = record {
+          text = s.traced.text;
+          is_text = (same.1 s.traced.text).1 s.traced.is_text;
+          done = s.traced.done;
+        };
+      }
 
-    text_too : (bytes : List ℕ) (over : Bool) (text : List ℕ) → IsTraceText d columns bytes over text
-        → IsTraceText c columns bytes over text
-    text_too bytes over text is = ((same_meaning_same_text c d means columns bytes over).1 text).1 is
-
-    pub simulated_too : (r : Result (Unit {0}) SimFault) → Simulates d columns r coming left taken filled
-        → OnOk r (Simulated c columns coming left taken filled)
-    simulated_too (Ok x) s = record {
-      bytes = s.bytes;
-      text = s.text;
-      gave = s.gave;
-      none_bad = bad_too s.bytes true None s.none_bad;
-      is_text = text_too s.bytes true s.text s.is_text;
-      took = s.took;
-    }
+  module _ (source source_now sink sink_now : Past) where
+    pub simulated_too : (r : Result (Unit {0}) SimFault) → Simulates d columns r source source_now sink sink_now
+        → OnOk r (Simulated c columns source source_now sink sink_now)
+    simulated_too (Ok x) s = streamed_too true None source source_now (λ text. sink_now ≡ took text sink) s
     simulated_too (Err e) s = tt
 
-    pub not_simulated_too : (r : Result (Unit {0}) SimFault) → Simulates d columns r coming left taken filled
-        → IfErr r (λ e. NotSimulated c columns e coming left taken filled)
+    pub not_simulated_too : (r : Result (Unit {0}) SimFault)
+        → Simulates d columns r source source_now sink sink_now
+        → IfErr r (λ e. NotSimulated c columns e source source_now sink sink_now)
     not_simulated_too (Ok x) s = tt
     not_simulated_too (Err OutOfMemory) s = s
-    not_simulated_too (Err (BadStimulus number)) s = record {
-      bytes = s.bytes;
-      ended = s.ended;
-      text = s.text;
-      came = s.came;
-      bad = bad_too s.bytes s.ended (Some number) s.bad;
-      is_text = text_too s.bytes s.ended s.text s.is_text;
-      took = s.took;
-    }
+    not_simulated_too (Err (BadStimulus number)) (ended, s) =
+        (ended, streamed_too ended (Some number) source source_now (λ text. sink_now ≡ took text sink) s)
     not_simulated_too (Err (BadWitness number)) s = s
-    not_simulated_too (Err ReadFailed) s = record {
-      bytes = s.bytes;
-      text = s.text;
-      gave = s.gave;
-      none_bad = bad_too s.bytes false None s.none_bad;
-      is_text = text_too s.bytes false s.text s.is_text;
-      took = s.took;
-    }
-    not_simulated_too (Err WriteFailed) s = record {
-      bytes = s.bytes;
-      ended = s.ended;
-      text = s.text;
-      came = s.came;
-      is_text = text_too s.bytes s.ended s.text s.is_text;
-      took = s.took;
-    }
+    not_simulated_too (Err ReadFailed) s =
+        streamed_too false None (failed_once source) source_now (λ text. sink_now ≡ took text sink) s
+    not_simulated_too (Err WriteFailed) (ended, bad, s) =
+        (ended, bad, streamed_too ended bad source source_now (λ text. TookBeginning text sink sink_now) s)

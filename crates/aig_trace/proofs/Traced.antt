@@ -2,6 +2,7 @@
 use Rattle.std.proofs.Common.{◌≡◌, ◌++◌, ◌&&◌, ℕ, List, [], Bool, true, false, not, Option, Some, None, length}
 use Rattle.std.proofs.Common.{refl, sym, ap, subst, ◌∙◌, append-nil, codes, if◌then◌else◌}
 use Rattle.aig_circuit.specs.declared.circuit.Circuit.{Circuit}
+use Rattle.aig_io.specs.Devices.{Past}
 use Rattle.aig_io.specs.Output.{Out, Put}
 use Rattle.aig_io.proofs.Puts.{put_nothing, put_twice}
 use Rattle.aig_lines.specs.Fed.{Feeder, IsFed, IsUnfed}
@@ -117,12 +118,14 @@ traced task bytes over f t to stands put =
     let at = said.taker in
     let end = closing over (first_bad_line task.circuit bytes over) t.tracing.has_step in
     record {
-      text = at.text ++ end;
-      is_text = goes_is_text task.circuit task.columns (point_of t.tracing)
-          (stimulus (length task.circuit.inputs) bytes over).entries at.text (reset_state_is_first task.circuit)
-          at.goes bytes over refl;
+      traced = record {
+        text = at.text ++ end;
+        is_text = goes_is_text task.circuit task.columns (point_of t.tracing)
+            (stimulus (length task.circuit.inputs) bytes over).entries at.text (reset_state_is_first task.circuit)
+            at.goes bytes over refl;
+        done = put_twice task.from t.output to at.text end at.put put;
+      };
       bad = said.bad;
-      put = put_twice task.from t.output to at.text end at.put put;
     }
 
 ended_run : (refused : Bool) (number : ℕ) (has_step : Bool)
@@ -165,8 +168,8 @@ put_all {W} r bytes f g h t u v a b fresh same is took ends close =
     }
 
 -- the text for the whole lines among the bytes that came
-pub traced_so_far : {W : Type 0} (task : Task W) (f : Feeder) (t : LineTracing W) (coming left : Option (List ℕ))
+pub traced_so_far : {W : Type 0} (task : Task W) (f : Feeder) (t : LineTracing W) (source now : Past)
     (r : Reached say_line HasTraced (longest_entry (length task.circuit.inputs))
-    (nothing_said task (length task.circuit.inputs)) coming left f t)
+    (nothing_said task (length task.circuit.inputs)) source now f t)
     → IsTraced task.circuit task.columns r.bytes false task.from t.output f
-traced_so_far task f t coming left r = traced task r.bytes false f t t.output r.stands (put_nothing t.output)
+traced_so_far task f t source now r = traced task r.bytes false f t t.output r.stands (put_nothing t.output)

@@ -1,14 +1,12 @@
 //! A circuit over a stimulus text.
-ghost use Rattle.std.specs.Prelude.{◌≡◌, ◌≢◌, ◌+◌, ◌-◌, ◌^◌, ◌<◌, ◌≤◌, [], ℕ, List, Err, IfErr, OnOk};
-ghost use Rattle.std.specs.Prelude.{false, length, max, not, true};
-ghost use Rattle.aig_io.specs.declared.block.TheConstants.{ROOM};
+ghost use Rattle.std.specs.Prelude.{◌≡◌, ◌+◌, ◌-◌, ◌^◌, ◌<◌, ◌≤◌, [], ℕ, List, IfErr, OnOk, false, length, not, true};
+ghost use Rattle.aig_io.specs.Devices.{CanFail};
 ghost use Rattle.aig_lines.specs.Fed.{IsFed, IsUnfed};
 ghost use Rattle.aig_lines.specs.Feeding.{Feeding, fed};
-ghost use Rattle.aig_step.specs.declared.fault.SimFault.TheVariants.{OutOfMemory};
-ghost use Rattle.aig_step.specs.Outcome.{NotSimulated, Simulated, sink_failures, source_failures};
+ghost use Rattle.aig_step.specs.Outcome.{NotSimulated, Simulated};
 ghost use Rattle.aig_trace.specs.Parts.Progress.{begin_of};
 ghost use Rattle.aig_trace.specs.Parts.Saying.{Saying, before_lines, longest_entry, say_line};
-ghost use Rattle.aig_trace.specs.Parts.Streaming.{Ends, IsOfLines, IsTraced, ended_so};
+ghost use Rattle.aig_trace.specs.Parts.Streaming.{Ends, IsTraced, ended_so};
 ghost use Rattle.aig_trace.specs.Parts.Tracing.{HasTraced, Task, point_of};
 
 use crate::line_tracer::LineTracer;
@@ -21,8 +19,7 @@ use std::alloc::Global;
 
 /// How lines end that were taken: the text for them was not sent, or the line of this number is bad, or neither.
 fn ended(failed: bool, good: bool, number: u64) -> Result<(), SimFault>
-    ensures so { result ≡ ended_so failed good number }
-    ensures kind { IfErr result IsOfLines }
+    ensures { result ≡ ended_so failed good number }
 {
     if failed {
         return Err(SimFault::WriteFailed);
@@ -45,7 +42,6 @@ fn trace_chunk<W: Sink>(
     ensures number { feeder.new.number ≤ feeder.old.number + length chunk.now }
     ensures empty { lines.new.output.held ≡ [] }
     ensures ended { result ≡ ended_so lines.new.output.failed (not feeder.new.refused) feeder.new.number }
-    ensures kind { IfErr result IsOfLines }
 {
     let good = feeder.feed(lines, chunk);
     let sent = lines.flush();
@@ -60,7 +56,6 @@ fn trace_end<W: Sink>(feeder: &mut LineFeeder, lines: &mut LineTracer<W>) -> Res
         → IsTraced task.circuit task.columns bytes true task.from lines.new.output feeder.new }
     ensures empty { lines.new.output.held ≡ [] }
     ensures ended { result ≡ ended_so lines.new.output.failed (not feeder.new.refused) feeder.new.number }
-    ensures kind { IfErr result IsOfLines }
 {
     let good = feeder.end(lines);
     if good {
@@ -81,12 +76,9 @@ fn trace_all<R: Source, W: Sink>(
     requires begun { point_of lines.old.tracing ≡ begin_of lines.old.tracing.circuit }
     requires empty { lines.old.output.held ≡ [] }
     requires fine { lines.old.output.failed ≡ false }
-    requires source { R.failed source.old < 2 ^ 64 - 1 }
-    ensures ends { Ends lines.old.tracing.circuit lines.old.tracing.columns result
-        (R.coming source.old) (R.coming source.new) lines.old.output lines.new.output }
-    ensures kind { IfErr result (λ e. e ≢ OutOfMemory) }
-    ensures ok_count { OnOk result (R.failed source.new ≡ R.failed source.old) }
-    ensures count { IfErr result (λ e. R.failed source.new ≡ R.failed source.old + source_failures e) }
+    requires source { CanFail (R.past source.old) }
+    ensures { Ends lines.old.tracing.circuit lines.old.tracing.columns result
+        (R.past source.old) (R.past source.new) lines.old.output lines.new.output }
 {
     let mut block = [0u8; ROOM];
     loop {
@@ -112,18 +104,12 @@ pub fn simulate<R: Source, W: Sink>(
     source: &mut R,
     sink: &mut W,
 ) -> Result<(), SimFault>
-    requires source { R.failed source.old < 2 ^ 64 - 1 }
-    requires sink { W.failed sink.old < 2 ^ 64 - 1 }
-    ensures ok { OnOk result (Simulated checked.now columns (R.coming source.old) (R.coming source.new)
-        (W.taken sink.old) (W.taken sink.new)) }
+    requires source { CanFail (R.past source.old) }
+    requires sink { CanFail (W.past sink.old) }
+    ensures ok { OnOk result (Simulated checked.now columns
+        (R.past source.old) (R.past source.new) (W.past sink.old) (W.past sink.new)) }
     ensures err { IfErr result (λ error. NotSimulated checked.now columns error
-        (R.coming source.old) (R.coming source.new) (W.taken sink.old) (W.taken sink.new)) }
-    ensures untouched { result ≡ Err OutOfMemory → (source.new ≡ source.old) × (sink.new ≡ sink.old) }
-    ensures ok_counts { OnOk result ((R.failed source.new ≡ R.failed source.old)
-        × (W.failed sink.new ≡ W.failed sink.old)) }
-    ensures source_count { IfErr result (λ error. R.failed source.new ≡ R.failed source.old + source_failures error) }
-    ensures sink_count { IfErr result (λ error. W.failed sink.new ≡ W.failed sink.old + sink_failures error) }
-    ensures short { W.longest sink.new ≤ max (W.longest sink.old) ROOM }
+        (R.past source.old) (R.past source.new) (W.past sink.old) (W.past sink.new)) }
 {
     let reader = Reader::new(alloc, checked, columns)?;
     let (mut feeder, mut lines) = reader.start(Output::new(sink));

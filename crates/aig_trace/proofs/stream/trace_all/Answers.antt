@@ -1,6 +1,7 @@
-use Rattle.std.proofs.Common.{◌∙◌, false, refl, sym, true, arith}
+use Rattle.std.proofs.Common.{◌∙◌, ap, false, refl, sym, true, arith}
 use Rattle.std.proofs.lemmas.Result.{err_from_is_err_and}
-use Rattle.aig_lines.proofs.Sources.{reached_end, reached_kept, reached_more, reached_none}
+use Rattle.aig_io.specs.Devices.{failed_once}
+use Rattle.aig_lines.proofs.Sources.{at_end, reached_more, reached_none}
 use Rattle.aig_trace.specs.Parts.Saying.{say_line}
 use Rattle.aig_trace.specs.Parts.Tracing.{HasTraced, task_of}
 use Rattle.aig_trace.proofs.Ending.{ended_well, ends, interrupted}
@@ -15,46 +16,42 @@ loop-count-init g c = record {
   empty = c.requires.empty;
   fine = c.requires.fine;
   number = λ low. omega (arith, c.requires.unfed.number, low);
-  failed = refl;
 }
 
-pub returns-in_default-clause-ends : goal.returns-in_default-clause-ends
-returns-in_default-clause-ends g c =
+pub returns-in_default : goal.returns-in_default
+returns-in_default g c =
     let i = c.loop-count.invariant in
-    let now = reached_kept say_line HasTraced _ _ _ _ _ _ _ i.reached c.in_default.ensures.bytes in
-    interrupted _ _ now.bytes _ _ c.loop-count.feeder _ _ (traced_so_far (task_of c.args.lines.now) _ _ _ _ now)
-    c.requires.empty c.requires.fine i.empty i.fine i.going now.gave
+    interrupted _ _ i.reached.bytes _ _ c.loop-count.feeder _ _
+    (traced_so_far (task_of c.args.lines.now) _ _ _ _ i.reached) c.requires.empty c.requires.fine i.empty i.fine i.going
+    (c.in_default.ensures.past ∙ ap failed_once i.reached.past)
 
-pub returns-then-count-eq0-clause-ends : goal.returns-then-count-eq0-clause-ends
-returns-then-count-eq0-clause-ends g c =
-    let bytes = c.in-Ok.ensures.bytes in
-    let gave = rw c.if-count-eq0.true at bytes.0 in
-    let all = reached_end say_line HasTraced _ _ _ _ _ _ _ c.loop-count.invariant.reached gave in
-    ends _ _ all.bytes true _ _ c.trace_end.new.feeder
-    (c.trace_end.ensures.traced (task_of c.args.lines.now) all.bytes all.stands) c.requires.empty c.requires.fine
-    c.trace_end.ensures.empty _ _ (record { gave = all.gave; end = λ _. bytes.1 c.if-count-eq0.true (omega arith) })
-    c.trace_end.result c.trace_end.ensures.ended (λ _. refl)
+pub returns-then-count-eq0 : goal.returns-then-count-eq0
+returns-then-count-eq0 g c =
+    let r = c.loop-count.invariant.reached in
+    let gave = rw c.if-count-eq0.true at c.in-Ok.ensures.past in
+    ends _ _ r.bytes true _ _ c.trace_end.new.feeder
+    (c.trace_end.ensures.traced (task_of c.args.lines.now) r.bytes r.stands) c.requires.empty c.requires.fine
+    c.trace_end.ensures.empty _ _ (gave ∙ ap at_end r.past) c.trace_end.result c.trace_end.ensures.ended (λ _. refl)
 
-pub returns-in_err-trace_chunk-clause-ends : goal.returns-in_err-trace_chunk-clause-ends
-returns-in_err-trace_chunk-clause-ends g c =
-    let gave = rw (← c.split_at.ensures.front) at c.in-Ok.ensures.bytes.0 in
+pub returns-in_err-trace_chunk : goal.returns-in_err-trace_chunk
+returns-in_err-trace_chunk g c =
     let h = err_from_is_err_and c.from_residual.result c.from_residual.ensures.1 in
-    let now = reached_more say_line HasTraced _ _ _ _ _ _ _ c.loop-count.invariant.reached c.split_at.result.0.now _ _
-    gave c.trace_chunk.ensures.fed in
+    let now = reached_more say_line HasTraced _ _ _ _ _ _ _ _ _ _ _ _ c.loop-count.invariant.reached
+    c.in-Ok.ensures.past (omega arith) c.split_at.ensures.front c.trace_chunk.ensures.fed in
     rw (h.1, h.2)
     (ends _ _ now.bytes false _ _ c.trace_chunk.new.feeder (traced_so_far (task_of c.args.lines.now) _ _ _ _ now)
-    c.requires.empty c.requires.fine c.trace_chunk.ensures.empty _ _ (record { gave = now.gave; end = λ never. cc }) _
+    c.requires.empty c.requires.fine c.trace_chunk.ensures.empty _ _ now.past _
     (sym c.in_err-trace_chunk.was ∙ c.trace_chunk.ensures.ended) (λ ok. cc))
 
 pub loop-count-preserved : goal.loop-count-preserved
 loop-count-preserved g c =
-    let gave = rw (← c.split_at.ensures.front) at c.in-Ok.ensures.bytes.0 in
+    let well = ended_well _ _ _ _ (sym c.trace_chunk.ensures.ended ∙ c.in_ok-trace_chunk.was) in
     record {
-      reached = reached_more say_line HasTraced _ _ _ _ _ _ _ c.loop-count.invariant.reached
-          c.split_at.result.0.now _ _ gave c.trace_chunk.ensures.fed;
-      going = (ended_well _ _ _ _ (sym c.trace_chunk.ensures.ended ∙ c.in_ok-trace_chunk.was)).1;
+      reached = reached_more say_line HasTraced _ _ _ _ _ _ _ _ _ _ _ _ c.loop-count.invariant.reached
+          c.in-Ok.ensures.past (omega arith) c.split_at.ensures.front c.trace_chunk.ensures.fed;
+      going = well.1;
       empty = c.trace_chunk.ensures.empty;
-      fine = (ended_well _ _ _ _ (sym c.trace_chunk.ensures.ended ∙ c.in_ok-trace_chunk.was)).0;
+      fine = well.0;
       number = λ _.
           omega (
             arith,
@@ -63,5 +60,4 @@ loop-count-preserved g c =
             c.trace_chunk.ensures.number,
             c.split_at.ensures.front_len,
           );
-      failed = omega (arith, c.in-Ok.ensures.failed, c.loop-count.invariant.failed);
     }

@@ -10,12 +10,11 @@ invariant-loop-count g l =
     let inputs = length l.fn.lines.tracing.circuit.inputs in
     record {
       reached : Reached say_line HasTraced (longest_entry inputs) (nothing_said (task_of l.fn.lines) inputs)
-          (r.coming l.fn.source) (r.coming l.source) l.feeder l.lines;
+          (r.past l.fn.source) (r.past l.source) l.feeder l.lines;
       going : l.feeder.refused ≡ false;
       empty : l.lines.output.held ≡ [];
       fine : l.lines.output.failed ≡ false;
       number : r.bound l.source ≤ 2 ^ 62 → l.feeder.number + r.bound l.source ≤ 2 ^ 62 + 1;
-      failed : r.failed l.source ≡ r.failed l.fn.source;
     }
 
 abbrev pub decreases-loop-count : goal.decreases-loop-count
