@@ -2,7 +2,7 @@
 use Rattle.std.proofs.Common.{rules}
 use Rattle.std.proofs.Common.{◌≡◌, ◌==◌, ℕ, List, [], ◌∷◌, Bool, true, false, Option, Some, None, codes}
 use Rattle.std.proofs.Common.{length, replicate}
-use Rattle.std.proofs.Common.{refl, sym, ap, ◌∙◌, bytes_eq, option_map, option_and_then, if◌then◌else◌}
+use Rattle.std.proofs.Common.{refl, sym, ap, ◌∙◌, arith, bytes_eq, option_map, option_and_then, if◌then◌else◌}
 use Rattle.std.proofs.lemmas.Bool.{eqb-true}
 use Rattle.std.proofs.lemmas.List.{length-map}
 use Rattle.std.proofs.lemmas.Slice.Eq.{bytes_eq-Decides}
@@ -15,7 +15,7 @@ use Rattle.aig_circuit.specs.Wellformed.{IsWellFormed}
 use Rattle.std.proofs.lemmas.Simd.{length-replicate}
 use Rattle.aig_step.specs.Stimulus.{Step, Stop, entry_in, value_of, values_of}
 use Rattle.aig_step.specs.TraceText.{character_of, values_text}
-use Rattle.aig_step.specs.Parts.Lines.{line_size, row_read, row_size, vector_in}
+use Rattle.aig_step.specs.Parts.Lines.{line_size, row_read, vector_in}
 
 -- a value that a character stands for has that character
 by_tests : (p q r : Bool) (b : ℕ) (v : Val) → (p ≡ true → b ≡ 48) → (q ≡ true → b ≡ 49) → (r ≡ true → b ≡ 120)
@@ -93,18 +93,18 @@ pub vector_none : (inputs : ℕ) (text : List ℕ) → vector_in inputs text ≡
     → entry_in inputs text ≡ (if bytes_eq text (codes ".") then Some Stop else None)
 vector_none inputs text is = says_none (bytes_eq text (codes ".")) (length text == inputs) (values_of text) is
 
--- how long the line of a row is
-pub row_long : (c : Circuit) (row : Row) → IsRow c row → row_size row ≡ line_size c
-row_long c row (a, read) = search (rules, length-map)
+-- circuits with a row in common have lines of the same length
+same_lengths : (c d : Circuit) (row : Row) → IsRow c row → IsRow d row → line_size c ≡ line_size d
+same_lengths c d row (a, of_c) (b, of_d) = grind (arith, length-map)
 
--- circuits that mean the same have lines of the same length
+-- and so have circuits that mean the same
 pub same_size : (c d : Circuit) → IsWellFormed c → MeansTheSame c d → line_size c ≡ line_size d
 same_size c d formed means =
     let states = length c.latches in
     let inputs = length c.inputs in
     let there = one_row c (replicate states X) (replicate inputs X) formed (length-replicate states X)
     (length-replicate inputs X) in
-    sym (row_long c there.0 there.3) ∙ row_long d there.0 ((means.rows there.0).0 there.3)
+    same_lengths c d there.0 there.3 ((means.rows there.0).0 there.3)
 
 -- the values of a step show a row
 pub row_is_read : (c : Circuit) (state given : List Val) (a : ℕ → Val) → IsStepAssignment c state given a

@@ -78,7 +78,7 @@ pub(crate) fn show_codes(codes: &[Code], shown: &mut [Val])
 }
 
 /// What is known of a latch before the first step.
-pub fn reset_value(reset: Reset) -> Val
+fn reset_value(reset: Reset) -> Val
     ensures { result ≡ value_after_reset reset }
 {
     match reset {

@@ -34,7 +34,7 @@ mod stimulus;
 mod trace;
 
 pub use crate::cells::{Code, Table};
-pub use crate::evaluate::{Pair, reset_value};
+pub use crate::evaluate::Pair;
 pub use crate::fault::SimFault;
 pub use crate::machine::Machine;
 pub use crate::simulator::{Row, Simulator};

@@ -49,28 +49,21 @@ fn make_room(alloc: Global, parts: &Circuit) -> Result<(Table, Vec<Code>), OutOf
 }
 
 impl Stepper {
-    /// It runs what the machine runs.
-    fn with_room(alloc: Global, machine: Machine) -> Result<Self, OutOfMemory>
-        ensures { IfOk result (λ s. s.circuit ≡ machine) }
-    {
-        let Ok((values, state)) = make_room(alloc, machine.parts()) else {
-            drop(machine);
-            return Err(OutOfMemory);
-        };
-        Ok(Stepper {
-            machine,
-            values,
-            state,
-        })
-    }
-
     /// It runs the circuit, and is in the reset state.
     pub fn new(alloc: Global, checked: &Checked) -> Result<Self, OutOfMemory>
         ensures same { IfOk result (λ s. MeansTheSame checked.now s.circuit) }
         ensures reset { IfOk result (λ s. s.state ≡ reset_state s.circuit) }
     {
         let machine = Machine::new(alloc, checked)?;
-        let mut stepper = Stepper::with_room(alloc, machine)?;
+        let Ok((values, state)) = make_room(alloc, machine.parts()) else {
+            drop(machine);
+            return Err(OutOfMemory);
+        };
+        let mut stepper = Stepper {
+            machine,
+            values,
+            state,
+        };
         stepper.reset();
         Ok(stepper)
     }

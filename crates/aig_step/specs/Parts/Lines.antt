@@ -20,12 +20,6 @@ row_read c state inputs a = record {
   constraints = map (literal_value a) c.constraints;
 }
 
--- how long the line of a row may be
-abbrev pub row_size : Row → ℕ
-row_size row =
-    length row.state + length row.inputs + length row.outputs + length row.next + length row.bad
-    + length row.constraints + 6
-
 -- how many values the rows of a circuit have, and what stands between them
 abbrev pub line_size : Circuit → ℕ
 line_size c =

@@ -30,8 +30,7 @@ returns-clause-assigned c = λ given table long was.
     let own = rw (← c.self.view_is) at long in
     let count : c.len.result ≡ length given = c.len.ensures ∙ ap length c.parts-parts.ensures.inputs ∙ sym own in
     let begun = rw (count, c.deref.ensures.value, rw (← c.self.view_is) at was) at c.put_codes.ensures in
-    let room : length table ≡ 1 + m.max_var =
-    search (rules, placed_length, length-set) in
+    let room : length table ≡ 1 + m.max_var = search (rules, placed_length, length-set) in
     let first : length c.put_codes.new.self - length pairs ≡ first_gate m =
     omega (arith, can.size, ap length c.put_codes.ensures, placed_length) in
     rw (← c.self.view_is)
