@@ -125,7 +125,7 @@ impl<'a> Line for ShownLine<'a> {
     ghost is_whole = { λ l _. (l.lane < 256) × ((l.step + 1) * shown_size l.shown.now < 2 ^ 64)
         × (end_of l.shown.now (l.step + 1) ≤ length (text_in l.lane l.sheet.now)) };
 
-    ghost size = { λ l. shown_size l.shown.now + length l.given.now };
+    ghost size = { λ l _. shown_size l.shown.now + length l.given.now };
 
     ghost text = { λ l _. shown_text l.shown.now l.step l.given.now (text_in l.lane l.sheet.now) };
 

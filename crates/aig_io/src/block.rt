@@ -100,7 +100,7 @@ impl Block {
     #[inline(always)]
     pub(crate) fn fill_line<L: Line>(&mut self, line: &L, state: &mut L::State)
         requires whole { L.is_whole line.now state.old }
-        requires room { length self.old + L.size line.now ≤ ROOM }
+        requires room { length self.old + L.size line.now state.old ≤ ROOM }
         ensures added { self.new ≡ self.old ++ L.text line.now state.old }
         ensures state { L.leads line.now state.old state.new }
     {

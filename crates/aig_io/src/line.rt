@@ -10,7 +10,7 @@ pub trait Line {
     ghost is_whole: { Self → Self.State → Type 0 };
 
     /// How long it may be.
-    ghost size: { Self → ℕ };
+    ghost size: { Self → Self.State → ℕ };
 
     /// Its bytes.
     ghost text: { Self → Self.State → List ℕ };
@@ -21,8 +21,8 @@ pub trait Line {
     /// Writes it from a place on, and answers where it ends.
     fn write(&self, state: &mut Self::State, line: &mut [u8], at: usize) -> usize
         requires whole { is_whole self.now state.old }
-        requires room { at + size self.now ≤ length line.old }
-        ensures within { result ≤ length line.new }
+        requires room { at + size self.now state.old ≤ length line.old }
+        ensures within { result ≤ at + size self.now state.old }
         ensures text { take result line.new ≡ take at line.old ++ text self.now state.old }
         ensures state { leads self.now state.old state.new };
 }

@@ -213,7 +213,7 @@ impl<'a, W: Sink> Output<'a, W> {
     #[inline(never)]
     fn put_long_line<L: Line>(&mut self, room: &mut [u8], line: &L, state: &mut L::State)
         requires whole { L.is_whole line.now state.old }
-        requires room { L.size line.now ≤ length room.old }
+        requires room { L.size line.now state.old ≤ length room.old }
         ensures put { Put self.old self.new (L.text line.now state.old) }
         ensures state { L.leads line.now state.old state.new }
     {
@@ -227,7 +227,7 @@ impl<'a, W: Sink> Output<'a, W> {
     #[inline(always)]
     pub fn put_line<L: Line>(&mut self, room: &mut [u8], line: &L, state: &mut L::State)
         requires whole { L.is_whole line.now state.old }
-        requires room { L.size line.now ≤ length room.old }
+        requires room { L.size line.now state.old ≤ length room.old }
         ensures put { Put self.old self.new (L.text line.now state.old) }
         ensures state { L.leads line.now state.old state.new }
     {

@@ -11,7 +11,7 @@ parted xs i d low =
     sym (take-append-drop i xs) ∙ ap (λ ys. take i xs ++ ys) (rw add-one (drop-cons xs i d low))
 
 -- the columns of a line, each behind those before it
-pub columns_joined : (state inputs outputs next properties : List ℕ)
-    → (((((state ++ 32 ∷ inputs) ++ 32 ∷ outputs) ++ 32 ∷ []) ++ next) ++ properties) ++ 10 ∷ []
-    ≡ state ++ 32 ∷ (inputs ++ 32 ∷ (outputs ++ 32 ∷ (next ++ (properties ++ 10 ∷ []))))
-columns_joined state inputs outputs next properties = search (rules, append_assoc)
+pub columns_joined : (before state inputs outputs next properties : List ℕ)
+    → ((((((before ++ state) ++ 32 ∷ inputs) ++ 32 ∷ outputs) ++ 32 ∷ []) ++ next) ++ properties) ++ 10 ∷ []
+    ≡ before ++ (state ++ 32 ∷ (inputs ++ 32 ∷ (outputs ++ 32 ∷ (next ++ (properties ++ 10 ∷ [])))))
+columns_joined before state inputs outputs next properties = search (rules, append_assoc)

@@ -1,6 +1,6 @@
 -- The characters of a step's inputs, and how long its line is.
 use Rattle.std.proofs.Common.{rules}
-use Rattle.std.proofs.Common.{◌≡◌, ◌==◌, ◌≤◌, ℕ, List, [], ◌∷◌, Bool, true, false, Option, Some, None, codes}
+use Rattle.std.proofs.Common.{◌≡◌, ◌==◌, ℕ, List, [], ◌∷◌, Bool, true, false, Option, Some, None, codes}
 use Rattle.std.proofs.Common.{length, replicate}
 use Rattle.std.proofs.Common.{refl, sym, ap, ◌∙◌, arith, bytes_eq, option_map, option_and_then, if◌then◌else◌}
 use Rattle.std.proofs.lemmas.Bool.{eqb-true}
@@ -15,7 +15,7 @@ use Rattle.aig_circuit.specs.Wellformed.{IsWellFormed}
 use Rattle.std.proofs.lemmas.Simd.{length-replicate}
 use Rattle.aig_step.specs.Stimulus.{Step, Stop, entry_in, value_of, values_of}
 use Rattle.aig_step.specs.TraceText.{character_of, values_text}
-use Rattle.aig_step.specs.Parts.Lines.{HasLineRoom, line_size, row_read, row_size, vector_in}
+use Rattle.aig_step.specs.Parts.Lines.{line_size, row_read, vector_in}
 
 -- a value that a character stands for has that character
 by_tests : (p q r : Bool) (b : ℕ) (v : Val) → (p ≡ true → b ≡ 48) → (q ≡ true → b ≡ 49) → (r ≡ true → b ≡ 120)
@@ -93,56 +93,23 @@ pub vector_none : (inputs : ℕ) (text : List ℕ) → vector_in inputs text ≡
     → entry_in inputs text ≡ (if bytes_eq text (codes ".") then Some Stop else None)
 vector_none inputs text is = says_none (bytes_eq text (codes ".")) (length text == inputs) (values_of text) is
 
--- how long the line of a row is
-pub row_long : (c : Circuit) (row : Row) → IsRow c row → row_size row ≡ line_size c
-row_long c row (a, read) = search (rules, length-map)
+-- circuits with a row in common have lines of the same length
+same_lengths : (c d : Circuit) (row : Row) → IsRow c row → IsRow d row → line_size c ≡ line_size d
+same_lengths c d row (a, of_c) (b, of_d) = grind (arith, length-map)
 
--- that of a circuit that means the same
-pub row_fits : (c d : Circuit) (row : Row) → MeansTheSame c d → IsRow d row → row_size row ≡ line_size c
-row_fits c d row means is = row_long c row ((means.rows row).1 is)
-
--- circuits that mean the same have lines of the same length
+-- and so have circuits that mean the same
 pub same_size : (c d : Circuit) → IsWellFormed c → MeansTheSame c d → line_size c ≡ line_size d
 same_size c d formed means =
     let states = length c.latches in
     let inputs = length c.inputs in
     let there = one_row c (replicate states X) (replicate inputs X) formed (length-replicate states X)
     (length-replicate inputs X) in
-    sym (row_long c there.0 there.3) ∙ row_long d there.0 ((means.rows there.0).0 there.3)
+    same_lengths c d there.0 there.3 ((means.rows there.0).0 there.3)
 
 -- the values of a step show a row
 pub row_is_read : (c : Circuit) (state given : List Val) (a : ℕ → Val) → IsStepAssignment c state given a
     → IsRow c (row_read c state given a)
 row_is_read c state given a is = search rules
-
--- Two circuits show the same, so their rows and lines are alike.
-pub record ShowsTheSame (c d : Circuit) : Type 0 where
-  pub inputs : d.inputs ≡ c.inputs
-  pub latches : d.latches ≡ c.latches
-  pub outputs : d.outputs ≡ c.outputs
-  pub bad : d.bad ≡ c.bad
-  pub constraints : d.constraints ≡ c.constraints
-
-pub same_read : (c d : Circuit) (state given : List Val) (a : ℕ → Val) → ShowsTheSame c d
-    → row_read d state given a ≡ row_read c state given a
-same_read c d state given a same = rw (same.latches, same.outputs, same.bad, same.constraints) refl
-
--- room for each row is room for the line of this one
-pub line_fits : (c d : Circuit) (room : ℕ) (state given : List Val) (a : ℕ → Val) → IsStepAssignment c state given a
-    → HasLineRoom c room → ShowsTheSame c d → line_size d ≤ room
-line_fits c d room state given a assigned fits same =
-    let row = row_read c state given a in
-    let is = row_is_read c state given a assigned in
-    omega (
-      arith,
-      fits row is,
-      row_long c row is,
-      ap length same.inputs,
-      ap length same.latches,
-      ap length same.outputs,
-      ap length same.bad,
-      ap length same.constraints,
-    )
 
 first_says : (v : Val) (vs : List Val) → values_of (values_text vs) ≡ Some vs
     → values_of (character_of v ∷ values_text vs) ≡ Some (v ∷ vs)

@@ -85,7 +85,7 @@ static STOOD_FOR: [[u8; 2]; 16] = [
 impl Code {
     /// The byte of a value.
     #[inline(always)]
-    pub fn of(value: Val) -> Code
+    pub(crate) fn of(value: Val) -> Code
         ensures { result ≡ value }
     {
         match value {
@@ -185,7 +185,7 @@ fn put(codes: &mut [u8], variable: usize, value: Code)
 
 impl Table {
     /// A table for so many variables.
-    pub fn new(alloc: Global, variables: usize) -> Result<Self, AllocError>
+    pub(crate) fn new(alloc: Global, variables: usize) -> Result<Self, AllocError>
         requires { variables < 2 ^ 62 }
         ensures { IfOk result (λ t. length t ≡ variables) }
     {

@@ -57,7 +57,7 @@ pub(crate) fn show(literals: &[Lit], values: &Table, shown: &mut [Val])
 }
 
 /// Writes the values of the latches' next literals.
-pub fn show_next(latches: &[Latch], values: &Table, next: &mut [Code])
+pub(crate) fn show_next(latches: &[Latch], values: &Table, next: &mut [Code])
     requires room { length next.old ≡ length latches.now }
     requires below { All (λ (l : LatchRecord). IsLiteralBelow (length values.now) l.next) latches.now }
     ensures { next.new ≡ map (literal_value (read_from values.now)) (map (λ (l : LatchRecord). l.next) latches.now) }
@@ -78,7 +78,7 @@ pub(crate) fn show_codes(codes: &[Code], shown: &mut [Val])
 }
 
 /// What is known of a latch before the first step.
-pub fn reset_value(reset: Reset) -> Val
+fn reset_value(reset: Reset) -> Val
     ensures { result ≡ value_after_reset reset }
 {
     match reset {
@@ -89,7 +89,7 @@ pub fn reset_value(reset: Reset) -> Val
 }
 
 /// Writes the state by the resets.
-pub fn put_reset_state(latches: &[Latch], state: &mut [Code])
+pub(crate) fn put_reset_state(latches: &[Latch], state: &mut [Code])
     requires { length state.old ≡ length latches.now }
     ensures { state.new ≡ map (λ (l : LatchRecord). value_after_reset l.reset) latches.now }
 {

@@ -2,7 +2,7 @@
 //! shows a step.
 //!
 //! Others call `Simulator` for single steps. The crates of the simulator above this one call
-//! `Stepper`, `Machine`, `Table` and `write_row`.
+//! `Stepper`, `Machine`, `Table` and `RowLine`.
 //!
 //! Modules:
 //! - `cells`: a table of values as bytes, each with its negation behind it.
@@ -34,10 +34,10 @@ mod stimulus;
 mod trace;
 
 pub use crate::cells::{Code, Table};
-pub use crate::evaluate::{Pair, put_reset_state, reset_value, show_next};
+pub use crate::evaluate::Pair;
 pub use crate::fault::SimFault;
 pub use crate::machine::Machine;
 pub use crate::simulator::{Row, Simulator};
 pub use crate::stepper::Stepper;
 pub use crate::stimulus::is_stop;
-pub use crate::trace::{Columns, write_row, write_text};
+pub use crate::trace::{Columns, RowLine, write_text};

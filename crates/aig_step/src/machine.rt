@@ -1,16 +1,11 @@
 //! A circuit in binary order that is kept to be run.
-ghost use Rattle.std.specs.Prelude.{◌≡◌, ◌+◌, ◌≤◌, List, None, Some, false, length, slice_set, true, IfOk};
-ghost use Rattle.aig_circuit.specs.declared.value.Val.{Val as Value};
-ghost use Rattle.aig_circuit.specs.declared.value.Val.TheVariants.{Zero};
-ghost use Rattle.aig_meaning.specs.Meaning.{IsStepAssignment, MeansTheSame};
-ghost use Rattle.aig_step.specs.Parts.Lines.{vector_in};
+ghost use Rattle.std.specs.Prelude.{◌≡◌, ◌+◌, ◌≤◌, length, IfOk};
+ghost use Rattle.aig_meaning.specs.Meaning.{MeansTheSame};
 ghost use Rattle.aig_step.specs.Parts.Machines.{CanRun, ShowsBelow, circuit_of, parts_of};
-ghost use Rattle.aig_step.specs.Parts.Tables.{placed, read_from};
 
-use crate::cells::{Code, Table};
-use crate::evaluate::{Pair, pairs_of, put_values};
+use crate::evaluate::{Pair, pairs_of};
 use aig_checked::{Checked, Ordered};
-use aig_circuit::{Circuit, Justice, Listing, OutOfMemory, Symbols, Val};
+use aig_circuit::{Circuit, Justice, Listing, OutOfMemory, Symbols};
 use aig_image::binary_image;
 use std::alloc::Global;
 use std::marker::Model;
@@ -92,64 +87,11 @@ impl Machine {
         &self.parts
     }
 
-    /// Fills the table with the values of a step, where it has those of the constant and of the inputs.
-    #[inline(always)]
-    fn evaluate(&self, state: &[Code], values: &mut Table)
-        requires each_latch { length state.now ≡ length self.now.latches }
-        requires room { length values.old ≡ 1 + self.now.max_var }
-        ensures assigned { (given table : List Value) → length given ≡ length self.now.inputs
-            → values.old ≡ placed 1 given (slice_set table 0 Zero)
-            → IsStepAssignment self.now state.now given (read_from values.new) }
-        ensures room { length values.new ≡ length values.old }
-    {
-        // That there are not too many inputs to count one more is known by this read.
-        let _largest = self.parts.max_var;
-        let pairs = self.pairs.as_slice();
-        values.put_codes(1 + self.parts.inputs.len(), state);
-        values.evaluate(pairs);
-    }
-
-    /// Fills the table with the values of a step.
-    pub(crate) fn assign(&self, given: &[Val], state: &[Code], values: &mut Table)
-        requires each_input { length given.now ≡ length self.now.inputs }
-        requires each_latch { length state.now ≡ length self.now.latches }
-        requires room { length values.old ≡ 1 + self.now.max_var }
-        ensures assigned { IsStepAssignment self.now state.now given.now (read_from values.new) }
-        ensures room { length values.new ≡ length values.old }
-    {
-        // That the table has room for the inputs is known by this read.
-        let _parts = &self.parts;
-        values.put(0, Val::Zero);
-        put_values(1, given, values);
-        self.evaluate(state, values);
-    }
-
     /// The operands of its gates.
     pub fn pairs(&self) -> &[Pair]
         ensures runs { CanRun self.now result.now }
         ensures is { circuit_of self.now result.now ≡ self.now }
     {
         &self.pairs
-    }
-
-    /// Fills the table with the values of a step whose inputs this text says, and answers whether it says inputs.
-    #[inline(always)]
-    pub fn assign_text(&self, text: &[u8], state: &[Code], values: &mut Table) -> bool
-        requires each_latch { length state.now ≡ length self.now.latches }
-        requires room { length values.old ≡ 1 + self.now.max_var }
-        ensures good { result ≡ true → (given : List Value) × (vector_in (length self.now.inputs) text.now ≡ Some given)
-            × IsStepAssignment self.now state.now given (read_from values.new) }
-        ensures bad { result ≡ false → vector_in (length self.now.inputs) text.now ≡ None }
-        ensures room { length values.new ≡ length values.old }
-    {
-        if text.len() != self.parts.inputs.len() {
-            return false;
-        }
-        values.put(0, Val::Zero);
-        if !values.place_text(1, text) {
-            return false;
-        }
-        self.evaluate(state, values);
-        true
     }
 }

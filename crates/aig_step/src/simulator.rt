@@ -141,7 +141,7 @@ impl Simulator {
     {
         show_codes(self.stepper.state(), &mut self.shown.before);
         self.stepper.evaluate(given);
-        self.stepper.go_on();
+        self.stepper.enter_next_state();
         show_codes(self.stepper.state(), &mut self.shown.next);
         let parts = self.stepper.machine().parts();
         let values = self.stepper.values();

@@ -1,13 +1,15 @@
 //! A circuit that is run step by step.
-ghost use Rattle.std.specs.Prelude.{◌≡◌, ◌+◌, List, None, Some, false, length, true, IfOk};
+ghost use Rattle.std.specs.Prelude.{◌≡◌, ◌+◌, List, None, Some, false, length, slice_set, true, IfOk};
 ghost use Rattle.aig_circuit.specs.declared.value.Val.{Val as Value};
-ghost use Rattle.aig_meaning.specs.Meaning.{MeansTheSame};
+ghost use Rattle.aig_circuit.specs.declared.value.Val.TheVariants.{Zero};
+ghost use Rattle.aig_meaning.specs.Meaning.{IsStepAssignment, MeansTheSame};
 ghost use Rattle.aig_meaning.specs.Trace.{reset_state};
 ghost use Rattle.aig_step.specs.Parts.Lines.{vector_in};
-ghost use Rattle.aig_step.specs.Parts.Stepping.{Evaluated, led_on};
+ghost use Rattle.aig_step.specs.Parts.Stepping.{Evaluated, in_next_state};
+ghost use Rattle.aig_step.specs.Parts.Tables.{placed, read_from};
 
 use crate::cells::{Code, Table};
-use crate::evaluate::{put_reset_state, read_codes, show_next};
+use crate::evaluate::{put_reset_state, put_values, read_codes, show_next};
 use crate::machine::Machine;
 use aig_checked::Checked;
 use aig_circuit::{Circuit, OutOfMemory, Val};
@@ -47,28 +49,21 @@ fn make_room(alloc: Global, parts: &Circuit) -> Result<(Table, Vec<Code>), OutOf
 }
 
 impl Stepper {
-    /// It runs what the machine runs.
-    fn with_room(alloc: Global, machine: Machine) -> Result<Self, OutOfMemory>
-        ensures { IfOk result (λ s. s.circuit ≡ machine) }
-    {
-        let Ok((values, state)) = make_room(alloc, machine.parts()) else {
-            drop(machine);
-            return Err(OutOfMemory);
-        };
-        Ok(Stepper {
-            machine,
-            values,
-            state,
-        })
-    }
-
     /// It runs the circuit, and is in the reset state.
     pub fn new(alloc: Global, checked: &Checked) -> Result<Self, OutOfMemory>
         ensures same { IfOk result (λ s. MeansTheSame checked.now s.circuit) }
         ensures reset { IfOk result (λ s. s.state ≡ reset_state s.circuit) }
     {
         let machine = Machine::new(alloc, checked)?;
-        let mut stepper = Stepper::with_room(alloc, machine)?;
+        let Ok((values, state)) = make_room(alloc, machine.parts()) else {
+            drop(machine);
+            return Err(OutOfMemory);
+        };
+        let mut stepper = Stepper {
+            machine,
+            values,
+            state,
+        };
         stepper.reset();
         Ok(stepper)
     }
@@ -115,12 +110,31 @@ impl Stepper {
         text.len() == self.state.len() && read_codes(text, &mut self.state)
     }
 
+    /// Evaluates a step, where the table has the values of the constant and of the inputs.
+    #[inline(always)]
+    fn evaluate_rest(&mut self)
+        ensures assigned { (given table : List Value) → length given ≡ length self.old.circuit.inputs
+            → self.old.values ≡ placed 1 given (slice_set table 0 Zero)
+            → IsStepAssignment self.old.circuit self.old.state given (read_from self.new.values) }
+        ensures stays { self.new ≡ record self.old { values = self.new.values } }
+    {
+        let parts = self.machine.parts();
+        // That there are not too many inputs to count one more is known by this read.
+        let _largest = parts.max_var;
+        self.values.put_codes(1 + parts.inputs.len(), &self.state);
+        self.values.evaluate(self.machine.pairs());
+    }
+
     /// Evaluates a step with these inputs.
     pub(crate) fn evaluate(&mut self, given: &[Val])
         requires { length given.now ≡ length self.old.circuit.inputs }
         ensures { Evaluated self.old self.new given.now }
     {
-        self.machine.assign(given, &self.state, &mut self.values);
+        // That the table has room for the inputs is known by this call.
+        let _parts = self.machine.parts();
+        self.values.put(0, Val::Zero);
+        put_values(1, given, &mut self.values);
+        self.evaluate_rest();
     }
 
     /// Evaluates a step if the text says its inputs, and answers whether it does.
@@ -131,14 +145,21 @@ impl Stepper {
         ensures bad { result ≡ false → vector_in (length self.old.circuit.inputs) text.now ≡ None }
         ensures stays { self.new ≡ record self.old { values = self.new.values } }
     {
-        self.machine
-            .assign_text(text, &self.state, &mut self.values)
+        if text.len() != self.machine.parts().inputs.len() {
+            return false;
+        }
+        self.values.put(0, Val::Zero);
+        if !self.values.place_text(1, text) {
+            return false;
+        }
+        self.evaluate_rest();
+        true
     }
 
     /// On to the state behind the step that was evaluated last.
     #[inline(always)]
-    pub fn go_on(&mut self)
-        ensures { self.new ≡ led_on self.old }
+    pub fn enter_next_state(&mut self)
+        ensures { self.new ≡ in_next_state self.old }
     {
         let parts = self.machine.parts();
         show_next(parts.latches.as_slice(), &self.values, &mut self.state);

@@ -1,16 +1,17 @@
-//! The text of a trace.
+//! The line of a step.
 ghost use Rattle.std.specs.Prelude.{◌≡◌, ◌+◌, ◌++◌, ◌≤◌, List, codes, length, map, take};
 ghost use Rattle.std.specs.List.{All};
 ghost use Rattle.aig_circuit.specs.declared.value.Val.{Val as Value};
-ghost use Rattle.aig_meaning.specs.Meaning.{literal_value, next_literals};
+ghost use Rattle.aig_meaning.specs.Meaning.{literal_value};
 ghost use Rattle.aig_step.specs.TraceText.{properties_text, row_text, values_text};
 ghost use Rattle.aig_step.specs.Parts.Lines.{line_size, row_read};
-ghost use Rattle.aig_step.specs.Parts.Machines.{ShowsBelow};
+ghost use Rattle.aig_step.specs.Parts.Stepping.{in_next_state, row_of};
 ghost use Rattle.aig_step.specs.Parts.Tables.{IsLiteralBelow, read_from};
 
 use crate::cells::{Code, Table, look_up};
-use crate::evaluate::show_next;
-use aig_circuit::{Circuit, Lit};
+use crate::stepper::Stepper;
+use aig_circuit::Lit;
+use aig_io::Line;
 
 /// Which columns a line of a trace has beside state, inputs, outputs and next state.
 #[derive(Clone, Copy, PartialEq)]
@@ -78,19 +79,14 @@ pub fn write_text(line: &mut [u8], at: usize, text: &[u8]) -> usize
 
 /// Writes the columns of bad states and constraints, where they are asked for, as `write_values` writes values.
 #[inline(always)]
-fn write_properties(
-    line: &mut [u8],
-    at: usize,
-    columns: Columns,
-    values: &Table,
-    parts: &Circuit,
-) -> usize
-    requires room { at + length parts.now.bad + length parts.now.constraints + 2 ≤ length line.old }
-    requires below { ShowsBelow (length values.now) parts.now }
-    ensures end { result ≤ at + length parts.now.bad + length parts.now.constraints + 2 }
-    ensures text { (state inputs : List Value) → take result line.new
-        ≡ take at line.old ++ properties_text columns (row_read parts.now state inputs (read_from values.now)) }
+fn write_properties(line: &mut [u8], at: usize, columns: Columns, stepper: &Stepper) -> usize
+    requires room { at + length stepper.now.circuit.bad + length stepper.now.circuit.constraints + 2 ≤ length line.old }
+    ensures end { result ≤ at + length stepper.now.circuit.bad + length stepper.now.circuit.constraints + 2 }
+    ensures text { (state inputs : List Value) → take result line.new ≡ take at line.old ++ properties_text columns
+        (row_read stepper.now.circuit state inputs (read_from stepper.now.values)) }
 {
+    let values = stepper.values();
+    let parts = stepper.machine().parts();
     match columns {
         Columns::Plain => at,
         Columns::Properties => {
@@ -100,34 +96,36 @@ fn write_properties(
     }
 }
 
-/// Writes the line of a step from a place on, by its state and the values that were assigned, and answers where it
-/// ends. Its inputs were this text. The state becomes the next one.
-#[inline(always)]
-pub fn write_row(
-    line: &mut [u8],
-    at: usize,
-    columns: Columns,
-    inputs: &[u8],
-    values: &Table,
-    parts: &Circuit,
-    state: &mut [Code],
-) -> usize
-    requires room { at + line_size parts.now ≤ length line.old }
-    requires each_input { length inputs.now ≡ length parts.now.inputs }
-    requires each_latch { length state.old ≡ length parts.now.latches }
-    requires below { ShowsBelow (length values.now) parts.now }
-    ensures within { result ≤ length line.new }
-    ensures text { (given : List Value) → values_text given ≡ inputs.now → take result line.new
-        ≡ take at line.old ++ row_text columns (row_read parts.now state.old given (read_from values.now)) }
-    ensures next { state.new ≡ map (literal_value (read_from values.now)) (next_literals parts.now) }
-{
-    let end = write_values(line, at, state);
-    let end = write_text(line, end, inputs);
-    let end = write_column(line, end, values, parts.outputs.as_slice());
-    show_next(parts.latches.as_slice(), values, state);
-    line[end] = b' ';
-    let end = write_values(line, end + 1, state);
-    let end = write_properties(line, end, columns, values, parts);
-    line[end] = b'\n';
-    end + 1
+/// The line of the step that was evaluated last, whose inputs were this text.
+#[derive(Drop)]
+pub struct RowLine<'a> {
+    pub columns: Columns,
+    pub inputs: &'a [u8],
+}
+
+/// Where it is written, the state before the step becomes the one behind it.
+impl<'a> Line for RowLine<'a> {
+    type State = Stepper;
+
+    ghost is_whole = { λ l stepper. l.inputs.now ≡ values_text (row_of stepper).inputs };
+
+    ghost size = { λ _ stepper. line_size stepper.circuit };
+
+    ghost text = { λ l stepper. row_text l.columns (row_of stepper) };
+
+    ghost leads = { λ _ before after. after ≡ in_next_state before };
+
+    #[inline(always)]
+    fn write(&self, stepper: &mut Stepper, line: &mut [u8], at: usize) -> usize {
+        let end = write_values(line, at, stepper.state());
+        let end = write_text(line, end, self.inputs);
+        let outputs = stepper.machine().parts().outputs.as_slice();
+        let end = write_column(line, end, stepper.values(), outputs);
+        stepper.enter_next_state();
+        line[end] = b' ';
+        let end = write_values(line, end + 1, stepper.state());
+        let end = write_properties(line, end, self.columns, stepper);
+        line[end] = b'\n';
+        end + 1
+    }
 }

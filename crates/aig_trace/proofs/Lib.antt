@@ -1,7 +1,6 @@
 pub mod Going
 pub mod RunTexts
 pub mod Saying
-pub mod StepsTaken
 pub mod Traced
 pub mod Ending
 pub mod KnownLines

@@ -4,7 +4,6 @@
 //! lines that it does not step side by side.
 //!
 //! Modules:
-//! - `row_line`: the line of a step.
 //! - `tracer`, `line_tracer`: a line and what is written for it; lines as they come. `reader`: what their bytes take.
 //! - `stream`: `simulate`.
 //! - `laws`: facts about the definitions alone, each the contract of a function with an empty body.
@@ -16,7 +15,6 @@
 pub mod laws;
 mod line_tracer;
 mod reader;
-mod row_line;
 mod stream;
 mod tracer;
 

@@ -30,7 +30,7 @@ impl<'a, W: Sink> LineTracer<'a, W> {
         LineTracer { tracer, output }
     }
 
-    /// Ends the run that is going on, if it has a step. Another begins.
+    /// Puts the line that ends the run that is going on, if it has a step.
     pub(crate) fn close(&mut self)
         ensures { Put self.old.output self.new.output (if self.old.tracing.has_step then codes ".\n" else []) }
     {

@@ -175,7 +175,7 @@ impl Checker {
         if !self.stepper.evaluate_text(text) {
             return false;
         }
-        self.stepper.go_on();
+        self.stepper.enter_next_state();
         let values = self.stepper.values();
         let constraints = self.stepper.machine().parts().constraints.as_slice();
         let is_bad = is_one(values.value(self.search.literal));

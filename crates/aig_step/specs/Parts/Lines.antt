@@ -1,8 +1,8 @@
 -- How lines are read and written. Only the simulator cites this.
-use Rattle.std.specs.Prelude.{◌+◌, ◌≤◌, ◌==◌, ℕ, List, None, Option, length, map, if◌then◌else◌}
+use Rattle.std.specs.Prelude.{◌+◌, ◌==◌, ℕ, List, None, Option, length, map, if◌then◌else◌}
 use Rattle.aig_circuit.specs.declared.circuit.Circuit.{Circuit}
 use Rattle.aig_circuit.specs.declared.value.Val.{Val}
-use Rattle.aig_meaning.specs.Meaning.{IsRow, Row, literal_value, next_literals}
+use Rattle.aig_meaning.specs.Meaning.{Row, literal_value, next_literals}
 use Rattle.aig_step.specs.Stimulus.{values_of}
 
 -- the values that a text says, where there are so many inputs
@@ -20,18 +20,8 @@ row_read c state inputs a = record {
   constraints = map (literal_value a) c.constraints;
 }
 
--- how long the line of a row may be
-abbrev pub row_size : Row → ℕ
-row_size row =
-    length row.state + length row.inputs + length row.outputs + length row.next + length row.bad
-    + length row.constraints + 6
-
 -- how many values the rows of a circuit have, and what stands between them
 abbrev pub line_size : Circuit → ℕ
 line_size c =
     length c.latches + length c.inputs + length c.outputs + length c.latches + length c.bad
     + length c.constraints + 6
-
--- so many bytes are room for the line of each row
-abbrev pub HasLineRoom : Circuit → ℕ → Type 0
-HasLineRoom c room = (row : Row) → IsRow c row → row_size row ≤ room

@@ -2,7 +2,8 @@
 use Rattle.std.specs.Prelude.{◌≡◌, List, map}
 use Rattle.aig_circuit.specs.declared.circuit.Circuit.{Circuit}
 use Rattle.aig_circuit.specs.declared.value.Val.{Val}
-use Rattle.aig_meaning.specs.Meaning.{IsStepAssignment, literal_value, next_literals}
+use Rattle.aig_meaning.specs.Meaning.{IsStepAssignment, Row}
+use Rattle.aig_step.specs.Parts.Lines.{row_read}
 use Rattle.aig_step.specs.Parts.Tables.{read_from}
 
 -- the circuit, the state before its next step, and the values of its last step
@@ -16,6 +17,10 @@ pub record Evaluated (before after : Stepping) (given : List Val) : Type 0 where
   pub assigned : IsStepAssignment before.circuit before.state given (read_from after.values)
   pub stays : after ≡ record before { values = after.values }
 
--- on to the state behind the last step
-abbrev pub led_on : Stepping → Stepping
-led_on s = record s { state = map (literal_value (read_from s.values)) (next_literals s.circuit) }
+-- the step that was evaluated last, in the state before it, as a row
+abbrev pub row_of : Stepping → Row
+row_of s = row_read s.circuit s.state (map (read_from s.values) s.circuit.inputs) (read_from s.values)
+
+-- in the state behind the last step
+abbrev pub in_next_state : Stepping → Stepping
+in_next_state s = record s { state = (row_of s).next }

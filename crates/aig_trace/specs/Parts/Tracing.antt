@@ -1,14 +1,12 @@
 -- What takes the lines of a stimulus, and what was put for them. Only the simulator cites this.
-use Rattle.std.specs.Prelude.{◌≡◌, ◌++◌, ℕ, List, [], Bool, true, None, Option, Some, codes, if◌then◌else◌, length}
+use Rattle.std.specs.Prelude.{◌≡◌, ◌++◌, ℕ, List, [], Bool, true, Some, codes, if◌then◌else◌, length}
 use Rattle.aig_circuit.specs.declared.circuit.Circuit.{Circuit}
 use Rattle.aig_circuit.specs.declared.value.Val.{Val}
 use Rattle.aig_io.specs.Output.{Out, Put}
 use Rattle.aig_lines.specs.Fed.{Feeder, IsUnfed}
 use Rattle.aig_step.specs.declared.trace.Columns.{Columns}
-use Rattle.aig_step.specs.Stimulus.{Entry, entry_in, stimulus, values_of}
-use Rattle.aig_step.specs.TraceText.{values_text}
+use Rattle.aig_step.specs.Stimulus.{Entry, entry_in, stimulus}
 use Rattle.aig_step.specs.Parts.Lines.{vector_in}
-use Rattle.aig_step.specs.Parts.Machines.{ShowsBelow}
 use Rattle.aig_trace.specs.Parts.Progress.{Does, Goes, Point, Steps, begin_of}
 use Rattle.aig_trace.specs.Parts.Saying.{Saying, longest_entry}
 
@@ -22,21 +20,6 @@ pub record Tracing : Type 0 where
 
 abbrev pub point_of : Tracing → Point
 point_of t = record { state = t.state; has_step = t.has_step }
-
-abbrev pub or_none : Option (List Val) → List Val
-or_none None = []
-or_none (Some values) = values
-
--- the values that a text says, and none where it says none
-abbrev pub values_in : List ℕ → List Val
-values_in text = or_none (values_of text)
-
--- the text of inputs, the state and a table of so many values are those of a step
-pub record IsStepOf (c : Circuit) (values : ℕ) (text : List ℕ) (state : List Val) : Type 0 where
-  pub says : values_text (values_in text) ≡ text
-  pub each_input : length text ≡ length c.inputs
-  pub each_latch : length state ≡ length c.latches
-  pub below : ShowsBelow values c
 
 -- it runs the same circuit, with the same columns
 pub record IsSameTracer (before after : Tracing) : Type 0 where

@@ -3,7 +3,7 @@ use Rattle.aig_circuit.specs.declared.circuit.Circuit.{Circuit}
 use Rattle.aig_circuit.specs.declared.value.Val.{Val}
 use Rattle.aig_meaning.specs.Meaning.{literal_value}
 use Rattle.aig_witness.specs.declared.search.Search.{Search}
-use Rattle.aig_step.specs.Parts.Stepping.{Stepping, led_on}
+use Rattle.aig_step.specs.Parts.Stepping.{Stepping, in_next_state}
 use Rattle.aig_step.specs.Parts.Tables.{read_from}
 use Rattle.aig_witness.specs.Parts.Witnessing.{are_ones, is_one, looked}
 use Rattle.aig_witness.proofs.checker.Checker.take_step.Goals as goal
@@ -12,7 +12,7 @@ pub returns-clause-good : goal.returns-clause-good
 returns-clause-good c = λ _.
     let said = c.evaluate_text.ensures.good c.if-not-evaluate_text.false in
     let search = c.self.inside.search in
-    let went = c.go_on.ensures ∙ ap led_on c.evaluate_text.ensures.stays in
+    let went = c.enter_next_state.ensures ∙ ap in_next_state c.evaluate_text.ensures.stays in
     let values = c.values-values.ensures.is ∙ ap (λ (s : Stepping). s.values) went in
     let constraints = c.as_slice-constraints.ensures ∙ c.parts.ensures.constraints
     ∙ ap (λ (k : Circuit). k.constraints) (c.machine.ensures ∙ ap (λ (s : Stepping). s.circuit) went) in

@@ -1,7 +1,7 @@
 use Rattle.std.proofs.Common.{rules}
 use Rattle.std.proofs.Common.{eq-eqb}
 use Rattle.aig_step.proofs.EntryTexts.{values_length}
-use Rattle.aig_step.proofs.machine.Machine.assign_text.Goals as goal
+use Rattle.aig_step.proofs.stepper.Stepper.evaluate_text.Goals as goal
 
 pub returns-clause-good : goal.returns-clause-good
 returns-clause-good c e = search (rules, eq-eqb, values_length)
