@@ -1,9 +1,8 @@
 //! A witness file, judged for a circuit.
-ghost use Rattle.std.specs.Prelude.{◌≡◌, ◌≢◌, ◌+◌, ◌-◌, ◌^◌, ◌<◌, ◌≤◌, Err, IfErr, IfOk, OnOk, length};
+ghost use Rattle.std.specs.Prelude.{◌≡◌, ◌≤◌, IfErr, IfOk, length};
 ghost use Rattle.aig_circuit.specs.declared.circuit.TheConstants.{LARGEST};
+ghost use Rattle.aig_io.specs.Devices.{CanFail};
 ghost use Rattle.aig_lines.specs.Fed.{IsUnfed};
-ghost use Rattle.aig_step.specs.declared.fault.SimFault.TheVariants.{OutOfMemory};
-ghost use Rattle.aig_step.specs.Outcome.{source_failures};
 ghost use Rattle.aig_witness.specs.Confirming.{Judged, NotJudged};
 ghost use Rattle.aig_witness.specs.Witness.{Nothing, shape_of};
 ghost use Rattle.aig_witness.specs.Parts.Witnessing.{Stands, longest_line};
@@ -26,13 +25,10 @@ fn judge_all<R: Source>(
     requires limit { feeder.old.limit ≡ longest_line (shape_of checker.old.circuit) }
     requires begun { Stands checker.old Nothing }
     requires few { length checker.old.circuit.bad ≤ LARGEST }
-    requires source { R.failed source.old < 2 ^ 64 - 1 }
+    requires source { CanFail (R.past source.old) }
     ensures ok { IfOk result (λ verdict.
-        Judged checker.old.circuit verdict (R.coming source.old) (R.coming source.new)) }
-    ensures err { IfErr result (λ e. NotJudged checker.old.circuit e (R.coming source.old) (R.coming source.new)) }
-    ensures kind { IfErr result (λ e. e ≢ OutOfMemory) }
-    ensures ok_count { OnOk result (R.failed source.new ≡ R.failed source.old) }
-    ensures count { IfErr result (λ e. R.failed source.new ≡ R.failed source.old + source_failures e) }
+        Judged checker.old.circuit verdict (R.past source.old) (R.past source.new)) }
+    ensures err { IfErr result (λ e. NotJudged checker.old.circuit e (R.past source.old) (R.past source.new)) }
 {
     let Ok(good) = feed_source(feeder, checker, source) else {
         return Err(SimFault::ReadFailed);
@@ -52,12 +48,9 @@ pub fn confirm<R: Source>(
     checked: &Checked,
     source: &mut R,
 ) -> Result<Verdict, SimFault>
-    requires { R.failed source.old < 2 ^ 64 - 1 }
-    ensures ok { IfOk result (λ verdict. Judged checked.now verdict (R.coming source.old) (R.coming source.new)) }
-    ensures err { IfErr result (λ error. NotJudged checked.now error (R.coming source.old) (R.coming source.new)) }
-    ensures untouched { result ≡ Err OutOfMemory → source.new ≡ source.old }
-    ensures ok_count { OnOk result (R.failed source.new ≡ R.failed source.old) }
-    ensures count { IfErr result (λ error. R.failed source.new ≡ R.failed source.old + source_failures error) }
+    requires { CanFail (R.past source.old) }
+    ensures ok { IfOk result (λ verdict. Judged checked.now verdict (R.past source.old) (R.past source.new)) }
+    ensures err { IfErr result (λ error. NotJudged checked.now error (R.past source.old) (R.past source.new)) }
 {
     let mut checker = Checker::new(alloc, checked)?;
     let Ok(mut feeder) = LineFeeder::new(alloc, checker.longest_line()) else {
