@@ -31,6 +31,10 @@ unused origin = record { origin = origin; bytes = []; ends = 0; failures = 0 }
 abbrev pub CanFail : Past → Type 0
 CanFail past = past.failures < 2 ^ 64 - 1
 
+-- how many bytes a sink is handed at most in one slice
+abbrev pub block_size : ℕ
+block_size = 8192
+
 -- after a fetch into these bytes that answered so
 abbrev pub after_fetch : {E : Type 0} → List ℕ → Result ℕ E → Past → Past
 after_fetch into (Ok zero) past = record past { ends = past.ends + 1 }

@@ -1,9 +1,8 @@
 //! Devices in memory.
 ghost use Rattle.std.specs.Prelude.{◌≡◌, ◌^◌, ◌<◌, ◌≤◌, ◌↔◌, IsTrue, IfOk, is_ok, false, length, take, vec_len};
-ghost use Rattle.aig_io.specs.Devices.{CanFail};
+ghost use Rattle.aig_io.specs.Devices.{block_size, CanFail};
 ghost use Rattle.aig_io.specs.Memory.{accepted, given, is_due, new_sink, new_source, one_call_later, sink_after};
 ghost use Rattle.aig_io.specs.Memory.{source_after};
-ghost use Rattle.aig_io.specs.declared.block.TheConstants.{ROOM};
 
 use crate::device::{DeviceFault, Sink, Source};
 use crate::record::Record;
@@ -176,7 +175,7 @@ impl Sink for MemorySink {
 
     fn send(&mut self, bytes: &[u8]) -> Result<usize, DeviceFault>
         requires some { 0 < length bytes.now }
-        requires short { length bytes.now ≤ ROOM }
+        requires short { length bytes.now ≤ block_size }
         requires countable { CanFail self.old.past }
         ensures moves { IfOk result (λ n. 0 < n) }
         ensures chosen { IsTrue (is_ok result) ↔ ((is_due self.old.fails_in ≡ false) × (0 < self.old.room)) }

@@ -1,7 +1,6 @@
 //! All bytes of a source, and all bytes to a sink.
 ghost use Rattle.std.specs.Prelude.{◌≡◌, ◌≤◌, length, IfErr, IfOk, OnErr, OnOk};
-ghost use Rattle.aig_io.specs.Devices.{CanFail, failures_of, gave_all, GaveSome, took, TookBeginning};
-ghost use Rattle.aig_io.specs.declared.block.TheConstants.{ROOM};
+ghost use Rattle.aig_io.specs.Devices.{block_size, CanFail, failures_of, gave_all, GaveSome, took, TookBeginning};
 ghost use Rattle.aig_io.specs.declared.transfer.ReadError.TheVariants.{Source as SourceFault, OutOfMemory};
 
 use crate::device::{DeviceFault, Sink, Source};
@@ -54,7 +53,7 @@ pub fn read_all<R: Source>(alloc: Global, source: &mut R) -> Result<Vec<u8>, Rea
 
 /// Sends all bytes. On an error the sink took a beginning of them.
 pub(crate) fn send_all<W: Sink>(sink: &mut W, bytes: &[u8]) -> Result<(), DeviceFault>
-    requires short { length bytes.now ≤ ROOM }
+    requires short { length bytes.now ≤ block_size }
     requires countable { CanFail (W.past sink.old) }
     ensures ok { OnOk result (W.past sink.new ≡ took bytes.now (W.past sink.old)) }
     ensures err { OnErr result (TookBeginning bytes.now (W.past sink.old) (W.past sink.new)) }
