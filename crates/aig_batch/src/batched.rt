@@ -1,16 +1,14 @@
 //! A simulation that reads the whole stimulus before it sends anything.
-ghost use Rattle.std.specs.Prelude.{◌≡◌, ◌≢◌, ◌+◌, ◌-◌, ◌^◌, ◌<◌, ◌≤◌, ℕ, List, [], IfErr, None};
-ghost use Rattle.std.specs.Prelude.{OnOk, length, max, true};
+ghost use Rattle.std.specs.Prelude.{◌≡◌, ◌≤◌, ℕ, List, IfErr, None, OnOk, length, true};
 ghost use Rattle.std.specs.List.{All};
 ghost use Rattle.aig_circuit.specs.declared.circuit.Circuit.{Circuit as CircuitRecord};
-ghost use Rattle.aig_io.specs.declared.block.TheConstants.{ROOM};
-ghost use Rattle.aig_step.specs.declared.fault.SimFault.TheVariants.{WriteFailed};
+ghost use Rattle.aig_io.specs.Devices.{CanFail, took};
 ghost use Rattle.aig_lanes.specs.declared.run.Run.{Run as RunRecord};
 ghost use Rattle.aig_batch.specs.Batched.{NotBatched};
-ghost use Rattle.aig_step.specs.Outcome.{Simulated, first_bad_line, sink_failures, source_failures};
+ghost use Rattle.aig_step.specs.Outcome.{Simulated, Traced, first_bad_line};
 ghost use Rattle.aig_batch.specs.Parts.Benches.{Fits, HasRoomFor, IsBench};
 ghost use Rattle.aig_batch.specs.Parts.RunsRead.{PutRuns, Says, entries_of_groups};
-ghost use Rattle.aig_batch.specs.Parts.Sent.{NotTraced, SentAll, SentInPart};
+ghost use Rattle.aig_batch.specs.Parts.Sent.{NotTraced, SentSo};
 ghost use Rattle.aig_trace.specs.Parts.Tracing.{IsFresh};
 ghost use Rattle.aig_lanes.specs.Runs.{IsRunOf};
 ghost use Rattle.aig_meaning.specs.Meaning.{MeansTheSame};
@@ -19,7 +17,7 @@ use crate::collected::collect;
 use crate::front::read_front;
 use crate::text_group::{Bench, set_up};
 use aig_checked::Checked;
-use aig_io::{Output, Sink, Source};
+use aig_io::{DeviceFault, Output, Sink, Source};
 use aig_lanes::RunGroup;
 use aig_step::{Columns, Machine, SimFault};
 use aig_trace::Reader;
@@ -52,36 +50,25 @@ fn trace_good<W: Sink>(
     groups: &[RunGroup],
     bench: &mut Bench,
     rest: &[u8],
-) -> Result<(), SimFault>
+) -> Result<(), DeviceFault>
     requires fresh { IsFresh reader }
     requires same { reader.tracing.columns ≡ bench.old.shown.columns }
-    requires sink { W.failed sink.old < 2 ^ 64 - 1 }
+    requires sink { CanFail (W.past sink.old) }
     requires lanes { All (λ (runs : List RunRecord). length runs ≤ 256) groups.now }
     requires fits { All (λ (runs : List RunRecord). All (IsRunOf machine.now) runs) groups.now }
     requires is { IsBench machine.now bench.old }
     requires counts { All (All (Fits machine.now)) groups.now }
     requires room { All (HasRoomFor bench.old) groups.now }
-    ensures ok { OnOk result ((c : CircuitRecord) (bytes : List ℕ) → MeansTheSame c reader.tracing.circuit
+    ensures { (c : CircuitRecord) (bytes : List ℕ) → MeansTheSame c reader.tracing.circuit
         → MeansTheSame c machine.now → Says (length c.inputs) bytes (entries_of_groups groups.now) rest.now
-        → first_bad_line c bytes true ≡ None
-        → SentAll c reader.tracing.columns bytes (W.taken sink.old) (W.taken sink.new)) }
-    ensures err { IfErr result (λ e. (c : CircuitRecord) (bytes : List ℕ) → MeansTheSame c reader.tracing.circuit
-        → MeansTheSame c machine.now → Says (length c.inputs) bytes (entries_of_groups groups.now) rest.now
-        → first_bad_line c bytes true ≡ None
-        → SentInPart c reader.tracing.columns bytes (W.taken sink.old) (W.taken sink.new)) }
-    ensures kind { IfErr result (λ e. e ≡ WriteFailed) }
-    ensures ok_count { OnOk result (W.failed sink.new ≡ W.failed sink.old) }
-    ensures count { IfErr result (λ _. W.failed sink.new ≡ W.failed sink.old + 1) }
-    ensures short { W.longest sink.new ≤ max (W.longest sink.old) ROOM }
+        → first_bad_line c bytes true ≡ None → Traced c reader.tracing.columns bytes true
+        (SentSo result (W.past sink.old) (W.past sink.new)) }
 {
     let mut output = Output::new(sink);
     put_groups(&mut output, machine, groups, bench);
     // No line is bad, so the text is that for all of the rest.
     let (sent, _sink) = reader.put_text(output, rest).finish();
-    if sent.is_err() {
-        return Err(SimFault::WriteFailed);
-    }
-    Ok(())
+    sent
 }
 
 /// Sends the text for a stimulus that has no bad line. All memory is taken before the first byte is sent.
@@ -97,14 +84,10 @@ fn trace_collected<W: Sink>(
     requires same { MeansTheSame checked.now reader.tracing.circuit }
     requires columns { reader.tracing.columns ≡ columns }
     requires none_bad { first_bad_line checked.now bytes.now true ≡ None }
-    requires sink { W.failed sink.old < 2 ^ 64 - 1 }
-    ensures ok { OnOk result (SentAll checked.now columns bytes.now (W.taken sink.old) (W.taken sink.new)) }
-    ensures err { IfErr result (λ e. NotTraced checked.now columns bytes.now e (W.taken sink.old) (W.taken sink.new)) }
-    ensures unsent { IfErr result (λ e. e ≢ WriteFailed → sink.new ≡ sink.old) }
-    ensures ok_count { OnOk result (W.failed sink.new ≡ W.failed sink.old) }
-    ensures count { IfErr result (λ e. W.failed sink.new ≡ W.failed sink.old + sink_failures e) }
-    ensures kind { IfErr result (λ e. source_failures e ≡ 0) }
-    ensures short { W.longest sink.new ≤ max (W.longest sink.old) ROOM }
+    requires sink { CanFail (W.past sink.old) }
+    ensures ok { OnOk result (Traced checked.now columns bytes.now true
+        (λ text. W.past sink.new ≡ took text (W.past sink.old))) }
+    ensures err { IfErr result (λ e. NotTraced checked.now columns bytes.now e (W.past sink.old) (W.past sink.new)) }
 {
     let inputs = checked.circuit().inputs.len();
     let Ok((groups, rest)) = read_front(alloc, inputs, bytes) else {
@@ -116,11 +99,14 @@ fn trace_collected<W: Sink>(
         drop(groups);
         return Err(SimFault::OutOfMemory);
     };
-    let traced = trace_good(reader, sink, &machine, &groups, &mut bench, rest);
+    let sent = trace_good(reader, sink, &machine, &groups, &mut bench, rest);
     drop(groups);
     drop(machine);
     drop(bench);
-    traced
+    match sent {
+        Ok(()) => Ok(()),
+        Err(_fault) => Err(SimFault::WriteFailed),
+    }
 }
 
 /// Simulates a circuit over a stimulus text, and writes the trace text, as `simulate` does; but the whole stimulus is
@@ -136,18 +122,12 @@ pub fn simulate_batched<R: Source, W: Sink>(
     source: &mut R,
     sink: &mut W,
 ) -> Result<(), SimFault>
-    requires source { R.failed source.old < 2 ^ 64 - 1 }
-    requires sink { W.failed sink.old < 2 ^ 64 - 1 }
-    ensures ok { OnOk result (Simulated checked.now columns (R.coming source.old) (R.coming source.new)
-        (W.taken sink.old) (W.taken sink.new)) }
+    requires source { CanFail (R.past source.old) }
+    requires sink { CanFail (W.past sink.old) }
+    ensures ok { OnOk result (Simulated checked.now columns
+        (R.past source.old) (R.past source.new) (W.past sink.old) (W.past sink.new)) }
     ensures err { IfErr result (λ error. NotBatched checked.now columns error
-        (R.coming source.old) (R.coming source.new) (W.taken sink.old) (W.taken sink.new)) }
-    ensures unsent { IfErr result (λ error. error ≢ WriteFailed → sink.new ≡ sink.old) }
-    ensures ok_counts { OnOk result ((R.failed source.new ≡ R.failed source.old)
-        × (W.failed sink.new ≡ W.failed sink.old)) }
-    ensures source_count { IfErr result (λ error. R.failed source.new ≡ R.failed source.old + source_failures error) }
-    ensures sink_count { IfErr result (λ error. W.failed sink.new ≡ W.failed sink.old + sink_failures error) }
-    ensures short { W.longest sink.new ≤ max (W.longest sink.old) ROOM }
+        (R.past source.old) (R.past source.new) (W.past sink.old) (W.past sink.new)) }
 {
     let reader = Reader::new(alloc, checked, columns)?;
     let bytes = match collect(alloc, checked, source) {

@@ -1,9 +1,10 @@
 //! A whole stimulus, judged line by line while it comes.
-ghost use Rattle.std.specs.Prelude.{◌≡◌, ◌+◌, ◌-◌, ◌^◌, ◌<◌, ◌≤◌, [], IfErr, IfOk, OnOk, length};
+ghost use Rattle.std.specs.Prelude.{◌≡◌, [], IfErr, IfOk, None, OnOk, length, true};
+ghost use Rattle.aig_io.specs.Devices.{CanFail};
 ghost use Rattle.aig_lines.specs.Fed.{IsUnfed};
-ghost use Rattle.aig_step.specs.Outcome.{source_failures};
+ghost use Rattle.aig_step.specs.Outcome.{Came, first_bad_line};
 ghost use Rattle.aig_trace.specs.Parts.Saying.{longest_entry};
-ghost use Rattle.aig_batch.specs.Batched.{AllGood, NotAllGood};
+ghost use Rattle.aig_batch.specs.Batched.{NotCollected};
 
 use crate::entry::is_entry;
 use aig_checked::Checked;
@@ -41,14 +42,13 @@ fn collect_into<R: Source>(
     source: &mut R,
     bytes: &mut Vec<u8>,
 ) -> Result<(), SimFault>
-    requires source { R.failed source.old < 2 ^ 64 - 1 }
+    requires source { CanFail (R.past source.old) }
     requires unfed { IsUnfed feeder.old }
     requires limit { feeder.old.limit ≡ longest_entry (length checked.now.inputs) }
     requires none { bytes.old.items ≡ [] }
-    ensures ok { OnOk result (AllGood checked.now (R.coming source.old) (R.coming source.new) bytes.new.items) }
-    ensures err { IfErr result (λ e. NotAllGood checked.now e (R.coming source.old) (R.coming source.new)) }
-    ensures ok_count { OnOk result (R.failed source.new ≡ R.failed source.old) }
-    ensures count { IfErr result (λ e. R.failed source.new ≡ R.failed source.old + source_failures e) }
+    ensures ok { OnOk result (Came (first_bad_line checked.now) bytes.new.items true None
+        (R.past source.old) (R.past source.new)) }
+    ensures err { IfErr result (λ e. NotCollected checked.now e (R.past source.old) (R.past source.new)) }
 {
     let mut judge = Judge {
         inputs: checked.circuit().inputs.len(),
@@ -78,11 +78,10 @@ pub(crate) fn collect<R: Source>(
     checked: &Checked,
     source: &mut R,
 ) -> Result<Vec<u8>, SimFault>
-    requires { R.failed source.old < 2 ^ 64 - 1 }
-    ensures ok { IfOk result (λ all. AllGood checked.now (R.coming source.old) (R.coming source.new) all.items) }
-    ensures err { IfErr result (λ e. NotAllGood checked.now e (R.coming source.old) (R.coming source.new)) }
-    ensures ok_count { OnOk result (R.failed source.new ≡ R.failed source.old) }
-    ensures count { IfErr result (λ e. R.failed source.new ≡ R.failed source.old + source_failures e) }
+    requires { CanFail (R.past source.old) }
+    ensures ok { IfOk result (λ all. Came (first_bad_line checked.now) all.items true None
+        (R.past source.old) (R.past source.new)) }
+    ensures err { IfErr result (λ e. NotCollected checked.now e (R.past source.old) (R.past source.new)) }
 {
     let mut feeder = LineFeeder::new(alloc, checked.circuit().inputs.len().max(1))?;
     let mut bytes = Vec::new(alloc);

@@ -1,31 +1,22 @@
-use Rattle.std.proofs.Common.{List, subst, sym, ℕ, arith}
+use Rattle.std.proofs.Common.{rules}
 use Rattle.std.proofs.lemmas.Result.{IfErr-weaker, on_ok_weaker}
-use Rattle.aig_batch.specs.Batched.{AllGood}
+use Rattle.aig_io.proofs.Took.{gave_none}
 use Rattle.aig_batch.proofs.Batching.{batched, not_batched}
 use Rattle.aig_batch.proofs.batched.simulate_batched.Goals as goal
 
+pub returns-in_err-reader-clause-err : goal.returns-in_err-reader-clause-err
+returns-in_err-reader-clause-err g c = let none = gave_none (g.R.Source.past c.args.source.now) in search rules
+
 pub returns-clause-ok : goal.returns-clause-ok
 returns-clause-ok g c =
-    let good = subst (λ (bs : List ℕ). AllGood c.args.checked.now (g.R.Source.coming c.args.source.now)
-    (g.R.Source.coming c.collect.new.source) bs) (sym c.deref.ensures.value) c.in-Ok.ensures.ok in
+    let came = rw (← c.deref.ensures.value) at c.in-Ok.ensures.ok in
     on_ok_weaker c.trace_collected-traced.result
-    (λ sent. batched c.args.checked.now c.args.columns _ _ _ _ c.deref.result.now good sent)
+    (λ traced. batched c.args.checked.now c.args.columns c.deref.result.now _ _ _ _ came traced)
     c.trace_collected-traced.ensures.ok
 
 pub returns-clause-err : goal.returns-clause-err
 returns-clause-err g c =
-    let good = subst (λ (bs : List ℕ). AllGood c.args.checked.now (g.R.Source.coming c.args.source.now)
-    (g.R.Source.coming c.collect.new.source) bs) (sym c.deref.ensures.value) c.in-Ok.ensures.ok in
+    let came = rw (← c.deref.ensures.value) at c.in-Ok.ensures.ok in
     IfErr-weaker c.trace_collected-traced.result _ _
-    (λ e said. not_batched c.args.checked.now c.args.columns _ _ _ _ c.deref.result.now good e said)
+    (λ e said. not_batched c.args.checked.now c.args.columns c.deref.result.now _ _ _ _ came e said)
     c.trace_collected-traced.ensures.err
-
-pub returns-clause-ok_counts : goal.returns-clause-ok_counts
-returns-clause-ok_counts g c =
-    on_ok_weaker c.trace_collected-traced.result (λ same. (c.in-Ok.ensures.ok_count, same))
-    c.trace_collected-traced.ensures.ok_count
-
-pub returns-clause-source_count : goal.returns-clause-source_count
-returns-clause-source_count g c =
-    IfErr-weaker c.trace_collected-traced.result _ _
-    (λ e none. let same = c.in-Ok.ensures.ok_count in omega (arith, same, none)) c.trace_collected-traced.ensures.kind
