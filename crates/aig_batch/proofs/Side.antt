@@ -4,4 +4,3 @@ pub mod Rooms
 pub mod RunsRead
 pub mod ShownTexts
 pub mod TextGroups
-pub mod StepTexts

@@ -1,7 +1,7 @@
 //! What groups of runs are stepped in, side by side until all have ended, and their texts, put run by run.
 ghost use Rattle.std.specs.Prelude.{◌≡◌, ◌+◌, ◌*◌, ◌<◌, ◌≤◌, ◌^◌, ◌++◌, ℕ, List, IfOk, IsTrue, codes, length};
 ghost use Rattle.std.specs.Prelude.{slice_index_or};
-ghost use Rattle.std.specs.List.{All, AllZip};
+ghost use Rattle.std.specs.List.{All};
 ghost use Rattle.aig_circuit.specs.declared.value.Val.{Val as Value};
 ghost use Rattle.aig_io.specs.Output.{Put};
 ghost use Rattle.aig_meaning.specs.Meaning.{MeansTheSame};
@@ -13,16 +13,14 @@ ghost use Rattle.aig_lanes.specs.Parts.LaneTexts.{end_of, kept_text, shown_size,
 ghost use Rattle.aig_lanes.specs.Parts.Sheets.{SameRoom, text_in};
 ghost use Rattle.aig_step.specs.Parts.Lines.{line_size};
 ghost use Rattle.aig_batch.specs.Parts.RunsRead.{kept_texts, text_of_group};
-ghost use Rattle.aig_lanes.specs.Runs.{IsRunOf, IsTraceOf};
-ghost use Rattle.aig_step.specs.declared.trace.Columns.TheVariants.{Properties};
+ghost use Rattle.aig_lanes.specs.Runs.{IsRunOf};
 
-use crate::traces::take_traces;
 use aig_checked::Checked;
 use aig_circuit::OutOfMemory;
 use aig_io::{Line, Output, Sink};
 use aig_lanes::{
-    BlockBits, Plane, Run, RunGroup, Sheet, Shown, Trace, Vectors, assign_lanes, fill_bits,
-    longest, new_bits, new_table, put_vectors,
+    BlockBits, Plane, RunGroup, Sheet, Shown, Vectors, assign_lanes, fill_bits, longest, new_bits,
+    new_table, put_vectors,
 };
 use aig_step::{Columns, Machine};
 use aig_trace::line_room;
@@ -212,19 +210,20 @@ fn can_count(groups: &[RunGroup], line_room: usize) -> bool
 
 /// What runs are stepped in, one group after the other, and what their steps show.
 #[derive(Drop)]
-pub(crate) struct Bench {
+pub struct Bench {
     bits: Vec<BlockBits>,
     table: Vec<Plane>,
     state: Vec<Plane>,
-    shown: Shown,
-    sheet: Sheet,
+    /// What the steps of a group show, in lanes of the sheet.
+    pub shown: Shown,
+    pub sheet: Sheet,
     /// As long as a line may be.
-    line: Vec<u8>,
+    pub line: Vec<u8>,
 }
 
 impl Bench {
     /// Room for these groups, where the line of a step may be so long.
-    pub(crate) fn new(
+    pub fn new(
         alloc: Global,
         machine: &Machine,
         columns: Columns,
@@ -258,7 +257,7 @@ impl Bench {
     }
 
     /// Steps the runs of a group.
-    fn step(&mut self, machine: &Machine, runs: &[Vectors])
+    pub fn step(&mut self, machine: &Machine, runs: &[Vectors])
         requires lanes { length runs.now ≤ 256 }
         requires runs { All (IsRunOf machine.now) runs.now }
         requires fits { All (Fits machine.now) runs.now }
@@ -310,27 +309,6 @@ impl Bench {
     {
         self.step(machine, runs);
         put_runs(output, &mut self.line, runs, &self.shown, &self.sheet);
-    }
-
-    /// Steps the runs of a group, and answers their traces.
-    pub(crate) fn trace(
-        &mut self,
-        alloc: Global,
-        machine: &Machine,
-        group: &[Vectors],
-        runs: &[Run],
-    ) -> Result<Vec<Trace>, OutOfMemory>
-        requires lanes { length runs.now ≤ 256 }
-        requires same { group.now ≡ runs.now }
-        requires runs { All (IsRunOf machine.now) runs.now }
-        requires fits { All (Fits machine.now) runs.now }
-        requires is { IsBench machine.now self.old }
-        requires asks { self.old.shown.columns ≡ Properties }
-        requires room { HasRoomFor self.old runs.now }
-        ensures { IfOk result (λ traces. AllZip (IsTraceOf machine.now) runs.now traces.items) }
-    {
-        self.step(machine, group);
-        take_traces(alloc, runs, &self.shown, &self.sheet, &mut self.line)
     }
 }
 

@@ -4,24 +4,26 @@
 //! to its end and steps runs side by side; `confirm`, which judges a witness file; and, without
 //! texts, `Simulator` for single steps and `simulate_batch` for many runs.
 //!
-//! Here is all of it by name. The code stands in five crates:
+//! Here is all of it by name. The code stands in six crates:
 //! - `aig_step`: single steps, lines of a stimulus, and the line of a step.
 //! - `aig_trace`: `simulate`.
 //! - `aig_lanes`: steps of runs side by side, a lane for each of 256 runs.
-//! - `aig_batch`: `simulate_batched` and `simulate_batch`, over both.
+//! - `aig_batch`: `simulate_batched`, over both.
+//! - `aig_runs`: `simulate_batch`, over `aig_batch`.
 //! - `aig_witness`: `confirm`.
 //!
 //! Modules:
 //! - `laws`: the laws of these crates.
 //!
-//! Definitions (`specs/`): what the public contracts of the five crates cite is here too. Those that matter most are
+//! Definitions (`specs/`): what the public contracts of these crates cite is here too. Those that matter most are
 //! `stimulus`, `IsTraceText`, `Simulated`, `Stepped`, `IsTraceOf` and `IsVerdict`.
 #![tactic(auto)]
 
 pub mod laws;
 
-pub use aig_batch::{simulate_batch, simulate_batched};
+pub use aig_batch::simulate_batched;
 pub use aig_lanes::{FullRow, Run, Trace};
+pub use aig_runs::simulate_batch;
 pub use aig_step::{Columns, Row, SimFault, Simulator};
 pub use aig_trace::simulate;
 pub use aig_witness::{Verdict, confirm};

@@ -1,6 +1,0 @@
-use Rattle.std.specs.Prelude.{◌≡◌, ◌++◌, take}
-use Rattle.aig_step.specs.TraceText.{values_text}
-use Rattle.aig_batch.proofs.stimuli.add_values.Given as goal
-
-abbrev pub invariant-loop-value : goal.invariant-loop-value
-invariant-loop-value l = l.text ≡ l.fn.text ++ values_text (take l.value-index l.values)

@@ -1,0 +1,7 @@
+use Rattle.std.specs.Prelude.{◌≡◌, take}
+use Rattle.std.specs.List.{flat_map}
+use Rattle.aig_step.specs.TraceText.{values_text}
+use Rattle.aig_runs.proofs.stimuli.text_of.Given as goal
+
+abbrev pub invariant-loop-given : goal.invariant-loop-given
+invariant-loop-given l = l.text ≡ flat_map values_text (take l.given-index l.given-items)

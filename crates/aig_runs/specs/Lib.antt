@@ -1,0 +1,1 @@
+pub use Rattle.aig_lanes.specs.Runs
