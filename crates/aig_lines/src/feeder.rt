@@ -3,6 +3,7 @@ ghost use Rattle.std.specs.Prelude.{◌≡◌, ◌+◌, ◌-◌, ◌^◌, ◌<�
 ghost use Rattle.aig_lines.specs.Fed.{IsFed, IsUnfed};
 ghost use Rattle.aig_lines.specs.Feeding.{Feeding, ended, fed, heard, line_ended};
 ghost use Rattle.aig_lines.specs.Texts.{without_return};
+ghost use Rattle.memchr.specs.Find.{IsFirstByte, is_byte};
 
 use crate::partial_line::PartialLine;
 use crate::text::without_return;
@@ -58,6 +59,18 @@ impl Model for LineFeeder {
       number = f.number;
       refused = f.refused;
     } };
+}
+
+/// Where the first line feed is. One behind a single character is seen without a search, which costs most where lines
+/// are short.
+#[inline(always)]
+fn first_line_feed(bytes: &[u8]) -> Option<usize>
+    ensures { IsFirstByte (is_byte 10) bytes.now result }
+{
+    if bytes.len() > 1 && bytes[1] == b'\n' && bytes[0] != b'\n' {
+        return Some(1);
+    }
+    memchr(b'\n', bytes)
 }
 
 /// Hands a line on, unless it is too long.
@@ -176,7 +189,7 @@ impl LineFeeder {
             return false;
         }
         let mut rest = chunk;
-        while let Some(at) = memchr(b'\n', rest) {
+        while let Some(at) = first_line_feed(rest) {
             let (piece, more) = rest.split_at(at);
             if !self.take_ended(taker, piece) {
                 return false;
