@@ -6,3 +6,4 @@ pub mod Traces
 pub mod Lines
 pub mod Unrollings
 pub mod WitnessesUnrolled
+pub mod Texts

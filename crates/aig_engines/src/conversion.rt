@@ -77,7 +77,7 @@ fn image(alloc: Global, request: &ToAig, circuit: Checked) -> Result<Ordered, Ou
 }
 
 /// The circuit in the form that the request asks for.
-fn ready(alloc: Global, request: &ToAig, circuit: Checked) -> Result<Ready, OutOfMemory>
+fn make_ready(alloc: Global, request: &ToAig, circuit: Checked) -> Result<Ready, OutOfMemory>
     ensures { IfOk result (λ ready.
         IsTextAs request.now.ascii request.now.keep_map circuit (ready_text ready)) }
 {
@@ -134,7 +134,7 @@ impl Engine for ToAig {
         let found = read_circuit(alloc, source, self.max_var, kept(self))?;
         let source_circuit = undone(alloc, self, found)?;
         let circuit = changed(alloc, self, source_circuit);
-        Ok(ready(alloc, self, circuit)?)
+        Ok(make_ready(alloc, self, circuit)?)
     }
 
     fn write<W: Sink>(&self, work: Ready, sink: &mut W) -> Result<(), WriteFault> {
