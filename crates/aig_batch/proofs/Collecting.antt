@@ -18,12 +18,11 @@ module _ {T : Type 0} (IsAt : T → Saying (Unit {0}) → Type 0) (c : Circuit) 
   abbrev pub HasFed : Feeder → T → List ℕ → Bool → Type 0
   HasFed f t bytes over = IsFed IsAt f t (ended_if say_line over (fed say_line start bytes))
 
-  pub fed_more : (f g : Feeder) (t u : T) (bytes chunk all : List ℕ) → all ≡ bytes ++ chunk
+  pub fed_more : (f g : Feeder) (t u : T) (bytes chunk : List ℕ)
       → ((at : Feeding (Saying (Unit {0}))) → IsFed IsAt f t at → IsFed IsAt g u (fed say_line at chunk))
-      → HasFed f t bytes false → HasFed g u all false
-  fed_more f g t u bytes chunk all is more stands =
-      subst (IsFed IsAt g u) (sym (ap (fed say_line start) is ∙ fed_twice say_line start bytes chunk))
-      (more (fed say_line start bytes) stands)
+      → HasFed f t bytes false → HasFed g u (bytes ++ chunk) false
+  fed_more f g t u bytes chunk more stands =
+      subst (IsFed IsAt g u) (sym (fed_twice say_line start bytes chunk)) (more (fed say_line start bytes) stands)
 
   -- which line of them is bad
   pub came : (f : Feeder) (t : T) (bytes : List ℕ) (over refused : Bool) (source source_now : Past)

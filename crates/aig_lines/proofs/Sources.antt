@@ -1,5 +1,5 @@
 -- What came of a source, from the first byte on.
-use Rattle.std.proofs.Common.{◌≡◌, ◌+◌, ◌<◌, ◌++◌, ◌∙◌, ℕ, List, [], Bool, true, false, not, Ok, ap, append-nil, refl}
+use Rattle.std.proofs.Common.{◌≡◌, ◌+◌, ◌<◌, ◌++◌, ◌∙◌, ℕ, List, [], Bool, true, false, not, Ok, ap, refl}
 use Rattle.std.proofs.Common.{subst, sym, take}
 use Rattle.aig_io.specs.declared.device.DeviceFault.{DeviceFault}
 use Rattle.aig_io.specs.Devices.{Past, after_fetch, gave, took}

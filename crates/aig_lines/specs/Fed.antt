@@ -44,8 +44,8 @@ pub record ToldSource {T S : Type 0} (step : S → List ℕ → Turn S) (IsAt : 
   pub stands : HasTold IsAt f t (told step limit s 1 (judged_lines bytes over))
   pub refused : f.refused ≡ is_refused
 
--- What came of feeding the bytes of a source: they are over and no line was refused; one was; or the source failed,
--- which is said as if it had failed before.
+-- What came of feeding the bytes of a source: they are over and no line was refused; one was; or the source failed
+-- behind them, which is counted in the past before.
 abbrev pub FedSource : {T S : Type 0} → (S → List ℕ → Turn S) → (T → S → Type 0) → ℕ → S
     → (source source_now : Past) → Result Bool DeviceFault → Feeder → T → Type 0
 FedSource step IsAt limit s source source_now (Ok true) f t =

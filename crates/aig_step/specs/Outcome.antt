@@ -13,8 +13,8 @@ use Rattle.aig_step.specs.TraceText.{IsTraceText}
 abbrev pub first_bad_line : Circuit → List ℕ → Bool → Option ℕ
 first_bad_line c bytes ended = (stimulus (length c.inputs) bytes ended).bad
 
--- The source gave these bytes, which have ended or not, and this is the number of the first bad line of them. A source
--- that failed then is said to come to this from a past in which it had failed.
+-- The source gave these bytes, which have ended or not, and the first bad line of them has this number, or there is
+-- none. Where the source failed behind them, its failure is counted in the past before.
 pub record Came (first_bad : List ℕ → Bool → Option ℕ) (bytes : List ℕ) (ended : Bool) (bad : Option ℕ)
     (source source_now : Past) : Type 0 where
   pub past : source_now ≡ gave bytes ended source
@@ -40,7 +40,7 @@ Simulated c columns source source_now sink sink_now =
     Streamed c columns true None source source_now (λ text. sink_now ≡ took text sink)
 
 -- What an error of a simulation says: memory was refused, and no device was called; the sink took the trace text of
--- what came up to the first bad line, or to a failure of the source; or it failed, and took a beginning of that text.
+-- what came, which has a bad line, or behind which the source failed; or the sink failed, and took a beginning of it.
 abbrev pub NotSimulated : Circuit → Columns → SimFault → (source source_now sink sink_now : Past) → Type 0
 NotSimulated c columns OutOfMemory source source_now sink sink_now = (source_now ≡ source) × (sink_now ≡ sink)
 NotSimulated c columns (BadStimulus number) source source_now sink sink_now =

@@ -78,7 +78,7 @@ fn words(alloc: Global, outcome: &Result<Verdict, SimFault>) -> Result<String, A
 
 /// A source that gives a witness file in pieces of three bytes, and fails at this call.
 fn source_of(alloc: Global, witness: &str, fails_at: u64) -> Option<MemorySource>
-    ensures { IfSome result (λ source. source.failures ≡ 0) }
+    ensures { IfSome result (λ source. source.past.failures ≡ 0) }
 {
     let bytes = bytes_of(alloc, witness).ok()?;
     if bytes.len() > 1000 {

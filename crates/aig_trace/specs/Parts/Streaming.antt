@@ -1,5 +1,5 @@
 -- What came of bytes and of the text for them. Only the simulator cites this.
-use Rattle.std.specs.Prelude.{◌≡◌, ℕ, List, Bool, false, true, Option, None, Some, Result, Err, Ok, if◌then◌else◌}
+use Rattle.std.specs.Prelude.{◌≡◌, ℕ, List, Bool, false, true, None, Some, Result, Err, Ok, if◌then◌else◌}
 use Rattle.aig_circuit.specs.declared.circuit.Circuit.{Circuit}
 use Rattle.aig_io.specs.Devices.{Past}
 use Rattle.aig_io.specs.Output.{Out, Put}
