@@ -5,8 +5,8 @@ use Rattle.aig_files.specs.Named.{bytes_at, IsAt, IsCounted, IsShown, let_go, ne
 use Rattle.aig_files.specs.declared.stage.Stage.{Stage}
 use Rattle.aig_files.specs.declared.stage.Stage.TheVariants as stages
 
-pub shown : (written : Bool) (end : End) (lender : ℕ) (name : List ℕ) (stage : Stage) (files : Files) (ends failures : ℕ)
-    → IsAt written name stage files → IsCounted stage (bytes_at stage files) ends failures
+pub shown : (written : Bool) (end : End) (lender : ℕ) (name : List ℕ) (stage : Stage) (files : Files)
+    (ends failures : ℕ) → IsAt written name stage files → IsCounted stage (bytes_at stage files) ends failures
     → IsShown written end (past_at lender name stage files ends failures) (let_go end stage files)
 shown written end lender name stages.Untouched files ends failures at counted = grind arith
 shown written end lender name stages.Open files ends failures at counted = grind arith

@@ -136,11 +136,12 @@ uses_after (Some name) bytes end before = used name bytes end ∷ before
 abbrev pub used_as : End → Past → Files
 used_as end past = record { uses = uses_after past.origin.name past.bytes end past.origin.before; current = None }
 
--- What the files show of a device that was let go, of a file that is written or read: it was read to its end; or its use
--- failed; or that ended so, where the file gave or took bytes, and otherwise the file was not touched.
+-- What the files show of a device that was let go, of a file that was written or read: it was read to its end; or its
+-- use failed; or its use ended so, where it gave or took bytes, and otherwise the file was not touched.
 pub record IsShown (written : Bool) (end : End) (past : Past) (files : Files) : Type 0 where
   pub whole : 0 < past.ends → files ≡ used_as Whole past
-  pub failed : 0 < past.failures → (failure : End) × IsFailure written past.bytes failure × (files ≡ used_as failure past)
+  pub failed : 0 < past.failures
+      → (failure : End) × IsFailure written past.bytes failure × (files ≡ used_as failure past)
   pub used : past.ends ≡ 0 → past.failures ≡ 0 → 0 < length past.bytes → files ≡ used_as end past
   pub untouched : past.ends ≡ 0 → past.failures ≡ 0 → past.bytes ≡ []
       → files ≡ record { uses = past.origin.before; current = None }

@@ -15,7 +15,7 @@ pub trait FileAccess {
         requires { (files self.old).current ≡ None }
         ensures { files self.new ≡ after_open name.now result (files self.old) };
 
-    /// Reads from the open file, and answers how many bytes; 0 is the end. There, and where it fails, the file is closed.
+    /// Reads from the open file, and answers how many bytes; 0 is the end. The file is closed there, and at a failure.
     fn read(&mut self, into: &mut [u8]) -> Result<usize, DeviceFault>
         requires room { 0 < length into.old }
         requires open { is_read (files self.old).current ≡ true }
@@ -32,7 +32,7 @@ pub trait FileAccess {
         requires { (files self.old).current ≡ None }
         ensures { files self.new ≡ after_create name.now result (files self.old) };
 
-    /// Writes to the file that was made, at least one byte, and answers how many. Where it fails, the file is closed.
+    /// Writes to the file that was made, at least one byte, and answers how many. The file is closed at a failure.
     fn write(&mut self, bytes: &[u8]) -> Result<usize, DeviceFault>
         requires some { 0 < length bytes.now }
         requires open { is_written (files self.old).current ≡ true }

@@ -181,7 +181,7 @@ fn in_a_dozen(text: &[u8]) -> Behaviour {
 /// The number of reads of a row's run, and of its writes.
 fn calls_of<R: Files + AllocGlobal>(rt: &R, row: &str) -> Result<(u64, u64), AllocError> {
     let (words, text, _) = parts(row);
-    let outcome = run(rt, words, text, in_a_dozen(text))?;
+    let outcome = run(rt, rt.alloc(), words, text, in_a_dozen(text))?;
     Ok((outcome.reads, outcome.output.calls))
 }
 
@@ -190,7 +190,7 @@ fn stops_at_read<R: Files + AllocGlobal>(rt: &R, row: &str, call: u64) -> bool {
     let (words, text, _) = parts(row);
     let mut behaviour = in_a_dozen(text);
     behaviour.failing_read = call;
-    match run(rt, words, text, behaviour) {
+    match run(rt, rt.alloc(), words, text, behaviour) {
         Ok(outcome) => {
             outcome.told(1, "aiger: -: cannot read\n")
                 && outcome.reads == call.saturating_add(1)
@@ -229,7 +229,7 @@ fn stops_at_write<R: Files + AllocGlobal>(rt: &R, row: &str, call: u64) -> bool 
     let (words, text, written) = parts(row);
     let mut behaviour = in_a_dozen(text);
     behaviour.failing_write = call;
-    match run(rt, words, text, behaviour) {
+    match run(rt, rt.alloc(), words, text, behaviour) {
         Ok(outcome) => {
             outcome.told(1, "aiger: -: cannot write\n")
                 && written.starts_with(outcome.output.taken.as_slice())
@@ -269,7 +269,7 @@ fn failed_writes(rt: HostRuntime) -> Result<(), Fail> {
 /// Whether a row's run whose devices move so many bytes writes what it should, in slices no longer than a block.
 fn is_written_in<R: Files + AllocGlobal>(rt: &R, row: &str, piece: usize) -> bool {
     let (words, text, written) = parts(row);
-    match run(rt, words, text, Behaviour::pieces_of(piece)) {
+    match run(rt, rt.alloc(), words, text, Behaviour::pieces_of(piece)) {
         Ok(outcome) => {
             outcome.told(0, "")
                 && outcome.output.taken.as_slice() == written

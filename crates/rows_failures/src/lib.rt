@@ -5,7 +5,9 @@
 //! - `run`: a run of the program's engine over devices in memory.
 //! - `streams`: readers and writers of std that count their calls, of which one fails.
 //! - `failures`: devices that fail, and devices that move few bytes in a call.
-//! - `files`: conversions and unrollings between files in memory that fail.
+//! - `memory_files`: a runtime whose files are in memory, and which counts the calls that reach
+//!   them.
+//! - `files`: conversions and unrollings between such files that fail.
 //! - `conversions`: a conversion whose request is made here, without a command line.
 //! - `unrollings`: an unrolling whose request is made here.
 //! - `simulations`: simulations over devices that fail or move few bytes.
@@ -18,6 +20,8 @@ mod conversions;
 mod failures;
 #[cfg(test)]
 mod files;
+#[cfg(test)]
+mod memory_files;
 #[cfg(test)]
 mod run;
 #[cfg(test)]

@@ -1,8 +1,7 @@
 //! A run of the program's engine over devices in memory.
 use crate::streams::{NEVER, OnceReader, OnceWriter};
 use aig_core::{ReadSource, WriteSink};
-use aig_files::FileAccess;
-use aig_tools::{serve, start};
+use aig_tools::start;
 use std::alloc::{AllocError, Global};
 use std::rt::Files;
 
@@ -64,47 +63,19 @@ pub(crate) fn words_of(alloc: Global, line: &str) -> Result<Vec<String>, AllocEr
     Ok(words)
 }
 
-/// Runs the program with these words over a text.
-pub(crate) fn run<R: Files + AllocGlobal>(
-    rt: &R,
+/// Runs the program with these words over a text and these files.
+pub(crate) fn run<T: Files>(
+    files: &T,
+    alloc: Global,
     line: &str,
     text: &[u8],
     behaviour: Behaviour,
 ) -> Result<Outcome, AllocError> {
-    let alloc = rt.alloc();
     let words = words_of(alloc, line)?;
     let mut reader = behaviour.reader(text);
     let mut output = behaviour.writer(alloc);
     let mut errors = Behaviour::pieces_of(100).writer(alloc);
     let status = start(
-        rt,
-        alloc,
-        words.as_slice(),
-        &mut ReadSource::new(&mut reader),
-        &mut WriteSink::new(&mut output),
-        &mut WriteSink::new(&mut errors),
-    );
-    Ok(Outcome {
-        status,
-        reads: reader.calls,
-        output,
-        errors,
-    })
-}
-
-/// Runs the program with these words over these files, and over a text in the standard input.
-pub(crate) fn run_over<A: FileAccess>(
-    alloc: Global,
-    files: &A,
-    line: &str,
-    text: &[u8],
-    behaviour: Behaviour,
-) -> Result<Outcome, AllocError> {
-    let words = words_of(alloc, line)?;
-    let mut reader = behaviour.reader(text);
-    let mut output = behaviour.writer(alloc);
-    let mut errors = Behaviour::pieces_of(100).writer(alloc);
-    let status = serve(
         files,
         alloc,
         words.as_slice(),

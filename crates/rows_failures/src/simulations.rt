@@ -1,8 +1,7 @@
 //! Simulations over devices that fail, and devices that move few bytes in a call.
-use crate::run::{Behaviour, Outcome, run_over};
-use crate::streams::{NEVER, OnceReader, OnceWriter};
-use aig_core::DeviceFault;
-use aig_files::FileAccess;
+use crate::memory_files::{Calls, MemoryFiles, Readable};
+use crate::run::{Behaviour, Outcome, run};
+use crate::streams::NEVER;
 use std::alloc::{AllocError, Global};
 use std::test::Fail;
 
@@ -40,25 +39,8 @@ pub(crate) const SOUND: Devices<'static> = Devices {
 };
 
 impl<'a> Devices<'a> {
-    fn reader(&self, text: &'a [u8], failing: u64) -> OnceReader<'a> {
-        OnceReader {
-            left: text,
-            piece: self.piece,
-            failing,
-            calls: 0,
-        }
-    }
-
-    fn model(&self) -> OnceReader<'a> {
-        self.reader(self.model, self.failing_model)
-    }
-
-    fn stimulus(&self) -> OnceReader<'a> {
-        self.reader(self.stimulus, self.failing_stimulus)
-    }
-
-    /// A run of the program with these words.
-    fn run(&self, alloc: Global, words: &str) -> Result<Outcome, AllocError> {
+    /// A run of the program with these words, whose calls are counted.
+    fn run(&self, alloc: Global, words: &str, calls: &Calls) -> Result<Outcome, AllocError> {
         let (text, failing_read) = if words.ends_with(" - stimulus") {
             (self.model, self.failing_model)
         } else {
@@ -69,7 +51,26 @@ impl<'a> Devices<'a> {
             failing_read,
             failing_write: self.failing_trace,
         };
-        run_over(alloc, self, words, text, behaviour)
+        let files = MemoryFiles {
+            readable: [
+                Readable {
+                    name: "model",
+                    text: self.model,
+                    failing: self.failing_model,
+                },
+                Readable {
+                    name: "stimulus",
+                    text: self.stimulus,
+                    failing: self.failing_stimulus,
+                },
+            ],
+            wanted: None,
+            piece: self.piece,
+            failing_write: NEVER,
+            metadata: None,
+            calls,
+        };
+        run(&files, alloc, words, text, behaviour)
     }
 
     /// Whether a run with these words has this status, tells this, and writes this.
@@ -81,7 +82,7 @@ impl<'a> Devices<'a> {
         told: &str,
         written: &[u8],
     ) -> bool {
-        match self.run(alloc, words) {
+        match self.run(alloc, words, &Calls::none()) {
             Ok(outcome) => {
                 outcome.told(status, told) && outcome.output.taken.as_slice() == written
             }
@@ -91,7 +92,7 @@ impl<'a> Devices<'a> {
 
     /// Whether a run with these words fails, tells this, and makes no write.
     pub(crate) fn fails_unwritten(&self, alloc: Global, words: &str, told: &str) -> bool {
-        match self.run(alloc, words) {
+        match self.run(alloc, words, &Calls::none()) {
             Ok(outcome) => outcome.told(1, told) && outcome.output.calls == 0,
             Err(_) => false,
         }
@@ -100,7 +101,7 @@ impl<'a> Devices<'a> {
     /// Whether a run with these words, of which a write fails, tells so, wrote a beginning of this text, and makes no
     /// write after it.
     pub(crate) fn stops_at_write(&self, alloc: Global, words: &str, text: &[u8]) -> bool {
-        match self.run(alloc, words) {
+        match self.run(alloc, words, &Calls::none()) {
             Ok(outcome) => {
                 outcome.told(1, "aiger: -: cannot write\n")
                     && text.starts_with(outcome.output.taken.as_slice())
@@ -112,29 +113,7 @@ impl<'a> Devices<'a> {
 
     /// The number of writes of a run with these words.
     fn writes(&self, alloc: Global, words: &str) -> Result<u64, AllocError> {
-        Ok(self.run(alloc, words)?.output.calls)
-    }
-}
-
-impl<'a> FileAccess for Devices<'a> {
-    type Reader = OnceReader<'a>;
-
-    type Writer = OnceWriter;
-
-    fn open(&self, name: &str) -> Result<Self::Reader, DeviceFault> {
-        match name {
-            "model" => Ok(self.model()),
-            "stimulus" => Ok(self.stimulus()),
-            _ => Err(DeviceFault),
-        }
-    }
-
-    fn create(&self, _name: &str) -> Result<Self::Writer, DeviceFault> {
-        Err(DeviceFault)
-    }
-
-    fn close(&self, _writer: &mut Self::Writer) -> Result<(), DeviceFault> {
-        Ok(())
+        Ok(self.run(alloc, words, &Calls::none())?.output.calls)
     }
 }
 
@@ -205,6 +184,18 @@ fn failed_traces(rt: HostRuntime) -> Result<(), Fail> {
             let stops = devices.stops_at_write(rt.alloc(), words, TRACE);
             assert!(rt; stops, "write {call}");
         }
+    }
+    Ok(())
+}
+
+/// Each file is opened once, and none is made.
+#[test]
+fn opened_files(rt: HostRuntime) -> Result<(), Fail> {
+    for words in WORDS.split('#') {
+        let calls = Calls::none();
+        SOUND.run(rt.alloc(), words, &calls)?;
+        let opened = words.ends_with(" model stimulus") as u32;
+        assert!(rt; calls.are(1 + opened, 0, 0));
     }
     Ok(())
 }
