@@ -1,5 +1,5 @@
--- What came of judging a witness file, for the pasts of a model, of that file and of a sink, as they were and as they are
--- now.
+-- What came of judging a witness file, for the pasts of a model, of that file and of a sink, as they were and as they
+-- are now.
 use Rattle.std.specs.Prelude.{◌≡◌, ℕ, List}
 use Rattle.aig_io.specs.Devices.{Past, TookBeginning, gave_all, took}
 use Rattle.aig_circuit.specs.declared.circuit.Circuit.{Circuit}
