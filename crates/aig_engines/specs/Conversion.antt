@@ -46,8 +46,8 @@ pub record IsConversionText (request : ToAig) (bytes text : List ℕ) : Type 0 w
   pub is_source : IsSource request.undo_map found source
   pub written_as : IsTextAs request.ascii request.keep_map (changed request source) text
 
--- The bytes have no conversion text for this reason: they are no file of a circuit; or they are the file of one that was
--- to be undone, and this is why it has no undone one, unless memory was refused.
+-- The bytes have no conversion text for this reason: they are no file of a circuit; or they are the file of one that
+-- was to be undone, and this is why it has no undone one, unless memory was refused.
 abbrev pub IsConversionRefused : ToAig → ToolFault → List ℕ → Type 0
 IsConversionRefused request fault bytes =
     IsUnreadable request.max_var fault bytes

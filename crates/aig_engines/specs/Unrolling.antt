@@ -27,8 +27,8 @@ pub record IsUnrollingText (request : Unroll) (bytes text : List ℕ) : Type 0 w
   pub is_unrolled : IsUnrolled found request.frames unrolled
   pub written_as : text ≡ text_as request.ascii unrolled
 
--- The bytes have no unrolling text for this reason: they are no file of a circuit; or they are the file of one, and this
--- is why it is not unrolled.
+-- The bytes have no unrolling text for this reason: they are no file of a circuit; or they are the file of one, and
+-- this is why it is not unrolled.
 abbrev pub IsUnrollingRefused : Unroll → ToolFault → List ℕ → Type 0
 IsUnrollingRefused request fault bytes =
     IsUnreadable request.max_var fault bytes

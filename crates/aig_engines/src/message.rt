@@ -6,8 +6,8 @@ ghost use Rattle.aig_io.specs.Output.{Put};
 ghost use Rattle.aig_command.specs.Answer.{name_of};
 ghost use Rattle.aig_engines.specs.Blame.{at_fault};
 ghost use Rattle.aig_engines.specs.Messages.{error_line, error_text, IsReported, line_naming, line_of, memory_line};
-ghost use Rattle.aig_engines.specs.Messages.{name_between, shown, simulation_error_line, simulation_name_at, usage_text};
-ghost use Rattle.aig_engines.specs.Messages.{words_line};
+ghost use Rattle.aig_engines.specs.Messages.{name_between, shown, simulation_error_line, simulation_name_at};
+ghost use Rattle.aig_engines.specs.Messages.{usage_text, words_line};
 
 use crate::engine::Engine;
 use crate::fault::{CANNOT_READ, CANNOT_WRITE, OUT_OF_MEMORY, ToolFault};
@@ -145,7 +145,8 @@ fn report_naming<E: Sink>(errors: &mut E, name: &str, fault: &ToolFault)
 /// Reports an error where there is one source and one destination.
 pub fn report_error<T: Engine, E: Sink>(errors: &mut E, request: &T, fault: &ToolFault)
     requires { CanFail (E.past errors.old) }
-    ensures { IsReported (E.past errors.old) (E.past errors.new) (error_line (T.source_name request.now) (T.destination_name request.now) fault.now) }
+    ensures { IsReported (E.past errors.old) (E.past errors.new)
+        (error_line (T.source_name request.now) (T.destination_name request.now) fault.now) }
 {
     report_naming(errors, name_at_fault(request, fault), fault);
 }

@@ -1,1 +1,1 @@
-pub mod Sources
+pub mod NamedFiles

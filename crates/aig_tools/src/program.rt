@@ -100,7 +100,8 @@ fn run_simulation<A: FileAccess, R: Source, W: Sink, E: Sink>(
 fn print_text<W: Sink, E: Sink>(text: &str, output: &mut W, errors: &mut E) -> u8
     requires output { CanFail (W.past output.old) }
     requires errors { CanFail (E.past errors.old) }
-    ensures { (files : UsedFiles) (input : Past) → TextEnds text.now (world files input (W.past output.old))
+    ensures status { result ≤ 1 }
+    ensures ends { (files : UsedFiles) (input : Past) → TextEnds text.now (world files input (W.past output.old))
         (world files input (W.past output.new)) (E.past errors.old) (E.past errors.new) result }
 {
     let mut blocks = Output::new(output);

@@ -1,4 +1,4 @@
-use Rattle.std.proofs.Common.{◌≡◌, ◌+◌, ℕ, List, refl, rules, sym, ap, ◌∙◌, add-zero}
+use Rattle.std.proofs.Common.{ℕ, List, rules, add-zero}
 use Rattle.aig_io.specs.Devices.{GaveSome, Past}
 use Rattle.aig_engines.specs.Reading.{HasRead}
 use Rattle.aig_engines.proofs.Texts.{ready_begins}

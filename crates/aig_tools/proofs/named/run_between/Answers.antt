@@ -1,0 +1,10 @@
+use Rattle.std.proofs.Common.{rules}
+use Rattle.aig_tools.proofs.NamedFiles.{done_between, failed_between}
+use Rattle.aig_tools.proofs.named.run_between.Goals as goal
+
+pub returns-in_err-write_destination-clause-err : goal.returns-in_err-write_destination-clause-err
+returns-in_err-write_destination-clause-err g c = search (rules, failed_between)
+
+pub returns-clause-ok : goal.returns-clause-ok
+returns-clause-ok g c =
+    done_between _ _ _ _ _ _ _ _ _ _ _ c.in_ok-work.ensures.ok c.write_destination.ensures.ok
