@@ -124,10 +124,12 @@ module _ (IsText : List ℕ → List ℕ → Type 0) (source destination : Optio
     world = wrote i1 ∙ ap (written destination text) (read o).world;
   }
 
-  pub failed_between : (IsRefused : ToolFault → List ℕ → Type 0) (fault : ToolFault) → fault ≡ Sink
+  pub failed_between : {T : Type 0} (IsRefused : ToolFault → List ℕ → Type 0) (r : Result T ToolFault)
+      → IfErr r (λ fault. fault ≡ Sink)
       → ((input : Past) → FailedWriting destination text (world f1 input o) (world f2 input o2))
-      → NotDoneBetween IsText IsRefused fault source destination (world f i o) (world f2 i1 o2)
-  failed_between IsRefused fault is wrote = inl (is, record {
+      → IfErr r (λ fault. NotDoneBetween IsText IsRefused fault source destination (world f i o) (world f2 i1 o2))
+  failed_between IsRefused (Ok x) is wrote = tt
+  failed_between IsRefused (Err fault) is wrote = inl (is, record {
     bytes = (read o).bytes;
     text = text;
     is_text = (read o).holds;
