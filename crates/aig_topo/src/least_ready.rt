@@ -67,8 +67,8 @@ pub fn gate_order(alloc: Global, circuit: &Circuit) -> Result<Order, OutOfMemory
     ensures steps { IfOk result (λ order. order.steps ≡ length order.list + operands_over circuit.now order.list) }
     ensures few { IfOk result (λ order. order.steps ≤ 3 * length circuit.now.gates) }
 {
-    let mut lists = Lists::new(alloc, circuit)?;
-    let mut order = Order::waiting_for(alloc, lists.counts(alloc)?)?;
+    let (mut lists, counts) = Lists::new(alloc, circuit)?;
+    let mut order = Order::waiting_for(alloc, counts)?;
     let mut ready = Ready::new(alloc, lists.len() as u32)?;
     look_at_all(&mut order, &mut lists, &mut ready);
     count_rests(&mut order, &lists);

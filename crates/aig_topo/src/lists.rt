@@ -33,43 +33,29 @@ pub(crate) struct Lists {
 }
 
 impl Lists {
-    /// What the gates of a circuit need, and empty lists of them.
-    pub(crate) fn new(alloc: Global, circuit: &Circuit) -> Result<Self, AllocError>
+    /// What the gates of a circuit need, and empty lists of them; and how many each of them needs, 0 to 2.
+    pub(crate) fn new(alloc: Global, circuit: &Circuit) -> Result<(Self, Vec<u8>), AllocError>
         requires { length circuit.now.gates ≤ LARGEST }
-        ensures needs { IfOk result (λ lists.
-            needs_in lists.rows.items ≡ map (needs_of circuit.now.gates) circuit.now.gates) }
-        ensures lists { IfOk result (λ lists. AreLists (links_in lists.rows.items)) }
-        ensures empty { IfOk result (λ lists. (g : ℕ) → list_in lists.rows.items g ≡ []) }
+        ensures needs { IfOk result (λ made.
+            needs_in made.0.rows.items ≡ map (needs_of circuit.now.gates) circuit.now.gates) }
+        ensures counts { IfOk result (λ made. made.1.items ≡ map how_many (needs_in made.0.rows.items)) }
+        ensures lists { IfOk result (λ made. AreLists (links_in made.0.rows.items)) }
+        ensures empty { IfOk result (λ made. (g : ℕ) → list_in made.0.rows.items g ≡ []) }
     {
         let gates = circuit.gates.as_slice();
         let index = gate_index(alloc, circuit)?;
         let mut rows = Vec::with_capacity(alloc, gates.len())?;
+        let mut counts = Vec::with_capacity(alloc, gates.len())?;
         for gate in gates {
             let needs = look_up(&index, gate);
+            counts.push(needs.count())?;
             rows.push(GateNode {
                 next: needs.left,
                 rest: needs.right,
                 first: 0,
             })?;
         }
-        Ok(Lists { rows })
-    }
-
-    /// How many gates each gate needs, 0 to 2, as long as none was looked at.
-    pub(crate) fn counts(&self, alloc: Global) -> Result<Vec<u8>, AllocError>
-        ensures { IfOk result (λ counts. counts.items ≡ map how_many (needs_in self.now.rows.items)) }
-    {
-        let rows = self.rows.as_slice();
-        let mut counts = vec![in alloc; 0; rows.len()]?;
-        for at in 0..rows.len() {
-            let row = rows[at];
-            let needs = Needs {
-                left: row.next,
-                right: row.rest,
-            };
-            counts[at] = needs.count();
-        }
-        Ok(counts)
+        Ok((Lists { rows }, counts))
     }
 
     /// How many gates there are.

@@ -79,8 +79,8 @@ impl Order {
           steps = 0;
         }) }
     {
-        let lists = Lists::new(alloc, circuit)?;
-        Ok(Order::waiting_for(alloc, lists.counts(alloc)?)?)
+        let (_lists, counts) = Lists::new(alloc, circuit)?;
+        Ok(Order::waiting_for(alloc, counts)?)
     }
 
     /// The positions of the gates, in the order in which they were taken.

@@ -41,13 +41,15 @@ impl Model for Ready {
 #[inline(always)]
 fn with_bit(word: u64, place: usize, on: bool) -> u64
     requires { place < 64 }
-    ensures { (i : ℕ) → i < 64 → (bit_at result i == 1) ≡ (if i == place then on else (bit_at word i == 1)) }
+    ensures bits { (i : ℕ) → i < 64 → (bit_at result i == 1) ≡ (if i == place then on else (bit_at word i == 1)) }
+    ensures some { on ≡ true → 0 < result }
+    ensures no_more { on ≡ false → result ≤ word }
 {
     let mask = 1 << place;
     if on { word | mask } else { word & !mask }
 }
 
-/// Sets or clears a bit. If its word was empty before or is empty now, the bit above is set or cleared too.
+/// Sets or clears a bit. If its word has no other, the bit above is set or cleared too.
 fn tell(words: &mut [u64], bit: usize, on: bool)
     requires there { bit / 64 < length words.old }
     requires told { (b : ℕ) → b + 1 < length words.old → b ≢ bit → Tells words.old b }
@@ -63,10 +65,11 @@ fn tell(words: &mut [u64], bit: usize, on: bool)
     if at == 0 {
         return;
     }
-    if (before == 0) == (after == 0) {
+    let others = if on { before } else { after };
+    if others != 0 {
         return;
     }
-    tell(words, at - 1, after != 0);
+    tell(words, at - 1, on);
 }
 
 /// The least bit that is set, of the lowest level.

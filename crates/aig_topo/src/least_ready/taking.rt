@@ -119,8 +119,8 @@ fn enter(gate: u32, asked: Needs, order: &mut Order, lists: &mut Lists, ready: &
     }
 }
 
-/// Counts down each gate that waited for this one, and enters it again. What the next of them needs beside is read before one is entered,
-/// so that it comes from memory meanwhile.
+/// Counts down each gate that waited for this one, and enters it again. What the next of them needs beside is read
+/// before one is entered, so that it comes from memory meanwhile.
 #[inline(always)]
 fn release_waiting(gate: u32, order: &mut Order, lists: &mut Lists, ready: &mut Ready)
     requires room { IsRoomy lists.old.rows.items (length order.old.waiting) (room ready.old) }

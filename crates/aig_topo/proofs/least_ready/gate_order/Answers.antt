@@ -26,7 +26,7 @@ pub look_at_all-requires : goal.look_at_all-requires
 look_at_all-requires c =
     let gates : List Gate = c.args.circuit.now.gates in
     let rows : List GateNode = c.in_ok-lists.lists.rows.items in
-    let counts : List ℕ = c.in_ok-counts.field-0.items in
+    let counts : List ℕ = c.in_ok-lists.counts.items in
     let ready : Tree = c.in_ok-ready.ready in
     let made = c.in_ok-lists.ensures in
     let is : c.in_ok-order.order ≡ record { list = []; waiting = counts; steps = 0 } = c.in_ok-order.ensures in
@@ -35,7 +35,7 @@ look_at_all-requires c =
         few = omega (arith, many, c.requires);
         there = are_there gates (needs_in rows) made.needs;
         counted = ap (λ (p : Progress). length p.waiting) is
-            ∙ as_many_counts gates rows counts made.needs c.in_ok-counts.ensures
+            ∙ as_many_counts gates rows counts made.needs c.in_ok-lists.ensures.counts
             ∙ sym many;
         ready = omega (arith, c.in_ok-ready.ensures.room, c.len.ensures);
         lists = made.lists;
@@ -47,7 +47,7 @@ look_at_all-requires c =
           c.in_ok-ready.ensures.empty,
           subst (λ (p : Progress). RowsWait (needs_by rows) rows p.list p.waiting (has ready) 0 None None) (sym is)
               (rows_at_first rows counts (has ready) made.empty c.in_ok-ready.ensures.empty
-              (each_count gates rows counts made.needs c.in_ok-counts.ensures)),
+              (each_count gates rows counts made.needs c.in_ok-lists.ensures.counts)),
         ),
       ),
     )
@@ -96,12 +96,12 @@ pub returns-clause-steps : goal.returns-clause-steps
 returns-clause-steps c =
     steps_are c.args.circuit.now c.count_rests.new.order.list c.count_rests.new.order.waiting
     c.count_rests.new.order.steps (returns-clause-as_many c) (returns-clause-waiting c)
-    (paid c.args.circuit.now c.in_ok-lists.lists.rows.items c.in_ok-counts.field-0.items c.look_at_all.new.order
-    c.in_ok-order.order c.count_rests.new.order c.in_ok-lists.ensures.needs c.in_ok-counts.ensures
+    (paid c.args.circuit.now c.in_ok-lists.lists.rows.items c.in_ok-lists.counts.items c.look_at_all.new.order
+    c.in_ok-order.order c.count_rests.new.order c.in_ok-lists.ensures.needs c.in_ok-lists.ensures.counts
     c.in_ok-order.ensures c.look_at_all.ensures.paid c.count_rests.ensures.down)
 
 pub returns-clause-few : goal.returns-clause-few
 returns-clause-few c =
-    few c.args.circuit.now c.in_ok-lists.lists.rows.items c.in_ok-counts.field-0.items c.look_at_all.new.order
-    c.in_ok-order.order c.count_rests.new.order c.in_ok-lists.ensures.needs c.in_ok-counts.ensures
+    few c.args.circuit.now c.in_ok-lists.lists.rows.items c.in_ok-lists.counts.items c.look_at_all.new.order
+    c.in_ok-order.order c.count_rests.new.order c.in_ok-lists.ensures.needs c.in_ok-lists.ensures.counts
     c.in_ok-order.ensures c.look_at_all.ensures.paid c.count_rests.ensures.down (returns-clause-least c)

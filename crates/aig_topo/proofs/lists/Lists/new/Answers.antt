@@ -26,7 +26,7 @@ module _ (gates : List Gate) (n : ℕ) (rows : List GateNode)
 
 pub returns-clause-needs : goal.returns-clause-needs
 returns-clause-needs c =
-    same_needs c.as_slice-gates.result.now c.loop-gate.gate-index c.loop-gate.rows.items c.loop-gate.invariant
+    same_needs c.as_slice-gates.result.now c.loop-gate.gate-index c.loop-gate.rows.items c.loop-gate.invariant.rows
     (omega (arith, c.loop-gate-test.false))
     ∙ ap (λ gates. map (needs_of gates) gates) c.as_slice-gates.ensures
 

@@ -11,5 +11,5 @@ pub returns : goal.returns
 returns c =
     c.in_ok-waiting_for.ensures
     ∙ ap {B = Progress} (λ ws. record { list = []; waiting = ws; steps = 0 })
-    (counts_are c.args.circuit.now.gates c.in_ok-lists.lists.rows.items c.in_ok-counts.field-0.items
-    c.in_ok-lists.ensures.needs c.in_ok-counts.ensures)
+    (counts_are c.args.circuit.now.gates c.in_ok-_lists._lists.rows.items c.in_ok-_lists.counts.items
+    c.in_ok-_lists.ensures.needs c.in_ok-_lists.ensures.counts)

@@ -1,7 +1,0 @@
-use Rattle.std.proofs.Common.{rules}
-use Rattle.std.proofs.lemmas.List.{take_all}
-use Rattle.std.proofs.lemmas.Simd.{map-map}
-use Rattle.aig_topo.proofs.lists.Lists.counts.Goals as goal
-
-pub returns : goal.returns
-returns c = search (rules, take_all, map-map)
