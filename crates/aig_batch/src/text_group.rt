@@ -241,10 +241,11 @@ impl Bench {
             return Err(OutOfMemory);
         }
         let parts = machine.parts();
-        let bits = new_bits(alloc, parts.inputs.len(), groups)?;
+        let line = vec![in alloc; 0; line_room]?;
         let table = new_table(alloc, 1 + parts.max_var as usize)?;
         let state = new_table(alloc, parts.latches.len())?;
         let shown = Shown::new(alloc, parts, columns)?;
+        let bits = new_bits(alloc, parts.inputs.len(), groups)?;
         let sheet = shown.new_sheet(alloc, groups)?;
         Ok(Bench {
             bits,
@@ -252,7 +253,7 @@ impl Bench {
             state,
             shown,
             sheet,
-            line: vec![in alloc; 0; line_room]?,
+            line,
         })
     }
 
@@ -327,6 +328,9 @@ pub(crate) fn set_up(
     ensures room { IfOk result (λ made. All (HasRoomFor made.1) groups.now) }
 {
     let machine = Machine::new(alloc, checked)?;
-    let bench = Bench::new(alloc, &machine, columns, line_room(checked), groups)?;
+    let Ok(bench) = Bench::new(alloc, &machine, columns, line_room(checked), groups) else {
+        drop(machine);
+        return Err(OutOfMemory);
+    };
     Ok((machine, bench))
 }
