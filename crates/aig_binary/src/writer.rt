@@ -1,10 +1,9 @@
 //! The canonical binary text of a circuit in binary order, written to a sink in blocks.
 ghost use Rattle.std.specs.List.{All, flat_map};
-ghost use Rattle.std.specs.Prelude.{◌≡◌, ◌+◌, ◌-◌, ◌*◌, ◌^◌, ◌<◌, ◌≤◌, length, max, take, is_ok, OnErr, OnOk};
+ghost use Rattle.std.specs.Prelude.{◌≡◌, ◌+◌, ◌-◌, ◌*◌, ◌<◌, ◌≤◌, length, take, OnErr, OnOk};
 ghost use Rattle.aig_io.specs.Output.{Put};
 ghost use Rattle.aig_io.specs.Devices.{CanFail, took, TookBeginning};
 ghost use Rattle.aig_circuit.specs.Wellformed.{IsWithinLimits};
-ghost use Rattle.aig_io.specs.declared.block.TheConstants.{ROOM};
 ghost use Rattle.aig_circuit.specs.declared.circuit.Latch.{Latch as LatchRecord};
 ghost use Rattle.aig_text.specs.AsciiText.{line_text, row_text};
 ghost use Rattle.aig_rows.specs.Rows.{next_row};

@@ -1,24 +1,10 @@
 //! The check of circuits. What a circuit is (`aig_circuit`), maps from variables (`aig_tables`), the order of gates
 //! (`aig_topo`), circuits that are well formed (`aig_checked`) and the devices of `aig_io` are reached here too.
 //!
-//! Others call `check` and `check_keeping`, which make a `Checked` of a `Circuit` or report its
-//! first fault; and `Names`, what symbols named so far.
+//! Others call `check` and `check_keeping`, which make a `Checked` of a `Circuit` or report its first fault; and
+//! `Names`, what symbols named so far.
 //!
-//! Modules:
-//! - `checks`: the check, with `faults` (the first fault) and `distinct` (whether spread variables
-//!   are defined once).
-//! - `fault`: why a circuit is refused.
-//! - `names`: what symbols named so far.
-//! - `laws`: facts about the definitions alone, each the contract of a function with an empty body.
-//!
-//! Definitions (`specs/`); the one that matters most is `first_structural_fault`:
-//! - `Fault`: the first fault that `check` finds.
-//! - `Names`: what symbols name.
-//! - `Parts`: what only private functions cite.
-//! - `Laws`: what the definitions, also of the crates below, say of one another.
-//!
-//! Lemmas (`proofs/`), beside the folders that are named after modules: `Checking` (well-formedness
-//! and the first fault).
+//! The definition that matters most is `first_structural_fault`.
 #![tactic(auto)]
 
 mod checks;

@@ -1,13 +1,12 @@
 //! The canonical ASCII text of a circuit, written to a sink in blocks.
 ghost use Rattle.std.specs.List.{flat_map};
-ghost use Rattle.std.specs.Prelude.{◌≡◌, ◌+◌, ◌-◌, ◌^◌, ◌<◌, ◌≤◌, ◌∷◌, ℕ, List, length, max, is_ok, OnErr, OnOk};
+ghost use Rattle.std.specs.Prelude.{◌≡◌, ◌-◌, ◌<◌, ◌∷◌, ℕ, List, OnErr, OnOk};
 ghost use Rattle.aig_io.specs.Output.{Put};
 ghost use Rattle.aig_io.specs.Devices.{CanFail, took, TookBeginning};
-ghost use Rattle.aig_io.specs.declared.block.TheConstants.{ROOM};
 ghost use Rattle.aig_text.specs.AsciiText.{ascii_text, comment_text, header_text, kind_letter, line_text};
 ghost use Rattle.aig_text.specs.AsciiText.{more_numbers_text, row_text, shortened, name_text, numbers_text};
 ghost use Rattle.aig_text.specs.AsciiText.{spaced_number, symbol_text, tail_text};
-ghost use Rattle.aig_text.specs.Sections.{ascii_word, header_row, rows_of, literal_rows_of};
+ghost use Rattle.aig_text.specs.Sections.{header_row, rows_of, literal_rows_of};
 ghost use Rattle.aig_rows.specs.Rows.{gate_row, input_row, latch_row, literal_row, reset_number, size_row};
 ghost use Rattle.aig_text.specs.declared.writer.TheConstants.{FEW};
 ghost use Rattle.aig_text.specs.declared.writer.WriteFault.TheVariants.{Device};

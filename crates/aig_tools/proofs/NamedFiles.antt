@@ -1,9 +1,9 @@
 -- What devices tell of the sources and the destination that a request names.
-use Rattle.std.proofs.Common.{◌≡◌, ◌+◌, ◌<◌, ◌∷◌, ◌⊎◌, ◌∙◌, ℕ, zero, suc, List, [], length, take, Option, None, Some, Bool, false, true}
+use Rattle.std.proofs.Common.{◌≡◌, ◌<◌, ◌∷◌, ◌∙◌, ℕ, zero, suc, List, [], length, take, Option, None, Some, false, true}
 use Rattle.std.proofs.Common.{IfErr, IfOk, Result, Ok, Err, OnErr, inl, inr, refl, sym, ap, subst, arith}
 use lib.Seq.{take-length}
-use Rattle.aig_io.specs.Devices.{GaveSome, Past, failures_of, gave_all, took, unused}
-use Rattle.aig_io.specs.Files.{End, Files, Left, NotKept, Use, Whole, used}
+use Rattle.aig_io.specs.Devices.{Past, failures_of, took, unused}
+use Rattle.aig_io.specs.Files.{End, Files, Left, NotKept, Whole, used}
 use Rattle.aig_io.specs.declared.transfer.ReadError.{ReadError}
 use Rattle.aig_io.specs.declared.transfer.ReadError.TheVariants as errors
 use Rattle.aig_files.specs.Named.{IsShown, closing, named, used_as}
@@ -14,7 +14,7 @@ use Rattle.aig_witness.specs.declared.verdict.Verdict.{Verdict}
 use Rattle.aig_engines.specs.declared.fault.ToolFault.{ToolFault}
 use Rattle.aig_engines.specs.declared.fault.ToolFault.TheVariants.{Sink}
 use Rattle.aig_engines.specs.File.{IsFileOf}
-use Rattle.aig_engines.specs.Reading.{HasRead, NotRead}
+use Rattle.aig_engines.specs.Reading.{NotRead}
 use Rattle.aig_tools.specs.Named.{DoneBetween, FailedFile, FailedWriting, HasReadFrom, NotDoneBetween, NotReadFrom, World}
 use Rattle.aig_tools.specs.Named.{with_use, world, written}
 use Rattle.aig_tools.specs.SimulationOutcome.{DoneAs, NotDoneAs, OfSource, SimulationDone, SimulationNotDone}
@@ -32,8 +32,11 @@ module _ (name : List ℕ) (lender : ℕ) (files files_now : Files) (past : Past
         → FailedFile errors.OutOfMemory name files files_now
     ran_out (suc n) bytes e b f = inr (past.bytes, Whole, tt, used_is Whole (shown.whole (omega (arith, e))))
     ran_out zero [] e b f =
-        inl (refl, shown.untouched e f b ∙ ap (λ o. record { uses = o.before; current = None }) of_it
-        ∙ ap (λ c. record { uses = files.uses; current = c }) (sym idle))
+        inl (
+          refl,
+          shown.untouched e f b ∙ ap (λ o. record { uses = o.before; current = None }) of_it
+              ∙ ap (λ c. record { uses = files.uses; current = c }) (sym idle),
+        )
     ran_out zero (x ∷ xs) e b f =
         let some : 0 < length past.bytes = omega (arith, ap length b) in
         inr (past.bytes, Left, some, used_is Left (shown.used e f some))
@@ -107,10 +110,13 @@ not_kept (Err e) answer destination name text lender files files_now opened past
     let bytes : past.bytes ≡ text = ap (λ (p : Past). p.bytes) is in
     let there = shown.used (ap (λ (p : Past). p.ends) is) (ap (λ (p : Past). p.failures) is) (omega (arith, long, ap length bytes)) in
     let kept = used_is name lender files files_now past idle o NotKept (there ∙ ap (λ (end : End). used_as end past) lost) in
-    subst (λ (d : Option (List ℕ)). FailedWriting d text (world files input output) (world files_now input output)) (sym some)
-    (length text, NotKept, take-length text,
-    ap (λ (fs : Files). world fs input output)
-    (kept ∙ ap (λ (bs : List ℕ). with_use name bs NotKept files) (bytes ∙ sym (take-length text))))
+    subst (λ (d : Option (List ℕ)). FailedWriting d text (world files input output) (world files_now input output)) (sym some) (
+      length text,
+      NotKept,
+      take-length text,
+      ap (λ (fs : Files). world fs input output)
+          (kept ∙ ap (λ (bs : List ℕ). with_use name bs NotKept files) (bytes ∙ sym (take-length text))),
+    )
 
 module _ (IsText : List ℕ → List ℕ → Type 0) (source destination : Option (List ℕ)) (text : List ℕ) (f f1 f2 : Files)
     (i i1 o o2 : Past)
@@ -129,12 +135,15 @@ module _ (IsText : List ℕ → List ℕ → Type 0) (source destination : Optio
       → ((input : Past) → FailedWriting destination text (world f1 input o) (world f2 input o2))
       → IfErr r (λ fault. NotDoneBetween IsText IsRefused fault source destination (world f i o) (world f2 i1 o2))
   failed_between IsRefused (Ok x) is wrote = tt
-  failed_between IsRefused (Err fault) is wrote = inl (is, record {
-    bytes = (read o).bytes;
-    text = text;
-    is_text = (read o).holds;
-    wrote = subst (λ (w : World). FailedWriting destination text w (world f2 i1 o2)) (read o).world (wrote i1);
-  })
+  failed_between IsRefused (Err fault) is wrote = inl (
+    is,
+    record {
+      bytes = (read o).bytes;
+      text = text;
+      is_text = (read o).holds;
+      wrote = subst (λ (w : World). FailedWriting destination text w (world f2 i1 o2)) (read o).world (wrote i1);
+    },
+  )
 
 -- what is said of a stimulus holds of the file that a request names
 pub of_file : {T F : Type 0} (P : F → Past → Past → Past → Past → Type 0) (r : Result T F) (source : Option (List ℕ))
@@ -144,13 +153,15 @@ pub of_file : {T F : Type 0} (P : F → Past → Past → Past → Past → Type
     → IfErr r (λ fault. OfSource (P fault) source (world files input output) (world files_now input output_now))
 of_file P (Ok x) source name lender files files_now opened past input output output_now some new shown said = tt
 of_file P (Err fault) source name lender files files_now opened past input output output_now some new shown said =
-    subst (λ (s : Option (List ℕ)). OfSource (P fault) s (world files input output) (world files_now input output_now)) (sym some)
-    (record {
-      lender = lender;
-      after = past;
-      holds = subst (λ (p : Past). P fault p past output output_now) new said;
-      shown = shown;
-    }, refl)
+    subst (λ (s : Option (List ℕ)). OfSource (P fault) s (world files input output) (world files_now input output_now)) (sym some) (
+      record {
+        lender = lender;
+        after = past;
+        holds = subst (λ (p : Past). P fault p past output output_now) new said;
+        shown = shown;
+      },
+      refl,
+    )
 
 module _ (request : Sim) (found : Circuit) (f f1 f2 : Files) (i i1 i2 o o2 : Past)
     (read : (output : Past) → HasReadFrom (λ bytes. IsFileOf bytes request.max_var found) (name_of request.model)

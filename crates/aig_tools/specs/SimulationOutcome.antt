@@ -1,5 +1,5 @@
 -- What came of a simulation, or of judging a witness file.
-use Rattle.std.specs.Prelude.{◌≡◌, ◌⊎◌, ℕ, List, [], Bool, Option, None, Some, false, true}
+use Rattle.std.specs.Prelude.{◌≡◌, ◌⊎◌, ℕ, List, Bool, Option, None, Some, false, true}
 use Rattle.aig_io.specs.Devices.{Past, took, unused}
 use Rattle.aig_io.specs.Files.{Files, Left}
 use Rattle.aig_files.specs.Named.{IsShown, named}

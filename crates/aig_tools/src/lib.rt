@@ -1,19 +1,11 @@
 //! The tools: what the program does with its arguments.
 //!
-//! Others call `start`, from the arguments to the status, and `serve`, the same over any
-//! `FileAccess`. The engines `run_toaig`, `run_sim`, `run_witness` and `run_unroll` work over any
-//! source and sink; but for `run_sim` they stand in `aig_engines`. Only these two crates know what each standard stream is
-//! for, the lines on standard error, and statuses.
+//! Others call `start`, from the arguments to the status, and `serve`, the same over any `FileAccess`. The engines
+//! `run_toaig`, `run_sim`, `run_witness` and `run_unroll` work over any source and sink; but for `run_sim` they stand
+//! in `aig_engines`. Only these two crates know what each standard stream is for, the lines on standard error, and
+//! statuses.
 //!
-//! Modules:
-//! - `simulation`: the engine of `aigsim`.
-//! - `named`: the engines between the streams and files that a request names.
-//! - `program`: `serve` and `start`, and what is answered where `start` cannot be called.
-//! - `laws`: the laws of the engines.
-//!
-//! Definitions (`specs/`); the one that matters most is `Ends`. Those of `aig_engines` are here too.
-//! - `SimulationOutcome`: what came of a simulation.
-//! - `Ending`: how a call of the program ends.
+//! The definition that matters most is `Ends`. Those of `aig_engines` are here too.
 #![tactic(auto)]
 
 pub mod laws;

@@ -1,7 +1,6 @@
 //! `aigsim`: simulation of AIGER files.
 ghost use Rattle.std.specs.Prelude.{◌≡◌, IfErr, IfOk, OnOk, false};
 ghost use Rattle.aig_io.specs.Devices.{CanFail};
-ghost use Rattle.aig_command.specs.Answer.{IsWitnessAlone};
 ghost use Rattle.aig_step.specs.Outcome.{Simulated};
 ghost use Rattle.aig_engines.specs.Simulation.{columns_of};
 ghost use Rattle.aig_tools.specs.SimulationOutcome.{DoneAs, NotDoneAs, NotSimulatedAs, NotTraced, Traced};

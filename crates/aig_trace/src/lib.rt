@@ -1,15 +1,7 @@
 //! The trace text of a stimulus that is taken line by line.
 //!
-//! Others call `simulate`. Where a whole stimulus is read first, `aig_batch` calls `Reader` for the
-//! lines that it does not step side by side.
-//!
-//! Modules:
-//! - `tracer`, `line_tracer`: a line and what is written for it; lines as they come. `reader`: what their bytes take.
-//! - `stream`: `simulate`.
-//! - `laws`: facts about the definitions alone, each the contract of a function with an empty body.
-//!
-//! Definitions (`specs/`): `Laws`, what the definitions of a trace's text say of one another; `Parts`, what only
-//! functions inside the simulator cite. What is promised of `simulate` stands in `Outcome` of `aig_step`.
+//! Others call `simulate`. Where a whole stimulus is read first, `aig_batch` calls `Reader` for the lines that it does
+//! not step side by side.
 #![tactic(auto)]
 
 pub mod laws;

@@ -1,6 +1,5 @@
 -- The text of an unrolled circuit, frame by frame.
-use Rattle.std.proofs.lemmas.Grind.{common_steps}
-use Rattle.std.proofs.Common.{◌≡◌, ◌+◌, ◌*◌, ◌<◌, ℕ, List, [], ◌++◌, false, ap, arith, subst, sym, ◌∙◌, rules}
+use Rattle.std.proofs.Common.{◌≡◌, ◌+◌, ◌*◌, ◌<◌, ℕ, List, ◌++◌, ap, arith, subst, sym, ◌∙◌, rules}
 use Rattle.std.proofs.Common.{append-nil, append_assoc, length}
 use Rattle.std.specs.List.{All, flat_map, range_with_len}
 use Rattle.std.proofs.lemmas.List.Concat.{flat_map-append}

@@ -1,10 +1,9 @@
 //! The unrolled circuit, written frame by frame: it is never held. A circuit and its frames are dropped by name, since
 //! a proof goes through all that goes out of scope by itself.
-ghost use Rattle.std.specs.Prelude.{◌≡◌, ◌+◌, ◌-◌, ◌^◌, ◌<◌, ◌≤◌, length, max, is_ok, IfErr, IfOk, OnErr, OnOk};
+ghost use Rattle.std.specs.Prelude.{◌≡◌, ◌<◌, ◌≤◌, length, IfErr, IfOk, OnErr, OnOk};
 ghost use Rattle.aig_circuit.specs.Wellformed.{IsWellFormed};
 ghost use Rattle.aig_io.specs.Output.{Put};
 ghost use Rattle.aig_io.specs.Devices.{CanFail, took, TookBeginning};
-ghost use Rattle.aig_io.specs.declared.block.TheConstants.{ROOM};
 ghost use Rattle.aig_text.specs.AsciiText.{ascii_text};
 ghost use Rattle.aig_binary.specs.BinaryText.{binary_text};
 ghost use Rattle.aig_unroll.specs.Unrolled.{IsTooLarge, IsUnrolled, IsUnsupported, frame_size, unrolled};

@@ -2,16 +2,7 @@
 //!
 //! Others call `confirm`.
 //!
-//! Modules:
-//! - `witness_line`: what single lines say.
-//! - `checker`, `search`: the lines, and the steps for them; the first step that confirms the claim.
-//! - `verdict`, `witness`: what is found; `confirm`.
-//! - `laws`: facts about the definitions alone, each the contract of a function with an empty body.
-//!
-//! Definitions (`specs/`); the one that matters most is `IsVerdict`:
-//! - `Witness`, `Confirming`: witness files, and what came of judging one.
-//! - `WitnessText`: a witness file as a whole. `Laws`: what the definitions say of one another.
-//! - `Parts`: what only private functions cite.
+//! The definition that matters most is `IsVerdict`.
 #![tactic(auto)]
 
 mod checker;

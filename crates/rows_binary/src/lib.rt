@@ -1,10 +1,5 @@
-//! Tests of calls of `aig_binary` and `aig_unroll` that neither a contract decides nor a run of the
-//! program shows. The texts that the program is run on stand in `tests/rows.sh`.
-//!
-//! Modules:
-//! - `deltas`: deltas of binary files.
-//! - `files`: canonical binary files that are read and written again.
-//! - `unrolled`: circuits that are unrolled.
+//! Tests of calls of `aig_binary` and `aig_unroll` that neither a contract decides nor a run of the program shows. The
+//! texts that the program is run on stand in `tests/rows.sh`.
 #![tactic(auto)]
 
 #[cfg(test)]

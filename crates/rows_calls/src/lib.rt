@@ -1,12 +1,5 @@
-//! Tests of calls of `aig_core` and `aig_text` that neither a contract decides nor a run of the
-//! program shows. The texts that the program is run on stand in `tests/rows.sh`.
-//!
-//! Modules:
-//! - `calls`: calls that are given what they need.
-//! - `copies`: circuits that are copied, compared, and made by hand.
-//! - `forms`: which circuits are in form.
-//! - `messages`: messages that the program does not print.
-//! - `orders`: orders of gates.
+//! Tests of calls of `aig_core` and `aig_text` that neither a contract decides nor a run of the program shows. The
+//! texts that the program is run on stand in `tests/rows.sh`.
 #![tactic(auto)]
 
 #[cfg(test)]

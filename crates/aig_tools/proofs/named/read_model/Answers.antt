@@ -1,4 +1,4 @@
-use Rattle.std.proofs.Common.{◌∙◌, ap, rules, sym}
+use Rattle.std.proofs.Common.{ap, rules}
 use Rattle.aig_command.specs.Answer.{name_of}
 use Rattle.aig_tools.proofs.NamedFiles.{file_refused, stream_refused}
 use Rattle.aig_tools.proofs.named.read_model.Goals as goal
