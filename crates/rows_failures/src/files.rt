@@ -11,7 +11,7 @@ use std::test::Fail;
 
 /// Whether the program answers this status and reports this, over these files: no byte is read from the standard input
 /// or written to the standard output, since their first call would fail.
-fn told(alloc: Global, files: &MemoryFiles<'_>, line: &str, status: u8, message: &str) -> bool {
+fn told(alloc: Global, files: &MemoryFiles<'_, '_>, line: &str, status: u8, message: &str) -> bool {
     let behaviour = Behaviour {
         piece: 1,
         failing_read: 0,
@@ -91,7 +91,7 @@ fn on_disk<T: Files>(rt: &T) -> Result<Metadata, Fail> {
 }
 
 /// The words of a row and its files, which move three bytes in a call, and of which none can be closed yet.
-fn row_of<'a>(row: &'a str, calls: &'a Calls) -> (&'a str, MemoryFiles<'a>) {
+fn row_of<'a>(row: &'a str, calls: &'a Calls) -> (&'a str, MemoryFiles<'a, 'a>) {
     let (words, text, wanted) = parts(row);
     let source = Readable {
         name: "source",
@@ -155,12 +155,12 @@ fn failed_sources(rt: HostRuntime) {
     for row in ROWS.split('#') {
         let calls = Calls::none();
         let (words, mut files) = row_of(row, &calls);
-        for read in 0..files.readable[0].text.len() as u64 / 3 {
+        for read in 0..parts(row).1.len() as u64 / 3 {
             files.readable[0].failing = read;
             assert!(rt; told(rt.alloc(), &files, words, 1, line), "read {read}");
         }
-        files.readable[0].name = "another";
-        files.readable[1].name = "another";
+        let words = "aiger aigtoaig another destination";
+        let line = "aiger: another: cannot read\n";
         assert!(rt; told(rt.alloc(), &files, words, 1, line));
     }
 }

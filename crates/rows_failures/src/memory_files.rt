@@ -51,18 +51,18 @@ pub(crate) struct Readable<'a> {
 /// takes that text and no other. The write numbered `failing_write`, counted from 0, fails, and no other does. A file
 /// without metadata cannot be closed.
 #[derive(Drop)]
-pub(crate) struct MemoryFiles<'a> {
+pub(crate) struct MemoryFiles<'a, 'c> {
     pub readable: [Readable<'a>; 2],
     pub wanted: Option<&'a [u8]>,
     pub piece: usize,
     pub failing_write: u64,
     pub metadata: Option<&'a Metadata>,
-    pub calls: &'a Calls,
+    pub calls: &'c Calls,
 }
 
-impl<'a> MemoryFiles<'a> {
+impl<'a, 'c> MemoryFiles<'a, 'c> {
     /// The file of this text, if it is read, and of the text that is wanted, if it is written.
-    fn file(&self, text: &'a [u8], failing: u64, wanted: &'a [u8]) -> MemoryFile<'a> {
+    fn file(&self, text: &'a [u8], failing: u64, wanted: &'a [u8]) -> MemoryFile<'a, 'c> {
         MemoryFile {
             reader: OnceReader {
                 left: text,
@@ -80,7 +80,7 @@ impl<'a> MemoryFiles<'a> {
     }
 
     /// The file with this name, to be read.
-    fn readable(&self, name: &str) -> io::Result<MemoryFile<'a>> {
+    fn readable(&self, name: &str) -> io::Result<MemoryFile<'a, 'c>> {
         for it in &self.readable {
             if it.name == name {
                 return Ok(self.file(it.text, it.failing, b""));
@@ -98,23 +98,23 @@ impl<'a> MemoryFiles<'a> {
 
 /// A file that is open.
 #[derive(Drop)]
-pub(crate) struct MemoryFile<'a> {
+pub(crate) struct MemoryFile<'a, 'c> {
     reader: OnceReader<'a>,
     wanted: &'a [u8],
     piece: usize,
     failing_write: u64,
     writes: u64,
     metadata: Option<&'a Metadata>,
-    calls: &'a Calls,
+    calls: &'c Calls,
 }
 
-impl Read for MemoryFile<'_> {
+impl Read for MemoryFile<'_, '_> {
     fn read(&mut self, into: &mut [u8]) -> io::Result<usize> {
         self.reader.read(into)
     }
 }
 
-impl Write for MemoryFile<'_> {
+impl Write for MemoryFile<'_, '_> {
     fn write(&mut self, bytes: &[u8]) -> io::Result<usize> {
         let write = self.writes;
         self.writes = write.saturating_add(1);
@@ -131,14 +131,14 @@ impl Write for MemoryFile<'_> {
     }
 }
 
-impl Seek for MemoryFile<'_> {
+impl Seek for MemoryFile<'_, '_> {
     fn seek(&mut self, _to: SeekFrom) -> io::Result<u64> {
         count(&self.calls.others);
         Err(io::Error::from(ErrorKind::Unsupported))
     }
 }
 
-impl OpenFile for MemoryFile<'_> {
+impl OpenFile for MemoryFile<'_, '_> {
     /// All that is wanted was written by then.
     fn metadata(&self) -> io::Result<Metadata> {
         match self.metadata {
@@ -163,8 +163,8 @@ impl OpenFile for MemoryFile<'_> {
     }
 }
 
-impl<'a> Files for MemoryFiles<'a> {
-    type File = MemoryFile<'a>;
+impl<'a, 'c> Files for MemoryFiles<'a, 'c> {
+    type File = MemoryFile<'a, 'c>;
 
     type Dir = OnceReader<'a>;
 
