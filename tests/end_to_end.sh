@@ -21,7 +21,7 @@ row() {
 [ "${1:-rows}" != rows ] || rows
 [ "${1:-rest}" = rest ] || finish
 
-convert() { "$program" aigtoaig --ascii; }
+convert() { "$program" aigtoaig --ascii "$@"; }
 small='aag 3 1 1 2 0\n6\n2 7\n2\n0\n'
 printf '%b' "$small" > "$work/small"
 
@@ -578,5 +578,6 @@ done
 witness_devices
 . "$top/tests/launcher.sh"
 . "$top/tests/other_tools.sh"
+. "$top/tests/flows.sh"
 
 finish

@@ -4,7 +4,8 @@
 #
 # Tried with berkeley-abc 1.01 and yosys 0.23 of Debian 12. They may merge equal gates and leave out gates that nothing
 # uses; no example has such gates. For yosys a latch has to be made a flip-flop of its gate library (simplemap). Both read a
-# bad state as an output: abc writes outputs as bad states where there is a constraint, and yosys drops constraints.
+# bad state as an output: abc writes outputs as bad states where there is a constraint. Yosys drops constraints, and gates
+# that nothing else uses, so it is given constraints as outputs.
 
 # write_again TOOL: has the tool read in.aig and write out.aig, in the folder $work, where it may leave other files too
 write_again() {
@@ -17,8 +18,13 @@ write_again() {
     ) > "$work/out" 2>&1 < /dev/null
 }
 
-# bare_image FILE: the file in binary, without its names and comment, since tools differ in which names they take
-bare_image() { "$program" aigtoaig --strip < "$1"; }
+# bare_image FILE TOOL: the file in binary, without its names and comment, since tools differ in which names they take
+bare_image() {
+    convert --strip < "$1" | awk -v tool="$2" '
+        NR == 1 && tool == "yosys" { print $1, $2, $3, $4, $5 + $7 + $8, $6; next }
+        { print }
+    ' | "$program" aigtoaig
+}
 
 # counts FILE: of inputs, latches, gates, outputs and bad states together, and constraints, as the header has them; then what
 # each latch starts at
@@ -33,9 +39,8 @@ counts() {
 tool_agrees() {
     local name="$1 reads the binary image of ${2##*/}" wanted came
     rm -f "$work/out.aig"
-    bare_image "$2" > "$work/in.aig"
+    bare_image "$2" "$1" > "$work/in.aig"
     wanted=$(counts "$work/in.aig")
-    [ "$1" = yosys ] && wanted=$(sed -E 's/^(counts [0-9]+ [0-9]+ [0-9]+ [0-9]+) [0-9]+/\1 0/' <<< "$wanted")
     write_again "$1"
     came=
     [ -e "$work/out.aig" ] && came=$(counts "$work/out.aig")
