@@ -5,3 +5,5 @@ pub mod WitnessRoom
 pub mod WitnessValues
 pub mod Witnessing
 pub mod WitnessTexts
+pub mod Verdicts
+pub mod WitnessFiles
