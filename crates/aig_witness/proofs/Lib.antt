@@ -7,3 +7,4 @@ pub mod Witnessing
 pub mod WitnessTexts
 pub mod Verdicts
 pub mod WitnessFiles
+pub mod FirstWrong

@@ -1,9 +1,14 @@
 //! Laws: facts about the definitions alone, each the contract of a function with an empty body.
-ghost use Rattle.aig_witness.specs.Laws.{ClaimsHaveFiles, OneVerdict, WitnessFilesAreRead};
+ghost use Rattle.aig_witness.specs.Laws.{ClaimsHaveFiles, FirstWrongLinesAreFound, OneVerdict, WitnessFilesAreRead};
 
 /// What is read of a witness file, line by line, is what the file as a whole says.
 pub fn witness_files_are_read()
     ensures { WitnessFilesAreRead }
+{}
+
+/// The line of a witness file that is found to be the first wrong one, or missing, is what the texts of its lines say.
+pub fn first_wrong_lines_are_found()
+    ensures { FirstWrongLinesAreFound }
 {}
 
 /// What a witness file claims of a well-formed circuit has exactly one verdict.

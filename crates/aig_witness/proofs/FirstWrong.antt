@@ -1,0 +1,279 @@
+-- The line that is reported as wrong is the first that is wrong or missing.
+use Rattle.std.proofs.Common.{◌≡◌, ◌&&◌, ◌+◌, ◌<◌, ◌++◌, ◌∙◌, ℕ, suc, List, [], ◌∷◌, Bool, true, false, not, Option}
+use Rattle.std.proofs.Common.{None, Some, Result, ap, append-nil, append_assoc, arith, bytes_eq, codes, inl, inr, length}
+use Rattle.std.proofs.Common.{length-append, map, option_map, refl, subst, sym, if◌then◌else◌}
+use Rattle.std.specs.Prelude.{◌↔◌}
+use Rattle.std.specs.Bool.{Decides}
+use Rattle.std.specs.List.{Contains}
+use Rattle.std.proofs.lemmas.List.{length-map}
+use Rattle.std.proofs.lemmas.List.Elements.{Contains-push, Contains-push_cases}
+use Rattle.std.proofs.lemmas.Slice.Eq.{bytes_eq-Decides}
+use Rattle.aig_circuit.specs.declared.circuit.Circuit.{Circuit}
+use Rattle.aig_circuit.specs.declared.value.Val.{Val}
+use Rattle.aig_rows.specs.Spelling.{value_of as number_of}
+use Rattle.aig_step.specs.Stimulus.{Entry, Step, Stop, entry_in, judged_lines, text_of, values_of}
+use Rattle.aig_step.proofs.LineValues.{values_back}
+use Rattle.aig_witness.specs.Laws.{FirstWrongLinesAreFound}
+use Rattle.aig_witness.specs.Witness.{Claim, Nothing, Property, Said, Shape, Steps, Version, Whole, begun_at}
+use Rattle.aig_witness.specs.Witness.{first_state_in, is_whole, property_in, said_behind, said_with}
+use Rattle.aig_witness.specs.Witness.{shape_of, with_entry, wrong_line}
+use Rattle.aig_witness.specs.WrongLine.{AreRightBehind, HaveEnd, IsRightBehind, IsWrongNext}
+use Rattle.aig_witness.proofs.Witnessing.{may_start}
+use Rattle.aig_witness.proofs.WitnessTexts.{by_texts, first_said, number_said, said_texts, says_step, step_text}
+use Rattle.aig_witness.proofs.WitnessTexts.{stop_text}
+use Rattle.aig_witness.proofs.WitnessValues.{number_read}
+
+module _ (c : Circuit) where
+  abbrev shape : Shape
+  shape = shape_of c
+
+  -- what lines of these texts say, by how many there are
+  abbrev IsAfter : Said → List (List ℕ) → Type 0
+  IsAfter Nothing before = before ≡ []
+  IsAfter Version before = (one : List ℕ) × (before ≡ one ∷ [])
+  IsAfter (Property p) before = (one : List ℕ) × (two : List ℕ) × (before ≡ one ∷ two ∷ [])
+  IsAfter (Steps claim) before =
+      (one : List ℕ) × (two : List ℕ) × (three : List ℕ) × (more : List (List ℕ))
+      × (before ≡ one ∷ two ∷ three ∷ more) × ¬ Contains more (codes ".")
+  IsAfter (Whole claim) before =
+      (one : List ℕ) × (two : List ℕ) × (three : List ℕ) × (more : List (List ℕ))
+      × (before ≡ one ∷ two ∷ three ∷ more) × Contains more (codes ".")
+
+  -- what one more line of this text says, if it is right
+  abbrev IsNext : (before : List (List ℕ)) → (text : List ℕ) → Option Said → Type 0
+  IsNext before text None = ¬ IsRightBehind c before text
+  IsNext before text (Some next) = IsRightBehind c before text × IsAfter next (before ++ text ∷ [])
+
+  first : (text : List ℕ) (is : Bool) → Decides is (text ≡ codes "1") → IsNext [] text (if is then Some Version else None)
+  first text true decides = (decides.0 refl, (text, refl))
+  first text false decides = λ right. let no : false ≡ true = decides.1 right in cc
+
+  second : (one text : List ℕ) (o : Option ℕ) → property_in (length c.bad) text ≡ o
+      → IsNext (one ∷ []) text (option_map Property o)
+  second one text None is = λ right.
+      let said = number_said (length c.bad) right.digits (number_of right.digits) right.canonical refl right.below in
+      let some : property_in (length c.bad) text ≡ Some (number_of right.digits) =
+      ap (property_in (length c.bad)) right.text_is ∙ said in cc
+  second one text (Some p) is =
+      let read = number_read (length c.bad) text p is in (
+        record {
+          digits = read.digits;
+          canonical = read.canonical;
+          below = subst (λ (n : ℕ). n < length c.bad) (sym read.number) read.below;
+          text_is = read.text_is;
+        },
+        (one, text, refl),
+      )
+
+  third : (p : ℕ) (one two text : List ℕ) (o : Option (List Val)) → first_state_in shape.resets text ≡ o
+      → IsNext (one ∷ two ∷ []) text (option_map (begun_at p) o)
+  third p one two text None is = λ right.
+      let some : first_state_in shape.resets text ≡ Some right.0 =
+      ap (first_state_in shape.resets) right.2 ∙ first_said shape.resets right.0 right.1 in cc
+  third p one two text (Some values) is =
+      let may = may_start shape.resets (values_of text) values is in
+      ((values, may.1, sym (values_back text values may.0)), (one, two, text, [], refl, λ has. omega (arith, has.1)))
+
+  behind : (claim : Claim) (one two three text : List ℕ) (more : List (List ℕ)) (o : Option Entry)
+      → ¬ Contains more (codes ".") → entry_in shape.inputs text ≡ o
+      → IsNext (one ∷ two ∷ three ∷ more) text (option_map (with_entry claim) o)
+  behind claim one two three text more None free is = λ right. elim right.1 [
+    | inl step ↦
+        let some : entry_in shape.inputs text ≡ Some (Step step.0) =
+        ap (entry_in shape.inputs) step.2 ∙ says_step shape.inputs step.0 step.1 in cc
+    | inr stop ↦ let some : entry_in shape.inputs text ≡ Some Stop = ap (entry_in shape.inputs) stop in cc
+  ]
+  behind claim one two three text more (Some (Step given)) free is =
+      let step = step_text shape.inputs text given is in (
+        (free, inl (given, step.long, step.text_is)),
+        (
+          one,
+          two,
+          three,
+          more ++ text ∷ [],
+          refl,
+          λ has. elim (Contains-push_cases more text (codes ".") has) [
+            | inl before ↦ free before
+            | inr stop ↦ let other : entry_in shape.inputs text ≡ Some Stop = ap (entry_in shape.inputs) stop in cc
+          ],
+        ),
+      )
+  behind claim one two three text more (Some Stop) free is =
+      let stop = stop_text shape.inputs text is in (
+        (free, inr stop),
+        (
+          one,
+          two,
+          three,
+          more ++ text ∷ [],
+          refl,
+          subst (λ (t : List ℕ). Contains (more ++ t ∷ []) (codes ".")) (sym stop) (Contains-push more (codes ".")),
+        ),
+      )
+
+  next_line : (said : Said) (before : List (List ℕ)) (text : List ℕ) → IsAfter said before
+      → IsNext before text (said_with shape said text)
+  next_line Nothing before text after = rw after (first text (bytes_eq text (codes "1")) (bytes_eq-Decides text (codes "1")))
+  next_line Version before text (one, is) = rw is (second one text (property_in (length c.bad) text) refl)
+  next_line (Property p) before text (one, two, is) =
+      rw is (third p one two text (first_state_in shape.resets text) refl)
+  next_line (Steps claim) before text (one, two, three, more, is, free) =
+      rw is (behind claim one two three text more (entry_in shape.inputs text) free refl)
+  next_line (Whole claim) before text (one, two, three, more, is, has) = rw is (λ right. right.0 has)
+
+  has_end : (said : Said) (before : List (List ℕ)) → IsAfter said before → Decides (is_whole said) (HaveEnd before)
+  has_end Nothing before after = rw after (λ (no : false ≡ true). cc, λ has. absurd has)
+  has_end Version before (one, is) = rw is (λ (no : false ≡ true). cc, λ has. absurd has)
+  has_end (Property p) before (one, two, is) = rw is (λ (no : false ≡ true). cc, λ has. absurd has)
+  has_end (Steps claim) before (one, two, three, more, is, free) =
+      rw is (λ (no : false ≡ true). cc, λ has. absurd (free has))
+  has_end (Whole claim) before (one, two, three, more, is, has) = rw is (λ _. has, λ _. refl)
+
+  missing : (ended whole : Bool) (before : List (List ℕ)) (lines m : ℕ) → Decides whole (HaveEnd before)
+      → lines ≡ length before
+      → ((if ended && not whole then Some (suc lines) else None) ≡ Some m)
+      ↔ ((m ≡ suc (length before)) × IsWrongNext c ended before [])
+  missing true true before lines m decides long = (λ is. cc, λ wrong. absurd (wrong.1.1 (decides.0 refl)))
+  missing true false before lines m decides long = (
+    λ is.
+        let same : suc lines ≡ m = cc in
+        (omega (arith, same, long), (refl, λ has. let no : false ≡ true = decides.1 has in cc)),
+    λ wrong. ap (λ (n : ℕ). Some n) (omega (arith, wrong.0, long)),
+  )
+  missing false whole before lines m decides long = (λ is. cc, λ wrong. let no : false ≡ true = wrong.1.0 in cc)
+
+  module _ (ended : Bool) where
+    -- the first wrong line of these, behind those before
+    record IsWrong (before texts : List (List ℕ)) (number : ℕ) : Type 0 where
+      front : List (List ℕ)
+      rest : List (List ℕ)
+      parted : texts ≡ front ++ rest
+      place : number ≡ suc (length before + length front)
+      right : AreRightBehind c before front
+      wrong : IsWrongNext c ended (before ++ front) rest
+
+    here : (before texts : List (List ℕ)) (m : ℕ) → m ≡ suc (length before) → IsWrongNext c ended before texts
+        → IsWrong before texts m
+    here before texts m place wrong = record {
+      front = [];
+      rest = texts;
+      parted = refl;
+      place = omega (arith, place);
+      right = tt;
+      wrong = subst (λ (b : List (List ℕ)). IsWrongNext c ended b texts) (sym (append-nil before)) wrong;
+    }
+
+    -- where no line is left
+    missing_is : (before front rest : List (List ℕ)) → [] ≡ front ++ rest → IsWrongNext c ended (before ++ front) rest
+        → (front ≡ []) × IsWrongNext c ended before []
+    missing_is before [] [] parted wrong =
+        (refl, subst (λ (b : List (List ℕ)). IsWrongNext c ended b []) (append-nil before) wrong)
+    missing_is before [] (t ∷ ts) parted wrong = cc
+    missing_is before (t ∷ ts) rest parted wrong = cc
+
+    -- where the next line is wrong
+    wrong_is : (before front rest : List (List ℕ)) (t : List ℕ) (ts : List (List ℕ)) → t ∷ ts ≡ front ++ rest
+        → AreRightBehind c before front → ¬ IsRightBehind c before t → front ≡ []
+    wrong_is before [] rest t ts parted right other = refl
+    wrong_is before (u ∷ us) rest t ts parted right other =
+        let same : u ≡ t = cc in absurd (other (subst (IsRightBehind c before) same right.0))
+
+    -- where it is right
+    later : (before front rest : List (List ℕ)) (t : List ℕ) (ts : List (List ℕ)) (m : ℕ) → t ∷ ts ≡ front ++ rest
+        → m ≡ suc (length before + length front) → AreRightBehind c before front
+        → IsWrongNext c ended (before ++ front) rest → IsRightBehind c before t → IsWrong (before ++ t ∷ []) ts m
+    later before [] rest t ts m parted place right wrong is =
+        let no : ¬ IsRightBehind c before t =
+        subst (λ (b : List (List ℕ)). IsWrongNext c ended b (t ∷ ts)) (append-nil before)
+        (subst (IsWrongNext c ended (before ++ [])) (sym parted) wrong) in absurd (no is)
+    later before (u ∷ us) rest t ts m parted place right wrong is =
+        let same : u ≡ t = cc in
+        let others : ts ≡ us ++ rest = cc in
+        record {
+          front = us;
+          rest = rest;
+          parted = others;
+          place = omega (arith, place, length-append before (t ∷ []));
+          right = subst (λ (v : List ℕ). AreRightBehind c (before ++ v ∷ []) us) same right.1;
+          wrong = subst (λ (b : List (List ℕ)). IsWrongNext c ended b rest)
+              (sym (append_assoc before (t ∷ []) us))
+              (subst (λ (v : List ℕ). IsWrongNext c ended (before ++ v ∷ us) rest) same wrong);
+        }
+
+    earlier : (before ts : List (List ℕ)) (t : List ℕ) (m : ℕ) → IsRightBehind c before t
+        → IsWrong (before ++ t ∷ []) ts m → IsWrong before (t ∷ ts) m
+    earlier before ts t m right w = record {
+      front = t ∷ w.front;
+      rest = w.rest;
+      parted = ap (λ (us : List (List ℕ)). t ∷ us) w.parted;
+      place = omega (arith, w.place, length-append before (t ∷ []));
+      right = (right, w.right);
+      wrong = subst (λ (b : List (List ℕ)). IsWrongNext c ended b w.rest) (append_assoc before (t ∷ []) w.front) w.wrong;
+    }
+
+    -- what is said with one more line of this text, and with those behind it
+    abbrev IsTold : ℕ → ℕ → (before texts : List (List ℕ)) → Result Said ℕ → Type 0
+    IsTold lines m before texts said = (wrong_line lines ended said ≡ Some m) ↔ IsWrong before texts m
+
+    told_line : (lines m n : ℕ) (before ts : List (List ℕ)) (t : List ℕ) (o : Option Said) → n ≡ suc (length before)
+        → IsNext before t o
+        → ((next : Said) → IsAfter next (before ++ t ∷ [])
+        → IsTold lines m (before ++ t ∷ []) ts (said_texts shape (suc n) next ts))
+        → IsTold lines m before (t ∷ ts) (said_behind n o (λ next. said_texts shape (suc n) next ts))
+    told_line lines m n before ts t None numbered other others = (
+      λ is. let same : n ≡ m = cc in here before (t ∷ ts) m (omega (arith, same, numbered)) other,
+      λ w.
+          let none = wrong_is before w.front w.rest t ts w.parted w.right other in
+          ap (λ (k : ℕ). Some k) (omega (arith, w.place, numbered, ap length none)),
+    )
+    told_line lines m n before ts t (Some next) numbered right others =
+        let behind = others next right.1 in (
+          λ is. earlier before ts t m right.0 (behind.0 is),
+          λ w. behind.1 (later before w.front w.rest t ts m w.parted w.place w.right w.wrong right.0),
+        )
+
+    told_lines : (lines m n : ℕ) (before ts : List (List ℕ)) (said : Said) → n ≡ suc (length before)
+        → lines ≡ length before + length ts → IsAfter said before
+        → IsTold lines m before ts (said_texts shape n said ts)
+    unfolding said_texts
+    told_lines lines m n before [] said numbered long after =
+        let last = missing ended (is_whole said) before lines m (has_end said before after) (omega (arith, long)) in (
+          λ is. let wrong = last.0 is in here before [] m wrong.0 wrong.1,
+          λ w.
+              let wrong = missing_is before w.front w.rest w.parted w.wrong in
+              last.1 (omega (arith, w.place, ap length wrong.0), wrong.1),
+        )
+    told_lines lines m n before (t ∷ ts) said numbered long after =
+        told_line lines m n before ts t (said_with shape said t) numbered (next_line said before t after)
+        (λ next after_next.
+        told_lines lines m (suc n) (before ++ t ∷ []) ts next
+        (omega (arith, numbered, length-append before (t ∷ [])))
+        (omega (arith, long, length-append before (t ∷ []))) after_next)
+
+pub first_wrong_lines_are_found : FirstWrongLinesAreFound
+first_wrong_lines_are_found c bytes ended number =
+    let lines = judged_lines bytes ended in
+    let texts = map text_of lines in
+    let same = ap (wrong_line (length lines) ended) (by_texts (shape_of c) 1 Nothing lines) in
+    let told = told_lines c ended (length lines) number 1 [] texts Nothing refl
+    (omega (arith, length-map lines text_of)) refl in (
+      λ is.
+          let w = told.0 (sym same ∙ is) in
+          record {
+            before = w.front;
+            behind = w.rest;
+            texts = w.parted;
+            place = omega (arith, w.place);
+            right = w.right;
+            wrong = w.wrong;
+          },
+      λ w.
+          same ∙ told.1 (record {
+            front = w.before;
+            rest = w.behind;
+            parted = w.texts;
+            place = omega (arith, w.place);
+            right = w.right;
+            wrong = w.wrong;
+          }),
+    )
