@@ -17,10 +17,10 @@ use Rattle.aig_witness.specs.Laws.{FirstWrongLinesAreFound}
 use Rattle.aig_witness.specs.Witness.{Claim, Nothing, Property, Said, Shape, Steps, Version, Whole, begun_at}
 use Rattle.aig_witness.specs.Witness.{first_state_in, is_whole, property_in, said_behind, said_with}
 use Rattle.aig_witness.specs.Witness.{shape_of, with_entry, wrong_line}
-use Rattle.aig_witness.specs.WrongLine.{AreRightBehind, HaveEnd, IsRightBehind, IsWrongNext}
+use Rattle.aig_witness.specs.WrongLine.{AreRightBehind, HaveEnd, IsFirstWrong, IsRightBehind, IsWrongNext}
 use Rattle.aig_witness.proofs.Witnessing.{may_start}
-use Rattle.aig_witness.proofs.WitnessTexts.{by_texts, first_said, number_said, said_texts, says_step, step_text}
-use Rattle.aig_witness.proofs.WitnessTexts.{stop_text}
+use Rattle.aig_step.proofs.StimulusTexts.{IsEntryText, entry_read}
+use Rattle.aig_witness.proofs.WitnessTexts.{by_texts, first_said, number_said, said_texts}
 use Rattle.aig_witness.proofs.WitnessValues.{number_read}
 
 module _ (c : Circuit) where
@@ -75,41 +75,34 @@ module _ (c : Circuit) where
       ((values, may.1, sym (values_back text values may.0)), (one, two, text, [], refl, λ has. omega (arith, has.1)))
 
   behind : (claim : Claim) (one two three text : List ℕ) (more : List (List ℕ)) (o : Option Entry)
-      → ¬ Contains more (codes ".") → entry_in shape.inputs text ≡ o
+      → ¬ Contains more (codes ".") → entry_in shape.inputs text ≡ o → IsEntryText c text o
       → IsNext (one ∷ two ∷ three ∷ more) text (option_map (with_entry claim) o)
-  behind claim one two three text more None free is = λ right. elim right.1 [
-    | inl step ↦
-        let some : entry_in shape.inputs text ≡ Some (Step step.0) =
-        ap (entry_in shape.inputs) step.2 ∙ says_step shape.inputs step.0 step.1 in cc
-    | inr stop ↦ let some : entry_in shape.inputs text ≡ Some Stop = ap (entry_in shape.inputs) stop in cc
-  ]
-  behind claim one two three text more (Some (Step given)) free is =
-      let step = step_text shape.inputs text given is in (
-        (free, inl (given, step.long, step.text_is)),
-        (
-          one,
-          two,
-          three,
-          more ++ text ∷ [],
-          refl,
-          λ has. elim (Contains-push_cases more text (codes ".") has) [
-            | inl before ↦ free before
-            | inr stop ↦ let other : entry_in shape.inputs text ≡ Some Stop = ap (entry_in shape.inputs) stop in cc
-          ],
-        ),
-      )
-  behind claim one two three text more (Some Stop) free is =
-      let stop = stop_text shape.inputs text is in (
-        (free, inr stop),
-        (
-          one,
-          two,
-          three,
-          more ++ text ∷ [],
-          refl,
-          subst (λ (t : List ℕ). Contains (more ++ t ∷ []) (codes ".")) (sym stop) (Contains-push more (codes ".")),
-        ),
-      )
+  behind claim one two three text more None free is read = λ right. read right.1
+  behind claim one two three text more (Some (Step given)) free is read = (
+    (free, inl (given, read.long, read.text_is)),
+    (
+      one,
+      two,
+      three,
+      more ++ text ∷ [],
+      refl,
+      λ has. elim (Contains-push_cases more text (codes ".") has) [
+        | inl before ↦ free before
+        | inr stop ↦ let other : entry_in shape.inputs text ≡ Some Stop = ap (entry_in shape.inputs) stop in cc
+      ],
+    ),
+  )
+  behind claim one two three text more (Some Stop) free is read = (
+    (free, inr read),
+    (
+      one,
+      two,
+      three,
+      more ++ text ∷ [],
+      refl,
+      subst (λ (t : List ℕ). Contains (more ++ t ∷ []) (codes ".")) (sym read) (Contains-push more (codes ".")),
+    ),
+  )
 
   next_line : (said : Said) (before : List (List ℕ)) (text : List ℕ) → IsAfter said before
       → IsNext before text (said_with shape said text)
@@ -118,7 +111,8 @@ module _ (c : Circuit) where
   next_line (Property p) before text (one, two, is) =
       rw is (third p one two text (first_state_in shape.resets text) refl)
   next_line (Steps claim) before text (one, two, three, more, is, free) =
-      rw is (behind claim one two three text more (entry_in shape.inputs text) free refl)
+      rw is (behind claim one two three text more (entry_in shape.inputs text) free refl
+      (entry_read c text (entry_in shape.inputs text) refl))
   next_line (Whole claim) before text (one, two, three, more, is, has) = rw is (λ right. right.0 has)
 
   has_end : (said : Said) (before : List (List ℕ)) → IsAfter said before → Decides (is_whole said) (HaveEnd before)
@@ -143,24 +137,15 @@ module _ (c : Circuit) where
   missing false whole before lines m decides long = (λ is. cc, λ wrong. let no : false ≡ true = wrong.1.0 in cc)
 
   module _ (ended : Bool) where
-    -- the first wrong line of these, behind those before
-    record IsWrong (before texts : List (List ℕ)) (number : ℕ) : Type 0 where
-      front : List (List ℕ)
-      rest : List (List ℕ)
-      parted : texts ≡ front ++ rest
-      place : number ≡ suc (length before + length front)
-      right : AreRightBehind c before front
-      wrong : IsWrongNext c ended (before ++ front) rest
-
     here : (before texts : List (List ℕ)) (m : ℕ) → m ≡ suc (length before) → IsWrongNext c ended before texts
-        → IsWrong before texts m
+        → IsFirstWrong c ended before texts m
     here before texts m place wrong = record {
-      front = [];
-      rest = texts;
+      right = [];
+      behind = texts;
       parted = refl;
       place = omega (arith, place);
-      right = tt;
-      wrong = subst (λ (b : List (List ℕ)). IsWrongNext c ended b texts) (sym (append-nil before)) wrong;
+      are_right = tt;
+      is_wrong = subst (λ (b : List (List ℕ)). IsWrongNext c ended b texts) (sym (append-nil before)) wrong;
     }
 
     -- where no line is left
@@ -181,7 +166,8 @@ module _ (c : Circuit) where
     -- where it is right
     later : (before front rest : List (List ℕ)) (t : List ℕ) (ts : List (List ℕ)) (m : ℕ) → t ∷ ts ≡ front ++ rest
         → m ≡ suc (length before + length front) → AreRightBehind c before front
-        → IsWrongNext c ended (before ++ front) rest → IsRightBehind c before t → IsWrong (before ++ t ∷ []) ts m
+        → IsWrongNext c ended (before ++ front) rest → IsRightBehind c before t
+        → IsFirstWrong c ended (before ++ t ∷ []) ts m
     later before [] rest t ts m parted place right wrong is =
         let no : ¬ IsRightBehind c before t =
         subst (λ (b : List (List ℕ)). IsWrongNext c ended b (t ∷ ts)) (append-nil before)
@@ -190,30 +176,31 @@ module _ (c : Circuit) where
         let same : u ≡ t = cc in
         let others : ts ≡ us ++ rest = cc in
         record {
-          front = us;
-          rest = rest;
+          right = us;
+          behind = rest;
           parted = others;
           place = omega (arith, place, length-append before (t ∷ []));
-          right = subst (λ (v : List ℕ). AreRightBehind c (before ++ v ∷ []) us) same right.1;
-          wrong = subst (λ (b : List (List ℕ)). IsWrongNext c ended b rest)
+          are_right = subst (λ (v : List ℕ). AreRightBehind c (before ++ v ∷ []) us) same right.1;
+          is_wrong = subst (λ (b : List (List ℕ)). IsWrongNext c ended b rest)
               (sym (append_assoc before (t ∷ []) us))
               (subst (λ (v : List ℕ). IsWrongNext c ended (before ++ v ∷ us) rest) same wrong);
         }
 
     earlier : (before ts : List (List ℕ)) (t : List ℕ) (m : ℕ) → IsRightBehind c before t
-        → IsWrong (before ++ t ∷ []) ts m → IsWrong before (t ∷ ts) m
+        → IsFirstWrong c ended (before ++ t ∷ []) ts m → IsFirstWrong c ended before (t ∷ ts) m
     earlier before ts t m right w = record {
-      front = t ∷ w.front;
-      rest = w.rest;
+      right = t ∷ w.right;
+      behind = w.behind;
       parted = ap (λ (us : List (List ℕ)). t ∷ us) w.parted;
       place = omega (arith, w.place, length-append before (t ∷ []));
-      right = (right, w.right);
-      wrong = subst (λ (b : List (List ℕ)). IsWrongNext c ended b w.rest) (append_assoc before (t ∷ []) w.front) w.wrong;
+      are_right = (right, w.are_right);
+      is_wrong = subst (λ (b : List (List ℕ)). IsWrongNext c ended b w.behind) (append_assoc before (t ∷ []) w.right)
+          w.is_wrong;
     }
 
     -- what is said with one more line of this text, and with those behind it
     abbrev IsTold : ℕ → ℕ → (before texts : List (List ℕ)) → Result Said ℕ → Type 0
-    IsTold lines m before texts said = (wrong_line lines ended said ≡ Some m) ↔ IsWrong before texts m
+    IsTold lines m before texts said = (wrong_line lines ended said ≡ Some m) ↔ IsFirstWrong c ended before texts m
 
     told_line : (lines m n : ℕ) (before ts : List (List ℕ)) (t : List ℕ) (o : Option Said) → n ≡ suc (length before)
         → IsNext before t o
@@ -223,13 +210,13 @@ module _ (c : Circuit) where
     told_line lines m n before ts t None numbered other others = (
       λ is. let same : n ≡ m = cc in here before (t ∷ ts) m (omega (arith, same, numbered)) other,
       λ w.
-          let none = wrong_is before w.front w.rest t ts w.parted w.right other in
+          let none = wrong_is before w.right w.behind t ts w.parted w.are_right other in
           ap (λ (k : ℕ). Some k) (omega (arith, w.place, numbered, ap length none)),
     )
     told_line lines m n before ts t (Some next) numbered right others =
         let behind = others next right.1 in (
           λ is. earlier before ts t m right.0 (behind.0 is),
-          λ w. behind.1 (later before w.front w.rest t ts m w.parted w.place w.right w.wrong right.0),
+          λ w. behind.1 (later before w.right w.behind t ts m w.parted w.place w.are_right w.is_wrong right.0),
         )
 
     told_lines : (lines m n : ℕ) (before ts : List (List ℕ)) (said : Said) → n ≡ suc (length before)
@@ -240,7 +227,7 @@ module _ (c : Circuit) where
         let last = missing ended (is_whole said) before lines m (has_end said before after) (omega (arith, long)) in (
           λ is. let wrong = last.0 is in here before [] m wrong.0 wrong.1,
           λ w.
-              let wrong = missing_is before w.front w.rest w.parted w.wrong in
+              let wrong = missing_is before w.right w.behind w.parted w.is_wrong in
               last.1 (omega (arith, w.place, ap length wrong.0), wrong.1),
         )
     told_lines lines m n before (t ∷ ts) said numbered long after =
@@ -256,24 +243,5 @@ first_wrong_lines_are_found c bytes ended number =
     let texts = map text_of lines in
     let same = ap (wrong_line (length lines) ended) (by_texts (shape_of c) 1 Nothing lines) in
     let told = told_lines c ended (length lines) number 1 [] texts Nothing refl
-    (omega (arith, length-map lines text_of)) refl in (
-      λ is.
-          let w = told.0 (sym same ∙ is) in
-          record {
-            before = w.front;
-            behind = w.rest;
-            texts = w.parted;
-            place = omega (arith, w.place);
-            right = w.right;
-            wrong = w.wrong;
-          },
-      λ w.
-          same ∙ told.1 (record {
-            front = w.before;
-            rest = w.behind;
-            parted = w.texts;
-            place = omega (arith, w.place);
-            right = w.right;
-            wrong = w.wrong;
-          }),
-    )
+    (omega (arith, length-map lines text_of)) refl in
+    (λ is. told.0 (sym same ∙ is), λ wrong. same ∙ told.1 wrong)

@@ -6,7 +6,7 @@ use Rattle.std.proofs.Common.{◌≡◌, ◌&&◌, ◌||◌, ◌<◌, ◌++◌, 
 use Rattle.std.proofs.Common.{Option, Some, None, Result, Ok, refl, sym, ap, ap₂, subst, ◌∙◌, append_assoc, append-nil}
 use Rattle.std.proofs.Common.{bytes_eq, codes, filter, map, if◌then◌else◌, nat_lt, option_map}
 use Rattle.std.specs.List.{AllByRecursion, AllZip}
-use Rattle.std.proofs.lemmas.Bool.{eq-eqb, lt-ltb, eqb-true}
+use Rattle.std.proofs.lemmas.Bool.{lt-ltb}
 use Rattle.std.proofs.lemmas.Slice.Eq.{bytes_eq-Decides}
 use Rattle.aig_circuit.specs.declared.circuit.Circuit.{Circuit}
 use Rattle.aig_circuit.specs.declared.circuit.Reset.{Reset}
@@ -22,8 +22,8 @@ use Rattle.aig_witness.specs.Witness.{Claim, Nothing, Property, Said, SaysClaim,
 use Rattle.aig_witness.specs.Witness.{first_state_in, is_canonical, may_start_at, may_start_in, number_below}
 use Rattle.aig_witness.specs.Witness.{property_in, said_behind, said_by, said_with, shape_of, with_entry}
 use Rattle.aig_witness.specs.WitnessText.{IsWitnessFile}
-use Rattle.aig_step.proofs.EntryTexts.{values_length}
-use Rattle.aig_step.proofs.LineValues.{says_values, values_back, vector_says}
+use Rattle.aig_step.proofs.LineValues.{says_values, values_back}
+use Rattle.aig_step.proofs.StimulusTexts.{says_step, step_text, stop_text}
 use Rattle.aig_witness.proofs.Witnessing.{may_start}
 use Rattle.aig_witness.proofs.WitnessValues.{IsNumberRead, number_read}
 
@@ -58,42 +58,6 @@ said_all : (c : Circuit) (bytes : List ℕ)
     → said_by (shape_of c) 1 Nothing (judged_lines bytes true)
     ≡ said_texts (shape_of c) 1 Nothing (map text_of (lines_of bytes))
 said_all c bytes = search (rules, all_judged, by_texts)
-
--- entries
-step_by : (stop long : Bool) (o : Option (List Val)) (given : List Val)
-    → (if stop then Some Stop else if long then option_map Step o else None) ≡ Some (Step given)
-    → (long ≡ true) × (o ≡ Some given)
-step_by true long o given is = cc
-step_by false true (Some vs) given is = (refl, cc)
-step_by false true None given is = cc
-step_by false false o given is = cc
-
-stop_by : (stop long : Bool) (o : Option (List Val))
-    → (if stop then Some Stop else if long then option_map Step o else None) ≡ Some Stop → stop ≡ true
-stop_by true long o is = refl
-stop_by false true (Some vs) is = cc
-stop_by false true None is = cc
-stop_by false false o is = cc
-
--- the text of a step, and of the end
-pub record IsStepText (inputs : ℕ) (text : List ℕ) (given : List Val) : Type 0 where
-  pub text_is : text ≡ values_text given
-  pub long : length given ≡ inputs
-
-pub step_text : (inputs : ℕ) (text : List ℕ) (given : List Val) → entry_in inputs text ≡ Some (Step given)
-    → IsStepText inputs text given
-step_text inputs text given is = search (rules, step_by, bytes_eq, values_back, values_length, eqb-true)
-
-pub stop_text : (inputs : ℕ) (text : List ℕ) → entry_in inputs text ≡ Some Stop → text ≡ codes "."
-stop_text inputs text is = search (rules, bytes_eq-Decides, stop_by, bytes_eq)
-
--- there is a character for each value
-text_long : (vs : List Val) → length (values_text vs) ≡ length vs
-text_long vs = sym (values_length (values_text vs) vs (says_values vs))
-
-pub says_step : (inputs : ℕ) (given : List Val) → length given ≡ inputs
-    → entry_in inputs (values_text given) ≡ Some (Step given)
-says_step inputs given long = search (rules, vector_says, eq-eqb, text_long, says_values)
 
 -- lines of steps, and the line behind them
 record AreSteps (inputs : ℕ) (claim whole : Claim) (ts : List (List ℕ)) : Type 0 where

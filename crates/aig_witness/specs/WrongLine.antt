@@ -1,12 +1,13 @@
 -- Which line of a witness file is the first wrong one (this project's profile): a line is right or wrong by its text and
 -- the texts of the lines before it.
-use Rattle.std.specs.Prelude.{◌≡◌, ◌⊎◌, ◌<◌, ◌++◌, ℕ, suc, List, [], ◌∷◌, Bool, true, codes, length, map, ⊤}
+use Rattle.std.specs.Prelude.{◌≡◌, ◌+◌, ◌<◌, ◌++◌, ℕ, suc, List, [], ◌∷◌, Bool, true, codes, length, map, ⊤}
 use Rattle.std.specs.List.{Contains}
 use Rattle.aig_circuit.specs.declared.circuit.Circuit.{Circuit}
 use Rattle.aig_circuit.specs.declared.value.Val.{Val}
 use Rattle.aig_meaning.specs.Trace.{IsFirstState}
 use Rattle.aig_rows.specs.Spelling.{value_of as number_of}
 use Rattle.aig_step.specs.Stimulus.{judged_lines, text_of}
+use Rattle.aig_step.specs.StimulusText.{IsGoodText}
 use Rattle.aig_step.specs.TraceText.{values_text}
 use Rattle.aig_witness.specs.Witness.{is_canonical}
 
@@ -21,10 +22,6 @@ pub record NamesBadState (c : Circuit) (text : List ℕ) : Type 0 where
 abbrev pub SaysFirstState : Circuit → List ℕ → Type 0
 SaysFirstState c text = (first : List Val) × IsFirstState c first × (text ≡ values_text first)
 
--- it has a value for each input
-abbrev pub SaysStep : Circuit → List ℕ → Type 0
-SaysStep c text = (given : List Val) × (length given ≡ length c.inputs) × (text ≡ values_text given)
-
 -- one of the lines of these texts, behind the first three, is `.`
 abbrev pub HaveEnd : List (List ℕ) → Type 0
 HaveEnd [] = ⊥
@@ -38,7 +35,7 @@ abbrev pub IsRightBehind : Circuit → (before : List (List ℕ)) → (text : Li
 IsRightBehind c [] text = text ≡ codes "1"
 IsRightBehind c (one ∷ []) text = NamesBadState c text
 IsRightBehind c (one ∷ two ∷ []) text = SaysFirstState c text
-IsRightBehind c (one ∷ two ∷ three ∷ more) text = ¬ Contains more (codes ".") × (SaysStep c text ⊎ (text ≡ codes "."))
+IsRightBehind c (one ∷ two ∷ three ∷ more) text = ¬ Contains more (codes ".") × IsGoodText c text
 
 -- each line of these texts is right behind those before it
 abbrev pub AreRightBehind : Circuit → (before texts : List (List ℕ)) → Type 0
@@ -50,11 +47,15 @@ abbrev pub IsWrongNext : Circuit → Bool → (before behind : List (List ℕ)) 
 IsWrongNext c ended before [] = (ended ≡ true) × ¬ HaveEnd before
 IsWrongNext c ended before (text ∷ behind) = ¬ IsRightBehind c before text
 
--- The line of this number is the first that is wrong or missing, of bytes that came, which have ended or not.
-pub record IsFirstWrongLine (c : Circuit) (bytes : List ℕ) (ended : Bool) (number : ℕ) : Type 0 where
-  pub before : List (List ℕ)
+-- The line of this number is the first that is wrong or missing, of lines of these texts behind lines of those.
+pub record IsFirstWrong (c : Circuit) (ended : Bool) (before texts : List (List ℕ)) (number : ℕ) : Type 0 where
+  pub right : List (List ℕ)
   pub behind : List (List ℕ)
-  pub texts : map text_of (judged_lines bytes ended) ≡ before ++ behind
-  pub place : number ≡ suc (length before)
-  pub right : AreRightBehind c [] before
-  pub wrong : IsWrongNext c ended before behind
+  pub parted : texts ≡ right ++ behind
+  pub place : number ≡ suc (length before + length right)
+  pub are_right : AreRightBehind c before right
+  pub is_wrong : IsWrongNext c ended (before ++ right) behind
+
+-- it is so of the bytes that came, which have ended or not
+abbrev pub IsFirstWrongLine : Circuit → List ℕ → Bool → ℕ → Type 0
+IsFirstWrongLine c bytes ended number = IsFirstWrong c ended [] (map text_of (judged_lines bytes ended)) number
