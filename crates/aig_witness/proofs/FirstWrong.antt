@@ -1,6 +1,6 @@
 -- The line that is reported as wrong is the first that is wrong or missing.
-use Rattle.std.proofs.Common.{◌≡◌, ◌&&◌, ◌+◌, ◌<◌, ◌++◌, ◌∙◌, ℕ, suc, List, [], ◌∷◌, Bool, true, false, not, Option}
-use Rattle.std.proofs.Common.{None, Some, Result, ap, append-nil, append_assoc, arith, bytes_eq, codes, inl, inr, length}
+use Rattle.std.proofs.Common.{◌≡◌, ◌+◌, ◌<◌, ◌++◌, ◌∙◌, ℕ, suc, List, [], ◌∷◌, Bool, true, false, Option}
+use Rattle.std.proofs.Common.{None, Some, Result, Ok, ap, arith, bytes_eq, codes, inl, inr, length}
 use Rattle.std.proofs.Common.{length-append, map, option_map, refl, subst, sym, if◌then◌else◌}
 use Rattle.std.specs.Prelude.{◌↔◌}
 use Rattle.std.specs.Bool.{Decides}
@@ -17,7 +17,7 @@ use Rattle.aig_witness.specs.Laws.{FirstWrongLinesAreFound}
 use Rattle.aig_witness.specs.Witness.{Claim, Nothing, Property, Said, Shape, Steps, Version, Whole, begun_at}
 use Rattle.aig_witness.specs.Witness.{first_state_in, is_whole, property_in, said_behind, said_with}
 use Rattle.aig_witness.specs.Witness.{shape_of, with_entry, wrong_line}
-use Rattle.aig_witness.specs.WrongLine.{AreRightBehind, HaveEnd, IsFirstWrong, IsRightBehind, IsWrongNext}
+use Rattle.aig_witness.specs.WrongLine.{HaveEnd, IsFirstWrong, IsRightBehind}
 use Rattle.aig_witness.proofs.Witnessing.{may_start}
 use Rattle.aig_step.proofs.StimulusTexts.{IsEntryText, entry_read}
 use Rattle.aig_witness.proofs.WitnessTexts.{by_texts, first_said, number_said, said_texts}
@@ -123,119 +123,55 @@ module _ (c : Circuit) where
       rw is (λ (no : false ≡ true). cc, λ has. absurd (free has))
   has_end (Whole claim) before (one, two, three, more, is, has) = rw is (λ _. has, λ _. refl)
 
-  missing : (ended whole : Bool) (before : List (List ℕ)) (lines m : ℕ) → Decides whole (HaveEnd before)
-      → lines ≡ length before
-      → ((if ended && not whole then Some (suc lines) else None) ≡ Some m)
-      ↔ ((m ≡ suc (length before)) × IsWrongNext c ended before [])
-  missing true true before lines m decides long = (λ is. cc, λ wrong. absurd (wrong.1.1 (decides.0 refl)))
-  missing true false before lines m decides long = (
-    λ is.
-        let same : suc lines ≡ m = cc in
-        (omega (arith, same, long), (refl, λ has. let no : false ≡ true = decides.1 has in cc)),
+  -- what is said by more lines of these texts tells which of them is the first wrong one
+  abbrev IsTold : Bool → (lines number : ℕ) → (before texts : List (List ℕ)) → Result Said ℕ → Type 0
+  IsTold ended lines number before texts said =
+      (wrong_line lines ended said ≡ Some number) ↔ IsFirstWrong c ended before texts number
+
+  told_missing : (ended : Bool) (lines number : ℕ) (before : List (List ℕ)) (said : Said) (whole : Bool)
+      → is_whole said ≡ whole → lines ≡ length before → IsAfter said before
+      → IsTold ended lines number before [] (Ok said)
+  told_missing true lines number before said true is long after = rw is (
+    λ none. cc,
+    λ wrong. absurd (wrong.2 ((has_end said before after).0 is)),
+  )
+  told_missing true lines number before said false is long after = rw is (
+    λ some.
+        let same : suc lines ≡ number = cc in
+        (omega (arith, same, long), refl, λ has. let other = (has_end said before after).1 has in cc),
     λ wrong. ap (λ (n : ℕ). Some n) (omega (arith, wrong.0, long)),
   )
-  missing false whole before lines m decides long = (λ is. cc, λ wrong. let no : false ≡ true = wrong.1.0 in cc)
+  told_missing false lines number before said whole is long after = (λ none. cc, λ wrong. let other = wrong.1 in cc)
 
-  module _ (ended : Bool) where
-    here : (before texts : List (List ℕ)) (m : ℕ) → m ≡ suc (length before) → IsWrongNext c ended before texts
-        → IsFirstWrong c ended before texts m
-    here before texts m place wrong = record {
-      right = [];
-      behind = texts;
-      parted = refl;
-      place = omega (arith, place);
-      are_right = tt;
-      is_wrong = subst (λ (b : List (List ℕ)). IsWrongNext c ended b texts) (sym (append-nil before)) wrong;
-    }
+  told_line : (ended : Bool) (lines number n : ℕ) (before ts : List (List ℕ)) (t : List ℕ) (o : Option Said)
+      → n ≡ suc (length before) → IsNext before t o
+      → ((next : Said) → IsAfter next (before ++ t ∷ [])
+      → IsTold ended lines number (before ++ t ∷ []) ts (said_texts shape (suc n) next ts))
+      → IsTold ended lines number before (t ∷ ts) (said_behind n o (λ next. said_texts shape (suc n) next ts))
+  told_line ended lines number n before ts t None counted wrong others = (
+    λ some. let same : n ≡ number = cc in inl (wrong, sym same ∙ counted),
+    λ first. elim first [
+      | inl here ↦ ap (λ (k : ℕ). Some k) (counted ∙ sym here.1)
+      | inr later ↦ absurd (wrong later.0)
+    ],
+  )
+  told_line ended lines number n before ts t (Some next) counted right others =
+      let behind = others next right.1 in (
+        λ some. inr (right.0, behind.0 some),
+        λ first. elim first [ inl here ↦ absurd (here.0 right.0) | inr later ↦ behind.1 later.1 ],
+      )
 
-    -- where no line is left
-    missing_is : (before front rest : List (List ℕ)) → [] ≡ front ++ rest → IsWrongNext c ended (before ++ front) rest
-        → (front ≡ []) × IsWrongNext c ended before []
-    missing_is before [] [] parted wrong =
-        (refl, subst (λ (b : List (List ℕ)). IsWrongNext c ended b []) (append-nil before) wrong)
-    missing_is before [] (t ∷ ts) parted wrong = cc
-    missing_is before (t ∷ ts) rest parted wrong = cc
-
-    -- where the next line is wrong
-    wrong_is : (before front rest : List (List ℕ)) (t : List ℕ) (ts : List (List ℕ)) → t ∷ ts ≡ front ++ rest
-        → AreRightBehind c before front → ¬ IsRightBehind c before t → front ≡ []
-    wrong_is before [] rest t ts parted right other = refl
-    wrong_is before (u ∷ us) rest t ts parted right other =
-        let same : u ≡ t = cc in absurd (other (subst (IsRightBehind c before) same right.0))
-
-    -- where it is right
-    later : (before front rest : List (List ℕ)) (t : List ℕ) (ts : List (List ℕ)) (m : ℕ) → t ∷ ts ≡ front ++ rest
-        → m ≡ suc (length before + length front) → AreRightBehind c before front
-        → IsWrongNext c ended (before ++ front) rest → IsRightBehind c before t
-        → IsFirstWrong c ended (before ++ t ∷ []) ts m
-    later before [] rest t ts m parted place right wrong is =
-        let no : ¬ IsRightBehind c before t =
-        subst (λ (b : List (List ℕ)). IsWrongNext c ended b (t ∷ ts)) (append-nil before)
-        (subst (IsWrongNext c ended (before ++ [])) (sym parted) wrong) in absurd (no is)
-    later before (u ∷ us) rest t ts m parted place right wrong is =
-        let same : u ≡ t = cc in
-        let others : ts ≡ us ++ rest = cc in
-        record {
-          right = us;
-          behind = rest;
-          parted = others;
-          place = omega (arith, place, length-append before (t ∷ []));
-          are_right = subst (λ (v : List ℕ). AreRightBehind c (before ++ v ∷ []) us) same right.1;
-          is_wrong = subst (λ (b : List (List ℕ)). IsWrongNext c ended b rest)
-              (sym (append_assoc before (t ∷ []) us))
-              (subst (λ (v : List ℕ). IsWrongNext c ended (before ++ v ∷ us) rest) same wrong);
-        }
-
-    earlier : (before ts : List (List ℕ)) (t : List ℕ) (m : ℕ) → IsRightBehind c before t
-        → IsFirstWrong c ended (before ++ t ∷ []) ts m → IsFirstWrong c ended before (t ∷ ts) m
-    earlier before ts t m right w = record {
-      right = t ∷ w.right;
-      behind = w.behind;
-      parted = ap (λ (us : List (List ℕ)). t ∷ us) w.parted;
-      place = omega (arith, w.place, length-append before (t ∷ []));
-      are_right = (right, w.are_right);
-      is_wrong = subst (λ (b : List (List ℕ)). IsWrongNext c ended b w.behind) (append_assoc before (t ∷ []) w.right)
-          w.is_wrong;
-    }
-
-    -- what is said with one more line of this text, and with those behind it
-    abbrev IsTold : ℕ → ℕ → (before texts : List (List ℕ)) → Result Said ℕ → Type 0
-    IsTold lines m before texts said = (wrong_line lines ended said ≡ Some m) ↔ IsFirstWrong c ended before texts m
-
-    told_line : (lines m n : ℕ) (before ts : List (List ℕ)) (t : List ℕ) (o : Option Said) → n ≡ suc (length before)
-        → IsNext before t o
-        → ((next : Said) → IsAfter next (before ++ t ∷ [])
-        → IsTold lines m (before ++ t ∷ []) ts (said_texts shape (suc n) next ts))
-        → IsTold lines m before (t ∷ ts) (said_behind n o (λ next. said_texts shape (suc n) next ts))
-    told_line lines m n before ts t None numbered other others = (
-      λ is. let same : n ≡ m = cc in here before (t ∷ ts) m (omega (arith, same, numbered)) other,
-      λ w.
-          let none = wrong_is before w.right w.behind t ts w.parted w.are_right other in
-          ap (λ (k : ℕ). Some k) (omega (arith, w.place, numbered, ap length none)),
-    )
-    told_line lines m n before ts t (Some next) numbered right others =
-        let behind = others next right.1 in (
-          λ is. earlier before ts t m right.0 (behind.0 is),
-          λ w. behind.1 (later before w.right w.behind t ts m w.parted w.place w.are_right w.is_wrong right.0),
-        )
-
-    told_lines : (lines m n : ℕ) (before ts : List (List ℕ)) (said : Said) → n ≡ suc (length before)
-        → lines ≡ length before + length ts → IsAfter said before
-        → IsTold lines m before ts (said_texts shape n said ts)
-    unfolding said_texts
-    told_lines lines m n before [] said numbered long after =
-        let last = missing ended (is_whole said) before lines m (has_end said before after) (omega (arith, long)) in (
-          λ is. let wrong = last.0 is in here before [] m wrong.0 wrong.1,
-          λ w.
-              let wrong = missing_is before w.right w.behind w.parted w.is_wrong in
-              last.1 (omega (arith, w.place, ap length wrong.0), wrong.1),
-        )
-    told_lines lines m n before (t ∷ ts) said numbered long after =
-        told_line lines m n before ts t (said_with shape said t) numbered (next_line said before t after)
-        (λ next after_next.
-        told_lines lines m (suc n) (before ++ t ∷ []) ts next
-        (omega (arith, numbered, length-append before (t ∷ [])))
-        (omega (arith, long, length-append before (t ∷ []))) after_next)
+  told_lines : (ended : Bool) (lines number n : ℕ) (before ts : List (List ℕ)) (said : Said) → n ≡ suc (length before)
+      → lines ≡ length before + length ts → IsAfter said before
+      → IsTold ended lines number before ts (said_texts shape n said ts)
+  unfolding said_texts
+  told_lines ended lines number n before [] said counted long after =
+      told_missing ended lines number before said (is_whole said) refl (omega (arith, long)) after
+  told_lines ended lines number n before (t ∷ ts) said counted long after =
+      let more = length-append before (t ∷ []) in
+      told_line ended lines number n before ts t (said_with shape said t) counted (next_line said before t after)
+      (λ next after_next. told_lines ended lines number (suc n) (before ++ t ∷ []) ts next
+      (omega (arith, counted, more)) (omega (arith, long, more)) after_next)
 
 pub first_wrong_lines_are_found : FirstWrongLinesAreFound
 first_wrong_lines_are_found c bytes ended number =

@@ -1,6 +1,6 @@
 -- Which line of a witness file is the first wrong one (this project's profile): a line is right or wrong by its text and
 -- the texts of the lines before it.
-use Rattle.std.specs.Prelude.{◌≡◌, ◌+◌, ◌<◌, ◌++◌, ℕ, suc, List, [], ◌∷◌, Bool, true, codes, length, map, ⊤}
+use Rattle.std.specs.Prelude.{◌≡◌, ◌⊎◌, ◌<◌, ◌++◌, ℕ, suc, List, [], ◌∷◌, Bool, true, codes, length, map}
 use Rattle.std.specs.List.{Contains}
 use Rattle.aig_circuit.specs.declared.circuit.Circuit.{Circuit}
 use Rattle.aig_circuit.specs.declared.value.Val.{Val}
@@ -37,24 +37,13 @@ IsRightBehind c (one ∷ []) text = NamesBadState c text
 IsRightBehind c (one ∷ two ∷ []) text = SaysFirstState c text
 IsRightBehind c (one ∷ two ∷ three ∷ more) text = ¬ Contains more (codes ".") × IsGoodText c text
 
--- each line of these texts is right behind those before it
-abbrev pub AreRightBehind : Circuit → (before texts : List (List ℕ)) → Type 0
-AreRightBehind c before [] = ⊤
-AreRightBehind c before (text ∷ texts) = IsRightBehind c before text × AreRightBehind c (before ++ text ∷ []) texts
-
--- what comes next is wrong: the next line; or that there is none, where the bytes have ended without a line `.`
-abbrev pub IsWrongNext : Circuit → Bool → (before behind : List (List ℕ)) → Type 0
-IsWrongNext c ended before [] = (ended ≡ true) × ¬ HaveEnd before
-IsWrongNext c ended before (text ∷ behind) = ¬ IsRightBehind c before text
-
--- The line of this number is the first that is wrong or missing, of lines of these texts behind lines of those.
-pub record IsFirstWrong (c : Circuit) (ended : Bool) (before texts : List (List ℕ)) (number : ℕ) : Type 0 where
-  pub right : List (List ℕ)
-  pub behind : List (List ℕ)
-  pub parted : texts ≡ right ++ behind
-  pub place : number ≡ suc (length before + length right)
-  pub are_right : AreRightBehind c before right
-  pub is_wrong : IsWrongNext c ended (before ++ right) behind
+-- The line of this number is the first that is wrong or missing, of lines of these texts behind lines of those: the next
+-- one is wrong; or it is right, and the first is behind it; or the bytes have ended, and no line was `.`.
+abbrev pub IsFirstWrong : Circuit → Bool → (before texts : List (List ℕ)) → ℕ → Type 0
+IsFirstWrong c ended before [] number = (number ≡ suc (length before)) × (ended ≡ true) × ¬ HaveEnd before
+IsFirstWrong c ended before (text ∷ texts) number =
+    (¬ IsRightBehind c before text × (number ≡ suc (length before)))
+    ⊎ (IsRightBehind c before text × IsFirstWrong c ended (before ++ text ∷ []) texts number)
 
 -- it is so of the bytes that came, which have ended or not
 abbrev pub IsFirstWrongLine : Circuit → List ℕ → Bool → ℕ → Type 0
