@@ -3,6 +3,7 @@ pub mod Trips
 pub mod TripsExist
 pub mod Meant
 pub mod Traces
+pub mod Verdicts
 pub mod Lines
 pub mod Unrollings
 pub mod WitnessesUnrolled

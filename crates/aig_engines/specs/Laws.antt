@@ -1,5 +1,5 @@
 -- What the definitions of this crate say of one another.
-use Rattle.std.specs.Prelude.{◌≡◌, ◌↔◌, ◌+◌, ◌*◌, ℕ, List, [], ◌∷◌, None, Ok, true, false, length}
+use Rattle.std.specs.Prelude.{◌≡◌, ◌↔◌, ◌<◌, ◌+◌, ◌*◌, ℕ, List, [], ◌∷◌, None, Ok, true, false, length}
 use Rattle.std.specs.Prelude.{slice_index_or, take}
 use Rattle.aig_circuit.specs.declared.circuit.TheConstants.{LARGEST}
 use Rattle.aig_circuit.specs.Wellformed.{IsWellFormed}
@@ -17,15 +17,17 @@ use Rattle.aig_command.specs.declared.request.Unroll.{Unroll}
 use Rattle.aig_meaning.specs.Meaning.{Row}
 use Rattle.aig_meaning.specs.Trace.{IsTrace}
 use Rattle.aig_circuit.specs.declared.value.Val.TheVariants.{Zero, One}
+use Rattle.aig_witness.specs.declared.verdict.Verdict.{Verdict}
 use Rattle.aig_witness.specs.declared.verdict.Verdict.TheVariants.{Confirmed}
 use Rattle.aig_step.specs.Outcome.{first_bad_line}
-use Rattle.aig_witness.specs.Witness.{Claim, IsVerdict}
+use Rattle.aig_witness.specs.Witness.{Claim, IsFirstConfirmed, IsVerdict, SaysClaim, first_bad_witness_line}
 use Rattle.aig_unroll.specs.SideBySide.{inputs_side_by_side}
 use Rattle.aig_unroll.specs.Unrolled.{IsTooLarge, IsUnrolled, IsUnsupported}
 use Rattle.aig_engines.specs.File.{IsFileOf, file_reading, first_fault}
 use Rattle.aig_engines.specs.Conversion.{IsConversionText}
 use Rattle.aig_engines.specs.Simulation.{IsSimulationText}
 use Rattle.aig_engines.specs.Unrolling.{IsUnrollingText}
+use Rattle.aig_engines.specs.WitnessOutcome.{IsWitnessAnswer}
 
 -- what is read of a text is exactly the circuit whose file it is, of either kind
 abbrev pub FilesAreReadExactly : Type 0
@@ -46,6 +48,11 @@ ConversionsAreUnambiguous = (request : ToAig) (bytes text other : List ℕ)
 abbrev pub SimulationsAreUnambiguous : Type 0
 SimulationsAreUnambiguous = (request : Sim) (model stimulus text other : List ℕ)
     → IsSimulationText request model stimulus text → IsSimulationText request model stimulus other → text ≡ other
+
+-- a model and a witness file have one verdict at most
+abbrev pub WitnessAnswersAreUnambiguous : Type 0
+WitnessAnswersAreUnambiguous = (request : Sim) (model witness : List ℕ) (verdict other : Verdict)
+    → IsWitnessAnswer request model witness verdict → IsWitnessAnswer request model witness other → verdict ≡ other
 
 -- bytes have one unrolling text at most
 abbrev pub UnrollingsAreUnambiguous : Type 0
@@ -116,6 +123,14 @@ TracesAreKept = (request : ToAig) (before after : Sim) → request.max_var ≡ L
     × ((other : List ℕ)
     → IsSimulationText before file stimulus text → IsSimulationText after converted stimulus other → text ≡ other)
 
+-- A file and its conversion get the same verdict on every witness file, where either gets one: whatever the conversion
+-- is, as for simulation texts.
+abbrev pub VerdictsAreKept : Type 0
+VerdictsAreKept = (request : ToAig) (before after : Sim) → request.max_var ≡ LARGEST → before.max_var ≡ LARGEST
+    → after.max_var ≡ LARGEST → (file converted witness : List ℕ) (verdict : Verdict)
+    → IsConversionText request file converted
+    → IsWitnessAnswer before file witness verdict ↔ IsWitnessAnswer after converted witness verdict
+
 -- the headline
 pub record Headline : Type 0 where
   pub undoing_gives_ascii_back : UndoingGivesAsciiBack
@@ -132,6 +147,19 @@ FilesConvertThereAndBack = (there back : ToAig) → KeepsMap there → UndoesMap
 abbrev pub SimulationTextsExist : Type 0
 SimulationTextsExist = (request : Sim) (c : Circuit) (file stimulus : List ℕ) → IsFileOf file request.max_var c
     → first_bad_line c stimulus true ≡ None → (text : List ℕ) × IsSimulationText request file stimulus text
+
+-- every file of a circuit gets a verdict on each witness file of which no line is wrong or missing
+abbrev pub WitnessAnswersExist : Type 0
+WitnessAnswersExist = (request : Sim) (c : Circuit) (file witness : List ℕ) → IsFileOf file request.max_var c
+    → first_bad_witness_line c witness true ≡ None → (verdict : Verdict) × IsWitnessAnswer request file witness verdict
+
+-- Each run of a circuit that reaches a bad state, with all constraints kept, is claimed by some witness file. Every file
+-- of the circuit gets the verdict on it that it is confirmed, with the number of the first such step.
+abbrev pub RightRunsAreConfirmed : Type 0
+RightRunsAreConfirmed = (request : Sim) (c : Circuit) (file : List ℕ) (claim : Claim) (rows : List Row) (step : ℕ)
+    → IsFileOf file request.max_var c → claim.property < length c.bad → IsTrace c claim.first claim.steps rows
+    → IsFirstConfirmed claim.property rows step
+    → (witness : List ℕ) × SaysClaim c witness claim × IsWitnessAnswer request file witness (Confirmed step)
 
 -- every canonical binary file has a conversion text to ASCII, and that has one to binary
 abbrev pub BinaryFilesConvertThereAndBack : Type 0

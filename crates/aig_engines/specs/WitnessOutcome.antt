@@ -1,5 +1,5 @@
--- What came of judging a witness file (this project's profile): a circuit is read, and the verdict on what the witness
--- file claims of it is written in a line. Model, witness file and sink are told by their pasts, as they were and are now.
+-- Which verdict a witness file gets, and what came of judging it (this project's profile): a circuit is read, and the
+-- verdict on what the witness file claims of it is written in a line. Model, witness file and sink are told by their pasts, as they were and are now.
 use Rattle.std.specs.Prelude.{◌≡◌, ◌⊎◌, ◌++◌, ℕ, List, codes, decimal}
 use Rattle.aig_io.specs.Devices.{Past, TookBeginning, took}
 use Rattle.aig_circuit.specs.declared.circuit.Circuit.{Circuit}
@@ -8,10 +8,20 @@ use Rattle.aig_step.specs.declared.fault.SimFault.{SimFault}
 use Rattle.aig_witness.specs.declared.verdict.Verdict.{Verdict}
 use Rattle.aig_witness.specs.declared.verdict.Verdict.TheVariants.{Confirmed, NotConfirmed}
 use Rattle.aig_witness.specs.Confirming.{Judged, NotJudged}
+use Rattle.aig_witness.specs.Witness.{Claim, IsVerdict, SaysClaim}
 use Rattle.aig_engines.specs.declared.fault.ToolFault.{ToolFault}
 use Rattle.aig_engines.specs.declared.fault.ToolFault.TheVariants as faults
 use Rattle.aig_engines.specs.File.{IsFileOf}
 use Rattle.aig_engines.specs.Reading.{HasRead, IsUnreadable, NotRead}
+
+-- The verdict for these bytes of a model and of a witness file: the model is the file of a circuit, this is claimed of
+-- it, and this is the verdict on that.
+pub record IsWitnessAnswer (request : Sim) (model witness : List ℕ) (verdict : Verdict) : Type 0 where
+  pub found : Circuit
+  pub claim : Claim
+  pub read : IsFileOf model request.max_var found
+  pub says : SaysClaim found witness claim
+  pub is_verdict : IsVerdict found claim verdict
 
 -- the line of a verdict
 abbrev pub answer_line : Verdict → List ℕ
@@ -30,11 +40,11 @@ NotAnsweredFor c fault witness witness_now sink sink_now =
     ⊎ ((fault ≡ faults.Sink) × ((verdict : Verdict) × Judged c verdict witness witness_now
     × TookBeginning (answer_line verdict) sink sink_now))
 
--- the model gave all its bytes, which are the file of a circuit; there is this verdict for it, and the sink took its line
+-- the model and the witness file gave all their bytes, this is the verdict for them, and the sink took its line
 abbrev pub Answered : Sim → Verdict → (model model_now witness witness_now sink sink_now : Past) → Type 0
 Answered request verdict model model_now witness witness_now sink sink_now =
-    (found : Circuit) × HasRead (λ bytes. IsFileOf bytes request.max_var found) model model_now
-    × Judged found verdict witness witness_now × (sink_now ≡ took (answer_line verdict) sink)
+    HasRead (λ bytes. HasRead (λ text. IsWitnessAnswer request bytes text verdict) witness witness_now) model model_now
+    × (sink_now ≡ took (answer_line verdict) sink)
 
 -- What a fault says where a witness file is to be judged. Nothing is fetched of it before the whole model is read and
 -- found right, and nothing is sent before there is a verdict.

@@ -3,7 +3,8 @@ ghost use Rattle.aig_engines.specs.Laws.{FilesAreReadExactly, FilesAreUnambiguou
 ghost use Rattle.aig_engines.specs.Laws.{FilesConvertThereAndBack, BinaryFilesConvertThereAndBack};
 ghost use Rattle.aig_engines.specs.Laws.{MappedTextsHaveNoFault, SimulationsAreUnambiguous, SimulationTextsExist};
 ghost use Rattle.aig_engines.specs.Laws.{UnrolledTextsAreFiles, UnrolledTextsExist, UnrollingsAreUnambiguous};
-ghost use Rattle.aig_engines.specs.Laws.{ConfirmedWitnessesSetUnrolledCircuits};
+ghost use Rattle.aig_engines.specs.Laws.{ConfirmedWitnessesSetUnrolledCircuits, RightRunsAreConfirmed, VerdictsAreKept};
+ghost use Rattle.aig_engines.specs.Laws.{WitnessAnswersAreUnambiguous, WitnessAnswersExist};
 
 /// What is read of a text is a circuit exactly where the text is a file of that circuit, ASCII or binary.
 pub fn files_are_read_exactly()
@@ -69,6 +70,26 @@ pub fn simulation_texts_exist()
 /// undoing it fails only where an allocation fails.
 pub fn mapped_texts_have_no_fault()
     ensures { MappedTextsHaveNoFault }
+{}
+
+/// A model and a witness file have one verdict at most.
+pub fn witness_answers_are_unambiguous()
+    ensures { WitnessAnswersAreUnambiguous }
+{}
+
+/// Every file of a circuit gets a verdict on each witness file of which no line is wrong or missing.
+pub fn witness_answers_exist()
+    ensures { WitnessAnswersExist }
+{}
+
+/// Each run of a circuit that reaches a bad state, with all constraints kept, has a witness file that is confirmed.
+pub fn right_runs_are_confirmed()
+    ensures { RightRunsAreConfirmed }
+{}
+
+/// A file and its conversion, or what is undone from it, get the same verdict on every witness file.
+pub fn verdicts_are_kept()
+    ensures { VerdictsAreKept }
 {}
 
 /// A witness that is confirmed at a step gives the unrolled circuit of the steps up to it inputs for which the bad state

@@ -3,3 +3,4 @@ pub mod LineBytes
 pub mod LineValues
 pub mod States
 pub mod Running
+pub mod StimulusTexts

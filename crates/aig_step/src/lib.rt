@@ -9,6 +9,7 @@
 mod cells;
 mod evaluate;
 mod fault;
+pub mod laws;
 mod machine;
 mod simulator;
 mod stepper;

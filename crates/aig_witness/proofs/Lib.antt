@@ -5,3 +5,6 @@ pub mod WitnessRoom
 pub mod WitnessValues
 pub mod Witnessing
 pub mod WitnessTexts
+pub mod Verdicts
+pub mod WitnessFiles
+pub mod FirstWrong

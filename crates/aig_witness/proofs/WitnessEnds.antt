@@ -16,7 +16,8 @@ use Rattle.aig_step.specs.declared.fault.SimFault.TheVariants as faults
 use Rattle.aig_witness.specs.declared.checker.Due.TheVariants as due
 use Rattle.aig_witness.specs.declared.verdict.Verdict.{Verdict}
 use Rattle.aig_witness.specs.Confirming.{Judged, NotJudged}
-use Rattle.aig_witness.specs.Witness.{Nothing, Property, Said, Steps, Version, Whole, IsVerdictOf}
+use Rattle.aig_witness.specs.Witness.{Claim, IsVerdict, IsVerdictOf, Nothing, Property, Said, SaysClaim, Shape, Steps}
+use Rattle.aig_witness.specs.Witness.{Version, Whole}
 use Rattle.aig_witness.specs.Witness.{first_bad_witness_line, missing_line, shape_of, witness_of, wrong_line}
 use Rattle.aig_witness.specs.Parts.Witnessing.{HasHeard, Stands, Witnessing, hear_line, hearing, longest_line}
 use Rattle.aig_witness.specs.Parts.Witnessing.{verdict_of}
@@ -106,6 +107,17 @@ module _ (c d : Circuit) (means : MeansTheSame c d) (bad : length d.bad ≡ leng
   same_wrong : (bytes : List ℕ) (ended : Bool)
       → first_bad_witness_line c bytes ended ≡ first_bad_witness_line d bytes ended
   same_wrong bytes ended = search (rules, same_shape)
+
+  pub says_too : (bytes : List ℕ) (claim : Claim) → SaysClaim d bytes claim → SaysClaim c bytes claim
+  says_too bytes claim says =
+      subst (λ (shape : Shape). witness_of shape bytes true ≡ Ok (Whole claim)) same_shape says
+
+  pub verdict_too : (claim : Claim) (v : Verdict) → IsVerdict d claim v → IsVerdict c claim v
+  verdict_too claim v is = record {
+    rows = is.rows;
+    trace = (same_meaning_same_traces c d means claim.first claim.steps is.rows).1 is.trace;
+    is_verdict = is.is_verdict;
+  }
 
   pub judged_too : (v : Verdict) (source source_now : Past) → Judged d v source source_now
       → Judged c v source source_now

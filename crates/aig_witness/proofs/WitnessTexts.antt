@@ -6,7 +6,7 @@ use Rattle.std.proofs.Common.{◌≡◌, ◌&&◌, ◌||◌, ◌<◌, ◌++◌, 
 use Rattle.std.proofs.Common.{Option, Some, None, Result, Ok, refl, sym, ap, ap₂, subst, ◌∙◌, append_assoc, append-nil}
 use Rattle.std.proofs.Common.{bytes_eq, codes, filter, map, if◌then◌else◌, nat_lt, option_map}
 use Rattle.std.specs.List.{AllByRecursion, AllZip}
-use Rattle.std.proofs.lemmas.Bool.{eq-eqb, lt-ltb, eqb-true}
+use Rattle.std.proofs.lemmas.Bool.{lt-ltb}
 use Rattle.std.proofs.lemmas.Slice.Eq.{bytes_eq-Decides}
 use Rattle.aig_circuit.specs.declared.circuit.Circuit.{Circuit}
 use Rattle.aig_circuit.specs.declared.circuit.Reset.{Reset}
@@ -22,13 +22,13 @@ use Rattle.aig_witness.specs.Witness.{Claim, Nothing, Property, Said, SaysClaim,
 use Rattle.aig_witness.specs.Witness.{first_state_in, is_canonical, may_start_at, may_start_in, number_below}
 use Rattle.aig_witness.specs.Witness.{property_in, said_behind, said_by, said_with, shape_of, with_entry}
 use Rattle.aig_witness.specs.WitnessText.{IsWitnessFile}
-use Rattle.aig_step.proofs.EntryTexts.{values_length}
-use Rattle.aig_step.proofs.LineValues.{says_values, values_back, vector_says}
+use Rattle.aig_step.proofs.LineValues.{says_values, values_back}
+use Rattle.aig_step.proofs.StimulusTexts.{says_step, step_text, stop_text}
 use Rattle.aig_witness.proofs.Witnessing.{may_start}
 use Rattle.aig_witness.proofs.WitnessValues.{IsNumberRead, number_read}
 
 -- what texts of lines say
-said_texts : Shape → ℕ → Said → List (List ℕ) → Result Said ℕ
+unfoldable pub said_texts : Shape → ℕ → Said → List (List ℕ) → Result Said ℕ
 said_texts shape n said [] = Ok said
 said_texts shape n said (t ∷ ts) = said_behind n (said_with shape said t) (λ next. said_texts shape (suc n) next ts)
 
@@ -37,7 +37,7 @@ behind_same : (n : ℕ) (o : Option Said) (f g : Said → Result Said ℕ) → (
 behind_same n None f g same = refl
 behind_same n (Some s) f g same = same s
 
-by_texts : (shape : Shape) (n : ℕ) (said : Said) (ls : List Line)
+pub by_texts : (shape : Shape) (n : ℕ) (said : Said) (ls : List Line)
     → said_by shape n said ls ≡ said_texts shape n said (map text_of ls)
 unfolding said_texts
 by_texts shape n said [] = refl
@@ -58,42 +58,6 @@ said_all : (c : Circuit) (bytes : List ℕ)
     → said_by (shape_of c) 1 Nothing (judged_lines bytes true)
     ≡ said_texts (shape_of c) 1 Nothing (map text_of (lines_of bytes))
 said_all c bytes = search (rules, all_judged, by_texts)
-
--- entries
-step_by : (stop long : Bool) (o : Option (List Val)) (given : List Val)
-    → (if stop then Some Stop else if long then option_map Step o else None) ≡ Some (Step given)
-    → (long ≡ true) × (o ≡ Some given)
-step_by true long o given is = cc
-step_by false true (Some vs) given is = (refl, cc)
-step_by false true None given is = cc
-step_by false false o given is = cc
-
-stop_by : (stop long : Bool) (o : Option (List Val))
-    → (if stop then Some Stop else if long then option_map Step o else None) ≡ Some Stop → stop ≡ true
-stop_by true long o is = refl
-stop_by false true (Some vs) is = cc
-stop_by false true None is = cc
-stop_by false false o is = cc
-
--- the text of a step, and of the end
-pub record IsStepText (inputs : ℕ) (text : List ℕ) (given : List Val) : Type 0 where
-  pub text_is : text ≡ values_text given
-  pub long : length given ≡ inputs
-
-step_text : (inputs : ℕ) (text : List ℕ) (given : List Val) → entry_in inputs text ≡ Some (Step given)
-    → IsStepText inputs text given
-step_text inputs text given is = search (rules, step_by, bytes_eq, values_back, values_length, eqb-true)
-
-stop_text : (inputs : ℕ) (text : List ℕ) → entry_in inputs text ≡ Some Stop → text ≡ codes "."
-stop_text inputs text is = search (rules, bytes_eq-Decides, stop_by, bytes_eq)
-
--- there is a character for each value
-text_long : (vs : List Val) → length (values_text vs) ≡ length vs
-text_long vs = sym (values_length (values_text vs) vs (says_values vs))
-
-says_step : (inputs : ℕ) (given : List Val) → length given ≡ inputs
-    → entry_in inputs (values_text given) ≡ Some (Step given)
-says_step inputs given long = search (rules, vector_says, eq-eqb, text_long, says_values)
 
 -- lines of steps, and the line behind them
 record AreSteps (inputs : ℕ) (claim whole : Claim) (ts : List (List ℕ)) : Type 0 where
@@ -156,7 +120,7 @@ all_may [] (v ∷ vs) all = absurd all
 all_may (r ∷ rs) [] all = absurd all
 all_may (r ∷ rs) (v ∷ vs) all = ap₂ (λ (a b : Bool). a && b) (one_may r v all.0) (all_may rs vs all.1)
 
-first_said : (rs : List Reset) (first : List Val) → AllZip MayStartAt rs first
+pub first_said : (rs : List Reset) (first : List Val) → AllZip MayStartAt rs first
     → first_state_in rs (values_text first) ≡ Some first
 first_said rs first all = search (rules, says_values, all_may)
 
@@ -189,7 +153,7 @@ module _ (shape : Shape) where
   first_read n p whole (t ∷ ts) said = one_first n p whole t ts (first_state_in shape.resets t) refl said
 
 -- the line of the bad state
-number_said : (bound : ℕ) (digits : List ℕ) (p : ℕ) → is_canonical digits ≡ true → number_of digits ≡ p → p < bound
+pub number_said : (bound : ℕ) (digits : List ℕ) (p : ℕ) → is_canonical digits ≡ true → number_of digits ≡ p → p < bound
     → number_below bound digits ≡ Some p
 number_said bound digits p canonical number below = search (rules, nat_lt, lt-ltb)
 

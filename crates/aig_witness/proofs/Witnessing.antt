@@ -63,19 +63,19 @@ may_start rs None first is = cc
 may_start rs (Some vs) first is = search (rules, chosen, all_start)
 
 -- values that are all 1
-one_of : (v : Val) → is_one v ≡ true → v ≡ One
+pub one_of : (v : Val) → is_one v ≡ true → v ≡ One
 one_of Zero is = cc
 one_of One is = refl
 one_of X is = cc
 
-ones_are : (vs : List Val) → are_ones vs ≡ true → All (λ (v : Val). v ≡ One) vs
+pub ones_are : (vs : List Val) → are_ones vs ≡ true → All (λ (v : Val). v ≡ One) vs
 ones_are vs are k d low = one_of (get_or vs k d) (AllPass-from_list_all is_one vs are k d low)
 
-ones_not : (vs : List Val) → are_ones vs ≡ false → ¬ All (λ (v : Val). v ≡ One) vs
+pub ones_not : (vs : List Val) → are_ones vs ≡ false → ¬ All (λ (v : Val). v ≡ One) vs
 ones_not vs are all =
     let ones : are_ones vs ≡ true = list_all-from_AllPass is_one vs (λ k d low. ap is_one (all k d low)) in cc
 
-not_one : (v : Val) → is_one v ≡ false → v ≢ One
+pub not_one : (v : Val) → is_one v ≡ false → v ≢ One
 not_one v is same = let one : is_one v ≡ true = ap is_one same in cc
 
 module _ (w v : Witnessing) (text : List ℕ) where

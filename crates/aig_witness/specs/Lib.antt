@@ -4,4 +4,5 @@ pub mod Witness
 pub mod Confirming
 pub mod Parts
 pub mod WitnessText
+pub mod WrongLine
 pub mod Laws

@@ -1,7 +1,22 @@
 //! Laws: facts about the definitions alone, each the contract of a function with an empty body.
-ghost use Rattle.aig_witness.specs.Laws.{WitnessFilesAreRead};
+ghost use Rattle.aig_witness.specs.Laws.{ClaimsHaveFiles, FirstWrongLinesAreFound, OneVerdict, WitnessFilesAreRead};
 
 /// What is read of a witness file, line by line, is what the file as a whole says.
 pub fn witness_files_are_read()
     ensures { WitnessFilesAreRead }
+{}
+
+/// The line of a witness file that is found to be the first wrong one, or missing, is what the texts of its lines say.
+pub fn first_wrong_lines_are_found()
+    ensures { FirstWrongLinesAreFound }
+{}
+
+/// What a witness file claims of a well-formed circuit has exactly one verdict.
+pub fn one_verdict()
+    ensures { OneVerdict }
+{}
+
+/// Each claim that can be made of a well-formed circuit, by a trace of it, is said by some witness file.
+pub fn claims_have_files()
+    ensures { ClaimsHaveFiles }
 {}
