@@ -6,7 +6,6 @@ use Rattle.aig_io.specs.declared.device.DeviceFault.{DeviceFault}
 use Rattle.aig_io.specs.Devices.{Past, took}
 use Rattle.aig_io.specs.Output.{Out, Put}
 use Rattle.aig_io.proofs.Puts.{beginning_sent, put_twice}
-use Rattle.aig_io.proofs.Took.{gave_all_some}
 use Rattle.aig_meaning.specs.Meaning.{MeansTheSame}
 use Rattle.aig_meaning.proofs.Traces.{reset_state_is_first}
 use Rattle.aig_step.specs.declared.trace.Columns.{Columns}
@@ -81,7 +80,7 @@ module _ (c : Circuit) (columns : Columns) (bytes : List ℕ) (source source_now
 
   pub not_batched : (e : SimFault) → NotTraced c columns bytes e sink sink_now
       → NotBatched c columns e source source_now sink sink_now
-  not_batched OutOfMemory same = (gave_all_some source source_now bytes came.past, same)
+  not_batched OutOfMemory same = ((bytes, true, came.past), same)
   not_batched (BadStimulus number) never = absurd never
   not_batched (BadWitness number) never = absurd never
   not_batched ReadFailed never = absurd never

@@ -1,6 +1,6 @@
 -- What came of reading a source to its end, for its past as it was and as it is now.
 use Rattle.std.specs.Prelude.{◌≡◌, ◌⊎◌, ℕ, List}
-use Rattle.aig_io.specs.Devices.{GaveSome, Past, failures_of, gave_all}
+use Rattle.aig_io.specs.Devices.{GaveSome, Past, gave_all}
 use Rattle.aig_io.specs.declared.transfer.ReadError.{ReadError}
 use Rattle.aig_io.specs.declared.transfer.ReadError.TheVariants as errors
 use Rattle.aig_rows.specs.declared.fault.ReadFault.{ReadFault}
@@ -24,7 +24,7 @@ tool_fault_of errors.OutOfMemory = faults.OutOfMemory
 -- them came, and they are refused with this fault.
 abbrev pub NotRead : (ToolFault → List ℕ → Type 0) → ToolFault → (source source_now : Past) → Type 0
 NotRead IsRefused fault source source_now =
-    ((error : ReadError) × (fault ≡ tool_fault_of error) × GaveSome (failures_of error) source source_now)
+    ((error : ReadError) × (fault ≡ tool_fault_of error) × GaveSome error source source_now)
     ⊎ HasRead (IsRefused fault) source source_now
 
 -- the bytes are no file of a circuit within this limit: this is their first fault, unless memory was refused

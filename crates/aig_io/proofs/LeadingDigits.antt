@@ -262,10 +262,12 @@ last_of : (count n : ℕ) → 10 ^ count ≤ n → n < 2 ^ 64
 last_of zero n some fits = search rules
 last_of (suc count) n some fits =
     let power : 10 ^ suc count ≡ 10 * 10 ^ count = omega (arith, pow-suc 10 count) in
-    let before : n / 10 / 10 ^ count ≡ n / 10 ^ suc count = div-div-eq-div-mul n 10 (10 ^ count) ∙ ap (λ k. n / k) (sym power) in
+    let before : n / 10 / 10 ^ count ≡ n / 10 ^ suc count = div-div-eq-div-mul n 10 (10 ^ count) ∙
+    ap (λ k. n / k) (sym power) in
     decimal_step n (omega (arith, power, some_power count)) fits
     ∙ ap (λ (ds : List ℕ). ds ++ (48 + n % 10) ∷ [])
-    (last_of count (n / 10) (omega (arith, power)) (omega arith) ∙ ap (λ k. decimal k ++ map (λ d. 48 + d) (last_digits count (n / 10))) before)
+    (last_of count (n / 10) (omega (arith, power)) (omega arith) ∙
+    ap (λ k. decimal k ++ map (λ d. 48 + d) (last_digits count (n / 10))) before)
     ∙ append_assoc (decimal (n / 10 ^ suc count)) (map (λ d. 48 + d) (last_digits count (n / 10))) ((48 + n % 10) ∷ [])
     ∙ ap (λ (ds : List ℕ). decimal (n / 10 ^ suc count) ++ ds)
     (sym (map-append (λ d. 48 + d) (last_digits count (n / 10)) (n % 10 ∷ [])))

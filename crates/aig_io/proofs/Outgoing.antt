@@ -32,7 +32,8 @@ pub beginning_after : (a b c : Past) (h0 h1 xs ys : List ℕ) → WentOut a b h0
     → TookBeginning (h1 ++ ys) b c → TookBeginning (h0 ++ (xs ++ ys)) a c
 beginning_after a b c h0 h1 xs ys p q = record {
   count = length p.sent + q.count;
-  past = rw (← append_assoc h0 xs ys, p.order, append_assoc) (took_before a b c p.sent (h1 ++ ys) q.count p.past q.past);
+  past = rw (← append_assoc h0 xs ys, p.order, append_assoc) (took_before a b c p.sent (h1 ++ ys) q.count p.past
+      q.past);
 }
 
 -- a beginning of a text is one of each longer text
@@ -42,7 +43,8 @@ beginning_of_more a b xs ys p =
     take-append-le (min p.count (length xs)) xs ys (min-le_right p.count (length xs)) ∙ take_min p.count xs in
     record { count = min p.count (length xs); past = p.past ∙ ap (λ (bs : List ℕ). failed_once (took bs a)) (sym same) }
 
-pub beginning_longer : (a b : Past) (h xs ys : List ℕ) → TookBeginning (h ++ xs) a b → TookBeginning (h ++ (xs ++ ys)) a b
+pub beginning_longer : (a b : Past) (h xs ys : List ℕ) → TookBeginning (h ++ xs) a b
+    → TookBeginning (h ++ (xs ++ ys)) a b
 beginning_longer a b h xs ys p = search (rules, append_assoc, beginning_of_more)
 
 -- all is held

@@ -1,12 +1,15 @@
 -- Bytes that move one part after another.
 use Rattle.std.proofs.Common.{◌≡◌, ℕ, zero, suc, ◌+◌, ◌-◌, List, ◌++◌, Ok, take, drop, take-add, length, length-drop}
-use Rattle.std.proofs.Common.{arith, ap, refl, sym, ◌∙◌, ◌<◌, ◌≤◌, Option, [], append_assoc, append-nil}
+use Rattle.std.proofs.Common.{Err, IfErr, IsErrAnd, Result}
+use Rattle.std.proofs.Common.{arith, ap, false, refl, sym, ◌∙◌, ◌<◌, ◌≤◌, Option, [], append_assoc, append-nil}
 use Rattle.std.proofs.lemmas.List.{drop-drop, take_all}
 use native.Mathlib.Numerals.{unary_clauses}
 use Rattle.aig_io.specs.declared.device.DeviceFault.{DeviceFault}
 use Rattle.aig_io.specs.Memory.{one_call_later, source_after}
 use Rattle.std.proofs.lemmas.Grind.{common_steps}
-use Rattle.aig_io.specs.Devices.{GaveSome, Past, after_fetch, gave_all, no_file, took}
+use Rattle.aig_io.specs.Devices.{GaveSome, Past, after_fetch, no_file, took}
+use Rattle.aig_io.specs.declared.transfer.ReadError.{ReadError}
+use Rattle.aig_io.specs.declared.transfer.ReadError.TheVariants.{OutOfMemory}
 
 -- the slice from n on is all that is left
 rest_is : (bs : List ℕ) (n : ℕ) → take (length bs - n) (drop n bs) ≡ drop n bs
@@ -26,7 +29,8 @@ pub took_more : (a b c : Past) (bs : List ℕ) (n k : ℕ) → b ≡ took (take 
 took_more a b c bs n k p q = rw take-add (took_twice a b c _ _ p (rw rest_is at q))
 
 -- a fetch that is not at the end gives bytes
-pub gave_next : (into : List ℕ) (n : ℕ) (a : Past) → 0 < n → after_fetch {E = DeviceFault} into (Ok n) a ≡ took (take n into) a
+pub gave_next : (into : List ℕ) (n : ℕ) (a : Past) → 0 < n → after_fetch {E = DeviceFault} into (Ok n) a
+    ≡ took (take n into) a
 gave_next into zero a p =
     let none : ⊥ = omega (arith, p) in
     absurd none
@@ -37,23 +41,43 @@ pub front_is : (bs cs ys rest : List ℕ) (at n : ℕ) → ys ≡ take (at + n -
     → take n (ys ++ rest) ≡ take n (drop at bs)
 front_is bs cs ys rest at n is same fits = grind (arith, common_steps)
 
-pub fetched : (bs into : List ℕ) (at n ends failures piece : ℕ) (before later : Option ℕ) → later ≡ one_call_later before
+pub fetched : (bs into : List ℕ) (at n ends failures piece : ℕ) (before later : Option ℕ) → later
+    ≡ one_call_later before
     → 0 < n → take n into ≡ take n (drop at bs)
-    → record { past = record { origin = no_file; bytes = take (at + n) bs; ends = ends; failures = failures }; coming = drop (at + n) bs; piece = piece; fails_in = later }
-    ≡ source_after into (Ok n) (record { past = record { origin = no_file; bytes = take at bs; ends = ends; failures = failures }; coming = drop at bs; piece = piece; fails_in = before })
+    → record {
+      past = record { origin = no_file; bytes = take (at + n) bs; ends = ends; failures = failures };
+      coming = drop (at + n) bs;
+      piece = piece;
+      fails_in = later;
+    }
+    ≡ source_after into (Ok n) (record {
+      past = record {
+        origin = no_file;
+        bytes = take at bs;
+        ends = ends;
+        failures = failures;
+      };
+      coming = drop at bs;
+      piece = piece;
+      fails_in = before;
+    })
 fetched bs into at n ends failures piece before later counted some front =
-    rw (gave_next into n (record { origin = no_file; bytes = take at bs; ends = ends; failures = failures }) some, front, take-add, drop-drop, counted) refl
+    rw (
+      gave_next into n (record { origin = no_file; bytes = take at bs; ends = ends; failures = failures }) some,
+      front,
+      take-add,
+      drop-drop,
+      counted,
+    ) refl
 
 -- in reading, where memory was refused then
-pub gave_all_some : (a b : Past) (xs : List ℕ) → b ≡ gave_all xs a → GaveSome 0 a b
-gave_all_some a b xs p = record { bytes = xs; ends = 1; gave = simp unary_clauses (simp unary_clauses at p) }
+pub gave_more : (a b c : Past) (xs ys : List ℕ) → b ≡ took xs a → c ≡ took ys b → GaveSome OutOfMemory a c
+gave_more a b c xs ys p q = (xs ++ ys, false, took_twice a b c xs ys p q)
 
-pub gave_more : (a b c : Past) (xs ys : List ℕ) → b ≡ took xs a → c ≡ took ys b → GaveSome 0 a c
-gave_more a b c xs ys p q = record {
-  bytes = xs ++ ys;
-  ends = 0;
-  gave = simp unary_clauses (took_twice a b c xs ys p q);
-}
+pub memory_refused : {T : Type 0} (r : Result T ReadError) (a b : Past) → IsErrAnd r (λ e. e ≡ OutOfMemory)
+    → GaveSome OutOfMemory a b → IfErr r (λ e. GaveSome e a b)
+memory_refused (Ok x) a b is some = tt
+memory_refused (Err e) a b is some = rw is some
 
-pub gave_none : (a : Past) → GaveSome 0 a a
-gave_none a = gave_more a a a [] [] (took_none a) (took_none a)
+pub gave_none : (a : Past) → GaveSome OutOfMemory a a
+gave_none a = ([], false, took_none a)

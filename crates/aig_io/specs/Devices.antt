@@ -5,8 +5,8 @@ use Rattle.aig_io.specs.Files.{Use}
 use Rattle.aig_io.specs.declared.transfer.ReadError.{ReadError}
 use Rattle.aig_io.specs.declared.transfer.ReadError.TheVariants as errors
 
--- What a device stands on: the borrow of the files that it holds, the file's name, and the uses of files before its own.
--- A stream has none.
+-- What a device stands on: the borrow of the files that it holds, the file's name, and the uses of files before its
+-- own. A stream has none.
 pub record Origin : Type 0 where
   pub lender : ℕ
   pub name : Option (List ℕ)
@@ -63,22 +63,12 @@ gave bytes false past = took bytes past
 abbrev pub failed_once : Past → Past
 failed_once past = record past { failures = past.failures + 1 }
 
--- it gave some bytes, answered some times that it is at its end, and failed so often
-pub record GaveSome (failures : ℕ) (before after : Past) : Type 0 where
-  pub bytes : List ℕ
-  pub ends : ℕ
-  pub gave : after ≡ record before {
-    bytes = before.bytes ++ bytes;
-    ends = before.ends + ends;
-    failures = before.failures + failures;
-  }
+-- It gave some bytes, and reading it failed so: it failed itself; or memory was refused, before its end or behind it.
+abbrev pub GaveSome : ReadError → (before after : Past) → Type 0
+GaveSome errors.Source before after = (bytes : List ℕ) × (after ≡ failed_once (took bytes before))
+GaveSome errors.OutOfMemory before after = (bytes : List ℕ) × (ended : Bool) × (after ≡ gave bytes ended before)
 
 -- it took a beginning of these bytes, and failed
 pub record TookBeginning (bytes : List ℕ) (before after : Past) : Type 0 where
   pub count : ℕ
   pub past : after ≡ failed_once (took (take count bytes) before)
-
--- how many failures of its source an error tells
-abbrev pub failures_of : ReadError → ℕ
-failures_of errors.Source = 1
-failures_of errors.OutOfMemory = 0

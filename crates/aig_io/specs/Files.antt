@@ -9,8 +9,8 @@ pub data End : Type 0 where
   Left : End
   ReadFailed : End
   NotOpened : End
-  -- a file that was made, or cut to nothing: it took its bytes and is closed; it could not be closed, and not all may be
-  -- kept; a write failed; it could not be made, and is as it was
+  -- a file that was made, or cut to nothing: it took its bytes and is closed; it could not be closed, and not all may
+  -- be kept; a write failed; it could not be made, and is as it was
   Written : End
   NotKept : End
   WriteFailed : End

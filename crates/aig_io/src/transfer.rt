@@ -1,6 +1,6 @@
 //! All bytes of a source, and all bytes to a sink.
 ghost use Rattle.std.specs.Prelude.{◌≡◌, ◌≤◌, length, IfErr, IfOk, OnErr, OnOk};
-ghost use Rattle.aig_io.specs.Devices.{block_size, CanFail, failures_of, gave_all, GaveSome, took, TookBeginning};
+ghost use Rattle.aig_io.specs.Devices.{block_size, CanFail, gave_all, GaveSome, took, TookBeginning};
 ghost use Rattle.aig_io.specs.declared.transfer.ReadError.TheVariants.{Source as SourceFault, OutOfMemory};
 
 use crate::device::{DeviceFault, Sink, Source};
@@ -38,7 +38,7 @@ impl From<AllocError> for ReadError {
 pub fn read_all<R: Source>(alloc: Global, source: &mut R) -> Result<Vec<u8>, ReadError>
     requires { CanFail (R.past source.old) }
     ensures ok { IfOk result (λ all. R.past source.new ≡ gave_all all.items (R.past source.old)) }
-    ensures err { IfErr result (λ error. GaveSome (failures_of error) (R.past source.old) (R.past source.new)) }
+    ensures err { IfErr result (λ error. GaveSome error (R.past source.old) (R.past source.new)) }
 {
     let mut all = Vec::new(alloc);
     let mut block = [0u8; 8192];

@@ -2,7 +2,7 @@
 use Rattle.std.proofs.Common.{◌≡◌, ◌<◌, ◌∷◌, ◌∙◌, ℕ, zero, suc, List, [], length, take, Option, None, Some, false, true}
 use Rattle.std.proofs.Common.{IfErr, IfOk, Result, Ok, Err, OnErr, inl, inr, refl, sym, ap, subst, arith}
 use lib.Seq.{take-length}
-use Rattle.aig_io.specs.Devices.{Past, failures_of, took, unused}
+use Rattle.aig_io.specs.Devices.{GaveSome, Past, gave, took, unused}
 use Rattle.aig_io.specs.Files.{End, Files, Left, NotKept, Whole, used}
 use Rattle.aig_io.specs.declared.transfer.ReadError.{ReadError}
 use Rattle.aig_io.specs.declared.transfer.ReadError.TheVariants as errors
@@ -18,6 +18,12 @@ use Rattle.aig_engines.specs.Reading.{NotRead}
 use Rattle.aig_tools.specs.Named.{DoneBetween, FailedFile, FailedWriting, HasReadFrom, NotDoneBetween, NotReadFrom, World}
 use Rattle.aig_tools.specs.Named.{with_use, world, written}
 use Rattle.aig_tools.specs.SimulationOutcome.{DoneAs, NotDoneAs, OfSource, SimulationDone, SimulationNotDone}
+
+-- what a source stands on stays
+origin_stays : (error : ReadError) (before after : Past) → GaveSome error before after → after.origin ≡ before.origin
+origin_stays errors.Source before after some = ap (λ (p : Past). p.origin) some.1
+origin_stays errors.OutOfMemory before after (bytes, true, some) = ap (λ (p : Past). p.origin) some
+origin_stays errors.OutOfMemory before after (bytes, false, some) = ap (λ (p : Past). p.origin) some
 
 module _ (name : List ℕ) (lender : ℕ) (files files_now : Files) (past : Past) (idle : files.current ≡ None)
     (of_it : past.origin ≡ named lender name files.uses) where
@@ -41,11 +47,15 @@ module _ (name : List ℕ) (lender : ℕ) (files files_now : Files) (past : Past
         let some : 0 < length past.bytes = omega (arith, ap length b) in
         inr (past.bytes, Left, some, used_is Left (shown.used e f some))
 
-    failed_file : (error : ReadError) → past.failures ≡ failures_of error → FailedFile error name files files_now
-    failed_file errors.Source f =
-        let failed = shown.failed (omega (arith, f)) in
+    failed_file : (error : ReadError) → GaveSome error (unused (named lender name files.uses)) past
+        → FailedFile error name files files_now
+    failed_file errors.Source some =
+        let failed = shown.failed (omega (arith, ap (λ (p : Past). p.failures) some.1)) in
         inr (past.bytes, failed.0, failed.1, used_is failed.0 failed.2)
-    failed_file errors.OutOfMemory f = ran_out past.ends past.bytes refl refl f
+    failed_file errors.OutOfMemory (bytes, true, some) =
+        ran_out past.ends past.bytes refl refl (ap (λ (p : Past). p.failures) some)
+    failed_file errors.OutOfMemory (bytes, false, some) =
+        ran_out past.ends past.bytes refl refl (ap (λ (p : Past). p.failures) some)
 
 module _ (IsRefused : ToolFault → List ℕ → Type 0) (fault : ToolFault) where
   pub not_read_stream : (files : Files) (input input_now output : Past) → NotRead IsRefused fault input input_now
@@ -62,8 +72,7 @@ module _ (IsRefused : ToolFault → List ℕ → Type 0) (fault : ToolFault) whe
       → NotRead IsRefused fault (unused (named lender name files.uses)) past
       → NotReadFrom IsRefused fault (Some name) (world files input output) (world files_now input output)
   not_read_file name lender files files_now past input output idle shown (inl (error, is, some)) =
-      let f : past.failures ≡ failures_of error = omega (arith, ap (λ (p : Past). p.failures) some.gave) in
-      inl (error, is, (failed_file name lender files files_now past idle (ap (λ (p : Past). p.origin) some.gave) shown error f, refl))
+      inl (error, is, (failed_file name lender files files_now past idle (origin_stays error _ past some) shown error some, refl))
   not_read_file name lender files files_now past input output idle shown (inr read) =
       let whole = shown.whole (omega (arith, ap (λ (p : Past). p.ends) read.gave)) in
       let o = ap (λ (p : Past). p.origin) read.gave in

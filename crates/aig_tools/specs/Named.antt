@@ -1,7 +1,7 @@
 -- What is done with the source and the destination that a request names: each is a stream, or a file with its name (this
 -- project's profile). Files, input and output are told as they were and as they are now.
 use Rattle.std.specs.Prelude.{◌≡◌, ◌⊎◌, ◌<◌, ◌∷◌, ℕ, List, [], length, take, Option, None, Some, false, true, ⊤}
-use Rattle.aig_io.specs.Devices.{GaveSome, Past, TookBeginning, failures_of, gave_all, took}
+use Rattle.aig_io.specs.Devices.{GaveSome, Past, TookBeginning, gave_all, took}
 use Rattle.aig_io.specs.Files.{End, Files, Left, NotKept, Whole, Written, used}
 use Rattle.aig_io.specs.declared.transfer.ReadError.{ReadError}
 use Rattle.aig_io.specs.declared.transfer.ReadError.TheVariants as errors
@@ -59,7 +59,7 @@ FailedFile error name files files_now =
 -- reading the source failed so, and nothing else was done
 abbrev pub FailedReading : ReadError → Option (List ℕ) → (before after : World) → Type 0
 FailedReading error None before after =
-    GaveSome (failures_of error) before.input after.input × (after ≡ record before { input = after.input })
+    GaveSome error before.input after.input × (after ≡ record before { input = after.input })
 FailedReading error (Some name) before after =
     FailedFile error name before.files after.files × (after ≡ record before { files = after.files })
 

@@ -1,5 +1,6 @@
-use Rattle.std.proofs.Common.{ℕ, List, rules, add-zero}
+use Rattle.std.proofs.Common.{ℕ, List, rules, true}
 use Rattle.aig_io.specs.Devices.{GaveSome, Past}
+use Rattle.aig_io.specs.declared.transfer.ReadError.TheVariants.{OutOfMemory}
 use Rattle.aig_engines.specs.Reading.{HasRead}
 use Rattle.aig_engines.proofs.Texts.{ready_begins}
 use Rattle.aig_engines.proofs.conversion.ToAigEngine.read.Goals as goal
@@ -8,12 +9,9 @@ pub returns-clause-some : goal.returns-clause-some
 returns-clause-some g c = ready_begins c.in_ok-make_ready.field-0
 
 -- a source that gave all its bytes gave some
-some_of_all : {Holds : List ℕ → Type 0} (before after : Past) → HasRead Holds before after → GaveSome 0 before after
-some_of_all before after read = record {
-  bytes = read.bytes;
-  ends = 1;
-  gave = rw add-zero read.gave;
-}
+some_of_all : {Holds : List ℕ → Type 0} (before after : Past) → HasRead Holds before after
+    → GaveSome OutOfMemory before after
+some_of_all before after read = (read.bytes, true, read.gave)
 
 pub returns-in_err-make_ready-clause-err : goal.returns-in_err-make_ready-clause-err
 returns-in_err-make_ready-clause-err g c =
