@@ -1,27 +1,27 @@
 -- What is answered where `clap` takes the arguments, and where it does not.
-use Rattle.std.proofs.Common.{◌≡◌, ◌≢◌, ◌∙◌, ◌⊎◌, ◌==◌, Bool, Option, Some, None, Result, Ok, Err, IfOk, IfErr, IfSome}
-use Rattle.std.proofs.Common.{List, [], ◌∷◌, ap, arith, cond, drop, false, inl, inr, is_some, length, refl, subst, sym}
-use Rattle.std.proofs.Common.{true, true≢false}
+use Rattle.std.proofs.Common.{◌≡◌, ◌≢◌, ◌∙◌, ◌⊎◌, ◌==◌, Bool, Option, Some, None, Result, Ok, Err, IfOk, IfErr}
+use Rattle.std.proofs.Common.{IfSome, List, [], ◌∷◌, ap, arith, cond, drop, false, inl, inr, is_some, length, refl}
+use Rattle.std.proofs.Common.{subst, sym, true, true≢false}
 use Rattle.std.specs.Prelude.{String, ◌-◌, option_and_then, string_bytes, take}
 use Rattle.std.specs.Global.{Global}
 use Rattle.std.specs.List.{list_any}
 use Rattle.std.proofs.lemmas.List.{take_all}
-use Rattle.clap.specs.Words.{HasMatchesOf, IsAmong, Kinds, Text, is_simple, is_simple_and_free, subcommand_of, subcommand_rows_of}
-use Rattle.clap.specs.Words.{takes}
+use Rattle.clap.specs.Words.{HasMatchesOf, IsAmong, Kinds, Text, is_simple, is_simple_and_free, subcommand_of}
+use Rattle.clap.specs.Words.{subcommand_rows_of, takes}
 use Rattle.clap.specs.declared.error.kind.ErrorKind.{ErrorKind}
 use Rattle.clap.specs.declared.error.kind.ErrorKind.TheVariants as kinds
 use Rattle.clap.specs.declared.parser.matches.ArgMatches.{ArgMatches}
 use Rattle.clap.proofs.OnLiterals.{clap_on_literals}
 use Rattle.clap.proofs.WalkLemmas.{list_any-map}
 use Rattle.aig_command.specs.Aiger.{aiger}
-use Rattle.aig_command.specs.Asked.{Asked, asked_by, command_of, faults}
-use Rattle.aig_command.specs.Answer.{IsAnswer, IsCommand, IsErrorAnswer, IsUsage, IsWrong}
-use Rattle.aig_command.specs.Answer.{asks_for, is_option, texts}
+use Rattle.aig_command.specs.Asked.{Asked, IsWithinLimits, asked_by, command_of, faults}
+use Rattle.aig_command.specs.Answer.{IsAnswer, IsCommand, IsErrorAnswer, IsUsage, IsWrong, asks_for, is_option, texts}
 use Rattle.aig_command.specs.declared.request.Command.{Command}
 use Rattle.aig_command.specs.declared.request.Command.TheVariants as commands
 use Rattle.aig_command.specs.declared.usage.Usage.{Usage}
 use Rattle.aig_command.specs.declared.usage.Usage.TheVariants as usage
 use Rattle.aig_command.proofs.Entered.{known}
+use Rattle.aig_command.proofs.Within.{within}
 
 -- ---- arguments that are taken
 
@@ -62,6 +62,9 @@ is_usage words (Some asked) (Err usage.WitnessAlone) is some h = is ∙ ap Some 
 module _ (words : List Text) (m : ArgMatches) (h : HasMatchesOf aiger words m) (e : faults words ≡ []) where
   pub rows_known : is_some (option_and_then asked_by (subcommand_rows_of m)) ≡ true
   rows_known = ap (λ o. is_some (option_and_then asked_by o)) (h simple).1 ∙ known words e
+
+  pub rows_within : IfSome (option_and_then asked_by (subcommand_rows_of m)) IsWithinLimits
+  rows_within = rw (h simple).1 (within words e)
 
   command_is : command_of words ≡ option_and_then asked_by (subcommand_rows_of m)
   command_is =

@@ -1,9 +1,8 @@
 -- A command line that `clap` takes has a subcommand that is one of ours.
-use Rattle.std.proofs.Common.{rules}
-use Rattle.std.proofs.Common.{◌≡◌, ◌&&◌, Bool, Option, Some, None, List, [], ◌∷◌, ap, cond, drop, false}
-use Rattle.std.proofs.Common.{is_some, not, option_map, refl, sym, true, true≢false}
+use Rattle.std.proofs.Common.{IfSome, rules, ◌≡◌, Bool, Option, Some, None, List, [], ◌∷◌, ap, cond, drop, false, is_some}
+use Rattle.std.proofs.Common.{not, option_map, refl, sym, true, true≢false}
 use Rattle.std.specs.Prelude.{option_and_then}
-use Rattle.std.specs.List.{find, list_all, list_any}
+use Rattle.std.specs.List.{AllByRecursion, find, list_any}
 use Rattle.clap.specs.Words.{Kinds, Row, Text, subcommand_of}
 use Rattle.clap.specs.Facts.{explicit_source}
 use Rattle.clap.specs.Faults.{check_fault, entered_fault, level_fault}
@@ -12,15 +11,14 @@ use Rattle.clap.specs.Simple.{App, Shape, built, entered, label_of, names_of, ro
 use Rattle.clap.specs.Walk.{Held, Names, answers_to, finished, nothing_held, walk}
 use Rattle.aig_command.specs.Aiger.{aiger}
 use Rattle.aig_command.specs.Asked.{asked_by, faults}
-use Rattle.aig_command.proofs.Read.{both}
 
 -- ---- a subcommand is met
 
-abbrev is_none : Kinds → Bool
+abbrev pub is_none : Kinds → Bool
 is_none [] = true
 is_none (k ∷ ks) = false
 
-second_empty : (a b : Kinds) → or_else a b ≡ [] → b ≡ []
+pub second_empty : (a b : Kinds) → or_else a b ≡ [] → b ≡ []
 second_empty [] b e = e
 second_empty (k ∷ ks) b e = absurd (true≢false (sym (ap is_none e)))
 
@@ -44,7 +42,7 @@ needs_subcommand : (s : Shape) (rows : List Row) (has : Bool) → s.arg_required
 needs_subcommand s rows true quiet required e = refl
 needs_subcommand s rows false quiet required e = search (rules, missing)
 
-abbrev stop_at : List Text → Option (Text × List Text)
+abbrev pub stop_at : List Text → Option (Text × List Text)
 stop_at words = (walk (built aiger).top.rules (names_of (built aiger)) nothing_held (drop 1 words)).stopped
 
 is_entered : (words : List Text) → faults words ≡ [] → is_some (subcommand_of aiger words) ≡ true
@@ -61,24 +59,32 @@ is_entered words e =
 abbrev IsKnownIfMet : Option (Text × List Row) → Type 0
 IsKnownIfMet met = is_some met ≡ true → is_some (option_and_then asked_by met) ≡ true
 
-pick_known : (b : Bool) (s : Shape) (later : Option Shape) (rows : Shape → Text × List Row)
-    → is_some (asked_by (rows s)) ≡ true → IsKnownIfMet (option_map rows later)
-    → IsKnownIfMet (option_map rows (cond b (Some s) later))
-pick_known true s later rows here there e = here
-pick_known false s later rows here there e = there e
+-- what holds of each element holds of the one that is found
+pub found_has : {X : Type 0} (P : X → Type 0) (p : X → Bool) (xs : List X) → AllByRecursion P xs → IfSome (find p xs) P
+found_has P p [] h = tt
+found_has P p (x ∷ xs) h = go (p x) (found_has P p xs h.1)
+  where
+    go : (b : Bool) → IfSome (find p xs) P → IfSome (cond b (Some x) (find p xs)) P
+    go true later = h.0
+    go false later = later
 
--- where each that may be found is known, the one that is found is
-found_known : (test : Shape → Bool) (rows : Shape → Text × List Row) (subs : List Shape)
-    → list_all (λ s. is_some (asked_by (rows s))) subs ≡ true → IsKnownIfMet (option_map rows (find test subs))
-found_known test rows [] all e = e
-found_known test rows (s ∷ subs) all e =
-    let each = both (is_some (asked_by (rows s))) (list_all (λ s. is_some (asked_by (rows s))) subs) all in
-    pick_known (test s) s (find test subs) rows each.0 (found_known test rows subs each.1) e
+-- the subcommand is one of ours
+abbrev IsOurs : Shape → Type 0
+IsOurs s = (words : List Text) → is_some (asked_by (rows_at s words)) ≡ true
+
+each_is_ours : AllByRecursion IsOurs (built aiger).subs
+each_is_ours = (λ words. refl, (λ words. refl, (λ words. refl, tt)))
 
 is_known : (stop : Option (Text × List Text)) → IsKnownIfMet (entered (built aiger) stop)
 is_known None e = e
-is_known (Some p) e =
-    found_known (λ s. answers_to p.0 (label_of s)) (λ s. rows_at s p.1) (built aiger).subs refl e
+is_known (Some p) e = go (find named (built aiger).subs) (found_has IsOurs named (built aiger).subs each_is_ours) e
+  where
+    named : Shape → Bool
+    named s = answers_to p.0 (label_of s)
+
+    go : (o : Option Shape) → IfSome o IsOurs → IsKnownIfMet (option_map (λ s. rows_at s p.1) o)
+    go None is none = none
+    go (Some s) is some = is p.1
 
 -- what a command line that is taken asks for is known
 pub known : (words : List Text) → faults words ≡ []

@@ -1,5 +1,5 @@
 -- The command lines that the program takes, in the terms of `clap` (this project's profile).
-use Rattle.std.specs.Prelude.{◌≡◌, List, [], ◌∷◌, Some, false, true, pos, fold}
+use Rattle.std.specs.Prelude.{◌≡◌, ℕ, List, [], ◌∷◌, Some, false, true, pos, fold}
 use Rattle.std.specs.Prelude.{codes}
 use Rattle.clap.specs.Words.{App, Rule, Text, app_of, new_app, new_rule, rule_of, with_rule, with_subcommand}
 use Rattle.clap.specs.declared.builder.arg.Arg.{Arg}
@@ -7,6 +7,14 @@ use Rattle.clap.specs.declared.builder.command.Command.{Command}
 use Rattle.clap.specs.declared.builder.command.Command.TheViews.{out-Command as fields_of}
 use Rattle.clap.specs.declared.builder.action.ArgAction.TheVariants.{Set, SetTrue}
 use Rattle.clap.specs.declared.builder.value_parser.ValueParser.TheVariants as parser
+
+-- the largest index that a file may have: 2^31 - 1, so that each literal fits into 32 bits
+abbrev pub largest_index : ℕ
+largest_index = 2147483647
+
+-- the most frames over which a circuit is unrolled
+abbrev pub most_frames : ℕ
+most_frames = 1000000
 
 -- an option that is given or not
 abbrev pub flag : Text → Rule
@@ -18,7 +26,7 @@ max_var = record (new_rule (codes "max-var")) {
   long = Some (codes "max-var");
   action = Some Set;
   value_names = 1;
-  parser = Some (parser.Signed (pos 0) (pos 2147483647));
+  parser = Some (parser.Signed (pos 0) (pos largest_index));
 }
 
 abbrev pub with_rules : App → List Rule → App
@@ -46,7 +54,7 @@ frames = record (new_rule (codes "frames")) {
   long = Some (codes "frames");
   action = Some Set;
   value_names = 1;
-  parser = Some (parser.Signed (pos 1) (pos 1000000));
+  parser = Some (parser.Signed (pos 1) (pos most_frames));
   required = true;
 }
 

@@ -7,7 +7,7 @@ use Rattle.std.specs.Str.{bytes_eq}
 use Rattle.clap.specs.Words.{IsAmong, Text, takes}
 use Rattle.clap.specs.declared.error.kind.ErrorKind.{ErrorKind}
 use Rattle.clap.specs.declared.error.kind.ErrorKind.TheVariants.{DisplayHelp, DisplayVersion, OutOfMemory}
-use Rattle.aig_command.specs.Aiger.{aiger}
+use Rattle.aig_command.specs.Aiger.{aiger, most_frames}
 use Rattle.aig_command.specs.Asked.{Asked, Conversion, Simulation, Unrolling, command_of, faults}
 use Rattle.aig_command.specs.Asked.{converts, refused, simulates, unrolls}
 use Rattle.aig_command.specs.declared.request.Sim.{Sim}
@@ -106,9 +106,9 @@ HasOneStandardInput request = name_of request.model ≡ None → name_of request
 abbrev pub IsWitnessAlone : Sim → Type 0
 IsWitnessAlone request = request.witness ≡ true → (request.batch ≡ false) × (request.properties ≡ false)
 
--- A circuit is unrolled over 1 to 1000000 frames.
+-- A circuit is unrolled over one frame or more, and not over too many.
 abbrev pub HasFrames : Unroll → Type 0
-HasFrames request = (1 ≤ request.frames) × (request.frames ≤ 1000000)
+HasFrames request = (1 ≤ request.frames) × (request.frames ≤ most_frames)
 
 -- what the command asks for can be done
 abbrev pub CanDo : Command → Type 0

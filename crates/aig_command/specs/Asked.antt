@@ -1,5 +1,5 @@
 -- What a command line asks for that `clap` takes (this project's profile).
-use Rattle.std.specs.Prelude.{ℕ, List, [], ◌∷◌, ◌==◌, ◌&&◌, ◌||◌, ◌^◌, Bool, false, length, max, min, nat_lt, nat_eq}
+use Rattle.std.specs.Prelude.{ℕ, ◌≤◌, ⊤, List, [], ◌∷◌, ◌==◌, ◌&&◌, ◌||◌, ◌^◌, Bool, false, length, nat_lt, nat_eq}
 use Rattle.std.specs.Prelude.{Option, Some, None, unwrap_or, option_and_then, option_map, find}
 use Rattle.std.specs.Prelude.{codes, if◌then◌else◌}
 use Rattle.std.specs.List.{ends_with, list_all}
@@ -8,7 +8,7 @@ use Rattle.std.specs.Char.{digit_value}
 use Rattle.std.specs.Str.{bytes_eq}
 use Rattle.std.specs.Str.Parse.{digits_value, without_leading_plus}
 use Rattle.clap.specs.Words.{Kinds, Row, Text, fault_of, first_of, one_of, subcommand_of}
-use Rattle.aig_command.specs.Aiger.{aiger}
+use Rattle.aig_command.specs.Aiger.{aiger, largest_index, most_frames}
 use Rattle.aig_command.specs.declared.usage.Usage.{Usage}
 use Rattle.aig_command.specs.declared.usage.Usage.TheVariants as usage
 
@@ -30,11 +30,11 @@ number name otherwise rows = unwrap_or (option_and_then number_in (one_of name r
 
 -- the limit that `--max-var` sets, or else the largest index that the format has
 abbrev pub limit : List Row → ℕ
-limit = number (codes "max-var") 2147483647
+limit = number (codes "max-var") largest_index
 
--- the number of frames that `--frames` sets; `clap` takes no number that is not among these
+-- the number of frames that `--frames` sets, which has to be given
 abbrev pub frames : List Row → ℕ
-frames rows = max 1 (min 1000000 (number (codes "frames") 1 rows))
+frames = number (codes "frames") 1
 
 -- the file that is named at this place; no name, or `-`, is the standard stream
 abbrev pub file : Text → List Row → Option Text
@@ -135,6 +135,13 @@ pub data Asked : Type 0 where
   simulates : Simulation → Asked
   unrolls : Unrolling → Asked
   refused : Usage → Asked
+
+-- The numbers are within their limits: that on indices and counts, and the frames.
+abbrev pub IsWithinLimits : Asked → Type 0
+IsWithinLimits (converts c) = c.max_var ≤ largest_index
+IsWithinLimits (simulates s) = s.max_var ≤ largest_index
+IsWithinLimits (unrolls u) = (1 ≤ u.frames) × (u.frames ≤ most_frames) × (u.max_var ≤ largest_index)
+IsWithinLimits (refused reason) = ⊤
 
 -- what the arguments of `aigtoaig` ask for
 abbrev pub to_aig : List Row → Asked

@@ -8,6 +8,7 @@
 
 mod builder;
 mod destination;
+pub mod laws;
 mod options;
 mod reader;
 mod request;

@@ -6,7 +6,7 @@ ghost use Rattle.clap.specs.declared.error.kind.ErrorKind.TheVariants.{OutOfMemo
 ghost use Rattle.aig_command.specs.Aiger.{aiger};
 ghost use Rattle.aig_command.specs.Answer.{asks_for, CanDo, is_option, texts};
 ghost use Rattle.aig_command.specs.Answer.{IsAnswer, IsCommand, IsErrorAnswer, IsUsage};
-ghost use Rattle.aig_command.specs.Asked.{asked_by, faults};
+ghost use Rattle.aig_command.specs.Asked.{asked_by, faults, IsWithinLimits};
 
 use crate::builder::aiger;
 use crate::request::Command;
@@ -30,6 +30,7 @@ fn parse<'a>(alloc: Global, words: &'a [String]) -> Result<ArgMatches<'a>, Error
 /// What arguments ask for that `clap` takes.
 fn asked(alloc: Global, matches: &ArgMatches<'_>) -> Result<Command, Usage>
     requires known { is_some (option_and_then asked_by (subcommand_rows_of matches.now)) ≡ true }
+    requires within { IfSome (option_and_then asked_by (subcommand_rows_of matches.now)) IsWithinLimits }
     ensures answer { IfSome (option_and_then asked_by (subcommand_rows_of matches.now)) (λ asked.
         IsAnswer asked result) }
     ensures can_do { IfOk result CanDo }

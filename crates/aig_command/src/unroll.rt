@@ -1,8 +1,8 @@
 //! What the arguments of `aigunroll` ask for.
-ghost use Rattle.std.specs.Prelude.{◌≡◌, ◌≤◌, IfOk};
+ghost use Rattle.std.specs.Prelude.{◌≡◌, IfOk};
 ghost use Rattle.clap.specs.Words.{found_of, rows_of};
-ghost use Rattle.aig_command.specs.Answer.{CanDo, HasFrames, IsAnswer, unrolling_of};
-ghost use Rattle.aig_command.specs.Asked.{aigunroll, frames, unrolling};
+ghost use Rattle.aig_command.specs.Answer.{CanDo, IsAnswer, unrolling_of};
+ghost use Rattle.aig_command.specs.Asked.{aigunroll, frames, IsWithinLimits, unrolling};
 
 use crate::destination::{check_destination, wants_ascii};
 use crate::options::{file, limit, number};
@@ -13,17 +13,14 @@ use std::alloc::{AllocError, Global};
 
 /// The number of frames that `--frames` sets.
 fn frames(matches: &ArgMatches<'_>) -> u32
-    ensures number { result ≡ frames (rows_of (found_of matches.now)) }
-    ensures range { (1 ≤ result) × (result ≤ 1000000) }
+    ensures { result ≡ frames (rows_of (found_of matches.now)) }
 {
-    // `clap` takes no other number; that it does is not known from its matches alone.
-    number(matches, "frames", 1).min(1_000_000).max(1)
+    number(matches, "frames", 1)
 }
 
 /// The unrolling that the arguments name.
 fn unrolling(alloc: Global, matches: &ArgMatches<'_>) -> Result<Unroll, AllocError>
-    ensures request { IfOk result (λ request. unrolling_of request ≡ unrolling (rows_of (found_of matches.now))) }
-    ensures frames { IfOk result HasFrames }
+    ensures { IfOk result (λ request. unrolling_of request ≡ unrolling (rows_of (found_of matches.now))) }
 {
     let source = file(alloc, matches, "source")?;
     let destination = file(alloc, matches, "destination")?;
@@ -38,6 +35,7 @@ fn unrolling(alloc: Global, matches: &ArgMatches<'_>) -> Result<Unroll, AllocErr
 
 /// What the arguments of `aigunroll` ask for.
 pub(crate) fn aigunroll(alloc: Global, matches: &ArgMatches<'_>) -> Result<Command, Usage>
+    requires within { IsWithinLimits (aigunroll (rows_of (found_of matches.now))) }
     ensures answer { IsAnswer (aigunroll (rows_of (found_of matches.now))) result }
     ensures can_do { IfOk result CanDo }
 {

@@ -1,11 +1,15 @@
 use Rattle.clap.specs.Words.{kind_of}
 use Rattle.aig_command.specs.Answer.{texts}
-use Rattle.aig_command.proofs.Answered.{refused_command, refused_usage, rows_known, taken_command, taken_usage}
+use Rattle.aig_command.proofs.Answered.{refused_command, refused_usage, rows_known, rows_within, taken_command}
+use Rattle.aig_command.proofs.Answered.{taken_usage}
 use Rattle.aig_command.proofs.reader.command.Goals as goal
 
 pub asked-requires : goal.asked-requires
 asked-requires c =
-    record { known = rows_known (texts c.args.words.now) c.in-Ok.matches c.in-Ok.ensures.matches c.in-Ok.ensures.kinds }
+    record {
+      known = rows_known (texts c.args.words.now) c.in-Ok.matches c.in-Ok.ensures.matches c.in-Ok.ensures.kinds;
+      within = rows_within (texts c.args.words.now) c.in-Ok.matches c.in-Ok.ensures.matches c.in-Ok.ensures.kinds;
+    }
 
 pub returns-in-Ok-clause-ok : goal.returns-in-Ok-clause-ok
 returns-in-Ok-clause-ok c =

@@ -1,0 +1,181 @@
+-- Where `clap` finds nothing wrong with the arguments, the numbers that they ask for are within their limits.
+use Rattle.std.proofs.Common.{◌≡◌, ◌<◌, ◌≤◌, ◌∙◌, ◌==◌, ℕ, Bool, Option, Some, None, List, [], ◌∷◌, IfSome, ap, arith}
+use Rattle.std.proofs.Common.{cond, rules, drop, false, length, option_map, refl, sym, true, true≢false}
+use Rattle.std.specs.Prelude.{◌^◌, option_and_then, pos, slice_get, unwrap_or, ⊤}
+use Rattle.std.specs.List.{AllByRecursion, find}
+use Rattle.std.specs.Option.{option_map_or}
+use Rattle.std.specs.Str.{bytes_eq}
+use Rattle.std.specs.Str.Parse.{ParsesUnsigned, digits_value, without_leading_plus}
+use Rattle.std.proofs.lemmas.Bool.{lt-ltb, ltb-true, ne_eqb}
+use Rattle.std.proofs.lemmas.Slice.Eq.{bytes_eq-Decides}
+use Rattle.clap.specs.Facts.{parser_of_value}
+use Rattle.clap.specs.Faults.{entered_fault, level_fault, values_fault, walk_fault}
+use Rattle.clap.specs.Kinds.{value_kinds}
+use Rattle.clap.specs.Simple.{App, Shape, built, entered, label_of, names_of, rows_at}
+use Rattle.clap.specs.Values.{read_as, refused_kind}
+use Rattle.clap.specs.ValueTests.{accepts}
+use Rattle.clap.specs.Walk.{answers_to, arg_by_id, nothing_held, reading_by, row_text, rows_after, walk_from}
+use Rattle.clap.specs.Words.{Kinds, ReadsOne, Row, Rule, Text, one_of, subcommand_of, without_minus}
+use Rattle.clap.specs.declared.builder.value_parser.Reading.{Reading}
+use Rattle.clap.specs.declared.builder.value_parser.ValueParser.{ValueParser}
+use Rattle.clap.specs.declared.builder.value_parser.ValueParser.TheVariants as parser
+use Rattle.clap.proofs.CallerReads.{signed_reads}
+use Rattle.clap.proofs.ValueTestLemmas.{accepts-Accepts}
+use Rattle.aig_command.specs.Aiger.{aiger, largest_index, max_var, most_frames, frames as frames_rule}
+use Rattle.aig_command.specs.Asked.{Asked, IsWithinLimits, asked_by, command_of, conversion, converts, faults, frames}
+use Rattle.aig_command.specs.Asked.{limit, number, number_in, refused, simulates, simulation, unrolling, unrolls}
+use Rattle.aig_command.specs.declared.usage.Usage.{Usage}
+use Rattle.aig_command.proofs.Entered.{found_has, is_none, second_empty, stop_at}
+use Rattle.aig_command.proofs.Passed.{AllPass, IsFirst, first_empty}
+use Rattle.aig_command.proofs.Read.{both, digits_from, digits_pass, is_number}
+use Rattle.aig_command.proofs.Walked.{level_pass}
+
+-- ---- a number that passes
+
+number_reads : (text : Text) → ReadsOne {E = ⊤} (ParsesUnsigned 32 10) text (number_in text)
+number_reads text = go (is_number digits) refl
+  where
+    digits : List ℕ
+    digits = without_leading_plus text
+
+    go : (b : Bool) → is_number digits ≡ b
+        → ReadsOne {E = ⊤} (ParsesUnsigned 32 10) text (cond b (Some (digits_value 10 digits)) None)
+    go true e =
+        let parts = both _ _ e in
+        let numeral = both _ _ parts.0 in
+        (((ltb-true _ _ numeral.0, digits_from digits numeral.1), ltb-true _ _ parts.1), refl)
+    go false e =
+        (tt, λ p. true≢false (sym (rw (lt-ltb _ _ p.0.0, digits_pass digits p.0.1, lt-ltb _ _ p.1) refl) ∙ e))
+
+passes : (i : Bool) (p : ValueParser) (text : Text) → value_kinds i p text ≡ [] → accepts i p text ≡ true
+passes i p text e = go (accepts i p text) e
+  where
+    go : (b : Bool) → cond b [] (refused_kind p ∷ []) ≡ [] → b ≡ true
+    go true f = refl
+    go false f = absurd (true≢false (sym (ap is_none f)))
+
+module _ (low high otherwise : ℕ) (small : high < 2 ^ 32) (least : low ≤ otherwise) (most : otherwise ≤ high) where
+  abbrev IsIn : ℕ → Type 0
+  IsIn n = (low ≤ n) × (n ≤ high)
+
+  text_is_in : (i : Bool) (text : Text) → value_kinds i (parser.Signed (pos low) (pos high)) text ≡ []
+      → IfSome (number_in (without_minus text)) IsIn
+  text_is_in i text e =
+      let passed = passes i (parser.Signed (pos low) (pos high)) text e in
+      let is = signed_reads ⊤ (ParsesUnsigned 32 10) 32 low high text (number_in (without_minus text))
+      (number_reads (without_minus text)) (λ u x h. h) small
+      (accepts-Accepts i (parser.Signed (pos low) (pos high)) text passed) in
+      rw is.1 (is.2, is.3)
+
+  module _ (c : List Rule) (name : Text) (a : Rule) (is : arg_by_id c name ≡ Some a)
+      (p : parser_of_value a.parser ≡ parser.Signed (pos low) (pos high)) where
+    row_is_in : (values : List Text) (how : Reading) → values_fault a values ≡ [] → how ≡ reading_by a
+        → IfSome (option_and_then number_in (option_map (read_as how) (slice_get values 0))) IsIn
+    row_is_in [] how e same = tt
+    row_is_in (v ∷ vs) how e same =
+        let kinds : value_kinds a.ignore_case (parser.Signed (pos low) (pos high)) v ≡ [] =
+        rw p at (first_empty (value_kinds a.ignore_case (parser_of_value a.parser) v) _ e) in
+        rw (same, p) (text_is_in a.ignore_case v kinds)
+
+    rows_are_in : (rows : List Row) → AllPass c rows → IfSome (option_and_then number_in (one_of name rows)) IsIn
+    rows_are_in [] h = tt
+    rows_are_in (r ∷ rows) h = go (bytes_eq r.id name) refl (rows_are_in rows h.1)
+      where
+        go : (b : Bool) → bytes_eq r.id name ≡ b → IfSome (option_and_then number_in (one_of name rows)) IsIn
+            → IfSome (option_and_then number_in
+            (option_and_then row_text (cond b (Some r) (find (λ r. bytes_eq r.id name) rows)))) IsIn
+        go true e later =
+            let own = ap (arg_by_id c) ((bytes_eq-Decides r.id name).0 e) ∙ is in
+            let fits : (values_fault a r.values ≡ []) × (r.reading ≡ reading_by a) = rw own at h.0 in
+            row_is_in r.values r.reading fits.0 fits.1
+        go false e later = later
+
+    -- the number that the option sets, or else this one, is from low to high
+    number_is_in : (rows : List Row) → AllPass c rows → IsIn (number name otherwise rows)
+    number_is_in rows h = go (option_and_then number_in (one_of name rows)) (rows_are_in rows h)
+      where
+        go : (o : Option ℕ) → IfSome o IsIn → IsIn (unwrap_or o otherwise)
+        go None e = (least, most)
+        go (Some n) e = e
+
+-- ---- each subcommand
+
+unless_refused : (reason : Option Usage) (asked : Asked) → IsWithinLimits asked
+    → IsWithinLimits (option_map_or refused reason asked)
+unless_refused None asked h = h
+unless_refused (Some reason) asked h = tt
+
+-- the values of the rows pass, as a record, from which the rules are known
+record AreGood (c : List Rule) (rows : List Row) : Type 0 where
+  all : AllPass c rows
+
+-- where the values of its arguments pass, what it asks for is within limits
+abbrev IsBounded : Shape → Type 0
+IsBounded s = AllByRecursion (IsFirst s.rules) s.rules
+    × ((rows : List Row) → AreGood s.rules rows → IfSome (asked_by (s.name, rows)) IsWithinLimits)
+
+limit_is_in : (c : List Rule) (a : Rule) → arg_by_id c max_var.id ≡ Some a
+    → parser_of_value a.parser ≡ parser.Signed (pos 0) (pos largest_index)
+    → (rows : List Row) → AreGood c rows → limit rows ≤ largest_index
+limit_is_in c a is p rows h =
+    let found = number_is_in 0 largest_index largest_index (omega arith) (omega arith) (omega arith) in
+    (found c max_var.id a is p rows h.all).1
+
+frames_are_in : (c : List Rule) (a : Rule) → arg_by_id c frames_rule.id ≡ Some a
+    → parser_of_value a.parser ≡ parser.Signed (pos 1) (pos most_frames)
+    → (rows : List Row) → AreGood c rows → (1 ≤ frames rows) × (frames rows ≤ most_frames)
+frames_are_in c a is p rows h =
+    number_is_in 1 most_frames 1 (omega arith) (omega arith) (omega arith) c frames_rule.id a is p rows h.all
+
+subcommands_are_bounded : AllByRecursion IsBounded (built aiger).subs
+subcommands_are_bounded = (
+  (search rules, λ rows h. unless_refused _ (converts (conversion rows)) (limit_is_in _ _ refl refl rows h)),
+  (
+    (search rules, λ rows h. unless_refused _ (simulates (simulation rows)) (limit_is_in _ _ refl refl rows h)),
+    (
+      (
+        search rules,
+        λ rows h.
+            let few = frames_are_in _ _ refl refl rows h in
+            unless_refused _ (unrolls (unrolling rows)) (few.0, few.1, limit_is_in _ _ refl refl rows h),
+      ),
+      tt,
+    ),
+  ),
+)
+
+-- ---- and all of them
+
+entered_within : (stop : Option (Text × List Text)) → entered_fault (built aiger) stop ≡ []
+    → IfSome (option_and_then asked_by (entered (built aiger) stop)) IsWithinLimits
+entered_within None e = tt
+entered_within (Some p) e =
+    go (find named (built aiger).subs) (found_has IsBounded named (built aiger).subs subcommands_are_bounded) e
+  where
+    named : Shape → Bool
+    named s = answers_to p.0 (label_of s)
+
+    go : (o : Option Shape) → IfSome o IsBounded
+        → option_map_or (λ s. level_fault s [] nothing_held p.1 false []) o [] ≡ []
+        → IfSome (option_and_then asked_by (option_map (λ s. rows_at s p.1) o)) IsWithinLimits
+    go None is f = tt
+    go (Some s) is f = is.1 (rows_after s.rules [] p.1) (record { all = level_pass s is.0 [] p.1 false [] f })
+
+-- what a command line that is taken asks for is within limits
+pub within : (words : List Text) → faults words ≡ []
+    → IfSome (option_and_then asked_by (subcommand_of aiger words)) IsWithinLimits
+within words e =
+    let a : App = built aiger in
+    let after : List Text = drop 1 words in
+    let past = second_empty (walk_fault a.top (names_of a) (walk_from nothing_held) after) _ e in
+    entered_within (stop_at words) (first_empty (entered_fault a (stop_at words)) _ past)
+
+pub command_within : (words : List Text) → IfSome (command_of words) IsWithinLimits
+command_within words = go (faults words) (within words)
+  where
+    go : (ks : Kinds) → (ks ≡ [] → IfSome (option_and_then asked_by (subcommand_of aiger words)) IsWithinLimits)
+        → IfSome (cond (length ks == 0) (option_and_then asked_by (subcommand_of aiger words)) None) IsWithinLimits
+    go [] h = h refl
+    go (k ∷ ks) h =
+        let some : (length (k ∷ ks) == 0) ≡ false = ne_eqb (length (k ∷ ks)) 0 (λ none. omega arith) in
+        rw some tt
