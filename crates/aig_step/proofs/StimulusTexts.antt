@@ -111,7 +111,8 @@ module _ (c : Circuit) where
       (record { ended = []; unended = given ∷ unended }) bad are refl tt (long, are.last)
   with_step_text n ts given (run ∷ runs) unended bad long are =
       one_more n (values_text given) ts (record { ended = run ∷ runs; unended = unended })
-      (record { ended = (given ∷ run) ∷ runs; unended = unended }) bad are refl ((long, are.each.0), are.each.1) are.last
+      (record { ended = (given ∷ run) ∷ runs; unended = unended }) bad are refl ((long, are.each.0), are.each.1)
+      are.last
 
   with_text : (n : ℕ) (t : List ℕ) (ts : List (List ℕ)) (o : Option Entry) (rest : Stimulus) → IsEntryText c t o
       → AreRuns c (suc n) ts (runs_of rest.entries) rest.bad
@@ -130,8 +131,8 @@ module _ (c : Circuit) where
       rw is.text_is (with_step_text n ts given runs.ended runs.unended rest.bad is.long are)
   with_text n t ts (Some Stop) rest is are =
       let runs = runs_of rest.entries in
-      rw is (one_more n (codes ".") ts runs (record { ended = [] ∷ runs.ended; unended = runs.unended }) rest.bad are refl
-      (tt, are.each) are.last)
+      rw is (one_more n (codes ".") ts runs (record { ended = [] ∷ runs.ended; unended = runs.unended }) rest.bad are
+      refl (tt, are.each) are.last)
 
   -- what is said is what the texts are
   are_said : (n : ℕ) (ts : List (List ℕ))
@@ -167,7 +168,8 @@ module _ (c : Circuit) where
   last_said : (n : ℕ) (steps : List (List Val)) (behind : List (List ℕ)) (bad : Option ℕ) → AreSteps c steps
       → IsNextBad c (n + length steps) behind bad
       → AreSaid (texts_say n (map values_text steps ++ behind)) (record { ended = []; unended = steps }) bad
-  last_said n [] behind bad are next = next_bad n behind bad (subst (λ (k : ℕ). IsNextBad c k behind bad) (omega arith) next)
+  last_said n [] behind bad are next =
+      next_bad n behind bad (subst (λ (k : ℕ). IsNextBad c k behind bad) (omega arith) next)
   last_said n (given ∷ steps) behind bad are next =
       step_said n given (map values_text steps ++ behind) (record { ended = []; unended = steps }) bad are.0
       (last_said (suc n) steps behind bad are.1 (subst (λ (k : ℕ). IsNextBad c k behind bad) (omega arith) next))

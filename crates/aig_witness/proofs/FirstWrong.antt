@@ -44,7 +44,8 @@ module _ (c : Circuit) where
   IsNext before text None = ¬ IsRightBehind c before text
   IsNext before text (Some next) = IsRightBehind c before text × IsAfter next (before ++ text ∷ [])
 
-  first : (text : List ℕ) (is : Bool) → Decides is (text ≡ codes "1") → IsNext [] text (if is then Some Version else None)
+  first : (text : List ℕ) (is : Bool) → Decides is (text ≡ codes "1")
+      → IsNext [] text (if is then Some Version else None)
   first text true decides = (decides.0 refl, (text, refl))
   first text false decides = λ right. let no : false ≡ true = decides.1 right in cc
 
@@ -106,7 +107,8 @@ module _ (c : Circuit) where
 
   next_line : (said : Said) (before : List (List ℕ)) (text : List ℕ) → IsAfter said before
       → IsNext before text (said_with shape said text)
-  next_line Nothing before text after = rw after (first text (bytes_eq text (codes "1")) (bytes_eq-Decides text (codes "1")))
+  next_line Nothing before text after =
+      rw after (first text (bytes_eq text (codes "1")) (bytes_eq-Decides text (codes "1")))
   next_line Version before text (one, is) = rw is (second one text (property_in (length c.bad) text) refl)
   next_line (Property p) before text (one, two, is) =
       rw is (third p one two text (first_state_in shape.resets text) refl)
