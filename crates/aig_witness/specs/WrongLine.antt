@@ -11,12 +11,13 @@ use Rattle.aig_step.specs.StimulusText.{IsGoodText}
 use Rattle.aig_step.specs.TraceText.{values_text}
 use Rattle.aig_witness.specs.Witness.{is_canonical}
 
--- the text names a bad state of the circuit
-pub record NamesBadState (c : Circuit) (text : List ℕ) : Type 0 where
+-- the text names this bad state, where there are so many
+pub record NamesBadState (bad : ℕ) (text : List ℕ) (property : ℕ) : Type 0 where
   pub digits : List ℕ
-  pub canonical : is_canonical digits ≡ true
-  pub below : number_of digits < length c.bad
   pub text_is : text ≡ codes "b" ++ digits
+  pub canonical : is_canonical digits ≡ true
+  pub number : number_of digits ≡ property
+  pub below : property < bad
 
 -- it has a value for each latch, at which that may start
 abbrev pub SaysFirstState : Circuit → List ℕ → Type 0
@@ -33,7 +34,7 @@ HaveEnd (one ∷ two ∷ three ∷ more) = Contains more (codes ".")
 -- the first state, and each one behind them says a step or is `.`, until there is a line `.`.
 abbrev pub IsRightBehind : Circuit → (before : List (List ℕ)) → (text : List ℕ) → Type 0
 IsRightBehind c [] text = text ≡ codes "1"
-IsRightBehind c (one ∷ []) text = NamesBadState c text
+IsRightBehind c (one ∷ []) text = (property : ℕ) × NamesBadState (length c.bad) text property
 IsRightBehind c (one ∷ two ∷ []) text = SaysFirstState c text
 IsRightBehind c (one ∷ two ∷ three ∷ more) text = ¬ Contains more (codes ".") × IsGoodText c text
 
