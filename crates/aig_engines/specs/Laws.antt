@@ -153,8 +153,8 @@ abbrev pub WitnessAnswersExist : Type 0
 WitnessAnswersExist = (request : Sim) (c : Circuit) (file witness : List ℕ) → IsFileOf file request.max_var c
     → first_bad_witness_line c witness true ≡ None → (verdict : Verdict) × IsWitnessAnswer request file witness verdict
 
--- Each run of a circuit that reaches a bad state, with all constraints kept, is claimed by some witness file. Every file
--- of the circuit gets the verdict on it that it is confirmed, with the number of the first such step.
+-- Each run of a circuit that reaches a bad state, with all constraints kept, is claimed by some witness file. On that,
+-- every file of the circuit gets the verdict that it is confirmed, with the number of the first such step.
 abbrev pub RightRunsAreConfirmed : Type 0
 RightRunsAreConfirmed = (request : Sim) (c : Circuit) (file : List ℕ) (claim : Claim) (rows : List Row) (step : ℕ)
     → IsFileOf file request.max_var c → claim.property < length c.bad → IsTrace c claim.first claim.steps rows

@@ -1,5 +1,6 @@
 -- Which verdict a witness file gets, and what came of judging it (this project's profile): a circuit is read, and the
--- verdict on what the witness file claims of it is written in a line. Model, witness file and sink are told by their pasts, as they were and are now.
+-- verdict on what the witness file claims of it is written in a line. Model, witness file and sink are told by their
+-- pasts, as they were and are now.
 use Rattle.std.specs.Prelude.{◌≡◌, ◌⊎◌, ◌++◌, ℕ, List, codes, decimal}
 use Rattle.aig_io.specs.Devices.{Past, TookBeginning, took}
 use Rattle.aig_circuit.specs.declared.circuit.Circuit.{Circuit}

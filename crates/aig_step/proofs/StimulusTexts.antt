@@ -1,7 +1,7 @@
 -- What is read of a stimulus, line by line, is what the texts of its lines are.
 use Rattle.std.proofs.Common.{rules}
 use Rattle.std.proofs.Common.{◌≡◌, ◌+◌, ◌++◌, ◌∙◌, ℕ, suc, List, [], ◌∷◌, Bool, true, false, Option, None, Some}
-use Rattle.std.proofs.Common.{ap, ap₂, arith, bytes_eq, codes, inl, inr, length, map, option_map, refl, subst, sym}
+use Rattle.std.proofs.Common.{ap, arith, bytes_eq, codes, inl, inr, length, map, option_map, refl, subst, sym}
 use Rattle.std.proofs.Common.{append_assoc, if◌then◌else◌, length-append}
 use Rattle.std.specs.List.{AllByRecursion, flat_map}
 use Rattle.std.proofs.lemmas.Bool.{eq-eqb, eqb-true}
@@ -84,34 +84,35 @@ module _ (c : Circuit) where
   by_texts n [] = refl
   by_texts n (l ∷ ls) = ap (before_rest n (entry_of inputs l)) (by_texts (suc n) ls)
 
-  later : (n : ℕ) (t : List ℕ) (good behind : List (List ℕ)) (bad : Option ℕ)
-      → IsNextBad c (suc n + length good) behind bad → IsNextBad c (n + length (t ∷ good)) behind bad
-  later n t good behind bad is =
-      let same : suc n + length good ≡ n + length (t ∷ good) = omega arith in
-      subst (λ (k : ℕ). IsNextBad c k behind bad) same is
+  -- runs with one more line at the front
+  one_more : (n : ℕ) (t : List ℕ) (ts : List (List ℕ)) (runs whole : Runs) (bad : Option ℕ)
+      → AreRuns c (suc n) ts runs bad
+      → t ∷ (flat_map run_lines runs.ended ++ map values_text runs.unended)
+      ≡ flat_map run_lines whole.ended ++ map values_text whole.unended
+      → AllByRecursion (AreSteps c) whole.ended → AreSteps c whole.unended → AreRuns c n (t ∷ ts) whole bad
+  one_more n t ts runs whole bad are lines each last =
+      let place : suc n + length are.good ≡ n + length (t ∷ are.good) = omega arith in
+      record {
+        good = t ∷ are.good;
+        behind = are.behind;
+        parted = ap (λ (us : List (List ℕ)). t ∷ us) are.parted;
+        lines = ap (λ (us : List (List ℕ)). t ∷ us) are.lines ∙ lines;
+        each = each;
+        last = last;
+        next = subst (λ (k : ℕ). IsNextBad c k are.behind bad) place are.next;
+      }
 
-  with_step_text : (n : ℕ) (t : List ℕ) (ts : List (List ℕ)) (given : List Val) (ended : List (List (List Val)))
-      (unended : List (List Val)) (bad : Option ℕ) → IsStepText inputs t given
+  with_step_text : (n : ℕ) (ts : List (List ℕ)) (given : List Val) (ended : List (List (List Val)))
+      (unended : List (List Val)) (bad : Option ℕ) → length given ≡ inputs
       → AreRuns c (suc n) ts (record { ended = ended; unended = unended }) bad
-      → AreRuns c n (t ∷ ts) (with_step given ended unended) bad
-  with_step_text n t ts given [] unended bad step are = record {
-    good = t ∷ are.good;
-    behind = are.behind;
-    parted = ap (λ (us : List (List ℕ)). t ∷ us) are.parted;
-    lines = ap₂ (λ (u : List ℕ) (us : List (List ℕ)). u ∷ us) step.text_is are.lines;
-    each = tt;
-    last = (step.long, are.last);
-    next = later n t are.good are.behind bad are.next;
-  }
-  with_step_text n t ts given (run ∷ runs) unended bad step are = record {
-    good = t ∷ are.good;
-    behind = are.behind;
-    parted = ap (λ (us : List (List ℕ)). t ∷ us) are.parted;
-    lines = ap₂ (λ (u : List ℕ) (us : List (List ℕ)). u ∷ us) step.text_is are.lines;
-    each = ((step.long, are.each.0), are.each.1);
-    last = are.last;
-    next = later n t are.good are.behind bad are.next;
-  }
+      → AreRuns c n (values_text given ∷ ts) (with_step given ended unended) bad
+  with_step_text n ts given [] unended bad long are =
+      one_more n (values_text given) ts (record { ended = []; unended = unended })
+      (record { ended = []; unended = given ∷ unended }) bad are refl tt (long, are.last)
+  with_step_text n ts given (run ∷ runs) unended bad long are =
+      one_more n (values_text given) ts (record { ended = run ∷ runs; unended = unended })
+      (record { ended = (given ∷ run) ∷ runs; unended = unended }) bad are refl ((long, are.each.0), are.each.1)
+      are.last
 
   with_text : (n : ℕ) (t : List ℕ) (ts : List (List ℕ)) (o : Option Entry) (rest : Stimulus) → IsEntryText c t o
       → AreRuns c (suc n) ts (runs_of rest.entries) rest.bad
@@ -126,16 +127,12 @@ module _ (c : Circuit) where
     next = (is, ap (λ (k : ℕ). Some k) (omega arith));
   }
   with_text n t ts (Some (Step given)) rest is are =
-      let runs = runs_of rest.entries in with_step_text n t ts given runs.ended runs.unended rest.bad is are
-  with_text n t ts (Some Stop) rest is are = record {
-    good = t ∷ are.good;
-    behind = are.behind;
-    parted = ap (λ (us : List (List ℕ)). t ∷ us) are.parted;
-    lines = ap₂ (λ (u : List ℕ) (us : List (List ℕ)). u ∷ us) is are.lines;
-    each = (tt, are.each);
-    last = are.last;
-    next = later n t are.good are.behind rest.bad are.next;
-  }
+      let runs = runs_of rest.entries in
+      rw is.text_is (with_step_text n ts given runs.ended runs.unended rest.bad is.long are)
+  with_text n t ts (Some Stop) rest is are =
+      let runs = runs_of rest.entries in
+      rw is (one_more n (codes ".") ts runs (record { ended = [] ∷ runs.ended; unended = runs.unended }) rest.bad are
+      refl (tt, are.each) are.last)
 
   -- what is said is what the texts are
   are_said : (n : ℕ) (ts : List (List ℕ))
@@ -171,7 +168,8 @@ module _ (c : Circuit) where
   last_said : (n : ℕ) (steps : List (List Val)) (behind : List (List ℕ)) (bad : Option ℕ) → AreSteps c steps
       → IsNextBad c (n + length steps) behind bad
       → AreSaid (texts_say n (map values_text steps ++ behind)) (record { ended = []; unended = steps }) bad
-  last_said n [] behind bad are next = next_bad n behind bad (subst (λ (k : ℕ). IsNextBad c k behind bad) (omega arith) next)
+  last_said n [] behind bad are next =
+      next_bad n behind bad (subst (λ (k : ℕ). IsNextBad c k behind bad) (omega arith) next)
   last_said n (given ∷ steps) behind bad are next =
       step_said n given (map values_text steps ++ behind) (record { ended = []; unended = steps }) bad are.0
       (last_said (suc n) steps behind bad are.1 (subst (λ (k : ℕ). IsNextBad c k behind bad) (omega arith) next))

@@ -28,7 +28,7 @@ abbrev pub IsNextBad : Circuit → ℕ → (behind : List (List ℕ)) → (bad :
 IsNextBad c number [] bad = bad ≡ None
 IsNextBad c number (text ∷ behind) bad = ¬ IsGoodText c text × (bad ≡ Some number)
 
--- Lines of these texts, the first of which has this number, are these runs, up to the first bad one, where there is one.
+-- Lines of these texts, the first of which has this number, are these runs, up to the first bad one if there is one.
 pub record AreRuns (c : Circuit) (number : ℕ) (texts : List (List ℕ)) (runs : Runs) (bad : Option ℕ) : Type 0 where
   pub good : List (List ℕ)
   pub behind : List (List ℕ)

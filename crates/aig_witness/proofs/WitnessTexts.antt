@@ -1,31 +1,34 @@
 -- What is read of a witness file, line by line, is what the file as a whole says.
-use Rattle.std.proofs.lemmas.Grind.{common_steps}
-use Rattle.std.proofs.Common.{arith}
 use Rattle.std.proofs.Common.{rules}
-use Rattle.std.proofs.Common.{◌≡◌, ◌&&◌, ◌||◌, ◌<◌, ◌++◌, ℕ, suc, List, [], ◌∷◌, Bool, true, false, length}
+use Rattle.std.proofs.Common.{◌≡◌, ◌≢◌, ◌&&◌, ◌||◌, ◌<◌, ◌++◌, ℕ, suc, List, [], ◌∷◌, Bool, true, false, length}
 use Rattle.std.proofs.Common.{Option, Some, None, Result, Ok, refl, sym, ap, ap₂, subst, ◌∙◌, append_assoc, append-nil}
-use Rattle.std.proofs.Common.{bytes_eq, codes, filter, map, if◌then◌else◌, nat_lt, option_map}
-use Rattle.std.specs.List.{AllByRecursion, AllZip}
+use Rattle.std.proofs.Common.{bytes_eq, codes, filter, inl, inr, map, if◌then◌else◌, nat_lt, option_map}
+use Rattle.std.specs.Bool.{Decides}
+use Rattle.std.specs.List.{AllByRecursion, AllZip, Contains}
 use Rattle.std.proofs.lemmas.Bool.{lt-ltb}
+use Rattle.std.proofs.lemmas.List.{map-append}
+use Rattle.std.proofs.lemmas.List.Elements.{All-contains, All-from_recursion, Contains-push}
 use Rattle.std.proofs.lemmas.Slice.Eq.{bytes_eq-Decides}
 use Rattle.aig_circuit.specs.declared.circuit.Circuit.{Circuit}
 use Rattle.aig_circuit.specs.declared.circuit.Reset.{Reset}
 use Rattle.aig_circuit.specs.declared.circuit.Reset.TheVariants as resets
 use Rattle.aig_circuit.specs.declared.value.Val.{Val}
-use Rattle.aig_meaning.specs.Trace.{MayStartAt}
+use Rattle.aig_meaning.specs.Trace.{IsFirstState, MayStartAt}
 use Rattle.aig_rows.specs.Lines.{Line, lines_of}
 use Rattle.aig_rows.specs.Spelling.{value_of as number_of}
 use Rattle.aig_witness.specs.Laws.{WitnessFilesAreRead}
 use Rattle.aig_step.specs.Stimulus.{Entry, Step, Stop, entry_in, judged_lines, text_of, values_of}
+use Rattle.aig_step.specs.StimulusText.{AreSteps}
 use Rattle.aig_step.specs.TraceText.{values_text}
 use Rattle.aig_witness.specs.Witness.{Claim, Nothing, Property, Said, SaysClaim, Shape, Steps, Version, Whole, begun_at}
 use Rattle.aig_witness.specs.Witness.{first_state_in, is_canonical, may_start_at, may_start_in, number_below}
 use Rattle.aig_witness.specs.Witness.{property_in, said_behind, said_by, said_with, shape_of, with_entry}
 use Rattle.aig_witness.specs.WitnessText.{IsWitnessFile}
+use Rattle.aig_witness.specs.WrongLine.{IsRightBehind, NamesBadState}
 use Rattle.aig_step.proofs.LineValues.{says_values, values_back}
-use Rattle.aig_step.proofs.StimulusTexts.{says_step, step_text, stop_text}
+use Rattle.aig_step.proofs.StimulusTexts.{IsEntryText, entry_read, says_step}
 use Rattle.aig_witness.proofs.Witnessing.{may_start}
-use Rattle.aig_witness.proofs.WitnessValues.{IsNumberRead, number_read}
+use Rattle.aig_witness.proofs.WitnessValues.{number_read}
 
 -- what texts of lines say
 unfoldable pub said_texts : Shape → ℕ → Said → List (List ℕ) → Result Said ℕ
@@ -59,55 +62,6 @@ said_all : (c : Circuit) (bytes : List ℕ)
     ≡ said_texts (shape_of c) 1 Nothing (map text_of (lines_of bytes))
 said_all c bytes = search (rules, all_judged, by_texts)
 
--- lines of steps, and the line behind them
-record AreSteps (inputs : ℕ) (claim whole : Claim) (ts : List (List ℕ)) : Type 0 where
-  more : List (List Val)
-  texts : ts ≡ map values_text more ++ codes "." ∷ []
-  each : AllByRecursion (λ (given : List Val). length given ≡ inputs) more
-  is : whole ≡ record claim { steps = claim.steps ++ more }
-
-module _ (shape : Shape) where
-  none_behind : (n : ℕ) (claim whole : Claim) (ts : List (List ℕ))
-      → said_texts shape n (Whole claim) ts ≡ Ok (Whole whole) → (ts ≡ []) × (whole ≡ claim)
-  unfolding said_texts
-  none_behind n claim whole [] said = (refl, cc)
-  none_behind n claim whole (t ∷ ts) said = cc
-
-  step_read : (n : ℕ) (claim whole : Claim) (t : List ℕ) (ts : List (List ℕ)) (o : Option Entry)
-      → entry_in shape.inputs t ≡ o
-      → said_behind n (option_map (with_entry claim) o) (λ next. said_texts shape (suc n) next ts) ≡ Ok (Whole whole)
-      → ((given : List Val)
-      → said_texts shape (suc n) (Steps (record claim { steps = claim.steps ++ given ∷ [] })) ts ≡ Ok (Whole whole)
-      → AreSteps shape.inputs (record claim { steps = claim.steps ++ given ∷ [] }) whole ts)
-      → AreSteps shape.inputs claim whole (t ∷ ts)
-  step_read n claim whole t ts None is said on = cc
-  step_read n claim whole t ts (Some (Step given)) is said on = grind (arith, common_steps, step_text, append_assoc)
-  step_read n claim whole t ts (Some Stop) is said on = grind (arith, common_steps, none_behind, stop_text, append-nil)
-
-  steps_read : (n : ℕ) (claim whole : Claim) (ts : List (List ℕ))
-      → said_texts shape n (Steps claim) ts ≡ Ok (Whole whole) → AreSteps shape.inputs claim whole ts
-  unfolding said_texts
-  steps_read n claim whole [] said = cc
-  steps_read n claim whole (t ∷ ts) said =
-      step_read n claim whole t ts (entry_in shape.inputs t) refl said
-      (λ given (on : said_texts shape (suc n) (Steps (record claim { steps = claim.steps ++ given ∷ [] })) ts
-      ≡ Ok (Whole whole)). steps_read (suc n) (record claim { steps = claim.steps ++ given ∷ [] }) whole ts on)
-
-  steps_said : (n : ℕ) (claim : Claim) (more : List (List Val))
-      → AllByRecursion (λ (given : List Val). length given ≡ shape.inputs) more
-      → said_texts shape n (Steps claim) (map values_text more ++ codes "." ∷ [])
-      ≡ Ok (Whole (record claim { steps = claim.steps ++ more }))
-  unfolding said_texts
-  steps_said n claim [] each =
-      ap (λ (ss : List (List Val)). Ok (Whole (record claim { steps = ss }))) (sym (append-nil claim.steps))
-  steps_said n claim (given ∷ more) each =
-      ap (λ (o : Option Entry). said_behind n (option_map (with_entry claim) o)
-      (λ next. said_texts shape (suc n) next (map values_text more ++ codes "." ∷ [])))
-      (says_step shape.inputs given each.0)
-      ∙ steps_said (suc n) (record claim { steps = claim.steps ++ given ∷ [] }) more each.1
-      ∙ ap (λ (ss : List (List Val)). Ok (Whole (record claim { steps = ss })))
-      (append_assoc claim.steps (given ∷ []) more)
-
 -- the line of the first state
 one_may : (r : Reset) (v : Val) → MayStartAt r v → may_start_at r v ≡ true
 one_may resets.Zero v is = ap (may_start_at resets.Zero) is
@@ -124,110 +78,179 @@ pub first_said : (rs : List Reset) (first : List Val) → AllZip MayStartAt rs f
     → first_state_in rs (values_text first) ≡ Some first
 first_said rs first all = search (rules, says_values, all_may)
 
-record IsFirstRead (shape : Shape) (p : ℕ) (whole : Claim) (ts : List (List ℕ)) : Type 0 where
-  first : List Val
-  rest : List (List ℕ)
-  texts : ts ≡ values_text first ∷ rest
-  starts : AllZip MayStartAt shape.resets first
-  steps : AreSteps shape.inputs (record { property = p; first = first; steps = [] }) whole rest
-
-module _ (shape : Shape) where
-  one_first : (n p : ℕ) (whole : Claim) (t : List ℕ) (ts : List (List ℕ)) (o : Option (List Val))
-      → first_state_in shape.resets t ≡ o
-      → said_behind n (option_map (begun_at p) o) (λ next. said_texts shape (suc n) next ts) ≡ Ok (Whole whole)
-      → IsFirstRead shape p whole (t ∷ ts)
-  one_first n p whole t ts None is said = cc
-  one_first n p whole t ts (Some first) is said = record {
-    first = first;
-    rest = ts;
-    texts = ap (λ (u : List ℕ). u ∷ ts)
-        (sym (values_back t first (may_start shape.resets (values_of t) first is).0));
-    starts = (may_start shape.resets (values_of t) first is).1;
-    steps = steps_read shape (suc n) (record { property = p; first = first; steps = [] }) whole ts said;
-  }
-
-  first_read : (n p : ℕ) (whole : Claim) (ts : List (List ℕ))
-      → said_texts shape n (Property p) ts ≡ Ok (Whole whole) → IsFirstRead shape p whole ts
-  unfolding said_texts
-  first_read n p whole [] said = cc
-  first_read n p whole (t ∷ ts) said = one_first n p whole t ts (first_state_in shape.resets t) refl said
-
 -- the line of the bad state
 pub number_said : (bound : ℕ) (digits : List ℕ) (p : ℕ) → is_canonical digits ≡ true → number_of digits ≡ p → p < bound
     → number_below bound digits ≡ Some p
 number_said bound digits p canonical number below = search (rules, nat_lt, lt-ltb)
 
-record ArePropertyAndRest (shape : Shape) (whole : Claim) (ts : List (List ℕ)) : Type 0 where
-  p : ℕ
-  text : List ℕ
-  rest : List (List ℕ)
-  texts : ts ≡ text ∷ rest
-  number : IsNumberRead shape.bad text p
-  first : IsFirstRead shape p whole rest
+-- no step has the text of the end
+no_stop : (vs : List Val) → values_text vs ≢ codes "."
+no_stop vs is = let says : values_of (codes ".") ≡ Some vs = ap values_of (sym is) ∙ says_values vs in cc
 
+pub no_end : (steps : List (List Val)) → ¬ Contains (map values_text steps) (codes ".")
+no_end steps has =
+    All-contains (λ (t : List ℕ). t ≢ codes ".") (map values_text steps) (codes ".")
+    (All-from_recursion (λ (t : List ℕ). t ≢ codes ".") (map values_text steps) (none steps)) has refl where
+      none : (steps : List (List Val)) → AllByRecursion (λ (t : List ℕ). t ≢ codes ".") (map values_text steps)
+      none [] = tt
+      none (given ∷ steps) = (no_stop given, none steps)
+
+long_too : (c : Circuit) (steps : List (List Val)) (given : List Val) → AreSteps c steps
+    → length given ≡ length c.inputs → AreSteps c (steps ++ given ∷ [])
+long_too c [] given are long = (long, tt)
+long_too c (first ∷ steps) given are long = (are.0, long_too c steps given are.1 long)
+
+-- lines of these texts claim this, and have not ended
+pub record AreClaimed (c : Circuit) (claim : Claim) (texts : List (List ℕ)) : Type 0 where
+  pub named : List ℕ
+  pub names : NamesBadState (length c.bad) named claim.property
+  pub starts : IsFirstState c claim.first
+  pub each : AreSteps c claim.steps
+  pub are : texts ≡ codes "1" ∷ named ∷ values_text claim.first ∷ map values_text claim.steps
+
+module _ (c : Circuit) where
+  abbrev shape : Shape
+  shape = shape_of c
+
+  -- what lines are of which this is said
+  abbrev pub IsAfter : Said → List (List ℕ) → Type 0
+  IsAfter Nothing before = before ≡ []
+  IsAfter Version before = before ≡ codes "1" ∷ []
+  IsAfter (Property p) before =
+      (named : List ℕ) × NamesBadState (length c.bad) named p × (before ≡ codes "1" ∷ named ∷ [])
+  IsAfter (Steps claim) before = AreClaimed c claim before
+  IsAfter (Whole claim) before = (front : List (List ℕ)) × AreClaimed c claim front × (before ≡ front ++ codes "." ∷ [])
+
+  pub whole_is : (claim : Claim) (before : List (List ℕ)) → (after : IsAfter (Whole claim) before)
+      → before ≡ codes "1" ∷ after.1.named ∷ values_text claim.first ∷ (map values_text claim.steps ++ codes "." ∷ [])
+  whole_is claim before after = after.2 ∙ ap (λ (ts : List (List ℕ)). ts ++ codes "." ∷ []) after.1.are
+
+  -- what one more line of this text says, if it is right
+  abbrev pub IsNext : (before : List (List ℕ)) → (text : List ℕ) → Option Said → Type 0
+  IsNext before text None = ¬ IsRightBehind c before text
+  IsNext before text (Some next) = IsRightBehind c before text × IsAfter next (before ++ text ∷ [])
+
+  first : (text : List ℕ) (is : Bool) → Decides is (text ≡ codes "1")
+      → IsNext [] text (if is then Some Version else None)
+  first text true decides = (decides.0 refl, ap (λ (t : List ℕ). t ∷ []) (decides.0 refl))
+  first text false decides = λ right. let other : false ≡ true = decides.1 right in cc
+
+  second : (text : List ℕ) (o : Option ℕ) → property_in (length c.bad) text ≡ o
+      → IsNext (codes "1" ∷ []) text (option_map Property o)
+  second text None is = λ (p, names).
+      let some : property_in (length c.bad) text ≡ Some p =
+      ap (property_in (length c.bad)) names.text_is
+      ∙ number_said (length c.bad) names.digits p names.canonical names.number names.below in cc
+  second text (Some p) is =
+      let names = number_read (length c.bad) text p is in ((p, names), (text, names, refl))
+
+  third : (p : ℕ) (named text : List ℕ) (o : Option (List Val)) → NamesBadState (length c.bad) named p
+      → first_state_in shape.resets text ≡ o → IsNext (codes "1" ∷ named ∷ []) text (option_map (begun_at p) o)
+  third p named text None names is = λ right.
+      let some : first_state_in shape.resets text ≡ Some right.0 =
+      ap (first_state_in shape.resets) right.2 ∙ first_said shape.resets right.0 right.1 in cc
+  third p named text (Some values) names is =
+      let may = may_start shape.resets (values_of text) values is in
+      let same = sym (values_back text values may.0) in (
+        (values, may.1, same),
+        record {
+          named = named;
+          names = names;
+          starts = may.1;
+          each = tt;
+          are = ap (λ (t : List ℕ). codes "1" ∷ named ∷ t ∷ []) same;
+        },
+      )
+
+  entry : (claim : Claim) (before : List (List ℕ)) (text : List ℕ) (o : Option Entry) → AreClaimed c claim before
+      → IsEntryText c text o → IsNext before text (option_map (with_entry claim) o)
+  entry claim before text None claimed read = λ right.
+      read (subst (λ (ts : List (List ℕ)). IsRightBehind c ts text) claimed.are right).1
+  entry claim before text (Some (Step given)) claimed read = (
+    subst (λ (ts : List (List ℕ)). IsRightBehind c ts text) (sym claimed.are)
+        (no_end claim.steps, inl (given, read.long, read.text_is)),
+    record {
+      named = claimed.named;
+      names = claimed.names;
+      starts = claimed.starts;
+      each = long_too c claim.steps given claimed.each read.long;
+      are = ap₂ (λ (ts : List (List ℕ)) (t : List ℕ). ts ++ t ∷ []) claimed.are read.text_is
+          ∙ ap (λ (ts : List (List ℕ)). codes "1" ∷ claimed.named ∷ values_text claim.first ∷ ts)
+          (sym (map-append values_text claim.steps (given ∷ [])));
+    },
+  )
+  entry claim before text (Some Stop) claimed read = (
+    subst (λ (ts : List (List ℕ)). IsRightBehind c ts text) (sym claimed.are) (no_end claim.steps, inr read),
+    (before, claimed, ap (λ (t : List ℕ). before ++ t ∷ []) read),
+  )
+
+  pub next_line : (said : Said) (before : List (List ℕ)) (text : List ℕ) → IsAfter said before
+      → IsNext before text (said_with shape said text)
+  next_line Nothing before text after =
+      rw after (first text (bytes_eq text (codes "1")) (bytes_eq-Decides text (codes "1")))
+  next_line Version before text after = rw after (second text (property_in (length c.bad) text) refl)
+  next_line (Property p) before text (named, names, is) =
+      rw is (third p named text (first_state_in shape.resets text) names refl)
+  next_line (Steps claim) before text after =
+      entry claim before text (entry_in shape.inputs text) after (entry_read c text (entry_in shape.inputs text) refl)
+  next_line (Whole claim) before text after = λ right.
+      (subst (λ (ts : List (List ℕ)). IsRightBehind c ts text) (whole_is claim before after) right).0
+      (Contains-push (map values_text claim.steps) (codes "."))
+
+  -- what is said at last
+  said_line : (n : ℕ) (claim : Claim) (before ts : List (List ℕ)) (t : List ℕ) (o : Option Said) → IsNext before t o
+      → ((next : Said) → IsAfter next (before ++ t ∷ []) → said_texts shape (suc n) next ts ≡ Ok (Whole claim)
+      → IsAfter (Whole claim) ((before ++ t ∷ []) ++ ts))
+      → said_behind n o (λ next. said_texts shape (suc n) next ts) ≡ Ok (Whole claim)
+      → IsAfter (Whole claim) (before ++ t ∷ ts)
+  said_line n claim before ts t None wrong others said = cc
+  said_line n claim before ts t (Some next) right others said =
+      subst (IsAfter (Whole claim)) (append_assoc before (t ∷ []) ts) (others next right.1 said)
+
+  said_lines : (n : ℕ) (claim : Claim) (before ts : List (List ℕ)) (said : Said) → IsAfter said before
+      → said_texts shape n said ts ≡ Ok (Whole claim) → IsAfter (Whole claim) (before ++ ts)
+  unfolding said_texts
+  said_lines n claim before [] said after is =
+      let same : said ≡ Whole claim = cc in
+      subst (IsAfter (Whole claim)) (sym (append-nil before)) (subst (λ (s : Said). IsAfter s before) same after)
+  said_lines n claim before (t ∷ ts) said after is =
+      said_line n claim before ts t (said_with shape said t) (next_line said before t after)
+      (λ next after_next. said_lines (suc n) claim (before ++ t ∷ []) ts next after_next) is
+
+-- lines of steps are said
 module _ (shape : Shape) where
-  one_property : (n : ℕ) (whole : Claim) (t : List ℕ) (ts : List (List ℕ)) (o : Option ℕ) → property_in shape.bad t ≡ o
-      → said_behind n (option_map Property o) (λ next. said_texts shape (suc n) next ts) ≡ Ok (Whole whole)
-      → ArePropertyAndRest shape whole (t ∷ ts)
-  one_property n whole t ts None is said = cc
-  one_property n whole t ts (Some p) is said = search (rules, number_read, first_read)
-
-  property_read : (n : ℕ) (whole : Claim) (ts : List (List ℕ)) → said_texts shape n Version ts ≡ Ok (Whole whole)
-      → ArePropertyAndRest shape whole ts
+  steps_said : (n : ℕ) (claim : Claim) (more : List (List Val))
+      → AllByRecursion (λ (given : List Val). length given ≡ shape.inputs) more
+      → said_texts shape n (Steps claim) (map values_text more ++ codes "." ∷ [])
+      ≡ Ok (Whole (record claim { steps = claim.steps ++ more }))
   unfolding said_texts
-  property_read n whole [] said = cc
-  property_read n whole (t ∷ ts) said = one_property n whole t ts (property_in shape.bad t) refl said
-
-  one_version : (n : ℕ) (whole : Claim) (ts : List (List ℕ)) (is : Bool)
-      → said_behind n (if is then Some Version else None) (λ next. said_texts shape (suc n) next ts) ≡ Ok (Whole whole)
-      → (is ≡ true) × ArePropertyAndRest shape whole ts
-  one_version n whole ts true said = (refl, property_read (suc n) whole ts said)
-  one_version n whole ts false said = cc
-
-  record AreAll (whole : Claim) (ts : List (List ℕ)) : Type 0 where
-    rest : List (List ℕ)
-    texts : ts ≡ codes "1" ∷ rest
-    all : ArePropertyAndRest shape whole rest
-
-  all_read : (n : ℕ) (whole : Claim) (ts : List (List ℕ)) → said_texts shape n Nothing ts ≡ Ok (Whole whole)
-      → AreAll whole ts
-  unfolding said_texts
-  all_read n whole [] said = cc
-  all_read n whole (t ∷ ts) said =
-      let parts = one_version n whole ts (bytes_eq t (codes "1")) said in
-      record {
-        rest = ts;
-        texts = ap (λ (u : List ℕ). u ∷ ts) ((bytes_eq-Decides t (codes "1")).0 parts.0);
-        all = parts.1;
-      }
+  steps_said n claim [] each =
+      ap (λ (ss : List (List Val)). Ok (Whole (record claim { steps = ss }))) (sym (append-nil claim.steps))
+  steps_said n claim (given ∷ more) each =
+      ap (λ (o : Option Entry). said_behind n (option_map (with_entry claim) o)
+      (λ next. said_texts shape (suc n) next (map values_text more ++ codes "." ∷ [])))
+      (says_step shape.inputs given each.0)
+      ∙ steps_said (suc n) (record claim { steps = claim.steps ++ given ∷ [] }) more each.1
+      ∙ ap (λ (ss : List (List Val)). Ok (Whole (record claim { steps = ss })))
+      (append_assoc claim.steps (given ∷ []) more)
 
 -- the file as a whole
 module _ (c : Circuit) (bytes : List ℕ) (claim : Claim) where
   is_file : SaysClaim c bytes claim → IsWitnessFile c bytes claim
   is_file says =
-      let shape = shape_of c in
-      let read = all_read shape 1 claim (map text_of (lines_of bytes)) (sym (said_all c bytes) ∙ says) in
-      let number = read.all.number in
-      let first = read.all.first in
-      let steps = first.steps in
-      let property : claim.property ≡ read.all.p = ap (λ (k : Claim). k.property) steps.is in
-      let values : claim.first ≡ first.first = ap (λ (k : Claim). k.first) steps.is in
-      let more : claim.steps ≡ steps.more = ap (λ (k : Claim). k.steps) steps.is in
+      let texts = map text_of (lines_of bytes) in
+      let after = said_lines c 1 claim [] texts Nothing refl (sym (said_all c bytes) ∙ says) in
+      let names = after.1.names in
       record {
-        digits = number.digits;
-        canonical = number.canonical;
-        number = number.number ∙ sym property;
-        below = subst (λ (m : ℕ). m < length c.bad) (sym property) number.below;
-        starts = subst (AllZip MayStartAt shape.resets) (sym values) first.starts;
-        each = subst (AllByRecursion (λ (given : List Val). length given ≡ length c.inputs))
-            (sym more) steps.each;
-        texts = read.texts
-            ∙ ap (λ (us : List (List ℕ)). codes "1" ∷ us)
-            (read.all.texts
-            ∙ ap₂ (λ (u : List ℕ) (us : List (List ℕ)). u ∷ us) number.text_is
-            (first.texts
-            ∙ ap₂ (λ (u : List ℕ) (us : List (List ℕ)). u ∷ us) (ap values_text (sym values))
-            (steps.texts ∙ ap (λ (ss : List (List Val)). map values_text ss ++ codes "." ∷ []) (sym more))));
+        digits = names.digits;
+        canonical = names.canonical;
+        number = names.number;
+        below = names.below;
+        starts = after.1.starts;
+        each = after.1.each;
+        texts = whole_is c claim texts after
+            ∙ ap (λ (t : List ℕ). codes "1" ∷ t ∷ values_text claim.first
+            ∷ (map values_text claim.steps ++ codes "." ∷ [])) names.text_is;
       }
 
   says_file : IsWitnessFile c bytes claim → SaysClaim c bytes claim

@@ -4,8 +4,7 @@ use Rattle.std.proofs.lemmas.Bool.{eqb-false, eqb-true, ltb-true}
 use Rattle.std.proofs.lemmas.List.{length-map}
 use Rattle.aig_circuit.specs.declared.circuit.Circuit.{Circuit}
 use Rattle.aig_step.specs.Parts.Lines.{vector_in}
-use Rattle.aig_rows.specs.Spelling.{value_of as number_of}
-use Rattle.aig_witness.specs.Witness.{is_canonical, property_in, shape_of}
+use Rattle.aig_witness.specs.Witness.{property_in, shape_of}
 use Rattle.std.proofs.Common.{◌≡◌, ◌≢◌, ◌<◌, ◌&&◌, ℕ, List, [], ◌∷◌, Bool, true}
 use Rattle.std.proofs.Common.{false, length, refl, arith, Option, Some, None}
 use Rattle.std.proofs.Common.{if◌then◌else◌}
@@ -13,16 +12,10 @@ use Rattle.aig_circuit.specs.declared.circuit.Reset.{Reset}
 use Rattle.aig_circuit.specs.declared.value.Val.{Val}
 use Rattle.aig_step.specs.Stimulus.{values_of}
 use Rattle.aig_witness.specs.Witness.{first_state_in, if_may_start, may_start_at, may_start_in}
+use Rattle.aig_witness.specs.WrongLine.{NamesBadState}
 use Rattle.aig_step.proofs.EntryTexts.{values_length}
 
 -- the line of the bad state
-pub record IsNumberRead (bound : ℕ) (text : List ℕ) (p : ℕ) : Type 0 where
-  pub digits : List ℕ
-  pub text_is : text ≡ 98 ∷ digits
-  pub canonical : is_canonical digits ≡ true
-  pub number : number_of digits ≡ p
-  pub below : p < bound
-
 number_by : (canonical low : Bool) (n p bound : ℕ) → (low ≡ true → n < bound)
     → (if canonical && low then Some n else None) ≡ Some p → (canonical ≡ true) × (n ≡ p) × (p < bound)
 number_by true true n p bound below is =
@@ -35,7 +28,7 @@ byte_by : (begins : Bool) (o : Option ℕ) (p : ℕ) → (if begins then o else 
 byte_by true o p is = (refl, is)
 byte_by false o p is = cc
 
-pub number_read : (bound : ℕ) (text : List ℕ) (p : ℕ) → property_in bound text ≡ Some p → IsNumberRead bound text p
+pub number_read : (bound : ℕ) (text : List ℕ) (p : ℕ) → property_in bound text ≡ Some p → NamesBadState bound text p
 number_read bound [] p is = cc
 number_read bound (b ∷ bs) p is = search (rules, byte_by, number_by, nat_lt, ltb-true, eqb-true)
 
