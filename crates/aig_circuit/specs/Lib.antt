@@ -5,3 +5,4 @@ pub mod Justice
 pub mod Form
 pub mod Symbols
 pub mod Parts
+pub mod Laws

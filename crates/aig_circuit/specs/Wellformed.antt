@@ -9,7 +9,6 @@ use Rattle.aig_circuit.specs.declared.circuit.Kind.{Kind}
 use Rattle.aig_circuit.specs.declared.circuit.Kind.TheVariants as kinds
 use Rattle.aig_circuit.specs.declared.circuit.Symbol.{Symbol}
 use Rattle.aig_circuit.specs.declared.circuit.Circuit.{Circuit}
-use Rattle.aig_circuit.specs.declared.circuit.TheConstants.{LARGEST}
 use Rattle.aig_circuit.specs.Literal.{variable_of}
 
 -- the variables that inputs, latches and gates define, in the order of the file
@@ -54,16 +53,20 @@ IsRank rank gates = (g h : Gate) → Contains gates g → Contains gates h → I
 abbrev pub HasRank : List Gate → Type 0
 HasRank gates = (rank : ℕ → ℕ) × IsRank rank gates
 
+-- the largest index that a file may have, and the largest count: 2^31 - 1, so that each literal fits into 32 bits
+abbrev pub largest_index : ℕ
+largest_index = 2147483647
+
 -- The largest index and all counts are small enough to be written in a file, and the sizes of the justice properties
 -- are those of the literals that there are.
 pub record IsWithinLimits (c : Circuit) : Type 0 where
-  pub max_var : c.max_var ≤ LARGEST
-  pub inputs : length c.inputs ≤ LARGEST
-  pub latches : length c.latches ≤ LARGEST
-  pub literals : AllByRecursion (λ (ls : List ℕ). length ls ≤ LARGEST) (literal_lists c)
-  pub justice : length c.justice.sizes ≤ LARGEST
+  pub max_var : c.max_var ≤ largest_index
+  pub inputs : length c.inputs ≤ largest_index
+  pub latches : length c.latches ≤ largest_index
+  pub literals : AllByRecursion (λ (ls : List ℕ). length ls ≤ largest_index) (literal_lists c)
+  pub justice : length c.justice.sizes ≤ largest_index
   pub sizes : sum c.justice.sizes ≡ length c.justice.literals
-  pub gates : length c.gates ≤ LARGEST
+  pub gates : length c.gates ≤ largest_index
 
 -- how many things there are that a symbol of this kind may name
 abbrev pub count_of : Circuit → Kind → ℕ

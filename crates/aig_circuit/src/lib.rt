@@ -10,6 +10,7 @@
 mod circuit;
 mod entry;
 mod form;
+pub mod laws;
 mod listing;
 mod literal;
 mod out_of_memory;

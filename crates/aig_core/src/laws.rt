@@ -7,6 +7,9 @@ ghost use Rattle.aig_core.specs.Laws.{RepeatsAreFound, NoneRepeatsWhereDistinct}
 ghost use Rattle.aig_core.specs.Laws.{UnknownsAreFound, NoneUnknownWhereAllKnown};
 ghost use Rattle.aig_core.specs.Laws.{RedefinedExactly, UndefinedExactly, CyclicExactly, CycleExactlyWhereNoRank};
 
+pub use aig_circuit::laws::largest_is_the_largest_index;
+pub use aig_io::laws::room_is_the_block_size;
+
 /// A circuit in form is well formed exactly where the check finds no fault.
 pub fn faultless_is_well_formed()
     ensures { FaultlessIsWellFormed }

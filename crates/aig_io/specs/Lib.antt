@@ -5,3 +5,4 @@ pub mod Output
 pub mod Digits
 pub mod Memory
 pub mod Streams
+pub mod Laws

@@ -10,6 +10,7 @@
 mod block;
 mod device;
 mod digits;
+pub mod laws;
 mod line;
 mod memory;
 mod output;

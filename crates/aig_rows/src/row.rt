@@ -1,7 +1,7 @@
 //! Rows: lines of numbers, and what they mean.
 ghost use Rattle.std.specs.Prelude.{◌≡◌, ◌+◌, ◌*◌, ◌^◌, ◌<◌, ◌≤◌, ℕ, List, [], ◌∷◌, Ok, IfOk, IfSome, OnErr, length};
 ghost use Rattle.std.specs.Prelude.{slice_index, IsTrue, None};
-ghost use Rattle.aig_circuit.specs.declared.circuit.TheConstants.{LARGEST as largest_index};
+ghost use Rattle.aig_circuit.specs.Wellformed.{largest_index};
 ghost use Rattle.aig_rows.specs.Lines.{ahead, line as line_of, lines_of};
 ghost use Rattle.aig_rows.specs.Rows.{Form, input_form, latch_form, literal_form, size_form, gate_form, next_form};
 ghost use Rattle.aig_rows.specs.Rows.{input_of, latch_of, literal_in, size_of, gate_of, next_of, reset_of};

@@ -1,6 +1,6 @@
 //! Rows one after another.
 ghost use Rattle.std.specs.Prelude.{◌≡◌, ◌^◌, ◌≤◌, ◌∷◌, [], IfOk, OnErr};
-ghost use Rattle.aig_circuit.specs.declared.circuit.TheConstants.{LARGEST as largest_index};
+ghost use Rattle.aig_circuit.specs.Wellformed.{largest_index};
 ghost use Rattle.aig_rows.specs.Rows.{next_form, next_of};
 ghost use Rattle.aig_rows.specs.Outcomes.{AreBounded, GivesOrFails, GivesOrMemory, rows_meant};
 ghost use Rattle.aig_rows.specs.Reading.{row_at, rows_at};

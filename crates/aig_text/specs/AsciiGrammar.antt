@@ -4,11 +4,10 @@ use Rattle.std.specs.Prelude.{◌≡◌, ◌≤◌, ◌+◌, ℕ, List, ◌∷�
 use Rattle.std.specs.List.{AllByRecursion, AllZip, sum}
 use Rattle.aig_circuit.specs.declared.circuit.Circuit.{Circuit}
 use Rattle.aig_circuit.specs.Wellformed.{IsWellFormed}
-use Rattle.aig_text.specs.declared.header_line.TheConstants.{HEADER_LEAST}
 use Rattle.aig_rows.specs.Lines.{Line, lines_of}
 use Rattle.aig_rows.specs.Spelling.{EndInNumbers}
 use Rattle.aig_text.specs.Tail.{AreTailLines}
-use Rattle.aig_text.specs.Sections.{ascii_word, header_row, rows_of}
+use Rattle.aig_text.specs.Sections.{ascii_word, header_row, rows_of, least_header_numbers}
 use Rattle.aig_rows.specs.Rows.{IsRowLine}
 
 -- a line that begins with a word, and holds these numbers after it, and nothing else
@@ -23,7 +22,7 @@ pub record IsAsciiText (text : List ℕ) (limit : ℕ) (c : Circuit) : Type 0 wh
   pub tail : List Line
   -- The first line is the header, the next ones are the rows of the circuit, and the others are its tail.
   pub lines : lines_of text ≡ header ∷ (numbered ++ tail)
-  pub is_header : IsHeaderLine ascii_word HEADER_LEAST header (header_row c)
+  pub is_header : IsHeaderLine ascii_word least_header_numbers header (header_row c)
   pub are_rows : AllZip IsRowLine numbered (rows_of c)
   pub is_tail : AreTailLines tail c
   -- The largest index, the counts and the sizes are within the limit, and the definitions fit below the largest index.

@@ -5,9 +5,8 @@ use Rattle.std.specs.Prelude.{if◌then◌else◌}
 use Rattle.std.specs.List.{flat_map}
 use Rattle.aig_circuit.specs.declared.circuit.Symbol.{Symbol}
 use Rattle.aig_circuit.specs.declared.circuit.Circuit.{Circuit}
-use Rattle.aig_text.specs.declared.header_line.TheConstants.{HEADER_LEAST}
 pub use Rattle.aig_text.specs.Tail.{kind_letter}
-use Rattle.aig_text.specs.Sections.{ascii_word, header_row, rows_of}
+use Rattle.aig_text.specs.Sections.{ascii_word, header_row, rows_of, least_header_numbers}
 use Rattle.aig_rows.specs.Rows.{Row}
 
 abbrev pub spaced_number : ℕ → List ℕ
@@ -34,7 +33,7 @@ shortened least [] = []
 shortened least (n ∷ ns) = number_before least n (shortened (least - 1) ns)
 
 abbrev pub header_text : List ℕ → List ℕ → List ℕ
-header_text word ns = word ++ more_numbers_text (shortened HEADER_LEAST ns)
+header_text word ns = word ++ more_numbers_text (shortened least_header_numbers ns)
 
 abbrev pub name_text : List ℕ → List ℕ
 name_text name = codes " " ++ (name ++ codes "\n")

@@ -3,14 +3,12 @@ use Rattle.std.specs.Prelude.{◌≡◌, ◌↔◌, ℕ, List, min, drop, length
 use Rattle.std.specs.List.{AllByRecursion}
 use Rattle.aig_circuit.specs.declared.circuit.Circuit.{Circuit}
 use Rattle.aig_circuit.specs.declared.circuit.Symbol.{Symbol}
-use Rattle.aig_circuit.specs.declared.circuit.TheConstants.{LARGEST}
 use Rattle.aig_core.specs.declared.names.Names.{Names}
-use Rattle.aig_circuit.specs.Wellformed.{IsWellFormed}
+use Rattle.aig_circuit.specs.Wellformed.{IsWellFormed, largest_index}
 use Rattle.aig_rows.specs.declared.fault.ReadKind.TheVariants as kinds
-use Rattle.aig_text.specs.declared.header_line.TheConstants.{HEADER_LEAST, HEADER_NUMBERS}
 use Rattle.aig_rows.specs.Lines.{Line}
 use Rattle.aig_text.specs.AsciiGrammar.{IsHeaderLine, IsAsciiText}
-use Rattle.aig_text.specs.Sections.{Header}
+use Rattle.aig_text.specs.Sections.{Header, least_header_numbers, most_header_numbers}
 use Rattle.aig_text.specs.Tail.{IsSymbolLine, IsCommentLine}
 use Rattle.aig_text.specs.AsciiText.{ascii_text}
 use Rattle.aig_text.specs.Scanning.{symbol_at, is_comment_line}
@@ -36,7 +34,7 @@ TextsAreUnambiguous =
 
 -- the canonical text of a well-formed circuit is its file
 abbrev pub CanonicalTextIsAccepted : Type 0
-CanonicalTextIsAccepted = (c : Circuit) → IsWellFormed c → IsAsciiText (ascii_text c) LARGEST c
+CanonicalTextIsAccepted = (c : Circuit) → IsWellFormed c → IsAsciiText (ascii_text c) largest_index c
 
 -- no byte of a word ends words
 abbrev pub IsOneWord : List ℕ → Type 0
@@ -44,14 +42,14 @@ IsOneWord word = AllByRecursion (λ b. ends_word b ≡ false) word
 
 -- the line holds these numbers as a header that begins with the word, and none is missing
 abbrev pub HoldsHeader : List ℕ → Line → List ℕ → Type 0
-HoldsHeader word l ns = IsHeaderLine word HEADER_LEAST l ns × (length ns ≡ HEADER_NUMBERS)
+HoldsHeader word l ns = IsHeaderLine word least_header_numbers l ns × (length ns ≡ most_header_numbers)
 
 -- from left to right a first word and the numbers of a header are read exactly where the line holds that header
 abbrev pub HeadersReadExactly : Type 0
 HeadersReadExactly =
     (word : List ℕ) (l : Line) (ns : List ℕ) → IsOneWord word
     → ((begins_with_word word l.text ≡ true)
-    × (more_numbers_at l.ended HEADER_LEAST HEADER_NUMBERS (drop (length word) l.text) ≡ Some ns))
+    × (more_numbers_at l.ended least_header_numbers most_header_numbers (drop (length word) l.text) ≡ Some ns))
     ↔ HoldsHeader word l ns
 
 -- from left to right a symbol is read exactly where the line names it
@@ -69,7 +67,7 @@ HeadersAreJudged =
     (word : List ℕ) (limit : ℕ) (l : Line) → IsOneWord word
     → (begins_with_word word l.text ≡ false → header_of word limit l ≡ Err kinds.NotAiger)
     × (begins_with_word word l.text ≡ true
-    → IsJudged (HoldsHeader word l) (λ ns. header_within (min limit LARGEST) (Some ns)) kinds.BadHeader
+    → IsJudged (HoldsHeader word l) (λ ns. header_within (min limit largest_index) (Some ns)) kinds.BadHeader
     (header_of word limit l))
 
 -- where a symbol is due: a line that names none is a bad symbol line; else what it names is judged

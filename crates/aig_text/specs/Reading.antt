@@ -5,18 +5,18 @@ use Rattle.std.specs.Prelude.{Bool, false, nat_lt, nat_le, Option, None, Some, R
 use Rattle.std.specs.List.{list_any, before_first}
 use Rattle.std.specs.Str.{bytes_eq}
 use Rattle.aig_circuit.specs.declared.circuit.Circuit.{Circuit}
-use Rattle.aig_circuit.specs.declared.circuit.TheConstants.{LARGEST}
 use Rattle.aig_core.specs.declared.fault.CheckFault.{CheckFault}
 use Rattle.aig_core.specs.declared.fault.CheckFault.TheVariants as checks
 use Rattle.aig_core.specs.Fault as structure
 use Rattle.aig_rows.specs.declared.fault.ReadKind.{ReadKind}
 use Rattle.aig_rows.specs.declared.fault.ReadKind.TheVariants as kinds
 use Rattle.aig_rows.specs.declared.fault.ReadFault.{ReadFault}
-use Rattle.aig_text.specs.declared.header_line.TheConstants.{HEADER_LEAST, HEADER_NUMBERS}
+use Rattle.aig_text.specs.Sections.{least_header_numbers, most_header_numbers}
 use Rattle.aig_circuit.specs.declared.circuit.Kind.{Kind}
 use Rattle.aig_circuit.specs.declared.circuit.Kind.TheVariants as named
 use Rattle.aig_circuit.specs.declared.circuit.Symbol.{Symbol}
 use Rattle.aig_core.specs.declared.names.Names.{Names}
+use Rattle.aig_circuit.specs.Wellformed.{largest_index}
 use Rattle.aig_core.specs.Names.{nothing_named, is_named, with_name}
 use Rattle.aig_rows.specs.Lines.{Line, Ahead, ahead, lines_of, bytes_of}
 use Rattle.aig_text.specs.Scanning.{symbol_at, is_comment_line}
@@ -64,8 +64,8 @@ header_within limit (Some ns) =
 unfoldable pub header_of : List ℕ → ℕ → Line → Result Header ReadKind
 header_of word limit l =
     if begins_with_word word l.text
-    then header_within (min limit LARGEST)
-    (more_numbers_at l.ended HEADER_LEAST HEADER_NUMBERS (drop (length word) l.text))
+    then header_within (min limit largest_index)
+    (more_numbers_at l.ended least_header_numbers most_header_numbers (drop (length word) l.text))
     else Err kinds.NotAiger
 
 -- the circuit with the rows of a section, of all sections

@@ -17,6 +17,13 @@ use Rattle.aig_rows.specs.Rows.{reset_of, row, size_form, size_of, size_row}
 abbrev pub ascii_word : List ℕ
 ascii_word = codes "aag"
 
+-- how many numbers a header has at most (AIGER 1.9), and how many of them are never left out (AIGER report)
+abbrev pub most_header_numbers : ℕ
+most_header_numbers = 9
+
+abbrev pub least_header_numbers : ℕ
+least_header_numbers = 5
+
 -- the sections, in the order of the file
 abbrev pub sections : List Section
 sections =

@@ -1,7 +1,7 @@
 //! The header line of a file.
 ghost use Rattle.std.specs.Prelude.{◌≡◌, ◌≤◌, Some, IfOk, length, nat_lt};
 ghost use Rattle.std.specs.List.{list_any, position_or_len};
-ghost use Rattle.aig_circuit.specs.declared.circuit.TheConstants.{LARGEST as largest_index};
+ghost use Rattle.aig_circuit.specs.Wellformed.{largest_index};
 ghost use Rattle.aig_rows.specs.Lines.{line as line_of};
 ghost use Rattle.aig_text.specs.Reading.{begins_with_word, ends_word, header_within, header_of};
 

@@ -1,6 +1,6 @@
 //! What a reader accepts at most (this project's profile).
 ghost use Rattle.std.specs.Prelude.{◌≡◌};
-ghost use Rattle.aig_circuit.specs.declared.circuit.TheConstants.{LARGEST as largest_index};
+ghost use Rattle.aig_circuit.specs.Wellformed.{largest_index};
 
 use aig_core::LARGEST;
 

@@ -1,6 +1,6 @@
 //! The parts that ASCII and binary files have in common: the header and the tail.
 ghost use Rattle.std.specs.Prelude.{◌≡◌, ◌≤◌, IfOk, OnErr};
-ghost use Rattle.aig_circuit.specs.declared.circuit.TheConstants.{LARGEST as largest_index};
+ghost use Rattle.aig_circuit.specs.Wellformed.{largest_index};
 ghost use Rattle.aig_core.specs.Names.{nothing_named};
 ghost use Rattle.aig_rows.specs.Lines.{lines_of};
 ghost use Rattle.aig_rows.specs.Outcomes.{GivesOrFails, GivesOrMemory};

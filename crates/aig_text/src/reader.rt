@@ -1,7 +1,7 @@
 //! The reader of ASCII files.
 ghost use Rattle.std.specs.Prelude.{◌≡◌, ◌≤◌, IfOk, IfErr, MatchResult};
 ghost use Rattle.aig_circuit.specs.declared.circuit.Circuit.{Circuit as CircuitRecord};
-ghost use Rattle.aig_circuit.specs.declared.circuit.TheConstants.{LARGEST as largest_index};
+ghost use Rattle.aig_circuit.specs.Wellformed.{largest_index};
 ghost use Rattle.aig_rows.specs.Lines.{lines_of};
 ghost use Rattle.aig_text.specs.Sections.{ascii_word, in_ascii, sections};
 ghost use Rattle.aig_rows.specs.Outcomes.{GivesOrMemory};

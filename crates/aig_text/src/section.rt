@@ -1,7 +1,7 @@
 //! Sections: rows of one kind, one to a line.
 ghost use Rattle.std.specs.Prelude.{◌≡◌, ◌≤◌, OnOk};
 ghost use Rattle.std.specs.List.{sum};
-ghost use Rattle.aig_circuit.specs.declared.circuit.TheConstants.{LARGEST as largest_index};
+ghost use Rattle.aig_circuit.specs.Wellformed.{largest_index};
 ghost use Rattle.aig_text.specs.declared.section.Section.TheVariants.{JusticeSizes};
 ghost use Rattle.aig_text.specs.Sections.{in_ascii, sections};
 ghost use Rattle.aig_rows.specs.Outcomes.{GivesOrMemory};

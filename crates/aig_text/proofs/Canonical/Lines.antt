@@ -12,7 +12,7 @@ use Rattle.aig_rows.specs.Rows.{Row, IsRowLine}
 use Rattle.aig_rows.specs.Parts.Plain.{HasNoLineFeed}
 use Rattle.aig_circuit.proofs.Checking.InForm.{joined}
 use Rattle.aig_rows.proofs.Kept.Plain.{digits_have_no_line_feed, first_line}
-use Rattle.aig_text.specs.declared.header_line.TheConstants.{HEADER_LEAST}
+use Rattle.aig_text.specs.Sections.{least_header_numbers}
 use Rattle.aig_text.specs.AsciiText.{more_numbers_text, numbers_text, shortened, row_text, line_text, header_text}
 use Rattle.aig_text.proofs.Canonical.Shortened.{leaves_out, enough_are_left, all_left}
 use Rattle.aig_rows.proofs.Canonical.{decimal_is_number}
@@ -73,7 +73,7 @@ number_line least ns = line (front (written least ns)) true
 
 -- the line of a header
 abbrev pub header_line : List ℕ → List ℕ → Line
-header_line word ns = line (word ++ more_front (shortened HEADER_LEAST ns)) true
+header_line word ns = line (word ++ more_front (shortened least_header_numbers ns)) true
 
 pub header_is_first : (word ns rest : List ℕ) → HasNoLineFeed word → AreSmall ns
     → lines_of (header_text word ns ++ rest) ≡ header_line word ns ∷ lines_of rest
@@ -113,8 +113,8 @@ end_is_good least ns enough small =
       ends = ends_at_once;
     }
 
-pub header_line_is_good : (word ns : List ℕ) → HEADER_LEAST ≤ length ns → AreSmall ns
-    → IsHeaderLine word HEADER_LEAST (header_line word ns) ns
+pub header_line_is_good : (word ns : List ℕ) → least_header_numbers ≤ length ns → AreSmall ns
+    → IsHeaderLine word least_header_numbers (header_line word ns) ns
 header_line_is_good word ns enough small = search (rules, end_is_good)
 
 -- as many numbers as the form asks for at least, which a file can tell

@@ -11,8 +11,7 @@ use Rattle.aig_circuit.specs.declared.circuit.Kind.TheVariants as named
 use Rattle.aig_circuit.specs.declared.circuit.Reset.{Reset}
 use Rattle.aig_circuit.specs.declared.circuit.Reset.TheVariants as resets
 use Rattle.aig_circuit.specs.declared.circuit.Symbol.{Symbol}
-use Rattle.aig_circuit.specs.declared.circuit.TheConstants.{LARGEST}
-use Rattle.aig_circuit.specs.Wellformed.{IsWellFormed, IsWithinLimits, IsAmong, count_of}
+use Rattle.aig_circuit.specs.Wellformed.{IsWellFormed, IsWithinLimits, IsAmong, count_of, largest_index}
 use Rattle.aig_circuit.specs.Form.{IsInForm}
 use Rattle.aig_circuit.proofs.Checking.InForm.{in_range, joined}
 use Rattle.aig_core.proofs.Checking.Properties.{sum_cons}
@@ -46,10 +45,10 @@ pub small_reset : (own : ℕ) (reset : Reset) → own < 2 ^ 64 → reset_number 
 small_reset own resets.Uninit small = small
 small_reset own r small = omega arith
 
-full_literal : (m : ℕ) → m ≤ LARGEST → (n : ℕ) → IsLiteralUpTo m n → IsFullRow (row literal_form (literal_row n))
+full_literal : (m : ℕ) → m ≤ largest_index → (n : ℕ) → IsLiteralUpTo m n → IsFullRow (row literal_form (literal_row n))
 full_literal m top n h = record { some = omega arith; small = (omega arith, tt) }
 
-full_size : (n : ℕ) → n ≤ LARGEST → IsFullRow (row size_form (size_row n))
+full_size : (n : ℕ) → n ≤ largest_index → IsFullRow (row size_form (size_row n))
 full_size n h = record { some = omega arith; small = (omega arith, tt) }
 
 -- no size is above the sum
@@ -58,7 +57,7 @@ each_in_sum top [] h = tt
 each_in_sum top (n ∷ ns) h =
     let whole : sum (n ∷ ns) ≡ n + sum ns = sum_cons n ns in (omega arith, each_in_sum top ns (omega arith))
 
-pub sizes_are_small : (c : Circuit) → IsWithinLimits c → sum c.justice.sizes ≤ LARGEST
+pub sizes_are_small : (c : Circuit) → IsWithinLimits c → sum c.justice.sizes ≤ largest_index
 sizes_are_small c limits = search rules
 
 module _ (c : Circuit) (form : IsInForm c) where
@@ -88,7 +87,7 @@ module _ (c : Circuit) (form : IsInForm c) where
   literal_rows_full =
       sections_full (Outputs ∷ Bad ∷ Constraints ∷ JusticeSizes ∷ JusticeLiterals ∷ Fairness ∷ [])
 
-all_smaller : (ns : List ℕ) → AllByRecursion (λ n. n ≤ LARGEST) ns → AreSmall ns
+all_smaller : (ns : List ℕ) → AllByRecursion (λ n. n ≤ largest_index) ns → AreSmall ns
 all_smaller [] h = tt
 all_smaller (n ∷ ns) h = (omega (arith, h.0), all_smaller ns h.1)
 
@@ -151,7 +150,7 @@ comment_is_good None = tt
 comment_is_good (Some bytes) =
     (record { ending = []; text = refl; ends = ([], tt, inl refl) }, sym (pieces bytes).joined)
 
-count_within : (c : Circuit) → IsWithinLimits c → (k : Kind) → count_of c k ≤ LARGEST
+count_within : (c : Circuit) → IsWithinLimits c → (k : Kind) → count_of c k ≤ largest_index
 count_within c limits named.Input = search rules
 count_within c limits k = search rules
 
@@ -161,7 +160,7 @@ all_found : (c : Circuit) → IsWithinLimits c → (ss : List Symbol)
     → AllByRecursion (λ (s : Symbol). ¬ IsAmong 10 s.name) ss → AllByRecursion IsFound ss
 all_found c limits [] p l = tt
 all_found c limits (s ∷ ss) p l =
-    let top : count_of c s.kind ≤ LARGEST = count_within c limits s.kind in
+    let top : count_of c s.kind ≤ largest_index = count_within c limits s.kind in
     let low : s.position < count_of c s.kind = p.0 in
     ((omega arith, l.0), all_found c limits ss p.1 l.1)
 
@@ -181,7 +180,7 @@ canonical_lines c form =
 
 -- Where the definitions fit below the largest index, and the circuit is in form, its canonical text is its file.
 pub canonical_text : (c : Circuit) → IsWellFormed c → IsInForm c
-    → length c.inputs + length c.latches + length c.gates ≤ c.max_var → IsAsciiText (ascii_text c) LARGEST c
+    → length c.inputs + length c.latches + length c.gates ≤ c.max_var → IsAsciiText (ascii_text c) largest_index c
 canonical_text c good form fits = record {
   header = header_line ascii_word (header_row c);
   numbered = row_lines (rows_of c);

@@ -8,16 +8,14 @@ use Rattle.std.specs.Str.{bytes_eq}
 use Rattle.std.proofs.lemmas.Bool.{ltb-false, le-ltb, or_parts, or_from}
 use Rattle.std.proofs.Math.Dec.{ltb}
 use Rattle.aig_circuit.specs.declared.circuit.Circuit.{Circuit}
-use Rattle.aig_circuit.specs.declared.circuit.TheConstants.{LARGEST}
 use Rattle.aig_circuit.proofs.Checking.Fitting.{all_weaker}
-use Rattle.aig_circuit.specs.Wellformed.{IsWithinLimits}
+use Rattle.aig_circuit.specs.Wellformed.{IsWithinLimits, largest_index}
 use Rattle.aig_rows.specs.declared.fault.ReadKind.{ReadKind}
 use Rattle.aig_rows.specs.declared.fault.ReadKind.TheVariants as kinds
-use Rattle.aig_text.specs.declared.header_line.TheConstants.{HEADER_LEAST, HEADER_NUMBERS}
 use Rattle.aig_rows.specs.Lines.{Line}
 use Rattle.aig_text.specs.AsciiGrammar.{IsHeaderLine}
 use Rattle.aig_rows.specs.Scanning.{more_numbers_at}
-use Rattle.aig_text.specs.Sections.{Header, header_row}
+use Rattle.aig_text.specs.Sections.{Header, header_row, least_header_numbers, most_header_numbers}
 use Rattle.aig_text.specs.Reading.{ends_word, header_of_row, header_within, header_of}
 use Rattle.aig_rows.proofs.Steps.{ok_same, passed, let_through}
 use Rattle.aig_text.proofs.Grammar.HeaderLines.{header_reads, header_is_read}
@@ -36,9 +34,9 @@ all_within m (n ∷ ns) h = or_from (ltb m n) (list_any (λ n. ltb m n) ns) (le-
 pub record TellsHeader (word : List ℕ) (limit : ℕ) (l : Line) (h : Header) : Type 0 where
   pub numbers : List ℕ
   pub begins : bytes_eq (before_first ends_word l.text) word ≡ true
-  pub read : more_numbers_at l.ended HEADER_LEAST HEADER_NUMBERS (drop (length word) l.text) ≡ Some numbers
-  pub is : header_of_row (min limit LARGEST) numbers ≡ h
-  pub within : AllByRecursion (λ n. n ≤ min limit LARGEST) numbers
+  pub read : more_numbers_at l.ended least_header_numbers most_header_numbers (drop (length word) l.text) ≡ Some numbers
+  pub is : header_of_row (min limit largest_index) numbers ≡ h
+  pub within : AllByRecursion (λ n. n ≤ min limit largest_index) numbers
   pub counted : get_or numbers 1 0 + get_or numbers 2 0 + get_or numbers 4 0 ≤ get_or numbers 0 0
 
 abbrev counts_fit : ℕ → List ℕ → Result Header ReadKind
@@ -48,8 +46,8 @@ counts_fit limit ns =
 
 within_tells : (word : List ℕ) (limit : ℕ) (l : Line) (h : Header) (o : Option (List ℕ))
     → bytes_eq (before_first ends_word l.text) word ≡ true
-    → more_numbers_at l.ended HEADER_LEAST HEADER_NUMBERS (drop (length word) l.text) ≡ o
-    → header_within (min limit LARGEST) o ≡ Ok h → TellsHeader word limit l h
+    → more_numbers_at l.ended least_header_numbers most_header_numbers (drop (length word) l.text) ≡ o
+    → header_within (min limit largest_index) o ≡ Ok h → TellsHeader word limit l h
 unfolding header_within
 within_tells word limit l h None begins read is = cc
 within_tells word limit l h (Some ns) begins read is = search (rules, passed, ok_same, none_larger, ltb-false)
@@ -65,7 +63,7 @@ unfolding header_of header_within
 found_header word limit l h t = search (rules, all_within, le-ltb)
 
 -- the header's row
-all_numbers : (limit : ℕ) (ns : List ℕ) → length ns ≡ HEADER_NUMBERS → row_of_header (header_of_row limit ns) ≡ ns
+all_numbers : (limit : ℕ) (ns : List ℕ) → length ns ≡ most_header_numbers → row_of_header (header_of_row limit ns) ≡ ns
 all_numbers limit (a ∷ b ∷ d ∷ e ∷ f ∷ g ∷ i ∷ j ∷ k ∷ []) h = refl
 all_numbers limit ns h = absurd (omega arith)
 
@@ -78,14 +76,14 @@ module _ (word : List ℕ) (limit : ℕ) (l : Line) (h : Header) (c : Circuit) (
     (counts : HasCounts h c) where
   numbers_are : header_row c ≡ t.numbers
   numbers_are =
-      let s = header_reads word l HEADER_LEAST HEADER_NUMBERS t.numbers (omega arith) t.begins t.read in
-      counts ∙ ap row_of_header (sym t.is) ∙ all_numbers (min limit LARGEST) t.numbers s.1
+      let s = header_reads word l least_header_numbers most_header_numbers t.numbers (omega arith) t.begins t.read in
+      counts ∙ ap row_of_header (sym t.is) ∙ all_numbers (min limit largest_index) t.numbers s.1
 
-  pub heads : IsHeaderLine word HEADER_LEAST l (header_row c)
+  pub heads : IsHeaderLine word least_header_numbers l (header_row c)
   heads = search (rules, header_reads, numbers_are)
 
   -- what is said of all numbers up to the smaller limit is said of the circuit's
-  all_of : (top : ℕ) → min limit LARGEST ≤ top → AllByRecursion (λ n. n ≤ top) (header_row c)
+  all_of : (top : ℕ) → min limit largest_index ≤ top → AllByRecursion (λ n. n ≤ top) (header_row c)
   all_of top small = search (rules, numbers_are, all_weaker)
 
   pub limited : AllByRecursion (λ n. n ≤ limit) (header_row c)
@@ -103,20 +101,20 @@ module _ (word : List ℕ) (limit : ℕ) (l : Line) (h : Header) (c : Circuit) (
   within_limits sizes small = grind (arith, common_steps, all_of)
 
 -- all numbers of the header row of a circuit within the limits are within them
-pub header_limited : (c : Circuit) → IsWithinLimits c → AllByRecursion (λ n. n ≤ LARGEST) (header_row c)
+pub header_limited : (c : Circuit) → IsWithinLimits c → AllByRecursion (λ n. n ≤ largest_index) (header_row c)
 header_limited c w = search rules
 
-pub both_limits : (limit : ℕ) (ns : List ℕ) → AllByRecursion (λ n. n ≤ limit) ns → AllByRecursion (λ n. n ≤ LARGEST) ns
-    → AllByRecursion (λ n. n ≤ min limit LARGEST) ns
+pub both_limits : (limit : ℕ) (ns : List ℕ) → AllByRecursion (λ n. n ≤ limit) ns
+    → AllByRecursion (λ n. n ≤ largest_index) ns → AllByRecursion (λ n. n ≤ min limit largest_index) ns
 both_limits limit [] g h = tt
 both_limits limit (n ∷ ns) g h =
     let one : n ≤ limit = g.0 in
-    let other : n ≤ LARGEST = h.0 in
+    let other : n ≤ largest_index = h.0 in
     (omega arith, both_limits limit ns g.1 h.1)
 
 -- the sizes of a circuit are within both limits
 pub sizes_in_both : (limit : ℕ) (c : Circuit) → IsWithinLimits c → sum c.justice.sizes ≤ limit
-    → sum c.justice.sizes ≤ min limit LARGEST
+    → sum c.justice.sizes ≤ min limit largest_index
 sizes_in_both limit c w small = search rules
 
 -- the header of a circuit that is read within a limit, by its header row
@@ -125,13 +123,14 @@ own_header limit c = header_of_row limit (header_row c)
 
 -- and a line that spells the circuit's header row tells its header
 pub header_is_found : (word : List ℕ) (limit : ℕ) (l : Line) (c : Circuit)
-    → AllByRecursion (λ b. ends_word b ≡ false) word → IsHeaderLine word HEADER_LEAST l (header_row c)
+    → AllByRecursion (λ b. ends_word b ≡ false) word → IsHeaderLine word least_header_numbers l (header_row c)
     → AllByRecursion (λ n. n ≤ limit) (header_row c) → IsWithinLimits c
     → length c.inputs + length c.latches + length c.gates ≤ c.max_var
-    → header_of word limit l ≡ Ok (own_header (min limit LARGEST) c)
+    → header_of word limit l ≡ Ok (own_header (min limit largest_index) c)
 header_is_found word limit l c plain line small limits fits =
-    let s = header_is_read word l HEADER_LEAST HEADER_NUMBERS (header_row c) (omega arith) plain line refl in
-    found_header word limit l (own_header (min limit LARGEST) c) (record {
+    let s =
+    header_is_read word l least_header_numbers most_header_numbers (header_row c) (omega arith) plain line refl in
+    found_header word limit l (own_header (min limit largest_index) c) (record {
       numbers = header_row c;
       begins = s.0;
       read = s.1;

@@ -4,14 +4,13 @@ use Rattle.std.proofs.Common.{◌≡◌, ℕ, ◌≤◌, List, [], ◌∷◌, �
 use Rattle.std.proofs.Common.{subst, ◌∙◌, sym, length, min}
 use Rattle.std.specs.List.{AllByRecursion, sum}
 use Rattle.aig_circuit.specs.declared.circuit.Circuit.{Circuit}
-use Rattle.aig_circuit.specs.declared.circuit.TheConstants.{LARGEST}
 use Rattle.aig_core.specs.declared.fault.CheckFault.{CheckFault}
 use Rattle.aig_core.specs.Fault.{first_structural_fault}
 use Rattle.aig_core.proofs.Checking.Faultless.{well_formed, faultless}
 use Rattle.aig_circuit.proofs.Checking.Fitting.{well_formed_in_form}
 use Rattle.aig_circuit.specs.declared.circuit.Symbol.{Symbol}
 use Rattle.aig_core.specs.Names.{nothing_named}
-use Rattle.aig_circuit.specs.Wellformed.{IsWellFormed, IsWithinLimits, HasGoodSymbols}
+use Rattle.aig_circuit.specs.Wellformed.{IsWellFormed, IsWithinLimits, HasGoodSymbols, largest_index}
 use Rattle.aig_circuit.specs.Form.{IsInForm}
 use Rattle.aig_circuit.proofs.Checking.InForm.{back}
 use Rattle.aig_rows.specs.declared.fault.ReadFault.{ReadFault}
@@ -177,7 +176,7 @@ steps limit k h l others rest c is s t = rw (is, s) t
 accepted_lines : (limit : ℕ) (text : List ℕ) (c : Circuit) → IsAsciiText text limit c
     → circuit_at limit (lines_of text) ≡ Ok c
 accepted_lines limit text c a =
-    let top : ℕ = min limit LARGEST in
+    let top : ℕ = min limit largest_index in
     let h =
     header_is_found ascii_word limit a.header c
     (refl, (refl, (refl, tt))) a.is_header a.limited a.well_formed.limits a.counted in

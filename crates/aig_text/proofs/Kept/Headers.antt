@@ -5,9 +5,9 @@ use Rattle.std.proofs.Common.{refl, ap₂, ltb, Option, Some, None, Err}
 use Rattle.std.specs.List.{list_any, before_first}
 use Rattle.std.specs.Str.{bytes_eq}
 use Rattle.std.proofs.lemmas.Bool.{ltb-false, cases_Bool, or_parts}
-use Rattle.aig_circuit.specs.declared.circuit.TheConstants.{LARGEST}
+use Rattle.aig_circuit.specs.Wellformed.{largest_index}
 use Rattle.aig_rows.specs.declared.fault.ReadKind.TheVariants as kinds
-use Rattle.aig_text.specs.declared.header_line.TheConstants.{HEADER_LEAST, HEADER_NUMBERS}
+use Rattle.aig_text.specs.Sections.{least_header_numbers, most_header_numbers}
 use Rattle.aig_rows.specs.Lines.{line}
 use Rattle.aig_rows.specs.Scanning.{more_numbers_at}
 use Rattle.aig_text.specs.Reading.{header_within, header_of, ends_word}
@@ -35,14 +35,14 @@ header_kept limit (Some ns) l = search (rules, cases_Bool, any_kept, all_kept)
 
 pub header_found : (word text rest : List ℕ) (limit : ℕ) (ended : Bool) (read : Option (List ℕ))
     → bytes_eq (before_first ends_word text) word ≡ true → rest ≡ drop (length word) text
-    → kept_numbers (more_numbers_at ended HEADER_LEAST HEADER_NUMBERS rest) ≡ read
-    → header_within (min limit LARGEST) read ≡ header_of word limit (line text ended)
+    → kept_numbers (more_numbers_at ended least_header_numbers most_header_numbers rest) ≡ read
+    → header_within (min limit largest_index) read ≡ header_of word limit (line text ended)
 unfolding header_of
 header_found word text rest limit ended read same is h = search (rules, header_kept)
 
 pub no_header_found : (word text rest : List ℕ) (limit : ℕ) (ended : Bool)
     → bytes_eq (before_first ends_word text) word ≡ true → rest ≡ drop (length word) text
-    → kept_numbers (more_numbers_at ended HEADER_LEAST HEADER_NUMBERS rest) ≡ None
+    → kept_numbers (more_numbers_at ended least_header_numbers most_header_numbers rest) ≡ None
     → Err kinds.BadHeader ≡ header_of word limit (line text ended)
 unfolding header_within
 no_header_found word text rest limit ended same is h = header_found word text rest limit ended None same is h

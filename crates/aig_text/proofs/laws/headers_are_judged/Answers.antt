@@ -1,7 +1,7 @@
 use Rattle.std.proofs.Common.{length, drop, min, Some, refl, arith}
-use Rattle.aig_circuit.specs.declared.circuit.TheConstants.{LARGEST}
+use Rattle.aig_circuit.specs.Wellformed.{largest_index}
 use Rattle.aig_rows.specs.declared.fault.ReadKind.TheVariants as kinds
-use Rattle.aig_text.specs.declared.header_line.TheConstants.{HEADER_LEAST, HEADER_NUMBERS}
+use Rattle.aig_text.specs.Sections.{least_header_numbers, most_header_numbers}
 use Rattle.aig_rows.specs.Scanning.{more_numbers_at}
 use Rattle.aig_text.specs.Reading.{header_within, header_of}
 use Rattle.aig_text.specs.Laws.{HoldsHeader}
@@ -15,10 +15,12 @@ returns c =
     λ word limit l plain. (
       λ other. rw other refl,
       λ begins. rw begins (
-          by_scanner (HoldsHeader word l) (λ ns. header_within (min limit LARGEST) (Some ns)) kinds.BadHeader
-          (header_within (min limit LARGEST))
-          (more_numbers_at l.ended HEADER_LEAST HEADER_NUMBERS (drop (length word) l.text))
-          (λ ns held. (header_is_read word l HEADER_LEAST HEADER_NUMBERS ns (omega arith) plain held.0 held.1).1)
-          (λ ns read. header_reads word l HEADER_LEAST HEADER_NUMBERS ns (omega arith) begins read) (λ ns. refl) refl
+          by_scanner (HoldsHeader word l) (λ ns. header_within (min limit largest_index) (Some ns)) kinds.BadHeader
+          (header_within (min limit largest_index))
+          (more_numbers_at l.ended least_header_numbers most_header_numbers (drop (length word) l.text))
+          (λ ns held.
+          (header_is_read word l least_header_numbers most_header_numbers ns (omega arith) plain held.0 held.1).1)
+          (λ ns read. header_reads word l least_header_numbers most_header_numbers ns (omega arith) begins read)
+          (λ ns. refl) refl
           ),
     )

@@ -1,11 +1,11 @@
 use Rattle.std.proofs.Common.{arith}
-use Rattle.aig_text.specs.declared.header_line.TheConstants.{HEADER_LEAST, HEADER_NUMBERS}
+use Rattle.aig_text.specs.Sections.{least_header_numbers, most_header_numbers}
 use Rattle.aig_text.proofs.Grammar.HeaderLines.{header_reads, header_is_read}
 use Rattle.aig_text.proofs.laws.headers_read_exactly.Goals as goal
 
 pub returns : goal.returns
 returns c =
     λ word l ns plain. (
-      λ read. header_reads word l HEADER_LEAST HEADER_NUMBERS ns (omega arith) read.0 read.1,
-      λ held. header_is_read word l HEADER_LEAST HEADER_NUMBERS ns (omega arith) plain held.0 held.1,
+      λ read. header_reads word l least_header_numbers most_header_numbers ns (omega arith) read.0 read.1,
+      λ held. header_is_read word l least_header_numbers most_header_numbers ns (omega arith) plain held.0 held.1,
     )
