@@ -1,6 +1,6 @@
 -- The first word of a file tells its kind, so no text is the file of two circuits.
 use Rattle.std.proofs.Common.{rules}
-use Rattle.std.proofs.Common.{◌≡◌, ◌∙◌, sym, refl, ℕ, ◌+◌, cond, List, [], ◌∷◌, true, false, Ok, inl, inr}
+use Rattle.std.proofs.Common.{◌≡◌, ◌∙◌, sym, refl, ℕ, ◌+◌, List, [], ◌∷◌, true, false, Ok, inl, inr}
 use Rattle.std.proofs.Common.{true≢false}
 use Rattle.std.proofs.lemmas.Slice.Eq.{bytes_eq-Decides}
 use Rattle.aig_circuit.specs.declared.circuit.Circuit.{Circuit}
@@ -15,10 +15,11 @@ use Rattle.aig_text.specs.AsciiGrammar.{IsAsciiText}
 use Rattle.aig_rows.proofs.Steps.{both_ok, ok_at_line, ok_same, let_through}
 use Rattle.aig_text.proofs.Grammar.Text.{accepted_is_read, reading_is_accepted}
 use Rattle.aig_binary.specs.BinaryGrammar.{binary_word, IsBinaryText}
-use Rattle.aig_binary.specs.BinaryReading.{binary_at, binary_reading}
+use Rattle.aig_binary.specs.BinaryReading.{binary_at}
 use Rattle.aig_binary.proofs.Grammar.Read.{accepted_is_read as binary_accepted}
 use Rattle.aig_binary.proofs.Grammar.Accepted.{reading_is_accepted as binary_is_accepted}
 use Rattle.aig_engines.specs.File.{IsFileOf, file_reading}
+use Rattle.aig_engines.specs.Laws.{FilesAreUnambiguous}
 
 -- a header that is read begins with its word
 header_begins : (word : List ℕ) (limit n : ℕ) (ls : List Line) (p : Header × Ahead)
@@ -45,39 +46,24 @@ binary_begins text limit c is =
     header_begins binary_word limit 1 (lines_of text) head.0 head.1
 
 -- one word
-words_apart : (ls : List Line) → first_word_is ascii_word ls ≡ true → first_word_is binary_word ls ≡ true → ⊥
-words_apart [] a b = cc
-words_apart (l ∷ ls) a b = search (rules, bytes_eq-Decides)
-
--- the text of a binary file is no ASCII file, and the other way round
-pub no_ascii_file : (text : List ℕ) (limit : ℕ) (c : Circuit) → first_word_is binary_word (lines_of text) ≡ true
-    → ¬ IsAsciiText text limit c
-no_ascii_file text limit c first is = words_apart (lines_of text) (ascii_begins text limit c is) first
+words_apart : (ls : List Line) → first_word_is ascii_word ls ≡ true → first_word_is binary_word ls ≡ false
+words_apart [] a = refl
+words_apart (l ∷ ls) a = search (rules, bytes_eq-Decides)
 
 pub no_binary_file : (text : List ℕ) (limit : ℕ) (c : Circuit) → first_word_is binary_word (lines_of text) ≡ false
     → ¬ IsBinaryText text limit c
 no_binary_file text limit c first is = true≢false (sym (binary_begins text limit c is) ∙ first)
 
--- a text is the file of one circuit at most
-pub one_circuit : (text : List ℕ) (limit : ℕ) (c d : Circuit) → IsFileOf text limit c → IsFileOf text limit d → c ≡ d
-one_circuit text limit c d (inl a) (inl b) =
-    ok_same {E = ReadFault} c d (sym (accepted_is_read limit text c a) ∙ accepted_is_read limit text d b)
-one_circuit text limit c d (inr a) (inr b) =
-    ok_same {E = ReadFault} c d (sym (binary_accepted text limit c a) ∙ binary_accepted text limit d b)
-one_circuit text limit c d (inl a) (inr b) =
-    absurd (words_apart (lines_of text) (ascii_begins text limit c a) (binary_begins text limit d b))
-one_circuit text limit c d (inr a) (inl b) =
-    absurd (words_apart (lines_of text) (ascii_begins text limit d b) (binary_begins text limit c a))
-
 -- what is read is exactly the circuit whose file the text is
 pub file_is_read : (limit : ℕ) (text : List ℕ) (c : Circuit) → IsFileOf text limit c → file_reading limit text ≡ Ok c
 file_is_read limit text c (inl a) =
-    elim (first_word_is binary_word (lines_of text)) as (λ b. first_word_is binary_word (lines_of text) ≡ b
-    → cond b (binary_reading limit text) (reading limit text) ≡ Ok c) [
-      | true ↦ λ e. absurd (no_ascii_file text limit c e a)
-      | false ↦ λ e. accepted_is_read limit text c a
-    ] refl
+    rw (words_apart (lines_of text) (ascii_begins text limit c a)) (accepted_is_read limit text c a)
 file_is_read limit text c (inr a) = rw (binary_begins text limit c a) (binary_accepted text limit c a)
 
 pub read_is_file : (limit : ℕ) (text : List ℕ) (c : Circuit) → file_reading limit text ≡ Ok c → IsFileOf text limit c
 read_is_file limit text c = search (rules, binary_is_accepted, reading_is_accepted)
+
+-- a text is the file of one circuit at most
+pub one_circuit : FilesAreUnambiguous
+one_circuit text limit c d a b =
+    ok_same {E = ReadFault} c d (sym (file_is_read limit text c a) ∙ file_is_read limit text d b)

@@ -1,6 +1,5 @@
 -- What is converted means what it was converted from.
-use Rattle.std.proofs.Common.{rules}
-use Rattle.std.proofs.Common.{refl, subst, sym, ℕ, List, Bool, true, false, inl, if◌then◌else◌}
+use Rattle.std.proofs.Common.{refl, rules, ℕ, List, Bool, true, false, inl, if◌then◌else◌}
 use Rattle.aig_circuit.specs.declared.circuit.Circuit.{Circuit}
 use Rattle.aig_circuit.specs.declared.circuit.TheConstants.{LARGEST}
 use Rattle.aig_circuit.specs.Wellformed.{IsWellFormed}
@@ -33,10 +32,8 @@ changed_by false c good = (good, means_itself c)
 -- the circuit that is undone, where that is asked for
 source_by : (undo_map : Bool) (found source : Circuit) → IsWellFormed found → IsSource undo_map found source
     → IsWellFormed source × MeansTheSame found source
-source_by true found source good is =
-    (is.well_formed, same_back source found (undone_means_the_same found source is))
-source_by false found source good is =
-    subst (λ (c : Circuit). IsWellFormed c × MeansTheSame found c) (sym is) (good, means_itself found)
+source_by true found source good is = (is.well_formed, same_back source found (undone_means_the_same found source is))
+source_by false found source good is = rw is (good, means_itself found)
 
 -- what is written for a circuit is the file of one that means the same
 file_as : (ascii keep_map : Bool) (c : Circuit) (text : List ℕ) → IsWellFormed c → IsTextAs ascii keep_map c text
@@ -53,10 +50,9 @@ file_as false false c text good (image, is_image, is) =
 pub converted_file : (request : ToAig) (file converted : List ℕ) (p : IsConversionText request file converted)
     → (d : Circuit) × IsFileOf converted LARGEST d × MeansTheSame p.found d
 converted_file request file converted p =
-    let good : IsWellFormed p.found = well_formed_file file request.max_var p.found p.read in
+    let good = well_formed_file file request.max_var p.found p.read in
     let source = source_by request.undo_map p.found p.source good p.is_source in
     let written = changed_by request.strip p.source source.0 in
     let made = file_as request.ascii request.keep_map (changed request p.source) converted written.0 p.written_as in
-    let there : MeansTheSame p.found (changed request p.source) =
-    same_through p.found p.source (changed request p.source) source.1 written.1 in
-    (made.0, made.1, same_through p.found (changed request p.source) made.0 there made.2)
+    let there = same_through p.source (changed request p.source) made.0 written.1 made.2 in
+    (made.0, made.1, same_through p.found p.source made.0 source.1 there)

@@ -1,15 +1,10 @@
 -- A model and a stimulus have one simulation text, and a file and its conversion have the same.
-use Rattle.std.proofs.Common.{◌≡◌, ◌∙◌, ap, subst, sym, ℕ, List, None, true, if◌then◌else◌}
+use Rattle.std.proofs.Common.{◌≡◌, ◌∙◌, sym, ℕ, List, true}
 use Rattle.aig_circuit.specs.declared.circuit.Circuit.{Circuit}
 use Rattle.aig_circuit.specs.declared.circuit.TheConstants.{LARGEST}
-use Rattle.aig_circuit.specs.Wellformed.{IsWellFormed}
 use Rattle.aig_meaning.specs.Meaning.{MeansTheSame}
 use Rattle.aig_meaning.proofs.Same.{same_back}
 use Rattle.aig_command.specs.declared.request.Sim.{Sim}
-use Rattle.aig_step.specs.declared.trace.Columns.{Columns}
-use Rattle.aig_step.specs.declared.trace.Columns.TheVariants.{Plain, Properties}
-use Rattle.aig_step.specs.Outcome.{first_bad_line}
-use Rattle.aig_step.specs.TraceText.{IsTraceText}
 use Rattle.aig_trace.proofs.OneText.{one_trace_text}
 use Rattle.aig_trace.proofs.SameTexts.{same_meaning_same_text}
 use Rattle.aig_engines.specs.File.{IsFileOf}
@@ -21,12 +16,10 @@ use Rattle.aig_engines.proofs.TripsExist.{well_formed_file}
 
 pub one_simulation_text : SimulationsAreUnambiguous
 one_simulation_text request model stimulus text other p q =
-    let same : p.found ≡ q.found = one_circuit model request.max_var p.found q.found p.read q.read in
-    let good : IsWellFormed q.found = well_formed_file model request.max_var q.found q.read in
+    let same = one_circuit model request.max_var p.found q.found p.read q.read in
+    let good = well_formed_file model request.max_var q.found q.read in
     let one = one_trace_text q.found (columns_of request) stimulus true good in
-    let first : IsTraceText q.found (columns_of request) stimulus true text =
-    subst (λ (c : Circuit). IsTraceText c (columns_of request) stimulus true text) same p.is_trace in
-    one.2 text first ∙ sym (one.2 other q.is_trace)
+    one.2 text (rw same at p.is_trace) ∙ sym (one.2 other q.is_trace)
 
 pub simulation_text_exists : SimulationTextsExist
 simulation_text_exists request c file stimulus read none_bad =
@@ -39,31 +32,25 @@ carried : (before after : Sim) (file other stimulus text : List ℕ) (c d : Circ
     → IsFileOf other LARGEST d → MeansTheSame c d
     → IsSimulationText before file stimulus text → IsSimulationText after other stimulus text
 carried before after file other stimulus text c d limit limit_after properties is is_other means p =
-    let same : p.found ≡ c =
-    one_circuit file LARGEST p.found c (subst (λ n. IsFileOf file n p.found) limit p.read) is in
-    let columns : columns_of after ≡ columns_of before = ap (λ shown. if shown then Properties else Plain) properties in
+    let same = one_circuit file LARGEST p.found c (rw limit at p.read) is in
     let texts = same_meaning_same_text c d means (columns_of before) stimulus true in
-    let of_c : IsTraceText c (columns_of before) stimulus true text =
-    subst (λ (e : Circuit). IsTraceText e (columns_of before) stimulus true text) same p.is_trace in
     record {
       found = d;
-      read = subst (λ n. IsFileOf other n d) (sym limit_after) is_other;
-      none_bad = texts.0 ∙ subst (λ (e : Circuit). first_bad_line e stimulus true ≡ None) same p.none_bad;
-      is_trace = subst (λ (shown : Columns). IsTraceText d shown stimulus true text) (sym columns)
-          ((texts.1 text).0 of_c);
+      read = rw limit_after is_other;
+      none_bad = texts.0 ∙ (rw same at p.none_bad);
+      is_trace = rw properties ((texts.1 text).0 (rw same at p.is_trace));
     }
 
 pub traces_are_kept : TracesAreKept
 traces_are_kept request before after limit limit_before limit_after properties file converted stimulus text p =
-    let c : Circuit = p.found in
-    let is : IsFileOf file LARGEST c = subst (λ n. IsFileOf file n c) limit p.read in
+    let is : IsFileOf file LARGEST p.found = rw limit at p.read in
     let made = converted_file request file converted p in
-    let d : Circuit = made.0 in
-    let there : IsSimulationText before file stimulus text → IsSimulationText after converted stimulus text =
-    carried before after file converted stimulus text c d limit_before limit_after properties is made.1 made.2 in
-    let back : IsSimulationText after converted stimulus text → IsSimulationText before file stimulus text =
-    carried after before converted file stimulus text d c limit_after limit_before (sym properties) made.1 is
-    (same_back c d made.2) in (
+    let there =
+    carried before after file converted stimulus text p.found made.0 limit_before limit_after properties is
+    made.1 made.2 in
+    let back =
+    carried after before converted file stimulus text made.0 p.found limit_after limit_before (sym properties)
+    made.1 is (same_back p.found made.0 made.2) in (
       (there, back),
       λ other of_file of_converted.
           one_simulation_text after converted stimulus text other (there of_file) of_converted,

@@ -1,12 +1,11 @@
 -- What is written for bytes is one text, the file of the unrolled circuit, and it exists.
-use Rattle.std.proofs.Common.{◌≡◌, ◌∙◌, ap, refl, subst, sym, ℕ, List, Bool, true, false, inl}
+use Rattle.std.proofs.Common.{◌≡◌, ◌∙◌, rules, sym, ℕ, List, Bool, true, false, inl}
 use Rattle.aig_circuit.specs.declared.circuit.Circuit.{Circuit}
 use Rattle.aig_circuit.specs.declared.circuit.TheConstants.{LARGEST}
 use Rattle.aig_checked.specs.BinaryOrder.{IsInBinaryOrder}
 use Rattle.aig_circuit.specs.Wellformed.{IsWellFormed}
 use Rattle.aig_unroll.specs.Unrolled.{IsUnrolled}
-use Rattle.aig_unroll.proofs.Ordering.Counts.{unrolled_is_ordered}
-use Rattle.aig_unroll.proofs.Ordering.Counts.{one_unrolled}
+use Rattle.aig_unroll.proofs.Ordering.Counts.{one_unrolled, unrolled_is_ordered}
 use Rattle.aig_command.specs.declared.request.Unroll.{Unroll}
 use Rattle.aig_engines.specs.File.{IsFileOf}
 use Rattle.aig_engines.specs.Unrolling.{IsUnrollingText, text_as}
@@ -19,16 +18,14 @@ use Rattle.aig_engines.proofs.TripsExist.{well_formed_file}
 unrolled_is : (request : Unroll) (c d : Circuit) (file text : List ℕ) → IsFileOf file request.max_var c
     → IsUnrolled c request.frames d → (p : IsUnrollingText request file text) → p.unrolled ≡ d
 unrolled_is request c d file text read is p =
-    let same : p.found ≡ c = one_circuit file request.max_var p.found c p.read read in
+    let same = one_circuit file request.max_var p.found c p.read read in
     let one = one_unrolled c request.frames in
-    one.2 p.unrolled (subst (λ (e : Circuit). IsUnrolled e request.frames p.unrolled) same p.is_unrolled)
-    ∙ sym (one.2 d is)
+    one.2 p.unrolled (rw same at p.is_unrolled) ∙ sym (one.2 d is)
 
 pub unrollings_are_unambiguous : UnrollingsAreUnambiguous
 unrollings_are_unambiguous request bytes text other p q =
-    p.written_as
-    ∙ ap (text_as request.ascii) (unrolled_is request q.found q.unrolled bytes text q.read q.is_unrolled p)
-    ∙ sym q.written_as
+    let same = unrolled_is request q.found q.unrolled bytes text q.read q.is_unrolled p in
+    (rw same at p.written_as) ∙ sym q.written_as
 
 -- the canonical text of a circuit in binary order is a file of it
 file_of : (ascii : Bool) (d : Circuit) (text : List ℕ) → IsWellFormed d → IsInBinaryOrder d → text ≡ text_as ascii d
@@ -38,26 +35,15 @@ file_of false d text good ordered is = binary_file d text good ordered is
 
 pub unrolled_texts_are_files : UnrolledTextsAreFiles
 unrolled_texts_are_files request c d file text read is p other =
-    let same : p.unrolled ≡ d = unrolled_is request c d file text read is p in
-    let good : IsWellFormed p.found = well_formed_file file request.max_var p.found p.read in
+    let good = well_formed_file file request.max_var p.found p.read in
     let ordered = unrolled_is_ordered p.found p.unrolled request.frames good p.is_unrolled p.fits in
-    let is_file : IsFileOf text LARGEST d =
-    subst (IsFileOf text LARGEST) same (file_of request.ascii p.unrolled text ordered.0 ordered.1 p.written_as) in (
-      λ read_too. one_circuit text LARGEST other d read_too is_file,
-      λ is_other. subst (IsFileOf text LARGEST) (sym is_other) is_file,
-    )
+    let is_file =
+    rw (unrolled_is request c d file text read is p) at
+    (file_of request.ascii p.unrolled text ordered.0 ordered.1 p.written_as) in
+    (λ read_too. one_circuit text LARGEST other d read_too is_file, λ is_other. rw is_other is_file)
 
 pub unrolled_texts_exist : UnrolledTextsExist
 unrolled_texts_exist request c file read supported fits =
-    let one = one_unrolled c request.frames in (
-      text_as request.ascii one.0,
-      record {
-        found = c;
-        unrolled = one.0;
-        read = read;
-        supported = supported;
-        fits = fits;
-        is_unrolled = one.1;
-        written_as = refl;
-      },
-    )
+    let one = one_unrolled c request.frames in
+    let unrolled : IsUnrolled c request.frames one.0 = one.1 in
+    (text_as request.ascii one.0, search rules)

@@ -1,6 +1,6 @@
 -- A witness that is confirmed, in the unrolled circuit.
 use Rattle.std.proofs.lemmas.Grind.{common_steps}
-use Rattle.std.proofs.Common.{◌≡◌, ◌+◌, ◌*◌, ◌<◌, ◌++◌, ◌∷◌, ℕ, zero, suc, List, [], ap, ap₂, arith, get_or, length}
+use Rattle.std.proofs.Common.{◌≡◌, ◌+◌, ◌*◌, ◌<◌, ◌++◌, ◌∷◌, ℕ, zero, suc, List, [], ap, arith, get_or, length}
 use Rattle.std.proofs.Common.{map, refl, subst, sym, take, ◌∙◌}
 use Rattle.std.specs.List.{All}
 use Rattle.std.proofs.Math.Seq.{take-append-add}
@@ -46,10 +46,6 @@ all_one (v ∷ vs) ones =
     ap (λ (x : Val). and_all (value_and One x) vs) (ones 0 v (omega arith))
     ∙ all_one vs (λ i d below. ones (suc i) d (omega (arith, below)))
 
--- a product with one more
-one_more : (n size : ℕ) → suc n * size ≡ size + n * size
-one_more n size = omega arith
-
 -- a place at which there is a 1 is one of the list
 within : (values : List Val) (i : ℕ) → get_or values i Zero ≡ One → i < length values
 within [] i is = cc
@@ -65,19 +61,13 @@ last_bad c state (vector ∷ vectors) property [] row follow held holds is =
     grind (arith, common_steps, all_one, append-nil, get_or-map, within)
 last_bad c state [] property (r ∷ rs) row follow held holds is = absurd follow
 last_bad c state (vector ∷ vectors) property (r ∷ rs) row follow held holds is =
-    let long : length (map (value_and (and_all One r.constraints)) r.bad) ≡ length c.bad =
-    length-map r.bad (value_and (and_all One r.constraints)) ∙ bad_long c r follow.2 in
-    let first : Holds r = held 0 r (omega arith) in
-    let others : All Holds rs = λ i d under. held (suc i) d (omega (arith, under)) in
-    let front = map (value_and (and_all One r.constraints)) r.bad in
-    let rest = bad_side_by_side (and_all One r.constraints) (rs ++ row ∷ []) in
+    let front = map (value_and One) r.bad in
+    let long : length front ≡ length c.bad = length-map r.bad (value_and One) ∙ bad_long c r follow.2 in
     let place : length (r ∷ rs) * length c.bad + property ≡ length front + (length rs * length c.bad + property) =
-    omega (arith, long, one_more (length rs) (length c.bad)) in
-    ap (λ (n : ℕ). get_or (front ++ rest) n Zero) place
-    ∙ get_or-append-add front rest (length rs * length c.bad + property) Zero
-    ∙ ap (λ (h : Val). get_or (bad_side_by_side h (rs ++ row ∷ [])) (length rs * length c.bad + property) Zero)
-    (all_one r.constraints first)
-    ∙ last_bad c r.next vectors property rs row follow.3 others holds is
+    omega arith in
+    let others : All Holds rs = λ i d under. held (suc i) d (omega (arith, under)) in
+    rw (all_one r.constraints (held 0 r (omega arith)), place, get_or-append-add)
+    (last_bad c r.next vectors property rs row follow.3 others holds is)
 
 -- what a trace confirms
 reached : (c d : Circuit) (first : List Val) (steps : List (List Val)) (rows : List Row) (property step : ℕ)
@@ -90,14 +80,13 @@ reached c d first steps rows property step trace is =
     let parted : length rows ≡ length is.before + length (is.row ∷ is.behind) =
     ap length is.parted ∙ length-append is.before (is.row ∷ is.behind) in
     let front : take (step + 1) rows ≡ is.before ++ is.row ∷ [] =
-    ap₂ (λ (n : ℕ) (rs : List Row). take (n + 1) rs) is.place is.parted
-    ∙ take-append-add is.before (is.row ∷ is.behind) 1 in
+    rw (is.place, is.parted) (take-append-add is.before (is.row ∷ is.behind) 1) in
     let begun = begins c first (step + 1) steps rows trace.1 in (
       length-take (step + 1) steps ∙ omega (arith, long, parted, is.place),
       (trace.0, begun),
-      ap₂ (λ (rs : List Row) (n : ℕ). get_or (bad_side_by_side One rs) (n * length c.bad + property) Zero) front is.place
-          ∙ last_bad c first (take (step + 1) steps) property is.before is.row
-          (subst (λ (rs : List Row). Follow c first (take (step + 1) steps) rs) front begun) is.held is.holds is.is_bad,
+      rw (front, is.place)
+          (last_bad c first (take (step + 1) steps) property is.before is.row (rw front at begun) is.held is.holds
+          is.is_bad),
     )
 
 pub confirmed_witnesses_set_unrolled_circuits : ConfirmedWitnessesSetUnrolledCircuits

@@ -176,9 +176,9 @@ MappedTextsHaveNoFault = (there : ToAig) → KeepsMap there
     × ((found : Circuit) (fault : MapFault)
     → IsFileOf binary LARGEST found → IsMapFault found fault → fault ≡ OutOfMemory)
 
--- A witness that is confirmed at a step sets the unrolled circuit of as many frames and one more. Where that is given the
--- first values of the uninitialised latches and then the inputs of the witness's steps, it has exactly one trace, of one
--- row; and there the bad state that stands for the claimed one in the last frame is 1.
+-- A witness that is confirmed at a step sets the unrolled circuit of as many frames and one more. Where that is given
+-- the first values of the uninitialised latches and then the inputs of the witness's steps, it has exactly one trace,
+-- of one row; and there the bad state that stands for the claimed one in the last frame is 1.
 abbrev pub ConfirmedWitnessesSetUnrolledCircuits : Type 0
 ConfirmedWitnessesSetUnrolledCircuits = (c d : Circuit) (claim : Claim) (step : ℕ)
     → IsWellFormed c → IsWellFormed d → IsUnrolled c (step + 1) d

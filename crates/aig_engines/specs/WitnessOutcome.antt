@@ -33,8 +33,8 @@ answer_line NotConfirmed = codes "not confirmed\n"
 abbrev pub OfSteps : (SimFault → Type 0) → ToolFault → Type 0
 OfSteps Holds fault = (sim : SimFault) × (fault ≡ faults.Sim sim) × Holds sim
 
--- what a fault says where a file was to be judged for this circuit: there is no verdict, and the sink was not called; or
--- the sink took a beginning of the line of the verdict, and failed
+-- what a fault says where a file was to be judged for this circuit: there is no verdict, and the sink was not called;
+-- or the sink took a beginning of the line of the verdict, and failed
 abbrev pub NotAnsweredFor : Circuit → ToolFault → (witness witness_now sink sink_now : Past) → Type 0
 NotAnsweredFor c fault witness witness_now sink sink_now =
     (OfSteps (λ sim. NotJudged c sim witness witness_now) fault × (sink_now ≡ sink))

@@ -14,8 +14,8 @@ use aig_text::{Limits, ReadFault, first_word_is, read_ascii_keeping};
 use std::alloc::Global;
 
 /// Reads a file of either kind, within these limits: as a binary file if that is what its first word says, otherwise as
-/// an ASCII file. The error is the first fault of the text, or that memory ran out. A binary file has its gates in order,
-/// so there is none to keep.
+/// an ASCII file. The error is the first fault of the text, or that memory ran out. A binary file has its gates in
+/// order, so there is none to keep.
 fn read_file(alloc: Global, bytes: &[u8], limits: Limits, keep: Keep) -> Result<Checked, ReadFault>
     ensures ok { IfOk result (λ c. IsFileOf bytes.now limits.max_var c) }
     ensures only { (c : CircuitRecord) → IsFileOf bytes.now limits.max_var c
@@ -30,9 +30,9 @@ fn read_file(alloc: Global, bytes: &[u8], limits: Limits, keep: Keep) -> Result<
 }
 
 /// Lets go of the room that bytes do not fill, and answers whether no memory was refused. Room grows by doubling, so it
-/// may be twice what is filled. Where a block of up to 32 MB is let go, the C library of Linux keeps blocks of that size
-/// from then on, and what is made of the circuit takes them again: without this the system would give and clear new
-/// pages for it.
+/// may be twice what is filled. Where a block of up to 32 MB is let go, the C library of Linux keeps blocks of that
+/// size from then on, and what is made of the circuit takes them again: without this the system would give and clear
+/// new pages for it.
 fn fit(bytes: &mut Vec<u8>) -> bool
     ensures { bytes.new.items ≡ bytes.old.items }
 {
@@ -40,7 +40,8 @@ fn fit(bytes: &mut Vec<u8>) -> bool
     bytes.capacity() == bytes.len()
 }
 
-/// Reads the source to its end, as a file of either kind within this limit, and keeps what is wanted of the check later.
+/// Reads the source to its end, as a file of either kind within this limit, and keeps what is wanted of the check
+/// later.
 pub fn read_circuit<R: Source>(
     alloc: Global,
     source: &mut R,

@@ -92,8 +92,8 @@ pub fn verdicts_are_kept()
     ensures { VerdictsAreKept }
 {}
 
-/// A witness that is confirmed at a step gives the unrolled circuit of the steps up to it inputs for which the bad state
-/// that stands for the claimed one in the last frame is 1.
+/// A witness that is confirmed at a step gives the unrolled circuit of the steps up to it inputs for which the bad
+/// state that stands for the claimed one in the last frame is 1.
 pub fn confirmed_witnesses_set_unrolled_circuits()
     ensures { ConfirmedWitnessesSetUnrolledCircuits }
 {}

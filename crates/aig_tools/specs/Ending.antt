@@ -26,10 +26,10 @@ abbrev pub status_of : Usage → ℕ
 status_of usages.OutOfMemory = 1
 status_of usage = 2
 
--- What was asked for has one source and one destination: it is done and nothing is reported, or its fault is reported in
--- one line.
-abbrev pub EndsBetween : (List ℕ → List ℕ → Type 0) → (ToolFault → List ℕ → Type 0) → (source destination : Option (List ℕ))
-    (before after : World) (errors errors_now : Past) → ℕ → Type 0
+-- What was asked for has one source and one destination: it is done and nothing is reported, or its fault is reported
+-- in one line.
+abbrev pub EndsBetween : (List ℕ → List ℕ → Type 0) → (ToolFault → List ℕ → Type 0)
+    → (source destination : Option (List ℕ)) (before after : World) (errors errors_now : Past) → ℕ → Type 0
 EndsBetween IsText IsRefused source destination before after errors errors_now status =
     ((status ≡ 0) × (errors_now ≡ errors) × DoneBetween IsText source destination before after)
     ⊎ ((status ≡ 1) × ((fault : ToolFault) × NotDoneBetween IsText IsRefused fault source destination before after
@@ -50,13 +50,18 @@ SimulationEnds request before after errors errors_now status =
     ⊎ ((status ≡ 1) × ((fault : ToolFault) × SimulationNotDone request fault before after
     × IsReported errors errors_now (simulation_error_line request fault)))
 
--- Help or the version was asked for: the output took the text, or it failed and that is reported. Nothing else was done.
+-- a text was to be printed: the output took it, or failed and that is reported
+abbrev pub IsPrinted : List ℕ → (output output_now errors errors_now : Past) → ℕ → Type 0
+IsPrinted text output output_now errors errors_now status =
+    ((status ≡ 0) × (errors_now ≡ errors) × (output_now ≡ took text output))
+    ⊎ ((status ≡ 1) × TookBeginning text output output_now
+    × IsReported errors errors_now (line_of (codes "-: ") (codes "cannot write")))
+
+-- help or the version was asked for: this is printed, and nothing else was done
 abbrev pub TextEnds : List ℕ → (before after : World) (errors errors_now : Past) → ℕ → Type 0
 TextEnds text before after errors errors_now status =
     (after ≡ record before { output = after.output })
-    × (((status ≡ 0) × (errors_now ≡ errors) × (after.output ≡ took text before.output))
-    ⊎ ((status ≡ 1) × TookBeginning text before.output after.output
-    × IsReported errors errors_now (line_of (codes "-: ") (codes "cannot write"))))
+    × IsPrinted text before.output after.output errors errors_now status
 
 -- the words are refused: this is reported, and nothing else was done
 abbrev pub RefusalEnds : Usage → (before after : World) (errors errors_now : Past) → ℕ → Type 0

@@ -1,14 +1,12 @@
--- What is done with the source and the destination that a request names: each is a stream, or a file with its name (this
--- project's profile). Files, input and output are told as they were and as they are now.
-use Rattle.std.specs.Prelude.{◌≡◌, ◌⊎◌, ◌<◌, ◌∷◌, ℕ, List, [], length, take, Option, None, Some, false, true, ⊤}
-use Rattle.aig_io.specs.Devices.{GaveSome, Past, TookBeginning, gave_all, took}
+-- What is done with the source and the destination that a request names: each is a stream, or a file with its name
+-- (this project's profile). Files, input and output are told as they were and as they are now.
+use Rattle.std.specs.Prelude.{◌≡◌, ◌⊎◌, ◌∷◌, ℕ, List, [], take, Option, None, Some, false, true}
+use Rattle.aig_io.specs.Devices.{Past, TookBeginning, gave_all, took, unused}
 use Rattle.aig_io.specs.Files.{End, Files, Left, NotKept, Whole, Written, used}
-use Rattle.aig_io.specs.declared.transfer.ReadError.{ReadError}
-use Rattle.aig_io.specs.declared.transfer.ReadError.TheVariants as errors
-use Rattle.aig_files.specs.Named.{IsFailure}
+use Rattle.aig_files.specs.Named.{IsFailure, IsShown, named}
 use Rattle.aig_engines.specs.declared.fault.ToolFault.{ToolFault}
 use Rattle.aig_engines.specs.declared.fault.ToolFault.TheVariants as faults
-use Rattle.aig_engines.specs.Reading.{tool_fault_of}
+use Rattle.aig_engines.specs.Reading.{NotRead}
 
 -- all that a call of the program can reach beside the sink for errors
 pub record World : Type 0 where
@@ -27,48 +25,59 @@ no_files = record { uses = []; current = None }
 abbrev pub with_use : List ℕ → List ℕ → End → Files → Files
 with_use name bytes end files = record files { uses = used name bytes end ∷ files.uses }
 
--- all bytes of the source were read
+-- the files and the input once all bytes of the source were read
+abbrev pub files_read : Option (List ℕ) → List ℕ → Files → Files
+files_read None bytes files = files
+files_read (Some name) bytes files = with_use name bytes Whole files
+
+abbrev pub input_read : Option (List ℕ) → List ℕ → Past → Past
+input_read None bytes input = gave_all bytes input
+input_read (Some name) bytes input = input
+
 abbrev pub source_read : Option (List ℕ) → List ℕ → World → World
-source_read None bytes w = record w { input = gave_all bytes w.input }
-source_read (Some name) bytes w = record w { files = with_use name bytes Whole w.files }
+source_read source bytes w =
+    record w { files = files_read source bytes w.files; input = input_read source bytes w.input }
 
--- the text was written to the destination
+-- the files and the output once the text was written to the destination
+abbrev pub files_written : Option (List ℕ) → List ℕ → Files → Files
+files_written None text files = files
+files_written (Some name) text files = with_use name text Written files
+
+abbrev pub output_written : Option (List ℕ) → List ℕ → Past → Past
+output_written None text output = took text output
+output_written (Some name) text output = output
+
 abbrev pub written : Option (List ℕ) → List ℕ → World → World
-written None text w = record w { output = took text w.output }
-written (Some name) text w = record w { files = with_use name text Written w.files }
+written destination text w =
+    record w { files = files_written destination text w.files; output = output_written destination text w.output }
 
--- all bytes of the source were read, this holds of them, and nothing else was done
-pub record HasReadFrom (Holds : List ℕ → Type 0) (source : Option (List ℕ)) (before after : World) : Type 0 where
+-- all bytes of the source were read, and this holds of them
+pub record HasReadFrom (Holds : List ℕ → Type 0) (source : Option (List ℕ)) (files files_now : Files)
+    (input input_now : Past) : Type 0 where
   pub bytes : List ℕ
   pub holds : Holds bytes
-  pub world : after ≡ source_read source bytes before
+  pub of_files : files_now ≡ files_read source bytes files
+  pub of_input : input_now ≡ input_read source bytes input
 
--- how the reading of a file ended where it failed so, by the bytes that it gave
-abbrev pub IsReadEnd : ReadError → List ℕ → End → Type 0
-IsReadEnd errors.Source bytes end = IsFailure false bytes end
-IsReadEnd errors.OutOfMemory bytes Whole = ⊤
-IsReadEnd errors.OutOfMemory bytes Left = 0 < length bytes
-IsReadEnd errors.OutOfMemory bytes end = ⊥
+-- P holds of the file with this name, as it was before anything was read of it and as it is left, which the files show.
+pub record OfFile (P : Past → Past → Type 0) (name : List ℕ) (files files_now : Files) : Type 0 where
+  pub lender : ℕ
+  pub after : Past
+  pub holds : P (unused (named lender name files.uses)) after
+  pub shown : IsShown false Left after files_now
 
--- A file was read, which failed so: it was used once. Where memory was refused it may not have been touched.
-abbrev pub FailedFile : ReadError → List ℕ → (files files_now : Files) → Type 0
-FailedFile error name files files_now =
-    ((error ≡ errors.OutOfMemory) × (files_now ≡ files))
-    ⊎ ((bytes : List ℕ) × (end : End) × IsReadEnd error bytes end × (files_now ≡ with_use name bytes end files))
-
--- reading the source failed so, and nothing else was done
-abbrev pub FailedReading : ReadError → Option (List ℕ) → (before after : World) → Type 0
-FailedReading error None before after =
-    GaveSome error before.input after.input × (after ≡ record before { input = after.input })
-FailedReading error (Some name) before after =
-    FailedFile error name before.files after.files × (after ≡ record before { files = after.files })
+-- P holds of the source that a request names, and no other was touched
+abbrev pub OfSource : (Past → Past → Type 0) → Option (List ℕ) → (files files_now : Files) (input input_now : Past)
+    → Type 0
+OfSource P None files files_now input input_now = P input input_now × (files_now ≡ files)
+OfSource P (Some name) files files_now input input_now = OfFile P name files files_now × (input_now ≡ input)
 
 -- Why nothing was made of what the source gives: it failed, or memory was refused; or all its bytes came, and they are
 -- refused with this fault.
 abbrev pub NotReadFrom : (ToolFault → List ℕ → Type 0) → ToolFault → Option (List ℕ) → (before after : World) → Type 0
 NotReadFrom IsRefused fault source before after =
-    ((error : ReadError) × (fault ≡ tool_fault_of error) × FailedReading error source before after)
-    ⊎ HasReadFrom (IsRefused fault) source before after
+    OfSource (NotRead IsRefused fault) source before.files after.files before.input after.input
+    × (after.output ≡ before.output)
 
 -- how the writing of this text to a file ended where it failed, by the bytes that the file took: one that was not kept
 -- took all
@@ -76,29 +85,31 @@ abbrev pub IsWriteEnd : List ℕ → List ℕ → End → Type 0
 IsWriteEnd text bytes NotKept = bytes ≡ text
 IsWriteEnd text bytes end = IsFailure true bytes end
 
--- writing a text to the destination failed: it took a beginning, and nothing else was done
-abbrev pub FailedWriting : Option (List ℕ) → List ℕ → (before after : World) → Type 0
-FailedWriting None text before after =
-    TookBeginning text before.output after.output × (after ≡ record before { output = after.output })
-FailedWriting (Some name) text before after =
-    (count : ℕ) × (end : End) × IsWriteEnd text (take count text) end
-    × (after ≡ record before { files = with_use name (take count text) end before.files })
+-- writing a text to the destination failed: it took a beginning, and no other was touched
+abbrev pub FailedWriting : Option (List ℕ) → List ℕ → (files files_now : Files) (output output_now : Past) → Type 0
+FailedWriting None text files files_now output output_now =
+    TookBeginning text output output_now × (files_now ≡ files)
+FailedWriting (Some name) text files files_now output output_now =
+    ((count : ℕ) × (end : End) × IsWriteEnd text (take count text) end
+    × (files_now ≡ with_use name (take count text) end files)) × (output_now ≡ output)
 
 -- Done: the source was read to its end, its text was written to the destination, and nothing else was done.
-pub record DoneBetween (IsText : List ℕ → List ℕ → Type 0) (source destination : Option (List ℕ)) (before after : World)
-    : Type 0 where
+pub record DoneBetween (IsText : List ℕ → List ℕ → Type 0) (source destination : Option (List ℕ))
+    (before after : World) : Type 0 where
   pub bytes : List ℕ
   pub text : List ℕ
   pub is_text : IsText bytes text
   pub world : after ≡ written destination text (source_read source bytes before)
 
 -- The destination failed: the source was read to its end, and a beginning of its text was written.
-pub record FailedBetween (IsText : List ℕ → List ℕ → Type 0) (source destination : Option (List ℕ)) (before after : World)
-    : Type 0 where
+pub record FailedBetween (IsText : List ℕ → List ℕ → Type 0) (source destination : Option (List ℕ))
+    (before after : World) : Type 0 where
   pub bytes : List ℕ
   pub text : List ℕ
   pub is_text : IsText bytes text
-  pub wrote : FailedWriting destination text (source_read source bytes before) after
+  pub input : after.input ≡ input_read source bytes before.input
+  pub wrote : FailedWriting destination text (files_read source bytes before.files) after.files
+      before.output after.output
 
 -- not done: the destination failed, or there is no text and the destination was not touched
 abbrev pub NotDoneBetween : (List ℕ → List ℕ → Type 0) → (ToolFault → List ℕ → Type 0) → ToolFault

@@ -1,8 +1,6 @@
 -- What came of a simulation, or of judging a witness file.
 use Rattle.std.specs.Prelude.{◌≡◌, ◌⊎◌, ℕ, List, Bool, Option, None, Some, false, true}
-use Rattle.aig_io.specs.Devices.{Past, took, unused}
-use Rattle.aig_io.specs.Files.{Files, Left}
-use Rattle.aig_files.specs.Named.{IsShown, named}
+use Rattle.aig_io.specs.Devices.{Past, gave_all, took}
 use Rattle.aig_circuit.specs.declared.circuit.Circuit.{Circuit}
 use Rattle.aig_command.specs.Answer.{name_of}
 use Rattle.aig_command.specs.declared.request.Sim.{Sim}
@@ -12,12 +10,12 @@ use Rattle.aig_step.specs.Outcome.{NotSimulated, Simulated}
 use Rattle.aig_witness.specs.declared.verdict.Verdict.{Verdict}
 use Rattle.aig_witness.specs.Confirming.{Judged}
 use Rattle.aig_engines.specs.declared.fault.ToolFault.{ToolFault}
-use Rattle.aig_engines.specs.declared.fault.ToolFault.TheVariants as faults
 use Rattle.aig_engines.specs.File.{IsFileOf}
+use Rattle.aig_engines.specs.Outcome.{Done}
 use Rattle.aig_engines.specs.Reading.{HasRead, IsUnreadable, NotRead}
-use Rattle.aig_engines.specs.Simulation.{columns_of}
+use Rattle.aig_engines.specs.Simulation.{IsSimulationText, columns_of}
 use Rattle.aig_engines.specs.WitnessOutcome.{NotAnsweredFor, OfSteps, answer_line}
-use Rattle.aig_tools.specs.Named.{HasReadFrom, NotReadFrom, World}
+use Rattle.aig_tools.specs.Named.{DoneBetween, NotReadFrom, OfSource, World, files_read, input_read, source_read}
 
 -- what an error of a simulation says, which runs as a batch or step by step
 abbrev pub NotSimulatedAs : Bool → Circuit → Sim → SimFault → (stimulus stimulus_now sink sink_now : Past) → Type 0
@@ -26,11 +24,11 @@ NotSimulatedAs true c request fault stimulus stimulus_now sink sink_now =
 NotSimulatedAs false c request fault stimulus stimulus_now sink sink_now =
     NotSimulated c (columns_of request) fault stimulus stimulus_now sink sink_now
 
--- the model's circuit was found, and the trace of the stimulus was written
+-- the model and the stimulus gave all their bytes, and the sink took their simulation text
 abbrev pub Traced : Sim → (model model_now stimulus stimulus_now sink sink_now : Past) → Type 0
 Traced request model model_now stimulus stimulus_now sink sink_now =
-    (found : Circuit) × HasRead (λ bytes. IsFileOf bytes request.max_var found) model model_now
-    × Simulated found (columns_of request) stimulus stimulus_now sink sink_now
+    (bytes : List ℕ) × (model_now ≡ gave_all bytes model)
+    × Done (IsSimulationText request bytes) stimulus stimulus_now sink sink_now
 
 -- What a fault of a simulation says. Nothing is fetched of the stimulus, and nothing is sent, before the whole model is
 -- read and found right.
@@ -55,32 +53,26 @@ NotDoneAs request c fault stimulus stimulus_now sink sink_now =
     ⊎ ((request.witness ≡ false)
     × OfSteps (λ sim. NotSimulatedAs request.batch c request sim stimulus stimulus_now sink sink_now) fault)
 
--- P holds of the file with this name, as it was before anything was read of it and as it is left, which the files show.
-pub record OfFile (P : Past → Past → Type 0) (name : List ℕ) (files files_now : Files) : Type 0 where
-  pub lender : ℕ
-  pub after : Past
-  pub holds : P (unused (named lender name files.uses)) after
-  pub shown : IsShown false Left after files_now
+-- P holds of the stimulus and the output, once these bytes of the model were read
+abbrev pub OfStimulus : (Past → Past → Past → Past → Type 0) → Sim → List ℕ → (before after : World) → Type 0
+OfStimulus P request model before after =
+    OfSource (λ stimulus stimulus_now. P stimulus stimulus_now before.output after.output) (name_of request.stimulus)
+    (files_read (name_of request.model) model before.files) after.files
+    (input_read (name_of request.model) model before.input) after.input
 
--- P holds of the source that a request names and of the output, and nothing else was done
-abbrev pub OfSource : (Past → Past → Past → Past → Type 0) → Option (List ℕ) → (before after : World) → Type 0
-OfSource P None before after =
-    P before.input after.input before.output after.output × (after.files ≡ before.files)
-OfSource P (Some name) before after =
-    OfFile (λ stimulus stimulus_now. P stimulus stimulus_now before.output after.output) name before.files after.files
-    × (after.input ≡ before.input)
-
--- The model was read, and then this was done with the stimulus: its trace was written, or there is this verdict.
+-- The model was read to its end, and so was the stimulus, and their simulation text was written to the output; or there
+-- is this verdict on a witness file.
 abbrev pub SimulationDone : Sim → Option Verdict → (before after : World) → Type 0
-SimulationDone request verdict before after =
-    (found : Circuit) × (between : World)
-    × HasReadFrom (λ bytes. IsFileOf bytes request.max_var found) (name_of request.model) before between
-    × OfSource (DoneAs request found verdict) (name_of request.stimulus) between after
+SimulationDone request None before after =
+    (request.witness ≡ false) × ((model : List ℕ) × DoneBetween (IsSimulationText request model)
+    (name_of request.stimulus) None (source_read (name_of request.model) model before) after)
+SimulationDone request (Some verdict) before after =
+    (model : List ℕ) × (found : Circuit) × IsFileOf model request.max_var found
+    × OfStimulus (DoneAs request found (Some verdict)) request model before after
 
 -- what a fault says where it was not done
 abbrev pub SimulationNotDone : Sim → ToolFault → (before after : World) → Type 0
 SimulationNotDone request fault before after =
     NotReadFrom (IsUnreadable request.max_var) fault (name_of request.model) before after
-    ⊎ ((found : Circuit) × (between : World)
-    × HasReadFrom (λ bytes. IsFileOf bytes request.max_var found) (name_of request.model) before between
-    × OfSource (NotDoneAs request found fault) (name_of request.stimulus) between after)
+    ⊎ ((model : List ℕ) × (found : Circuit) × IsFileOf model request.max_var found
+    × OfStimulus (NotDoneAs request found fault) request model before after)

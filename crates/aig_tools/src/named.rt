@@ -1,12 +1,12 @@
 //! What is done with the streams and files that a request names. No two files are open at once.
 ghost use Rattle.std.specs.Prelude.{◌≡◌, ◌<◌, IfErr, IfOk, None, OnErr, OnOk, length};
-ghost use Rattle.aig_io.specs.Devices.{CanFail, Past};
+ghost use Rattle.aig_io.specs.Devices.{CanFail};
 ghost use Rattle.aig_command.specs.Answer.{name_of};
 ghost use Rattle.aig_engines.specs.File.{IsFileOf};
-ghost use Rattle.aig_engines.specs.Reading.{IsUnreadable};
-ghost use Rattle.aig_tools.specs.Named.{DoneBetween, FailedWriting, HasReadFrom, NotDoneBetween, NotReadFrom, world};
-ghost use Rattle.aig_tools.specs.Named.{written};
-ghost use Rattle.aig_tools.specs.SimulationOutcome.{DoneAs, NotDoneAs, OfSource, SimulationDone, SimulationNotDone};
+ghost use Rattle.aig_engines.specs.Reading.{IsUnreadable, NotRead};
+ghost use Rattle.aig_tools.specs.Named.{DoneBetween, FailedWriting, HasReadFrom, NotDoneBetween, OfSource};
+ghost use Rattle.aig_tools.specs.Named.{files_written, output_written, world};
+ghost use Rattle.aig_tools.specs.SimulationOutcome.{DoneAs, NotDoneAs, SimulationDone, SimulationNotDone};
 
 use crate::simulation::trace_or_judge;
 use aig_command::Sim;
@@ -28,13 +28,11 @@ fn read_source<T: Engine, A: FileAccess, R: Source>(
     requires idle { (A.files access.old).current ≡ None }
     requires can_do { T.can_do request.now }
     ensures idle { (A.files access.new).current ≡ None }
-    ensures ok { IfOk result (λ work. (output : Past) → HasReadFrom
-        (λ bytes. T.is_text request.now bytes (T.text request.now work)) (T.source_name request.now)
-        (world (A.files access.old) (R.past input.old) output) (world (A.files access.new) (R.past input.new) output)) }
+    ensures ok { IfOk result (λ work. HasReadFrom (λ bytes. T.is_text request.now bytes (T.text request.now work))
+        (T.source_name request.now) (A.files access.old) (A.files access.new) (R.past input.old) (R.past input.new)) }
     ensures some { IfOk result (λ work. 0 < length (T.text request.now work)) }
-    ensures err { IfErr result (λ fault. (output : Past) → NotReadFrom (T.is_refused request.now) fault
-        (T.source_name request.now) (world (A.files access.old) (R.past input.old) output)
-        (world (A.files access.new) (R.past input.new) output)) }
+    ensures err { IfErr result (λ fault. OfSource (NotRead (T.is_refused request.now) fault)
+        (T.source_name request.now) (A.files access.old) (A.files access.new) (R.past input.old) (R.past input.new)) }
 {
     match request.source() {
         Some(name) => {
@@ -57,13 +55,11 @@ fn read_model<A: FileAccess, R: Source>(
     requires input { CanFail (R.past input.old) }
     requires idle { (A.files access.old).current ≡ None }
     ensures idle { (A.files access.new).current ≡ None }
-    ensures ok { IfOk result (λ found. (output : Past) → HasReadFrom (λ bytes. IsFileOf bytes request.now.max_var found)
-        (name_of request.now.model) (world (A.files access.old) (R.past input.old) output)
-        (world (A.files access.new) (R.past input.new) output)) }
+    ensures ok { IfOk result (λ found. HasReadFrom (λ bytes. IsFileOf bytes request.now.max_var found)
+        (name_of request.now.model) (A.files access.old) (A.files access.new) (R.past input.old) (R.past input.new)) }
     ensures unfailed { IfOk result (λ _. (R.past input.new).failures ≡ (R.past input.old).failures) }
-    ensures err { IfErr result (λ fault. (output : Past) → NotReadFrom (IsUnreadable request.now.max_var) fault
-        (name_of request.now.model) (world (A.files access.old) (R.past input.old) output)
-        (world (A.files access.new) (R.past input.new) output)) }
+    ensures err { IfErr result (λ fault. OfSource (NotRead (IsUnreadable request.now.max_var) fault)
+        (name_of request.now.model) (A.files access.old) (A.files access.new) (R.past input.old) (R.past input.new)) }
 {
     match &request.model {
         Some(name) => {
@@ -87,12 +83,12 @@ fn write_destination<T: Engine, A: FileAccess, W: Sink>(
     requires idle { (A.files access.old).current ≡ None }
     requires some { 0 < length (T.text request.now work) }
     ensures idle { (A.files access.new).current ≡ None }
-    ensures ok { OnOk result ((input : Past) → world (A.files access.new) input (W.past output.new)
-        ≡ written (T.destination_name request.now) (T.text request.now work)
-        (world (A.files access.old) input (W.past output.old))) }
-    ensures err { OnErr result ((input : Past) → FailedWriting (T.destination_name request.now) (T.text request.now work)
-        (world (A.files access.old) input (W.past output.old))
-        (world (A.files access.new) input (W.past output.new))) }
+    ensures files { OnOk result (A.files access.new
+        ≡ files_written (T.destination_name request.now) (T.text request.now work) (A.files access.old)) }
+    ensures output { OnOk result (W.past output.new
+        ≡ output_written (T.destination_name request.now) (T.text request.now work) (W.past output.old)) }
+    ensures err { OnErr result (FailedWriting (T.destination_name request.now) (T.text request.now work)
+        (A.files access.old) (A.files access.new) (W.past output.old) (W.past output.new)) }
 {
     match request.destination() {
         Some(name) => {
@@ -148,12 +144,12 @@ fn run_stimulus<A: FileAccess, R: Source, W: Sink>(
     requires output { CanFail (W.past output.old) }
     requires idle { (A.files access.old).current ≡ None }
     ensures idle { (A.files access.new).current ≡ None }
-    ensures ok { IfOk result (λ verdict. OfSource (DoneAs request.now found verdict) (name_of request.now.stimulus)
-        (world (A.files access.old) (R.past input.old) (W.past output.old))
-        (world (A.files access.new) (R.past input.new) (W.past output.new))) }
-    ensures err { IfErr result (λ fault. OfSource (NotDoneAs request.now found fault) (name_of request.now.stimulus)
-        (world (A.files access.old) (R.past input.old) (W.past output.old))
-        (world (A.files access.new) (R.past input.new) (W.past output.new))) }
+    ensures ok { IfOk result (λ verdict. OfSource (λ stimulus stimulus_now. DoneAs request.now found verdict
+        stimulus stimulus_now (W.past output.old) (W.past output.new)) (name_of request.now.stimulus)
+        (A.files access.old) (A.files access.new) (R.past input.old) (R.past input.new)) }
+    ensures err { IfErr result (λ fault. OfSource (λ stimulus stimulus_now. NotDoneAs request.now found fault
+        stimulus stimulus_now (W.past output.old) (W.past output.new)) (name_of request.now.stimulus)
+        (A.files access.old) (A.files access.new) (R.past input.old) (R.past input.new)) }
 {
     match &request.stimulus {
         Some(name) => {

@@ -1,10 +1,10 @@
 //! What the program does with its arguments.
 ghost use Rattle.std.specs.Prelude.{◌≡◌, ◌≤◌, None};
-ghost use Rattle.aig_io.specs.Devices.{CanFail, Past};
+ghost use Rattle.aig_io.specs.Devices.{CanFail};
 ghost use Rattle.aig_io.specs.Files.{Files as UsedFiles};
 ghost use Rattle.aig_command.specs.Answer.{texts};
 ghost use Rattle.aig_engines.specs.Messages.{memory_line, IsReported, usage_text, words_line};
-ghost use Rattle.aig_tools.specs.Ending.{done_status, Ends, EndsBetween, SimulationEnds, status_of, TextEnds};
+ghost use Rattle.aig_tools.specs.Ending.{done_status, Ends, EndsBetween, IsPrinted, SimulationEnds, status_of};
 ghost use Rattle.aig_tools.specs.Named.{no_files, world};
 
 use crate::named::{run_between, run_model};
@@ -101,8 +101,8 @@ fn print_text<W: Sink, E: Sink>(text: &str, output: &mut W, errors: &mut E) -> u
     requires output { CanFail (W.past output.old) }
     requires errors { CanFail (E.past errors.old) }
     ensures status { result ≤ 1 }
-    ensures ends { (files : UsedFiles) (input : Past) → TextEnds text.now (world files input (W.past output.old))
-        (world files input (W.past output.new)) (E.past errors.old) (E.past errors.new) result }
+    ensures printed { IsPrinted text.now (W.past output.old) (W.past output.new)
+        (E.past errors.old) (E.past errors.new) result }
 {
     let mut blocks = Output::new(output);
     blocks.put(text.as_bytes());

@@ -3,6 +3,7 @@ ghost use Rattle.std.specs.Prelude.{◌≡◌, IfErr, IfOk, OnOk, false};
 ghost use Rattle.aig_io.specs.Devices.{CanFail};
 ghost use Rattle.aig_step.specs.Outcome.{Simulated};
 ghost use Rattle.aig_engines.specs.Simulation.{columns_of};
+ghost use Rattle.aig_engines.specs.WitnessOutcome.{OfSteps};
 ghost use Rattle.aig_tools.specs.SimulationOutcome.{DoneAs, NotDoneAs, NotSimulatedAs, NotTraced, Traced};
 
 use aig_batch::simulate_batched;
@@ -29,22 +30,25 @@ fn columns(request: &Sim) -> Columns
 fn simulate_as_asked<R: Source, W: Sink>(
     alloc: Global,
     request: &Sim,
-    found: &Checked,
+    circuit: Checked,
     stimulus: &mut R,
     output: &mut W,
-) -> Result<(), SimFault>
+) -> Result<(), ToolFault>
     requires stimulus { CanFail (R.past stimulus.old) }
     requires output { CanFail (W.past output.old) }
-    ensures ok { OnOk result (Simulated found.now (columns_of request.now)
+    ensures ok { OnOk result (Simulated circuit (columns_of request.now)
         (R.past stimulus.old) (R.past stimulus.new) (W.past output.old) (W.past output.new)) }
-    ensures err { IfErr result (λ fault. NotSimulatedAs request.now.batch found.now request.now fault
-        (R.past stimulus.old) (R.past stimulus.new) (W.past output.old) (W.past output.new)) }
+    ensures err { IfErr result (OfSteps (λ fault. NotSimulatedAs request.now.batch circuit request.now fault
+        (R.past stimulus.old) (R.past stimulus.new) (W.past output.old) (W.past output.new))) }
 {
-    if request.batch {
+    let found = &circuit;
+    let done: Result<(), SimFault> = if request.batch {
         simulate_batched(alloc, found, columns(request), stimulus, output)
     } else {
         simulate(alloc, found, columns(request), stimulus, output)
-    }
+    };
+    drop(circuit);
+    Ok(done?)
 }
 
 /// Writes the trace of the stimulus for a circuit, or judges it as a witness file, as the request asks. There is a
@@ -66,9 +70,7 @@ pub(crate) fn trace_or_judge<R: Source, W: Sink>(
     if request.witness {
         return Ok(Some(judge(alloc, found, stimulus, output)?));
     }
-    let done = simulate_as_asked(alloc, request, &found, stimulus, output);
-    drop(found);
-    done?;
+    simulate_as_asked(alloc, request, found, stimulus, output)?;
     Ok(None)
 }
 
@@ -93,8 +95,5 @@ pub fn run_sim<M: Source, R: Source, W: Sink>(
         (R.past stimulus.old) (R.past stimulus.new) (W.past output.old) (W.past output.new)) }
 {
     let found = read_circuit(alloc, model, request.max_var, Keep::Order)?;
-    let done = simulate_as_asked(alloc, request, &found, stimulus, output);
-    drop(found);
-    done?;
-    Ok(())
+    simulate_as_asked(alloc, request, found, stimulus, output)
 }
