@@ -5,6 +5,5 @@ pub mod Traced
 pub mod Ending
 pub mod KnownLines
 pub mod KnownTexts
-pub mod LongEnough
 pub mod OneText
 pub mod SameTexts

@@ -8,13 +8,14 @@ use Rattle.aig_meaning.specs.Meaning.{Row}
 use Rattle.aig_meaning.specs.Trace.{IsTrace, reset_state}
 use Rattle.aig_meaning.proofs.Traces.{one_trace, reset_state_is_first}
 use Rattle.aig_trace.specs.Laws.{OneTraceText}
-use Rattle.aig_step.specs.Stimulus.{judged_lines, runs_of, stimulus}
+use Rattle.aig_step.specs.Stimulus.{runs_of, stimulus}
+use Rattle.aig_step.specs.StimulusText.{AreSteps}
 use Rattle.aig_step.specs.TraceText.{last_stop, rows_text, run_text}
-use Rattle.aig_trace.proofs.LongEnough.{HaveLength, lines_long, runs_long}
+use Rattle.aig_step.proofs.StimulusTexts.{stimuli_are_read}
 
 -- each run has exactly one trace
 each_once : (c : Circuit) (runs : List (List (List Val))) → IsWellFormed c
-    → AllByRecursion (HaveLength (length c.inputs)) runs
+    → AllByRecursion (AreSteps c) runs
     → (traces : List (List Row)) × AllZip (IsTrace c (reset_state c)) runs traces
     × ((others : List (List Row)) → AllZip (IsTrace c (reset_state c)) runs others → others ≡ traces)
 each_once c [] formed long = ([], tt, none) where
@@ -37,7 +38,7 @@ pub one_trace_text : OneTraceText
 one_trace_text c columns bytes ended formed =
     let said = stimulus (length c.inputs) bytes ended in
     let runs = runs_of said.entries in
-    let long = runs_long (length c.inputs) said.entries (lines_long (length c.inputs) 1 (judged_lines bytes ended)) in
+    let long = (stimuli_are_read c bytes ended runs said.bad).0 (refl, refl) in
     let each = each_once c runs.ended formed long.each in
     let last = one_trace c (reset_state c) runs.unended formed (reset_state_is_first c) long.last in
     let end = last_stop ended said.bad runs.unended in (
