@@ -6,11 +6,10 @@ use Rattle.aig_circuit.specs.declared.circuit.Gate.{Gate}
 use Rattle.aig_circuit.specs.declared.circuit.Circuit.{Circuit}
 use Rattle.aig_circuit.specs.Literal.{literal_of}
 use Rattle.aig_circuit.specs.Wellformed.{IsWellFormed}
-use Rattle.aig_text.specs.declared.header_line.TheConstants.{HEADER_LEAST}
 use Rattle.aig_rows.specs.Lines.{Line, lines_of}
 use Rattle.aig_text.specs.AsciiGrammar.{IsHeaderLine}
 use Rattle.aig_text.specs.Tail.{AreTailLines}
-use Rattle.aig_text.specs.Sections.{listed_rows, in_binary, header_row}
+use Rattle.aig_text.specs.Sections.{listed_rows, in_binary, header_row, least_header_numbers}
 use Rattle.aig_rows.specs.Rows.{Row, IsRowLine}
 use Rattle.aig_checked.specs.BinaryOrder.{IsInBinaryOrder}
 use Rattle.aig_binary.specs.Delta.{IsDelta}
@@ -52,7 +51,7 @@ pub record IsBinaryText (text : List ℕ) (limit : ℕ) (c : Circuit) : Type 0 w
   pub text_is : text ≡ front ++ (gates ++ rest)
   pub lines : lines_of front ≡ header ∷ numbered
   pub cut : EndsBefore (header ∷ numbered) (gates ++ rest)
-  pub is_header : IsHeaderLine binary_word HEADER_LEAST header (header_row c)
+  pub is_header : IsHeaderLine binary_word least_header_numbers header (header_row c)
   pub are_rows : AllZip IsRowLine numbered (binary_rows_of c)
   pub are_gates : SpellsGates gates c.gates
   pub is_tail : AreTailLines (lines_of rest) c
