@@ -1,5 +1,5 @@
 -- What came of judging a witness file (this project's profile): a circuit is read, and the verdict on what the witness
--- file claims of it is written in a line. Model, witness file and sink are told by their pasts, then and now.
+-- file claims of it is written in a line. Model, witness file and sink are told by their pasts, as they were and are now.
 use Rattle.std.specs.Prelude.{◌≡◌, ◌⊎◌, ◌++◌, ℕ, List, codes, decimal}
 use Rattle.aig_io.specs.Devices.{Past, TookBeginning, took}
 use Rattle.aig_circuit.specs.declared.circuit.Circuit.{Circuit}
@@ -30,8 +30,7 @@ NotAnsweredFor c fault witness witness_now sink sink_now =
     ⊎ ((fault ≡ faults.Sink) × ((verdict : Verdict) × Judged c verdict witness witness_now
     × TookBeginning (answer_line verdict) sink sink_now))
 
--- the model gave all its bytes, which are the file of a circuit; there is this verdict for it, and the sink took its
--- line
+-- the model gave all its bytes, which are the file of a circuit; there is this verdict for it, and the sink took its line
 abbrev pub Answered : Sim → Verdict → (model model_now witness witness_now sink sink_now : Past) → Type 0
 Answered request verdict model model_now witness witness_now sink sink_now =
     (found : Circuit) × HasRead (λ bytes. IsFileOf bytes request.max_var found) model model_now

@@ -71,8 +71,8 @@ pub fn mapped_texts_have_no_fault()
     ensures { MappedTextsHaveNoFault }
 {}
 
-/// A witness that is confirmed at a step gives the unrolled circuit of the steps up to it inputs for which the bad
-/// state that stands for the claimed one in the last frame is 1.
+/// A witness that is confirmed at a step gives the unrolled circuit of the steps up to it inputs for which the bad state
+/// that stands for the claimed one in the last frame is 1.
 pub fn confirmed_witnesses_set_unrolled_circuits()
     ensures { ConfirmedWitnessesSetUnrolledCircuits }
 {}
