@@ -57,7 +57,7 @@ not_kept (Err e) answer destination name text lender files files_now opened past
 
 module _ (request : Sim) (model : List ℕ) (found : Circuit) (read : IsFileOf model request.max_var found) where
   -- a trace text of a circuit is a simulation text of its file
-  pub simulation_text : (s s_now o o_now : Past) → Simulated found (columns_of request) s s_now o o_now
+  simulation_text : (s s_now o o_now : Past) → Simulated found (columns_of request) s s_now o o_now
       → Done (IsSimulationText request model) s s_now o o_now
   simulation_text s s_now o o_now done = search rules
 
