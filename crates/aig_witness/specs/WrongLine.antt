@@ -39,8 +39,8 @@ IsRightBehind c (one ∷ two ∷ []) text = SaysFirstState c text
 IsRightBehind c (one ∷ two ∷ three ∷ more) text = ¬ Contains more (codes ".") × IsGoodText c text
 
 -- The line of this number is the first that is wrong or missing, of lines of these texts behind lines of those: the
--- next one is wrong; or it is right, and the first is behind it; or none is left, though the bytes have ended and no line
--- was `.`.
+-- next one is wrong; or it is right, and the first is behind it; or none is left, though the bytes have ended and no
+-- line was `.`.
 abbrev pub IsFirstWrong : Circuit → Bool → (before texts : List (List ℕ)) → ℕ → Type 0
 IsFirstWrong c ended before [] number = (number ≡ suc (length before)) × (ended ≡ true) × ¬ HaveEnd before
 IsFirstWrong c ended before (text ∷ texts) number =
