@@ -1,6 +1,6 @@
 -- What came of a simulation, or of judging a witness file.
 use Rattle.std.specs.Prelude.{◌≡◌, ◌⊎◌, ℕ, List, Bool, Option, None, Some, false, true}
-use Rattle.aig_io.specs.Devices.{Past, gave_all, took}
+use Rattle.aig_io.specs.Devices.{Past, took}
 use Rattle.aig_circuit.specs.declared.circuit.Circuit.{Circuit}
 use Rattle.aig_command.specs.Answer.{name_of}
 use Rattle.aig_command.specs.declared.request.Sim.{Sim}
@@ -27,8 +27,7 @@ NotSimulatedAs false c request fault stimulus stimulus_now sink sink_now =
 -- the model and the stimulus gave all their bytes, and the sink took their simulation text
 abbrev pub Traced : Sim → (model model_now stimulus stimulus_now sink sink_now : Past) → Type 0
 Traced request model model_now stimulus stimulus_now sink sink_now =
-    (bytes : List ℕ) × (model_now ≡ gave_all bytes model)
-    × Done (IsSimulationText request bytes) stimulus stimulus_now sink sink_now
+    HasRead (λ bytes. Done (IsSimulationText request bytes) stimulus stimulus_now sink sink_now) model model_now
 
 -- What a fault of a simulation says. Nothing is fetched of the stimulus, and nothing is sent, before the whole model is
 -- read and found right.
