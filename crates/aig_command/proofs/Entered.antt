@@ -1,6 +1,6 @@
 -- A command line that `clap` takes has a subcommand that is one of ours.
-use Rattle.std.proofs.Common.{IfSome, rules, ◌≡◌, Bool, Option, Some, None, List, [], ◌∷◌, ap, cond, drop, false, is_some}
-use Rattle.std.proofs.Common.{not, option_map, refl, sym, true, true≢false}
+use Rattle.std.proofs.Common.{IfSome, rules, ◌≡◌, Bool, Option, Some, None, List, [], ◌∷◌, ap, cond, drop, false}
+use Rattle.std.proofs.Common.{is_some, not, option_map, refl, sym, true, true≢false}
 use Rattle.std.specs.Prelude.{option_and_then}
 use Rattle.std.specs.List.{AllByRecursion, find, list_any}
 use Rattle.clap.specs.Words.{Kinds, Row, Text, subcommand_of}

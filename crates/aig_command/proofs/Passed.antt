@@ -94,7 +94,8 @@ module _ (c : List Rule) where
     without_pass rows h = at_row_keeps _ a.id (λ _. []) [] rows (λ r same p. tt) tt h
 
     counted_pass : (again : Bool) (values : List Text) (rows : List Row)
-        → action_fault action.Count again a values rows ≡ [] → AllPass rows → AllPass (counted a.id (reading_by a) values rows)
+        → action_fault action.Count again a values rows ≡ [] → AllPass rows
+        → AllPass (counted a.id (reading_by a) values rows)
     counted_pass again [] rows e h =
         with_count_pass CommandLine (min (count_of a.id rows + 1) 255) (without a.id rows)
         (ap (λ (k : Kinds). or_else k []) e) (without_pass rows h)

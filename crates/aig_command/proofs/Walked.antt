@@ -112,7 +112,8 @@ module _ (s : Shape) (first : AllByRecursion (IsFirst s.rules) s.rules) where
   Goes fault met = (h : Held) → fault h ≡ [] → Good h → Good (met h).0
 
   short_pass : (o : Option Rule) → IsOne o → (rest : Text) (h : Held) (fault : Held → Kinds)
-      (met : Held → Held × Outcome) → Goes fault met → short_fault c again o rest h fault ≡ [] → Good h → Good (short_met c o rest h met).0
+      (met : Held → Held × Outcome) → Goes fault met → short_fault c again o rest h fault ≡ []
+      → Good h → Good (short_met c o rest h met).0
   short_pass None is rest h fault met goes e g = g
   short_pass (Some a) is rest h fault met goes e g = go (takes_values a) e
     where
@@ -147,7 +148,8 @@ module _ (s : Shape) (first : AllByRecursion (IsFirst s.rules) s.rules) where
   -- ---- words
 
   short_word_pass : (flags : Option Text) (waiting : Waiting) (word : Text) (h : Held)
-      → option_map_or (λ flags. bundle_fault c again flags h) flags [] ≡ [] → Good h → Good (short_or_plain c waiting word flags h).0
+      → option_map_or (λ flags. bundle_fault c again flags h) flags [] ≡ [] → Good h
+      → Good (short_or_plain c waiting word flags h).0
   short_word_pass None waiting word h e g = rw (same_plain c waiting word h) g
   short_word_pass (Some flags) waiting word h e g =
       let met = bundle_met c (length flags) flags h.skip plain (record h { skip = 0 }) in
