@@ -1,13 +1,25 @@
 -- What came of a stimulus that is judged while it comes.
 use Rattle.std.proofs.Common.{◌≡◌, ℕ, List, ◌++◌, Bool, false, Some, None, length, sym, ap, subst, ◌∙◌, if◌then◌else◌}
+use Rattle.std.proofs.Common.{Err, IfErr, IsErrAnd, Ok, Result}
 use Rattle.aig_circuit.specs.declared.circuit.Circuit.{Circuit}
-use Rattle.aig_io.specs.Devices.{Past, gave}
+use Rattle.aig_io.specs.Devices.{GaveSome, Past, gave}
+use Rattle.aig_io.specs.declared.transfer.ReadError.TheVariants as errors
 use Rattle.aig_lines.specs.Fed.{Feeder, IsFed}
 use Rattle.aig_lines.specs.Feeding.{Feeding, ended_if, fed}
 use Rattle.aig_lines.proofs.Tells.{fed_twice}
 use Rattle.aig_step.specs.Outcome.{Came, first_bad_line}
+use Rattle.aig_step.specs.declared.fault.SimFault.{SimFault}
+use Rattle.aig_step.specs.declared.fault.SimFault.TheVariants.{OutOfMemory}
 use Rattle.aig_trace.specs.Parts.Saying.{Saying, before_lines, say_line}
 use Rattle.aig_trace.proofs.Saying.{has_said}
+use Rattle.aig_batch.specs.Batched.{NotCollected}
+
+-- memory was refused, when some bytes had come
+pub refused : {T : Type 0} (c : Circuit) (r : Result T SimFault) (source source_now : Past)
+    → IsErrAnd r (λ e. e ≡ OutOfMemory) → GaveSome errors.OutOfMemory source source_now
+    → IfErr r (λ e. NotCollected c e source source_now)
+refused c (Ok x) source source_now is some = tt
+refused c (Err e) source source_now is some = rw is some
 
 module _ {T : Type 0} (IsAt : T → Saying (Unit {0}) → Type 0) (c : Circuit) where
   -- where the feeder stands before the first byte

@@ -3,7 +3,7 @@ use Rattle.aig_io.specs.Devices.{failed_once}
 use Rattle.aig_io.proofs.Took.{gave_more, gave_next, took_twice}
 use Rattle.aig_lines.proofs.Feeds.{flipped}
 use Rattle.aig_lines.proofs.Sources.{at_end}
-use Rattle.aig_batch.proofs.Collecting.{came, fed_more}
+use Rattle.aig_batch.proofs.Collecting.{came, fed_more, refused}
 use Rattle.aig_batch.proofs.collected.collect_into.Goals as goal
 
 pub returns-in_default-clause-err : goal.returns-in_default-clause-err
@@ -33,7 +33,10 @@ returns-then-count-eq0-clause-ok g c =
     (flipped f.refused c.end.result true c.end.ensures.result c.if-not-end.false) (end ∙ ap at_end i.past)
 
 pub returns-in_err-extend_from_slice-clause-err : goal.returns-in_err-extend_from_slice-clause-err
-returns-in_err-extend_from_slice-clause-err g c = search (rules, gave_more, gave_next)
+returns-in_err-extend_from_slice-clause-err g c =
+    let next = rw (← c.split_at.ensures.front) at (c.in-Ok.ensures.past ∙ gave_next _ c.in-Ok.count _ (omega arith)) in
+    refused c.args.checked.now c.from_residual.result _ _ (search rules)
+    (gave_more _ _ _ _ _ c.loop-count.invariant.past next)
 
 pub returns-then-not-feed-clause-err : goal.returns-then-not-feed-clause-err
 returns-then-not-feed-clause-err g c =
