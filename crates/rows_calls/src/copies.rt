@@ -31,7 +31,7 @@ aag 1 0 1 0 0 1 1 2 1\n2 3\n2\n3\n1\n1\n2\n3\n1\n";
 const BY_HAND: &str = "aag 7 1 1 2 0\n2\n4 3\n5\n0\no1 a b\r\nl0 \ni0 c\nc\nmade by hand\n\n";
 
 /// Whether a copy of the second circuit is the same as the first.
-fn same_as_copy(alloc: Global, first: &Checked, second: &Checked) -> Result<bool, Fail> {
+pub(crate) fn same_as_copy(alloc: Global, first: &Checked, second: &Checked) -> Result<bool, Fail> {
     let copy = second.copy(alloc)?;
     Ok(same(first, &copy))
 }
@@ -72,7 +72,7 @@ fn name_by_hand(alloc: Global, circuit: &mut Circuit) -> Result<(), Fail> {
 }
 
 /// A circuit that is in form and well formed, as checked.
-fn checked_of(alloc: Global, circuit: Circuit) -> Result<Checked, Fail> {
+pub(crate) fn checked_of(alloc: Global, circuit: Circuit) -> Result<Checked, Fail> {
     if !circuit.in_form() {
         drop(circuit);
         return Err("it is in form")?;

@@ -9,6 +9,8 @@ mod copies;
 #[cfg(test)]
 mod forms;
 #[cfg(test)]
+mod large;
+#[cfg(test)]
 mod messages;
 #[cfg(test)]
 mod orders;

@@ -9,6 +9,8 @@ mod failures;
 #[cfg(test)]
 mod files;
 #[cfg(test)]
+mod large;
+#[cfg(test)]
 mod memory_files;
 #[cfg(test)]
 mod run;

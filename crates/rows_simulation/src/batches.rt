@@ -61,7 +61,7 @@ fn first_refused(alloc: Global, circuit: &Checked, counts: &[usize]) -> Option<u
 #[test]
 fn batches(rt: HostRuntime) -> Result<(), Fail> {
     let circuit = read_ascii(rt.alloc(), REGISTER.as_bytes(), Limits::default())?;
-    let refused = first_refused(rt.alloc(), &circuit, &[0, 1, 255, 256, 257, 600]);
+    let refused = first_refused(rt.alloc(), &circuit, &[0, 1, 255, 256, 257, 600, 1_000]);
     drop(circuit);
     assert!(rt; refused.is_none(), "{} runs", refused.unwrap_or(0));
     Ok(())

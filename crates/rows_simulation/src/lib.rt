@@ -5,6 +5,8 @@
 #[cfg(test)]
 mod batches;
 #[cfg(test)]
+mod large;
+#[cfg(test)]
 mod steps;
 #[cfg(test)]
 mod values;
