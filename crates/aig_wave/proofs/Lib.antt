@@ -1,0 +1,5 @@
+pub mod Naming
+pub mod Parting
+pub mod Framed
+pub mod Cutting
+pub mod Waved

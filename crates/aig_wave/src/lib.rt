@@ -1,0 +1,17 @@
+//! The waveform of a trace: a Value Change Dump, made of the lines of the trace as they come.
+//!
+//! Others call `WaveSink`, a sink for a trace text, which sends the dump of it on.
+//!
+//! The definitions that matter most are `frames` and `wave_text`.
+#![tactic(auto)]
+
+mod digit;
+mod head;
+mod layout;
+mod name;
+mod place;
+mod signal;
+mod tape;
+mod wave;
+
+pub use crate::wave::WaveSink;
