@@ -1,6 +1,6 @@
 //! A sink for a trace text, which sends the dump of it on.
-ghost use Rattle.std.specs.Prelude.{◌≡◌, ◌+◌, ◌-◌, ◌^◌, ◌<◌, ◌≤◌, ◌++◌, ℕ, List, [], ◌⊎◌, IfOk, OnErr, MatchResult};
-ghost use Rattle.std.specs.Prelude.{false, true, is_err, length, take};
+ghost use Rattle.std.specs.Prelude.{◌≡◌, ◌+◌, ◌-◌, ◌^◌, ◌<◌, ◌≤◌, ◌++◌, ℕ, List, [], ◌⊎◌, IfOk, MatchResult};
+ghost use Rattle.std.specs.Prelude.{false, true, is_err, is_ok, IsTrue, ◌↔◌, length, take};
 ghost use Rattle.aig_io.specs.Devices.{CanFail, after_send, block_size, no_file, unused};
 ghost use Rattle.aig_io.specs.Output.{Out, Put, output_to};
 ghost use Rattle.aig_wave.specs.declared.wave.TheConstants.{LAST};
@@ -127,7 +127,9 @@ impl<W: Sink> Sink for WaveSink<'_, W> {
         ensures past { self.new.past ≡ after_send bytes.now result self.old.past }
         ensures dumps { (w : LayoutRecord) (o : Out W) (text : List ℕ) → Dumps w o self.old text
             → MatchResult result (λ n. Dumps w o self.new (text ++ take n bytes.now)) (λ _. Dumps w o self.new text) }
-        ensures err { OnErr result ((self.old.output.failed ≡ true) ⊎ (LAST ≤ self.old.tape.point.time)) }
+        ensures refuses { IsTrue (is_err result)
+            ↔ ((self.old.output.failed ≡ true) ⊎ (LAST ≤ self.old.tape.point.time)) }
+        ensures sent { IsTrue (is_ok result) → self.new.output.held ≡ [] }
     {
         if self.output.has_failed() || self.tape.time() >= LAST {
             self.failures += 1;
