@@ -4,6 +4,7 @@ use Rattle.std.proofs.Common.{filter, length, map, take, refl, sym, ap, ap₂, a
 use Rattle.std.proofs.lemmas.Bool.{cases_lt, ne_eqb}
 use Rattle.std.proofs.lemmas.Bool.Decides.{eqb_tells}
 use Rattle.std.proofs.lemmas.List.{length-take-le, take_all}
+use Rattle.std.proofs.lemmas.List.Sums.{fold-append}
 use Rattle.aig_rows.specs.Lines.{Line, begun_by, line, lines_of}
 use Rattle.aig_lines.specs.Texts.{HasNoLineFeed}
 use Rattle.aig_lines.proofs.Tells.{lines_end}
@@ -11,10 +12,6 @@ use Rattle.aig_wave.specs.Frames.{is_stop, is_trace_line, whole_lines}
 use Rattle.aig_wave.specs.Layout.{Layout}
 use Rattle.aig_wave.specs.Parts.Cuts.{Cut, cut, cut_byte, cut_more}
 use Rattle.aig_wave.specs.Parts.Points.{Point, behind_line, line_piece}
-
-pub cut_twice : (c : Cut) (a b : List ℕ) → cut_more c (a ++ b) ≡ cut_more (cut_more c a) b
-cut_twice c [] b = refl
-cut_twice c (x ∷ xs) b = cut_twice (cut_byte c x) xs b
 
 at_byte : (c : Cut) (b : ℕ) → b ≢ 10 → cut_byte c b ≡ record { lines = c.lines; begun = c.begun ++ b ∷ [] }
 at_byte c b other = rw (ne_eqb b 10 other) refl
@@ -30,7 +27,7 @@ cut_piece c (b ∷ bs) none =
 pub cut_line : (c : Cut) (piece : List ℕ) → HasNoLineFeed piece
     → cut_more c (piece ++ 10 ∷ []) ≡ record { lines = c.lines ++ (c.begun ++ piece) ∷ []; begun = [] }
 cut_line c piece none =
-    cut_twice c piece (10 ∷ []) ∙ ap (λ (d : Cut). cut_byte d 10) (cut_piece c piece none)
+    fold-append cut_byte c piece (10 ∷ []) ∙ ap (λ (d : Cut). cut_byte d 10) (cut_piece c piece none)
 
 last_line : (b : ℕ) (bs : List ℕ) → HasNoLineFeed (b ∷ bs) → lines_of (b ∷ bs) ≡ line (b ∷ bs) false ∷ []
 unfolding lines_of

@@ -3,6 +3,7 @@ use Rattle.std.proofs.Common.{◌≡◌, ◌∙◌, ◌+◌, ℕ, List, [], ◌�
 use Rattle.std.proofs.Common.{if◌then◌else◌, refl, sym, ap, ap₂, subst, append_assoc, append-nil, ◌≤◌, inl, inr, arith}
 use Rattle.std.proofs.lemmas.Bool.{cases_Bool}
 use Rattle.std.proofs.lemmas.List.{take_all}
+use Rattle.std.proofs.lemmas.List.Sums.{fold-append}
 use Rattle.aig_io.specs.Output.{Out, Put}
 use Rattle.aig_io.proofs.Puts.{put_nothing, put_twice}
 use Rattle.aig_lines.specs.Keeping.{Keeping, keeping_more}
@@ -12,15 +13,11 @@ use Rattle.aig_wave.specs.Dumping.{Dumps, Waving}
 use Rattle.aig_wave.specs.Frames.{frames_of, is_trace_line, whole_lines}
 use Rattle.aig_wave.specs.Layout.{Layout}
 use Rattle.aig_wave.specs.Wave.{dump, time_text}
-use Rattle.aig_wave.specs.Parts.Cuts.{Cut, cut}
+use Rattle.aig_wave.specs.Parts.Cuts.{Cut, cut, cut_byte}
 use Rattle.aig_wave.specs.Parts.Points.{Point, Taping, begin_of, behind_line, head_at, line_piece}
 use Rattle.aig_wave.specs.Parts.Taking.{TookEnded, line_kept}
-use Rattle.aig_wave.proofs.Cutting.{behind_kept, cut_line, cut_piece, cut_twice, piece_kept, whole_lines_are}
+use Rattle.aig_wave.proofs.Cutting.{behind_kept, cut_line, cut_piece, piece_kept, whole_lines_are}
 use Rattle.aig_wave.proofs.Framed.{after_lines, dump_done, dumped_line, framed}
-
-fold_push : {S X : Type 0} (f : S → X → S) (s : S) (xs : List X) (x : X) → fold f s (xs ++ x ∷ []) ≡ f (fold f s xs) x
-fold_push f s [] x = refl
-fold_push f s (y ∷ ys) x = fold_push f (f s y) ys x
 
 abbrev start : Cut
 start = record { lines = []; begun = [] }
@@ -51,7 +48,7 @@ module _ {W : Type 0} (w : Layout) (o : Out W) where
       let l = c.begun ++ last in
       let p = point_of c.lines in
       let cuts : cut (text ++ (last ++ 10 ∷ [])) ≡ record { lines = c.lines ++ l ∷ []; begun = [] } =
-      cut_twice start text (last ++ 10 ∷ []) ∙ cut_line c last none in
+      fold-append cut_byte start text (last ++ 10 ∷ []) ∙ cut_line c last none in
       let kept : line_kept a last ≡ take (w.width + 2) l =
       ap (λ (k : Keeping). take k.room (k.bytes ++ last)) d.kept ∙ kept_twice (w.width + 2) c.begun last in
       let piece : line_piece a.tape.layout a.tape.point (line_kept a last) ≡ line_piece w p l =
@@ -64,7 +61,7 @@ module _ {W : Type 0} (w : Layout) (o : Out W) where
         tape = took.tape
             ∙ ap₂ (λ (t : Taping) (line : List ℕ). record t { point = behind_line t.layout t.point line }) d.tape kept
             ∙ ap (λ (q : Point). record { layout = w; point = q })
-            (behind_kept w p l ∙ sym (fold_push (behind_line w) (begin_of w) c.lines l)
+            (behind_kept w p l ∙ sym (fold-append (behind_line w) (begin_of w) c.lines (l ∷ []))
             ∙ ap (λ (x : Cut). point_of x.lines) (sym cuts));
         kept = took.kept ∙ ap (λ (k : Keeping). record k { bytes = [] }) d.kept
             ∙ ap (λ (bytes : List ℕ). record { bytes = bytes; room = w.width + 2 })
@@ -78,7 +75,7 @@ module _ {W : Type 0} (w : Layout) (o : Out W) where
   dumps_rest a b text rest d none is =
       let c = cut text in
       let cuts : cut (text ++ rest) ≡ record { lines = c.lines; begun = c.begun ++ rest } =
-      cut_twice start text rest ∙ cut_piece c rest none in
+      fold-append cut_byte start text rest ∙ cut_piece c rest none in
       let same : whole_lines text ≡ whole_lines (text ++ rest) =
       whole_lines_are text ∙ sym (whole_lines_are (text ++ rest) ∙ ap (λ (x : Cut). x.lines) cuts) in
       rw is (record {

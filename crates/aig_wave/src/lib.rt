@@ -7,6 +7,7 @@
 
 mod digit;
 mod head;
+pub mod laws;
 mod layout;
 mod name;
 mod place;
