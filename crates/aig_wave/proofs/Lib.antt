@@ -6,3 +6,4 @@ pub mod Waved
 pub mod Plain
 pub mod Alike
 pub mod Distinct
+pub mod Standing

@@ -1,8 +1,7 @@
 -- A trace text, piece by piece.
-use Rattle.std.proofs.Common.{◌≡◌, ◌∙◌, ◌+◌, ℕ, List, [], ◌∷◌, ◌++◌, Bool, true, false, filter, fold, length, take}
+use Rattle.std.proofs.Common.{◌≡◌, ◌∙◌, ◌+◌, ℕ, List, [], ◌∷◌, ◌++◌, Bool, true, false, filter, fold, take}
 use Rattle.std.proofs.Common.{if◌then◌else◌, refl, sym, ap, ap₂, subst, append_assoc, append-nil, ◌≤◌, inl, inr, arith}
 use Rattle.std.proofs.lemmas.Bool.{cases_Bool}
-use Rattle.std.proofs.lemmas.List.{take_all}
 use Rattle.std.proofs.lemmas.List.Sums.{fold-append}
 use Rattle.aig_io.specs.Output.{Out, Put}
 use Rattle.aig_io.proofs.Puts.{put_nothing, put_twice}
@@ -96,18 +95,13 @@ module _ {W : Type 0} (w : Layout) (o : Out W) where
   }
 
   -- what is put without more of the text
-  dumps_still : (a b : Waving W) (text : List ℕ) → Dumps w o a text → b.tape ≡ a.tape → b.kept ≡ a.kept
+  pub dumps_still : (a b : Waving W) (text : List ℕ) → Dumps w o a text → b.tape ≡ a.tape → b.kept ≡ a.kept
       → Put a.output b.output [] → Dumps w o b text
   dumps_still a b text d tape kept put = record {
     tape = tape ∙ d.tape;
     kept = kept ∙ d.kept;
     put = subst (Put o b.output) (append-nil _) (put_twice _ _ _ _ _ d.put put);
   }
-
-  pub dumps_sent : (a b : Waving W) (text bytes : List ℕ) → Dumps w o a (text ++ bytes) → b.tape ≡ a.tape
-      → b.kept ≡ a.kept → Put a.output b.output [] → Dumps w o b (text ++ take (length bytes) bytes)
-  dumps_sent a b text bytes d tape kept put =
-      rw (take_all (length bytes) bytes (omega arith)) (dumps_still a b (text ++ bytes) d tape kept put)
 
   -- what is put at the end
   abbrev pub ending : Bool → Taping → List ℕ

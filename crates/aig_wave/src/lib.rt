@@ -14,5 +14,6 @@ mod place;
 mod signal;
 mod tape;
 mod wave;
+mod waver;
 
 pub use crate::wave::WaveSink;

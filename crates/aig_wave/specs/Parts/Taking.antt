@@ -13,4 +13,3 @@ pub record TookEnded {W : Type 0} (a b : Waving W) (last : List ℕ) : Type 0 wh
   pub tape : b.tape ≡ record a.tape { point = behind_line a.tape.layout a.tape.point (line_kept a last) }
   pub kept : b.kept ≡ record a.kept { bytes = [] }
   pub put : Put a.output b.output (line_piece a.tape.layout a.tape.point (line_kept a last))
-  pub past : b.past ≡ a.past

@@ -1,13 +1,12 @@
-use Rattle.std.proofs.Common.{◌≡◌, ◌+◌, ◌≤◌, ℕ, List, ◌++◌, length}
+use Rattle.std.proofs.Common.{◌+◌, ◌≤◌, ℕ, List, ◌++◌, length}
 use Rattle.aig_io.specs.Output.{Out}
 use Rattle.aig_wave.specs.Dumping.{Dumps}
 use Rattle.aig_wave.specs.Layout.{Layout}
 use Rattle.aig_wave.proofs.Waved.{IsOnItsWay}
-use Rattle.aig_wave.proofs.wave.WaveSink.take_bytes.Given as goal
+use Rattle.aig_wave.proofs.waver.Waver.take_bytes.Given as goal
 
 abbrev pub invariant-loop-at : goal.invariant-loop-at
 invariant-loop-at g l = record {
-  past : l.self.past ≡ l.fn.self.past;
   time : l.self.tape.point.time + length l.rest ≤ l.fn.self.tape.point.time + length l.bytes;
   way : (w : Layout) (o : Out _) (text : List ℕ) → Dumps w o l.fn.self text
       → IsOnItsWay w o l.self l.rest (text ++ l.bytes);

@@ -2,7 +2,7 @@ use Rattle.std.proofs.Common.{◌≡◌, ◌∙◌, ◌+◌, ℕ, [], ap}
 use Rattle.aig_wave.specs.Layout.{Layout, layout_of}
 use Rattle.aig_wave.specs.Parts.Points.{begin_of}
 use Rattle.aig_wave.proofs.Waved.{dumps_nothing}
-use Rattle.aig_wave.proofs.wave.WaveSink.new.Goals as goal
+use Rattle.aig_wave.proofs.waver.Waver.new.Goals as goal
 
 pub returns-clause-begun : goal.returns-clause-begun
 returns-clause-begun g c =
