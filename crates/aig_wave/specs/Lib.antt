@@ -7,5 +7,6 @@ pub mod Frames
 pub mod Wave
 pub mod Dumping
 pub mod Standing
+pub mod Fresh
 pub mod Laws
 pub mod Parts
