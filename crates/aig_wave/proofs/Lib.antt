@@ -7,3 +7,4 @@ pub mod Plain
 pub mod Alike
 pub mod Distinct
 pub mod Standing
+pub mod Growing

@@ -1,5 +1,5 @@
 -- What the definitions of a dump say of one another.
-use Rattle.std.specs.Prelude.{◌≡◌, ◌≢◌, ◌==◌, ◌&&◌, ◌||◌, ℕ, List, [], ◌∷◌, Bool, IsTrue, length, map, nat_le}
+use Rattle.std.specs.Prelude.{◌≡◌, ◌≢◌, ◌==◌, ◌&&◌, ◌||◌, ◌++◌, ℕ, List, [], ◌∷◌, Bool, false, IsTrue, length, map, nat_le}
 use Rattle.std.specs.List.{AllByRecursion, list_all}
 use Rattle.aig_circuit.specs.declared.circuit.Circuit.{Circuit}
 use Rattle.aig_circuit.specs.declared.circuit.Latch.{Latch}
@@ -40,3 +40,8 @@ pub record ShowTheSame (c d : Circuit) : Type 0 where
 abbrev pub SameShownSameWave : Type 0
 SameShownSameWave = (c d : Circuit) → ShowTheSame c d → (text : List ℕ) (done : Bool)
     → wave_text d text done ≡ wave_text c text done
+
+-- the dump of a beginning of a trace text is a beginning of its dump
+abbrev pub WaveGrows : Type 0
+WaveGrows = (c : Circuit) (text more : List ℕ) (done : Bool)
+    → (behind : List ℕ) × (wave_text c (text ++ more) done ≡ wave_text c text false ++ behind)

@@ -1,5 +1,5 @@
 //! Laws: facts about the definitions alone, each the contract of a function with an empty body.
-ghost use Rattle.aig_wave.specs.Laws.{CodesAreDistinct, HeadIsPlain, SameShownSameWave};
+ghost use Rattle.aig_wave.specs.Laws.{CodesAreDistinct, HeadIsPlain, SameShownSameWave, WaveGrows};
 
 /// The head of a dump is plain text, whatever the names are.
 pub fn head_is_plain()
@@ -14,4 +14,9 @@ pub fn codes_are_distinct()
 /// Circuits that show the same have the same dumps.
 pub fn same_shown_same_wave()
     ensures { SameShownSameWave }
+{}
+
+/// The dump of a beginning of a trace text is a beginning of its dump.
+pub fn wave_grows()
+    ensures { WaveGrows }
 {}
