@@ -4,15 +4,13 @@ ghost use Rattle.aig_io.specs.Devices.{CanFail, Origin, after_send, block_size, 
 ghost use Rattle.aig_io.specs.Output.{Put, output_to};
 ghost use Rattle.aig_wave.specs.declared.waver.TheConstants.{LAST};
 ghost use Rattle.aig_wave.specs.Frames.{frames_of};
-ghost use Rattle.aig_wave.specs.Layout.{Layout as LayoutRecord, layout_of};
+ghost use Rattle.aig_wave.specs.Layout.{Layout as LayoutRecord};
 ghost use Rattle.aig_wave.specs.Standing.{fresh_at, wave_origin};
 ghost use Rattle.aig_wave.specs.Wave.{dump};
 
+use crate::room::WaveRoom;
 use crate::waver::Waver;
-use aig_checked::Checked;
-use aig_circuit::OutOfMemory;
 use aig_io::{DeviceFault, Record, Sink};
-use std::alloc::Global;
 use std::marker::Model;
 
 /// Takes the trace text of a circuit with the columns of its properties, and sends the dump of it on, frame by frame.
@@ -44,18 +42,17 @@ impl<'a, W: Sink> Model for WaveSink<'a, W> {
 }
 
 impl<'a, W: Sink> WaveSink<'a, W> {
-    /// Nothing was taken yet. All memory that it needs is taken here.
-    pub fn new(alloc: Global, checked: &Checked, sink: &'a mut W) -> Result<Self, OutOfMemory>
+    /// Nothing was taken yet.
+    pub fn new(room: WaveRoom, sink: &'a mut W) -> Self
         requires countable { CanFail (W.past sink.old) }
         requires fresh { W.past sink.old ≡ unused (W.past sink.old).origin }
-        ensures { IfOk result (λ s. s.past
-            ≡ unused (wave_origin (layout_of checked.now) sink.entry.ghost_name (W.past sink.old).origin)) }
+        ensures { result.past ≡ unused (wave_origin room sink.entry.ghost_name (W.past sink.old).origin) }
     {
-        Ok(WaveSink {
-            waver: Waver::new(alloc, checked, sink)?,
+        WaveSink {
+            waver: Waver::new(room, sink),
             failures: 0,
             log: Record::new(),
-        })
+        }
     }
 
     /// Ends the dump, with the time at which the last frame ends where the trace is done, and hands the sink back. Ok

@@ -6,18 +6,15 @@ ghost use Rattle.aig_io.specs.Output.{Out, Put, output_to};
 ghost use Rattle.aig_wave.specs.declared.waver.TheConstants.{LAST};
 ghost use Rattle.aig_wave.specs.Dumping.{Dumps};
 ghost use Rattle.aig_wave.specs.Frames.{frames_of};
-ghost use Rattle.aig_wave.specs.Layout.{Layout as LayoutRecord, layout_of};
+ghost use Rattle.aig_wave.specs.Layout.{Layout as LayoutRecord};
 ghost use Rattle.aig_wave.specs.Wave.{dump};
 ghost use Rattle.aig_wave.specs.Parts.Taking.{TookEnded};
 
-use crate::layout::Layout;
+use crate::room::WaveRoom;
 use crate::tape::Tape;
-use aig_checked::Checked;
-use aig_circuit::OutOfMemory;
 use aig_io::{DeviceFault, Output, ROOM, Sink};
 use aig_lines::PartialLine;
 use memchr::memchr;
-use std::alloc::Global;
 use std::marker::Model;
 
 /// The last time at which a block may still come.
@@ -45,24 +42,18 @@ impl<'a, W: Sink> Model for Waver<'a, W> {
 }
 
 impl<'a, W: Sink> Waver<'a, W> {
-    /// Nothing was taken yet. All memory that it needs is taken here.
-    pub(crate) fn new(
-        alloc: Global,
-        checked: &Checked,
-        sink: &'a mut W,
-    ) -> Result<Self, OutOfMemory>
+    /// Nothing was taken yet.
+    pub(crate) fn new(room: WaveRoom, sink: &'a mut W) -> Self
         requires { CanFail (W.past sink.old) }
-        ensures begun { IfOk result (λ s. Dumps (layout_of checked.now) (output_to W.past sink.entry [] false) s []) }
-        ensures output { IfOk result (λ s. s.output ≡ output_to W.past sink.entry [] false) }
+        ensures begun { Dumps room (output_to W.past sink.entry [] false) result [] }
+        ensures output { result.output ≡ output_to W.past sink.entry [] false }
     {
-        let layout = Layout::new(alloc, checked.circuit())?;
-        let kept = PartialLine::new(alloc, layout.width() + 2)?;
-        let tape = Tape::new(alloc, layout)?;
-        Ok(Waver {
+        let (tape, kept) = room.into_parts();
+        Waver {
             tape,
             kept,
             output: Output::new(sink),
-        })
+        }
     }
 
     /// Takes the rest of a line, which has ended.
