@@ -1,0 +1,48 @@
+-- What the definitions of a dump say of one another.
+use Rattle.std.specs.Prelude.{◌≡◌, ◌≢◌, ◌==◌, ◌&&◌, ◌||◌, ◌++◌, ℕ, List, [], ◌∷◌}
+use Rattle.std.specs.Prelude.{Bool, false, IsTrue, length, map, nat_le}
+use Rattle.std.specs.List.{AllByRecursion, list_all}
+use Rattle.aig_circuit.specs.declared.circuit.Circuit.{Circuit}
+use Rattle.aig_circuit.specs.declared.circuit.Latch.{Latch}
+use Rattle.aig_circuit.specs.Wellformed.{IsWithinLimits}
+use Rattle.aig_wave.specs.declared.signal.Signal.{Signal}
+use Rattle.aig_wave.specs.Head.{code, head}
+use Rattle.aig_wave.specs.Layout.{layout_of}
+use Rattle.aig_wave.specs.Wave.{wave_text}
+
+-- a visible character of ASCII, a space or a line feed
+abbrev pub is_plain : ℕ → Bool
+is_plain b = (b == 10) || (nat_le 32 b && nat_le b 126)
+
+-- the head is plain text, whatever the names are
+abbrev pub HeadIsPlain : Type 0
+HeadIsPlain = (c : Circuit) → IsTrue (list_all is_plain (head c))
+
+-- no two of the signals have one identifier code
+abbrev pub HaveDistinctCodes : List Signal → Type 0
+HaveDistinctCodes [] = Unit {0}
+HaveDistinctCodes (s ∷ ss) = AllByRecursion (λ (t : Signal). code s ≢ code t) ss × HaveDistinctCodes ss
+
+-- each signal of a circuit has a code of its own
+abbrev pub CodesAreDistinct : Type 0
+CodesAreDistinct = (c : Circuit) → IsWithinLimits c → HaveDistinctCodes (layout_of c).signals
+
+-- Two circuits show the same: they have the same symbols, as many of each kind that is shown, and latches that start
+-- alike. Gates, and which literals there are, are no part of it.
+pub record ShowTheSame (c d : Circuit) : Type 0 where
+  pub symbols : d.symbols ≡ c.symbols
+  pub inputs : length d.inputs ≡ length c.inputs
+  pub outputs : length d.outputs ≡ length c.outputs
+  pub bad : length d.bad ≡ length c.bad
+  pub constraints : length d.constraints ≡ length c.constraints
+  pub resets : map (λ (l : Latch). l.reset) d.latches ≡ map (λ (l : Latch). l.reset) c.latches
+
+-- circuits that show the same have the same dump of each trace text
+abbrev pub SameShownSameWave : Type 0
+SameShownSameWave = (c d : Circuit) → ShowTheSame c d → (text : List ℕ) (done : Bool)
+    → wave_text d text done ≡ wave_text c text done
+
+-- the dump of a beginning of a trace text is a beginning of its dump
+abbrev pub WaveGrows : Type 0
+WaveGrows = (c : Circuit) (text more : List ℕ) (done : Bool)
+    → (behind : List ℕ) × (wave_text c (text ++ more) done ≡ wave_text c text false ++ behind)

@@ -1,0 +1,12 @@
+pub mod Names
+pub mod Places
+pub mod Signals
+pub mod Head
+pub mod Layout
+pub mod Frames
+pub mod Wave
+pub mod Dumping
+pub mod Standing
+pub mod Fresh
+pub mod Laws
+pub mod Parts

@@ -1,0 +1,5 @@
+-- What only private functions cite: how parts of the work are described. What the crate promises stands in the other
+-- files.
+pub mod Points
+pub mod Cuts
+pub mod Taking

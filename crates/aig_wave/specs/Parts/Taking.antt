@@ -1,0 +1,15 @@
+-- What comes of the end of a line.
+use Rattle.std.specs.Prelude.{◌≡◌, ◌++◌, ℕ, List, [], take}
+use Rattle.aig_io.specs.Output.{Put}
+use Rattle.aig_wave.specs.Dumping.{Waving}
+use Rattle.aig_wave.specs.Parts.Points.{behind_line, line_piece}
+
+-- the line, as much as is kept of it, where these are its last bytes
+abbrev pub line_kept : {W : Type 0} → Waving W → List ℕ → List ℕ
+line_kept s last = take s.kept.room (s.kept.bytes ++ last)
+
+-- A line has ended, and was put.
+pub record TookEnded {W : Type 0} (a b : Waving W) (last : List ℕ) : Type 0 where
+  pub tape : b.tape ≡ record a.tape { point = behind_line a.tape.layout a.tape.point (line_kept a last) }
+  pub kept : b.kept ≡ record a.kept { bytes = [] }
+  pub put : Put a.output b.output (line_piece a.tape.layout a.tape.point (line_kept a last))

@@ -1,0 +1,22 @@
+//! Laws: facts about the definitions alone, each the contract of a function with an empty body.
+ghost use Rattle.aig_wave.specs.Laws.{CodesAreDistinct, HeadIsPlain, SameShownSameWave, WaveGrows};
+
+/// The head of a dump is plain text, whatever the names are.
+pub fn head_is_plain()
+    ensures { HeadIsPlain }
+{}
+
+/// Each signal of a circuit has an identifier code of its own.
+pub fn codes_are_distinct()
+    ensures { CodesAreDistinct }
+{}
+
+/// Circuits that show the same have the same dumps.
+pub fn same_shown_same_wave()
+    ensures { SameShownSameWave }
+{}
+
+/// The dump of a beginning of a trace text is a beginning of its dump.
+pub fn wave_grows()
+    ensures { WaveGrows }
+{}

@@ -1,0 +1,25 @@
+//! The waveform of a trace: a Value Change Dump, made of the lines of the trace as they come.
+//!
+//! Others call `WaveRoom`, which takes all memory; `WaveSink`, a sink for a trace text, which sends the dump of it on
+//! to a sink that nothing was sent to; and `FreshSink`, which makes one of any sink.
+//!
+//! The definitions that matter most are `frames`, `wave_text`, and `wave_origin` with `fresh_origin`, by which a past
+//! tells what it stands on.
+#![tactic(auto)]
+
+mod digit;
+mod fresh;
+mod head;
+pub mod laws;
+mod layout;
+mod name;
+mod place;
+mod room;
+mod signal;
+mod tape;
+mod wave;
+mod waver;
+
+pub use crate::fresh::FreshSink;
+pub use crate::room::WaveRoom;
+pub use crate::wave::WaveSink;
