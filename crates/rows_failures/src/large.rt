@@ -1,5 +1,5 @@
 //! Engines over large files, whose requests are made here. What comes is in the contracts; that memory suffices is not.
-ghost use Rattle.std.specs.Prelude.{◌≡◌, IfSome};
+ghost use Rattle.std.specs.Prelude.{◌≡◌, false, IfSome};
 
 use aig_core::{LARGEST, MemorySink, MemorySource};
 use aig_tools::{Sim, ToAig, Unroll, run_sim, run_toaig, run_unroll, run_witness};
@@ -26,7 +26,10 @@ const TO_AIG: ToAig = ToAig {
 };
 
 /// Those for a simulation, or for a witness to be judged.
-fn sim(witness: bool) -> Sim {
+fn sim(witness: bool) -> Sim
+    ensures asked { result.witness ≡ witness }
+    ensures alone { (result.batch ≡ false) × (result.properties ≡ false) }
+{
     Sim {
         batch: false,
         properties: false,
@@ -38,7 +41,9 @@ fn sim(witness: bool) -> Sim {
 }
 
 /// Those for an unrolling over so many frames.
-fn frames(frames: u32) -> Unroll {
+fn frames(frames: u32) -> Unroll
+    ensures { result.frames ≡ frames }
+{
     Unroll {
         frames,
         ascii: true,

@@ -1,0 +1,5 @@
+//! Tests of the dumps of traces.
+#![tactic(auto)]
+
+#[cfg(test)]
+mod cases;
