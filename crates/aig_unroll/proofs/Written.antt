@@ -1,7 +1,9 @@
 -- The text of an unrolled circuit, frame by frame.
 use Rattle.std.proofs.Common.{◌≡◌, ◌+◌, ◌*◌, ◌<◌, ℕ, List, ◌++◌, ap, arith, subst, sym, ◌∙◌, rules}
-use Rattle.std.proofs.Common.{append-nil, append_assoc, length}
+use Rattle.std.proofs.Common.{append-nil, append_assoc, drop, length, take}
 use Rattle.std.specs.List.{All, flat_map, range_with_len}
+use Rattle.std.proofs.Math.Seq.{take-add}
+use Rattle.std.proofs.lemmas.List.{take-append-drop}
 use Rattle.std.proofs.lemmas.List.Concat.{flat_map-append}
 use Rattle.std.proofs.lemmas.List.FromFn.{length-range_with_len}
 use Rattle.aig_circuit.specs.declared.circuit.Circuit.{Circuit}
@@ -38,6 +40,19 @@ module _ {W : Type 0} where
       (sym (ap (flat_map text) (one_row_more items t) ∙ flat_map-append text before (items t)))
       (put_twice a b c (flat_map text before) (flat_map text (items t)) p
       (subst (λ (xs : List X). Put b c (flat_map text xs)) (ap (λ (k : Frame). f k.circuit k.frames t) kept) q))
+
+  -- the texts of some items, and those of the next ones
+  pub piece_more : {X : Type 0} (text : X → List ℕ) (xs : List X) (at count : ℕ) (a b c : Out W)
+      → Put a b (flat_map text (take at xs)) → Put b c (flat_map text (take count (drop at xs)))
+      → Put a c (flat_map text (take (at + count) xs))
+  piece_more text xs at count a b c p q = search (rules, take-add, flat_map-append, put_twice)
+
+  -- the texts of the first items, and those of all others
+  pub rest_more : {X : Type 0} (text : X → List ℕ) (xs : List X) (at : ℕ) (a b c : Out W)
+      → Put a b (flat_map text (take at xs)) → Put b c (flat_map text (drop at xs)) → Put a c (flat_map text xs)
+  rest_more text xs at a b c p q =
+      subst (λ t. Put a c t) (sym (flat_map-append text (take at xs) (drop at xs))
+      ∙ ap (flat_map text) (take-append-drop at xs)) (put_twice a b c _ _ p q)
 
   -- the texts of so many variables, and that of the next one
   pub variable_more : (text : ℕ → List ℕ) (first n : ℕ) (a b c : Out W)

@@ -1,5 +1,5 @@
 //! A circuit frame by frame, as it is unrolled.
-ghost use Rattle.std.specs.Prelude.{◌≡◌, ◌+◌, ◌-◌, ◌<◌, ◌≤◌, ◌∷◌, drop, length, map, IfOk};
+ghost use Rattle.std.specs.Prelude.{◌≡◌, ◌+◌, ◌-◌, ◌<◌, ◌≤◌, ◌∷◌, drop, length, map, take, IfOk};
 ghost use Rattle.std.specs.List.{All};
 ghost use Rattle.aig_circuit.specs.declared.circuit.Latch.{Latch as LatchRecord};
 ghost use Rattle.aig_circuit.specs.declared.circuit.TheConstants.{LARGEST};
@@ -9,7 +9,7 @@ ghost use Rattle.aig_circuit.specs.Wellformed.{IsWellFormed};
 ghost use Rattle.aig_binary.specs.BinaryText.{HasDeltas};
 ghost use Rattle.aig_unroll.specs.Unrolled.{IsTooLarge, all_inputs, bad_at, chain_at, first_latches, frame_size};
 ghost use Rattle.aig_unroll.specs.Unrolled.{gates_at, outputs_at, resets_of, uninitialised};
-ghost use Rattle.aig_unroll.specs.Parts.Frames.{gates_by, table};
+ghost use Rattle.aig_unroll.specs.Parts.Frames.{behind_by, table};
 ghost use Rattle.aig_unroll.specs.Parts.Standing.{GateHasRoom, HasRoom, stood};
 
 use crate::standing::{
@@ -130,37 +130,29 @@ fn change_standing(first_input: u32, next: &[Lit], standing: &mut [Lit])
     standing[1 + inputs..].copy_from_slice(next);
 }
 
-/// Puts the gates of a circuit by what stands for their operands, the chain of its constraints behind this one, and the
-/// gates of its bad states. They have the variables from this one on.
-fn put_parts(standing: &[Lit], first: u32, chain: Lit, circuit: &Circuit, out: &mut [Gate])
-    requires room { length out.old ≡ frame_size circuit.now }
-    requires gates { All (GateHasRoom (length standing.now) first) circuit.now.gates }
+/// Puts the chain of a circuit's constraints behind this one, and the gates of its bad states, by what stands for their
+/// literals where the circuit's gates have the variables from this one on.
+fn put_behind(standing: &[Lit], first: u32, chain: Lit, circuit: &Circuit, out: &mut [Gate])
+    requires room { length out.old ≡ length circuit.now.constraints + length circuit.now.bad }
     requires constraints { All (HasRoom (length standing.now) first) circuit.now.constraints }
     requires bad { All (HasRoom (length standing.now) first) circuit.now.bad }
     requires small { first + frame_size circuit.now ≤ LARGEST + 1 }
-    ensures { out.new ≡ gates_by (stood standing.now first) first chain circuit.now }
+    ensures { out.new ≡ behind_by (stood standing.now first) first chain circuit.now }
 {
     let constraints = circuit.constraints.as_slice();
     let bad = circuit.bad.as_slice();
-    let copies = circuit.gates.len();
-    let guards = copies + constraints.len();
-    let second = first + copies as u32;
-    let third = first + guards as u32;
-    put_copies(
-        standing,
-        first,
-        circuit.gates.as_slice(),
-        &mut out[..copies],
-    );
+    let count = constraints.len();
+    let second = first + circuit.gates.len() as u32;
+    let third = second + count as u32;
     let behind = put_chain(
         standing,
         first,
         second,
         chain,
         constraints,
-        &mut out[copies..guards],
+        &mut out[..count],
     );
-    put_guards(standing, first, third, behind, bad, &mut out[guards..]);
+    put_guards(standing, first, third, behind, bad, &mut out[count..]);
 }
 
 impl Frames {
@@ -259,14 +251,39 @@ impl Frames {
         put_numbered(self.first_gate + before as u32, out);
     }
 
-    /// Puts the gates of the frame.
-    pub(crate) fn put_gates(&self, out: &mut [Gate])
-        requires { length out.old ≡ frame_size self.now.circuit }
-        ensures gates { out.new ≡ gates_at self.now.circuit self.now.frames self.now.frame }
+    /// Puts copies of the circuit's gates in the frame, from the gate at this place on, as many as there is room for.
+    pub(crate) fn put_copies(&self, at: usize, out: &mut [Gate])
+        requires { at + length out.old ≤ length self.now.circuit.gates }
+        ensures gates { out.new
+            ≡ take (length out.old) (drop at (gates_at self.now.circuit self.now.frames self.now.frame)) }
         ensures deltas { All HasDeltas out.new }
     {
         let standing = self.standing.as_slice();
-        put_parts(standing, self.first_gate, self.chain(), &self.circuit, out);
+        let first = self.first_gate + at as u32;
+        let gates = &self.circuit.gates.as_slice()[at..at + out.len()];
+        put_copies(standing, self.first_gate, first, gates, out);
+    }
+
+    /// Puts the gates of constraints and of bad states in the frame, which are behind the copies.
+    fn put_behind(&self, out: &mut [Gate])
+        requires { length out.old ≡ length self.now.circuit.constraints + length self.now.circuit.bad }
+        ensures { out.new ≡ drop (length self.now.circuit.gates)
+            (gates_at self.now.circuit self.now.frames self.now.frame) }
+    {
+        let standing = self.standing.as_slice();
+        put_behind(standing, self.first_gate, self.chain(), &self.circuit, out);
+    }
+
+    /// Puts the gates of the frame, from the copy at this place on.
+    pub(crate) fn put_gates(&self, at: usize, out: &mut [Gate])
+        requires within { at ≤ length self.now.circuit.gates }
+        requires room { at + length out.old ≡ frame_size self.now.circuit }
+        ensures gates { out.new ≡ drop at (gates_at self.now.circuit self.now.frames self.now.frame) }
+        ensures deltas { All HasDeltas out.new }
+    {
+        let copies = self.circuit.gates.len() - at;
+        self.put_copies(at, &mut out[..copies]);
+        self.put_behind(&mut out[copies..]);
     }
 
     /// Goes back to frame 0.

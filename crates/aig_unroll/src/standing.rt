@@ -90,14 +90,20 @@ pub(crate) fn put_nexts(standing: &[Lit], first_gate: u32, latches: &[Latch], ou
     }
 }
 
-/// Puts the gates by what stands for their operands. They have the variables from the first gate's on.
-pub(crate) fn put_copies(standing: &[Lit], first_gate: u32, gates: &[Gate], out: &mut [Gate])
+/// Puts gates by what stands for their operands. They have the variables from this one on.
+pub(crate) fn put_copies(
+    standing: &[Lit],
+    first_gate: u32,
+    first: u32,
+    gates: &[Gate],
+    out: &mut [Gate],
+)
     requires room { length out.old ≡ length gates.now }
     requires below { All (GateHasRoom (length standing.now) first_gate) gates.now }
-    requires small { first_gate + length gates.now ≤ LARGEST + 1 }
-    ensures { out.new ≡ copied (stood standing.now first_gate) first_gate gates.now }
+    requires small { first + length gates.now ≤ LARGEST + 1 }
+    ensures { out.new ≡ copied (stood standing.now first_gate) first gates.now }
 {
-    let mut variable = first_gate;
+    let mut variable = first;
     for i in 0..gates.len() {
         let left = stands_for(standing, first_gate, gates[i].left);
         let right = stands_for(standing, first_gate, gates[i].right);

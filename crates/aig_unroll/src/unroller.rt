@@ -6,14 +6,16 @@ ghost use Rattle.aig_io.specs.Output.{Put};
 ghost use Rattle.aig_io.specs.Devices.{CanFail, took, TookBeginning};
 ghost use Rattle.aig_text.specs.AsciiText.{ascii_text};
 ghost use Rattle.aig_binary.specs.BinaryText.{binary_text};
-ghost use Rattle.aig_unroll.specs.Unrolled.{IsTooLarge, IsUnrolled, IsUnsupported, frame_size, unrolled};
+ghost use Rattle.aig_unroll.specs.Unrolled.{IsTooLarge, IsUnrolled, IsUnsupported, unrolled};
 ghost use Rattle.aig_unroll.specs.Outcome.{NotUnrolled};
+ghost use Rattle.aig_unroll.specs.Parts.Writing.{gate_room};
 
 use crate::fault::UnrollFault;
-use crate::frames::{Frames, gates_of_frame};
+use crate::frames::Frames;
 use crate::unrolling::check_supported;
 use crate::writing::{
     BadLines, GateDeltas, GateLines, OutputLines, header_numbers, put_inputs, put_section,
+    room_of_gates,
 };
 use aig_binary::BINARY_WORD;
 use aig_core::{Checked, Circuit, Gate, Lit, Ordered, OutOfMemory, Output, Sink, Var};
@@ -22,8 +24,8 @@ use aig_text::{ASCII_WORD, WriteFault, put_header};
 use std::alloc::Global;
 use std::marker::Model;
 
-/// A circuit unrolled over so many frames, ready to be written. It holds the circuit and room for one frame, however
-/// many frames there are.
+/// A circuit unrolled over so many frames, ready to be written. It holds the circuit and room for the outputs, the bad
+/// states and some of the gates of one frame, however many frames there are.
 #[derive(Drop)]
 pub struct Unrolling {
     copies: Frames,
@@ -31,7 +33,7 @@ pub struct Unrolling {
     outputs: Vec<Lit>,
     /// Room for its bad states.
     bad: Vec<Lit>,
-    /// Room for its gates.
+    /// Room for a piece of its gates.
     gates: Vec<Gate>,
 }
 
@@ -47,7 +49,7 @@ impl Model for Unrolling {
     ghost invariant = { λ u. IsReady u.copies u.outputs.items u.bad.items u.gates.items };
 }
 
-/// Room for the outputs, the bad states and the gates of a frame.
+/// Room for the outputs and the bad states of a frame, and for a piece of its gates.
 fn make_room(
     alloc: Global,
     circuit: &Circuit,
@@ -55,7 +57,7 @@ fn make_room(
     requires { IsWellFormed circuit.now }
     ensures outputs { IfOk result (λ room. length room.0.items ≡ length circuit.now.outputs) }
     ensures bad { IfOk result (λ room. length room.1.items ≡ length circuit.now.bad) }
-    ensures gates { IfOk result (λ room. length room.2.items ≡ frame_size circuit.now) }
+    ensures gates { IfOk result (λ room. length room.2.items ≡ gate_room circuit.now) }
 {
     let no_gate = Gate {
         var: Var(0),
@@ -64,7 +66,7 @@ fn make_room(
     };
     let outputs = vec![in alloc; Lit(0); circuit.outputs.len()]?;
     let bad = vec![in alloc; Lit(0); circuit.bad.len()]?;
-    let gates = vec![in alloc; no_gate; gates_of_frame(circuit)]?;
+    let gates = vec![in alloc; no_gate; room_of_gates(circuit)]?;
     Ok((outputs, bad, gates))
 }
 
@@ -91,7 +93,7 @@ impl Unrolling {
     }
 
     /// The circuit unrolled over so many frames, as `unroll` makes it. All memory that is ever taken is taken here:
-    /// what the binary image takes, and room for one frame.
+    /// what the binary image takes, and room for what is written of one frame.
     ///
     /// A circuit with justice properties or fairness constraints is refused, and so is one whose unrolled circuit would
     /// be too large: both before any memory is taken.

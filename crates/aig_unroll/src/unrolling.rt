@@ -82,7 +82,7 @@ fn put_frame(
     let width = circuit.bad.len();
     copies.put_bad(&mut bad[frame * width..frame * width + width]);
     let width = copies.count_gates();
-    copies.put_gates(&mut gates[frame * width..frame * width + width]);
+    copies.put_gates(0, &mut gates[frame * width..frame * width + width]);
 }
 
 /// Puts the outputs, the bad states and the gates of all frames. The frames are dropped by name.

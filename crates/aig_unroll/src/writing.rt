@@ -1,15 +1,16 @@
 //! The text of an unrolled circuit, put frame by frame.
-ghost use Rattle.std.specs.Prelude.{◌≡◌, ◌+◌, ◌<◌, ◌≤◌, false, length};
+ghost use Rattle.std.specs.Prelude.{◌≡◌, ◌+◌, ◌<◌, ◌≤◌, drop, false, length, take};
 ghost use Rattle.std.specs.List.{flat_map, range_with_len};
 ghost use Rattle.aig_circuit.specs.declared.circuit.TheConstants.{LARGEST};
 ghost use Rattle.aig_io.specs.Output.{Put};
 ghost use Rattle.aig_text.specs.Sections.{header_row};
-ghost use Rattle.aig_unroll.specs.Unrolled.{unrolled};
-ghost use Rattle.aig_unroll.specs.Parts.Writing.{input_lines};
+ghost use Rattle.aig_circuit.specs.Wellformed.{IsWellFormed};
+ghost use Rattle.aig_unroll.specs.Unrolled.{frame_size, gates_at, unrolled};
+ghost use Rattle.aig_unroll.specs.Parts.Writing.{gate_room, input_lines};
 
 use crate::frames::Frames;
 use aig_binary::put_gates;
-use aig_core::{Gate, Lit, Output, Sink, Var};
+use aig_core::{Circuit, Gate, Lit, Output, Sink, Var};
 use aig_text::{HEADER_NUMBERS, NumberedLine, put_lines};
 
 /// The numbers of the unrolled circuit's header: the largest index, and the counts.
@@ -75,6 +76,105 @@ pub(crate) struct GateLines;
 /// The gates by their deltas.
 pub(crate) struct GateDeltas;
 
+/// The text of gates in one of the forms.
+trait GateText {
+    ghost use Rattle.std.specs.Prelude.{ℕ, List};
+    ghost use Rattle.std.specs.List.{All, flat_map};
+    ghost use Rattle.aig_circuit.specs.declared.circuit.Gate.{Gate as GateRecord};
+    ghost use Rattle.aig_binary.specs.BinaryText.{HasDeltas};
+    ghost use Rattle.aig_io.specs.Output.{Put};
+
+    /// The text of one.
+    ghost one: { GateRecord → List ℕ };
+
+    /// Puts the text of some.
+    fn put_some<W: Sink>(output: &mut Output<W>, gates: &[Gate])
+        requires { All HasDeltas gates.now }
+        ensures { Put output.old output.new (flat_map one gates.now) };
+}
+
+impl GateText for GateLines {
+    ghost use Rattle.aig_unroll.specs.Parts.Writing.{gate_line};
+
+    ghost one = { gate_line };
+
+    fn put_some<W: Sink>(output: &mut Output<W>, gates: &[Gate]) {
+        put_lines(output, gates);
+    }
+}
+
+impl GateText for GateDeltas {
+    ghost use Rattle.aig_binary.specs.BinaryText.{gate_text};
+
+    ghost one = { gate_text };
+
+    fn put_some<W: Sink>(output: &mut Output<W>, gates: &[Gate]) {
+        put_gates(output, gates);
+    }
+}
+
+/// How many gates are made at once, and more where a frame ends.
+const PIECE: usize = 256;
+
+/// How much room the gates of a frame take: that of a piece of the copies, and of what is behind them.
+pub(crate) fn room_of_gates(circuit: &Circuit) -> usize
+    requires { IsWellFormed circuit.now }
+    ensures { result ≡ gate_room circuit.now }
+{
+    PIECE + circuit.constraints.len() + circuit.bad.len()
+}
+
+/// Puts the text of copies of the circuit's gates in the frame, as many at once as there is room for, and leaves the
+/// last ones. The place where they begin.
+fn put_pieces<F: GateText, W: Sink>(
+    output: &mut Output<W>,
+    copies: &Frames,
+    room: &mut [Gate],
+) -> usize
+    requires { 1 ≤ length room.old }
+    ensures within { result ≤ length copies.now.circuit.gates }
+    ensures last { length copies.now.circuit.gates ≤ result + length room.old }
+    ensures room { length room.new ≡ length room.old }
+    ensures put { Put output.old output.new (flat_map F.one
+        (take result (gates_at copies.now.circuit copies.now.frames copies.now.frame))) }
+{
+    let gates = copies.circuit().gates.len();
+    let mut at = 0;
+    while room.len() < gates - at {
+        copies.put_copies(at, room);
+        F::put_some(output, room);
+        at += room.len();
+    }
+    at
+}
+
+/// Puts the text of the gates of the frame, from the copy at this place on.
+fn put_rest<F: GateText, W: Sink>(
+    output: &mut Output<W>,
+    copies: &Frames,
+    at: usize,
+    room: &mut [Gate],
+)
+    requires within { at ≤ length copies.now.circuit.gates }
+    requires room { frame_size copies.now.circuit ≤ at + length room.old }
+    ensures { Put output.old output.new
+        (flat_map F.one (drop at (gates_at copies.now.circuit copies.now.frames copies.now.frame))) }
+{
+    let count = copies.count_gates() - at;
+    copies.put_gates(at, &mut room[..count]);
+    F::put_some(output, &room[..count]);
+}
+
+/// Puts the text of the gates of the frame, what is behind the copies together with the last of these.
+fn put_frame_gates<F: GateText, W: Sink>(output: &mut Output<W>, copies: &Frames, room: &mut [Gate])
+    requires { length room.old ≡ gate_room copies.now.circuit }
+    ensures { Put output.old output.new
+        (flat_map F.one (gates_at copies.now.circuit copies.now.frames copies.now.frame)) }
+{
+    let at = put_pieces::<F, W>(output, copies, &mut room[..PIECE]);
+    put_rest::<F, W>(output, copies, at, room);
+}
+
 impl FrameSection for OutputLines {
     ghost use Rattle.std.specs.Prelude.{length};
     ghost use Rattle.aig_unroll.specs.Unrolled.{outputs_at};
@@ -114,38 +214,37 @@ impl FrameSection for BadLines {
 }
 
 impl FrameSection for GateLines {
-    ghost use Rattle.aig_unroll.specs.Unrolled.{frame_size, gates_at};
-    ghost use Rattle.aig_unroll.specs.Parts.Writing.{gate_line};
+    ghost use Rattle.aig_unroll.specs.Unrolled.{gates_at};
+    ghost use Rattle.aig_unroll.specs.Parts.Writing.{gate_line, gate_room};
 
     type Item = Gate;
 
-    ghost size = { frame_size };
+    ghost size = { gate_room };
 
     ghost at = { gates_at };
 
     ghost text = { gate_line };
 
     fn put<W: Sink>(output: &mut Output<W>, copies: &Frames, room: &mut [Gate]) {
-        copies.put_gates(room);
-        put_lines(output, room);
+        put_frame_gates::<GateLines, W>(output, copies, room);
     }
 }
 
 impl FrameSection for GateDeltas {
     ghost use Rattle.aig_binary.specs.BinaryText.{gate_text};
-    ghost use Rattle.aig_unroll.specs.Unrolled.{frame_size, gates_at};
+    ghost use Rattle.aig_unroll.specs.Unrolled.{gates_at};
+    ghost use Rattle.aig_unroll.specs.Parts.Writing.{gate_room};
 
     type Item = Gate;
 
-    ghost size = { frame_size };
+    ghost size = { gate_room };
 
     ghost at = { gates_at };
 
     ghost text = { gate_text };
 
     fn put<W: Sink>(output: &mut Output<W>, copies: &Frames, room: &mut [Gate]) {
-        copies.put_gates(room);
-        put_gates(output, room);
+        put_frame_gates::<GateDeltas, W>(output, copies, room);
     }
 }
 

@@ -6,7 +6,7 @@ use Rattle.aig_circuit.specs.declared.circuit.Circuit.{Circuit}
 use Rattle.aig_checked.specs.BinaryOrder.{IsInBinaryOrder}
 use Rattle.aig_circuit.specs.Literal.{literal_of}
 use Rattle.aig_circuit.specs.Wellformed.{IsWellFormed}
-use Rattle.aig_unroll.specs.Unrolled.{IsTooLarge, chain_behind, chained, copied, first_gate, first_input, guarded}
+use Rattle.aig_unroll.specs.Unrolled.{IsTooLarge, chain_behind, chained, first_gate, first_input, guarded}
 use Rattle.aig_unroll.specs.Unrolled.{latches_at}
 
 -- the circuit, over how many frames it is unrolled, and the frame that it is in
@@ -54,11 +54,10 @@ circuit_with inputs outputs bad gates = record {
   comment = None;
 }
 
--- the gates of a frame, where this stands for literals, its gates have the variables from this one on, and this is the
--- chain before it
-abbrev pub gates_by : (ℕ → ℕ) → ℕ → ℕ → Circuit → List Gate
-gates_by f first chain c =
-    copied f first c.gates
-    ++ (chained (first + length c.gates) chain (map f c.constraints)
+-- the gates of a frame behind those of the circuit, where this stands for literals, these have the variables from this
+-- one on, and this is the chain before the frame
+abbrev pub behind_by : (ℕ → ℕ) → ℕ → ℕ → Circuit → List Gate
+behind_by f first chain c =
+    chained (first + length c.gates) chain (map f c.constraints)
     ++ guarded (first + length c.gates + length c.constraints)
-    (chain_behind (first + length c.gates) chain c.constraints) (map f c.bad))
+    (chain_behind (first + length c.gates) chain c.constraints) (map f c.bad)

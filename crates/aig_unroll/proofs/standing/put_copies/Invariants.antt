@@ -6,7 +6,7 @@ use Rattle.aig_unroll.proofs.standing.put_copies.Given as goal
 abbrev pub invariant-loop-i : goal.invariant-loop-i
 invariant-loop-i l = record {
   written : take l.i l.out ++ copied (stood l.standing l.first_gate) l.variable (drop l.i l.gates)
-      ≡ copied (stood l.standing l.first_gate) l.first_gate l.gates;
+      ≡ copied (stood l.standing l.first_gate) l.first l.gates;
   room : length l.out ≡ length l.gates;
-  at : l.variable ≡ l.first_gate + l.i;
+  at : l.variable ≡ l.first + l.i;
 }

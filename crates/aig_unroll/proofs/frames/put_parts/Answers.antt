@@ -1,7 +1,0 @@
-use Rattle.std.proofs.Common.{length-append, rules}
-use Rattle.std.proofs.lemmas.List.{length-drop, length-take}
-use Rattle.aig_unroll.proofs.Placed.{three_put}
-use Rattle.aig_unroll.proofs.frames.put_parts.Goals as goal
-
-pub returns : goal.returns
-returns c = search (rules, length-take, length-drop, length-append, three_put)

@@ -1,0 +1,16 @@
+use Rattle.std.proofs.Common.{◌≡◌, ◌-◌, ◌++◌, List, drop, rules, subst, take}
+use Rattle.std.specs.List.{flat_map}
+use Rattle.std.proofs.lemmas.List.{length-take-le, take-append-le, take_all}
+use Rattle.aig_circuit.specs.declared.circuit.Gate.{Gate}
+use Rattle.aig_io.specs.Output.{Put}
+use Rattle.aig_unroll.specs.Unrolled.{gates_at}
+use Rattle.aig_unroll.proofs.writing.put_rest.Goals as goal
+
+pub returns : goal.returns
+returns g c =
+    let f = c.args.copies.now in
+    let count = c.count_gates.result - c.args.at in
+    let made : take count (c.put_gates.new.out ++ drop count c.args.room.now)
+    ≡ drop c.args.at (gates_at f.circuit f.frames f.frame) = search (rules, length-take-le, take-append-le, take_all) in
+    subst (λ (xs : List Gate). Put c.args.output.now c.put_some.new.output (flat_map g.F.GateText.one xs)) made
+    c.put_some.ensures
