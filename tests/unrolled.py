@@ -4,10 +4,11 @@
     tests/unrolled.py PROGRAM
 
 The circuits are those of images.py, with more latches, of which many have as next literal the latch before, their own negation, a
-constant or an input. Those with justice properties or fairness constraints must be refused. Of each other one the program must
-write the text of the circuit that is made here, literal by literal, over one to six frames: as ASCII and as binary, from the
-source and from its image. Simulated, that circuit must give in one step the outputs of all frames, and the bad states of all
-frames as far as the constraints have held, as they come from the source's own equations, frame after frame.
+constant or an input. A few have about as many gates as are written at once, with bad states and a constraint. Those with justice
+properties or fairness constraints must be refused. Of each other one the program must write the text of the circuit that is made
+here, literal by literal, over one to six frames: as ASCII and as binary, from the source and from its image. Simulated, that
+circuit must give in one step the outputs of all frames, and the bad states of all frames as far as the constraints have held, as
+they come from the source's own equations, frame after frame.
 """
 import concurrent.futures
 import dataclasses
@@ -21,6 +22,8 @@ import images
 import traces
 
 CIRCUITS = 500
+# how many gates the larger ones have: 256 are written at once
+MANY = [255, 256, 257, 511, 512, 513]
 REFUSED = 50
 FRAMES = 6
 STEPS = 4
@@ -37,6 +40,23 @@ def circuit(chance):
     """A circuit made by chance, with up to nine latches."""
     made = images.circuit(chance, most_latches=9)
     return dataclasses.replace(made, nexts=[next_literal(chance, made, place) for place in range(len(made.latches))])
+
+
+def with_gates(chance, made, count):
+    """The circuit with so many gates, two bad states and a constraint."""
+    used, gates = {*made.inputs, *made.latches, *(gate[0] // 2 for gate in made.gates)}, list(made.gates)
+    known, spare = [0, *(2 * it for it in used)], [it for it in range(1, count + len(used) + 1) if it not in used]
+    chance.shuffle(spare)
+
+    def literal():
+        return chance.choice(known) + chance.randrange(2)
+
+    for variable in spare[: count - len(gates)]:
+        gates.append((2 * variable, literal(), literal()))
+        known.append(2 * variable)
+    chance.shuffle(gates)
+    largest, bad = max(made.largest, *spare), [literal(), literal()]
+    return dataclasses.replace(made, largest=largest, gates=gates, bad=bad, constraints=[literal()])
 
 
 def without_liveness(chance, made):
@@ -175,6 +195,9 @@ def main(program):
                 asked.append(pool.submit(refused, program, number, made, frames))
                 made_refused += 1
             made = without_liveness(chance, made)
+            asked.append(pool.submit(judge, program, folder, number, made, frames, *lines_of_steps(chance, made, frames)))
+        for number, count in enumerate(MANY, CIRCUITS):
+            made, frames = without_liveness(chance, with_gates(chance, circuit(chance), count)), chance.randrange(1, FRAMES + 1)
             asked.append(pool.submit(judge, program, folder, number, made, frames, *lines_of_steps(chance, made, frames)))
         wrong = [said for said in (it.result() for it in asked) if said]
     if made_refused < REFUSED:
