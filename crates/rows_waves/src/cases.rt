@@ -359,6 +359,9 @@ xi1
 
 /// What is sent of the trace, where the stimulus comes in pieces of so many bytes.
 fn dump_of(alloc: Global, case: &Case, piece: usize) -> Option<Vec<u8>> {
+    if piece == 0 || case.stimulus.len() > 100 {
+        return None;
+    }
     let checked = read_ascii(alloc, case.model, Limits::default()).ok()?;
     let mut source = MemorySource::new(Vec::from_slice(alloc, case.stimulus).ok()?, piece, 0);
     let mut sink = MemorySink::new(alloc, 4096, 3, 0).ok()?;
@@ -379,20 +382,28 @@ fn is_right(dump: &[u8], case: &Case) -> bool {
     }
 }
 
-/// How many cases have their dump, whether the stimulus comes byte by byte, in pieces or at once.
-fn count_right(alloc: Global) -> usize {
-    let mut right = 0;
+/// Whether the case has its dump where its stimulus comes in such pieces.
+fn is_dumped(alloc: Global, case: &Case, piece: usize) -> bool {
+    match dump_of(alloc, case, piece) {
+        Some(dump) => is_right(&dump, case),
+        None => false,
+    }
+}
+
+/// The first case that has another dump, whether its stimulus comes byte by byte, in pieces or at once.
+fn first_wrong(alloc: Global) -> Option<&'static [u8]> {
     for case in &CASES {
-        for piece in [1, 5, 4096] {
-            if dump_of(alloc, case, piece).is_some_and(|dump| is_right(&dump, case)) {
-                right += 1;
-            }
+        if !is_dumped(alloc, case, 1)
+            || !is_dumped(alloc, case, 5)
+            || !is_dumped(alloc, case, 4096)
+        {
+            return Some(case.model);
         }
     }
-    right
+    None
 }
 
 #[test]
 fn dumps_are_right(rt: HostRuntime) {
-    assert!(rt; count_right(rt.alloc()) == 3 * CASES.len());
+    assert!(rt; first_wrong(rt.alloc()).is_none());
 }
