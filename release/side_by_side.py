@@ -7,6 +7,7 @@
 chain of crates that stand on one another. Here each crate has a call of its own, `rt ci CRATE`, once those that it
 stands on are proved: first those with the longest chains above them, which get two processors where no other crate
 waits for the second. The last call is `rt ci`: it finds all others kept, proves the program's own crate and links it.
+A kit before 13f takes no names of crates, and keeps nothing; there `rt ci` is the only call, and takes longer.
 Prints what these calls say, a crate at a time. Ends with the worst status, or with that of the last call.
 """
 
@@ -57,6 +58,10 @@ def tell(said, known):
             print(line, flush=True)
 
 
+class TakesNoNames(Exception):
+    """This kit's `rt ci` takes no names of crates."""
+
+
 def prove_libraries(rt):
     """Proves all crates but the program's own. Returns the worst status of these calls."""
     waiting = sorted(set(below) - {PROGRAM}, key=chain, reverse=True)
@@ -77,6 +82,8 @@ def prove_libraries(rt):
                 crate, share = running.pop(ended)
                 idle += share
                 status, said = ended.result()
+                if status == 2 and said.startswith("usage: rt "):
+                    raise TakesNoNames
                 if worst in (0, 1):
                     tell(said, proved)
                 if status == 0:
@@ -87,7 +94,10 @@ def prove_libraries(rt):
 def main():
     if len(sys.argv) != 2:
         sys.exit(__doc__)
-    status = prove_libraries(sys.argv[1])
+    try:
+        status = prove_libraries(sys.argv[1])
+    except TakesNoNames:
+        sys.exit(subprocess.run([sys.argv[1], "ci"], env=ENVIRONMENT, stdin=subprocess.DEVNULL).returncode)
     if status == 0:
         status, said = call(sys.argv[1], [], PROCESSORS)
         tell(said, set(below) - {PROGRAM})

@@ -26,6 +26,7 @@ stray=$(cat "$here/stray" 2> /dev/null)
 echo "$*" >> "$here/calls"
 [ -z "$2" ] || [ "$CI" != true ] || { echo 'rt: a call with a name is not the gate' >&2; exit 2; }
 [ "$stray" != stop ] || { echo 'rt: HANDLES is one line' >&2; echo '0 passed, 1 failed'; exit 2; }
+[ -z "$2" ] || [ "$stray" != older ] || { echo 'usage: rt new FOLDER'; exit 2; }
 if [ -z "$2" ]; then
     find . -type f | LC_ALL=C sort > "$here/copied"
     cp crates.txt "$here/lines"
@@ -39,7 +40,7 @@ for name in ${2:-low next aiger}; do
         until [ -e ../low_ended ]; do sleep 0.02; done
         sleep 0.1
     fi
-    if is_named kept || { [ -z "$2" ] && [ "$name" != aiger ]; }; then
+    if is_named kept || { [ -z "$2" ] && [ "$name" != aiger ] && [ "$stray" != older ]; }; then
         echo "rt: $name is kept: an earlier run on this machine proved the same files over the same libraries"
     elif is_named broken; then
         echo "== $name"
@@ -391,6 +392,10 @@ goes_wrong 'an rt that does not begin' stop \
 goes_wrong 'a program that does not run as it should' run "${proved#"$begins"}aiger:   rt: aiger: the program ended with status \
 1, and not 0\naiger:   rt: FAILED: aiger (run)\naiger:   2 passed, 1 failed\n$not_linked 1"
 goes_wrong 'an rt that links no program' 'no program' "${proved#"$begins"}aiger:   3 passed, 0 failed\n$not_linked 0"
+echo older > "$work/stray"
+wants "$small" "$proves" 0
+check 'an rt that takes no names' launch aigtoaig --ascii < "$work/small"
+rm -rf "$work/stray" "$out"
 wants '' 'aiger: cannot copy the sources to a temporary folder\n' 125
 check 'no folder for the copy' env TMPDIR="$work/none" RT="$work/rt" "$tree/prove"
 echo note > "$work/stray"
