@@ -50,7 +50,7 @@ scopes_alike c d kind a =
     ap₂ (λ (names : List (List ℕ)) (signals : List Signal). if length names == 0 then []
     else scope kind ++ (flat_map (var_text names) signals ++ codes "$upscope $end\n")) a.names (all_signals c d kind a)
 
-each_same : {X A : Type 0} (f g : X → List A) (xs : List X) → AllByRecursion (λ x. f x ≡ g x) xs
+pub each_same : {X A : Type 0} (f g : X → List A) (xs : List X) → AllByRecursion (λ x. f x ≡ g x) xs
     → flat_map f xs ≡ flat_map g xs
 each_same f g [] all = refl
 each_same f g (x ∷ xs) all = ap₂ (λ (a b : List _). a ++ b) all.0 (each_same f g xs all.1)

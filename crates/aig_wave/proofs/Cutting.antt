@@ -75,7 +75,7 @@ and_false : (a : Bool) → (a && false) ≡ false
 and_false true = refl
 and_false false = refl
 
-too_long_to_stop : (l : List ℕ) → 2 ≤ length l → is_stop l ≡ false
+pub too_long_to_stop : (l : List ℕ) → 2 ≤ length l → is_stop l ≡ false
 too_long_to_stop [] long = absurd (omega arith)
 too_long_to_stop (a ∷ []) long = absurd (omega arith)
 too_long_to_stop (a ∷ b ∷ bs) long = and_false (a == 46)

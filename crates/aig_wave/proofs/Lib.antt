@@ -8,3 +8,7 @@ pub mod Alike
 pub mod Distinct
 pub mod Standing
 pub mod Growing
+pub mod Tagged
+pub mod Decoding
+pub mod Columns
+pub mod Retold

@@ -1,10 +1,13 @@
 -- What the definitions of a dump say of one another.
 use Rattle.std.specs.Prelude.{◌≡◌, ◌≢◌, ◌==◌, ◌&&◌, ◌||◌, ◌++◌, ℕ, List, [], ◌∷◌}
-use Rattle.std.specs.Prelude.{Bool, false, IsTrue, length, map, nat_le}
+use Rattle.std.specs.Prelude.{Bool, None, false, true, IsTrue, length, map, nat_le}
 use Rattle.std.specs.List.{AllByRecursion, list_all}
 use Rattle.aig_circuit.specs.declared.circuit.Circuit.{Circuit}
 use Rattle.aig_circuit.specs.declared.circuit.Latch.{Latch}
 use Rattle.aig_circuit.specs.Wellformed.{IsWithinLimits}
+use Rattle.aig_step.specs.declared.trace.Columns.TheVariants.{Properties}
+use Rattle.aig_step.specs.Outcome.{first_bad_line}
+use Rattle.aig_step.specs.TraceText.{IsTraceText}
 use Rattle.aig_wave.specs.declared.signal.Signal.{Signal}
 use Rattle.aig_wave.specs.Head.{code, head}
 use Rattle.aig_wave.specs.Layout.{layout_of}
@@ -41,6 +44,14 @@ pub record ShowTheSame (c d : Circuit) : Type 0 where
 abbrev pub SameShownSameWave : Type 0
 SameShownSameWave = (c d : Circuit) → ShowTheSame c d → (text : List ℕ) (done : Bool)
     → wave_text d text done ≡ wave_text c text done
+
+-- A dump loses nothing. Where two stimuli have no bad line, and their trace texts with the properties have one dump,
+-- that is one trace text.
+abbrev pub DumpsLoseNothing : Type 0
+DumpsLoseNothing = (c : Circuit) → IsWithinLimits c → (stimulus other text other_text : List ℕ)
+    → IsTraceText c Properties stimulus true text → first_bad_line c stimulus true ≡ None
+    → IsTraceText c Properties other true other_text → first_bad_line c other true ≡ None
+    → wave_text c text true ≡ wave_text c other_text true → text ≡ other_text
 
 -- the dump of a beginning of a trace text is a beginning of its dump
 abbrev pub WaveGrows : Type 0

@@ -1,5 +1,5 @@
 //! Laws: facts about the definitions alone, each the contract of a function with an empty body.
-ghost use Rattle.aig_wave.specs.Laws.{CodesAreDistinct, HeadIsPlain, SameShownSameWave, WaveGrows};
+ghost use Rattle.aig_wave.specs.Laws.{CodesAreDistinct, DumpsLoseNothing, HeadIsPlain, SameShownSameWave, WaveGrows};
 
 /// The head of a dump is plain text, whatever the names are.
 pub fn head_is_plain()
@@ -19,4 +19,9 @@ pub fn same_shown_same_wave()
 /// The dump of a beginning of a trace text is a beginning of its dump.
 pub fn wave_grows()
     ensures { WaveGrows }
+{}
+
+/// A dump loses nothing: it is the dump of one trace text at most.
+pub fn dumps_lose_nothing()
+    ensures { DumpsLoseNothing }
 {}
