@@ -1,10 +1,12 @@
 //! A circuit in binary order that is kept to be run.
 ghost use Rattle.std.specs.Prelude.{◌≡◌, ◌+◌, ◌≤◌, length, IfOk};
+ghost use Rattle.aig_checked.specs.BinaryOrder.{IsInBinaryOrder};
+ghost use Rattle.aig_circuit.specs.Wellformed.{IsWellFormed};
 ghost use Rattle.aig_meaning.specs.Meaning.{MeansTheSame};
 ghost use Rattle.aig_step.specs.Parts.Machines.{CanRun, ShowsBelow, circuit_of, parts_of};
 
 use crate::evaluate::{Pair, pairs_of};
-use aig_checked::{Checked, Ordered};
+use aig_checked::{Checked, is_in_binary_order};
 use aig_circuit::{Circuit, Justice, Listing, OutOfMemory, Symbols};
 use aig_image::binary_image;
 use std::alloc::Global;
@@ -30,11 +32,17 @@ impl Model for Machine {
     ghost invariant = { λ m. CanRun m.parts m.pairs.items };
 }
 
-/// The circuit without its gates, and without what no row shows.
-fn into_parts(alloc: Global, circuit: Circuit) -> Circuit
-    ensures { result ≡ parts_of circuit }
+/// The sections of a circuit that rows show, in memory of their own.
+fn copy_parts(alloc: Global, circuit: &Circuit) -> Result<Circuit, OutOfMemory>
+    ensures { IfOk result (λ parts. parts ≡ parts_of circuit.now) }
 {
-    Circuit {
+    Ok(Circuit {
+        max_var: circuit.max_var,
+        inputs: circuit.inputs.copy(alloc)?,
+        latches: circuit.latches.copy(alloc)?,
+        outputs: circuit.outputs.copy(alloc)?,
+        bad: circuit.bad.copy(alloc)?,
+        constraints: circuit.constraints.copy(alloc)?,
         justice: Justice {
             sizes: Listing::new(alloc),
             literals: Listing::new(alloc),
@@ -43,34 +51,36 @@ fn into_parts(alloc: Global, circuit: Circuit) -> Circuit
         gates: Listing::new(alloc),
         symbols: Symbols::new(alloc),
         comment: None,
-        ..circuit
-    }
+    })
 }
 
 impl Machine {
-    /// What runs a circuit in binary order.
-    fn of_ordered(alloc: Global, ordered: Ordered) -> Result<Self, OutOfMemory>
-        ensures { IfOk result (λ m. MeansTheSame ordered m) }
+    /// What runs a circuit in binary order. Its gates are read where they stand.
+    fn of_ordered(alloc: Global, circuit: &Circuit) -> Result<Self, OutOfMemory>
+        requires formed { IsWellFormed circuit.now }
+        requires ordered { IsInBinaryOrder circuit.now }
+        ensures { IfOk result (λ m. MeansTheSame circuit.now m) }
     {
-        let circuit = ordered.into_checked().into_circuit();
+        let parts = copy_parts(alloc, circuit)?;
         let Ok(pairs) = pairs_of(alloc, circuit.gates.as_slice()) else {
-            drop(circuit);
+            drop(parts);
             return Err(OutOfMemory);
         };
-        Ok(Machine {
-            parts: into_parts(alloc, circuit),
-            pairs,
-        })
+        Ok(Machine { parts, pairs })
     }
 
-    /// What runs a circuit, by its binary image.
+    /// What runs a circuit: the circuit itself where it is in binary order, and else its binary image.
     pub fn new(alloc: Global, checked: &Checked) -> Result<Self, OutOfMemory>
         ensures { IfOk result (λ m. MeansTheSame checked.now m) }
     {
-        // That the circuit is well formed is known by this call.
-        let _circuit = checked.circuit();
+        let circuit = checked.circuit();
+        if is_in_binary_order(checked) {
+            return Machine::of_ordered(alloc, circuit);
+        }
         let image = binary_image(alloc, checked)?;
-        Machine::of_ordered(alloc, image)
+        let made = Machine::of_ordered(alloc, image.checked().circuit());
+        drop(image);
+        made
     }
 
     /// The circuit without its gates.

@@ -1,3 +1,4 @@
+use Rattle.std.proofs.Common.{◌≡◌, ◌∙◌}
 use Rattle.std.proofs.lemmas.Result.{IfOk-weaker}
 use Rattle.aig_circuit.specs.declared.circuit.Circuit.{Circuit}
 use Rattle.aig_meaning.specs.Meaning.{MeansTheSame}
@@ -8,10 +9,11 @@ use Rattle.aig_step.proofs.machine.Machine.new.Goals as goal
 -- what runs means the same as the image, and that the same as the circuit
 pub returns : goal.returns
 returns c =
-    IfOk-weaker c.of_ordered.result (λ (m : Circuit). MeansTheSame c.in_ok-image.image m)
+    let same : c.circuit.result.now ≡ c.in_ok-image.image = c.circuit.ensures.value ∙ c.checked.ensures.value in
+    IfOk-weaker c.of_ordered-made.result (λ (m : Circuit). MeansTheSame c.in_ok-image.image m)
     (λ (m : Circuit). MeansTheSame c.args.checked.now m)
-    (λ m same.
+    (λ m means.
     same_through c.args.checked.now c.in_ok-image.image m
     (image_means_the_same c.args.checked.now c.in_ok-image.image c.circuit-circuit.ensures.well_formed
-    c.in_ok-image.ensures) same)
-    c.of_ordered.ensures
+    c.in_ok-image.ensures) means)
+    (rw same at c.of_ordered-made.ensures)
