@@ -24,6 +24,7 @@ import refusals
 import small_rows as rows
 import soak
 import unrolled
+import waves
 import witnesses
 
 # of these each byte is changed to the first ten that it is not
@@ -101,8 +102,9 @@ class Judge:
         source, _, status = self.ask(undoing, text)
         if not status:
             self.expect("aigtoaig --strip", source, images.image(made))
-        for words in ("", "--batch --properties "):
-            self.expect(f"aigsim {words}- steps", text, *soak.wanted_trace(made, "steps", STEPS, words))
+        names = waves.names_of(end)
+        for words in ("", "--batch --properties ", "--vcd "):
+            self.expect(f"aigsim {words}- steps", text, *soak.wanted_trace(made, names, "steps", STEPS, words))
         self.expect("aigsim --witness - witness", text, *witnesses.wanted(made, "witness", WITNESS.decode()))
         if made.justice or made.fairness:
             self.expect(unrolling, text, b"", b"aiger: -: justice or fairness cannot be unrolled\n", 1)
@@ -113,8 +115,8 @@ class Judge:
         """Simulations of a model over the text of a stimulus."""
         self.runner.put("model", model)
         made, _ = soak.parsed(self.ask("aigtoaig --ascii", model)[0])
-        for words in ("", "--properties ", "--batch ", "--batch --properties "):
-            self.expect(f"aigsim {words}model", text, *soak.wanted_trace(made, "-", text, words))
+        for words in ("", "--properties ", "--vcd ", "--batch ", "--batch --properties ", "--batch --vcd "):
+            self.expect(f"aigsim {words}model", text, *soak.wanted_trace(made, {}, "-", text, words))
 
     def witness(self, text, model):
         """What is answered to the text of a witness."""

@@ -203,6 +203,7 @@ check 'a file larger than the 20 MB of memory' within 20480 "$program" aigtoaig 
 printf 'aag 3 2 0 1 1\n2\n4\n6\n6 2 4\n' > "$work/gate"
 printf 'aag 1 0 1 2 0\n2 3\n2\n3\n' > "$work/toggle"
 simulate() { "$program" aigsim "$work/gate"; }
+gate_dump() { "$program" aigsim --vcd "$work/gate"; }
 printf '11\n.\n0x\n' > "$work/steps"
 printf '11\n1\n' > "$work/late_bad"
 printf '1\n11\n' > "$work/early_bad"
@@ -210,6 +211,10 @@ printf '1\n11\n' > "$work/early_bad"
 wants '' 'aiger: -: cannot write\n' 1
 check 'a trace into a closed standard output' output_closed simulate < "$work/steps"
 check 'a trace into a full standard output' output_full simulate < "$work/steps"
+check 'a dump into a closed standard output' output_closed gate_dump < "$work/steps"
+check 'a dump into a full standard output' output_full gate_dump < "$work/steps"
+# the head at least is written where the trace is empty
+check 'the dump of nothing into a full standard output' output_full gate_dump < /dev/null
 # whose step came first, and could not be written
 check 'a trace and a bad line, a closed standard output' output_closed simulate < "$work/late_bad"
 check 'a trace and a bad line, a full standard output' output_full simulate < "$work/late_bad"
@@ -243,12 +248,13 @@ check 'the stimulus of words that are refused' unread aigsim --max-var x "$work/
 check 'standard input, where model and stimulus are named' unread aigsim "$work/gate" /dev/null < "$work/steps"
 
 # in_turn NAME MODEL SENT TRACE .. REST: sends each text to a simulation, and waits, ten seconds at most, for the trace behind it:
-# all of that comes before more is sent. Then the stimulus ends, and what comes is REST.
+# all of that comes before more is sent. Then the stimulus ends, and what comes is REST. An option may stand before MODEL.
 in_turn() {
-    local name=$1 model=$2 came= wanted= said count
+    local name=$1 words came= wanted= said count
+    read -ra words <<< "$2"
     shift 2
     : > "$work/err"
-    coproc simulation { exec "$program" aigsim "$model" 2> "$work/err"; }
+    coproc simulation { exec "$program" aigsim "${words[@]}" 2> "$work/err"; }
     local from=${simulation[0]} to=${simulation[1]} child=$simulation_PID answers questions
     exec {answers}<&"$from" {questions}>&"$to"
     eval "exec $from<&- $to>&-"
@@ -275,6 +281,12 @@ in_turn 'lines sent in pieces, and several at once' "$work/gate" '1' '' '1\n0' '
     '1' '' '1\r' '' '\n' ' 11 1 \n' '.\n'
 in_turn 'empty lines' "$work/toggle" '\n' '0  01 1\n' '\r\n' '1  10 0\n' '\n.\n' '0  01 1\n.\n' ''
 
+# of a dump the head comes with the first frame, and the last time when the stimulus ends
+gate_head=$(dump "$(scope inputs 'wire 1 i0 i0' 'wire 1 i1 i1')$(scope outputs 'wire 1 o0 o0')" '')
+in_turn 'each frame of a dump comes before more is sent' "--vcd $work/gate" '11\n' \
+    "$gate_head$(at 0 'b0 r' 1i0 1i1 1o0)" '0x\n11\n' "$(at 1 0i0 xi1 0o0)$(at 2 1i0 1i1 1o0)" \
+    '.\n' "$(at 3 zi0 zi1 zo0)" '1' '' '1\n' "$(at 4 'b1 r' 1i0 1i1 1o0)" "$(at 5 zi0 zi1 zo0)$(at 6)"
+
 wants ' 11 1 \n 0x 0 \n.\n' '' 0
 steps_in_pieces() { printf '1'; sleep 0.1; printf '1\n0'; sleep 0.1; printf 'x\r'; sleep 0.1; printf '\n'; }
 steps_in_pieces | simulate > "$work/out" 2> "$work/err"
@@ -292,6 +304,14 @@ in_little() { ( ulimit -v 20480 && exec timeout 300 "$program" aigsim "$@" "$wor
 wants '9090910 1 01x01x01x1 1 1\n1 .\n' '' 0
 many_steps | in_little 2> "$work/err" | uniq -c | sed 's/^ *//' > "$work/out"
 judge '100 MB of stimulus in 20 MB of memory' "${PIPESTATUS[1]}"
+# as many steps as do not fit into the memory: of all but the first the dump has the time alone
+wants '' '' 0
+many_steps | head -n 1 | in_little --vcd | awk -v steps=2000000 '
+    $0 == "#1" { for (time = 1; time < steps; time++) print "#" time }
+    /^#[12]$/ { $0 = "#" steps - 1 + substr($0, 2) }
+    { print }' > "$work/want_out"
+many_steps | head -n 2000000 | in_little --vcd > "$work/out" 2> "$work/err"
+judge 'the dump of 22 MB of stimulus in 20 MB of memory' "${PIPESTATUS[2]}"
 wants '' 'aiger: -: line 1: bad stimulus line\n' 1
 head -c 100000000 /dev/zero | tr '\0' 1 | in_little > "$work/out" 2> "$work/err"
 judge 'a line of 100 MB in 20 MB of memory' "${PIPESTATUS[2]}"

@@ -15,6 +15,7 @@ The last line is 'N passed, M failed', and counts runs.
 import collections
 import itertools
 import os
+import re
 import resource
 import sys
 
@@ -61,13 +62,22 @@ class Calls:
     def is_traced_line_by_line(self):
         return self.words[0] == "aigsim" and not {"--batch", "--witness"} & set(self.words)
 
+    def parts(self):
+        """The output by what a line of the trace adds to it: to a dump a frame, the head with the first. Its last time
+        comes behind all of these."""
+        if "--vcd" in self.words:
+            return re.split(rb"(?<=\n)(?=#[1-9])", self.row.output)
+        return self.row.output.splitlines(True)
+
     def sent(self, piece):
         """The writes of the row. A simulation sends the lines of all steps that have come before it reads again."""
-        counts, lines = [], self.row.output.splitlines(True)
+        counts, lines = [], self.parts()
         if self.is_traced_line_by_line():
             _, steps = self.read_in_order()[-1]
             size = piece or len(steps)
             counts = [steps[:end].count(b"\n") for end in range(size, len(steps) + size, size)]
+        # the last time of a dump is sent alone
+        counts += [len(lines) - 1] * ("--vcd" in self.words)
         texts = [b"".join(lines[first:last]) for first, last in itertools.pairwise([0, *counts, len(lines)])]
         size = piece or len(self.row.output)
         return [text[at : at + size] for text in texts for at in range(0, len(text), size)]
@@ -82,7 +92,7 @@ class Calls:
             number -= count
         before = text[: (number - 1) * piece] if piece else text if number > 1 else b""
         is_sent = self.is_traced_line_by_line() and name == self.read_in_order()[-1][0]
-        lines = self.row.output.splitlines(True)[: before.count(b"\n")] if is_sent else []
+        lines = self.parts()[: before.count(b"\n")] if is_sent else []
         return b"".join(lines), f"aiger: {name}: cannot read\n".encode(), 1
 
     def reads(self, piece, error):

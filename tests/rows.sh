@@ -47,8 +47,9 @@ finish() {
     exit
 }
 
-# the rows of aigsim, of aigsim --witness, and of aigunroll
+# the rows of aigsim, of aigsim --vcd, of aigsim --witness, and of aigunroll
 . "$top/tests/trace_rows.sh"
+. "$top/tests/wave_rows.sh"
 . "$top/tests/witness_rows.sh"
 . "$top/tests/unroll_rows.sh"
 
@@ -113,6 +114,7 @@ rows() {
     rows_blocks
     rows_forged
     rows_traces
+    rows_waves
     rows_witnesses
     rows_unrolled
     rows_words

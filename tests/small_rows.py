@@ -38,6 +38,24 @@ EVERY_NAMES = b"b1 a\nc0 b\nj0 c\nf0 d\no0 e\nl1 f\ni0 g\nc\n"
 EVERY_IMAGE = b"aig 4 1 2 1 1 2 1 2 1\n3 1\n4 6\n8\n6\n7\n9\n2\n1\n3\n4\n8\n5\n\x02\x03"
 EVERY_MAPPED = EVERY_IMAGE + EVERY_NAMES + b"aigmap 1 9 1 2 1 1\n9\n2\n7\n3 0 1\naigmap end\nx"
 
+DUMP = b"$version aiger $end\n$timescale 1 ns $end\n$scope module aiger $end\n$var integer 64 r run $end\n"
+TOGGLE_DUMP = (
+    DUMP + b"$scope module latches $end\n$var reg 1 l0 l0 $end\n$upscope $end\n"
+    b"$scope module outputs $end\n$var wire 1 o0 o0 $end\n$var wire 1 o1 o1 $end\n$upscope $end\n"
+    b"$upscope $end\n$enddefinitions $end\n"
+    b"#0\nb0 r\n0l0\n0o0\n1o1\n#1\n1l0\n1o0\n0o1\n#2\n0l0\n0o0\n1o1\n#3\n1l0\nzo0\nzo1\n#4\n"
+)
+EVERY_DUMP = (
+    DUMP + b"$scope module inputs $end\n$var wire 1 i0 g $end\n$upscope $end\n"
+    b"$scope module latches $end\n$var reg 1 l0 l0 $end\n$var reg 1 l1 f $end\n$upscope $end\n"
+    b"$scope module outputs $end\n$var wire 1 o0 e $end\n$upscope $end\n"
+    b"$scope module bad $end\n$var wire 1 b0 b0 $end\n$var wire 1 b1 a $end\n$upscope $end\n"
+    b"$scope module constraints $end\n$var wire 1 c0 b $end\n$upscope $end\n"
+    b"$upscope $end\n$enddefinitions $end\n"
+    b"#0\nb0 r\nzi0\n1l0\nxl1\nzo0\nzb0\nzb1\nzc0\n#1\nb1 r\n0i0\nxo0\nxb0\nxb1\nxc0\n"
+    b"#2\nzi0\n1l1\nzo0\nzb0\nzb1\nzc0\n#3\n"
+)
+
 
 @dataclasses.dataclass
 class Row:
@@ -65,6 +83,7 @@ ROWS = [
     Row("equal operands by their map", "aigtoaig --undo-map --ascii", EQUAL_MAPPED, EQUAL),
     *simulated("a toggle", "", TOGGLE, b"\n\n\n.\n", b"0  01 1\n1  10 0\n0  01 1\n.\n"),
     *simulated("a latch and a gate", "", HELD, b"1\n1\n", b"0 1 1 1\n1 1 0 0\n.\n"),
+    *simulated("the dump of a toggle", "--vcd", TOGGLE, b"\n\n\n.\n", TOGGLE_DUMP),
     Row("a latch and a gate, unrolled", "aigunroll --frames 2 --ascii", HELD, HELD_TWICE),
     Row("a latch and a gate, unrolled to binary", "aigunroll --frames 2", HELD, HELD_TWICE_IMAGE),
     Row("a latch and a gate to binary", "aigtoaig", HELD, HELD_IMAGE),
@@ -76,6 +95,7 @@ ROWS = [
     Row("every section by its map", "aigtoaig --undo-map --ascii", EVERY_MAPPED, EVERY + EVERY_NAMES + b"x"),
     *simulated("every section simulated", "--properties", EVERY, b"0\n1\n", b"1x 0 x 11 xx x\n11 1 0 01 10 1\n.\n"),
     *simulated("every section in a batch", "--batch --properties", EVERY_MAPPED, b".\n0\n", b".\n1x 0 x 11 xx x\n.\n"),
+    *simulated("the dump of every section, in a batch", "--batch --vcd", EVERY_MAPPED, b".\n0\n", EVERY_DUMP),
     *simulated("every section and a witness", "--witness", EVERY, b"1\nb1\n1x\n1\n0\n.\n", b"not confirmed\n"),
 ]
 

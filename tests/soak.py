@@ -42,6 +42,7 @@ import images
 import refusals
 import traces
 import unrolled
+import waves
 import witnesses
 
 AT_ONCE = 4
@@ -58,7 +59,7 @@ LIKELY = b"0123456789 \n\r\tcaigolbjfx.-\x00\x7f\x80\xff"
 LARGEST = 2**31 - 1
 LARGE = [0, 1, 7, 99, 1000, 65536, 100000, 2**31 - 2, 2**31 - 1, 2**31, 2**32, 2**32 + 1, 2**64 + 2, 10**30]
 WORDS = """aigtoaig aigtoaig aigsim aigsim aigunroll aigunroll --ascii --strip --keep-map --undo-map --max-var
-    --max-var=9 --max-var=2147483648 --frames --frames=2 --frames=0 --batch --properties --witness --help -h -- -
+    --max-var=9 --max-var=2147483648 --frames --frames=2 --frames=0 --batch --properties --vcd --witness --help -h -- -
     source source source out.aag out.aig out.gz 3 --unknown""".split() + [""]
 # what the arguments that refusals.py lists are refused for, in this order; and names of files that cannot be there
 REFUSED_WORDS = """aigtoaig --keep-map --ascii
@@ -67,6 +68,7 @@ aigtoaig --undo-map --keep-map
 aigsim - -
 aigunroll --frames 2 - out.aig.gz
 aigsim --witness --batch model
+aigsim --vcd --properties model
 aigtoaig \udcff""".split("\n")
 NO_FILES = {
     "aigtoaig none/source": "none/source: cannot read",
@@ -341,7 +343,7 @@ def relations(here, text):
     if len(made.inputs) > MANY_INPUTS:
         return
     models = [text, image, mapped, canonical]
-    traces_alike(here, models, made)
+    traces_alike(here, models, made, waves.names_of(end))
     unrolled_alike(here, models, made)
     witnesses_alike(here, models, made)
 
@@ -414,19 +416,22 @@ def trace_of(made, given):
     return traces.texts(made, witnesses.lines_of(given.decode("latin-1")))
 
 
-def wanted_trace(made, name, given, words):
-    """Standard output, standard error and the status of a simulation with these words, over a stimulus of this name."""
+def wanted_trace(made, names, name, given, words):
+    """Standard output, standard error and the status of a simulation with these words, over a stimulus of this name, of a
+    circuit with these names."""
+    if "--vcd" in words:
+        return waves.wanted(made, names, name, witnesses.lines_of(given.decode("latin-1")), "--batch" in words)
     texts, bad_at = trace_of(made, given)
     errors = f"aiger: {name}: line {bad_at}: bad stimulus line\n".encode() if bad_at else b""
     output = b"" if bad_at and "--batch" in words else texts["--properties" in words]
     return output, errors, 1 if bad_at else 0
 
 
-def same_trace(here, models, made, given):
-    """The models have the trace that is evaluated here, without and with properties, also as a batch."""
-    for model, batch, shown in itertools.product(models, ([], ["--batch"]), ([], ["--properties"])):
+def same_trace(here, models, made, names, given):
+    """The models have the trace that is evaluated here, without and with properties, and as a dump, also as a batch."""
+    for model, batch, shown in itertools.product(models, ([], ["--batch"]), ([], ["--properties"], ["--vcd"])):
         call, name = simulation(here.chance, model, given, *batch, *shown)
-        here.expect("the trace", call, *wanted_trace(made, name, given, call.words))
+        here.expect("the trace", call, *wanted_trace(made, names, name, given, call.words))
 
 
 def program_trace(here, model, rows):
@@ -444,10 +449,10 @@ def some_rows(chance, made, most):
     return ["".join(chance.choices(characters, k=len(made.inputs))) for _ in range(chance.randrange(1, most + 1))]
 
 
-def traces_alike(here, models, made):
+def traces_alike(here, models, made, names):
     """One trace of all models; and what is known stays so, whatever each x stands for."""
     chance = here.chance
-    same_trace(here, models, made, stimulus(chance, made))
+    same_trace(here, models, made, names, stimulus(chance, made))
     rows = some_rows(chance, made, 6)
     settled = ["".join(chance.choice("01") if it == "x" else it for it in row) for row in rows]
     model = chance.choice(models)
@@ -686,7 +691,7 @@ def refused_alike(here, text, errors, limit):
     steps, old = {"steps": b"0\n"}, {"out.aag": b"as it was\n"}
     for words in ([], ["--strip"], ["--keep-map"], ["--undo-map"], ["--undo-map", "--ascii"]):
         here.expect("a refusal is one of all tools", Call(["aigtoaig", *words, *limit], text), b"", errors, 1)
-    for words in ([], ["--batch"], ["--properties"], ["--witness"]):
+    for words in ([], ["--batch"], ["--properties"], ["--vcd"], ["--witness"]):
         call = Call(["aigsim", *words, *limit, "-", "steps"], text, steps)
         here.expect("a refusal is one of all tools", call, b"", errors, 1)
     unroll = ["aigunroll", "--frames", "2", *limit]
@@ -790,12 +795,13 @@ def large_unrolling(here):
 def hostile_steps(here):
     """An edited stimulus has the trace up to its first bad line, and an edited witness its answer."""
     chance = here.chance
-    made, text, _ = source(chance)
+    made, text, canonical = source(chance)
     here.source = text
+    names = waves.names_of(parsed(canonical)[1])
     models = [text, here.converted(text, "--keep-map")]
     for _ in range(3):
         given, other = stimulus(chance, made), stimulus(chance, made)
-        same_trace(here, models[:1], made, edited(chance, given, other))
+        same_trace(here, models[:1], made, names, edited(chance, given, other))
         run, another = (witnesses.given(chance, made).encode() for _ in range(2))
         same_answer(here, models, made, edited(chance, run, another))
 
