@@ -95,6 +95,7 @@ rows() {
     rows_gates
     rows_binary
     rows_deltas
+    rows_delta_lengths
     rows_binary_lines
     rows_cuts
     rows_counts
@@ -473,6 +474,23 @@ rows_deltas() {
     refuses 'a second delta of six bytes' 'aig 1 0 0 0 1\n\x01\x80\x80\x80\x80\x80\x00' 'gate 1: bad delta'
     refuses 'a delta of 2^32' 'aig 1 0 0 0 1\n\x80\x80\x80\x80\x10\x00' 'gate 1: bad delta'
     refuses 'a header alone that asks for all binary gates' 'aig 2147483647 0 0 0 2147483647\n' 'gate 1: file ends too early'
+}
+
+# deltas of one to five bytes where the file ends, and cut before their last byte
+rows_delta_lengths() {
+    local bytes open='' first='\x01'
+    for bytes in 1 2 3 4 5; do
+        accepts "a first delta of $bytes bytes" "aig 1 0 0 0 1\n$first\x01" 'aag 1 0 0 0 1\n2 1 0\n'
+        refuses "a first delta of $bytes bytes at the end" "aig 1 0 0 0 1\n$first" 'gate 1: file ends too early'
+        accepts "a last delta of $bytes bytes" "aig 1 0 0 0 1\n\x01$open\x00" 'aag 1 0 0 0 1\n2 1 1\n'
+        refuses "a last delta of $bytes bytes that is cut" "aig 1 0 0 0 1\n\x01$open" 'gate 1: file ends too early'
+        first="\x81$open\x00"
+        open="$open\x80"
+    done
+    images 'a delta of three bytes' 'aig 8193 8192 0 0 1\n\x81\x80\x01\x01' 'aig 8193 8192 0 0 1\n\x81\x80\x01\x01'
+    images 'a last delta of three bytes' 'aig 8194 8193 0 0 1\n\x01\x83\x80\x01' 'aig 8194 8193 0 0 1\n\x01\x83\x80\x01'
+    images 'a delta of four bytes' 'aig 1048577 1048576 0 0 1\n\x81\x80\x80\x01\x01' \
+        'aig 1048577 1048576 0 0 1\n\x81\x80\x80\x01\x01'
 }
 
 rows_binary_lines() {

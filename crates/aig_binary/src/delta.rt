@@ -112,7 +112,32 @@ fn small_only(value: u64, count: usize) -> Option<(u32, usize)>
     Some((value, count))
 }
 
+/// The number at the front in one to three bytes, and how many they are; none where it has more of them. Most numbers of a
+/// file are as short, and read without a loop.
+#[inline(always)]
+fn get_short_delta(bytes: &[u8]) -> Option<(u32, usize)>
+    requires { 3 ≤ length bytes.now }
+    ensures delta { IfSome result (λ x. delta_at bytes.now ≡ Some (x.0, drop x.1 bytes.now)) }
+    ensures within { IfSome result (λ x. x.1 ≤ length bytes.now) }
+{
+    let first = u32::from(bytes[0]);
+    if first < 128 {
+        return Some((first, 1));
+    }
+    let second = u32::from(bytes[1]);
+    if second < 128 {
+        return Some((first % 128 + 128 * second, 2));
+    }
+    let third = u32::from(bytes[2]);
+    if third < 128 {
+        return Some((first % 128 + 128 * (second % 128 + 128 * third), 3));
+    }
+    None
+}
+
 /// The number at the front, in any count of bytes, and how many they are.
+#[cold]
+#[inline(never)]
 fn get_groups(bytes: &[u8]) -> Option<(u32, usize)>
     ensures delta { Gives (λ x. (x.0, drop x.1 bytes.now)) result (delta_at bytes.now) }
     ensures within { IfSome result (λ x. x.1 ≤ length bytes.now) }
@@ -135,13 +160,15 @@ fn get_groups(bytes: &[u8]) -> Option<(u32, usize)>
 
 /// The number at the front, and how many bytes spell it. There is none where no front of the bytes spells a number
 /// below 2^32 in one to five bytes.
-#[inline]
+#[inline(always)]
 pub fn get_delta(bytes: &[u8]) -> Option<(u32, usize)>
     ensures delta { Gives (λ x. (x.0, drop x.1 bytes.now)) result (delta_at bytes.now) }
     ensures spelled { (value count : ℕ) → (result ≡ Some (value, count)) ↔ BeginsWithDelta bytes.now value count }
 {
-    match bytes.first() {
-        Some(first) if *first < 128 => Some((u32::from(*first), 1)),
-        _ => get_groups(bytes),
+    if bytes.len() >= 3 {
+        if let Some(short) = get_short_delta(bytes) {
+            return Some(short);
+        }
     }
+    get_groups(bytes)
 }

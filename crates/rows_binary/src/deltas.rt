@@ -11,6 +11,8 @@ const SHORTEST: &str = "\
 258 8202
 16383 ff7f
 16387 838001
+2097151 ffff7f
+2097152 80808001
 268435455 ffffff7f
 268435463 8780808001
 4294967295 ffffffff0f
@@ -19,11 +21,16 @@ const SHORTEST: &str = "\
 /// Bytes, and the number that they begin with and how many bytes spell it.
 const FRONTS: &str = "\
 8100:Some((1, 2))
+818000:Some((1, 3))
+ffff7f01:Some((2097151, 3))
+81808000:Some((1, 4))
 8080808000:Some((0, 5))
 0203:Some((2, 1))
 8080808010:None
 808080808000:None
 80:None
+8180:None
+818080:None
 :None
 ";
 

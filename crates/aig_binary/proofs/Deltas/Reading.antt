@@ -2,7 +2,7 @@
 use Rattle.std.proofs.Common.{if◌then◌else◌}
 use Rattle.std.proofs.lemmas.Grind.{common_steps}
 use Rattle.std.proofs.Common.{rules}
-use Rattle.std.proofs.Common.{◌≡◌, ◌^◌, ◌<◌, ◌≤◌, ◌↔◌, ℕ, List, [], ◌∷◌, ◌++◌, length, length-drop, get_or}
+use Rattle.std.proofs.Common.{◌≡◌, ◌+◌, ◌*◌, ◌%◌, ◌^◌, ◌<◌, ◌≤◌, ◌↔◌, ℕ, List, [], ◌∷◌, ◌++◌, length, length-drop, get_or}
 use Rattle.std.proofs.Common.{IfSome, take, drop, nat_lt, Option, None, Some, refl, sym, ap, ◌∙◌}
 use Rattle.std.proofs.Common.{arith}
 use Rattle.std.proofs.lemmas.Bool.{lt-ltb, le-ltb, cases_lt}
@@ -10,7 +10,7 @@ use Rattle.std.proofs.lemmas.List.{append_cancel_right, take-append-drop}
 use Rattle.aig_rows.specs.Outcomes.{Gives}
 use Rattle.aig_rows.specs.Scanning.{◌>>=◌}
 use Rattle.aig_binary.specs.Delta.{IsDelta, BeginsWithDelta, groups_at, delta_at}
-use Rattle.aig_binary.proofs.Deltas.Groups.{groups_are, groups_read, read_last}
+use Rattle.aig_binary.proofs.Deltas.Groups.{groups_are, groups_read, put_low, read_last, read_more}
 
 -- a number below 2^32 alone
 abbrev pub small_only : Option (ℕ × List ℕ) → Option (ℕ × List ℕ)
@@ -62,6 +62,29 @@ pub delta_of_one : (bytes : List ℕ) (byte : ℕ) → 0 < length bytes → byte
 delta_of_one [] byte some e low = absurd (omega arith)
 delta_of_one (b ∷ bytes) byte some e low =
     delta_small (b ∷ bytes) bytes byte (read_last 4 b bytes (omega arith) ∙ ap (λ (n : ℕ). Some (n, bytes)) (sym e))
+    (omega arith)
+
+-- the same of two bytes, and of three
+pub delta_of_two : (bytes : List ℕ) (a b : ℕ) → 3 ≤ length bytes → a ≡ get_or bytes 0 0 → b ≡ get_or bytes 1 0
+    → 128 ≤ a → a < 256 → b < 128 → delta_at bytes ≡ Some (a % 128 + 128 * b, drop 2 bytes)
+delta_of_two [] a b some ea eb high byte low = absurd (omega arith)
+delta_of_two (x ∷ []) a b some ea eb high byte low = absurd (omega arith)
+delta_of_two (x ∷ y ∷ bytes) a b some ea eb high byte low =
+    delta_small (x ∷ y ∷ bytes) bytes (a % 128 + 128 * b)
+    (rw (sym ea, sym eb) (read_more 4 a (b ∷ bytes) high byte ∙ ap (put_low a) (read_last 3 b bytes low)))
+    (omega arith)
+
+pub delta_of_three : (bytes : List ℕ) (a b c : ℕ) → 3 ≤ length bytes → a ≡ get_or bytes 0 0 → b ≡ get_or bytes 1 0
+    → c ≡ get_or bytes 2 0 → 128 ≤ a → a < 256 → 128 ≤ b → b < 256 → c < 128
+    → delta_at bytes ≡ Some (a % 128 + 128 * (b % 128 + 128 * c), drop 3 bytes)
+delta_of_three [] a b c some ea eb ec high byte high_too byte_too low = absurd (omega arith)
+delta_of_three (x ∷ []) a b c some ea eb ec high byte high_too byte_too low = absurd (omega arith)
+delta_of_three (x ∷ y ∷ []) a b c some ea eb ec high byte high_too byte_too low = absurd (omega arith)
+delta_of_three (x ∷ y ∷ z ∷ bytes) a b c some ea eb ec high byte high_too byte_too low =
+    delta_small (x ∷ y ∷ z ∷ bytes) bytes (a % 128 + 128 * (b % 128 + 128 * c))
+    (rw (sym ea, sym eb, sym ec)
+    (read_more 4 a (b ∷ c ∷ bytes) high byte
+    ∙ ap (put_low a) (read_more 3 b (c ∷ bytes) high_too byte_too ∙ ap (put_low b) (read_last 2 c bytes low))))
     (omega arith)
 
 -- What is answered of a front is exactly the number that it spells, and how long it is.
