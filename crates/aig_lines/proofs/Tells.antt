@@ -18,12 +18,14 @@ unfolding lines_of
 lines_end [] rest none = refl
 lines_end (b ∷ bs) rest none = rw (ne_eqb b 10 none.0) (ap (begun_by b) (lines_end bs rest none.1))
 
-last_line : (b : ℕ) (bs : List ℕ) → HasNoLineFeed (b ∷ bs) → lines_of (b ∷ bs) ≡ line (b ∷ bs) false ∷ []
+-- bytes that no line feed ends
+pub last_line : (b : ℕ) (bs : List ℕ) → HasNoLineFeed (b ∷ bs) → lines_of (b ∷ bs) ≡ line (b ∷ bs) false ∷ []
 unfolding lines_of
 last_line b [] none = rw (ne_eqb b 10 none.0) refl
 last_line b (c ∷ bs) none = rw (ne_eqb b 10 none.0) (ap (begun_by b) (last_line c bs none.1))
 
-one_more : (begun : List ℕ) (b : ℕ) → HasNoLineFeed begun → b ≢ 10 → HasNoLineFeed (begun ++ b ∷ [])
+-- a line with one more byte
+pub one_more : (begun : List ℕ) (b : ℕ) → HasNoLineFeed begun → b ≢ 10 → HasNoLineFeed (begun ++ b ∷ [])
 one_more [] b none other = (other, tt)
 one_more (c ∷ cs) b none other = (none.0, one_more cs b none.1 other)
 

@@ -32,9 +32,9 @@ use Rattle.aig_wave.proofs.Tagged.{AreValues}
 abbrev pub column : Circuit → Kind → List ℕ → List ℕ
 column c kind line = take (count_of c kind) (drop (place c kind) line)
 
-one_more : (k m : ℕ) (line behind more : List ℕ) → behind ≡ drop 1 line → take k behind ++ more ≡ take m behind
+one_longer : (k m : ℕ) (line behind more : List ℕ) → behind ≡ drop 1 line → take k behind ++ more ≡ take m behind
     → take (suc k) line ++ more ≡ take (suc m) line
-one_more k m line behind more is e =
+one_longer k m line behind more is e =
     let parted = λ (n : ℕ). (let sum : suc n ≡ 1 + n = omega arith in
     ap (λ (j : ℕ). take j line) sum ∙ take-add 1 n line ∙ ap (λ (t : List ℕ). take 1 line ++ take n t) (sym is)) in
     ap (λ (t : List ℕ). t ++ more) (parted k) ∙ append_assoc (take 1 line) (take k behind) more
@@ -55,7 +55,7 @@ module _ (c : Circuit) (kind : Kind) (line : List ℕ) where
       let behind : at (p + 1) ≡ drop 1 (at p) =
       ap (λ (j : ℕ). drop j line) place_behind ∙ sym (drop-drop 1 (place c kind + p) line) in
       let more = shown (signals_behind c kind (p + 1) n ns) in
-      let rest = one_more (followers n ns) (length ns) (at p) (at (p + 1)) more behind (tiled (p + 1) n ns) in
+      let rest = one_longer (followers n ns) (length ns) (at p) (at (p + 1)) more behind (tiled (p + 1) n ns) in
       let sum : 1 + followers n ns ≡ suc (followers n ns) = omega arith in
       elim (cases_Bool (follows before n)) [
         | inl joins ↦ rw joins rest
@@ -156,7 +156,8 @@ has_columns c row is =
     let constraints_long = text_long row.constraints (length c.constraints) (constraints_length c row is) in
     let first : length c.latches + 1 ≡ 0 + length c.latches + 1 = omega arith in
     let at_inputs =
-    ap (λ (j : ℕ). drop j line) first ∙ behind_text 0 (length c.latches) line (values_text row.state) _ state_long refl in
+    ap (λ (j : ℕ). drop j line) first
+    ∙ behind_text 0 (length c.latches) line (values_text row.state) _ state_long refl in
     let at_outputs =
     behind_text (length c.latches + 1) (length c.inputs) line (values_text row.inputs) _ inputs_long at_inputs in
     let at_next =

@@ -5,9 +5,9 @@ use Rattle.std.proofs.lemmas.Bool.{cases_lt, ne_eqb}
 use Rattle.std.proofs.lemmas.Bool.Decides.{eqb_tells}
 use Rattle.std.proofs.lemmas.List.{length-take-le, take_all}
 use Rattle.std.proofs.lemmas.List.Sums.{fold-append}
-use Rattle.aig_rows.specs.Lines.{Line, begun_by, line, lines_of}
+use Rattle.aig_rows.specs.Lines.{Line, lines_of}
 use Rattle.aig_lines.specs.Texts.{HasNoLineFeed}
-use Rattle.aig_lines.proofs.Tells.{lines_end}
+use Rattle.aig_lines.proofs.Tells.{last_line, lines_end, one_more}
 use Rattle.aig_wave.specs.Frames.{is_stop, is_trace_line, whole_lines}
 use Rattle.aig_wave.specs.Layout.{Layout}
 use Rattle.aig_wave.specs.Parts.Cuts.{Cut, cut, cut_byte, cut_more}
@@ -28,15 +28,6 @@ pub cut_line : (c : Cut) (piece : List ℕ) → HasNoLineFeed piece
     → cut_more c (piece ++ 10 ∷ []) ≡ record { lines = c.lines ++ (c.begun ++ piece) ∷ []; begun = [] }
 cut_line c piece none =
     fold-append cut_byte c piece (10 ∷ []) ∙ ap (λ (d : Cut). cut_byte d 10) (cut_piece c piece none)
-
-last_line : (b : ℕ) (bs : List ℕ) → HasNoLineFeed (b ∷ bs) → lines_of (b ∷ bs) ≡ line (b ∷ bs) false ∷ []
-unfolding lines_of
-last_line b [] none = rw (ne_eqb b 10 none.0) refl
-last_line b (c ∷ bs) none = rw (ne_eqb b 10 none.0) (ap (begun_by b) (last_line c bs none.1))
-
-one_more : (begun : List ℕ) (b : ℕ) → HasNoLineFeed begun → b ≢ 10 → HasNoLineFeed (begun ++ b ∷ [])
-one_more [] b none other = (other, tt)
-one_more (c ∷ cs) b none other = (none.0, one_more cs b none.1 other)
 
 abbrev ended_texts : List Line → List (List ℕ)
 ended_texts ls = map (λ (l : Line). l.text) (filter (λ (l : Line). l.ended) ls)

@@ -282,8 +282,8 @@ module _ (c : Circuit) where
     rows_same : rows ≡ others
     rest : AllZip (AreSame w) more behind
 
-  row_told : (row other : Row) → IsRow c row → IsRow c other → AreSame w (frame 0 (row_line row)) (frame 0 (row_line other))
-      → row.next ≡ other.next → row ≡ other
+  row_told : (row other : Row) → IsRow c row → IsRow c other
+      → AreSame w (frame 0 (row_line row)) (frame 0 (row_line other)) → row.next ≡ other.next → row ≡ other
   row_told row other is is_too same next =
       let a = has_columns c row is in
       let b = has_columns c other is_too in
@@ -349,7 +349,8 @@ module _ (c : Circuit) where
   runs_told run (rows ∷ runs) [] are are_too same = absurd (other_count_too run rows runs same)
   runs_told run (rows ∷ runs) (qs ∷ others) are are_too same =
       let one = run_told run (reset_state c) (reset_state c) rows qs (all_frames (run + 1) runs)
-      (all_frames (run + 1) others) are.0 are_too.0 (first_of_all (run + 1) runs) (first_of_all (run + 1) others) same in
+      (all_frames (run + 1) others) are.0 are_too.0 (first_of_all (run + 1) runs) (first_of_all (run + 1) others)
+      same in
       ap₂ (λ (rs : List Row) (rest : List (List Row)). rs ∷ rest) one.rows_same
       (runs_told (run + 1) runs others are.1 are_too.1 one.rest)
 

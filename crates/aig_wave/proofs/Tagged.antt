@@ -153,7 +153,7 @@ pub not_run : (s : Signal) → codes "r" ≢ code s
 not_run s = λ same. (let letters : letter s.kind ≡ 114 = cc in (letter_fits s.kind).1 letters)
 
 -- texts of one signal are as long
-pub joined_same : (a b rest more : List ℕ) → length a ≡ length b → a ++ rest ≡ b ++ more → (a ≡ b) × (rest ≡ more)
+joined_same : (a b rest more : List ℕ) → length a ≡ length b → a ++ rest ≡ b ++ more → (a ≡ b) × (rest ≡ more)
 joined_same [] [] rest more long e = (refl, e)
 joined_same [] (y ∷ ys) rest more long e = absurd (omega arith)
 joined_same (x ∷ xs) [] rest more long e = absurd (omega arith)
