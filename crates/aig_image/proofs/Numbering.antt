@@ -3,3 +3,4 @@ pub mod Places
 pub mod Same
 pub mod OneToOne
 pub mod Noted
+pub mod Kept

@@ -10,6 +10,7 @@ ghost use Rattle.aig_image.specs.Parts.Numbers.{number_of, IsRenumberingOf};
 ghost use Rattle.aig_image.specs.Relabelled.{relabelled, FitIntoLiterals};
 ghost use Rattle.aig_image.specs.Reordered.{taken, operands_sorted, with_operands_sorted};
 
+use crate::in_turn::InTurn;
 use crate::labelling::relabel;
 use crate::numbers::Numbers;
 use aig_checked::{Checked, Ordered, is_numbered_in_order};
@@ -27,7 +28,11 @@ pub struct Renumbering {
 }
 
 /// The gates at these positions.
-fn take_gates(alloc: Global, gates: &[Gate], order: &[u32]) -> Result<Listing<Gate>, OutOfMemory>
+pub(crate) fn take_gates(
+    alloc: Global,
+    gates: &[Gate],
+    order: &[u32],
+) -> Result<Listing<Gate>, OutOfMemory>
     requires { AllByRecursion (λ at. at < length gates.now) order.now }
     ensures { IfOk result (λ r. r ≡ taken gates.now order.now) }
 {
@@ -39,7 +44,8 @@ fn take_gates(alloc: Global, gates: &[Gate], order: &[u32]) -> Result<Listing<Ga
 }
 
 /// The gate with its larger operand first.
-fn with_larger_first(gate: Gate) -> Gate
+#[inline(always)]
+pub(crate) fn with_larger_first(gate: Gate) -> Gate
     ensures { result ≡ operands_sorted gate }
 {
     Gate {
@@ -154,6 +160,14 @@ fn sorted_image(circuit: Circuit) -> Ordered
     })
 }
 
+/// The binary image of a circuit that is no longer needed, by numbers that are made before it.
+fn renumbered_image(alloc: Global, checked: Checked) -> Result<Ordered, OutOfMemory>
+    ensures { IfOk result (λ o. IsBinaryImage checked o) }
+{
+    let renumbering = Renumbering::new(alloc, &checked)?;
+    Ok(renumbering.image(checked.into_circuit()))
+}
+
 /// The binary image of a circuit that is not in binary order and no longer needed. Where only operands are in the other
 /// order, there is nothing to number.
 fn into_image(alloc: Global, checked: Checked) -> Result<Ordered, OutOfMemory>
@@ -162,8 +176,10 @@ fn into_image(alloc: Global, checked: Checked) -> Result<Ordered, OutOfMemory>
     if is_numbered_in_order(&checked) {
         return Ok(sorted_image(checked.into_circuit()));
     }
-    let renumbering = Renumbering::new(alloc, &checked)?;
-    Ok(renumbering.image(checked.into_circuit()))
+    match InTurn::new(alloc, &checked)? {
+        Some(made) => Ok(made.image(alloc, checked.into_circuit())),
+        None => renumbered_image(alloc, checked),
+    }
 }
 
 /// The binary image of a circuit: the same circuit with its variables renumbered, inputs first, then latches, then

@@ -8,6 +8,7 @@
 
 pub mod algebra;
 mod image;
+mod in_turn;
 mod labelling;
 pub mod laws;
 mod numbers;

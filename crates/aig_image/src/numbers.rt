@@ -86,7 +86,7 @@ impl Numbers {
 
     /// Gives a variable the next number, unless it has one.
     #[inline(always)]
-    fn note(&mut self, var: Var) -> Result<(), AllocError>
+    pub(crate) fn note(&mut self, var: Var) -> Result<(), AllocError>
         requires { self.old.noted < LARGEST }
         ensures count { OnOk result (self.new.noted ≡ self.old.noted + 1) }
         ensures numbers { OnOk result (self.new.numbers ≡ with_new self.old.numbers var (self.old.noted + 1)) }
@@ -140,7 +140,7 @@ impl Numbers {
     }
 
     /// The new numbers of inputs and latches, with room for those of gates too.
-    fn of_first(alloc: Global, circuit: &Circuit) -> Result<Self, AllocError>
+    pub(crate) fn of_first(alloc: Global, circuit: &Circuit) -> Result<Self, AllocError>
         requires { length circuit.now.inputs + length circuit.now.latches ≤ LARGEST }
         ensures count { IfOk result (λ n. n.noted ≡ length circuit.now.inputs + length circuit.now.latches) }
         ensures numbers { IfOk result (λ n. AreNumbered n (first_variables circuit.now)) }

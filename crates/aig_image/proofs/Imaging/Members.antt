@@ -1,16 +1,19 @@
 -- The least ready order of a well-formed circuit has each gate once, so its new order has each variable once.
 use Rattle.std.proofs.Common.{rules}
-use Rattle.std.proofs.Common.{◌≡◌, ◌<◌, ◌≤◌, ℕ, List, [], ◌++◌, length, map}
+use Rattle.std.proofs.Common.{◌≡◌, ◌<◌, ◌≤◌, ℕ, List, [], ◌++◌, length, map, slice_index_or, arith}
 use Rattle.std.specs.List.{AllByRecursion}
+use Rattle.std.proofs.lemmas.List.{length-map}
 use Rattle.aig_circuit.specs.declared.circuit.Latch.{Latch}
 use Rattle.aig_circuit.specs.declared.circuit.Circuit.{Circuit}
-use Rattle.aig_circuit.specs.Wellformed.{IsAmong, AreDistinct, IsWellFormed, defined_variables}
+use Rattle.aig_circuit.specs.Wellformed.{IsAmong, IsVariableUpTo, AreDistinct, IsWellFormed}
+use Rattle.aig_circuit.specs.Wellformed.{defined_variables}
 use Rattle.aig_topo.specs.Order.{IsLeastReadyOrder, gate_operands}
-use Rattle.aig_circuit.proofs.Checking.Fitting.{each, at_most, at_most_below}
+use Rattle.aig_circuit.proofs.Checking.Fitting.{each, all_weaker, at_most, at_most_below, definitions_fit}
 use Rattle.aig_topo.proofs.Ordering.Ranked.{variables, distinct_back, rank_exactly_where_all_are_ordered}
 use Rattle.aig_checked.proofs.Numbered.Ranges.{at_least_below}
 use Rattle.aig_topo.proofs.Ordering.Steps.{all_of}
-use Rattle.aig_image.specs.Reordered.{ArePlaces, positions_of}
+use Rattle.aig_image.specs.Parts.InTurn.{DefineApart}
+use Rattle.aig_image.specs.Reordered.{no_gate, taken, ArePlaces, positions_of}
 use Rattle.aig_image.specs.Renumbering.{in_new_order}
 use Rattle.aig_image.proofs.Relabelling.Permuted.{order_keeps_once, order_keeps_defined, order_adds_none}
 use Rattle.aig_image.proofs.Relabelling.Positions.{have_positions}
@@ -60,5 +63,25 @@ module _ (c : Circuit) (order : List ℕ) (good : IsWellFormed c) (least : IsLea
   pub is_defined : (v : ℕ) → IsAmong v new → IsAmong v (defined_variables c)
   is_defined = order_adds_none order (positions_of order) c order_is_places.1 order_is_places.0
 
+  -- none of them is the constant
+  new_some : AllByRecursion (λ v. 1 ≤ v) new
+  new_some = all_of (λ v. 1 ≤ v) new
+      (λ v a. (each (IsVariableUpTo c.max_var) (defined_variables c) good.in_range v (is_defined v a)).0)
+
   pub new_fits : length new ≤ c.max_var
   new_fits = search (rules, at_most, new_once, all_of, each, is_defined)
+
+  pub taken_apart : DefineApart c (taken c.gates order)
+  taken_apart = record {
+    few = omega (arith, length-map order (λ at. slice_index_or c.gates at no_gate), not_more, definitions_fit c good, good.limits.max_var);
+    once = new_once;
+    some = new_some;
+  }
+
+-- gates as they stand
+pub standing_apart : (c : Circuit) → IsWellFormed c → DefineApart c c.gates
+standing_apart c good = record {
+  few = omega (arith, definitions_fit c good, good.limits.max_var);
+  once = good.once;
+  some = all_weaker (IsVariableUpTo c.max_var) (λ v. 1 ≤ v) (λ v r. r.0) (defined_variables c) good.in_range;
+}

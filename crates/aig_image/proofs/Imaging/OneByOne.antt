@@ -19,8 +19,11 @@ use Rattle.aig_checked.specs.BinaryOrder.{AreNumberedGates, AreOrderedGates, IsI
 use Rattle.aig_checked.proofs.Numbered.Ranges.{among, is_numbered}
 use Rattle.aig_image.specs.Parts.InOrder.{StandInOrder}
 use Rattle.aig_image.specs.declared.image.Renumbering.{Renumbering}
+use Rattle.aig_image.specs.declared.in_turn.InTurn.{InTurn}
+use Rattle.aig_image.specs.Parts.InTurn.{numbered_gate, AreMadeOf, IsMadeInTurn}
 use Rattle.aig_image.specs.Parts.Numbers.{number_of, AreNumbered, IsRenumberingOf}
 use Rattle.aig_image.specs.Relabelled.{FitIntoLiterals}
+use Rattle.aig_image.specs.Renumbering.{renumbered}
 use Rattle.aig_image.specs.Reordered.{taken}
 use Rattle.aig_image.proofs.Imaging.InTurn.{place_before, same_gate, some_gate}
 use Rattle.aig_meaning.proofs.Lists.{distinct_apart}
@@ -128,3 +131,14 @@ module _ (c : Circuit) (good : IsWellFormed c) where
       → AreNumbered r.numbers (defined_variables c)
       → FitIntoLiterals (number_of r.numbers) → IsRenumberingOf c r
   in_place r none stand numbered small = search (rules, least_as_they_stand, taken_as_they_stand, variables)
+
+  -- and so do gates that were made in turn as they stand
+  pub made_as_they_stand : (m : InTurn) → AreMadeOf first c.gates m.gates.items m.numbers → IsMadeInTurn c m
+  made_as_they_stand m a = record {
+    order = as_they_stand;
+    least = least_as_they_stand a.in_order;
+    numbers = subst (λ gs. AreNumbered m.numbers (first ++ variables gs)) (sym taken_as_they_stand) a.numbers;
+    gates =
+        subst (λ gs. m.gates.items ≡ map (numbered_gate (renumbered (first ++ variables gs))) gs)
+        (sym taken_as_they_stand) a.made;
+  }

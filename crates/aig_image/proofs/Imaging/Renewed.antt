@@ -1,11 +1,10 @@
 -- The circuit by the numbers that were noted is the image.
 use Rattle.std.proofs.Common.{rules}
-use Rattle.std.proofs.Common.{◌≡◌, ◌≢◌, ◌+◌, ◌≤◌, ℕ, List, [], length, sym, ap, ap₂, ◌∙◌, inr}
+use Rattle.std.proofs.Common.{◌≡◌, ◌+◌, ◌≤◌, ℕ, List, [], length, map, refl, sym, ap, ap₂, ◌∙◌, inr}
 use Rattle.std.proofs.Common.{append-nil, arith}
 use Rattle.std.specs.Option.{unwrap_or}
-use Rattle.std.proofs.lemmas.Bool.{ne_eqb}
-use Rattle.std.proofs.lemmas.Grind.{common_steps}
 use Rattle.std.proofs.lemmas.List.{length-map}
+use Rattle.std.proofs.lemmas.Simd.{map-map}
 use Rattle.aig_circuit.specs.declared.circuit.Gate.{Gate}
 use Rattle.aig_circuit.specs.declared.circuit.Circuit.{Circuit}
 use Rattle.aig_circuit.specs.declared.circuit.TheConstants.{LARGEST}
@@ -14,21 +13,19 @@ use Rattle.aig_topo.specs.Order.{IsLeastReadyOrder}
 use Rattle.aig_circuit.proofs.Checking.Fitting.{each, definitions_fit}
 use Rattle.aig_topo.proofs.Ordering.Steps.{all_of}
 use Rattle.aig_image.specs.declared.image.Renumbering.{Renumbering}
+use Rattle.aig_image.specs.declared.in_turn.InTurn.{InTurn}
 use Rattle.aig_image.specs.Image.{image_by, IsBinaryImage}
+use Rattle.aig_image.specs.Parts.InTurn.{IsMadeInTurn}
 use Rattle.aig_image.specs.Parts.Numbers.{number_of, number_in, IsRenumberingOf}
-use Rattle.aig_image.specs.Relabelled.{relabelled, NamesOnly}
+use Rattle.aig_image.specs.Relabelled.{relabelled, relabelled_gate, FitIntoLiterals, NamesOnly}
 use Rattle.aig_image.specs.Renumbering.{in_new_order, renumbered}
-use Rattle.aig_image.specs.Reordered.{reordered, taken, with_operands_sorted}
-use Rattle.aig_image.proofs.Imaging.Members.{has_defined, is_defined, new_once, not_more}
-use Rattle.aig_image.proofs.Numbering.Noted.{no_number}
+use Rattle.aig_image.specs.Reordered.{operands_sorted, reordered, taken, with_operands_sorted}
+use Rattle.aig_image.proofs.Imaging.Members.{has_defined, is_defined, new_fits, new_once, not_more}
+use Rattle.aig_image.proofs.Numbering.Noted.{in_list, in_place, no_number}
 use Rattle.aig_image.proofs.Numbering.Places.{number_within}
 use Rattle.aig_image.proofs.Relabelling.Relabelled.{names_only}
 use Rattle.aig_image.proofs.Relabelling.Relabelled.{only_names_matter, with_gates}
 use Rattle.aig_image.proofs.Relabelling.Reordered.{order_commutes}
-
--- a variable that has a place has its number
-in_place : (v : ℕ) (xs : List ℕ) → v ≢ 0 → renumbered xs v ≤ length xs → number_in xs v ≡ renumbered xs v
-in_place v xs some fits = let b = ne_eqb v 0 some in grind (arith, common_steps, b, fits)
 
 module _ (c : Circuit) (order : List ℕ) (good : IsWellFormed c) (least : IsLeastReadyOrder c order) where
   abbrev vs : List ℕ
@@ -87,3 +84,37 @@ pub made_is_image : (c : Circuit) (r : Renumbering) (made : Circuit) (gates : Li
     → made ≡ made_by (number_of r.numbers) r.numbers.noted gates c → gates ≡ unwrap_or r.taken c.gates
     → IsBinaryImage c made
 made_is_image c r made gates good of_it made_is gates_are = search (rules, is_image)
+
+-- gates that were made in turn, and the rest of the circuit by the numbers
+module _ (c : Circuit) (m : InTurn) (good : IsWellFormed c) (of_it : IsMadeInTurn c m) where
+  abbrev new : List ℕ
+  new = in_new_order c of_it.order
+
+  gates_are : m.gates.items ≡ map operands_sorted (taken (map (relabelled_gate (renumbered new)) c.gates) of_it.order)
+  gates_are =
+      of_it.gates
+      ∙ sym (map-map operands_sorted (relabelled_gate (renumbered new)) (taken c.gates of_it.order))
+      ∙ ap (λ (d : Circuit). map operands_sorted d.gates) (order_commutes (renumbered new) of_it.order c refl)
+
+  abbrev without_gates : Circuit
+  without_gates = with_gates [] c
+
+  rest_is : relabelled (number_of m.numbers) without_gates ≡ relabelled (renumbered new) without_gates
+  rest_is =
+      let same = same_names c of_it.order good of_it.least (number_of m.numbers) of_it.numbers.numbers in
+      only_names_matter (number_of m.numbers) (renumbered new) without_gates
+      (record { inputs = same.inputs; latches = same.latches; literals = same.literals; gates = tt })
+
+  pub in_turn_fits : FitIntoLiterals (number_of m.numbers)
+  in_turn_fits v =
+      omega (arith, of_it.numbers.numbers v, in_list new v, new_fits c of_it.order good of_it.least, good.limits.max_var)
+
+  pub in_turn_is_image : (rest : Circuit) (none gates : List Gate) (count : ℕ) → none ≡ []
+      → rest ≡ relabelled (number_of m.numbers) (with_gates none c) → gates ≡ m.gates.items → count ≡ m.numbers.noted
+      → IsBinaryImage c (record (with_gates gates rest) { max_var = count })
+  in_turn_is_image rest none gates count nothing rest_too gates_too counted =
+      let all =
+      ap₂ (λ (gs : List Gate) (d : Circuit). record (with_gates gs d) { max_var = count }) (gates_too ∙ gates_are)
+      (rest_too ∙ ap (λ (gs : List Gate). relabelled (number_of m.numbers) (with_gates gs c)) nothing ∙ rest_is)
+      ∙ ap (λ (n : ℕ). record (image_by of_it.order c) { max_var = n }) (counted ∙ of_it.numbers.count) in
+      (of_it.order, of_it.least, all)

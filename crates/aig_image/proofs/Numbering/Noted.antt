@@ -1,10 +1,11 @@
 -- The numbers of variables that are noted one after the other.
 use Rattle.std.proofs.Common.{rules}
-use Rattle.std.proofs.Common.{◌≡◌, ◌<◌, ◌≤◌, ◌+◌, ℕ, List, [], ◌∷◌, ◌++◌, cond, eqb, length, get_or}
+use Rattle.std.proofs.Common.{◌≡◌, ◌≢◌, ◌<◌, ◌≤◌, ◌+◌, ℕ, List, [], ◌∷◌, ◌++◌, cond, eqb, length, get_or}
 use Rattle.std.proofs.Common.{take, map, None, ap, ◌∙◌, length-append}
-use Rattle.std.proofs.Common.{arith, ◌⊎◌, below_more}
+use Rattle.std.proofs.Common.{arith, below_more}
 use Rattle.std.specs.FinMap.{get, get-empty, empty}
 use Rattle.std.specs.Ordering.{nat_cmp}
+use Rattle.std.proofs.lemmas.Bool.{ne_eqb}
 use Rattle.std.proofs.lemmas.Grind.{common_steps}
 use Rattle.std.proofs.lemmas.List.{map-id, get_or_default}
 use Rattle.std.proofs.lemmas.List.Folds.{position_or_len_push}
@@ -12,13 +13,14 @@ use Rattle.std.proofs.lemmas.List.Sums.{prefix_len-le-length}
 use Rattle.std.specs.List.{AllByRecursion}
 use Rattle.aig_circuit.specs.Wellformed.{IsAmong, IsKnown, operands}
 use Rattle.aig_circuit.specs.declared.circuit.Gate.{Gate}
-use Rattle.aig_circuit.specs.Literal.{variable_of}
 use Rattle.aig_tables.specs.VarMap.{with_new}
 use Rattle.aig_tables.proofs.Tables.Maps.{get-with_new}
 use Rattle.aig_topo.proofs.Ordering.LeastReady.{among_or_not}
 use Rattle.aig_image.proofs.Numbering.Places.{no_place}
 use Rattle.aig_image.specs.declared.numbers.Numbers.{Numbers}
+use Rattle.aig_image.specs.Parts.InTurn.{HasNumber}
 use Rattle.aig_image.specs.Parts.Numbers.{number_of, number_in, AreNumbered}
+use Rattle.aig_image.specs.Renumbering.{renumbered}
 use Rattle.aig_topo.proofs.Ordering.Gates.{eqb_comm}
 use Rattle.aig_topo.proofs.Ordering.Ranked.{at, no_gate, variables}
 
@@ -45,7 +47,7 @@ pub variables_more : {X : Type 0} (f : X → ℕ) (variables : List ℕ) (items 
     → (variables ++ map f (take i items)) ++ f (get_or items i d) ∷ [] ≡ variables ++ map f (take (i + 1) items)
 variables_more f variables items i d below = grind (arith, common_steps)
 
-in_list : (variables : List ℕ) (v : ℕ) → number_in variables v ≤ length variables
+pub in_list : (variables : List ℕ) (v : ℕ) → number_in variables v ≤ length variables
 in_list variables v = grind (arith, common_steps)
 
 -- what is not in a list has no number, so what has one is there
@@ -54,6 +56,10 @@ no_number v xs out = let none = no_place v xs out in grind (arith, common_steps,
 
 has_number : (xs : List ℕ) (v : ℕ) → 0 < number_in xs v → IsAmong v xs
 has_number xs v some = search (rules, no_number, among_or_not)
+
+-- a variable that has a place has its number
+pub in_place : (v : ℕ) (xs : List ℕ) → v ≢ 0 → renumbered xs v ≤ length xs → number_in xs v ≡ renumbered xs v
+in_place v xs some fits = let b = ne_eqb v 0 some in grind (arith, common_steps, b, fits)
 
 -- what is noted of two sections
 pub two_sections : {L : Type 0} (of_latch : L → ℕ) (n : Numbers) (inputs inputs_too : List ℕ)
@@ -73,10 +79,6 @@ few of_latch of_gate n inputs latches gates numbered v = grind (arith, common_st
 pub was_noted : (n : Numbers) (variables : List ℕ) → AreNumbered n variables → (v : ℕ) → 0 < number_of n v
     → IsAmong v variables
 was_noted n variables numbered v some = has_number variables v (rw (← numbered.numbers v) some)
-
--- a literal is a constant, or its variable has a number
-abbrev HasNumber : Numbers → ℕ → Type 0
-HasNumber n l = (variable_of l ≡ 0) ⊎ (0 < number_of n (variable_of l))
 
 known : (n : Numbers) (vars : List ℕ) → AreNumbered n vars → (l : ℕ) → HasNumber n l → IsKnown vars l
 known n vars numbered l has = search (rules, was_noted)

@@ -6,5 +6,5 @@ pub returns-then-is_numbered_in_order : goal.returns-then-is_numbered_in_order
 returns-then-is_numbered_in_order c =
     subst (λ d. IsBinaryImage d c.sorted_image.result) c.into_circuit.ensures.value c.sorted_image.ensures
 
-pub returns : goal.returns
-returns c = subst (λ d. IsBinaryImage d c.image.result) c.into_circuit-2.ensures.value c.image.ensures
+pub returns-in-Some : goal.returns-in-Some
+returns-in-Some c = subst (λ d. IsBinaryImage d c.image.result) c.into_circuit-in-Some.ensures.value c.image.ensures

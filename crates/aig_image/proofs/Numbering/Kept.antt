@@ -1,0 +1,154 @@
+-- A number that was given stays, so a gate that is made over those that there are is the gate of the image.
+use Rattle.std.proofs.Common.{rules}
+use Rattle.std.proofs.Common.{◌≡◌, ◌+◌, ◌*◌, ◌%◌, ◌<◌, ◌≤◌, ℕ, List, [], ◌∷◌, ◌++◌, length, get_or, map, take, drop}
+use Rattle.std.proofs.Common.{refl, sym, ap, subst, ◌∙◌, ⊎_elim, arith, append_assoc, append-nil, suc, inl, inr, ◌⊎◌}
+use Rattle.std.proofs.Common.{length-append, set}
+use Rattle.std.specs.List.{AllByRecursion}
+use Rattle.std.proofs.Math.ListN.{get_or-append}
+use Rattle.std.proofs.lemmas.Grind.{common_steps}
+use Rattle.std.proofs.lemmas.List.{take-append-drop, map-append, take_all, drop_all, length-map, length-take-le}
+use Rattle.std.proofs.lemmas.List.Edits.{map_over_more}
+use Rattle.std.proofs.Math.Seq.{drop-cons}
+use Rattle.aig_circuit.proofs.Makers.{gates_alike}
+use Rattle.aig_circuit.specs.declared.circuit.Gate.{Gate}
+use Rattle.aig_circuit.specs.declared.circuit.TheConstants.{LARGEST}
+use Rattle.aig_circuit.specs.Literal.{variable_of}
+use Rattle.aig_circuit.specs.Wellformed.{IsAmong, AreDistinct}
+use Rattle.aig_circuit.proofs.Checking.Fitting.{each}
+use Rattle.aig_meaning.proofs.Lists.{distinct_front}
+use Rattle.aig_tables.specs.VarMap.{with_new}
+use Rattle.aig_topo.proofs.Ordering.Counted.{among_first}
+use Rattle.aig_topo.proofs.Ordering.Cyclic.{among_last}
+use Rattle.aig_topo.proofs.Ordering.Ranked.{variables}
+use Rattle.aig_image.specs.declared.numbers.Numbers.{Numbers}
+use Rattle.aig_image.specs.Parts.InTurn.{AreMadeOf, HasNumber, next_numbered, numbered_gate}
+use Rattle.aig_image.specs.Parts.Numbers.{number_of, AreNumbered}
+use Rattle.aig_image.specs.Relabelled.{FitIntoLiterals}
+use Rattle.aig_image.specs.Renumbering.{renumbered}
+use Rattle.aig_image.specs.Reordered.{operands_sorted}
+use Rattle.aig_image.proofs.Numbering.Noted.{IsOverKnown, in_list, in_place, next_over_known, no_number, one_more}
+use Rattle.aig_image.proofs.Numbering.Noted.{variables_more, was_noted}
+use Rattle.aig_image.proofs.Numbering.Places.{number_at, number_of as own_number, number_within}
+use Rattle.aig_image.proofs.Relabelling.Standing.{somewhere}
+
+module _ (n : Numbers) (xs ys : List ℕ) (numbered : AreNumbered n xs) (once : AreDistinct (xs ++ ys))
+    (some : AllByRecursion (λ v. 1 ≤ v) (xs ++ ys)) where
+  -- what is noted later does not change a number
+  later_keeps : (v : ℕ) → IsAmong v xs → renumbered xs v ≡ renumbered (xs ++ ys) v
+  later_keeps v a =
+      let there = somewhere v xs a in
+      let below : there.0 < length xs = there.1 in
+      let fits : there.0 < length (xs ++ ys) = omega (arith, below, length-append xs ys) in
+      let same : get_or (xs ++ ys) there.0 0 ≡ v = get_or-append xs ys 0 there.0 below ∙ there.2 in
+      let low : 1 ≤ v = each (λ v. 1 ≤ v) (xs ++ ys) some v (among_first v xs ys a) in
+      let in_front =
+      number_at xs (distinct_front xs ys once) there.0 below (subst (λ w. 1 ≤ w) (sym there.2) low) in
+      let in_all = number_at (xs ++ ys) once there.0 fits (subst (λ w. 1 ≤ w) (sym same) low) in
+      ap (renumbered xs) (sym there.2) ∙ in_front ∙ sym in_all ∙ ap (renumbered (xs ++ ys)) same
+
+  keeps_number : (v : ℕ) → (v ≡ 0) ⊎ (0 < number_of n v) → number_of n v ≡ renumbered (xs ++ ys) v
+  keeps_number v has =
+      ⊎_elim
+      (λ (z : v ≡ 0). subst (λ w. number_of n w ≡ renumbered (xs ++ ys) w) (sym z)
+      (numbered.numbers 0
+      ∙ no_number 0 xs (λ a. let low : 1 ≤ 0 = each (λ v. 1 ≤ v) (xs ++ ys) some 0 (among_first 0 xs ys a) in
+      omega (arith, low))))
+      (λ (h : 0 < number_of n v).
+      let a = was_noted n xs numbered v h in
+      let low : 1 ≤ v = each (λ v. 1 ≤ v) (xs ++ ys) some v (among_first v xs ys a) in
+      let fits : renumbered xs v ≤ length xs =
+      number_within xs (distinct_front xs ys once) xs [] v (sym (append-nil xs)) (inr a) in
+      numbered.numbers v ∙ in_place v xs (λ e. absurd (omega (arith, low, e))) fits ∙ later_keeps v a) has
+
+-- a gate over what has numbers, which gets the next one
+own_gate : (n : Numbers) (xs ys : List ℕ) (g : Gate) → AreNumbered n xs → AreDistinct (xs ++ g.var ∷ ys)
+    → AllByRecursion (λ v. 1 ≤ v) (xs ++ g.var ∷ ys) → HasNumber n g.left → HasNumber n g.right
+    → next_numbered n g ≡ numbered_gate (renumbered (xs ++ g.var ∷ ys)) g
+own_gate n xs ys g numbered once some left right =
+    let vs : List ℕ = xs ++ g.var ∷ ys in
+    let low : 1 ≤ g.var = each (λ v. 1 ≤ v) vs some g.var (among_last xs (g.var ∷ ys) g.var (inl refl)) in
+    let own : renumbered vs g.var ≡ 1 + length xs = own_number vs once xs ys g.var low refl in
+    let keeps = keeps_number n xs (g.var ∷ ys) numbered once some in
+    ap operands_sorted
+    (gates_alike (omega (arith, own, numbered.count))
+    (ap (λ v. 2 * v + g.left % 2) (keeps (variable_of g.left) left))
+    (ap (λ v. 2 * v + g.right % 2) (keeps (variable_of g.right) right)))
+
+-- the variables of gates around one of them
+around : (before : List ℕ) (gs : List Gate) (i : ℕ) (g : Gate) → i < length gs → g ≡ get_or gs i g
+    → before ++ variables gs ≡ (before ++ variables (take i gs)) ++ g.var ∷ variables (drop (suc i) gs)
+around before gs i g there is =
+    ap (λ xs. before ++ variables xs) (sym (take-append-drop i gs) ∙ ap (λ xs. take i gs ++ xs) (drop-cons gs i g there))
+    ∙ search (rules, map-append, append_assoc)
+
+pub next_made : (n : Numbers) (before : List ℕ) (gs : List Gate) (i : ℕ) (g : Gate)
+    → AreNumbered n (before ++ variables (take i gs)) → AreDistinct (before ++ variables gs)
+    → AllByRecursion (λ v. 1 ≤ v) (before ++ variables gs) → i < length gs → g ≡ get_or gs i g
+    → HasNumber n g.left → HasNumber n g.right
+    → next_numbered n g ≡ numbered_gate (renumbered (before ++ variables gs)) g
+next_made n before gs i g numbered once some there is left right =
+    let cut = around before gs i g there is in
+    rw cut (own_gate n (before ++ variables (take i gs)) (variables (drop (suc i) gs)) g numbered (rw cut at once)
+    (rw cut at some) left right)
+
+-- the first gates were made, and their variables have numbers; the others stand as they stood
+pub record AreMadeSoFar (before : List ℕ) (gs news : List Gate) (n : Numbers) (i : ℕ) : Type 0 where
+  pub numbers : AreNumbered n (before ++ variables (take i gs))
+  pub known : (k : ℕ) → k < i → IsOverKnown before gs k
+  pub made : news ≡ map (numbered_gate (renumbered (before ++ variables gs))) (take i gs) ++ drop i gs
+
+pub none_made : (before : List ℕ) (gs : List Gate) (n : Numbers) → AreNumbered n before → AreMadeSoFar before gs gs n 0
+none_made before gs n numbered = record {
+  numbers = rw append-nil numbered;
+  known = λ k below. absurd (omega (arith, below));
+  made = refl;
+}
+
+stands_ahead : {X : Type 0} (xs ys : List X) (f : X → X) (i : ℕ) (x : X) → i < length xs
+    → ys ≡ map f (take i xs) ++ drop i xs → x ≡ get_or ys i x → x ≡ get_or xs i x
+stands_ahead xs ys f i x there are is = grind (arith, common_steps)
+
+module _ (before : List ℕ) (gs made : List Gate) (n : Numbers) (i : ℕ) (sofar : AreMadeSoFar before gs made n i)
+    (there : i < length gs) where
+  -- there is room for one number more
+  pub room_left : length before + length gs ≤ LARGEST → (n.noted < LARGEST) × FitIntoLiterals (number_of n)
+  room_left few =
+      let long : length (before ++ variables (take i gs)) ≡ length before + i =
+      simp (length-append, length-map) (omega (arith, length-take-le i gs (omega (arith, there)))) in (
+        omega (arith, few, long, sofar.numbers.count),
+        λ v. omega (
+          arith,
+          few,
+          long,
+          sofar.numbers.numbers v,
+          in_list (before ++ variables (take i gs)) v,
+        ),
+      )
+
+  pub one_made : (m : Numbers) (g h : Gate) → AreDistinct (before ++ variables gs)
+      → AllByRecursion (λ v. 1 ≤ v) (before ++ variables gs) → g ≡ get_or made i g → HasNumber n g.left
+      → HasNumber n g.right → h ≡ next_numbered n g → m.noted ≡ n.noted + 1
+      → m.numbers ≡ with_new n.numbers g.var (n.noted + 1) → AreMadeSoFar before gs (set made i h) m (i + 1)
+  one_made m g h once some read left right is count told =
+      let f : Gate → Gate = numbered_gate (renumbered (before ++ variables gs)) in
+      let stands : g ≡ get_or gs i g = stands_ahead gs made f i g there sofar.made read in
+      let next : h ≡ f g = is ∙ next_made n before gs i g sofar.numbers once some there stands left right in
+      record {
+        numbers =
+            subst (AreNumbered m) (variables_more (λ (g : Gate). g.var) before gs i g there)
+            (subst (λ (x : Gate). AreNumbered m ((before ++ variables (take i gs)) ++ x.var ∷ [])) stands
+            (one_more n m g.var count told (before ++ variables (take i gs)) sofar.numbers));
+        known = next_over_known before gs n i g sofar.numbers there stands left right sofar.known;
+        made =
+            subst (λ (x : Gate). set made i x ≡ map f (take (i + 1) gs) ++ drop (i + 1) gs) (sym next)
+            (map_over_more f gs made i g there sofar.made read);
+      }
+
+-- all of them
+pub all_made : (before : List ℕ) (gs made : List Gate) (n : Numbers) (i : ℕ) → AreMadeSoFar before gs made n i
+    → length gs ≤ i → AreMadeOf before gs made n
+all_made before gs made n i sofar end = record {
+  numbers = subst (λ xs. AreNumbered n (before ++ variables xs)) (take_all i gs end) sofar.numbers;
+  in_order = λ k there. sofar.known k (omega (arith, there, end));
+  made = sofar.made ∙ rw (take_all i gs end, drop_all i gs end, append-nil) refl;
+}
