@@ -4,5 +4,6 @@ pub mod Wellformed
 pub mod Justice
 pub mod Form
 pub mod Symbols
+pub mod Naming
 pub mod Parts
 pub mod Laws

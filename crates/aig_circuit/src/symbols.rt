@@ -1,8 +1,9 @@
 //! The symbols of a circuit. Their names stand in one list of bytes, one behind the other, so no name has memory of its
 //! own.
-ghost use Rattle.std.specs.Prelude.{◌≡◌, [], ◌∷◌, ◌++◌, length, IfOk, OnOk, OnErr};
+ghost use Rattle.std.specs.Prelude.{◌≡◌, [], ◌∷◌, ◌++◌, length, All, Contains, IfNone, IfOk, IfSome, OnOk, OnErr};
 ghost use Rattle.std.specs.Cmp.Lexicographic.{pointwise, lists_per};
 ghost use Rattle.std.specs.Iterator.{YieldsFirst, item_count};
+ghost use Rattle.aig_circuit.specs.Naming.{IsFor};
 ghost use Rattle.aig_circuit.specs.contracts.circuit.SymbolPartialEq.TheImpl.Laws.{laws-law as symbol_laws};
 
 use crate::circuit::{Kind, Symbol};
@@ -146,6 +147,18 @@ impl Symbols {
             bytes: self.bytes.as_slice(),
             rows: self.rows.as_slice(),
         }
+    }
+
+    /// The name of what stands at this position among its kind, counted from 0; `None` where no symbol is for it. In a
+    /// circuit in form there is one at most. The symbols are looked at one after the other.
+    pub fn name_of(&self, kind: Kind, position: u32) -> Option<&[u8]>
+        ensures named { IfSome result (λ name. Contains self.now
+            (record { kind = kind; position = position; name = name.now })) }
+        ensures unnamed { IfNone result (All (λ symbol. ¬ IsFor kind position symbol) self.now) }
+    {
+        self.iter()
+            .find(|symbol| symbol.kind == kind && symbol.position == position)
+            .map(|symbol| symbol.name)
     }
 
     /// Adds a symbol at the end. If an allocation fails, the symbols stay as they are.
