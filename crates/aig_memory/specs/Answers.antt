@@ -1,0 +1,95 @@
+-- What a call answers (this project's interface for C).
+use Rattle.std.specs.Prelude.{◌≡◌, ◌≤◌, ◌⊎◌, ℕ, List, Bool, true, false, Some, length, take}
+use Rattle.aig_circuit.specs.declared.circuit.Circuit.{Circuit}
+use Rattle.aig_command.specs.Aiger.{largest_index}
+use Rattle.aig_command.specs.declared.request.Sim.{Sim}
+use Rattle.aig_step.specs.declared.fault.SimFault.{SimFault}
+use Rattle.aig_step.specs.declared.fault.SimFault.TheVariants.{BadStimulus, BadWitness}
+use Rattle.aig_step.specs.Outcome.{first_bad_line}
+use Rattle.aig_witness.specs.declared.verdict.Verdict.{Verdict}
+use Rattle.aig_witness.specs.declared.verdict.Verdict.TheVariants.{Confirmed, NotConfirmed}
+use Rattle.aig_witness.specs.Witness.{Claim, IsVerdict, SaysClaim, first_bad_witness_line}
+use Rattle.aig_engines.specs.declared.fault.ToolFault.{ToolFault}
+use Rattle.aig_engines.specs.File.{IsFileOf}
+use Rattle.aig_engines.specs.Reading.{IsUnreadable}
+use Rattle.aig_engines.specs.WitnessOutcome.{IsWitnessAnswer, OfSteps}
+use Rattle.aig_memory.specs.Asked.{simulation}
+use Rattle.aig_memory.specs.Outcome.{IsPlaced, ending, fault_outcome, out_of_memory}
+use Rattle.aig_memory.specs.declared.outcome.Outcome.{Outcome}
+use Rattle.aig_memory.specs.declared.outcome.TheConstants.{BAD_OPTIONS, DONE, NOT_CONFIRMED}
+
+-- there is a text, and it is put into the output where there is room for it
+pub record Made (IsText : List ℕ → Type 0) (before after : List ℕ) (outcome : Outcome) : Type 0 where
+  pub text : List ℕ
+  pub is_text : IsText text
+  pub placed : IsPlaced text before after outcome
+
+-- the input is refused with a fault, and the outcome tells it
+pub record Refused (IsFault : ToolFault → Type 0) (outcome : Outcome) : Type 0 where
+  pub fault : ToolFault
+  pub is_fault : IsFault fault
+  pub told : outcome ≡ fault_outcome fault
+
+-- what is answered without a text: the input is refused, or memory was
+abbrev pub NotMade : (ToolFault → Type 0) → Outcome → Type 0
+NotMade IsFault outcome = Refused IsFault outcome ⊎ (outcome ≡ out_of_memory)
+
+-- What a call answers that makes a text. Its numbers cannot be met; or they can, and there is a text, or none. Without a
+-- text the output is as it was.
+abbrev pub Answers : Type 0 → (List ℕ → Type 0) → (ToolFault → Type 0) → (before after : List ℕ) → Outcome → Type 0
+Answers CanDo IsText IsFault before after outcome =
+    ((¬ CanDo) × (after ≡ before) × (outcome ≡ ending BAD_OPTIONS 0 0))
+    ⊎ (CanDo × (Made IsText before after outcome ⊎ ((after ≡ before) × NotMade IsFault outcome)))
+
+-- These bytes are a beginning of the text, or all of it.
+abbrev pub IsBeginning : List ℕ → Bool → List ℕ → Type 0
+IsBeginning bytes true text = bytes ≡ text
+IsBeginning bytes false text = bytes ≡ take (length bytes) text
+
+-- This is the number of the first bad line of a stimulus, which shows in what was read of it.
+pub record IsBadStimulus (c : Circuit) (stimulus : List ℕ) (fault : SimFault) : Type 0 where
+  pub line : ℕ
+  pub bytes : List ℕ
+  pub ended : Bool
+  pub is : fault ≡ BadStimulus line
+  pub beginning : IsBeginning bytes ended stimulus
+  pub first : first_bad_line c bytes ended ≡ Some line
+
+-- The same of the first wrong line of a witness file.
+pub record IsBadWitness (c : Circuit) (witness : List ℕ) (fault : SimFault) : Type 0 where
+  pub line : ℕ
+  pub bytes : List ℕ
+  pub ended : Bool
+  pub is : fault ≡ BadWitness line
+  pub beginning : IsBeginning bytes ended witness
+  pub first : first_bad_witness_line c bytes ended ≡ Some line
+
+-- The model has no trace of the stimulus for this reason: it is no file of a circuit, or a line of the stimulus is bad.
+abbrev pub IsSimulationRefused : Sim → (model stimulus : List ℕ) → ToolFault → Type 0
+IsSimulationRefused request model stimulus fault =
+    IsUnreadable request.max_var fault model
+    ⊎ ((found : Circuit) × IsFileOf model request.max_var found × OfSteps (IsBadStimulus found stimulus) fault)
+
+-- A witness file has no verdict for this reason.
+abbrev pub IsWitnessRefused : Sim → (model witness : List ℕ) → ToolFault → Type 0
+IsWitnessRefused request model witness fault =
+    IsUnreadable request.max_var fault model
+    ⊎ ((found : Circuit) × IsFileOf model request.max_var found × OfSteps (IsBadWitness found witness) fault)
+
+-- the verdict on what a witness file claims of a circuit
+abbrev pub IsVerdictFor : Circuit → (witness : List ℕ) → Verdict → Type 0
+IsVerdictFor c witness verdict = (claim : Claim) × SaysClaim c witness claim × IsVerdict c claim verdict
+
+-- the outcome of a verdict
+abbrev pub verdict_outcome : Verdict → Outcome
+verdict_outcome (Confirmed step) = ending DONE step 0
+verdict_outcome NotConfirmed = ending NOT_CONFIRMED 0 0
+
+-- What is answered where a witness file is judged.
+abbrev pub WitnessAnswers : (max_var : ℕ) (model witness : List ℕ) → Outcome → Type 0
+WitnessAnswers max_var model witness outcome =
+    ((¬ (max_var ≤ largest_index)) × (outcome ≡ ending BAD_OPTIONS 0 0))
+    ⊎ ((max_var ≤ largest_index)
+    × (((verdict : Verdict) × IsWitnessAnswer (simulation 0 max_var) model witness verdict
+    × (outcome ≡ verdict_outcome verdict))
+    ⊎ NotMade (IsWitnessRefused (simulation 0 max_var) model witness) outcome))

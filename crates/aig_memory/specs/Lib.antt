@@ -1,0 +1,5 @@
+pub mod Lent
+pub mod Outcome
+pub mod Message
+pub mod Asked
+pub mod Answers

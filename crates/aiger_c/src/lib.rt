@@ -1,0 +1,109 @@
+//! The calls of `aig_memory` for programs in C, and in languages that call C. `include/aiger.h` declares and documents
+//! them.
+#![tactic(auto)]
+
+ghost use Rattle.std.specs.Prelude.{◌≡◌, ◌⊎◌};
+ghost use Rattle.aig_engines.specs.Conversion.{IsConversionRefused, IsConversionText};
+ghost use Rattle.aig_engines.specs.Simulation.{IsSimulationText};
+ghost use Rattle.aig_engines.specs.Unrolling.{IsUnrollingRefused, IsUnrollingText};
+ghost use Rattle.aig_memory.specs.Answers.{Answers, IsSimulationRefused, WitnessAnswers};
+ghost use Rattle.aig_memory.specs.Asked.{CanConvert, CanSimulate, CanUnroll, conversion, simulation, unrolling};
+ghost use Rattle.aig_memory.specs.Message.{IsWritten, message_text};
+
+use aig_memory::{Outcome, convert, message, simulate, unroll, witness};
+use std::alloc::Global;
+
+/// The version in three bytes: 1.0.0 is 0x010000.
+const VERSION: u32 = 0x01_00_00;
+
+/// Converts the bytes of an AIGER file.
+#[unsafe(no_mangle)]
+pub extern "C" fn aiger_convert(
+    alloc: Global,
+    options: u32,
+    max_var: u32,
+    input: &[u8],
+    output: &mut [u8],
+    outcome: &mut Outcome,
+) -> u32
+    ensures status { result ≡ outcome.new.status }
+    ensures answers { let request = conversion options max_var in
+        Answers (CanConvert options max_var) (IsConversionText request input.now)
+        (λ fault. IsConversionRefused request fault input.now) output.old output.new outcome.new }
+{
+    *outcome = convert(alloc, options, max_var, input, output);
+    outcome.status
+}
+
+/// Unrolls the circuit of an AIGER file.
+#[unsafe(no_mangle)]
+pub extern "C" fn aiger_unroll(
+    alloc: Global,
+    options: u32,
+    frames: u32,
+    max_var: u32,
+    input: &[u8],
+    output: &mut [u8],
+    outcome: &mut Outcome,
+) -> u32
+    ensures status { result ≡ outcome.new.status }
+    ensures answers { let request = unrolling options frames max_var in
+        Answers (CanUnroll options frames max_var) (IsUnrollingText request input.now)
+        (λ fault. IsUnrollingRefused request fault input.now) output.old output.new outcome.new }
+{
+    *outcome = unroll(alloc, options, frames, max_var, input, output);
+    outcome.status
+}
+
+/// Simulates the circuit of an AIGER file over a stimulus.
+#[unsafe(no_mangle)]
+pub extern "C" fn aiger_simulate(
+    alloc: Global,
+    options: u32,
+    max_var: u32,
+    model: &[u8],
+    stimulus: &[u8],
+    output: &mut [u8],
+    outcome: &mut Outcome,
+) -> u32
+    ensures status { result ≡ outcome.new.status }
+    ensures answers { let request = simulation options max_var in
+        Answers (CanSimulate options max_var) (IsSimulationText request model.now stimulus.now)
+        (IsSimulationRefused request model.now stimulus.now) output.old output.new outcome.new }
+{
+    *outcome = simulate(alloc, options, max_var, model, stimulus, output);
+    outcome.status
+}
+
+/// Judges a witness file for the circuit of an AIGER file.
+#[unsafe(no_mangle)]
+pub extern "C" fn aiger_witness(
+    alloc: Global,
+    max_var: u32,
+    model: &[u8],
+    file: &[u8],
+    outcome: &mut Outcome,
+) -> u32
+    ensures status { result ≡ outcome.new.status }
+    ensures answers { WitnessAnswers max_var model.now file.now outcome.new }
+{
+    *outcome = witness(alloc, max_var, model, file);
+    outcome.status
+}
+
+/// Puts the words for an outcome into the output, and answers how many bytes they have.
+#[unsafe(no_mangle)]
+pub extern "C" fn aiger_message(alloc: Global, outcome: &Outcome, output: &mut [u8]) -> usize
+    ensures { IsWritten (message_text outcome.now) output.old output.new result
+        ⊎ ((result ≡ 0) × (output.new ≡ output.old)) }
+{
+    message(alloc, outcome, output)
+}
+
+/// The version of the library.
+#[unsafe(no_mangle)]
+pub extern "C" fn aiger_version() -> u32
+    ensures { result ≡ VERSION }
+{
+    VERSION
+}
