@@ -10,16 +10,17 @@ fail() {
     exit 125
 }
 
-# Puts the program's crate and those that it stands on, by crates.txt, into $crates, each behind its own.
+# read_crates [CRATE]: puts the program's crate, or this one, and those that it stands on, by crates.txt, into $crates,
+# each behind its own
 read_crates() {
-    local line
+    local line top_crate=${1:-aiger}
     declare -gA stands_on=()
     while IFS= read -r line; do
         [[ ${line%%#*} =~ ^\ *([a-z0-9_]+)[^:]*:(.*)$ ]] && stands_on[${BASH_REMATCH[1]}]=${BASH_REMATCH[2]}
     done 2> /dev/null < "$top/crates.txt"
     crates=()
-    add_crate aiger
-    [ ${#crates[@]} != 0 ] || fail "$top/crates.txt names no crate aiger"
+    add_crate "$top_crate"
+    [ ${#crates[@]} != 0 ] || fail "$top/crates.txt names no crate $top_crate"
 }
 add_crate() {
     local name
@@ -28,10 +29,10 @@ add_crate() {
     crates+=("$1")
 }
 
-# Puts where the sources are into $places: crates.txt, and three folders of each of these crates.
+# read_places [CRATE]: puts where the sources are into $places: crates.txt, and three folders of each of these crates
 read_places() {
     local name folder
-    read_crates
+    read_crates "$@"
     places=(crates.txt)
     for name in "${crates[@]}"; do
         for folder in src specs proofs; do
@@ -66,3 +67,15 @@ is_linked() {
     { read -r of_sources of_program; } 2> /dev/null < "$out/linked" && [ "$of_sources" = "$sources" ] &&
         is_program aiger "$of_program"
 }
+
+# The same of the library: whether its archive was built from $library_sources, and where both are.
+archive=$top/crates/aiger_c/out/libaiger_c.a
+is_archived() {
+    local of_sources of_archive
+    { read -r of_sources of_archive; } 2> /dev/null < "$top/crates/aiger_c/out/linked" &&
+        [ "$of_sources" = "$library_sources" ] && [ "$(sha256 < "$archive")" = "$of_archive" ]
+}
+library_sources_sum() (
+    read_places aiger_c
+    sources_sum
+)

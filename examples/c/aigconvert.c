@@ -1,0 +1,45 @@
+/* Converts the AIGER file at standard input to binary, with a map that undoes it. From the top of the repository:
+
+       release/library . && gcc -Iinclude -o aigconvert examples/c/aigconvert.c libaiger.a
+       ./aigconvert < examples/half_adder.aag > half_adder.aig */
+#include <aiger.h>
+#include <stdio.h>
+#include <stdlib.h>
+
+static uint8_t *read_all(FILE *file, size_t *length) {
+    size_t room = 1 << 16, count;
+    uint8_t *bytes = malloc(room), *more;
+    *length = 0;
+    while (bytes && (count = fread(bytes + *length, 1, room - *length, file)) > 0)
+        if ((*length += count) == room) {
+            more = realloc(bytes, room *= 2);
+            if (!more) free(bytes);
+            bytes = more;
+        }
+    return bytes;
+}
+
+int main(void) {
+    size_t length, room;
+    uint8_t *input = read_all(stdin, &length), *output, words[80];
+    aiger_outcome outcome;
+    if (!input) return 1;
+
+    /* a likely size first; with less than is needed, the outcome tells how much that is */
+    output = malloc(room = length + 64);
+    while (output && aiger_convert(AIGER_KEEP_MAP, AIGER_LARGEST, input, length,
+                                   output, room, &outcome) == AIGER_TOO_SHORT) {
+        free(output);
+        output = malloc(room = outcome.length);
+    }
+    free(input);
+    if (!output || outcome.status != AIGER_DONE) {
+        room = output ? aiger_message(&outcome, words, sizeof words) : 0;
+        fprintf(stderr, "%.*s\n", (int)room, (const char *)words);
+        free(output);
+        return 1;
+    }
+    length = fwrite(output, 1, outcome.length, stdout);
+    free(output);
+    return length != outcome.length || fflush(stdout);
+}

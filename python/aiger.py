@@ -1,0 +1,225 @@
+"""AIGER files converted, unrolled and simulated, and witnesses judged, by libaiger.
+
+The functions take and give bytes, and are those of the program ``aiger``: docs/FORMAT.md says what each text is. The
+library is the one that the variable LIBAIGER names, or libaiger.so beside this file, or that of the system. Calls may
+run in several threads at once.
+
+>>> and_gate = b"aag 3 2 0 1 1\\n2\\n4\\n6\\n6 4 2\\n"
+>>> image = convert(and_gate, keep_map=True)
+>>> image[:14]
+b'aig 3 2 0 1 1\\n'
+>>> convert(image, ascii=True, undo_map=True) == and_gate
+True
+>>> simulate(and_gate, b"01\\n1x\\n")
+b' 01 0 \\n 1x x \\n.\\n'
+>>> try:
+...     convert(b"aag 1 1 0 0 0\\n3\\n")
+... except Refused as refused:
+...     print(refused.kind.name, refused.line, refused)
+NOT_VARIABLE 2 line 2: not a variable
+"""
+
+import ctypes
+import ctypes.util
+import enum
+import os
+from pathlib import Path
+from typing import Callable, Optional, Union
+
+__all__ = ["LARGEST", "Kind", "Refused", "confirm", "convert", "simulate", "unroll", "version"]
+
+Data = Union[bytes, bytearray, memoryview]
+
+#: The largest ``max_var``, and the one that is taken where none is given.
+LARGEST = 2147483647
+
+
+class Kind(enum.IntEnum):
+    """What is wrong with an input. docs/FORMAT.md says when each comes."""
+
+    NOT_AIGER = 1
+    BAD_HEADER = 2
+    TOO_LARGE = 3
+    BAD_LINE = 4
+    NOT_VARIABLE = 5
+    LITERAL_RANGE = 6
+    BAD_RESET = 7
+    TRUNCATED = 8
+    BAD_DELTA = 9
+    BAD_SYMBOL = 10
+    SYMBOL_RANGE = 11
+    SYMBOL_TWICE = 12
+    REDEFINED = 13
+    UNDEFINED = 14
+    CYCLIC = 15
+    NOT_ORDERED = 16
+    NO_MAP = 17
+    BAD_MAP_LINE = 18
+    MAP_MISMATCH = 19
+    MAP_FORGED = 20
+    NOT_UNROLLABLE = 21
+    TOO_LARGE_UNROLLED = 22
+    BAD_STIMULUS = 23
+    BAD_WITNESS = 24
+
+
+class Refused(ValueError):
+    """An input is refused. ``str`` of it is what the program says.
+
+    kind      what is wrong
+    line      the line, counted from 1, where it is wrong in one; for BAD_MAP_LINE a line of the map
+    gate      the gate of a binary file, counted from 1, where it is wrong in one
+    subject   the variable or the literal that the fault names, or 0
+    """
+
+    def __init__(self, message: str, kind: Kind, line: Optional[int], gate: Optional[int], subject: int) -> None:
+        super().__init__(message)
+        self.message = message
+        self.kind = kind
+        self.line = line
+        self.gate = gate
+        self.subject = subject
+
+
+class _Outcome(ctypes.Structure):
+    _fields_ = [(name, ctypes.c_uint32) for name in ("status", "kind", "place", "subject")] + [
+        (name, ctypes.c_uint64) for name in ("number", "length")
+    ]
+
+
+_DONE, _TOO_SHORT, _REFUSED, _OUT_OF_MEMORY, _BAD_OPTIONS, _NOT_CONFIRMED = range(6)
+_WHOLE, _LINE, _GATE, _MAP_LINE = range(4)
+_ASCII, _STRIP, _KEEP_MAP, _UNDO_MAP, _PROPERTIES = 1, 2, 4, 8, 16
+
+
+def _load() -> ctypes.CDLL:
+    beside = Path(__file__).resolve().parent / "libaiger.so"
+    named = os.environ.get("LIBAIGER") or (beside if beside.exists() else ctypes.util.find_library("aiger"))
+    library = ctypes.CDLL(str(named or "libaiger.so.1"))
+    number, text, size = ctypes.c_uint32, (ctypes.c_char_p, ctypes.c_size_t), ctypes.c_size_t
+    room, outcome = (ctypes.c_void_p, ctypes.c_size_t), ctypes.POINTER(_Outcome)
+    for name, arguments, result in (
+        ("aiger_convert", (number, number, *text, *room, outcome), number),
+        ("aiger_unroll", (number, number, number, *text, *room, outcome), number),
+        ("aiger_simulate", (number, number, *text, *text, *room, outcome), number),
+        ("aiger_witness", (number, *text, *text, outcome), number),
+        ("aiger_message", (outcome, *room), size),
+        ("aiger_version", (), number),
+    ):
+        function = getattr(library, name)
+        function.argtypes, function.restype = arguments, result
+    return library
+
+
+_library = _load()
+
+
+def _raise(outcome: _Outcome) -> None:
+    if outcome.status == _OUT_OF_MEMORY:
+        raise MemoryError
+    if outcome.status == _BAD_OPTIONS:
+        raise ValueError("options exclude each other, or a number is out of its range")
+    room = ctypes.create_string_buffer(80)
+    length = _library.aiger_message(outcome, room, len(room))
+    words = room.raw[:length].decode()
+    line = outcome.number if outcome.place in (_LINE, _MAP_LINE) else None
+    gate = outcome.number if outcome.place == _GATE else None
+    raise Refused(words, Kind(outcome.kind), line, gate, outcome.subject)
+
+
+def _text(room: int, call: Callable[[int, int, _Outcome], int]) -> bytes:
+    """The text that a call makes. It is called again where a first guess of its length was too short."""
+    outcome = _Outcome()
+    while True:
+        output = bytearray(room)
+        status = call(ctypes.addressof(ctypes.c_char.from_buffer(output)), room, outcome)
+        if status == _DONE:
+            return bytes(memoryview(output)[: outcome.length])
+        if status != _TOO_SHORT:
+            _raise(outcome)
+        room = outcome.length
+
+
+def _number(value: int) -> int:
+    if not 0 <= value <= LARGEST:
+        raise ValueError(f"{value} is not from 0 to {LARGEST}")
+    return value
+
+
+def convert(
+    data: Data,
+    *,
+    ascii: bool = False,
+    strip: bool = False,
+    keep_map: bool = False,
+    undo_map: bool = False,
+    max_var: int = LARGEST,
+) -> bytes:
+    """The canonical text of the circuit of an AIGER file, as ``aiger aigtoaig`` writes it.
+
+    ascii      write ASCII, and not binary
+    strip      leave out symbols and comment
+    keep_map   begin the comment with a map, by which the conversion can be undone; with no other option
+    undo_map   undo a conversion by the map of its image
+    max_var    refuse a file with a larger index, or with more of a kind
+    """
+    data = bytes(data)
+    options = ascii * _ASCII | strip * _STRIP | keep_map * _KEEP_MAP | undo_map * _UNDO_MAP
+    limit = _number(max_var)
+    return _text(
+        (4 if ascii else 2) * len(data) + 64,
+        lambda output, room, outcome: _library.aiger_convert(
+            options, limit, data, len(data), output, room, outcome
+        ),
+    )
+
+
+def unroll(data: Data, frames: int, *, ascii: bool = False, max_var: int = LARGEST) -> bytes:
+    """The circuit of an AIGER file unrolled over 1 to 1000000 frames, as ``aiger aigunroll`` writes it.
+
+    >>> unroll(b"aag 1 0 1 1 0\\n2 3\\n2\\n", 2, ascii=True)
+    b'aag 0 0 0 2 0\\n0\\n1\\n'
+    """
+    data = bytes(data)
+    options, count, limit = ascii * _ASCII, _number(frames), _number(max_var)
+    return _text(
+        min(count, 64) * (4 if ascii else 2) * len(data) + 64,
+        lambda output, room, outcome: _library.aiger_unroll(
+            options, count, limit, data, len(data), output, room, outcome
+        ),
+    )
+
+
+def simulate(model: Data, stimulus: Data, *, properties: bool = False, max_var: int = LARGEST) -> bytes:
+    """The trace of a stimulus, as ``aiger aigsim --batch`` writes it.
+
+    properties   show bad states and constraints too
+    """
+    model, stimulus = bytes(model), bytes(stimulus)
+    options, limit = properties * _PROPERTIES, _number(max_var)
+    return _text(
+        2 * len(stimulus) + 64,
+        lambda output, room, outcome: _library.aiger_simulate(
+            options, limit, model, len(model), stimulus, len(stimulus), output, room, outcome
+        ),
+    )
+
+
+def confirm(model: Data, witness: Data, *, max_var: int = LARGEST) -> Optional[int]:
+    """The first step, counted from 0, at which a witness shows the bad state that it claims, or None.
+
+    >>> confirm(b"aag 1 0 1 0 0 1\\n2 3\\n2\\n", b"1\\nb0\\n0\\n\\n\\n.\\n")
+    1
+    """
+    model, witness = bytes(model), bytes(witness)
+    outcome = _Outcome()
+    status = _library.aiger_witness(_number(max_var), model, len(model), witness, len(witness), outcome)
+    if status not in (_DONE, _NOT_CONFIRMED):
+        _raise(outcome)
+    return outcome.number if status == _DONE else None
+
+
+def version() -> str:
+    """The version of the library."""
+    number = _library.aiger_version()
+    return f"{number >> 16}.{number >> 8 & 255}.{number & 255}"
