@@ -221,6 +221,9 @@ check 'a trace and a bad line, a full standard output' output_full simulate < "$
 : > "$work/out"
 yes 11 | "$program" aigsim "$work/gate" 2> "$work/err" | head -c 1 > "$work/first"
 judge 'a trace into a pipe that nobody reads any more' "${PIPESTATUS[1]}"
+: > "$work/out"
+yes 11 | gate_dump 2> "$work/err" | head -c 1 > "$work/first"
+judge 'a dump into a pipe that nobody reads any more' "${PIPESTATUS[1]}"
 # a trace of nothing is not written, so nothing can go wrong there
 wants '' '' 0
 check 'an empty trace and a closed standard output' output_closed simulate < /dev/null
