@@ -112,8 +112,8 @@ fn small_only(value: u64, count: usize) -> Option<(u32, usize)>
     Some((value, count))
 }
 
-/// The number at the front in one to three bytes, and how many they are; none where it has more of them. Most numbers of a
-/// file are as short, and read without a loop.
+/// The number at the front in one to three bytes, and how many they are; none where it has more of them. Most numbers
+/// of a file are as short, and read without a loop.
 #[inline(always)]
 fn get_short_delta(bytes: &[u8]) -> Option<(u32, usize)>
     requires { 3 ≤ length bytes.now }

@@ -50,7 +50,7 @@ fn put_lines<W: Sink>(output: &mut Output<W>, circuit: &Circuit)
 }
 
 /// How many gates are written to one piece of the text at most.
-const PIECE: usize = 256;
+const PIECE: usize = 64;
 
 /// Writes gates by their deltas from the first byte on, and answers where they end.
 #[inline(never)]

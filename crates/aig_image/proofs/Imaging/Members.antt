@@ -1,10 +1,11 @@
 -- The least ready order of a well-formed circuit has each gate once, so its new order has each variable once.
 use Rattle.std.proofs.Common.{rules}
-use Rattle.std.proofs.Common.{◌≡◌, ◌<◌, ◌≤◌, ℕ, List, [], ◌++◌, length, map, slice_index_or, arith}
+use Rattle.std.proofs.Common.{◌≡◌, ◌+◌, ◌<◌, ◌≤◌, ℕ, List, [], ◌++◌, length, map, slice_index_or, arith}
 use Rattle.std.specs.List.{AllByRecursion}
 use Rattle.std.proofs.lemmas.List.{length-map}
 use Rattle.aig_circuit.specs.declared.circuit.Latch.{Latch}
 use Rattle.aig_circuit.specs.declared.circuit.Circuit.{Circuit}
+use Rattle.aig_circuit.specs.declared.circuit.TheConstants.{LARGEST}
 use Rattle.aig_circuit.specs.Wellformed.{IsAmong, IsVariableUpTo, AreDistinct, IsWellFormed}
 use Rattle.aig_circuit.specs.Wellformed.{defined_variables}
 use Rattle.aig_topo.specs.Order.{IsLeastReadyOrder, gate_operands}
@@ -71,9 +72,14 @@ module _ (c : Circuit) (order : List ℕ) (good : IsWellFormed c) (least : IsLea
   pub new_fits : length new ≤ c.max_var
   new_fits = search (rules, at_most, new_once, all_of, each, is_defined)
 
+  few : length c.inputs + length c.latches + length (taken c.gates order) ≤ LARGEST
+  few =
+      let many = length-map order (λ at. slice_index_or c.gates at no_gate) in
+      omega (arith, many, not_more, definitions_fit c good, good.limits.max_var)
+
   pub taken_apart : DefineApart c (taken c.gates order)
   taken_apart = record {
-    few = omega (arith, length-map order (λ at. slice_index_or c.gates at no_gate), not_more, definitions_fit c good, good.limits.max_var);
+    few = few;
     once = new_once;
     some = new_some;
   }

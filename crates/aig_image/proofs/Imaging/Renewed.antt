@@ -107,7 +107,8 @@ module _ (c : Circuit) (m : InTurn) (good : IsWellFormed c) (of_it : IsMadeInTur
 
   pub in_turn_fits : FitIntoLiterals (number_of m.numbers)
   in_turn_fits v =
-      omega (arith, of_it.numbers.numbers v, in_list new v, new_fits c of_it.order good of_it.least, good.limits.max_var)
+      let fits = new_fits c of_it.order good of_it.least in
+      omega (arith, of_it.numbers.numbers v, in_list new v, fits, good.limits.max_var)
 
   pub in_turn_is_image : (rest : Circuit) (none gates : List Gate) (count : ℕ) → none ≡ []
       → rest ≡ relabelled (number_of m.numbers) (with_gates none c) → gates ≡ m.gates.items → count ≡ m.numbers.noted

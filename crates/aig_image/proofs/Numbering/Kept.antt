@@ -78,7 +78,8 @@ own_gate n xs ys g numbered once some left right =
 around : (before : List ℕ) (gs : List Gate) (i : ℕ) (g : Gate) → i < length gs → g ≡ get_or gs i g
     → before ++ variables gs ≡ (before ++ variables (take i gs)) ++ g.var ∷ variables (drop (suc i) gs)
 around before gs i g there is =
-    ap (λ xs. before ++ variables xs) (sym (take-append-drop i gs) ∙ ap (λ xs. take i gs ++ xs) (drop-cons gs i g there))
+    ap (λ xs. before ++ variables xs)
+    (sym (take-append-drop i gs) ∙ ap (λ xs. take i gs ++ xs) (drop-cons gs i g there))
     ∙ search (rules, map-append, append_assoc)
 
 pub next_made : (n : Numbers) (before : List ℕ) (gs : List Gate) (i : ℕ) (g : Gate)
