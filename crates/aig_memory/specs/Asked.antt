@@ -40,6 +40,7 @@ simulation options max_var = record {
   batch = true;
   properties = has options PROPERTIES;
   witness = false;
+  vcd = false;
   max_var = max_var;
   model = None;
   stimulus = None;

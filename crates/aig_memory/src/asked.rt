@@ -69,6 +69,7 @@ pub(crate) fn simulation(options: u32, max_var: u32) -> Sim
         batch: true,
         properties: has(options, PROPERTIES),
         witness: false,
+        vcd: false,
         max_var,
         model: None,
         stimulus: None,
