@@ -45,7 +45,7 @@ required_file name = record (new_rule name) { required = true }
 -- `aigsim`: its options in any order, then the names of the model and of the stimulus or the witness, by place
 abbrev pub aigsim : App
 aigsim = with_rules (new_app (codes "aigsim"))
-    (flag (codes "batch") ∷ flag (codes "properties") ∷ flag (codes "witness") ∷ max_var
+    (flag (codes "batch") ∷ flag (codes "properties") ∷ flag (codes "witness") ∷ flag (codes "vcd") ∷ max_var
     ∷ required_file (codes "model") ∷ new_rule (codes "stimulus") ∷ [])
 
 -- `--frames K`, which has to be given

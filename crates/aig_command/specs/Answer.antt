@@ -44,6 +44,7 @@ simulation_of request = record {
   batch = request.batch;
   properties = request.properties;
   witness = request.witness;
+  vcd = request.vcd;
   max_var = request.max_var;
   model = name_of request.model;
   stimulus = name_of request.stimulus;
@@ -106,6 +107,10 @@ HasOneStandardInput request = name_of request.model ≡ None → name_of request
 abbrev pub IsWitnessAlone : Sim → Type 0
 IsWitnessAlone request = request.witness ≡ true → (request.batch ≡ false) × (request.properties ≡ false)
 
+-- A dump is made of a trace, and always has the properties.
+abbrev pub IsDumpAlone : Sim → Type 0
+IsDumpAlone request = request.vcd ≡ true → (request.properties ≡ false) × (request.witness ≡ false)
+
 -- A circuit is unrolled over one frame or more, and not over too many.
 abbrev pub HasFrames : Unroll → Type 0
 HasFrames request = (1 ≤ request.frames) × (request.frames ≤ most_frames)
@@ -113,7 +118,7 @@ HasFrames request = (1 ≤ request.frames) × (request.frames ≤ most_frames)
 -- what the command asks for can be done
 abbrev pub CanDo : Command → Type 0
 CanDo (commands.ToAig request) = IsKeptAlone request
-CanDo (commands.Sim request) = HasOneStandardInput request × IsWitnessAlone request
+CanDo (commands.Sim request) = HasOneStandardInput request × IsWitnessAlone request × IsDumpAlone request
 CanDo (commands.Unroll request) = HasFrames request
 CanDo (commands.Help text) = ⊤
 CanDo (commands.Version text) = ⊤

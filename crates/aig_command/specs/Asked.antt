@@ -88,6 +88,7 @@ pub record Simulation : Type 0 where
   pub batch : Bool
   pub properties : Bool
   pub witness : Bool
+  pub vcd : Bool
   pub max_var : ℕ
   pub model : Option Text
   pub stimulus : Option Text
@@ -98,17 +99,19 @@ simulation rows = record {
   batch = is_set (codes "batch") rows;
   properties = is_set (codes "properties") rows;
   witness = is_set (codes "witness") rows;
+  vcd = is_set (codes "vcd") rows;
   max_var = limit rows;
   model = file (codes "model") rows;
   stimulus = file (codes "stimulus") rows;
 }
 
--- the first reason to refuse a simulation: the standard input is one stream and cannot give two files, and judging a
--- witness writes no trace that an option could change
+-- the first reason to refuse a simulation: the standard input is one stream and cannot give two files; judging a
+-- witness writes no trace that an option could change; and a dump always has the properties
 abbrev pub simulation_refusal : Simulation → Option Usage
 simulation_refusal s =
     if is_none s.model && is_none s.stimulus then Some usage.BothStandardInput
     else if s.witness && (s.batch || s.properties) then Some usage.WitnessAlone
+    else if s.vcd && (s.properties || s.witness) then Some usage.VcdExcludesPropertiesAndWitness
     else None
 
 -- an unrolling: from which file to which, over how many frames, and how

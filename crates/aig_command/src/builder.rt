@@ -62,6 +62,12 @@ is written, once the whole witness was read and found to have this form:
 'confirmed N' if step N, counted from 0, is the first in which the bad state is
 1 and all constraints are and have been 1; 'not confirmed' if there is none.
 
+With --vcd a Value Change Dump (IEEE 1364) goes to the standard output in the
+place of the trace, for a wave viewer. It has all that --properties shows, by
+the names of the symbols, and each line of the trace takes 1 ns. At the end of
+a run the latches show the state that was reached, and all else is z. The
+number of the run, counted from 0, is r.
+
 Exit status:
   0  done, also for --help; with --witness, confirmed
   1  the model, the stimulus or the witness was refused, a file or stream
@@ -73,6 +79,7 @@ Examples, of a model with two inputs, a bad state and no latches:
   printf '10\\n.\\n1x\\n' > steps.txt                 two runs of one step
   aiger aigsim --properties model.aag steps.txt    with properties
   aiger aigsim --batch model.aag steps.txt         all of the trace, or nothing
+  aiger aigsim --vcd model.aag steps.txt > a.vcd   as waves
   printf '1\\nb0\\n\\n11\\n.\\n' > witness.txt          a witness of one step
   aiger aigsim --witness model.aag witness.txt     whether it is right
   aiger aigsim - steps.txt < model.aag             the model from a stream";
@@ -112,7 +119,11 @@ each line";
 
 const WITNESS_HELP: &str = "\
 Judge a witness in the place of the stimulus: does its run
-reach a bad state? Not with --batch or --properties";
+reach a bad state? Not with --batch, --properties or --vcd";
+
+const VCD_HELP: &str = "\
+Write a waveform, a Value Change Dump, in the place of the
+trace. Not with --properties or --witness";
 
 const KEEP_MAP_HELP: &str = "\
 Keep a map of the renumbering in the comment, so that
@@ -239,6 +250,7 @@ fn aigsim<'a>(alloc: Global) -> Result<Command<'a>, AllocError>
     let command = with_argument(command, flag(alloc, "batch", BATCH_HELP));
     let command = with_argument(command, flag(alloc, "properties", PROPERTIES_HELP));
     let command = with_argument(command, flag(alloc, "witness", WITNESS_HELP));
+    let command = with_argument(command, flag(alloc, "vcd", VCD_HELP));
     let command = with_argument(command, max_var(alloc));
     let command = with_argument(command, required_file(alloc, "model", MODEL_HELP));
     with_argument(command, file(alloc, "stimulus", STIMULUS_HELP))

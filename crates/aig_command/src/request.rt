@@ -30,6 +30,9 @@ pub struct Sim {
     /// Whether a witness file is judged, which stands in the stimulus's place. This stands without `batch` and
     /// `properties`.
     pub witness: bool,
+    /// Whether the trace is written as a Value Change Dump, which always shows bad states and constraints too. This
+    /// stands without `properties` and `witness`.
+    pub vcd: bool,
     /// The limit on the largest variable index and the counts of the model.
     pub max_var: u32,
     /// The model's name; `None` is the standard input.

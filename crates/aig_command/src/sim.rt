@@ -1,8 +1,8 @@
 //! What the arguments of `aigsim` ask for.
 ghost use Rattle.std.specs.Prelude.{◌≡◌, IfErr, IfOk, None, OnOk, Some};
 ghost use Rattle.clap.specs.Words.{found_of, rows_of};
-ghost use Rattle.aig_command.specs.Answer.{CanDo, HasOneStandardInput, IsAnswer, IsReason, IsWitnessAlone};
-ghost use Rattle.aig_command.specs.Answer.{simulation_of};
+ghost use Rattle.aig_command.specs.Answer.{CanDo, HasOneStandardInput, IsAnswer, IsDumpAlone, IsReason};
+ghost use Rattle.aig_command.specs.Answer.{IsWitnessAlone, simulation_of};
 ghost use Rattle.aig_command.specs.Asked.{aigsim, simulation, simulation_refusal};
 
 use crate::options::{file, is_set, limit};
@@ -21,6 +21,7 @@ fn simulation(alloc: Global, matches: &ArgMatches<'_>) -> Result<Sim, AllocError
         batch: is_set(matches, "batch"),
         properties: is_set(matches, "properties"),
         witness: is_set(matches, "witness"),
+        vcd: is_set(matches, "vcd"),
         max_var: limit(matches),
         model,
         stimulus,
@@ -34,12 +35,16 @@ fn check(request: &Sim) -> Result<(), Usage>
         × (simulation_refusal (simulation_of request.now) ≡ Some reason)) }
     ensures one { OnOk result (HasOneStandardInput request.now) }
     ensures alone { OnOk result (IsWitnessAlone request.now) }
+    ensures dump { OnOk result (IsDumpAlone request.now) }
 {
     if request.model.is_none() && request.stimulus.is_none() {
         return Err(Usage::BothStandardInput);
     }
     if request.witness && (request.batch || request.properties) {
         return Err(Usage::WitnessAlone);
+    }
+    if request.vcd && (request.properties || request.witness) {
+        return Err(Usage::VcdExcludesPropertiesAndWitness);
     }
     Ok(())
 }

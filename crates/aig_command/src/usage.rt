@@ -24,6 +24,8 @@ pub enum Usage {
     CompressedOutput,
     /// A witness is judged, and a batch or properties in a trace are asked for too.
     WitnessAlone,
+    /// A dump is asked for, which always has the properties, and with it properties, or that a witness is judged.
+    VcdExcludesPropertiesAndWitness,
     /// An allocation failed; nothing is known of the command line.
     OutOfMemory,
 }
@@ -41,6 +43,7 @@ impl Usage {
             Usage::BothStandardInput => "model and stimulus are both standard input",
             Usage::CompressedOutput => "compressed output is not supported",
             Usage::WitnessAlone => "--witness stands alone",
+            Usage::VcdExcludesPropertiesAndWitness => "--vcd excludes --properties and --witness",
             Usage::OutOfMemory => "out of memory",
         }
     }

@@ -1,6 +1,6 @@
 -- What devices tell of the sources and the destination that a request names.
 use Rattle.std.proofs.Common.{◌≡◌, ◌<◌, ◌∷◌, ◌∙◌, ℕ, List, length, Option, None, Some, false, true}
-use Rattle.std.proofs.Common.{IfErr, IfOk, Result, Ok, Err, OnErr, inr, refl, rules, sym, ap, arith}
+use Rattle.std.proofs.Common.{IfErr, IfOk, Result, Ok, Err, OnErr, inr, refl, sym, ap, arith}
 use lib.Seq.{take-length}
 use Rattle.aig_io.specs.Devices.{Past, took, unused}
 use Rattle.aig_io.specs.Files.{End, Files, Left, NotKept, Whole, used}
@@ -8,14 +8,13 @@ use Rattle.aig_files.specs.Named.{IsShown, closing, named, used_as}
 use Rattle.aig_circuit.specs.declared.circuit.Circuit.{Circuit}
 use Rattle.aig_command.specs.Answer.{name_of}
 use Rattle.aig_command.specs.declared.request.Sim.{Sim}
-use Rattle.aig_step.specs.Outcome.{Simulated}
 use Rattle.aig_witness.specs.declared.verdict.Verdict.{Verdict}
 use Rattle.aig_engines.specs.declared.fault.ToolFault.{ToolFault}
 use Rattle.aig_engines.specs.File.{IsFileOf}
-use Rattle.aig_engines.specs.Outcome.{Done}
-use Rattle.aig_engines.specs.Simulation.{IsSimulationText, columns_of}
+use Rattle.aig_engines.specs.Simulation.{IsWrittenText}
 use Rattle.aig_tools.specs.Named.{DoneBetween, FailedWriting, HasReadFrom, OfSource, source_read, with_use, world}
 use Rattle.aig_tools.specs.SimulationOutcome.{DoneAs, NotDoneAs, SimulationDone, SimulationNotDone}
+use Rattle.aig_tools.proofs.Dumps.{written_text}
 
 -- a file was used once more
 used_is : (name : List ℕ) (lender : ℕ) (files files_now : Files) (past : Past) (end : End) → files.current ≡ None
@@ -55,25 +54,19 @@ not_kept (Err e) answer destination name text lender files files_now opened past
     let kept = used_is name lender files files_now past NotKept idle (rw is refl) (rw lost at there) in
     rw some ((length text, NotKept, take-length text, rw take-length (rw bytes at kept)), refl)
 
-module _ (request : Sim) (model : List ℕ) (found : Circuit) (read : IsFileOf model request.max_var found) where
-  -- a trace text of a circuit is a simulation text of its file
-  simulation_text : (s s_now o o_now : Past) → Simulated found (columns_of request) s s_now o o_now
-      → Done (IsSimulationText request model) s s_now o o_now
-  simulation_text s s_now o o_now done = search rules
-
 module _ (request : Sim) (found : Circuit) (f f1 f2 : Files) (i i1 i2 o o2 : Past)
     (read : HasReadFrom (λ bytes. IsFileOf bytes request.max_var found) (name_of request.model) f f1 i i1) where
   traced : (source : Option (List ℕ)) → f1.current ≡ None
       → OfSource (λ s s_now. DoneAs request found None s s_now o o2) source f1 f2 i1 i2
-      → (request.witness ≡ false) × DoneBetween (IsSimulationText request read.bytes) source None
+      → (request.witness ≡ false) × DoneBetween (IsWrittenText request read.bytes) source None
       (source_read (name_of request.model) read.bytes (world f i o)) (world f2 i2 o2)
   traced None idle (done, same) =
-      let text = simulation_text request read.bytes found read.holds i1 i2 o o2 done.1 in
+      let text = written_text request read.bytes found read.holds i1 i2 o o2 done.1 in
       let files = read.of_files in
       let input = read.of_input in
       (done.0, record { bytes = text.1.bytes; text = text.0; is_text = text.1.holds; world = cc })
   traced (Some name) idle (file, same) =
-      let text = simulation_text request read.bytes found read.holds _ _ o o2 file.holds.1 in
+      let text = written_text request read.bytes found read.holds _ _ o o2 file.holds.1 in
       let gave = text.1.gave in
       let files = used_is name file.lender f1 f2 file.after Whole idle (ap (λ (p : Past). p.origin) gave)
       (file.shown.whole (omega (arith, ap (λ (p : Past). p.ends) gave))) in

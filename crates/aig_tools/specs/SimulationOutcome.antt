@@ -1,33 +1,60 @@
 -- What came of a simulation, or of judging a witness file.
-use Rattle.std.specs.Prelude.{◌≡◌, ◌⊎◌, ℕ, List, Bool, Option, None, Some, false, true}
-use Rattle.aig_io.specs.Devices.{Past, took}
+use Rattle.std.specs.Prelude.{◌≡◌, ◌⊎◌, ℕ, List, Bool, Option, None, Some, MatchBool, false, is_none, true}
+use Rattle.aig_io.specs.Devices.{Origin, Past, TookBeginning, took, unused}
 use Rattle.aig_circuit.specs.declared.circuit.Circuit.{Circuit}
 use Rattle.aig_command.specs.Answer.{name_of}
 use Rattle.aig_command.specs.declared.request.Sim.{Sim}
 use Rattle.aig_step.specs.declared.fault.SimFault.{SimFault}
+use Rattle.aig_step.specs.declared.fault.SimFault.TheVariants.{WriteFailed}
+use Rattle.aig_step.specs.declared.trace.Columns.{Columns}
+use Rattle.aig_step.specs.declared.trace.Columns.TheVariants.{Properties}
 use Rattle.aig_batch.specs.Batched.{NotBatched}
 use Rattle.aig_step.specs.Outcome.{NotSimulated, Simulated}
+use Rattle.aig_wave.specs.Wave.{wave_text}
 use Rattle.aig_witness.specs.declared.verdict.Verdict.{Verdict}
 use Rattle.aig_witness.specs.Confirming.{Judged}
 use Rattle.aig_engines.specs.declared.fault.ToolFault.{ToolFault}
 use Rattle.aig_engines.specs.File.{IsFileOf}
 use Rattle.aig_engines.specs.Outcome.{Done}
 use Rattle.aig_engines.specs.Reading.{HasRead, IsUnreadable, NotRead}
-use Rattle.aig_engines.specs.Simulation.{IsSimulationText, columns_of}
+use Rattle.aig_engines.specs.Simulation.{IsWrittenText, columns_of}
 use Rattle.aig_engines.specs.WitnessOutcome.{NotAnsweredFor, OfSteps, answer_line}
 use Rattle.aig_tools.specs.Named.{DoneBetween, NotReadFrom, OfSource, World, files_read, input_read, source_read}
 
--- what an error of a simulation says, which runs as a batch or step by step
-abbrev pub NotSimulatedAs : Bool → Circuit → Sim → SimFault → (stimulus stimulus_now sink sink_now : Past) → Type 0
-NotSimulatedAs true c request fault stimulus stimulus_now sink sink_now =
-    NotBatched c (columns_of request) fault stimulus stimulus_now sink sink_now
-NotSimulatedAs false c request fault stimulus stimulus_now sink sink_now =
-    NotSimulated c (columns_of request) fault stimulus stimulus_now sink sink_now
+-- What came of a simulation that writes its trace, as a batch or step by step: it succeeded, or ended with a fault.
+abbrev pub Ran : Bool → Circuit → Columns → Option SimFault → (stimulus stimulus_now sink sink_now : Past) → Type 0
+Ran batch c columns None stimulus stimulus_now sink sink_now = Simulated c columns stimulus stimulus_now sink sink_now
+Ran batch c columns (Some fault) stimulus stimulus_now sink sink_now =
+    MatchBool batch (NotBatched c columns fault stimulus stimulus_now sink sink_now)
+    (NotSimulated c columns fault stimulus stimulus_now sink sink_now)
 
--- the model and the stimulus gave all their bytes, and the sink took their simulation text
+-- The trace of a simulation, with all its columns, went to a sink that had taken nothing. This is done with the dump of
+-- what that sink took; the dump is ended where the simulation succeeded.
+pub record Dumped (batch : Bool) (c : Circuit) (fault : Option SimFault) (stimulus stimulus_now : Past)
+    (IsDone : List ℕ → Type 0) : Type 0 where
+  pub origin : Origin
+  pub trace : Past
+  pub ran : Ran batch c Properties fault stimulus stimulus_now (unused origin) trace
+  pub done : IsDone (wave_text c trace.bytes (is_none fault))
+
+-- What came of a simulation that writes the dump of its trace: the output took the dump; or it failed, and took a
+-- beginning of the dump, however the simulation ended.
+abbrev pub DumpedAs : Bool → Circuit → Option SimFault → (stimulus stimulus_now sink sink_now : Past) → Type 0
+DumpedAs batch c fault stimulus stimulus_now sink sink_now =
+    Dumped batch c fault stimulus stimulus_now (λ dump. sink_now ≡ took dump sink)
+    ⊎ ((fault ≡ Some WriteFailed) × ((other : Option SimFault)
+    × Dumped batch c other stimulus stimulus_now (λ dump. TookBeginning dump sink sink_now)))
+
+-- what came of a simulation that writes what the request asks for
+abbrev pub SimulatedAs : Sim → Circuit → Option SimFault → (stimulus stimulus_now sink sink_now : Past) → Type 0
+SimulatedAs request c fault stimulus stimulus_now sink sink_now =
+    MatchBool request.vcd (DumpedAs request.batch c fault stimulus stimulus_now sink sink_now)
+    (Ran request.batch c (columns_of request) fault stimulus stimulus_now sink sink_now)
+
+-- the model and the stimulus gave all their bytes, and the sink took what is written for them
 abbrev pub Traced : Sim → (model model_now stimulus stimulus_now sink sink_now : Past) → Type 0
 Traced request model model_now stimulus stimulus_now sink sink_now =
-    HasRead (λ bytes. Done (IsSimulationText request bytes) stimulus stimulus_now sink sink_now) model model_now
+    HasRead (λ bytes. Done (IsWrittenText request bytes) stimulus stimulus_now sink sink_now) model model_now
 
 -- What a fault of a simulation says. Nothing is fetched of the stimulus, and nothing is sent, before the whole model is
 -- read and found right.
@@ -35,13 +62,13 @@ abbrev pub NotTraced : Sim → ToolFault → (model model_now stimulus stimulus_
 NotTraced request fault model model_now stimulus stimulus_now sink sink_now =
     (NotRead (IsUnreadable request.max_var) fault model model_now × (stimulus_now ≡ stimulus) × (sink_now ≡ sink))
     ⊎ ((found : Circuit) × HasRead (λ bytes. IsFileOf bytes request.max_var found) model model_now
-    × OfSteps (λ sim. NotSimulatedAs request.batch found request sim stimulus stimulus_now sink sink_now) fault)
+    × OfSteps (λ sim. SimulatedAs request found (Some sim) stimulus stimulus_now sink sink_now) fault)
 
--- What was done for a circuit with a stimulus: its trace was written; or it was judged as a witness file, and the line
--- of the verdict was written.
+-- What was done for a circuit with a stimulus: its trace was written, or the dump of that; or it was judged as a
+-- witness file, and the line of the verdict was written.
 abbrev pub DoneAs : Sim → Circuit → Option Verdict → (stimulus stimulus_now sink sink_now : Past) → Type 0
 DoneAs request c None stimulus stimulus_now sink sink_now =
-    (request.witness ≡ false) × Simulated c (columns_of request) stimulus stimulus_now sink sink_now
+    (request.witness ≡ false) × SimulatedAs request c None stimulus stimulus_now sink sink_now
 DoneAs request c (Some verdict) stimulus stimulus_now sink sink_now =
     (request.witness ≡ true) × Judged c verdict stimulus stimulus_now × (sink_now ≡ took (answer_line verdict) sink)
 
@@ -50,7 +77,7 @@ abbrev pub NotDoneAs : Sim → Circuit → ToolFault → (stimulus stimulus_now 
 NotDoneAs request c fault stimulus stimulus_now sink sink_now =
     ((request.witness ≡ true) × NotAnsweredFor c fault stimulus stimulus_now sink sink_now)
     ⊎ ((request.witness ≡ false)
-    × OfSteps (λ sim. NotSimulatedAs request.batch c request sim stimulus stimulus_now sink sink_now) fault)
+    × OfSteps (λ sim. SimulatedAs request c (Some sim) stimulus stimulus_now sink sink_now) fault)
 
 -- P holds of the stimulus and the output, once these bytes of the model were read
 abbrev pub OfStimulus : (Past → Past → Past → Past → Type 0) → Sim → List ℕ → (before after : World) → Type 0
@@ -59,11 +86,11 @@ OfStimulus P request model before after =
     (files_read (name_of request.model) model before.files) after.files
     (input_read (name_of request.model) model before.input) after.input
 
--- The model was read to its end, and so was the stimulus, and their simulation text was written to the output; or there
+-- The model was read to its end, and so was the stimulus, and what is written for them went to the output; or there
 -- is this verdict on a witness file.
 abbrev pub SimulationDone : Sim → Option Verdict → (before after : World) → Type 0
 SimulationDone request None before after =
-    (request.witness ≡ false) × ((model : List ℕ) × DoneBetween (IsSimulationText request model)
+    (request.witness ≡ false) × ((model : List ℕ) × DoneBetween (IsWrittenText request model)
     (name_of request.stimulus) None (source_read (name_of request.model) model before) after)
 SimulationDone request (Some verdict) before after =
     (model : List ℕ) × (found : Circuit) × IsFileOf model request.max_var found

@@ -12,6 +12,7 @@ pub mod laws;
 mod named;
 mod program;
 mod simulation;
+mod tracing;
 
 pub use crate::program::{refuse_for_memory, refuse_words, serve, start};
 pub use crate::simulation::run_sim;

@@ -1,17 +1,15 @@
 //! `aigsim`: simulation of AIGER files.
-ghost use Rattle.std.specs.Prelude.{◌≡◌, IfErr, IfOk, OnOk, false};
+ghost use Rattle.std.specs.Prelude.{◌≡◌, IfErr, IfOk, None, OnOk, Some, false};
 ghost use Rattle.aig_io.specs.Devices.{CanFail};
-ghost use Rattle.aig_step.specs.Outcome.{Simulated};
 ghost use Rattle.aig_engines.specs.Simulation.{columns_of};
 ghost use Rattle.aig_engines.specs.WitnessOutcome.{OfSteps};
-ghost use Rattle.aig_tools.specs.SimulationOutcome.{DoneAs, NotDoneAs, NotSimulatedAs, NotTraced, Traced};
+ghost use Rattle.aig_tools.specs.SimulationOutcome.{DoneAs, NotDoneAs, NotTraced, SimulatedAs, Traced};
 
-use aig_batch::simulate_batched;
+use crate::tracing::{write_dump, write_trace};
 use aig_command::Sim;
 use aig_core::{Checked, Keep, Sink, Source};
 use aig_engines::{ToolFault, judge, read_circuit};
 use aig_step::{Columns, SimFault};
-use aig_trace::simulate;
 use aig_witness::Verdict;
 use std::alloc::Global;
 
@@ -26,7 +24,36 @@ fn columns(request: &Sim) -> Columns
     }
 }
 
-/// Simulates a circuit: step by step, or as a batch, which is sent once the whole stimulus was read and found right.
+/// Simulates a circuit, and writes the trace or the dump of that.
+fn write_as_asked<R: Source, W: Sink>(
+    alloc: Global,
+    request: &Sim,
+    found: &Checked,
+    stimulus: &mut R,
+    output: &mut W,
+) -> Result<(), SimFault>
+    requires stimulus { CanFail (R.past stimulus.old) }
+    requires output { CanFail (W.past output.old) }
+    ensures stimulus { (R.past stimulus.new).origin ≡ (R.past stimulus.old).origin }
+    ensures ok { OnOk result (SimulatedAs request.now found.now None
+        (R.past stimulus.old) (R.past stimulus.new) (W.past output.old) (W.past output.new)) }
+    ensures err { IfErr result (λ fault. SimulatedAs request.now found.now (Some fault)
+        (R.past stimulus.old) (R.past stimulus.new) (W.past output.old) (W.past output.new)) }
+{
+    if request.vcd {
+        return write_dump(alloc, request.batch, found, stimulus, output);
+    }
+    write_trace(
+        alloc,
+        request.batch,
+        found,
+        columns(request),
+        stimulus,
+        output,
+    )
+}
+
+/// The same, for a circuit that is not needed any more.
 fn simulate_as_asked<R: Source, W: Sink>(
     alloc: Global,
     request: &Sim,
@@ -36,23 +63,19 @@ fn simulate_as_asked<R: Source, W: Sink>(
 ) -> Result<(), ToolFault>
     requires stimulus { CanFail (R.past stimulus.old) }
     requires output { CanFail (W.past output.old) }
-    ensures ok { OnOk result (Simulated circuit (columns_of request.now)
+    ensures stimulus { (R.past stimulus.new).origin ≡ (R.past stimulus.old).origin }
+    ensures ok { OnOk result (SimulatedAs request.now circuit None
         (R.past stimulus.old) (R.past stimulus.new) (W.past output.old) (W.past output.new)) }
-    ensures err { IfErr result (OfSteps (λ fault. NotSimulatedAs request.now.batch circuit request.now fault
+    ensures err { IfErr result (OfSteps (λ fault. SimulatedAs request.now circuit (Some fault)
         (R.past stimulus.old) (R.past stimulus.new) (W.past output.old) (W.past output.new))) }
 {
-    let found = &circuit;
-    let done: Result<(), SimFault> = if request.batch {
-        simulate_batched(alloc, found, columns(request), stimulus, output)
-    } else {
-        simulate(alloc, found, columns(request), stimulus, output)
-    };
+    let done = write_as_asked(alloc, request, &circuit, stimulus, output);
     drop(circuit);
     Ok(done?)
 }
 
-/// Writes the trace of the stimulus for a circuit, or judges it as a witness file, as the request asks. There is a
-/// verdict where it is judged.
+/// Writes the trace of the stimulus for a circuit, or the dump of that, or judges the stimulus as a witness file, as
+/// the request asks. There is a verdict where it is judged.
 pub(crate) fn trace_or_judge<R: Source, W: Sink>(
     alloc: Global,
     request: &Sim,
@@ -62,6 +85,7 @@ pub(crate) fn trace_or_judge<R: Source, W: Sink>(
 ) -> Result<Option<Verdict>, ToolFault>
     requires stimulus { CanFail (R.past stimulus.old) }
     requires output { CanFail (W.past output.old) }
+    ensures stimulus { (R.past stimulus.new).origin ≡ (R.past stimulus.old).origin }
     ensures ok { IfOk result (λ verdict. DoneAs request.now found verdict
         (R.past stimulus.old) (R.past stimulus.new) (W.past output.old) (W.past output.new)) }
     ensures err { IfErr result (λ fault. NotDoneAs request.now found fault
@@ -74,10 +98,10 @@ pub(crate) fn trace_or_judge<R: Source, W: Sink>(
     Ok(None)
 }
 
-/// Reads the model to its end, then writes the trace of the stimulus, step by step or as a batch. Nothing is fetched
-/// of the stimulus before the whole model was read and found right. It fails if a device or an allocation fails, if the
-/// model is no file of a circuit, or at a bad line of the stimulus; what was written by then stands, of a batch nothing
-/// unless the output fails.
+/// Reads the model to its end, then writes the trace of the stimulus, or the dump of it, step by step or as a batch.
+/// Nothing is fetched of the stimulus before the whole model was read and found right. It fails if a device or an
+/// allocation fails, if the model is no file of a circuit, or at a bad line of the stimulus; what was written by then
+/// stands, of a batch nothing unless the output fails.
 pub fn run_sim<M: Source, R: Source, W: Sink>(
     alloc: Global,
     request: &Sim,

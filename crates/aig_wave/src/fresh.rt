@@ -48,8 +48,9 @@ impl<'a, W: Sink> FreshSink<'a, W> {
 
     /// Hands the sink back.
     pub fn finish(self) -> &'a mut W
-        ensures { (name : ℕ) (before : Past) → self.entry.origin ≡ fresh_origin name before
-            → (result.ghost_name ≡ name) × (W.past result.now ≡ later before self.entry.bytes self.entry.failures) }
+        ensures lender { result.ghost_name ≡ self.entry.origin.lender }
+        ensures past { (name : ℕ) (before : Past) → self.entry.origin ≡ fresh_origin name before
+            → W.past result.now ≡ later before self.entry.bytes self.entry.failures }
     {
         let FreshSink {
             sink,

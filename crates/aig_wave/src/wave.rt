@@ -58,7 +58,9 @@ impl<'a, W: Sink> WaveSink<'a, W> {
     /// Ends the dump, with the time at which the last frame ends where the trace is done, and hands the sink back. Ok
     /// means that the sink took all of it.
     pub fn finish(self, done: bool) -> (Result<(), DeviceFault>, &'a mut W)
-        ensures { (w : LayoutRecord) (name : ℕ) (origin : Origin) → self.entry.past.origin ≡ wave_origin w name origin
+        ensures lender { result.1.ghost_name ≡ self.entry.past.origin.lender }
+        ensures put { (w : LayoutRecord) (name : ℕ) (origin : Origin)
+            → self.entry.past.origin ≡ wave_origin w name origin
             → Put (fresh_at name result.1.now origin) (output_to W.past result.1 [] (is_err result.0))
             (dump w (frames_of w self.entry.past.bytes) done) }
     {

@@ -58,7 +58,10 @@ aigsim - --witness w => witness 2147483647 - w;\
 aigsim m w --witness --max-var 7 => witness 7 m w;\
 aigsim --witness m w.gz => witness 2147483647 m w.gz;\
 aigsim --witness -- --batch --properties => witness 2147483647 --batch --properties;\
-aigsim --batch -- m --witness => batch 2147483647 m --witness";
+aigsim --batch -- m --witness => batch 2147483647 m --witness;\
+aigsim --vcd m => vcd 2147483647 m -;\
+aigsim - s --vcd --max-var 7 --batch => batch vcd 7 - s;\
+aigsim --vcd -- --properties --witness => vcd 2147483647 --properties --witness";
 
 /// Arguments after the program's name, and what they ask for: the frames of the unrolling, its option, its limit, its
 /// source and its destination.
@@ -109,6 +112,13 @@ aigsim --witness --properties m => --witness stands alone;\
 aigsim --properties - w --witness => --witness stands alone;\
 aigsim --witness --batch --properties m => --witness stands alone;\
 aigsim --max-var 0 --witness --batch m w.gz => --witness stands alone;\
+aigsim --vcd - => model and stimulus are both standard input;\
+aigsim --vcd --witness --properties - => model and stimulus are both standard input;\
+aigsim --vcd --witness --batch m => --witness stands alone;\
+aigsim --properties --witness --vcd m => --witness stands alone;\
+aigsim --properties --vcd m => --vcd excludes --properties and --witness;\
+aigsim --vcd m w --witness => --vcd excludes --properties and --witness;\
+aigsim --batch --max-var 7 --vcd --properties - s => --vcd excludes --properties and --witness;\
 aigunroll --frames 2 - x.aig.gz => compressed output is not supported;\
 aigunroll --ascii --frames 2 a.aag .gz => compressed output is not supported;\
 aigtoaig --help => help;\
@@ -154,6 +164,7 @@ aigsim --version => version;\
 aigunroll -V => version;\
 aigtoaig --properties => words;\
 aigtoaig --witness => words;\
+aigtoaig --vcd => words;\
 aigtoaig --frames 2 => words;\
 aigsim => words;\
 aigsim --properties => words;\
@@ -190,6 +201,10 @@ aigsim --witness= m => words;\
 aigsim --witnes m => words;\
 aigsim --Witness m => words;\
 aigsim -w m => words;\
+aigsim --vcd => words;\
+aigsim --vcd --vcd m => words;\
+aigsim --vcd=yes m => words;\
+aigsim --VCD m => words;\
 aigsim --frames 2 m => words;\
 aigsim -x => words;\
 aigunroll => words;\
@@ -220,6 +235,7 @@ aigunroll --frames 2 --undo-map => words;\
 aigunroll --frames 2 --properties => words;\
 aigunroll --frames 2 --batch => words;\
 aigunroll --frames 2 --witness => words;\
+aigunroll --frames 2 --vcd => words;\
 aigunroll --frames 2 a b c => words;\
 aigunroll --frames 2 - - - => words;\
 help => words;\
@@ -281,10 +297,11 @@ fn shown_simulation(alloc: Global, request: &Sim) -> Result<String, AllocError> 
         ""
     };
     let witness = if request.witness { "witness " } else { "" };
+    let vcd = if request.vcd { "vcd " } else { "" };
     let model = shown(&request.model);
     let stimulus = shown(&request.stimulus);
     let limit = request.max_var;
-    format!(in alloc; "{batch}{properties}{witness}{limit} {model} {stimulus}")
+    format!(in alloc; "{batch}{properties}{witness}{vcd}{limit} {model} {stimulus}")
 }
 
 /// An unrolling, as a row shows it.

@@ -34,6 +34,7 @@ fn sim(witness: bool) -> Sim
         batch: false,
         properties: false,
         witness,
+        vcd: false,
         max_var: LARGEST,
         model: None,
         stimulus: None,

@@ -12,10 +12,45 @@ const STIMULUS: &[u8] = b"0x\n1x\n11\n";
 
 const TRACE: &[u8] = b" 0x 0 \n 1x x \n 11 1 \n.\n";
 
+/// The dump of that trace.
+const DUMP: &[u8] = b"$version aiger $end
+$timescale 1 ns $end
+$scope module aiger $end
+$var integer 64 r run $end
+$scope module inputs $end
+$var wire 1 i0 i0 $end
+$var wire 1 i1 i1 $end
+$upscope $end
+$scope module outputs $end
+$var wire 1 o0 o0 $end
+$upscope $end
+$upscope $end
+$enddefinitions $end
+#0
+b0 r
+0i0
+xi1
+0o0
+#1
+1i0
+xo0
+#2
+1i1
+1o0
+#3
+zi0
+zi1
+zo0
+#4
+";
+
 /// The words of each row, with a `#` between them: which of model and stimulus is a file, and which the standard input.
 /// The last two are of batches.
 const WORDS: &str = "aiger aigsim model stimulus#aiger aigsim model#aiger aigsim - stimulus#\
     aiger aigsim --batch model stimulus#aiger aigsim --batch model";
+
+/// The same, of dumps.
+const WORDS_OF_DUMPS: &str = "aiger aigsim --vcd model stimulus#aiger aigsim --vcd --batch model";
 
 /// What is read, how many bytes the devices move in a call, and which call of each fails, counted from 0.
 #[derive(Clone, Copy)]
@@ -182,6 +217,21 @@ fn failed_traces(rt: HostRuntime) -> Result<(), Fail> {
         for call in 0..SOUND.writes(rt.alloc(), words)? {
             devices.failing_trace = call;
             let stops = devices.stops_at_write(rt.alloc(), words, TRACE);
+            assert!(rt; stops, "write {call}");
+        }
+    }
+    Ok(())
+}
+
+/// Each write of a dump fails in turn, as for the trace; where none fails, all of it is written.
+#[test]
+fn failed_dumps(rt: HostRuntime) -> Result<(), Fail> {
+    for words in WORDS_OF_DUMPS.split('#') {
+        let mut devices = SOUND;
+        assert!(rt; devices.comes_to(rt.alloc(), words, 0, "", DUMP));
+        for call in 0..SOUND.writes(rt.alloc(), words)? {
+            devices.failing_trace = call;
+            let stops = devices.stops_at_write(rt.alloc(), words, DUMP);
             assert!(rt; stops, "write {call}");
         }
     }

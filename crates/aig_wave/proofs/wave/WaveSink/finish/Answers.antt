@@ -1,4 +1,4 @@
-use Rattle.std.proofs.Common.{◌≡◌, is_err, [], subst}
+use Rattle.std.proofs.Common.{◌≡◌, ◌∙◌, ap, is_err, [], subst}
 use Rattle.aig_io.specs.Notes.{bytes_of}
 use Rattle.aig_io.specs.Output.{Put, output_to}
 use Rattle.aig_wave.specs.Frames.{frames_of}
@@ -7,8 +7,14 @@ use Rattle.aig_wave.specs.Wave.{dump}
 use Rattle.aig_wave.proofs.Standing.{finished}
 use Rattle.aig_wave.proofs.wave.WaveSink.finish.Goals as goal
 
-pub returns : goal.returns
-returns g c = λ w name origin.
+pub returns-clause-lender : goal.returns-clause-lender
+returns-clause-lender g c =
+    let v = c.self.inside.waver in
+    let put = c.finish.ensures v.tape.layout (fresh v.output) (bytes_of c.self.inside.log.notes) c.self.invariant in
+    put.same ∙ ap (λ (s : Wave _). s.past.origin.lender) c.self.view_is
+
+pub returns-clause-put : goal.returns-clause-put
+returns-clause-put g c = λ w name origin.
     let v = c.self.inside.waver in
     subst (λ (s : Wave _). s.past.origin ≡ wave_origin w name origin
     → Put (fresh_at name c.finish.result.1.now origin)
