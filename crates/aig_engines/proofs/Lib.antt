@@ -7,3 +7,4 @@ pub mod Lines
 pub mod Unrollings
 pub mod WitnessesUnrolled
 pub mod Texts
+pub mod Dumps

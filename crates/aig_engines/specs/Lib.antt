@@ -8,3 +8,4 @@ pub mod Outcome
 pub mod WitnessOutcome
 pub mod Messages
 pub mod Laws
+pub mod DumpLaws

@@ -8,6 +8,7 @@
 #![tactic(auto)]
 
 mod conversion;
+pub mod dump_laws;
 mod engine;
 mod fault;
 mod file;

@@ -58,54 +58,46 @@ bits_long : (s : Signal) (line other : List ℕ) → length line ≡ length othe
 bits_long s line other long = simp (length-take, length-drop, long)
 
 -- the same changes of two pairs of frames, from the same on, lead to the same
-module _ (time next : ℕ) (before other f g : Frame) (long : length f.line ≡ length g.line) (end end_too : List ℕ) where
-  abbrev changes : List Signal → List ℕ
-  changes ss = flat_map (change_text time before f) ss ++ (time_text next ++ end)
+module _ (time : ℕ) (before other f g : Frame) (long : length f.line ≡ length g.line) where
+  same_change : (s : Signal) (rest more : List ℕ) → bits s before.line ≡ bits s other.line
+      → AreValues (bits s f.line) → AreValues (bits s g.line) → code s ≢ tag rest → code s ≢ tag more
+      → change_text time before f s ++ rest ≡ change_text time other g s ++ more
+      → (bits s f.line ≡ bits s g.line) × (rest ≡ more)
+  same_change s rest more same values values_too none none_too e =
+      elim (change time before f s) [
+        | unchanged is stays ↦
+            (elim (change time other g s) [
+              | unchanged is_too stays_too ↦ (sym stays ∙ same ∙ stays_too, rw (is, is_too) at e)
+              | changed is_too ↦
+                  absurd (none (sym (ap tag (rw (is, is_too) at e) ∙ tag_changed s (bits s g.line) more values_too)))
+            ])
+        | changed is ↦
+            (elim (change time other g s) [
+              | unchanged is_too _ ↦
+                  absurd (none_too (sym (tag_changed s (bits s f.line) rest values) ∙ ap tag (rw (is, is_too) at e)))
+              | changed is_too ↦
+                  same_changed s (bits s f.line) (bits s g.line) rest more (bits_long s f.line g.line long)
+                  (rw (is, is_too) at e)
+            ])
+      ]
 
-  abbrev changes_too : List Signal → List ℕ
-  changes_too ss = flat_map (change_text time other g) ss ++ (time_text next ++ end_too)
-
-  same_changes : (ss : List Signal) → HaveDistinctCodes ss → ShowValues ss f.line → ShowValues ss g.line
-      → ShowSame ss before.line other.line → changes ss ≡ changes_too ss
+  same_changes : (ss : List Signal) (next : ℕ) (end end_too : List ℕ) → HaveDistinctCodes ss → ShowValues ss f.line
+      → ShowValues ss g.line → ShowSame ss before.line other.line
+      → flat_map (change_text time before f) ss ++ (time_text next ++ end)
+      ≡ flat_map (change_text time other g) ss ++ (time_text next ++ end_too)
       → ShowSame ss f.line g.line × (time_text next ++ end ≡ time_text next ++ end_too)
-  same_changes [] distinct values values_too same e = (tt, e)
-  same_changes (s ∷ ss) distinct values values_too same e =
+  same_changes [] next end end_too distinct values values_too same e = (tt, e)
+  same_changes (s ∷ ss) next end end_too distinct values values_too same e =
       let a = flat_map (change_text time before f) ss in
       let b = flat_map (change_text time other g) ss in
       let x = time_text next ++ end in
       let y = time_text next ++ end_too in
-      let of_f = changed_text s (bits s f.line) in
-      let of_g = changed_text s (bits s g.line) in
-      let rest = same_changes ss distinct.1 values.1 values_too.1 same.1 in
-      elim (change time before f s) [
-        | unchanged is stays ↦
-            (elim (change time other g s) [
-              | unchanged is_too stays_too ↦
-                  (let more = rest (ap (λ (t : List ℕ). (t ++ a) ++ x) (sym is) ∙ e
-                  ∙ ap (λ (t : List ℕ). (t ++ b) ++ y) is_too) in
-                  ((sym stays ∙ same.0 ∙ stays_too, more.0), more.1))
-              | changed is_too ↦
-                  absurd (no_change (code s) time before f ss x distinct.0 values.1 (not_time s next end)
-                  (sym (ap tag (ap (λ (t : List ℕ). (t ++ a) ++ x) (sym is) ∙ e
-                  ∙ ap (λ (t : List ℕ). (t ++ b) ++ y) is_too ∙ append_assoc of_g b y)
-                  ∙ tag_changed s (bits s g.line) (b ++ y) values_too.0)))
-            ])
-        | changed is ↦
-            (elim (change time other g s) [
-              | unchanged is_too stays_too ↦
-                  absurd (no_change (code s) time other g ss y distinct.0 values_too.1 (not_time s next end_too)
-                  (sym (ap tag (ap (λ (t : List ℕ). (t ++ b) ++ y) (sym is_too) ∙ sym e
-                  ∙ ap (λ (t : List ℕ). (t ++ a) ++ x) is ∙ append_assoc of_f a x)
-                  ∙ tag_changed s (bits s f.line) (a ++ x) values.0)))
-              | changed is_too ↦
-                  (let both = same_changed s (bits s f.line) (bits s g.line) (a ++ x) (b ++ y)
-                  (bits_long s f.line g.line long)
-                  (sym (append_assoc of_f a x) ∙ ap (λ (t : List ℕ). (t ++ a) ++ x) (sym is) ∙ e
-                  ∙ ap (λ (t : List ℕ). (t ++ b) ++ y) is_too ∙ append_assoc of_g b y) in
-                  let more = rest both.1 in
-                  ((both.0, more.0), more.1))
-            ])
-      ]
+      let one = same_change s (a ++ x) (b ++ y) same.0 values.0 values_too.0
+      (no_change (code s) time before f ss x distinct.0 values.1 (not_time s next end))
+      (no_change (code s) time other g ss y distinct.0 values_too.1 (not_time s next end_too))
+      (sym (append_assoc (change_text time before f s) a x) ∙ e ∙ append_assoc (change_text time other g s) b y) in
+      let rest = same_changes ss next end end_too distinct.1 values.1 values_too.1 same.1 one.1 in
+      ((one.0, rest.0), rest.1)
 
 run_is_no_time : (time : ℕ) (rest : List ℕ) → codes "r" ≢ tag (time_text time ++ rest)
 run_is_no_time time rest = λ same. (
@@ -242,8 +234,8 @@ module _ (w : Layout) where
       (changes_too ++ behind (time + 1) g gs) goes (subst (λ (n : ℕ). GoesOn time n g.run) (sym same.0) goes_too)
       none none_too
       (runs ∙ ap (λ (n : ℕ). run_by time n g.run ++ (changes_too ++ behind (time + 1) g gs)) (sym same.0)) in
-      let bits_too = same_changes time (time + 1) before other f g (shown.long ∙ sym shown_too.long) end.0 end_too.0
-      w.signals distinct shown.values shown_too.values same.1
+      let bits_too = same_changes time before other f g (shown.long ∙ sym shown_too.long) w.signals (time + 1) end.0
+      end_too.0 distinct shown.values shown_too.values same.1
       (ap (λ (t : List ℕ). changes ++ t) (sym end.1) ∙ run.1 ∙ ap (λ (t : List ℕ). changes_too ++ t) end_too.1) in
       ((run.0, bits_too.0), end.1 ∙ bits_too.1 ∙ sym end_too.1)
 

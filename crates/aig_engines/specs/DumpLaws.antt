@@ -1,0 +1,37 @@
+-- What the definitions of dumps say of one another.
+use Rattle.std.specs.Prelude.{◌≡◌, ◌↔◌, ℕ, List, Bool, false}
+use Rattle.aig_circuit.specs.declared.circuit.Circuit.{Circuit}
+use Rattle.aig_circuit.specs.declared.circuit.TheConstants.{LARGEST}
+use Rattle.aig_command.specs.declared.request.Sim.{Sim}
+use Rattle.aig_command.specs.declared.request.ToAig.{ToAig}
+use Rattle.aig_wave.specs.Wave.{wave_text}
+use Rattle.aig_engines.specs.Conversion.{IsConversionText}
+use Rattle.aig_engines.specs.File.{IsFileOf}
+use Rattle.aig_engines.specs.Simulation.{IsDumpText}
+
+-- A file and its conversion have one dump of each trace text, of a whole one and of one that was cut short: whatever
+-- the conversion is, at the default limit, to ASCII or to binary, with the map or without, also one that undoes a map.
+-- It only has to keep the symbols.
+abbrev pub ConversionsAreDumpedAlike : Type 0
+ConversionsAreDumpedAlike = (request : ToAig) → request.strip ≡ false → request.max_var ≡ LARGEST
+    → (file converted : List ℕ) → IsConversionText request file converted
+    → (c d : Circuit) → IsFileOf file LARGEST c → IsFileOf converted LARGEST d
+    → (text : List ℕ) (done : Bool) → wave_text d text done ≡ wave_text c text done
+
+-- a model and a stimulus have one dump at most
+abbrev pub DumpsAreUnambiguous : Type 0
+DumpsAreUnambiguous = (request : Sim) (model stimulus dump other : List ℕ)
+    → IsDumpText request model stimulus dump → IsDumpText request model stimulus other → dump ≡ other
+
+-- A file and its conversion have the same dump of every stimulus, where either has one. So the same dump is written for
+-- a file, for what it is converted to, and for what is undone from that.
+abbrev pub DumpsAreKept : Type 0
+DumpsAreKept = (request : ToAig) (before after : Sim) → request.strip ≡ false → request.max_var ≡ LARGEST
+    → before.max_var ≡ LARGEST → after.max_var ≡ LARGEST
+    → (file converted stimulus dump : List ℕ) → IsConversionText request file converted
+    → IsDumpText before file stimulus dump ↔ IsDumpText after converted stimulus dump
+
+-- A dump tells its trace: two stimuli of a model with one dump have one trace with the properties.
+abbrev pub DumpsTellTraces : Type 0
+DumpsTellTraces = (request : Sim) (model stimulus other dump : List ℕ) (p : IsDumpText request model stimulus dump)
+    (q : IsDumpText request model other dump) → p.trace ≡ q.trace

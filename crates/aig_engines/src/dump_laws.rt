@@ -1,0 +1,24 @@
+//! Laws of dumps: facts about the definitions alone, each the contract of a function with an empty body.
+ghost use Rattle.aig_engines.specs.DumpLaws.{ConversionsAreDumpedAlike, DumpsAreKept, DumpsAreUnambiguous};
+ghost use Rattle.aig_engines.specs.DumpLaws.{DumpsTellTraces};
+
+/// A file and its conversion, or what is undone from it, have one dump of each trace text, where the symbols are kept.
+pub fn conversions_are_dumped_alike()
+    ensures { ConversionsAreDumpedAlike }
+{}
+
+/// A model and a stimulus have one dump at most.
+pub fn dumps_are_unambiguous()
+    ensures { DumpsAreUnambiguous }
+{}
+
+/// A file and its conversion, or what is undone from it, have the same dump of every stimulus, where the symbols are
+/// kept.
+pub fn dumps_are_kept()
+    ensures { DumpsAreKept }
+{}
+
+/// A dump tells its trace: two stimuli of a model with one dump have one trace with the properties.
+pub fn dumps_tell_traces()
+    ensures { DumpsTellTraces }
+{}
