@@ -20,7 +20,7 @@ pub use crate::cells::{Code, Table};
 pub use crate::evaluate::Pair;
 pub use crate::fault::SimFault;
 pub use crate::machine::Machine;
-pub use crate::simulator::{Row, Simulator};
+pub use crate::simulator::{Row, Simulator, StepError};
 pub use crate::stepper::Stepper;
 pub use crate::stimulus::is_stop;
 pub use crate::trace::{Columns, RowLine, write_text};

@@ -1,7 +1,8 @@
 //! The simulator.
-ghost use Rattle.std.specs.Prelude.{◌≡◌, length, IfOk, IfErr};
+ghost use Rattle.std.specs.Prelude.{◌≡◌, ◌↔◌, length, IfOk, IfErr, IsOk, OnErr, OnOk};
 ghost use Rattle.aig_meaning.specs.Meaning.{MeansTheSame};
 ghost use Rattle.aig_step.specs.declared.fault.SimFault.TheVariants as faults;
+ghost use Rattle.aig_step.specs.declared.simulator.StepError.TheVariants as errors;
 ghost use Rattle.aig_step.specs.Simulating.{IsReset, Stepped};
 ghost use Rattle.aig_step.specs.Showing.{Shows};
 ghost use Rattle.aig_step.specs.Parts.Simulators.{HasRoom};
@@ -14,6 +15,20 @@ use aig_checked::Checked;
 use aig_circuit::{Circuit, OutOfMemory, Val};
 use std::alloc::Global;
 use std::marker::Model;
+use thiserror::Error;
+
+/// Why a step was not taken.
+#[derive(Clone, Copy, Debug, PartialEq, Eq, Error)]
+pub enum StepError {
+    /// There is not one value for each input of the circuit.
+    #[error("{given} values for {inputs} inputs")]
+    WrongInputCount {
+        /// How many values were given.
+        given: usize,
+        /// How many inputs the circuit has.
+        inputs: usize,
+    },
+}
 
 /// What can be seen of a step beside its inputs, list by list in the circuit's order.
 #[derive(Clone, Copy)]
@@ -153,6 +168,26 @@ impl Simulator {
             &mut self.shown.constraints,
         );
         self.is_stepped = true;
+    }
+
+    /// Takes a step with these inputs, one value for each in the circuit's order. Where the number of values does not
+    /// fit, it takes none, and stays as it was.
+    pub fn try_step(&mut self, given: &[Val]) -> Result<(), StepError>
+        ensures fits { IsOk result ↔ (length given.now ≡ length self.old.circuit.inputs) }
+        ensures ok { OnOk result (Stepped self.old self.new given.now) }
+        ensures err { IfErr result (λ e. e ≡ errors.WrongInputCount (length given.now)
+            (length self.old.circuit.inputs)) }
+        ensures stays { OnErr result (self.new ≡ self.old) }
+    {
+        let inputs = self.inputs();
+        if given.len() != inputs {
+            return Err(StepError::WrongInputCount {
+                given: given.len(),
+                inputs,
+            });
+        }
+        self.step(given);
+        Ok(())
     }
 
     /// What the last step showed; `None` where none was taken since the reset.
