@@ -5,3 +5,4 @@ pub mod Stages
 pub mod Grammar
 pub mod Written
 pub mod Canonical
+pub mod Files

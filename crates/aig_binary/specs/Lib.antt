@@ -4,4 +4,5 @@ pub mod BinaryText
 pub mod BinaryReading
 pub mod Laws
 pub mod FileLaws
+pub mod File
 pub mod Parts

@@ -1,4 +1,3 @@
-pub mod Files
 pub mod Trips
 pub mod TripsExist
 pub mod Meant

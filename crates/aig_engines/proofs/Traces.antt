@@ -10,7 +10,7 @@ use Rattle.aig_trace.proofs.SameTexts.{same_meaning_same_text}
 use Rattle.aig_engines.specs.File.{IsFileOf}
 use Rattle.aig_engines.specs.Simulation.{columns_of, IsSimulationText}
 use Rattle.aig_engines.specs.Laws.{SimulationsAreUnambiguous, SimulationTextsExist, TracesAreKept}
-use Rattle.aig_engines.proofs.Files.{one_circuit}
+use Rattle.aig_binary.proofs.Files.{one_circuit}
 use Rattle.aig_engines.proofs.Meant.{converted_file}
 use Rattle.aig_engines.proofs.TripsExist.{well_formed_file}
 

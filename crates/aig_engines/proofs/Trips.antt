@@ -22,7 +22,7 @@ use Rattle.aig_engines.specs.File.{IsFileOf}
 use Rattle.aig_engines.specs.Conversion.{IsImageAs, IsSource, IsTextAs, IsConversionText, changed}
 use Rattle.aig_engines.specs.Laws.{BinarySurvivesAscii, ConversionsAreUnambiguous, IsPlain, KeepsMap}
 use Rattle.aig_engines.specs.Laws.{UndoesMap, UndoingGivesAsciiBack}
-use Rattle.aig_engines.proofs.Files.{one_circuit}
+use Rattle.aig_binary.proofs.Files.{one_circuit}
 
 one_image : (keep_map : Bool) (c image other : Circuit) → IsImageAs keep_map c image → IsImageAs keep_map c other
     → image ≡ other

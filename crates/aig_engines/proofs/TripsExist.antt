@@ -14,7 +14,7 @@ use Rattle.aig_command.specs.declared.request.ToAig.{ToAig}
 use Rattle.aig_engines.specs.File.{IsFileOf}
 use Rattle.aig_engines.specs.Conversion.{IsConversionText, IsSource, IsTextAs}
 use Rattle.aig_engines.specs.Laws.{BinaryFilesConvertThereAndBack, FilesConvertThereAndBack, MappedTextsHaveNoFault}
-use Rattle.aig_engines.proofs.Files.{file_is_read, one_circuit}
+use Rattle.aig_binary.proofs.Files.{file_is_read, one_circuit}
 use Rattle.aig_engines.proofs.Trips.{ascii_file, binary_file, with_map}
 
 -- what a conversion that leaves nothing out writes

@@ -10,7 +10,7 @@ use Rattle.aig_command.specs.declared.request.Unroll.{Unroll}
 use Rattle.aig_engines.specs.File.{IsFileOf}
 use Rattle.aig_engines.specs.Unrolling.{IsUnrollingText, text_as}
 use Rattle.aig_engines.specs.Laws.{UnrolledTextsAreFiles, UnrolledTextsExist, UnrollingsAreUnambiguous}
-use Rattle.aig_engines.proofs.Files.{one_circuit}
+use Rattle.aig_binary.proofs.Files.{one_circuit}
 use Rattle.aig_engines.proofs.Trips.{ascii_file, binary_file}
 use Rattle.aig_engines.proofs.TripsExist.{well_formed_file}
 

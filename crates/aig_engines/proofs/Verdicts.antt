@@ -17,7 +17,7 @@ use Rattle.aig_engines.specs.File.{IsFileOf}
 use Rattle.aig_engines.specs.Laws.{RightRunsAreConfirmed, VerdictsAreKept, WitnessAnswersAreUnambiguous}
 use Rattle.aig_engines.specs.Laws.{WitnessAnswersExist}
 use Rattle.aig_engines.specs.WitnessOutcome.{IsWitnessAnswer}
-use Rattle.aig_engines.proofs.Files.{one_circuit}
+use Rattle.aig_binary.proofs.Files.{one_circuit}
 use Rattle.aig_engines.proofs.Meant.{converted_file}
 use Rattle.aig_engines.proofs.TripsExist.{well_formed_file}
 

@@ -1,4 +1,4 @@
-pub mod File
+pub use Rattle.aig_binary.specs.File
 pub mod Conversion
 pub mod Simulation
 pub mod Unrolling

@@ -1,4 +1,4 @@
-use Rattle.aig_engines.proofs.Files.{file_is_read, read_is_file}
+use Rattle.aig_binary.proofs.Files.{file_is_read, read_is_file}
 use Rattle.aig_engines.proofs.laws.files_are_read_exactly.Goals as goal
 
 pub returns : goal.returns

@@ -1,4 +1,4 @@
-use Rattle.aig_engines.proofs.Files.{one_circuit}
+use Rattle.aig_binary.proofs.Files.{one_circuit}
 use Rattle.aig_engines.proofs.laws.files_are_unambiguous.Goals as goal
 
 pub returns : goal.returns

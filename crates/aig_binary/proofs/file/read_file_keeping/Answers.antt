@@ -1,8 +1,8 @@
 use Rattle.std.proofs.Common.{◌∙◌, sym, ⊎_elim}
 use Rattle.aig_text.specs.AsciiGrammar.{IsAsciiText}
 use Rattle.aig_binary.specs.BinaryGrammar.{IsBinaryText}
-use Rattle.aig_engines.proofs.Files.{no_binary_file}
-use Rattle.aig_engines.proofs.file.read_file.Goals as goal
+use Rattle.aig_binary.proofs.Files.{no_binary_file}
+use Rattle.aig_binary.proofs.file.read_file_keeping.Goals as goal
 
 pub returns-else-first_word_is-clause-only : goal.returns-else-first_word_is-clause-only
 returns-else-first_word_is-clause-only c = λ d is.

@@ -18,8 +18,7 @@ use Rattle.aig_binary.specs.BinaryGrammar.{binary_word, IsBinaryText}
 use Rattle.aig_binary.specs.BinaryReading.{binary_at}
 use Rattle.aig_binary.proofs.Grammar.Read.{accepted_is_read as binary_accepted}
 use Rattle.aig_binary.proofs.Grammar.Accepted.{reading_is_accepted as binary_is_accepted}
-use Rattle.aig_engines.specs.File.{IsFileOf, file_reading}
-use Rattle.aig_engines.specs.Laws.{FilesAreUnambiguous}
+use Rattle.aig_binary.specs.File.{IsFileOf, file_reading}
 
 -- a header that is read begins with its word
 header_begins : (word : List ℕ) (limit n : ℕ) (ls : List Line) (p : Header × Ahead)
@@ -64,6 +63,6 @@ pub read_is_file : (limit : ℕ) (text : List ℕ) (c : Circuit) → file_readin
 read_is_file limit text c = search (rules, binary_is_accepted, reading_is_accepted)
 
 -- a text is the file of one circuit at most
-pub one_circuit : FilesAreUnambiguous
+pub one_circuit : (text : List ℕ) (limit : ℕ) (c d : Circuit) → IsFileOf text limit c → IsFileOf text limit d → c ≡ d
 one_circuit text limit c d a b =
     ok_same {E = ReadFault} c d (sym (file_is_read limit text c a) ∙ file_is_read limit text d b)
