@@ -1,5 +1,5 @@
-//! Binary AIGER files: deltas, the reader and the writer of circuits in binary order. And files of either kind, ASCII or
-//! binary.
+//! Binary AIGER files: deltas, the reader and the writer of circuits in binary order. Files of either kind, ASCII or
+//! binary, are read here too.
 //!
 //! Others call `read_file` (`read_file_keeping`), which reads a file of either kind; `read_binary` and `write_binary`;
 //! `aig_unroll` also calls `put_gates`.

@@ -170,8 +170,8 @@ impl Simulator {
         self.is_stepped = true;
     }
 
-    /// Takes a step with these inputs, one value for each in the circuit's order. Of any other number of values it takes
-    /// none, and stays as it was.
+    /// Takes a step with these inputs, one value for each in the circuit's order. Where the number of values does not
+    /// fit, it takes none, and stays as it was.
     pub fn try_step(&mut self, given: &[Val]) -> Result<(), StepError>
         ensures fits { IsOk result ↔ (length given.now ≡ length self.old.circuit.inputs) }
         ensures ok { OnOk result (Stepped self.old self.new given.now) }
