@@ -24,6 +24,7 @@ HALF_NAMES = b"i0 x\ni1 y\no0 s\no1 c\nc\n"
 HALF_IMAGE = HALF_GATES + HALF_NAMES + b"half adder\n"
 HALF_BLOCK = b"aigmap 1 7 2 0 3 1\n1\n2\n3 2 1\n6 0 1\n7 1 1\naigmap end\n"
 HALF_MAPPED = HALF_GATES + HALF_NAMES + HALF_BLOCK + b"half adder\n"
+SUMS = b" 01 10 \n 11 01 \n.\n 10 10 \n x0 x0 \n" * 6 + b".\n"
 EQUAL = b"aag 2 1 0 1 1\n2\n4\n4 2 2\n"
 EQUAL_IMAGE = b"aig 2 1 0 1 1\n4\n\x02\x00"
 EQUAL_MAPPED = EQUAL_IMAGE + b"c\naigmap 1 2 1 0 1 0\n1\n2 0 0\naigmap end\n"
@@ -88,6 +89,8 @@ ROWS = [
     Row("a latch and a gate, unrolled to binary", "aigunroll --frames 2", HELD, HELD_TWICE_IMAGE),
     Row("a latch and a gate to binary", "aigtoaig", HELD, HELD_IMAGE),
     *simulated("two runs", "", HELD_IMAGE, b"1\n.\n1\n.\n", b"0 1 1 1\n.\n0 1 1 1\n.\n"),
+    *simulated("steps without latches", "", HALF, b"01\n11\n.\n10\nx0\n" * 6, SUMS),
+    *simulated("steps without latches in a batch", "--batch", HALF, b"01\n11\n.\n10\nx0\n" * 6, SUMS),
     *simulated("two runs in a batch", "--batch", HELD_IMAGE, b"1\n.\n1\n.\n", b"0 1 1 1\n.\n0 1 1 1\n.\n"),
     *simulated("a witness", "--witness", BAD, b"1\nb0\n0\n\n\n.\n", b"confirmed 1\n"),
     Row("every section", "aigtoaig --ascii", EVERY + EVERY_NAMES, EVERY + EVERY_NAMES),

@@ -47,6 +47,7 @@ rows_traces() {
     rows_models
     rows_stimulus_names
     rows_many_runs
+    rows_side_by_side
 }
 
 # a gate, without latches; a latch; and both
@@ -345,4 +346,27 @@ rows_many_runs() {
     stops '300 runs of 0 to 299 steps, and a bad line' "${runs}0\n2\n" "${trace}0 0 0 0\n" 45152
     row 'the option --batch behind a name' '1\n.\n1\n' '0 1 1 1\n.\n0 1 1 1\n.\n' '' 0 aigsim "$model" --batch -
     unwanted 'model and stimulus by -, in a batch' 'model and stimulus are both standard input' aigsim --batch -
+}
+
+# steps without latches, which are taken 256 at once
+rows_side_by_side() {
+    local count
+    model 'aag 3 2 0 1 1\n2\n4\n6\n6 2 4\n'
+    # in_turn COUNT TEXTS: so many lines, of which each is the next of these texts
+    in_turn() {
+        awk -v count="$1" -v texts="$2" 'BEGIN {
+            size = split(texts, each, "|")
+            for (line = 0; line < count; line++) printf "%s\\n", each[line % size + 1]
+        }'
+    }
+    for count in 1 15 16 255 256 257 513; do
+        traces "$count steps without latches" "$(in_turn "$count" '11|0x|10|x1|xx')" \
+            "$(in_turn "$count" ' 11 1 | 0x 0 | 10 0 | x1 x | xx x ').\n"
+    done
+    traces '300 runs of a step' "$(in_turn 600 '11|.')" "$(in_turn 600 ' 11 1 |.')"
+    traces '600 runs of no step' "$(in_turn 600 .)" "$(in_turn 600 .)"
+    traces 'runs that end amid 256 steps' "$(in_turn 700 '11|0x|.|x1|.|.')" "$(in_turn 700 ' 11 1 | 0x 0 |.| x1 x |.|.').\n"
+    stops 'a bad line behind 2 steps' "$(in_turn 2 '11|0x')12\n11\n" "$(in_turn 2 ' 11 1 | 0x 0 ')" 3
+    stops 'a bad line behind 300 steps' "$(in_turn 300 '11|0x')12\n11\n" "$(in_turn 300 ' 11 1 | 0x 0 ')" 301
+    traces '300 steps, the last without LF' "$(in_turn 299 '11|0x')0x" "$(in_turn 300 ' 11 1 | 0x 0 ').\n"
 }

@@ -1,3 +1,2 @@
 pub mod RunsRead
 pub mod Sent
-pub mod Benches

@@ -6,7 +6,7 @@ ghost use Rattle.aig_io.specs.Devices.{CanFail, took};
 ghost use Rattle.aig_lanes.specs.declared.run.Run.{Run as RunRecord};
 ghost use Rattle.aig_batch.specs.Batched.{NotBatched};
 ghost use Rattle.aig_step.specs.Outcome.{Simulated, Traced, first_bad_line};
-ghost use Rattle.aig_batch.specs.Parts.Benches.{Fits, HasRoomFor, IsBench};
+ghost use Rattle.aig_bench.specs.Parts.Benches.{Fits, HasRoomFor, IsBench};
 ghost use Rattle.aig_batch.specs.Parts.RunsRead.{PutRuns, Says, entries_of_groups};
 ghost use Rattle.aig_batch.specs.Parts.Sent.{NotTraced, SentSo};
 ghost use Rattle.aig_trace.specs.Parts.Tracing.{IsFresh};
@@ -15,12 +15,13 @@ ghost use Rattle.aig_meaning.specs.Meaning.{MeansTheSame};
 
 use crate::collected::collect;
 use crate::front::read_front;
-use crate::text_group::{Bench, set_up};
+use crate::text_group::run_group;
+use aig_bench::Bench;
 use aig_checked::Checked;
 use aig_io::{DeviceFault, Output, Sink, Source};
 use aig_lanes::RunGroup;
 use aig_step::{Columns, Machine, SimFault};
-use aig_trace::Reader;
+use aig_trace::{MOST_INPUTS, Reader, line_room};
 use std::alloc::Global;
 
 /// Puts the texts of groups, one after the other.
@@ -38,7 +39,7 @@ fn put_groups<W: Sink>(
     ensures { PutRuns machine.now bench.old.shown.columns groups.now output.old output.new }
 {
     for group in groups {
-        bench.run(machine, group.as_slice(), output);
+        run_group(bench, machine, group.as_slice(), output);
     }
 }
 
@@ -46,7 +47,6 @@ fn put_groups<W: Sink>(
 fn trace_good<W: Sink>(
     reader: Reader,
     sink: &mut W,
-    machine: &Machine,
     groups: &[RunGroup],
     bench: &mut Bench,
     rest: &[u8],
@@ -55,19 +55,31 @@ fn trace_good<W: Sink>(
     requires same { reader.tracing.columns ≡ bench.old.shown.columns }
     requires sink { CanFail (W.past sink.old) }
     requires lanes { All (λ (runs : List RunRecord). length runs ≤ 256) groups.now }
-    requires fits { All (λ (runs : List RunRecord). All (IsRunOf machine.now) runs) groups.now }
-    requires is { IsBench machine.now bench.old }
-    requires counts { All (All (Fits machine.now)) groups.now }
+    requires fits { All (λ (runs : List RunRecord). All (IsRunOf reader.tracing.circuit) runs) groups.now }
+    requires is { IsBench reader.tracing.circuit bench.old }
+    requires counts { All (All (Fits reader.tracing.circuit)) groups.now }
     requires room { All (HasRoomFor bench.old) groups.now }
     ensures { (c : CircuitRecord) (bytes : List ℕ) → MeansTheSame c reader.tracing.circuit
-        → MeansTheSame c machine.now → Says (length c.inputs) bytes (entries_of_groups groups.now) rest.now
+        → Says (length c.inputs) bytes (entries_of_groups groups.now) rest.now
         → first_bad_line c bytes true ≡ None → Traced c reader.tracing.columns bytes true
         (SentSo result (W.past sink.old) (W.past sink.new)) }
 {
     let mut output = Output::new(sink);
-    put_groups(&mut output, machine, groups, bench);
+    put_groups(&mut output, reader.machine(), groups, bench);
     // No line is bad, so the text is that for all of the rest.
     let (sent, _sink) = reader.put_text(output, rest).finish();
+    sent
+}
+
+/// Sends the text for a stimulus that has no bad line, all lines of which the reader takes.
+fn trace_lines<W: Sink>(reader: Reader, sink: &mut W, bytes: &[u8]) -> Result<(), DeviceFault>
+    requires fresh { IsFresh reader }
+    requires sink { CanFail (W.past sink.old) }
+    ensures { (c : CircuitRecord) → MeansTheSame c reader.tracing.circuit
+        → first_bad_line c bytes.now true ≡ None → Traced c reader.tracing.columns bytes.now true
+        (SentSo result (W.past sink.old) (W.past sink.new)) }
+{
+    let (sent, _sink) = reader.put_text(Output::new(sink), bytes).finish();
     sent
 }
 
@@ -89,19 +101,31 @@ fn trace_collected<W: Sink>(
         (λ text. W.past sink.new ≡ took text (W.past sink.old))) }
     ensures err { IfErr result (λ e. NotTraced checked.now columns bytes.now e (W.past sink.old) (W.past sink.new)) }
 {
-    let inputs = checked.circuit().inputs.len();
-    let Ok((groups, rest)) = read_front(alloc, inputs, bytes) else {
+    let circuit = checked.circuit();
+    if circuit.latches.len() == 0 && circuit.inputs.len() <= MOST_INPUTS {
+        // The reader takes all steps side by side, over the ends of runs.
+        return match trace_lines(reader, sink, bytes) {
+            Ok(()) => Ok(()),
+            Err(_fault) => Err(SimFault::WriteFailed),
+        };
+    }
+    let Ok((groups, rest)) = read_front(alloc, circuit.inputs.len(), bytes) else {
         drop(reader);
         return Err(SimFault::OutOfMemory);
     };
-    let Ok((machine, mut bench)) = set_up(alloc, checked, columns, &groups) else {
+    let Ok(mut bench) = Bench::new(
+        alloc,
+        reader.machine(),
+        columns,
+        line_room(checked),
+        &groups,
+    ) else {
         drop(reader);
         drop(groups);
         return Err(SimFault::OutOfMemory);
     };
-    let sent = trace_good(reader, sink, &machine, &groups, &mut bench, rest);
+    let sent = trace_good(reader, sink, &groups, &mut bench, rest);
     drop(groups);
-    drop(machine);
     drop(bench);
     match sent {
         Ok(()) => Ok(()),

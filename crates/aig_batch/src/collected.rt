@@ -6,11 +6,11 @@ ghost use Rattle.aig_step.specs.Outcome.{Came, first_bad_line};
 ghost use Rattle.aig_trace.specs.Parts.Saying.{longest_entry};
 ghost use Rattle.aig_batch.specs.Batched.{NotCollected};
 
-use crate::entry::is_entry;
 use aig_checked::Checked;
 use aig_io::{ROOM, Source};
 use aig_lines::{LineFeeder, LineTaker};
 use aig_step::SimFault;
+use aig_trace::is_entry;
 use std::alloc::Global;
 
 /// What judges the lines of a stimulus for a circuit of so many inputs.

@@ -1,11 +1,11 @@
 //! The inputs of runs as bits. They are made run by run, where the lines of a stimulus stand one behind the other: a
 //! step of all runs takes a line of each, and those lie far apart.
-ghost use Rattle.std.specs.Prelude.{◌≡◌, ◌+◌, ◌<◌, ◌≤◌, ℕ, IfOk, List, [], length, slice_index_or};
+ghost use Rattle.std.specs.Prelude.{◌≡◌, ◌+◌, ◌<◌, ◌≤◌, ℕ, IfOk, List, [], length, slice_index_or, slice_set};
 ghost use Rattle.std.specs.List.{All};
 ghost use Rattle.aig_circuit.specs.declared.value.Val.{Val as Value};
 ghost use Rattle.aig_lanes.specs.declared.run.Run.{Run as RunRecord};
-ghost use Rattle.aig_lanes.specs.Parts.InputBits.{AreBlocks, HasRoom, HoldsBlock, HoldsBlocks, HoldsInputs, IsWord};
-ghost use Rattle.aig_lanes.specs.Parts.InputBits.{SameRooms, TellsOther, word_at};
+ghost use Rattle.aig_lanes.specs.Parts.InputBits.{AreBlocks, HasRoom, HasStep, HoldsBlock, HoldsBlocks, HoldsInputs};
+ghost use Rattle.aig_lanes.specs.Parts.InputBits.{HoldsLane, IsWord, SameRooms, TellsOther, one_step, word_at};
 
 use crate::sheets::longest_in;
 use crate::vectors::{RunGroup, Vectors};
@@ -100,6 +100,14 @@ impl LaneBits {
     {
         fill_words(&mut self.words, run, first);
     }
+
+    /// Puts those of a first step.
+    fn put_first(&mut self, word: InputWord)
+        requires { 0 < length self.old }
+        ensures { self.new ≡ slice_set self.old 0 word }
+    {
+        self.words[0] = word;
+    }
 }
 
 /// Puts those of all runs.
@@ -114,6 +122,21 @@ fn fill_lanes(lanes: &mut [LaneBits], runs: &[Vectors], first: usize)
 {
     for lane in 0..runs.len() {
         lanes[lane].fill(&runs[lane], first);
+    }
+}
+
+/// Puts those of each step of a run, from an input on, into a lane of its own.
+fn fill_firsts(lanes: &mut [LaneBits], run: &Vectors, first: usize)
+    requires lanes { length run.now.steps ≤ length lanes.old }
+    requires inputs { All (λ (vector : List Value). first ≤ length vector) run.now.steps }
+    requires room { (l : ℕ) → l < length lanes.old → 0 < length (slice_index_or lanes.old l []) }
+    ensures holds { (l : ℕ) → l < length run.now.steps
+        → HoldsInputs first (one_step (slice_index_or run.now.steps l [])) (slice_index_or lanes.new l []) }
+    ensures count { length lanes.new ≡ length lanes.old }
+    ensures sizes { (l : ℕ) → length (slice_index_or lanes.new l []) ≡ length (slice_index_or lanes.old l []) }
+{
+    for lane in 0..run.len() {
+        lanes[lane].put_first(word_of(run.text(lane), first));
     }
 }
 
@@ -171,6 +194,18 @@ impl BlockBits {
         fill_lanes(&mut self.lanes, runs, first);
     }
 
+    /// Puts the inputs of each step of a run, from one on, into a lane of its own.
+    fn fill_across(&mut self, run: &Vectors, first: usize)
+        requires lanes { length run.now.steps ≤ 256 }
+        requires inputs { All (λ (vector : List Value). first ≤ length vector) run.now.steps }
+        requires room { HasStep self.old }
+        ensures holds { (l : ℕ) → l < length run.now.steps
+            → HoldsInputs first (one_step (slice_index_or run.now.steps l [])) (slice_index_or self.new l []) }
+        ensures sizes { (l : ℕ) → length (slice_index_or self.new l []) ≡ length (slice_index_or self.old l []) }
+    {
+        fill_firsts(&mut self.lanes, run, first);
+    }
+
     /// The bits for a step in a lane, if it has that; none are set where it has not.
     #[inline(always)]
     pub(crate) fn input_word(&self, lane: usize, step: usize) -> InputWord
@@ -214,5 +249,20 @@ pub fn fill_bits(bits: &mut [BlockBits], runs: &[Vectors], inputs: usize)
 {
     for block in 0..bits.len() {
         bits[block].fill(runs, 64 * block);
+    }
+}
+
+/// Puts the inputs of each step of a run into a lane of its own, as the first step there.
+pub fn fill_across(bits: &mut [BlockBits], run: &Vectors, inputs: usize)
+    requires lanes { length run.now.steps ≤ 256 }
+    requires inputs { All (λ (vector : List Value). length vector ≡ inputs) run.now.steps }
+    requires blocks { AreBlocks inputs (length bits.old) }
+    requires room { All HasStep bits.old }
+    ensures holds { (l : ℕ) → l < length run.now.steps
+        → HoldsLane l (one_step (slice_index_or run.now.steps l [])) bits.new }
+    ensures same { SameRooms bits.old bits.new }
+{
+    for block in 0..bits.len() {
+        bits[block].fill_across(run, 64 * block);
     }
 }

@@ -18,7 +18,7 @@ mod transposed;
 mod vectors;
 
 pub use crate::group::new_table;
-pub use crate::input_bits::{BlockBits, InputWord, fill_bits, new_bits};
+pub use crate::input_bits::{BlockBits, InputWord, fill_across, fill_bits, new_bits};
 pub use crate::input_planes::put_vectors;
 pub use crate::lanes::assign_lanes;
 pub use crate::planes::Plane;

@@ -7,7 +7,7 @@ ghost use Rattle.aig_step.specs.Parts.Lines.{line_size};
 use crate::alone::trace_alone;
 use crate::stimuli::{group_of, texts_of};
 use crate::traces::take_traces;
-use aig_batch::Bench;
+use aig_bench::Bench;
 use aig_checked::Checked;
 use aig_circuit::{Listing, OutOfMemory};
 use aig_lanes::{Run, Trace};

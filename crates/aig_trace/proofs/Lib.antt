@@ -1,7 +1,10 @@
+pub mod Characters
 pub mod Going
 pub mod RunTexts
 pub mod Saying
+pub mod Shows
 pub mod Traced
+pub mod Waits
 pub mod Ending
 pub mod KnownLines
 pub mod KnownTexts

@@ -1,6 +1,6 @@
 -- Lines that a line tracer took, and the text for them.
-use Rattle.std.proofs.Common.{◌≡◌, ◌++◌, ◌&&◌, ℕ, List, [], Bool, true, false, not, Option, Some, None, length}
-use Rattle.std.proofs.Common.{refl, sym, ap, subst, ◌∙◌, append-nil, codes, if◌then◌else◌}
+use Rattle.std.proofs.Common.{◌≡◌, ◌++◌, ◌&&◌, ℕ, List, [], ◌∷◌, Bool, true, false, not, Option, Some, None, length}
+use Rattle.std.proofs.Common.{refl, sym, ap, subst, ◌∙◌, append-nil, append_assoc, codes, if◌then◌else◌}
 use Rattle.aig_circuit.specs.declared.circuit.Circuit.{Circuit}
 use Rattle.aig_io.specs.Devices.{Past}
 use Rattle.aig_io.specs.Output.{Out, Put}
@@ -13,117 +13,199 @@ use Rattle.aig_meaning.proofs.Traces.{reset_state_is_first}
 use Rattle.aig_step.specs.declared.trace.Columns.{Columns}
 use Rattle.aig_step.specs.Outcome.{first_bad_line}
 use Rattle.aig_step.specs.Stimulus.{Entry, entry_in, stimulus}
-use Rattle.aig_trace.specs.Parts.Progress.{Does, begin_of}
+use Rattle.aig_trace.specs.Parts.Progress.{Goes, Point, begin_of}
 use Rattle.aig_trace.specs.Parts.Saying.{Saying, before_lines, entry_turn, longest_entry, nothing_said, say_line}
 use Rattle.aig_trace.specs.Parts.Streaming.{IsTraced}
-use Rattle.aig_trace.specs.Parts.Tracing.{HasTraced, IsFresh, IsSameTracer, LineTracing, PutText, Reading}
+use Rattle.aig_trace.specs.Parts.Tracing.{Did, HasTraced, HeardLine, IsFresh, IsSameTracer, LineTracing, PutText}
+use Rattle.aig_trace.specs.Parts.Tracing.{Reading}
 use Rattle.aig_trace.specs.Parts.Tracing.{Task, TookLine, Tracing, point_of, task_of}
-use Rattle.aig_trace.proofs.Going.{goes_on}
+use Rattle.aig_trace.proofs.Going.{goes_one, goes_over}
 use Rattle.aig_trace.proofs.RunTexts.{closing, goes_is_text}
 use Rattle.aig_trace.proofs.Saying.{has_said}
 
-module _ {W : Type 0} (t u : LineTracing W) (s : Saying (Task W)) (text : List ℕ) (at : HasTraced t s) where
-  said_here : (o : Option Entry) → entry_in (length t.tracing.circuit.inputs) text ≡ o → entry_in s.inputs text ≡ o
-  said_here o is =
-      ap (λ (n : ℕ). entry_in n text) (at.inputs ∙ ap (λ (c : Circuit). length c.inputs) (sym at.circuit)) ∙ is
+-- what was done, and then more
+pub did_twice : {W : Type 0} (c : Circuit) (columns : Columns) (p q u : Point) (es fs : List Entry) (x y z : Out W)
+    → Did c columns p es q x y → Did c columns q fs u y z → Did c columns p (es ++ fs) u x z
+did_twice c columns p q u es fs x y z first more = record {
+  text = first.text ++ more.text;
+  goes = goes_over c columns p q u es fs first.text more.text first.goes more.goes;
+  put = put_twice x y z first.text more.text first.put more.put;
+}
 
-  -- a line was taken, or it says nothing
-  pub heard_line : (good : Bool) → IsSameTracer t.tracing u.tracing
-      → (good ≡ true → TookLine t.tracing u.tracing t.output u.output text)
-      → (good ≡ false → (entry_in (length t.tracing.circuit.inputs) text ≡ None) × (u.tracing ≡ t.tracing)
-      × (u.output ≡ t.output))
-      → HasTraced u (say_line s text).state × (good ≡ (say_line s text).goes_on)
-  heard_line true same took other =
-      let line = took refl in
-      let task = s.known in
-      subst (λ (o : Option Entry). HasTraced u (entry_turn s o).state × (true ≡ (entry_turn s o).goes_on))
-      (sym (said_here (Some line.entry) line.said)) (
-        record {
-          circuit = same.circuit ∙ at.circuit;
-          columns = same.columns ∙ at.columns;
-          inputs = at.inputs;
-          text = at.text ++ line.line;
-          goes = goes_on task.circuit task.columns (begin_of task.circuit) (point_of t.tracing) (point_of u.tracing)
-              s.entries line.entry at.text line.line at.goes
-              (subst (λ (d : Circuit). Does d task.columns (point_of t.tracing) line.entry (point_of u.tracing) line.line)
-              at.circuit
-              (subst (λ (k : Columns). Does t.tracing.circuit k (point_of t.tracing) line.entry (point_of u.tracing)
-              line.line) at.columns line.does));
-          put = put_twice task.from t.output u.output at.text line.line at.put line.put;
-        },
-        refl,
-      )
-  heard_line false same took other =
-      let none = other refl in
-      subst (λ (o : Option Entry). HasTraced u (entry_turn s o).state × (false ≡ (entry_turn s o).goes_on))
-      (sym (said_here None none.0)) (
-        subst (λ (x : Tracing). HasTraced (record { tracing = x; output = u.output }) s) (sym none.1)
-            (subst (λ (x : Out W). HasTraced (record { tracing = t.tracing; output = x }) s) (sym none.2) at),
-        refl,
-      )
+-- nothing was done
+pub did_nothing : {W : Type 0} (c : Circuit) (columns : Columns) (p : Point) (x : Out W) → Did c columns p [] p x x
+did_nothing c columns p x = record { text = []; goes = (refl, refl); put = put_nothing x }
+
+-- alike in each part
+alike : {W : Type 0} (t u : LineTracing W) → u.tracing ≡ t.tracing → u.waiting ≡ t.waiting → u.output ≡ t.output → u ≡ t
+alike {W} t u tracing waiting output =
+    ap (λ (x : Tracing). record { tracing = x; waiting = u.waiting; output = u.output }) tracing
+    ∙ ap (λ (x : List Entry). record { tracing = t.tracing; waiting = x; output = u.output }) waiting
+    ∙ ap (λ (x : Out W). record { tracing = t.tracing; waiting = t.waiting; output = x }) output
+
+module _ {W : Type 0} (t u : LineTracing W) (s : Saying (Task W)) (at : HasTraced t s)
+    (same : IsSameTracer t.tracing u.tracing) where
+  -- some of what was to be done is done
+  did_so_far : (es : List Entry)
+      → Did t.tracing.circuit t.tracing.columns (point_of t.tracing) es (point_of u.tracing) t.output u.output
+      → Did s.known.circuit s.known.columns (begin_of s.known.circuit) (at.done ++ es) (point_of u.tracing) s.known.from
+      u.output
+  did_so_far es did =
+      did_twice s.known.circuit s.known.columns (begin_of s.known.circuit) (point_of t.tracing) (point_of u.tracing)
+      at.done es s.known.from t.output u.output at.did
+      (subst (λ (d : Circuit). Did d s.known.columns (point_of t.tracing) es (point_of u.tracing) t.output u.output)
+      at.circuit
+      (subst (λ (k : Columns). Did t.tracing.circuit k (point_of t.tracing) es (point_of u.tracing) t.output u.output)
+      at.columns did))
+
+  -- all that waited was done
+  pub settled : Did t.tracing.circuit t.tracing.columns (point_of t.tracing) t.waiting (point_of u.tracing) t.output
+      u.output → u.waiting ≡ [] → HasTraced u s
+  settled did none = record {
+    circuit = same.circuit ∙ at.circuit;
+    columns = same.columns ∙ at.columns;
+    inputs = at.inputs;
+    done = at.done ++ t.waiting;
+    all =
+        at.all ∙ sym (append-nil (at.done ++ t.waiting))
+        ∙ ap (λ (es : List Entry). (at.done ++ t.waiting) ++ es) (sym none);
+    did = did_so_far t.waiting did;
+  }
+
+  module _ (text : List ℕ) where
+    said_here : (o : Option Entry) → entry_in (length t.tracing.circuit.inputs) text ≡ o → entry_in s.inputs text ≡ o
+    said_here o is =
+        ap (λ (n : ℕ). entry_in n text) (at.inputs ∙ ap (λ (c : Circuit). length c.inputs) (sym at.circuit)) ∙ is
+
+    -- a line was heard, or it says nothing
+    pub heard_line : (good : Bool) → (good ≡ true → HeardLine t u text)
+        → (good ≡ false → (entry_in (length t.tracing.circuit.inputs) text ≡ None) × (u.tracing ≡ t.tracing)
+        × (u.waiting ≡ t.waiting) × (u.output ≡ t.output))
+        → HasTraced u (say_line s text).state × (good ≡ (say_line s text).goes_on)
+    heard_line true heard other =
+        let line = heard refl in
+        subst (λ (o : Option Entry). HasTraced u (entry_turn s o).state × (true ≡ (entry_turn s o).goes_on))
+        (sym (said_here (Some line.entry) line.said)) (
+          record {
+            circuit = same.circuit ∙ at.circuit;
+            columns = same.columns ∙ at.columns;
+            inputs = at.inputs;
+            done = at.done ++ line.done;
+            all =
+                ap (λ (es : List Entry). es ++ line.entry ∷ []) at.all
+                ∙ append_assoc at.done t.waiting (line.entry ∷ [])
+                ∙ ap (λ (es : List Entry). at.done ++ es) line.left
+                ∙ sym (append_assoc at.done line.done u.waiting);
+            did = did_so_far line.done line.did;
+          },
+          refl,
+        )
+    heard_line false heard other =
+        let none = other refl in
+        subst (λ (o : Option Entry). HasTraced u (entry_turn s o).state × (false ≡ (entry_turn s o).goes_on))
+        (sym (said_here None none.0)) (
+          subst (λ (v : LineTracing W). HasTraced v s) (sym (alike t u none.1 none.2 none.3)) at,
+          refl,
+        )
+
+-- a tracer took a line, and none waited
+pub heard_alone : {W : Type 0} (t u : LineTracing W) (text : List ℕ) → t.waiting ≡ [] → u.waiting ≡ []
+    → TookLine t.tracing u.tracing t.output u.output text → HeardLine t u text
+heard_alone t u text none still took = record {
+  entry = took.entry;
+  said = took.said;
+  done = took.entry ∷ [];
+  did = record {
+    text = took.line;
+    goes = goes_one t.tracing.circuit t.tracing.columns (point_of t.tracing) (point_of u.tracing) took.entry took.line
+        took.does;
+    put = took.put;
+  };
+  left =
+      ap (λ (es : List Entry). es ++ took.entry ∷ []) none
+      ∙ ap (λ (es : List Entry). took.entry ∷ es) (sym still);
+}
 
 -- before the first line
-pub begun : {W : Type 0} (t : LineTracing W) → point_of t.tracing ≡ begin_of t.tracing.circuit
+pub begun : {W : Type 0} (t : LineTracing W) → point_of t.tracing ≡ begin_of t.tracing.circuit → t.waiting ≡ []
     → HasTraced t (nothing_said (task_of t) (length t.tracing.circuit.inputs))
-begun t is = record {
+begun t is none = record {
   circuit = refl;
   columns = refl;
   inputs = refl;
-  text = [];
-  goes = (is, refl);
-  put = put_nothing t.output;
+  done = [];
+  all = sym none;
+  did = record { text = []; goes = (is, refl); put = put_nothing t.output };
 }
 
 -- and before the first byte
 pub begins : {W : Type 0} (f : Feeder) (t : LineTracing W) → IsUnfed f
     → f.limit ≡ longest_entry (length t.tracing.circuit.inputs) → point_of t.tracing ≡ begin_of t.tracing.circuit
-    → IsFed HasTraced f t (before_lines (task_of t) (length t.tracing.circuit.inputs))
-begins f t unfed limit is =
+    → t.waiting ≡ [] → IsFed HasTraced f t (before_lines (task_of t) (length t.tracing.circuit.inputs))
+begins f t unfed limit is none =
     let s = nothing_said (task_of t) (length t.tracing.circuit.inputs) in
-    subst (λ (n : ℕ). IsFed HasTraced f t (feeding n s)) limit (fed_nothing HasTraced f t s unfed (begun t is))
+    subst (λ (n : ℕ). IsFed HasTraced f t (feeding n s)) limit (fed_nothing HasTraced f t s unfed (begun t is none))
 
 -- nothing more was put
 pub put_sent : {W : Type 0} (a b c : Out W) (text : List ℕ) → Put a b text → Put b c [] → Put a c text
 put_sent a b c text p q = subst (Put a c) (append-nil text) (put_twice a b c text [] p q)
 
+-- another taker stands there too
+abbrev fed_too : {W : Type 0} (f : Feeder) (t u : LineTracing W) (at : Feeding (Saying (Task W)))
+    → IsFed HasTraced f t at → HasTraced u at.state → IsFed HasTraced f u at
+fed_too f t u at stands has = record {
+  taker = has;
+  kept = stands.kept;
+  room = stands.room;
+  limit = stands.limit;
+  number = stands.number;
+  refused = stands.refused;
+}
+
+-- what waited was done
+pub fed_settled : {W : Type 0} (f : Feeder) (t u : LineTracing W) (at : Feeding (Saying (Task W)))
+    → IsFed HasTraced f t at → IsSameTracer t.tracing u.tracing
+    → Did t.tracing.circuit t.tracing.columns (point_of t.tracing) t.waiting (point_of u.tracing) t.output u.output
+    → u.waiting ≡ [] → IsFed HasTraced f u at
+fed_settled f t u at stands same did none =
+    fed_too f t u at stands (settled t u at.state stands.taker same did none)
+
 -- the text was sent
 pub flushed : {W : Type 0} (f : Feeder) (t u : LineTracing W) (at : Feeding (Saying (Task W))) → IsFed HasTraced f t at
-    → u.tracing ≡ t.tracing → Put t.output u.output [] → IsFed HasTraced f u at
-flushed f t u at stands same put =
+    → u.tracing ≡ t.tracing → u.waiting ≡ t.waiting → Put t.output u.output [] → IsFed HasTraced f u at
+flushed f t u at stands same waits put =
     let has = stands.taker in
-    record {
-      taker = record {
-        circuit = ap (λ (x : Tracing). x.circuit) same ∙ has.circuit;
-        columns = ap (λ (x : Tracing). x.columns) same ∙ has.columns;
-        inputs = has.inputs;
-        text = has.text;
-        goes = rw same has.goes;
-        put = put_sent at.state.known.from t.output u.output has.text has.put put;
+    fed_too f t u at stands (record {
+      circuit = ap (λ (x : Tracing). x.circuit) same ∙ has.circuit;
+      columns = ap (λ (x : Tracing). x.columns) same ∙ has.columns;
+      inputs = has.inputs;
+      done = has.done;
+      all = has.all ∙ ap (λ (es : List Entry). has.done ++ es) (sym waits);
+      did = record {
+        text = has.did.text;
+        goes = rw same has.did.goes;
+        put = put_sent at.state.known.from t.output u.output has.did.text has.did.put put;
       };
-      kept = stands.kept;
-      room = stands.room;
-      limit = stands.limit;
-      number = stands.number;
-      refused = stands.refused;
-    }
+    })
 
 -- the text for the lines that were taken, and what ends it
 pub traced : {W : Type 0} (task : Task W) (bytes : List ℕ) (over : Bool) (f : Feeder) (t : LineTracing W) (to : Out W)
     → IsFed HasTraced f t
     (ended_if say_line over (fed say_line (before_lines task (length task.circuit.inputs)) bytes))
-    → Put t.output to (closing over (first_bad_line task.circuit bytes over) t.tracing.has_step)
+    → t.waiting ≡ [] → Put t.output to (closing over (first_bad_line task.circuit bytes over) t.tracing.has_step)
     → IsTraced task.circuit task.columns bytes over task.from to f
-traced task bytes over f t to stands put =
+traced task bytes over f t to stands none put =
     let said = has_said HasTraced task (length task.circuit.inputs) bytes over f t stands in
     let at = said.taker in
+    let did = at.did in
     let end = closing over (first_bad_line task.circuit bytes over) t.tracing.has_step in
     record {
       traced = record {
-        text = at.text ++ end;
-        is_text = goes_is_text task.circuit task.columns (point_of t.tracing)
-            (stimulus (length task.circuit.inputs) bytes over).entries at.text (reset_state_is_first task.circuit)
-            at.goes bytes over refl;
-        done = put_twice task.from t.output to at.text end at.put put;
+        text = did.text ++ end;
+        is_text = goes_is_text task.circuit task.columns (point_of t.tracing) at.done did.text
+            (reset_state_is_first task.circuit) did.goes bytes over
+            (at.all ∙ ap (λ (es : List Entry). at.done ++ es) none ∙ append-nil at.done);
+        done = put_twice task.from t.output to did.text end did.put put;
       };
       bad = said.bad;
     }
@@ -137,39 +219,46 @@ ended_run false number has_step = refl
 -- the same at the end of the bytes, where the run that is going on is ended if no line was refused
 pub traced_all : {W : Type 0} (task : Task W) (bytes : List ℕ) (f : Feeder) (t : LineTracing W) (to : Out W)
     → IsFed HasTraced f t (ended say_line (fed say_line (before_lines task (length task.circuit.inputs)) bytes))
-    → (good : Bool) → good ≡ not f.refused
+    → t.waiting ≡ [] → (good : Bool) → good ≡ not f.refused
     → Put t.output to (if good && t.tracing.has_step then codes ".\n" else [])
     → IsTraced task.circuit task.columns bytes true task.from to f
-traced_all task bytes f t to stands good is put =
+traced_all task bytes f t to stands none good is put =
     let bad = (has_said HasTraced task (length task.circuit.inputs) bytes true f t stands).bad in
     let has_step = t.tracing.has_step in
-    traced task bytes true f t to stands
+    traced task bytes true f t to stands none
     (subst (Put t.output to)
     (ap (λ (b : Bool). if b && has_step then codes ".\n" else []) is ∙ ended_run f.refused f.number has_step
     ∙ ap (λ (o : Option ℕ). closing true o has_step) (sym bad)) put)
 
 -- all lines of these bytes were taken, and the run was ended that was going on
-pub put_all : {W : Type 0} (r : Reading) (bytes : List ℕ) (f g h : Feeder) (t u v : LineTracing W) (a b : Out W)
-    → IsFresh r → f ≡ r.feeder → t ≡ record { tracing = r.tracing; output = a }
+pub put_all : {W : Type 0} (r : Reading) (bytes : List ℕ) (f g h : Feeder) (t u v w : LineTracing W) (a b : Out W)
+    → IsFresh r → f ≡ r.feeder → t ≡ record { tracing = r.tracing; waiting = r.waiting; output = a }
     → ((at : Feeding (Saying (Task W))) → IsFed HasTraced f t at → IsFed HasTraced g u (fed say_line at bytes))
     → ((at : Feeding (Saying (Task W))) → IsFed HasTraced g u at → IsFed HasTraced h v (ended say_line at))
-    → Put v.output b (if v.tracing.has_step then codes ".\n" else []) → PutText r.tracing bytes a b
-put_all {W} r bytes f g h t u v a b fresh same is took ends close =
-    let new : LineTracing W = record { tracing = r.tracing; output = a } in
+    → IsSameTracer v.tracing w.tracing
+    → Did v.tracing.circuit v.tracing.columns (point_of v.tracing) v.waiting (point_of w.tracing) v.output w.output
+    → w.waiting ≡ [] → Put w.output b (if w.tracing.has_step then codes ".\n" else []) → PutText r.tracing bytes a b
+put_all {W} r bytes f g h t u v w a b fresh same is took ends stays did none close =
+    let new : LineTracing W = record { tracing = r.tracing; waiting = r.waiting; output = a } in
     let inputs = length r.tracing.circuit.inputs in
     let start : IsFed HasTraced f t (before_lines (task_of new) inputs) =
-    rw (same, is) (begins r.feeder new fresh.unfed fresh.limit fresh.begun) in
-    let at = (has_said HasTraced (task_of new) inputs bytes true h v (ends _ (took _ start))).taker in
+    rw (same, is) (begins r.feeder new fresh.unfed fresh.limit fresh.begun fresh.settled) in
+    let all = fed_settled h v w _ (ends _ (took _ start)) stays did none in
+    let at = (has_said HasTraced (task_of new) inputs bytes true h w all).taker in
+    let entries = (stimulus inputs bytes true).entries in
     record {
-      point = point_of v.tracing;
-      text = at.text;
-      goes = at.goes;
-      put = put_twice a v.output b at.text (if v.tracing.has_step then codes ".\n" else []) at.put close;
+      point = point_of w.tracing;
+      text = at.did.text;
+      goes = subst
+          (λ (es : List Entry). Goes r.tracing.circuit r.tracing.columns (begin_of r.tracing.circuit) es
+          (point_of w.tracing) at.did.text)
+          (sym (at.all ∙ ap (λ (es : List Entry). at.done ++ es) none ∙ append-nil at.done)) at.did.goes;
+      put = put_twice a w.output b at.did.text (if w.tracing.has_step then codes ".\n" else []) at.did.put close;
     }
 
 -- the text for the whole lines among the bytes that came
 pub traced_so_far : {W : Type 0} (task : Task W) (f : Feeder) (t : LineTracing W) (source now : Past)
     (r : Reached say_line HasTraced (longest_entry (length task.circuit.inputs))
     (nothing_said task (length task.circuit.inputs)) source now f t)
-    → IsTraced task.circuit task.columns r.bytes false task.from t.output f
-traced_so_far task f t source now r = traced task r.bytes false f t t.output r.stands (put_nothing t.output)
+    → t.waiting ≡ [] → IsTraced task.circuit task.columns r.bytes false task.from t.output f
+traced_so_far task f t source now r none = traced task r.bytes false f t t.output r.stands none (put_nothing t.output)

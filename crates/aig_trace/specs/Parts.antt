@@ -2,3 +2,5 @@ pub mod Progress
 pub mod Tracing
 pub mod Saying
 pub mod Streaming
+pub mod WaitingRoom
+pub mod Waits

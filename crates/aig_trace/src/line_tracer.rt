@@ -1,7 +1,10 @@
 //! What takes the lines of a stimulus, and puts the text for them.
 ghost use Rattle.std.specs.Prelude.{◌≡◌, [], codes, if◌then◌else◌, is_err};
 ghost use Rattle.aig_io.specs.Output.{Put};
+ghost use Rattle.aig_trace.specs.Parts.Tracing.{Did, IsSameTracer, point_of};
+ghost use Rattle.aig_trace.specs.Parts.Waits.{MayServe, waiting_in};
 
+use crate::abreast::Abreast;
 use crate::tracer::Tracer;
 use aig_io::{DeviceFault, Output, Sink};
 use aig_lines::LineTaker;
@@ -11,23 +14,45 @@ use std::marker::Model;
 #[derive(Drop)]
 pub(crate) struct LineTracer<'a, W: Sink> {
     tracer: Tracer,
+    /// Lines that wait, where the circuit has no latches.
+    abreast: Option<Abreast>,
     output: Output<'a, W>,
 }
 
 impl<'a, W: Sink> Model for LineTracer<'a, W> {
     ghost use Rattle.aig_trace.specs.Parts.Tracing.{LineTracing};
+    ghost use Rattle.aig_trace.specs.Parts.Waits.{MayServe, waiting_in};
 
     ghost Value = { LineTracing W };
 
-    ghost view = { λ t. record { tracing = t.tracer; output = t.output } };
+    ghost view = { λ t. record { tracing = t.tracer; waiting = waiting_in t.abreast; output = t.output } };
+
+    ghost invariant = { λ t. MayServe t.tracer.circuit t.tracer.columns t.abreast };
 }
 
 impl<'a, W: Sink> LineTracer<'a, W> {
     /// The tracer goes on from where it stands.
-    pub(crate) fn new(tracer: Tracer, output: Output<'a, W>) -> Self
-        ensures { result ≡ record { tracing = tracer; output = output.entry } }
+    pub(crate) fn new(tracer: Tracer, abreast: Option<Abreast>, output: Output<'a, W>) -> Self
+        requires { MayServe tracer.circuit tracer.columns abreast }
+        ensures { result ≡ record { tracing = tracer; waiting = waiting_in abreast; output = output.entry } }
     {
-        LineTracer { tracer, output }
+        LineTracer {
+            tracer,
+            abreast,
+            output,
+        }
+    }
+
+    /// Puts the text for all lines that wait.
+    pub(crate) fn settle(&mut self)
+        ensures did { Did self.old.tracing.circuit self.old.tracing.columns (point_of self.old.tracing) self.old.waiting
+            (point_of self.new.tracing) self.old.output self.new.output }
+        ensures same { IsSameTracer self.old.tracing self.new.tracing }
+        ensures settled { self.new.waiting ≡ [] }
+    {
+        if let Some(abreast) = &mut self.abreast {
+            abreast.settle(&mut self.tracer, &mut self.output);
+        }
     }
 
     /// Puts the line that ends the run that is going on, if it has a step.
@@ -42,6 +67,7 @@ impl<'a, W: Sink> LineTracer<'a, W> {
     /// Sends the text that was put. Ok means that the sink took all.
     pub(crate) fn flush(&mut self) -> Result<(), DeviceFault>
         ensures same { self.new.tracing ≡ self.old.tracing }
+        ensures waits { self.new.waiting ≡ self.old.waiting }
         ensures put { Put self.old.output self.new.output [] }
         ensures empty { self.new.output.held ≡ [] }
         ensures reported { self.new.output.failed ≡ is_err result }
@@ -53,8 +79,13 @@ impl<'a, W: Sink> LineTracer<'a, W> {
     pub(crate) fn into_output(self) -> Output<'a, W>
         ensures { result ≡ self.entry.output }
     {
-        let LineTracer { tracer, output } = self;
+        let LineTracer {
+            tracer,
+            abreast,
+            output,
+        } = self;
         drop(tracer);
+        drop(abreast);
         output
     }
 }
@@ -71,6 +102,9 @@ impl<'a, W: Sink> LineTaker for LineTracer<'a, W> {
 
     #[inline(always)]
     fn take(&mut self, text: &[u8]) -> bool {
-        self.tracer.take_line(&mut self.output, text)
+        match &mut self.abreast {
+            None => self.tracer.take_line(&mut self.output, text),
+            Some(abreast) => abreast.take_line(&mut self.tracer, &mut self.output, text),
+        }
     }
 }

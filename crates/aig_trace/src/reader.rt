@@ -1,15 +1,18 @@
 //! What takes the bytes of a stimulus.
-ghost use Rattle.std.specs.Prelude.{◌≡◌, IfErr, IfOk};
+ghost use Rattle.std.specs.Prelude.{◌≡◌, [], IfErr, IfOk};
 ghost use Rattle.aig_meaning.specs.Meaning.{MeansTheSame};
 ghost use Rattle.aig_step.specs.declared.fault.SimFault.TheVariants.{OutOfMemory as IsOutOfMemory};
 ghost use Rattle.aig_trace.specs.Parts.Tracing.{IsFresh, PutText};
+ghost use Rattle.aig_trace.specs.Parts.Waits.{MayServe, waiting_in};
 
+use crate::abreast::{Abreast, MOST_INPUTS};
 use crate::line_tracer::LineTracer;
-use crate::tracer::Tracer;
+use crate::tracer::{Tracer, line_room};
 use aig_checked::Checked;
+use aig_circuit::OutOfMemory;
 use aig_io::{Output, Sink};
 use aig_lines::LineFeeder;
-use aig_step::{Columns, SimFault};
+use aig_step::{Columns, Machine, SimFault};
 use std::alloc::Global;
 use std::marker::Model;
 
@@ -18,14 +21,39 @@ use std::marker::Model;
 pub struct Reader {
     feeder: LineFeeder,
     tracer: Tracer,
+    /// What takes lines side by side, where the circuit has no latches.
+    abreast: Option<Abreast>,
 }
 
 impl Model for Reader {
     ghost use Rattle.aig_trace.specs.Parts.Tracing.{Reading};
+    ghost use Rattle.aig_trace.specs.Parts.Waits.{MayServe, waiting_in};
 
     ghost Value = { Reading };
 
-    ghost view = { λ r. record { feeder = r.feeder; tracing = r.tracer } };
+    ghost view = { λ r. record { feeder = r.feeder; tracing = r.tracer; waiting = waiting_in r.abreast } };
+
+    ghost invariant = { λ r. MayServe r.tracer.circuit r.tracer.columns r.abreast };
+}
+
+/// What takes lines side by side, if the circuit has no latches, and not too many inputs.
+fn make_abreast(
+    alloc: Global,
+    checked: &Checked,
+    tracer: &Tracer,
+) -> Result<Option<Abreast>, OutOfMemory>
+    requires { MeansTheSame checked.now tracer.now.circuit }
+    ensures serves { IfOk result (λ made. MayServe tracer.now.circuit tracer.now.columns made) }
+    ensures settled { IfOk result (λ made. waiting_in made ≡ []) }
+{
+    let circuit = checked.circuit();
+    if circuit.latches.len() > 0 {
+        return Ok(None);
+    }
+    if circuit.inputs.len() > MOST_INPUTS {
+        return Ok(None);
+    }
+    Ok(Some(Abreast::new(alloc, tracer, line_room(checked))?))
 }
 
 impl Reader {
@@ -36,23 +64,42 @@ impl Reader {
         ensures fresh { IfOk result (λ r. IsFresh r) }
         ensures err { IfErr result (λ e. e ≡ IsOutOfMemory) }
     {
-        let feeder = LineFeeder::new(alloc, checked.circuit().inputs.len().max(1))?;
-        match Tracer::new(alloc, checked, columns) {
-            Ok(tracer) => Ok(Reader { feeder, tracer }),
-            Err(fault) => {
-                drop(feeder);
-                Err(fault)
-            }
-        }
+        let tracer = Tracer::new(alloc, checked, columns)?;
+        let Ok(abreast) = make_abreast(alloc, checked, &tracer) else {
+            drop(tracer);
+            return Err(SimFault::OutOfMemory);
+        };
+        let Ok(feeder) = LineFeeder::new(alloc, checked.circuit().inputs.len().max(1)) else {
+            drop(tracer);
+            drop(abreast);
+            return Err(SimFault::OutOfMemory);
+        };
+        Ok(Reader {
+            feeder,
+            tracer,
+            abreast,
+        })
+    }
+
+    /// What it runs.
+    pub fn machine(&self) -> &Machine
+        ensures { result.now ≡ self.now.tracing.circuit }
+    {
+        self.tracer.machine()
     }
 
     /// It puts the text into this output.
     pub(crate) fn start<'a, W: Sink>(self, output: Output<'a, W>) -> (LineFeeder, LineTracer<'a, W>)
         ensures feeder { result.0 ≡ self.feeder }
-        ensures lines { result.1 ≡ record { tracing = self.tracing; output = output.entry } }
+        ensures lines { result.1
+            ≡ record { tracing = self.tracing; waiting = self.waiting; output = output.entry } }
     {
-        let Reader { feeder, tracer } = self;
-        (feeder, LineTracer::new(tracer, output))
+        let Reader {
+            feeder,
+            tracer,
+            abreast,
+        } = self;
+        (feeder, LineTracer::new(tracer, abreast, output))
     }
 
     /// Puts the text for all lines of the bytes up to the first bad one, and ends the run that is going on then, if it
@@ -65,6 +112,7 @@ impl Reader {
         let _whole = feeder.feed(&mut lines, bytes);
         let _last = feeder.end(&mut lines);
         drop(feeder);
+        lines.settle();
         lines.close();
         lines.into_output()
     }

@@ -40,10 +40,12 @@ fn trace_chunk<W: Sink>(
     ensures fed { (at : Feeding (Saying (Task W))) → IsFed HasTraced feeder.old lines.old at
         → IsFed HasTraced feeder.new lines.new (fed say_line at chunk.now) }
     ensures number { feeder.new.number ≤ feeder.old.number + length chunk.now }
+    ensures settled { lines.new.waiting ≡ [] }
     ensures empty { lines.new.output.held ≡ [] }
     ensures ended { result ≡ ended_so lines.new.output.failed (not feeder.new.refused) feeder.new.number }
 {
     let good = feeder.feed(lines, chunk);
+    lines.settle();
     let sent = lines.flush();
     ended(sent.is_err(), good, feeder.number())
 }
@@ -58,6 +60,7 @@ fn trace_end<W: Sink>(feeder: &mut LineFeeder, lines: &mut LineTracer<W>) -> Res
     ensures ended { result ≡ ended_so lines.new.output.failed (not feeder.new.refused) feeder.new.number }
 {
     let good = feeder.end(lines);
+    lines.settle();
     if good {
         lines.close();
     }
@@ -69,20 +72,22 @@ fn trace_end<W: Sink>(feeder: &mut LineFeeder, lines: &mut LineTracer<W>) -> Res
 fn trace_all<R: Source, W: Sink>(
     feeder: &mut LineFeeder,
     lines: &mut LineTracer<W>,
+    block: &mut [u8],
     source: &mut R,
 ) -> Result<(), SimFault>
     requires unfed { IsUnfed feeder.old }
     requires limit { feeder.old.limit ≡ longest_entry (length lines.old.tracing.circuit.inputs) }
     requires begun { point_of lines.old.tracing ≡ begin_of lines.old.tracing.circuit }
+    requires settled { lines.old.waiting ≡ [] }
+    requires room { 0 < length block.old }
     requires empty { lines.old.output.held ≡ [] }
     requires fine { lines.old.output.failed ≡ false }
     requires source { CanFail (R.past source.old) }
     ensures { Ends lines.old.tracing.circuit lines.old.tracing.columns result
         (R.past source.old) (R.past source.new) lines.old.output lines.new.output }
 {
-    let mut block = [0u8; ROOM];
     loop {
-        let Ok(count) = source.fetch(&mut block) else {
+        let Ok(count) = source.fetch(block) else {
             return Err(SimFault::ReadFailed);
         };
         if count == 0 {
@@ -93,8 +98,20 @@ fn trace_all<R: Source, W: Sink>(
     }
 }
 
+/// How many bytes are fetched at once: a block; or more where lines are taken side by side, as many as have lanes.
+fn block_room(checked: &Checked) -> usize
+    ensures { 0 < result }
+{
+    let circuit = checked.circuit();
+    if circuit.latches.len() > 0 {
+        return ROOM;
+    }
+    (256 * (circuit.inputs.len() + 1)).clamp(ROOM, 1 << 20)
+}
+
 /// Simulates a circuit over a stimulus text, and writes the trace text. The text of a line is sent before more bytes
-/// are fetched, so that a step can be seen when its line was typed. All memory is taken before the first fetch.
+/// are fetched, so that a step can be seen when its line was typed. All memory is taken before the first fetch. Steps of
+/// a circuit without latches that came at once are taken side by side.
 // Not built into its callers, whose stack would then hold the rooms for lines several times over.
 #[inline(never)]
 pub fn simulate<R: Source, W: Sink>(
@@ -111,9 +128,17 @@ pub fn simulate<R: Source, W: Sink>(
     ensures err { IfErr result (λ error. NotSimulated checked.now columns error
         (R.past source.old) (R.past source.new) (W.past sink.old) (W.past sink.new)) }
 {
-    let reader = Reader::new(alloc, checked, columns)?;
+    let mut block = vec![in alloc; 0; block_room(checked)]?;
+    let reader = match Reader::new(alloc, checked, columns) {
+        Ok(reader) => reader,
+        Err(fault) => {
+            drop(block);
+            return Err(fault);
+        }
+    };
     let (mut feeder, mut lines) = reader.start(Output::new(sink));
-    let traced = trace_all(&mut feeder, &mut lines, source);
+    let traced = trace_all(&mut feeder, &mut lines, &mut block, source);
+    drop(block);
     drop(feeder);
     let _sink = lines.into_output().into_sink();
     traced

@@ -11,7 +11,7 @@ ghost use Rattle.aig_trace.specs.Parts.Tracing.{IsSameTracer, TookLine, TookStep
 
 use aig_checked::Checked;
 use aig_io::{Output, Sink};
-use aig_step::{Columns, RowLine, SimFault, Stepper, is_stop};
+use aig_step::{Columns, Machine, RowLine, SimFault, Stepper, is_stop};
 use std::alloc::Global;
 use std::marker::Model;
 
@@ -74,6 +74,39 @@ impl Tracer {
         })
     }
 
+    /// What it runs.
+    pub(crate) fn machine(&self) -> &Machine
+        ensures { result.now ≡ self.now.circuit }
+    {
+        self.stepper.machine()
+    }
+
+    /// The columns that are asked for.
+    pub(crate) fn columns(&self) -> Columns
+        ensures { result ≡ self.now.columns }
+    {
+        self.columns
+    }
+
+    /// How many inputs the circuit has.
+    #[inline(always)]
+    pub(crate) fn inputs(&self) -> usize
+        ensures { result ≡ length self.now.circuit.inputs }
+    {
+        self.machine().parts().inputs.len()
+    }
+
+    /// The run that is going on has a step, which was taken elsewhere and led to the same state.
+    #[inline(always)]
+    pub(crate) fn note_step(&mut self)
+        ensures noted { self.new ≡ record self.old { has_step = true } }
+        ensures each_latch { length self.old.state ≡ length self.old.circuit.latches }
+    {
+        // That there is a value for each latch is known by this call.
+        let _state = self.stepper.state();
+        self.has_step = true;
+    }
+
     /// Whether the run that is going on has a step.
     pub(crate) fn has_step(&self) -> bool
         ensures { result ≡ self.now.has_step }
@@ -103,7 +136,7 @@ impl Tracer {
     }
 
     /// Ends the run.
-    fn stop<W: Sink>(&mut self, output: &mut Output<W>)
+    pub(crate) fn stop<W: Sink>(&mut self, output: &mut Output<W>)
         ensures point { point_of self.new ≡ begin_of self.old.circuit }
         ensures put { Put output.old output.new (codes ".\n") }
         ensures same { IsSameTracer self.old self.new }

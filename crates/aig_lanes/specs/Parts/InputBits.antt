@@ -1,5 +1,5 @@
 -- The inputs of runs as bits. Only the simulator cites this.
-use Rattle.std.specs.Prelude.{◌≡◌, ◌+◌, ◌*◌, ◌/◌, ◌%◌, ◌^◌, ◌<◌, ◌≤◌, ◌==◌, ℕ, List, [], if◌then◌else◌, length}
+use Rattle.std.specs.Prelude.{◌≡◌, ◌+◌, ◌*◌, ◌/◌, ◌%◌, ◌^◌, ◌<◌, ◌≤◌, ◌==◌, ℕ, List, [], ◌∷◌, if◌then◌else◌, length}
 use Rattle.std.specs.Prelude.{slice_index_or}
 use Rattle.std.specs.Int.{bit_at}
 use Rattle.aig_circuit.specs.declared.value.Val.{Val}
@@ -38,6 +38,19 @@ HoldsBlock first runs lanes = (l : ℕ) (d : Run) → l < length runs
 abbrev pub HoldsBlocks : List Run → List (List (List InputWord)) → Type 0
 HoldsBlocks runs bits = (block : ℕ) → block < length bits
     → HoldsBlock (64 * block) runs (slice_index_or bits block [])
+
+-- the bits of all inputs in all steps of a run, in one lane
+abbrev pub HoldsLane : (lane : ℕ) → Run → List (List (List InputWord)) → Type 0
+HoldsLane lane run bits = (block : ℕ) → block < length bits
+    → HoldsInputs (64 * block) run (slice_index_or (slice_index_or bits block []) lane [])
+
+-- a run of one step
+abbrev pub one_step : List Val → Run
+one_step vector = record { steps = vector ∷ [] }
+
+-- each lane has room for a step
+abbrev pub HasStep : List (List InputWord) → Type 0
+HasStep lanes = (l : ℕ) → l < 256 → 0 < length (slice_index_or lanes l [])
 
 -- each run has room in its lane
 abbrev pub HasRoom : List Run → List (List InputWord) → Type 0

@@ -5,10 +5,10 @@ use Rattle.std.specs.List.{AllZip}
 use Rattle.aig_step.specs.declared.trace.Columns.{Columns}
 use Rattle.aig_lanes.specs.declared.shown.Shown.{Shown}
 use Rattle.aig_lanes.specs.Parts.LaneTexts.{IsTextOf}
-use Rattle.aig_batch.specs.Parts.Benches.{HasRoomFor}
+use Rattle.aig_bench.specs.Parts.Benches.{HasRoomFor}
 use Rattle.aig_batch.specs.Parts.RunsRead.{PutRuns, kept_texts}
 use Rattle.aig_batch.proofs.Side.Fronts.{put_more}
-use Rattle.aig_batch.proofs.Side.Rooms.{room_stays}
+use Rattle.aig_bench.proofs.Rooms.{room_stays}
 use Rattle.aig_batch.proofs.Side.TextGroups.{zipped_texts}
 use Rattle.aig_batch.proofs.batched.put_groups.Goals as goal
 
@@ -19,29 +19,31 @@ loop-group-preserved g c =
     let groups = c.args.groups.now in
     let i = c.loop-group.group-index in
     let runs = c.as_slice.result.now in
-    let shown = c.run.new.self.shown in
-    let sheet = c.run.new.self.sheet in
+    let shown = c.run_group.new.bench.shown in
+    let sheet = c.run_group.new.bench.sheet in
     let is_group : runs ≡ get_or groups i c.group-item.result = c.as_slice.ensures ∙ c.group-item.is in
     let now : take (i + 1) groups ≡ take i groups ++ runs ∷ [] =
     take_more groups i c.group-item.result c.loop-group-test.true
     ∙ ap (λ (r : List Run). take i groups ++ r ∷ []) (sym is_group) in
-    let asks = ap (λ (s : Shown). s.columns) c.run.ensures.same.shown ∙ c.loop-group.invariant.asks in
+    let asks = ap (λ (s : Shown). s.columns) c.run_group.ensures.same.shown ∙ c.loop-group.invariant.asks in
     record {
-      is = c.run.ensures.is;
+      is = c.run_group.ensures.is;
       asks = asks;
       room = λ k d below.
-          room_stays c.loop-group.bench c.run.new.self (get_or groups k d) c.run.ensures.same
+          room_stays c.loop-group.bench c.run_group.new.bench (get_or groups k d) c.run_group.ensures.same
           (c.loop-group.invariant.room k d below);
       put =
-          subst (λ (gs : List (List Run)). PutRuns machine columns gs c.args.output.now c.run.new.output) (sym now)
+          subst
+          (λ (gs : List (List Run)). PutRuns machine columns gs c.args.output.now c.run_group.new.output)
+          (sym now)
           (put_more machine columns (take i groups) runs (kept_texts shown runs (length runs) sheet)
-          c.args.output.now c.loop-group.output c.run.new.output c.loop-group.invariant.put
+          c.args.output.now c.loop-group.output c.run_group.new.output c.loop-group.invariant.put
           (subst (λ (k : Columns). AllZip (IsTextOf k machine) runs (kept_texts shown runs (length runs) sheet))
-          asks (zipped_texts machine runs shown sheet c.run.ensures.keeps))
-          c.run.ensures.put);
+          asks (zipped_texts machine runs shown sheet c.run_group.ensures.keeps))
+          c.run_group.ensures.put);
     }
 
-pub run-requires-clause-room : goal.run-requires-clause-room
-run-requires-clause-room g c =
+pub run_group-requires-clause-room : goal.run_group-requires-clause-room
+run_group-requires-clause-room g c =
     subst (HasRoomFor c.loop-group.bench) (sym (c.as_slice.ensures ∙ c.group-item.is))
     (c.loop-group.invariant.room c.loop-group.group-index c.group-item.result c.loop-group-test.true)

@@ -1,8 +1,10 @@
-use Rattle.std.proofs.Common.{◌≡◌, ◌∙◌, List, length, sym, subst, ℕ}
+use Rattle.std.proofs.Common.{◌≡◌, ◌∙◌, List, ap, length, sym, subst, ℕ}
 use Rattle.std.specs.List.{All}
 use Rattle.aig_circuit.specs.declared.circuit.Circuit.{Circuit}
 use Rattle.aig_lanes.specs.declared.run.Run.{Run}
-use Rattle.aig_batch.specs.Parts.Benches.{HasRoomFor}
+use Rattle.aig_bench.specs.Parts.Benches.{Fits, HasRoomFor}
+use Rattle.aig_step.specs.Parts.Lines.{line_size}
+use Rattle.aig_step.proofs.LineValues.{same_size}
 use Rattle.aig_batch.specs.Parts.RunsRead.{Says, entries_of_groups}
 use Rattle.aig_batch.proofs.batched.trace_collected.Goals as goal
 
@@ -14,5 +16,17 @@ says_of circuit bytes rest inputs groups passed count same says = rw (← count,
 
 pub trace_good-sent-requires-clause-room : goal.trace_good-sent-requires-clause-room
 trace_good-sent-requires-clause-room g c =
-    subst (λ (groups : List (List Run)). All (HasRoomFor c.in-Ok-set_up.bench) groups)
-    (c.deref.ensures.value ∙ sym c.deref-2.ensures.value) c.in-Ok-set_up.ensures.room
+    subst (λ (groups : List (List Run)). All (HasRoomFor c.in-Ok-new.bench) groups)
+    (c.deref.ensures.value ∙ sym c.deref-2.ensures.value) c.in-Ok-new.ensures.room
+
+pub new-requires-clause-line : goal.new-requires-clause-line
+new-requires-clause-line g c =
+    c.line_room.ensures.size
+    ∙ same_size c.args.checked.now c.args.reader.tracing.circuit c.line_room.ensures.formed c.requires.same
+    ∙ ap line_size (sym c.machine.ensures)
+
+pub trace_good-sent-requires-clause-counts : goal.trace_good-sent-requires-clause-counts
+trace_good-sent-requires-clause-counts g c =
+    subst (λ (k : Circuit). All (All (Fits k)) c.deref-2.result.now) c.machine.ensures
+    (subst (λ (groups : List (List Run)). All (All (Fits c.machine.result.now)) groups)
+    (c.deref.ensures.value ∙ sym c.deref-2.ensures.value) c.in-Ok-new.ensures.fits)

@@ -11,7 +11,8 @@ use Rattle.aig_trace.proofs.stream.trace_all.Goals as goal
 pub loop-count-init : goal.loop-count-init
 loop-count-init g c = record {
   reached = reached_none say_line HasTraced _ _ c.args.feeder.now c.args.lines.now _ c.requires.unfed c.requires.limit
-      (begun c.args.lines.now c.requires.begun);
+      (begun c.args.lines.now c.requires.begun c.requires.settled);
+  settled = c.requires.settled;
   going = c.requires.unfed.refused;
   empty = c.requires.empty;
   fine = c.requires.fine;
@@ -22,7 +23,8 @@ pub returns-in_default : goal.returns-in_default
 returns-in_default g c =
     let i = c.loop-count.invariant in
     interrupted _ _ i.reached.bytes _ _ c.loop-count.feeder _ _
-    (traced_so_far (task_of c.args.lines.now) _ _ _ _ i.reached) c.requires.empty c.requires.fine i.empty i.fine i.going
+    (traced_so_far (task_of c.args.lines.now) _ _ _ _ i.reached i.settled) c.requires.empty c.requires.fine i.empty
+    i.fine i.going
     (c.in_default.ensures.past ∙ ap failed_once i.reached.past)
 
 pub returns-then-count-eq0 : goal.returns-then-count-eq0
@@ -39,7 +41,8 @@ returns-in_err-trace_chunk g c =
     let now = reached_more say_line HasTraced _ _ _ _ _ _ _ _ _ _ _ _ c.loop-count.invariant.reached
     c.in-Ok.ensures.past (omega arith) c.split_at.ensures.front c.trace_chunk.ensures.fed in
     rw (h.1, h.2)
-    (ends _ _ now.bytes false _ _ c.trace_chunk.new.feeder (traced_so_far (task_of c.args.lines.now) _ _ _ _ now)
+    (ends _ _ now.bytes false _ _ c.trace_chunk.new.feeder (traced_so_far (task_of c.args.lines.now) _ _ _ _ now
+    c.trace_chunk.ensures.settled)
     c.requires.empty c.requires.fine c.trace_chunk.ensures.empty _ _ now.past _
     (sym c.in_err-trace_chunk.was ∙ c.trace_chunk.ensures.ended) (λ ok. cc))
 
@@ -50,6 +53,7 @@ loop-count-preserved g c =
       reached = reached_more say_line HasTraced _ _ _ _ _ _ _ _ _ _ _ _ c.loop-count.invariant.reached
           c.in-Ok.ensures.past (omega arith) c.split_at.ensures.front c.trace_chunk.ensures.fed;
       going = well.1;
+      settled = c.trace_chunk.ensures.settled;
       empty = c.trace_chunk.ensures.empty;
       fine = well.0;
       number = λ _.

@@ -12,6 +12,7 @@ invariant-loop-count g l =
       reached : Reached say_line HasTraced (longest_entry inputs) (nothing_said (task_of l.fn.lines) inputs)
           (r.past l.fn.source) (r.past l.source) l.feeder l.lines;
       going : l.feeder.refused ≡ false;
+      settled : l.lines.waiting ≡ [];
       empty : l.lines.output.held ≡ [];
       fine : l.lines.output.failed ≡ false;
       number : r.bound l.source ≤ 2 ^ 62 → l.feeder.number + r.bound l.source ≤ 2 ^ 62 + 1;
