@@ -1,5 +1,5 @@
 -- What a call answers (this project's interface for C).
-use Rattle.std.specs.Prelude.{◌≡◌, ◌≤◌, ◌⊎◌, ℕ, List, Bool, true, false, Some, length, take}
+use Rattle.std.specs.Prelude.{◌≡◌, ◌≤◌, ◌⊎◌, ℕ, List, true, Some}
 use Rattle.aig_circuit.specs.declared.circuit.Circuit.{Circuit}
 use Rattle.aig_command.specs.Aiger.{largest_index}
 use Rattle.aig_command.specs.declared.request.Sim.{Sim}
@@ -34,35 +34,22 @@ pub record Refused (IsFault : ToolFault → Type 0) (outcome : Outcome) : Type 0
 abbrev pub NotMade : (ToolFault → Type 0) → Outcome → Type 0
 NotMade IsFault outcome = Refused IsFault outcome ⊎ (outcome ≡ out_of_memory)
 
--- What a call answers that makes a text. Its numbers cannot be met; or they can, and there is a text, or none. Without a
--- text the output is as it was.
+-- What a call answers that makes a text. Its numbers cannot be met; or they can, and there is a text, or none. Without
+-- a text the output is as it was.
 abbrev pub Answers : Type 0 → (List ℕ → Type 0) → (ToolFault → Type 0) → (before after : List ℕ) → Outcome → Type 0
 Answers CanDo IsText IsFault before after outcome =
     ((¬ CanDo) × (after ≡ before) × (outcome ≡ ending BAD_OPTIONS 0 0))
     ⊎ (CanDo × (Made IsText before after outcome ⊎ ((after ≡ before) × NotMade IsFault outcome)))
 
--- These bytes are a beginning of the text, or all of it.
-abbrev pub IsBeginning : List ℕ → Bool → List ℕ → Type 0
-IsBeginning bytes true text = bytes ≡ text
-IsBeginning bytes false text = bytes ≡ take (length bytes) text
+-- This line of the stimulus is the first bad one.
+abbrev pub IsBadStimulus : Circuit → (stimulus : List ℕ) → SimFault → Type 0
+IsBadStimulus c stimulus fault =
+    (line : ℕ) × (fault ≡ BadStimulus line) × (first_bad_line c stimulus true ≡ Some line)
 
--- This is the number of the first bad line of a stimulus, which shows in what was read of it.
-pub record IsBadStimulus (c : Circuit) (stimulus : List ℕ) (fault : SimFault) : Type 0 where
-  pub line : ℕ
-  pub bytes : List ℕ
-  pub ended : Bool
-  pub is : fault ≡ BadStimulus line
-  pub beginning : IsBeginning bytes ended stimulus
-  pub first : first_bad_line c bytes ended ≡ Some line
-
--- The same of the first wrong line of a witness file.
-pub record IsBadWitness (c : Circuit) (witness : List ℕ) (fault : SimFault) : Type 0 where
-  pub line : ℕ
-  pub bytes : List ℕ
-  pub ended : Bool
-  pub is : fault ≡ BadWitness line
-  pub beginning : IsBeginning bytes ended witness
-  pub first : first_bad_witness_line c bytes ended ≡ Some line
+-- This line of the witness file is the first wrong one, or the one that is missing behind it.
+abbrev pub IsBadWitness : Circuit → (witness : List ℕ) → SimFault → Type 0
+IsBadWitness c witness fault =
+    (line : ℕ) × (fault ≡ BadWitness line) × (first_bad_witness_line c witness true ≡ Some line)
 
 -- The model has no trace of the stimulus for this reason: it is no file of a circuit, or a line of the stimulus is bad.
 abbrev pub IsSimulationRefused : Sim → (model stimulus : List ℕ) → ToolFault → Type 0

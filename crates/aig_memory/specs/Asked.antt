@@ -46,8 +46,8 @@ simulation options max_var = record {
   stimulus = None;
 }
 
--- Which numbers can be met: only known options are given, the limit is no larger than any index, a map is kept in binary
--- and alone, and there are so many frames as can be unrolled.
+-- Which numbers can be met: only known options are given, the limit is at most the largest index, a map is kept in
+-- binary and alone, and there are as many frames as can be unrolled.
 abbrev pub CanConvert : (options max_var : ℕ) → Type 0
 CanConvert options max_var =
     OnlyHas options (ASCII + STRIP + KEEP_MAP + UNDO_MAP) × (max_var ≤ largest_index)

@@ -70,7 +70,8 @@ words_for party text = codes "out of memory"
 
 -- the words for the outcome of a fault are those in which the program reports it
 abbrev pub MessagesTellFaults : Type 0
-MessagesTellFaults = (fault : ToolFault) → message_text (fault_outcome fault) ≡ words_for (at_fault fault) (error_text fault)
+MessagesTellFaults =
+    (fault : ToolFault) → message_text (fault_outcome fault) ≡ words_for (at_fault fault) (error_text fault)
 
 -- The text is at the front of the output, where there is room for it, and else the output is as it was. Its length is
 -- answered.

@@ -104,8 +104,8 @@ fault_outcome faults.Source = out_of_memory
 fault_outcome faults.Sink = out_of_memory
 fault_outcome faults.OutOfMemory = out_of_memory
 
--- The text is at the front of the output, and what stood behind it is as it was; or it has more bytes than there is room
--- for, and the output is as it was. The outcome tells how many bytes it has.
+-- The text is at the front of the output, and what stood behind it is as it was; or it has more bytes than there is
+-- room for, and the output is as it was. The outcome tells how many bytes it has.
 abbrev pub IsPlaced : (text before after : List ℕ) → Outcome → Type 0
 IsPlaced text before after outcome =
     ((after ≡ text ++ drop (length text) before) × (outcome ≡ ending DONE 0 (length text)))

@@ -1,8 +1,8 @@
 //! Conversion, unrolling, simulation and witnesses from bytes to bytes, in memory.
 //!
-//! Others call `convert`, `unroll`, `simulate`, `witness` and `message`. What is asked of them is numbers, and so is the
-//! `Outcome` that each call answers: a caller may stand in any language. A call makes its whole text first, and then
-//! copies it to the output where there is room for it; otherwise the output is as it was.
+//! Others call `convert`, `unroll`, `simulate`, `witness` and `message`. What is asked of them is numbers, and so is
+//! the `Outcome` that each call answers: a caller may stand in any language. A call makes its whole text first, and
+//! then copies it to the output where there is room for it; otherwise the output is as it was.
 //!
 //! The definitions that matter most are `Answers` and `fault_outcome`.
 #![tactic(auto)]

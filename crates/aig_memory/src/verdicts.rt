@@ -1,7 +1,8 @@
 //! Verdicts on witness files.
 ghost use Rattle.std.specs.Prelude.{◌≡◌, ◌⊎◌, IfErr, IfOk};
 ghost use Rattle.aig_engines.specs.WitnessOutcome.{IsWitnessAnswer};
-ghost use Rattle.aig_memory.specs.Answers.{IsBadWitness, IsWitnessRefused, WitnessAnswers, IsVerdictFor, verdict_outcome};
+ghost use Rattle.aig_memory.specs.Answers.{IsBadWitness, IsVerdictFor, IsWitnessRefused, verdict_outcome};
+ghost use Rattle.aig_memory.specs.Answers.{WitnessAnswers};
 ghost use Rattle.aig_memory.specs.Asked.{simulation};
 ghost use Rattle.aig_memory.specs.Outcome.{fault_outcome, out_of_memory, sim_outcome};
 
@@ -15,6 +16,7 @@ use aig_witness::{Verdict, confirm};
 use std::alloc::Global;
 
 /// The verdict on a witness file.
+#[tactic(auto, using(crate::proofs::Lents::not_judged))]
 fn judged(alloc: Global, found: &Checked, witness: &[u8]) -> Result<Verdict, SimFault>
     ensures ok { IfOk result (IsVerdictFor found.now witness.now) }
     ensures err { IfErr result (λ fault.
@@ -48,8 +50,8 @@ fn verdict_outcome(verdict: Verdict) -> Outcome
     }
 }
 
-/// Judges a witness file for the circuit of an AIGER file. The status is `DONE`, with the step, or `NOT_CONFIRMED`, where
-/// all of it is right. The largest index and the counts of the model are at most `max_var`.
+/// Judges a witness file for the circuit of an AIGER file. The status is `DONE`, with the step, or `NOT_CONFIRMED`,
+/// where all of it is right. The largest index and the counts of the model are at most `max_var`.
 pub fn witness(alloc: Global, max_var: u32, model: &[u8], witness: &[u8]) -> Outcome
     ensures { WitnessAnswers max_var model.now witness.now result }
 {
