@@ -1,6 +1,6 @@
 //! Frames, put one after the other.
 ghost use Rattle.std.specs.Prelude.{◌≡◌, ◌+◌, ◌-◌, ◌^◌, ◌<◌, ◌≤◌, ◌++◌, [], IfOk, length, replicate};
-ghost use Rattle.std.specs.Prelude.{reverse, false, if◌then◌else◌, bytes_eq, not, ◌==◌, ◌||◌};
+ghost use Rattle.std.specs.Prelude.{reverse, false, if◌then◌else◌, bytes_eq, codes, not, ◌==◌, ◌||◌, ◌∷◌};
 ghost use Rattle.std.specs.Fmt.{digits};
 ghost use Rattle.std.specs.List.{flat_map};
 ghost use Rattle.aig_io.specs.Output.{Put};
@@ -77,8 +77,27 @@ fn is_new_run(time: u64, before: u64, run: u64) -> bool
     time == 0 || before != run
 }
 
-/// Puts the value of a signal, where it is another one than before.
-fn put_change<W: Sink>(
+/// Whether a character is shown at this time.
+fn is_new_bit(time: u64, before: u8, bit: u8) -> bool
+    ensures { result ≡ ((time == 0) || not (before == bit)) }
+{
+    time == 0 || before != bit
+}
+
+/// Puts the value of a signal of one position, where it is another one than before.
+fn put_bit<W: Sink>(output: &mut Output<W>, time: u64, before: u8, bit: u8, signal: &Signal)
+    ensures { Put output.old output.new
+        (if (time == 0) || not (before == bit) then bit ∷ (code signal.now ++ codes "\n") else []) }
+{
+    if is_new_bit(time, before, bit) {
+        output.put(&[bit, letter(signal.kind)]);
+        output.put_number(u64::from(signal.first));
+        output.put(b"\n");
+    }
+}
+
+/// Puts the value of a signal of any size, where it is another one than before.
+fn put_vector<W: Sink>(
     output: &mut Output<W>,
     time: u64,
     before: &[u8],
@@ -93,6 +112,24 @@ fn put_change<W: Sink>(
         put_code(output, signal);
         output.put(b"\n");
     }
+}
+
+/// Puts the value of a signal, where it is another one than before.
+fn put_change<W: Sink>(
+    output: &mut Output<W>,
+    time: u64,
+    before: &[u8],
+    line: &[u8],
+    signal: &Signal,
+)
+    ensures { Put output.old output.new (change_text time (frame 0 before.now) (frame 0 line.now) signal.now) }
+{
+    let at = signal.start;
+    if signal.size == 1 && at < before.len() && at < line.len() {
+        put_bit(output, time, before[at], line[at], signal);
+        return;
+    }
+    put_vector(output, time, before, line, signal);
 }
 
 /// Puts the values of signals, where they are others than before.
