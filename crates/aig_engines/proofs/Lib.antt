@@ -8,3 +8,5 @@ pub mod Lines
 pub mod Unrollings
 pub mod WitnessesUnrolled
 pub mod Texts
+pub mod Begun
+pub mod Pieces
