@@ -27,6 +27,8 @@ MANY, MEMORY, PATIENCE = 70_000_000, 1_500_000_000, 100
 LINES, GATES, RUNS = 500_000, 4_000_000, 20_000
 # latches and inputs to simulate; inputs of a long stimulus; frames, and gates in each
 WIDTH, INPUTS, FRAMES, CARRIED = 5_000, 1_000, 1_000, 1_000
+# bytes of a file that are held at a time
+EDGE = 65_536
 # lines that are made at once
 PIECE = 10_000
 
@@ -233,12 +235,31 @@ def many_frames(room):
     room.gives("aigtoaig --ascii", room.made(f"aigunroll --frames {FRAMES}", "chain"), "wanted")
 
 
+def window_edges(room):
+    """Files that are longer than the part of a file that is held at a time, which ends at each byte of a row in one of
+    them: at a number, a space, a carriage return or a line feed."""
+    gates, head = 400, len(f"aag 401 1 0 {EDGE // 2} 400\n2\n")
+    for shift in range(30):
+        # bytes of outputs, so that some gates stand before the edge and some behind it
+        short = (EDGE - head - 2000) // 2 - shift
+        text = [f"aag {gates + 1} 1 0 {short + shift} {gates}", "2", *["3"] * short, *["10"] * shift]
+        text += [f"{at} {at - 2} {2 * (at % 3)}" for at in range(4, 2 * gates + 4, 2)]
+        write("edge", ("\n".join([*text, "i0 x", "c", "edge", ""])).encode())
+        room.gives("aigtoaig --ascii", "edge", "edge")
+        write("returns", ("\r\n".join(text) + "\r\ni0 x\nc\nedge\n").encode())
+        room.gives("aigtoaig --ascii", "returns", "edge")
+        for number in range(len(text) - gates + 205, len(text) - gates + 217):
+            write("wrong", "\n".join([*text[: number - 1], "4 4", *text[number:], ""]).encode())
+            came = room.run("aigtoaig", "wrong", "came")
+            room.judge(f"line {number}", came == (f"aiger: -: line {number}: bad line\n".encode(), 1), came)
+
+
 def main(program):
     _, most = resource.getrlimit(resource.RLIMIT_AS)
     # the limit is that of this process, and each run has it from here
     resource.setrlimit(resource.RLIMIT_AS, (MEMORY if most == resource.RLIM_INFINITY else min(most, MEMORY), most))
     room = Room(os.path.abspath(program))
-    for judge in (large_chains, large_tails, large_sections, many_runs, many_latches, long_stimuli, many_frames):
+    for judge in (large_chains, large_tails, large_sections, many_runs, many_latches, long_stimuli, many_frames, window_edges):
         with tempfile.TemporaryDirectory() as folder:
             os.chdir(folder)
             judge(room)

@@ -20,7 +20,7 @@ use Rattle.aig_engines.specs.Conversion.{IsSource, IsTextAs}
 use Rattle.aig_engines.specs.DumpLaws.{ConversionsAreDumpedAlike, DumpsAreKept, DumpsAreUnambiguous}
 use Rattle.aig_engines.specs.DumpLaws.{DumpsTellTraces}
 use Rattle.aig_engines.specs.File.{IsFileOf}
-use Rattle.aig_engines.proofs.Files.{one_circuit}
+use Rattle.aig_binary.proofs.Files.{one_circuit}
 use Rattle.aig_engines.proofs.Traces.{one_simulation_text, traces_are_kept}
 use Rattle.aig_engines.proofs.Trips.{ascii_file, binary_file}
 use Rattle.aig_engines.proofs.TripsExist.{well_formed_file}

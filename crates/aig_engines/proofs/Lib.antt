@@ -8,3 +8,5 @@ pub mod Unrollings
 pub mod WitnessesUnrolled
 pub mod Texts
 pub mod Dumps
+pub mod Begun
+pub mod Pieces

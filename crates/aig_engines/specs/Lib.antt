@@ -4,6 +4,7 @@ pub mod Simulation
 pub mod Unrolling
 pub mod Blame
 pub mod Reading
+pub mod Begun
 pub mod Outcome
 pub mod WitnessOutcome
 pub mod Messages

@@ -1,13 +1,19 @@
 //! Files of either kind.
-ghost use Rattle.std.specs.Prelude.{◌≡◌, IfOk, IfErr};
-ghost use Rattle.aig_io.specs.Devices.{CanFail};
+ghost use Rattle.std.specs.Prelude.{◌≡◌, ◌+◌, ◌^◌, ◌<◌, ◌≤◌, ◌++◌, Ok, IfOk, IfErr, IsTrue, OnOk, false};
+ghost use Rattle.std.specs.Prelude.{length, not};
+ghost use Rattle.aig_io.specs.Devices.{CanFail, GaveSome, Past, gave};
+ghost use Rattle.aig_io.specs.Windows.{Filled};
+ghost use Rattle.aig_rows.specs.Lines.{lines_of};
+ghost use Rattle.aig_text.specs.Begun.{IsValid, rest_of};
 ghost use Rattle.aig_engines.specs.File.{IsFileOf};
 ghost use Rattle.aig_engines.specs.Reading.{HasRead, IsUnreadable, NotRead};
+ghost use Rattle.aig_engines.specs.Begun.{ComesOn, IsWrongRest, NotAllCame, ReadsFrom};
 
 use crate::fault::ToolFault;
-use aig_binary::read_file_keeping;
-use aig_core::{Checked, Keep, Source, read_all};
-use aig_text::Limits;
+use aig_binary::{BINARY_WORD, read_file_keeping};
+use aig_core::{Checked, Circuit, Keep, ReadError, Source, Window};
+use aig_rows::ended_lines;
+use aig_text::{AsciiReader, Limits, check_read, first_word_is};
 use std::alloc::Global;
 
 /// Lets go of the room that bytes do not fill, and answers whether no memory was refused. Room grows by doubling, so it
@@ -21,8 +27,138 @@ fn fit(bytes: &mut Vec<u8>) -> bool
     bytes.capacity() == bytes.len()
 }
 
+/// Fetches until a line ends in what comes, and answers whether the source goes on.
+fn fetch_line<R: Source>(source: &mut R, window: &mut Window) -> Result<bool, ReadError>
+    requires { CanFail (R.past source.old) }
+    ensures ok { IfOk result (λ more. Filled window.old window.new more (R.past source.old) (R.past source.new)) }
+    ensures bound { OnOk result (R.bound source.new + length window.new ≡ R.bound source.old + length window.old) }
+    ensures fewer { IfOk result (λ more. IsTrue more → R.bound source.new < R.bound source.old) }
+    ensures err { IfErr result (λ error. GaveSome error (R.past source.old) (R.past source.new)) }
+{
+    loop {
+        let held = window.as_slice().len();
+        if !window.fill(source)? {
+            return Ok(false);
+        }
+        let (_, came) = window.as_slice().split_at(held);
+        let (lines, _) = ended_lines(came);
+        if !lines.is_empty() {
+            return Ok(true);
+        }
+    }
+}
+
+/// Fetches all that the source still gives, where it goes on.
+fn fetch_all<R: Source>(source: &mut R, window: &mut Window, more: bool) -> Result<(), ReadError>
+    requires { CanFail (R.past source.old) }
+    ensures ok { OnOk result (ComesOn window.old window.new more false (R.past source.old) (R.past source.new)) }
+    ensures bound { OnOk result (length window.new ≤ R.bound source.old + length window.old) }
+    ensures err { IfErr result (λ error. NotAllCame error more (R.past source.old) (R.past source.new)) }
+{
+    let mut goes_on = more;
+    while goes_on {
+        goes_on = window.fill(source)?;
+    }
+    Ok(())
+}
+
+/// The first bytes of a source, with a line at least, and whether it goes on.
+fn fetch_first<R: Source>(alloc: Global, source: &mut R) -> Result<(Window, bool), ReadError>
+    requires { CanFail (R.past source.old) }
+    ensures ok { IfOk result (λ x. R.past source.new ≡ gave x.0 (not x.1) (R.past source.old)) }
+    ensures bound { IfOk result (λ x. R.bound source.new + length x.0 ≤ 2 ^ 62) }
+    ensures err { IfErr result (λ error. GaveSome error (R.past source.old) (R.past source.new)) }
+{
+    let mut window = Window::new(alloc)?;
+    if !window.fill(source)? {
+        return Ok((window, false));
+    }
+    let (lines, _) = ended_lines(window.as_slice());
+    if !lines.is_empty() {
+        return Ok((window, true));
+    }
+    let more = fetch_line(source, &mut window)?;
+    Ok((window, more))
+}
+
+/// Fetches the lines of the sections of an ASCII file, of which the window has the next bytes, and has them read.
+/// Answers whether the source goes on.
+fn read_lines<R: Source>(
+    source: &mut R,
+    window: &mut Window,
+    reader: &mut AsciiReader,
+) -> Result<bool, ReadError>
+    requires source { CanFail (R.past source.old) }
+    requires valid { IsValid reader.old.header reader.old.progress }
+    requires counted { reader.old.number + length window.old + R.bound source.old ≤ 2 ^ 63 }
+    ensures ok { IfOk result (λ more. ReadsFrom reader.old reader.new window.old window.new more
+        (R.past source.old) (R.past source.new)) }
+    ensures valid { OnOk result (IsValid reader.new.header reader.new.progress) }
+    ensures counted { OnOk result (reader.new.number + length window.new + R.bound source.new ≤ 2 ^ 63) }
+    ensures err { IfErr result (λ error. GaveSome error (R.past source.old) (R.past source.new)) }
+{
+    let mut more = true;
+    while more && !reader.is_done() {
+        let used = reader.advance(window.as_slice());
+        window.pass(used);
+        more = fetch_line(source, window)?;
+    }
+    Ok(more)
+}
+
+/// The circuit that an ASCII file tells, of which this reader has the first bytes and the window has the next. Its
+/// definitions and uses are not checked here.
+fn read_rest<R: Source>(
+    alloc: Global,
+    source: &mut R,
+    window: &mut Window,
+    reader: AsciiReader,
+) -> Result<Circuit, ToolFault>
+    requires source { CanFail (R.past source.old) }
+    requires valid { IsValid reader.header reader.progress }
+    requires counted { reader.number + length window.old + R.bound source.old ≤ 2 ^ 63 }
+    ensures ok { IfOk result (λ c. HasRead (λ bytes. rest_of reader (lines_of (window.old ++ bytes)) ≡ Ok c)
+        (R.past source.old) (R.past source.new)) }
+    ensures err { IfErr result (λ fault. NotRead (IsWrongRest reader window.old) fault
+        (R.past source.old) (R.past source.new)) }
+{
+    let mut reader = reader;
+    let more = read_lines(source, window, &mut reader)?;
+    fetch_all(source, window, more)?;
+    match reader.finish(alloc, window.as_slice()) {
+        Ok(circuit) => Ok(circuit),
+        Err(fault) => Err(ToolFault::Read(fault)),
+    }
+}
+
+/// Reads a file of which the window has the first bytes, when all of them are there.
+fn read_whole<R: Source>(
+    alloc: Global,
+    source: &mut R,
+    window: Window,
+    more: bool,
+    limits: Limits,
+    keep: Keep,
+) -> Result<Checked, ToolFault>
+    requires { CanFail (R.past source.old) }
+    ensures ok { (before : Past) → R.past source.old ≡ gave window (not more) before
+        → IfOk result (λ found. HasRead (λ bytes. IsFileOf bytes limits.max_var found) before (R.past source.new)) }
+    ensures err { (before : Past) → R.past source.old ≡ gave window (not more) before
+        → IfErr result (λ fault. NotRead (IsUnreadable limits.max_var) fault before (R.past source.new)) }
+{
+    let mut window = window;
+    fetch_all(source, &mut window, more)?;
+    let mut bytes = window.into_bytes();
+    if !fit(&mut bytes) {
+        return Err(ToolFault::OutOfMemory);
+    }
+    // The text ends here: it is not needed from here on, and may be larger than the circuit.
+    let found = read_file_keeping(alloc, bytes.as_slice(), limits, keep)?;
+    Ok(found)
+}
+
 /// Reads the source to its end, as a file of either kind within this limit, and keeps what is wanted of the check
-/// later.
+/// later. Of an ASCII file only a part is held at a time.
 pub fn read_circuit<R: Source>(
     alloc: Global,
     source: &mut R,
@@ -35,11 +171,16 @@ pub fn read_circuit<R: Source>(
     ensures err { IfErr result (λ fault. NotRead (IsUnreadable max_var) fault
         (R.past source.old) (R.past source.new)) }
 {
-    let mut bytes = read_all(alloc, source)?;
-    if !fit(&mut bytes) {
-        return Err(ToolFault::OutOfMemory);
+    let limits = Limits { max_var };
+    let (first, more) = fetch_first(alloc, source)?;
+    let (lines, _) = ended_lines(first.as_slice());
+    if !more || lines.is_empty() || first_word_is(lines, BINARY_WORD) {
+        return read_whole(alloc, source, first, more, limits, keep);
     }
-    // The text ends here: it is not needed from here on, and may be larger than the circuit.
-    let found = read_file_keeping(alloc, bytes.as_slice(), Limits { max_var }, keep)?;
-    Ok(found)
+    let (reader, used) = AsciiReader::begin(alloc, lines, limits);
+    let mut window = first;
+    window.pass(used);
+    let circuit = read_rest(alloc, source, &mut window, reader)?;
+    drop(window);
+    Ok(check_read(alloc, circuit, keep)?)
 }

@@ -5,3 +5,4 @@ pub mod LeadingDigits
 pub mod Outgoing
 pub mod Puts
 pub mod Filled
+pub mod Windows

@@ -4,6 +4,7 @@ pub mod Rows
 pub mod Scanning
 pub mod CanonicalNumber
 pub mod Reading
+pub mod Begun
 pub mod Outcomes
 pub mod Kept
 pub mod Messages

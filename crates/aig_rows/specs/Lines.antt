@@ -1,6 +1,6 @@
 -- The lines of a text (this project's profile).
-use Rattle.std.specs.Prelude.{◌==◌, ℕ, List, [], ◌∷◌, ◌++◌, Bool, true, false, if◌then◌else◌}
-use Rattle.std.specs.List.{flat_map}
+use Rattle.std.specs.Prelude.{◌≡◌, ◌+◌, ◌==◌, ℕ, List, [], ◌∷◌, ◌++◌, Bool, true, false, length, if◌then◌else◌}
+use Rattle.std.specs.List.{AllByRecursion, flat_map}
 
 -- the bytes before the line feed, and whether there is one
 pub record Line : Type 0 where
@@ -17,6 +17,20 @@ pub record Ahead : Type 0 where
 
 abbrev pub ahead : ℕ → List Line → Ahead
 ahead number lines = record { number = number; lines = lines }
+
+-- the same place, where more lines come behind those
+abbrev pub with_lines : Ahead → List Line → Ahead
+with_lines at more = ahead at.number (at.lines ++ more)
+
+-- a place further on in the same text
+pub record IsBehind (at now : Ahead) : Type 0 where
+  pub front : List Line
+  pub lines : at.lines ≡ front ++ now.lines
+  pub number : now.number ≡ at.number + length front
+
+-- each line has its line feed
+abbrev pub AreEnded : List Line → Type 0
+AreEnded ls = AllByRecursion (λ (l : Line). l.ended ≡ true) ls
 
 -- the lines, with one more byte at the front of the first
 abbrev pub begun_by : ℕ → List Line → List Line

@@ -17,8 +17,8 @@ mod rows;
 mod word;
 
 pub use crate::fault::{Place, ReadFault, ReadKind};
-pub use crate::line::{Cursor, Line, split_line};
+pub use crate::line::{Cursor, Line, ended_lines, split_line};
 pub use crate::message::Message;
 pub use crate::number::{canonical_number, ends_line, leading_number, more_numbers};
 pub use crate::row::{FromRow, NextState, Role, RowForm};
-pub use crate::rows::{next_states, numbers, read_rows};
+pub use crate::rows::{Due, next_states, numbers, read_first_rows, read_rows};

@@ -1,8 +1,8 @@
 //! Lines of a text.
-ghost use Rattle.std.specs.Prelude.{◌≡◌, ◌+◌, ◌^◌, ◌<◌, [], ◌∷◌, length, MatchOption};
-ghost use Rattle.aig_rows.specs.Lines.{ahead, line, lines_of};
+ghost use Rattle.std.specs.Prelude.{◌≡◌, ◌+◌, ◌^◌, ◌<◌, [], ◌∷◌, ◌++◌, length, MatchOption};
+ghost use Rattle.aig_rows.specs.Lines.{ahead, AreEnded, line, lines_of};
 
-use memchr::memchr;
+use memchr::{memchr, memrchr};
 use std::marker::Model;
 
 /// A line without its line feed.
@@ -76,5 +76,16 @@ pub fn split_line(bytes: &[u8]) -> Option<(Line, &[u8])>
             },
             &[],
         )),
+    }
+}
+
+/// The lines at the front that have their line feed, and what follows them.
+pub fn ended_lines(bytes: &[u8]) -> (&[u8], &[u8])
+    ensures cut { bytes.now ≡ result.0.now ++ result.1.now }
+    ensures ended { AreEnded (lines_of result.0.now) }
+{
+    match memrchr(b'\n', bytes) {
+        Some(at) => bytes.split_at(at + 1),
+        None => (&[], bytes),
     }
 }

@@ -1,11 +1,13 @@
 //! Rows one after another.
-ghost use Rattle.std.specs.Prelude.{◌≡◌, ◌^◌, ◌≤◌, ◌∷◌, [], IfOk, OnErr};
+ghost use Rattle.std.specs.Prelude.{◌≡◌, ◌+◌, ◌*◌, ◌^◌, ◌<◌, ◌≤◌, ◌⊎◌, ◌∷◌, [], List, IfErr, IfOk, OnErr};
 ghost use Rattle.aig_circuit.specs.Wellformed.{largest_index};
 ghost use Rattle.aig_rows.specs.Rows.{next_form, next_of};
 ghost use Rattle.aig_rows.specs.Outcomes.{AreBounded, GivesOrFails, GivesOrMemory, rows_meant};
-ghost use Rattle.aig_rows.specs.Reading.{row_at, rows_at};
+ghost use Rattle.aig_rows.specs.Lines.{Line, with_lines};
+ghost use Rattle.aig_rows.specs.Begun.{HaveRead};
+ghost use Rattle.aig_rows.specs.Reading.{row_at, rows_at, want_of_memory};
 
-use crate::fault::ReadFault;
+use crate::fault::{Place, ReadFault, ReadKind};
 use crate::line::Cursor;
 use crate::row::{FromRow, NextState, RowForm, next_row};
 use aig_circuit::Listing;
@@ -27,27 +29,47 @@ pub fn numbers<const N: usize>(
     next_row::<N>(form, at, bound, carried)
 }
 
-/// Adds the entries of the next `count` lines, which are judged beside `bound` and what is carried to the first, and
-/// moves behind them.
+/// The rows that are still due.
+#[derive(Clone, Copy)]
+pub struct Due {
+    /// How many.
+    pub count: u32,
+    /// What is carried to the first of them.
+    pub carried: u64,
+}
+
+impl Due {
+    /// So many, with nothing carried to the first.
+    pub fn new(count: u32) -> Self
+        ensures { result ≡ record { count = count; carried = 0 } }
+    {
+        Due { count, carried: 0 }
+    }
+}
+
+/// Adds the entries of the lines ahead, as far as rows are due, which are judged beside `bound` and what is carried,
+/// and moves behind these lines. Answers which rows are due then: none, or else no line is left.
 #[inline(never)]
-pub fn read_rows<T: FromRow>(
+pub fn read_first_rows<T: FromRow>(
     found: &mut Listing<T>,
-    count: u32,
     bound: u32,
-    start: u64,
+    due: Due,
     at: &mut Cursor,
-) -> Result<(), ReadFault>
+) -> Result<Due, ReadFault>
     requires bound { bound ≤ largest_index }
-    requires start { start ≤ 2 ^ 33 }
-    ensures rows { GivesOrMemory (λ _. (found.new, at.new)) result
-        (rows_meant T.meant_by found.old (rows_at T.form bound start count at.old)) }
-    ensures err { OnErr result (at.new ≡ at.old) }
+    requires small { due.carried + 2 * due.count ≤ 2 ^ 34 }
+    ensures rows { IfOk result (λ left. HaveRead T.meant_by T.form bound due left found.old found.new at.old at.new) }
+    ensures small { IfOk result (λ left. left.carried + 2 * left.count ≤ 2 ^ 34) }
+    ensures all { IfOk result (λ left. 0 < left.count → at.new.lines ≡ []) }
+    ensures err { IfErr result (λ e. (e ≡ want_of_memory) ⊎ ((more : List Line)
+        → rows_at T.form bound due.carried due.count (with_lines at.old more) ≡ Err e)) }
 {
     // Out of the cursor, so that both can stay in registers; only where a row is read slowly, one is lent.
     let mut rest = at.rest;
     let mut number = at.number;
-    let mut carried = start;
-    for _ in 0..count {
+    let mut carried = due.carried;
+    let mut count = due.count;
+    while count > 0 && !rest.is_empty() {
         let row = match T::read_short(rest, bound, carried) {
             Some(found) => {
                 rest = found.1;
@@ -64,8 +86,46 @@ pub fn read_rows<T: FromRow>(
         };
         carried = row.carry(carried);
         found.push(row)?;
+        count -= 1;
     }
     *at = Cursor { rest, number };
+    Ok(Due { count, carried })
+}
+
+/// Adds the entries of the next `count` lines, which are judged beside `bound` and what is carried to the first, and
+/// moves behind them.
+pub fn read_rows<T: FromRow>(
+    found: &mut Listing<T>,
+    count: u32,
+    bound: u32,
+    start: u64,
+    at: &mut Cursor,
+) -> Result<(), ReadFault>
+    requires bound { bound ≤ largest_index }
+    requires start { start ≤ 2 ^ 33 }
+    ensures rows { GivesOrMemory (λ _. (found.new, at.new)) result
+        (rows_meant T.meant_by found.old (rows_at T.form bound start count at.old)) }
+    ensures err { OnErr result (at.new ≡ at.old) }
+{
+    let mut from = Cursor {
+        rest: at.rest,
+        number: at.number,
+    };
+    let due = Due {
+        count,
+        carried: start,
+    };
+    let left = match read_first_rows(found, bound, due, &mut from) {
+        Ok(left) => left,
+        Err(fault) => return Err(fault),
+    };
+    if left.count > 0 {
+        return Err(ReadFault {
+            place: Place::Line(from.number),
+            kind: ReadKind::Truncated,
+        });
+    }
+    *at = from;
     Ok(())
 }
 

@@ -1,3 +1,5 @@
 pub mod Sections
 pub mod Tail
 pub mod Text
+pub mod Begun
+pub mod Pieces

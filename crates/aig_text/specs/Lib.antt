@@ -4,5 +4,6 @@ pub mod AsciiGrammar
 pub mod AsciiText
 pub mod Scanning
 pub mod Reading
+pub mod Begun
 pub mod Laws
 pub mod Parts

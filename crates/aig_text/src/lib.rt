@@ -11,6 +11,7 @@ mod header_line;
 pub mod laws;
 mod limits;
 mod parts;
+mod pieces;
 mod reader;
 mod section;
 mod tail_lines;
@@ -19,7 +20,8 @@ mod writer;
 pub use crate::header_line::{ASCII_WORD, HEADER_LEAST, HEADER_NUMBERS, Header};
 pub use crate::limits::Limits;
 pub use crate::parts::{first_word_is, header, tail};
-pub use crate::reader::{empty_circuit, read_ascii, read_ascii_keeping};
+pub use crate::pieces::AsciiReader;
+pub use crate::reader::{check_read, empty_circuit, read_ascii, read_ascii_keeping};
 pub use crate::section::{SECTIONS, Section, read_section};
 pub use crate::writer::{
     NumberedLine, WriteFault, header_numbers, put_header, put_lines, put_literal_sections,

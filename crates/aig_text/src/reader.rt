@@ -1,19 +1,19 @@
 //! The reader of ASCII files.
 ghost use Rattle.std.specs.Prelude.{◌≡◌, ◌≤◌, IfOk, IfErr, MatchResult};
 ghost use Rattle.aig_circuit.specs.declared.circuit.Circuit.{Circuit as CircuitRecord};
-ghost use Rattle.aig_circuit.specs.Wellformed.{largest_index};
 ghost use Rattle.aig_rows.specs.Lines.{lines_of};
-ghost use Rattle.aig_text.specs.Sections.{ascii_word, in_ascii, sections};
 ghost use Rattle.aig_rows.specs.Outcomes.{GivesOrMemory};
 ghost use Rattle.aig_text.specs.Reading.{IsFirstFault, first_ascii_fault, kind_of, circuit_at, empty_circuit};
-ghost use Rattle.aig_text.specs.Reading.{sections_at};
-ghost use Rattle.aig_rows.specs.Reading.{want_of_memory, whole_fault};
+ghost use Rattle.aig_text.specs.Reading.{unless_faulty};
+ghost use Rattle.aig_circuit.specs.Form.{IsInForm};
+ghost use Rattle.aig_core.specs.Fault.{first_structural_fault};
+ghost use Rattle.aig_rows.specs.Reading.{want_of_memory};
 ghost use Rattle.aig_text.specs.AsciiGrammar.{IsAsciiText};
 
-use crate::header_line::{ASCII_WORD, Header};
+use crate::header_line::ASCII_WORD;
 use crate::limits::Limits;
 use crate::parts::{header, tail};
-use crate::section::read_sections;
+use crate::pieces::Progress;
 use aig_core::{CheckFault, Checked, Circuit, Justice, Keep, Listing, Symbols, check_keeping};
 use aig_rows::{Cursor, Place, ReadFault, ReadKind};
 use std::alloc::Global;
@@ -40,29 +40,13 @@ pub fn empty_circuit(alloc: Global, max_var: u32) -> Circuit
     }
 }
 
-/// The circuit with the entries of all sections, whose lines begin here. Goes behind these lines, unless one is not
-/// right.
-fn read_numbered(alloc: Global, header: &Header, at: &mut Cursor) -> Result<Circuit, ReadFault>
-    requires max_var { header.now.max_var ≤ largest_index }
-    requires limit { header.now.limit ≤ largest_index }
-    ensures { GivesOrMemory (λ c. (c, at.new)) result
-        (sections_at in_ascii header.now sections (empty_circuit header.now.max_var) at.old) }
-{
-    let mut circuit = empty_circuit(alloc, header.max_var);
-    if let Err(fault) = read_sections(header, &mut circuit, at) {
-        drop(circuit);
-        return Err(fault);
-    }
-    Ok(circuit)
-}
-
 /// Reads a circuit from the lines of a text. Its definitions and uses are not checked here.
 fn read_circuit(alloc: Global, bytes: &[u8], limits: Limits) -> Result<Circuit, ReadFault>
     ensures { GivesOrMemory (λ c. c) result (circuit_at limits.max_var (lines_of bytes.now)) }
 {
     let mut at = Cursor::new(bytes);
     let header = header(ASCII_WORD, &mut at, limits)?;
-    match read_numbered(alloc, &header, &mut at) {
+    match Progress::new(alloc, &header).finish(&header, &mut at) {
         Ok(circuit) => tail(alloc, &header, circuit, at),
         Err(fault) => Err(fault),
     }
@@ -77,6 +61,24 @@ fn kind_of_fault(fault: CheckFault) -> ReadKind
         CheckFault::Undefined(lit) => ReadKind::Undefined(lit),
         CheckFault::Cyclic(lit) => ReadKind::Cyclic(lit),
         CheckFault::OutOfMemory => ReadKind::OutOfMemory,
+    }
+}
+
+/// Checks a circuit that was read of the lines of a text, and keeps what is wanted of the check later. The error is its
+/// first structural fault, or that memory ran out.
+pub fn check_read(alloc: Global, circuit: Circuit, keep: Keep) -> Result<Checked, ReadFault>
+    requires { IsInForm circuit }
+    ensures { GivesOrMemory (λ c. c) result (unless_faulty circuit (first_structural_fault circuit)) }
+{
+    match check_keeping(alloc, circuit, keep) {
+        Ok(checked) => Ok(checked),
+        Err((circuit, fault)) => {
+            drop(circuit);
+            Err(ReadFault {
+                place: Place::Whole,
+                kind: kind_of_fault(fault),
+            })
+        }
     }
 }
 
@@ -104,14 +106,5 @@ pub fn read_ascii_keeping(
     ensures fault { IfErr result (λ e. IsFirstFault e (first_ascii_fault limits.max_var bytes.now)) }
 {
     let circuit = read_circuit(alloc, bytes, limits)?;
-    match check_keeping(alloc, circuit, keep) {
-        Ok(checked) => Ok(checked),
-        Err((circuit, fault)) => {
-            drop(circuit);
-            Err(ReadFault {
-                place: Place::Whole,
-                kind: kind_of_fault(fault),
-            })
-        }
-    }
+    check_read(alloc, circuit, keep)
 }

@@ -1,15 +1,18 @@
 //! Sections: rows of one kind, one to a line.
-ghost use Rattle.std.specs.Prelude.{◌≡◌, ◌≤◌, OnOk};
+ghost use Rattle.std.specs.Prelude.{◌≡◌, ◌+◌, ◌*◌, ◌^◌, ◌<◌, ◌≤◌, ◌⊎◌, [], List, IfErr, IfOk, OnOk};
 ghost use Rattle.std.specs.List.{sum};
 ghost use Rattle.aig_circuit.specs.Wellformed.{largest_index};
-ghost use Rattle.aig_text.specs.declared.section.Section.TheVariants.{JusticeSizes};
-ghost use Rattle.aig_text.specs.Sections.{in_ascii, sections};
+ghost use Rattle.aig_text.specs.Sections.{in_ascii};
+ghost use Rattle.aig_rows.specs.declared.fault.ReadKind.TheVariants.{Truncated};
+ghost use Rattle.aig_rows.specs.Lines.{Line, with_lines};
 ghost use Rattle.aig_rows.specs.Outcomes.{GivesOrMemory};
-ghost use Rattle.aig_text.specs.Reading.{section_at, sections_at};
+ghost use Rattle.aig_rows.specs.Reading.{fault_at, want_of_memory};
+ghost use Rattle.aig_text.specs.Begun.{due_of, HaveReadOf, rows_due};
+ghost use Rattle.aig_text.specs.Reading.{section_at};
 
 use crate::header_line::Header;
 use aig_core::Circuit;
-use aig_rows::{Cursor, ReadFault, read_rows};
+use aig_rows::{Cursor, Due, Place, ReadFault, ReadKind, read_first_rows};
 
 /// What a file lists.
 #[derive(Clone, Copy)]
@@ -59,22 +62,65 @@ fn total(sizes: &[u32]) -> u32
     all
 }
 
-/// Adds the sizes of justice properties, and moves behind their lines.
-fn read_sizes(header: &Header, circuit: &mut Circuit, at: &mut Cursor) -> Result<(), ReadFault>
-    requires limit { header.now.limit ≤ largest_index }
-    requires sizes { sum circuit.old.justice.sizes ≤ header.now.limit }
-    ensures read { GivesOrMemory (λ _. (circuit.new, at.new)) result
-        (section_at (in_ascii JusticeSizes) header.now circuit.old at.old) }
-    ensures sizes { OnOk result (sum circuit.new.justice.sizes ≤ header.now.limit) }
+/// The rows that are due of a section as an ASCII file lists it, before the first of them.
+pub(crate) fn section_rows(section: Section, header: &Header, circuit: &Circuit) -> Due
+    requires { sum circuit.now.justice.sizes ≤ largest_index }
+    ensures rows { result ≡ due_of (in_ascii section) header.now circuit.now }
+    ensures small { result.carried + 2 * result.count ≤ 2 ^ 34 }
 {
-    let before = u64::from(total(circuit.justice.sizes.as_slice()));
-    read_rows(
-        &mut circuit.justice.sizes,
-        header.justice,
-        header.limit,
-        before,
-        at,
-    )
+    let sizes = circuit.justice.sizes.as_slice();
+    match section {
+        Section::Inputs => Due::new(header.inputs),
+        Section::Latches => Due::new(header.latches),
+        Section::Outputs => Due::new(header.outputs),
+        Section::Bad => Due::new(header.bad),
+        Section::Constraints => Due::new(header.constraints),
+        Section::JusticeSizes => {
+            let mut due = Due::new(header.justice);
+            due.carried = u64::from(total(sizes));
+            due
+        }
+        Section::JusticeLiterals => Due::new(total(sizes)),
+        Section::Fairness => Due::new(header.fairness),
+        Section::Gates => Due::new(header.gates),
+    }
+}
+
+/// Adds the entries of a section as an ASCII file lists them, as far as its rows are due, and moves behind their lines.
+/// Answers which rows are due then: none, or else no line is left.
+pub(crate) fn read_first_of_section(
+    section: Section,
+    header: &Header,
+    circuit: &mut Circuit,
+    due: Due,
+    at: &mut Cursor,
+) -> Result<Due, ReadFault>
+    requires max_var { header.now.max_var ≤ largest_index }
+    requires limit { header.now.limit ≤ largest_index }
+    requires small { due.carried + 2 * due.count ≤ 2 ^ 34 }
+    ensures part { IfOk result (λ left. HaveReadOf (in_ascii section) header.now due left circuit.old circuit.new
+        at.old at.new) }
+    ensures small { IfOk result (λ left. left.carried + 2 * left.count ≤ 2 ^ 34) }
+    ensures all { IfOk result (λ left. 0 < left.count → at.new.lines ≡ []) }
+    ensures err { IfErr result (λ e. (e ≡ want_of_memory) ⊎ ((more : List Line)
+        → rows_due (in_ascii section) header.now due (with_lines at.old more) ≡ Err e)) }
+{
+    let max_var = header.max_var;
+    match section {
+        Section::Inputs => read_first_rows(&mut circuit.inputs, max_var, due, at),
+        Section::Latches => read_first_rows(&mut circuit.latches, max_var, due, at),
+        Section::Outputs => read_first_rows(&mut circuit.outputs, max_var, due, at),
+        Section::Bad => read_first_rows(&mut circuit.bad, max_var, due, at),
+        Section::Constraints => read_first_rows(&mut circuit.constraints, max_var, due, at),
+        Section::JusticeSizes => {
+            read_first_rows(&mut circuit.justice.sizes, header.limit, due, at)
+        }
+        Section::JusticeLiterals => {
+            read_first_rows(&mut circuit.justice.literals, max_var, due, at)
+        }
+        Section::Fairness => read_first_rows(&mut circuit.fairness, max_var, due, at),
+        Section::Gates => read_first_rows(&mut circuit.gates, max_var, due, at),
+    }
 }
 
 /// Adds the entries of a section as an ASCII file lists them, and moves behind its lines.
@@ -91,42 +137,23 @@ pub fn read_section(
         (section_at (in_ascii section) header.now circuit.old at.old) }
     ensures sizes { OnOk result (sum circuit.new.justice.sizes ≤ header.now.limit) }
 {
-    let max_var = header.max_var;
-    match section {
-        Section::Inputs => read_rows(&mut circuit.inputs, header.inputs, max_var, 0, at),
-        Section::Latches => read_rows(&mut circuit.latches, header.latches, max_var, 0, at),
-        Section::Outputs => read_rows(&mut circuit.outputs, header.outputs, max_var, 0, at),
-        Section::Bad => read_rows(&mut circuit.bad, header.bad, max_var, 0, at),
-        Section::Constraints => {
-            read_rows(&mut circuit.constraints, header.constraints, max_var, 0, at)
-        }
-        Section::JusticeSizes => read_sizes(header, circuit, at),
-        Section::JusticeLiterals => {
-            let count = total(circuit.justice.sizes.as_slice());
-            read_rows(&mut circuit.justice.literals, count, max_var, 0, at)
-        }
-        Section::Fairness => read_rows(&mut circuit.fairness, header.fairness, max_var, 0, at),
-        Section::Gates => read_rows(&mut circuit.gates, header.gates, max_var, 0, at),
-    }
-}
-
-/// Adds the entries of all sections, and moves behind their lines.
-pub(crate) fn read_sections(
-    header: &Header,
-    circuit: &mut Circuit,
-    at: &mut Cursor,
-) -> Result<(), ReadFault>
-    requires max_var { header.now.max_var ≤ largest_index }
-    requires limit { header.now.limit ≤ largest_index }
-    requires sizes { sum circuit.old.justice.sizes ≤ header.now.limit }
-    ensures { GivesOrMemory (λ _. (circuit.new, at.new)) result
-        (sections_at in_ascii header.now sections circuit.old at.old) }
-{
-    for section in SECTIONS {
-        // For a `?` here the kit's borrow checker makes no proof.
-        if let Err(fault) = read_section(section, header, circuit, at) {
-            return Err(fault);
-        }
+    let due = section_rows(section, header, circuit);
+    let left = match read_first_of_section(section, header, circuit, due, at) {
+        Ok(left) => left,
+        Err(fault) => return Err(fault),
+    };
+    if left.count > 0 {
+        return Err(missing_line(at));
     }
     Ok(())
+}
+
+/// A line is missing here.
+pub(crate) fn missing_line(at: &Cursor) -> ReadFault
+    ensures { result ≡ fault_at at.now.number Truncated }
+{
+    ReadFault {
+        place: Place::Line(at.number),
+        kind: ReadKind::Truncated,
+    }
 }

@@ -6,13 +6,9 @@ use Rattle.std.specs.Prelude.{◌⊎◌}
 use Rattle.std.specs.List.{AllByRecursion}
 use Rattle.std.proofs.lemmas.Bool.{ne_eqb}
 use Rattle.std.proofs.lemmas.List.Concat.{flat_map-append}
-use Rattle.aig_rows.specs.Lines.{Line, line, line_bytes, begun_by, lines_of, bytes_of}
+use Rattle.aig_rows.specs.Lines.{Line, line, line_bytes, begun_by, lines_of, bytes_of, AreEnded}
 use Rattle.aig_rows.specs.Laws.{IsOneLine, EndInLineFeeds}
 use Rattle.aig_rows.proofs.Loops.Cutting.{pieces}
-
--- each line has its line feed
-abbrev pub AreEnded : List Line → Type 0
-AreEnded ls = AllByRecursion (λ (l : Line). l.ended ≡ true) ls
 
 -- where something follows, each line before it has its line feed
 abbrev EndBefore : List Line → List ℕ → Type 0

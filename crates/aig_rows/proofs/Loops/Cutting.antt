@@ -2,10 +2,10 @@
 use Rattle.std.proofs.Common.{rules}
 use Rattle.std.proofs.lemmas.Bool.{false_from_ne_true}
 use Rattle.std.proofs.Common.{◌≡◌, ◌≢◌, ◌<◌, ℕ, zero, suc, List, [], ◌∷◌, true, false, take, drop, length}
-use Rattle.std.proofs.Common.{get_or, Some, None, refl, ap, arith, eqb}
+use Rattle.std.proofs.Common.{get_or, Some, None, refl, ap, arith, eqb, add-one, Bool, ◌+◌, length-take}
 use Rattle.memchr.specs.Find.{IsFirstByte, is_byte}
 use Rattle.std.proofs.lemmas.Bool.Decides.{eqb_tells}
-use Rattle.aig_rows.specs.Lines.{Line, line, lines_of, begun_by}
+use Rattle.aig_rows.specs.Lines.{Line, line, lines_of, begun_by, AreEnded}
 use Rattle.aig_rows.specs.Laws.{AreLines}
 
 cut : (bs : List ℕ) (at : ℕ) → at < length bs → ((k : ℕ) → k < at → eqb (get_or bs k 0) 10 ≡ false)
@@ -37,6 +37,48 @@ pub no_lines : (bs : List ℕ) → length bs ≡ 0 → lines_of bs ≡ []
 unfolding lines_of
 no_lines [] h = refl
 no_lines (b ∷ bs) h = absurd (omega arith)
+
+-- bytes have a line
+begun_some : (b : ℕ) (ls : List Line) → begun_by b ls ≢ []
+begun_some b [] h = cc
+begun_some b (l ∷ ls) h = cc
+
+some_by : (b : ℕ) (bs : List ℕ) (t : Bool) → eqb b 10 ≡ t → lines_of (b ∷ bs) ≢ []
+unfolding lines_of
+some_by b bs true is = rw is (λ h. cc)
+some_by b bs false is = rw is (begun_some b (lines_of bs))
+
+pub some_lines : (bs : List ℕ) → 0 < length bs → lines_of bs ≢ []
+some_lines [] l = absurd (omega arith)
+some_lines (b ∷ bs) l = some_by b bs (eqb b 10) refl
+
+-- bytes up to a line feed are lines that have theirs
+begun_ended : (b : ℕ) (ls : List Line) → ls ≢ [] → AreEnded ls → AreEnded (begun_by b ls)
+begun_ended b [] some h = absurd (some refl)
+begun_ended b (l ∷ ls) some h = h
+
+ended_by : (b : ℕ) (bs : List ℕ) (t : Bool) → eqb b 10 ≡ t → 0 < length bs → AreEnded (lines_of bs)
+    → AreEnded (lines_of (b ∷ bs))
+unfolding lines_of
+ended_by b bs true is some h = rw is (refl, h)
+ended_by b bs false is some h = rw is (begun_ended b (lines_of bs) (some_lines bs some) h)
+
+ended_through : (bs : List ℕ) (at : ℕ) → at < length bs → eqb (get_or bs at 0) 10 ≡ true
+    → AreEnded (lines_of (take (suc at) bs))
+unfolding lines_of
+ended_through [] at l h = absurd (omega arith)
+ended_through (b ∷ bs) zero l h = rw h (refl, tt)
+ended_through (b ∷ bs) (suc k) l h =
+    ended_by b (take (suc k) bs) (eqb b 10) refl (omega (arith, l, length-take (suc k) bs))
+    (ended_through bs k (omega arith) h)
+
+pub ended_front : (bs : List ℕ) (at : ℕ) → at < length bs → eqb (get_or bs at 0) 10 ≡ true
+    → AreEnded (lines_of (take (at + 1) bs))
+ended_front bs at l h = rw add-one (ended_through bs at l h)
+
+pub none_ended : AreEnded (lines_of [])
+unfolding lines_of
+none_ended = tt
 
 -- the pieces of a text
 begun : (b : ℕ) (bs : List ℕ) (ls : List Line) → b ≢ 10 → AreLines bs ls → AreLines (b ∷ bs) (begun_by b ls)

@@ -26,12 +26,6 @@ use Rattle.aig_rows.proofs.Kept.Checks.{first_is_right, right_parts}
 abbrev with_first : {X : Type 0} → X → List X × Ahead → Found (List X)
 with_first x others = Ok (x ∷ others.0, others.1)
 
-found_first : {A : Type 0} (tell : List ℕ → A) (found : List A) (ns : List ℕ) (r : Found (List (List ℕ)))
-    → rows_meant tell (found ++ tell ns ∷ []) r
-    ≡ rows_meant tell found (◌>>=◌ {B = List (List ℕ) × Ahead} r (with_first ns))
-found_first tell found ns (Ok x) = ap (λ (xs : List _). Ok (xs, x.1)) (append_assoc found (tell ns ∷ []) (map tell x.0))
-found_first tell found ns (Err e) = refl
-
 -- a row that is read has no fault
 checked_is_right : (form : Form) (m carried : ℕ) (read : Option (List ℕ)) (ns : List ℕ)
     → checked_row form m carried read ≡ Ok ns → fault_in_row form m carried ns ≡ None
@@ -83,12 +77,12 @@ on_small form m carried limit (n ∷ ns) right low bound =
     on_number form.first m carried limit n (first_fits form m carried n ns right) low bound
 
 -- the row that is read, and what it means
-record MeantRow {A : Type 0} (tell : List ℕ → A) (x : A) (after : Ahead) (r : Found (List ℕ)) : Type 0 where
+pub record MeantRow {A : Type 0} (tell : List ℕ → A) (x : A) (after : Ahead) (r : Found (List ℕ)) : Type 0 where
   pub numbers : List ℕ
   pub is : r ≡ Ok (numbers, after)
   pub means : tell numbers ≡ x
 
-meant_row : {A : Type 0} (tell : List ℕ → A) (x : A) (after : Ahead) (r : Found (List ℕ))
+pub meant_row : {A : Type 0} (tell : List ℕ → A) (x : A) (after : Ahead) (r : Found (List ℕ))
     → row_meant tell r ≡ Ok (x, after) → MeantRow tell x after r
 meant_row tell x after (Err e) h = cc
 meant_row tell x after (Ok y) h = search (rules, ok_same)
@@ -102,42 +96,6 @@ module _ {A : Type 0} (tell : List ℕ → A) (form : Form) (m : ℕ) where
   -- what is carried on behind a row that means this
   abbrev pub IsCarried : ℕ → A → ℕ → Type 0
   IsCarried carried x next = (ns : List ℕ) → tell ns ≡ x → next ≡ carried_on form.first carried (get_or ns 0 0)
-
-  right_row : (carried next count : ℕ) (after : Ahead) (found : List A) (x : A) (r : Found (List ℕ))
-      → row_meant tell r ≡ Ok (x, after) → IsCarried carried x next
-      → rows_meant tell (found ++ x ∷ []) (rows_at form m next count after)
-      ≡ rows_meant tell found (r >>= then_rows carried count)
-  right_row carried next count after found x r h goes = search (rules, meant_row, found_first)
-
-  wrong_row : (carried count : ℕ) (found : List A) (e : ReadFault) (r : Found (List ℕ)) → row_meant tell r ≡ Err e
-      → rows_meant tell found (r >>= then_rows carried count) ≡ Err e
-  wrong_row carried count found e (Ok y) h = cc
-  wrong_row carried count found e (Err f) h = let same : f ≡ e = cc in ap (λ (g : ReadFault). Err g) same
-
-  -- one more row
-  pub rows_more : (carried next i count : ℕ) (at after : Ahead) (found : List A) (x : A) → i < count
-      → row_meant tell (row_at form m carried at) ≡ Ok (x, after) → IsCarried carried x next
-      → rows_meant tell (found ++ x ∷ []) (rows_at form m next (count - (i + 1)) after)
-      ≡ rows_meant tell found (rows_at form m carried (count - i) at)
-  unfolding rows_at
-  rows_more carried next i count at after found x l h goes =
-      let one : count - i ≡ suc (count - (i + 1)) = omega arith in
-      rw one (right_row carried next (count - (i + 1)) after found x (row_at form m carried at) h goes)
-
-  -- a row that is not right
-  pub rows_wrong : (carried i count : ℕ) (at : Ahead) (found : List A) (e : ReadFault) (whole : Found (List A))
-      → i < count → row_meant tell (row_at form m carried at) ≡ Err e
-      → rows_meant tell found (rows_at form m carried (count - i) at) ≡ whole → whole ≡ Err e
-  unfolding rows_at
-  rows_wrong carried i count at found e whole l h w = search (rules, wrong_row)
-
-  -- no row is left
-  pub rows_done : (carried i count : ℕ) (at : Ahead) (found : List A) (whole : Found (List A)) → count ≤ i
-      → rows_meant tell found (rows_at form m carried (count - i) at) ≡ whole → whole ≡ Ok (found, at)
-  unfolding rows_at
-  rows_done carried i count at found whole l w =
-      let none : count - i ≡ 0 = omega arith in
-      sym w ∙ rw none (ap (λ (xs : List A). Ok (xs, at)) (append-nil found))
 
   -- what is carried stays small
   pub carried_small : (carried next limit : ℕ) (at after : Ahead) (x : A)

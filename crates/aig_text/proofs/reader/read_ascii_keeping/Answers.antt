@@ -1,10 +1,8 @@
-use Rattle.std.proofs.Common.{rules}
-use Rattle.std.proofs.Common.{◌∙◌}
 use Rattle.std.proofs.lemmas.Result.{err_from_is_err_and}
 use Rattle.aig_rows.specs.Lines.{lines_of}
-use Rattle.aig_text.proofs.Grammar.Text.{circuit_in_form, reading_is_accepted}
+use Rattle.aig_text.proofs.Grammar.Text.{circuit_in_form}
 use Rattle.aig_rows.proofs.Loops.Cutting.{pieces}
-use Rattle.aig_text.proofs.Grammar.Faults.{sound, line_fault, structural_fault, memory_only, one_circuit}
+use Rattle.aig_text.proofs.Grammar.Faults.{checked_tells, line_fault, memory_only}
 use Rattle.aig_text.proofs.reader.read_ascii_keeping.Goals as goal
 
 pub returns-in_err-circuit-clause-only : goal.returns-in_err-circuit-clause-only
@@ -18,31 +16,22 @@ returns-in_err-circuit-clause-fault c = let h = err_from_is_err_and c.from_resid
     rw (h.1, h.2)
     (line_fault c.args.limits.max_var c.args.bytes.now c.in_err-circuit.field-0.0 c.in_err-circuit.ensures)
 
-pub check_keeping-requires : goal.check_keeping-requires
-check_keeping-requires c =
-    record {
-      in_form =
-          circuit_in_form c.args.limits.max_var (lines_of c.args.bytes.now) c.in_ok-circuit.circuit
-          (pieces c.args.bytes.now).one_each c.in_ok-circuit.ensures;
-    }
+pub check_read-requires : goal.check_read-requires
+check_read-requires c =
+    circuit_in_form c.args.limits.max_var (lines_of c.args.bytes.now) c.in_ok-circuit.circuit
+    (pieces c.args.bytes.now).one_each c.in_ok-circuit.ensures
 
-pub returns-in-Ok-clause-ok : goal.returns-in-Ok-clause-ok
-returns-in-Ok-clause-ok c = search (rules, reading_is_accepted, sound)
+pub returns-clause-ok : goal.returns-clause-ok
+returns-clause-ok c =
+    (checked_tells c.args.limits.max_var c.args.bytes.now c.in_ok-circuit.circuit c.check_read.result
+    c.in_ok-circuit.ensures c.check_read.ensures).ok
 
-pub returns-in-Ok-clause-only : goal.returns-in-Ok-clause-only
-returns-in-Ok-clause-only c = λ net is.
-    c.in-Ok.ensures.ok
-    ∙ one_circuit c.args.limits.max_var c.args.bytes.now net c.in_ok-circuit.circuit
-    (sound c.args.limits.max_var c.args.bytes.now c.in_ok-circuit.circuit c.in_ok-circuit.ensures
-    c.in-Ok.ensures.ok_faultless) is
+pub returns-clause-only : goal.returns-clause-only
+returns-clause-only c =
+    (checked_tells c.args.limits.max_var c.args.bytes.now c.in_ok-circuit.circuit c.check_read.result
+    c.in_ok-circuit.ensures c.check_read.ensures).only
 
-pub returns-in-Err-clause-only : goal.returns-in-Err-clause-only
-returns-in-Err-clause-only c = λ net is.
-    rw c.kind_of_fault.ensures (
-    memory_only c.args.limits.max_var c.args.bytes.now net _
-    (structural_fault c.args.limits.max_var c.args.bytes.now c.in_ok-circuit.circuit c.in-Err.fault
-    c.in_ok-circuit.ensures c.in-Err.ensures.fault) is
-    )
-
-pub returns-in-Err-clause-fault : goal.returns-in-Err-clause-fault
-returns-in-Err-clause-fault c = search (rules, structural_fault)
+pub returns-clause-fault : goal.returns-clause-fault
+returns-clause-fault c =
+    (checked_tells c.args.limits.max_var c.args.bytes.now c.in_ok-circuit.circuit c.check_read.result
+    c.in_ok-circuit.ensures c.check_read.ensures).fault

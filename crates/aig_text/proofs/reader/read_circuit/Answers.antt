@@ -1,4 +1,4 @@
-use Rattle.std.proofs.Common.{rules}
+use Rattle.std.proofs.Common.{rules, ◌∙◌, sym}
 use Rattle.std.proofs.lemmas.Result.{err_from_is_err_and}
 use Rattle.aig_rows.specs.Lines.{lines_of}
 use Rattle.aig_text.proofs.Loops.Text.{no_header, no_sections, then_tail}
@@ -11,8 +11,11 @@ pub returns-in-Err : goal.returns-in-Err
 returns-in-Err c =
     no_sections c.args.limits.max_var
     (lines_of c.args.bytes.now) c.header.new.at c.in_ok-header.header c.in-Err.fault
-    (rw c.new-at.ensures at c.in_ok-header.ensures.header) c.in-Err.ensures
+    (rw c.new-at.ensures at c.in_ok-header.ensures.header)
+    (rw (c.new.ensures.from c.header.new.at) at c.in-Err.ensures)
 
 pub returns-in-Ok : goal.returns-in-Ok
 returns-in-Ok c =
-    let after = c.read_numbered.new.at in search (rules, then_tail)
+    let after = c.finish.new.at in
+    let numbered = sym (c.new.ensures.from c.header.new.at) ∙ c.in-Ok.ensures in
+    search (rules, then_tail)

@@ -1,0 +1,99 @@
+//! A window over the bytes of a source.
+ghost use Rattle.std.specs.Prelude.{◌≡◌, ◌+◌, ◌^◌, ◌<◌, ◌≤◌, ◌++◌, [], drop, length, take, IfErr, IfOk, IsTrue, OnOk};
+ghost use Rattle.std.specs.Prelude.{vec_len};
+ghost use Rattle.aig_io.specs.Devices.{CanFail, GaveSome};
+ghost use Rattle.aig_io.specs.Windows.{Filled};
+
+use crate::device::Source;
+use crate::transfer::ReadError;
+use std::alloc::{AllocError, Global};
+use std::marker::Model;
+
+/// How many bytes it has room for at first.
+const FIRST_ROOM: usize = 65536;
+
+/// Bytes that a source gave and that are not let go yet. It grows where they fill more than half of it.
+#[derive(Drop)]
+pub struct Window {
+    bytes: Vec<u8>,
+    len: usize,
+}
+
+impl Model for Window {
+    ghost use Rattle.std.specs.Prelude.{List, ℕ, take, vec_len, ◌<◌, ◌≤◌};
+
+    ghost Value = { List ℕ };
+
+    ghost view = { λ w. take w.len w.bytes.items };
+
+    ghost invariant = { λ w. (w.len ≤ vec_len w.bytes) × (1 < vec_len w.bytes) };
+}
+
+/// Makes room behind so many bytes, where they fill more than half of it.
+fn make_room(bytes: &mut Vec<u8>, len: usize) -> Result<(), AllocError>
+    requires some { 1 < vec_len bytes.old }
+    requires within { len ≤ vec_len bytes.old }
+    ensures same { take len bytes.new.items ≡ take len bytes.old.items }
+    ensures room { OnOk result (len < vec_len bytes.new) }
+    ensures grown { vec_len bytes.old ≤ vec_len bytes.new }
+{
+    let room = bytes.len();
+    if len > room / 2 {
+        bytes.extend_from_within(0..room)?;
+    }
+    Ok(())
+}
+
+impl Window {
+    /// Nothing came yet.
+    pub fn new(alloc: Global) -> Result<Self, AllocError>
+        ensures { IfOk result (λ window. window ≡ []) }
+    {
+        Ok(Window {
+            bytes: vec![in alloc; 0; FIRST_ROOM]?,
+            len: 0,
+        })
+    }
+
+    /// The bytes that it holds.
+    pub fn as_slice(&self) -> &[u8]
+        ensures { result.now ≡ self.now }
+    {
+        &self.bytes[..self.len]
+    }
+
+    /// The bytes that it holds, by themselves.
+    pub fn into_bytes(self) -> Vec<u8>
+        ensures { result.items ≡ self }
+    {
+        let Window { bytes, len } = self;
+        let mut bytes = bytes;
+        bytes.truncate(len);
+        bytes
+    }
+
+    /// Lets the first bytes go.
+    pub fn pass(&mut self, count: usize)
+        requires { count ≤ length self.old }
+        ensures { self.new ≡ drop count self.old }
+    {
+        let len = self.len;
+        self.bytes.as_mut_slice().copy_within(count..len, 0);
+        self.len = len - count;
+    }
+
+    /// Fetches more bytes, and answers whether any came. None come at the end of the source.
+    pub fn fill<R: Source>(&mut self, source: &mut R) -> Result<bool, ReadError>
+        requires { CanFail (R.past source.old) }
+        ensures ok { IfOk result (λ more. Filled self.old self.new more (R.past source.old) (R.past source.new)) }
+        ensures bound { OnOk result (R.bound source.new + length self.new ≡ R.bound source.old + length self.old) }
+        ensures fewer { IfOk result (λ more. IsTrue more → R.bound source.new < R.bound source.old) }
+        ensures limited { OnOk result (R.bound source.old ≤ 2 ^ 62) }
+        ensures err { IfErr result (λ error. GaveSome error (R.past source.old) (R.past source.new)) }
+    {
+        make_room(&mut self.bytes, self.len)?;
+        let count = source.fetch(&mut self.bytes[self.len..])?;
+        self.len += count;
+        Ok(count > 0)
+    }
+}

@@ -1,0 +1,140 @@
+-- An ASCII file whose bytes come in pieces: what is left tells what all of it told.
+use Rattle.std.proofs.Common.{◌≡◌, ◌≢◌, ◌+◌, ◌-◌, ◌<◌, ◌≤◌, ◌∙◌, ◌⊎◌, inl, inr, ℕ, List, [], ◌∷◌, ◌++◌, drop, length}
+use Rattle.std.proofs.Common.{append-nil, Result, Ok, Err, refl, sym, ap, arith}
+use Rattle.std.specs.Prelude.{OnErr}
+use Rattle.aig_circuit.specs.declared.circuit.Circuit.{Circuit}
+use Rattle.aig_rows.specs.declared.fault.ReadFault.{ReadFault}
+use Rattle.aig_rows.specs.declared.fault.ReadKind.TheVariants as kinds
+use Rattle.aig_rows.specs.Lines.{Line, Ahead, IsBehind, AreEnded, ahead, lines_of, with_lines}
+use Rattle.aig_rows.specs.Reading.{◌>>=◌, Found, line_found, want_of_memory}
+use Rattle.aig_rows.specs.Outcomes.{GivesOrMemory, GivesOrFails}
+use Rattle.aig_rows.proofs.Loops.Cutting.{some_lines}
+use Rattle.aig_rows.proofs.Loops.FirstRows.{found_joined, refused_joined, found_behind}
+use Rattle.aig_rows.proofs.Taken.{IsTaken, left_fits, lines_cut, taken}
+use Rattle.aig_text.specs.declared.pieces.AsciiReader.{AsciiReader}
+use Rattle.aig_text.specs.declared.pieces.Progress.{Progress}
+use Rattle.aig_text.specs.Sections.{Header, ascii_word, sections, in_ascii}
+use Rattle.aig_text.specs.Reading.{circuit_at, empty_circuit, header_at, header_of, sections_at}
+use Rattle.aig_text.specs.Begun.{IsDone, ReadsOn, header_then, rest_of, sections_from, then_tail}
+
+abbrev pub tailed : Header → Found Circuit → Result Circuit ReadFault
+tailed h r = ◌>>=◌ {B = Circuit} r (then_tail h)
+
+module _ (h : Header) where
+  -- the whole lines of bytes were read
+  pub reads_on : (p q : Progress) (bytes : List ℕ) (used number now : ℕ) (lines left : List Line) (more : List ℕ)
+      → IsTaken bytes used number now lines left
+      → ((others : List Line) → sections_from h p (ahead number (lines ++ others))
+      ≡ sections_from h q (ahead now (left ++ others)))
+      → tailed h (sections_from h p (ahead number (lines_of (bytes ++ more))))
+      ≡ tailed h (sections_from h q (ahead now (lines_of (drop used bytes ++ more))))
+  reads_on p q bytes used number now lines left more t on =
+      ap (λ (ls : List Line). tailed h (sections_from h p (ahead number ls))) (t.before more)
+      ∙ ap (tailed h) (on (t.following more))
+      ∙ ap (λ (ls : List Line). tailed h (sections_from h q (ahead now ls))) (sym (t.after more))
+
+-- the header
+stays : (at now : Ahead) → now ≡ at → IsBehind at now
+stays at now is = record {
+  front = [];
+  lines = ap (λ (a : Ahead). a.lines) (sym is);
+  number = rw is (omega arith);
+}
+
+pub behind_header : (limit : ℕ) (r : Result Header ReadFault) (at now : Ahead)
+    → GivesOrFails (λ (h : Header). (h, now)) r (header_at ascii_word limit at) → OnErr r (now ≡ at) → IsBehind at now
+behind_header limit (Ok h) at now is err =
+    found_behind kinds.NotAiger (header_of ascii_word limit) at.number at.lines (h, now) is
+behind_header limit (Err e) at now is err = stays at now err
+
+pub header_told : (limit : ℕ) (lines : List ℕ) (used : ℕ) (r : Result Header ReadFault) (now : Ahead) (more : List ℕ)
+    → 0 < length lines → IsTaken lines used 1 now.number (lines_of lines) now.lines
+    → GivesOrFails (λ (h : Header). (h, now)) r (header_at ascii_word limit (ahead 1 (lines_of lines)))
+    → circuit_at limit (lines_of (lines ++ more))
+    ≡ header_then r (ahead now.number (lines_of (drop used lines ++ more)))
+unfolding circuit_at
+header_told limit lines used (Ok h) now more some t is =
+    ap (circuit_at limit) (t.before more)
+    ∙ rw (found_joined kinds.NotAiger (header_of ascii_word limit) 1 (lines_of lines) (t.following more) (h, now) is)
+    (ap (λ (ls : List Line). header_then (Ok h) (ahead now.number ls)) (sym (t.after more)))
+header_told limit lines used (Err e) now more some t is =
+    ap (circuit_at limit) (t.before more)
+    ∙ rw (refused_joined kinds.NotAiger (header_of ascii_word limit) 1 (lines_of lines) (t.following more) e
+    (some_lines lines some) is) refl
+
+-- the header line was read of whole lines
+pub record Begins (limit : ℕ) (lines left : List ℕ) (number : ℕ) (r : Result Header ReadFault) : Type 0 where
+  pub behind : IsBehind (ahead 1 (lines_of lines)) (ahead number (lines_of left))
+  pub told :
+      (more : List ℕ) → circuit_at limit (lines_of (lines ++ more))
+      ≡ header_then r (ahead number (lines_of (drop (length lines - length left) lines ++ more)))
+
+begins_at : (limit : ℕ) (lines left : List ℕ) (number : ℕ) (r : Result Header ReadFault) → 0 < length lines
+    → AreEnded (lines_of lines)
+    → GivesOrFails (λ (h : Header). (h, ahead number (lines_of left))) r
+    (header_at ascii_word limit (ahead 1 (lines_of lines)))
+    → OnErr r (ahead number (lines_of left) ≡ ahead 1 (lines_of lines)) → Begins limit lines left number r
+begins_at limit lines left number r some ended is err =
+    let behind = behind_header limit r (ahead 1 (lines_of lines)) (ahead number (lines_of left)) is err in
+    let t =
+    taken lines lines [] left 1 number (length lines - length left) (sym (append-nil lines)) ended behind refl in
+    record {
+      behind = behind;
+      told = λ more.
+          header_told limit lines (length lines - length left) r (ahead number (lines_of left)) more some t is;
+    }
+
+pub begins : (limit : ℕ) (lines left : List ℕ) (number : ℕ) (r : Result Header ReadFault) (from now : Ahead)
+    → 0 < length lines → AreEnded (lines_of lines) → from ≡ ahead 1 (lines_of lines)
+    → ahead number (lines_of left) ≡ now
+    → GivesOrFails (λ (h : Header). (h, now)) r (header_at ascii_word limit from) → OnErr r (now ≡ from)
+    → Begins limit lines left number r
+begins limit lines left number r from now some ended at is h err =
+    let h = rw (at, ← is) at h in
+    let err = rw (at, ← is) at err in
+    begins_at limit lines left number r some ended h err
+
+-- a reader at a section
+rest_is : (r : AsciiReader) (h : Header) (ls : List Line) → r.header ≡ Ok h
+    → rest_of r ls ≡ tailed h (sections_from h r.progress (ahead r.number ls))
+rest_is r h ls is = rw is refl
+
+pub wrong_on : (r : AsciiReader) (h : Header) (bytes lines rest more : List ℕ) (at : Ahead) (e : ReadFault)
+    → r.header ≡ Ok h → bytes ≡ lines ++ rest → AreEnded (lines_of lines) → at ≡ ahead r.number (lines_of lines)
+    → (e ≡ want_of_memory) ⊎ ((others : List Line) → sections_from h r.progress (with_lines at others) ≡ Err e)
+    → ReadsOn (rest_of r (lines_of (bytes ++ more))) (Err e)
+wrong_on r h bytes lines rest more at e is cut ended from (inl m) = inl (ap (λ (f : ReadFault). Err f) m)
+wrong_on r h bytes lines rest more at e is cut ended from (inr wrong) =
+    inr (rest_is r h (lines_of (bytes ++ more)) is
+    ∙ ap (λ (ls : List Line). tailed h (sections_from h r.progress (ahead r.number ls)))
+    (lines_cut bytes lines rest more cut ended)
+    ∙ ap (λ (a : Ahead). tailed h (sections_from h r.progress (with_lines a (lines_of (rest ++ more))))) (sym from)
+    ∙ ap (tailed h) (wrong (lines_of (rest ++ more))))
+
+-- bytes of which whole lines were read
+pub record Advances (r q : AsciiReader) (bytes lines left : List ℕ) : Type 0 where
+  pub fits : length left ≤ length lines
+  pub counted : q.number ≤ r.number + (length lines - length left)
+  pub on :
+      (more : List ℕ) → rest_of r (lines_of (bytes ++ more))
+      ≡ rest_of q (lines_of (drop (length lines - length left) bytes ++ more))
+
+pub advances : (r q : AsciiReader) (h : Header) (bytes lines rest left : List ℕ) (at now : Ahead) → r.header ≡ Ok h
+    → q.header ≡ Ok h → bytes ≡ lines ++ rest → AreEnded (lines_of lines) → at ≡ ahead r.number (lines_of lines)
+    → ahead q.number (lines_of left) ≡ now → IsBehind at now
+    → ((others : List Line) → sections_from h r.progress (with_lines at others)
+    ≡ sections_from h q.progress (with_lines now others))
+    → Advances r q bytes lines left
+advances r q h bytes lines rest left at now is same cut ended from to behind on =
+    let behind = rw (from, ← to) at behind in
+    let on = rw (from, ← to) at on in
+    let t = taken bytes lines rest left r.number q.number (length lines - length left) cut ended behind refl in
+    record {
+      fits = left_fits lines left r.number q.number behind;
+      counted = t.counted;
+      on = λ more.
+          rest_is r h (lines_of (bytes ++ more)) is
+          ∙ reads_on h r.progress q.progress bytes (length lines - length left) r.number q.number (lines_of lines)
+          (lines_of left) more t on
+          ∙ sym (rest_is q h (lines_of (drop (length lines - length left) bytes ++ more)) same);
+    }
