@@ -12,3 +12,4 @@ pub mod Tagged
 pub mod Decoding
 pub mod Columns
 pub mod Retold
+pub mod Grouped

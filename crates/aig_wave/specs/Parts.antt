@@ -3,3 +3,4 @@
 pub mod Points
 pub mod Cuts
 pub mod Taking
+pub mod Groups

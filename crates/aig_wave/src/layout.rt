@@ -7,9 +7,11 @@ ghost use Rattle.aig_meaning.specs.Trace.{reset_state, reset_value};
 ghost use Rattle.aig_step.specs.TraceText.{character_of, values_text};
 ghost use Rattle.aig_wave.specs.Head.{head, scope_text};
 ghost use Rattle.aig_wave.specs.Layout.{layout_of};
+ghost use Rattle.aig_wave.specs.Parts.Groups.{AreGroups};
 ghost use Rattle.aig_wave.specs.Places.{kinds};
 ghost use Rattle.aig_wave.specs.Signals.{signals_of};
 
+use crate::group::{Group, groups_of};
 use crate::head::{put_closing, put_opening, put_scope};
 use crate::place::{next_place, width};
 use crate::signal::{Signal, add_signals, names_of};
@@ -22,6 +24,8 @@ use std::marker::Model;
 pub(crate) struct Layout {
     head: Vec<u8>,
     signals: Vec<Signal>,
+    /// The signals in groups.
+    groups: Vec<Group>,
     resets: Vec<u8>,
     next: usize,
     width: usize,
@@ -30,6 +34,7 @@ pub(crate) struct Layout {
 impl Model for Layout {
     ghost use Rattle.std.specs.Prelude.{◌+◌, ◌≤◌, length};
     ghost use Rattle.aig_wave.specs.Layout.{Layout as LayoutRecord};
+    ghost use Rattle.aig_wave.specs.Parts.Groups.{AreGroups};
 
     ghost Value = { LayoutRecord };
 
@@ -41,7 +46,7 @@ impl Model for Layout {
       width = w.width;
     } };
 
-    ghost invariant = { λ w. w.next + length w.resets.items ≤ w.width };
+    ghost invariant = { λ w. (w.next + length w.resets.items ≤ w.width) × AreGroups w.groups.items w.signals.items };
 }
 
 /// Adds the scope and the signals of a kind.
@@ -113,10 +118,12 @@ impl Layout {
         ensures { IfOk result (λ w. w ≡ layout_of circuit.now) }
     {
         let (head, signals) = head_and_signals(alloc, circuit)?;
+        let groups = groups_of(alloc, signals.as_slice())?;
         let resets = resets_of(alloc, circuit)?;
         Ok(Layout {
             head,
             signals,
+            groups,
             resets,
             next: next_place(circuit),
             width: width(circuit),
@@ -133,6 +140,12 @@ impl Layout {
         ensures { result.now ≡ self.now.signals }
     {
         self.signals.as_slice()
+    }
+
+    pub(crate) fn groups(&self) -> &[Group]
+        ensures { AreGroups result.now self.now.signals }
+    {
+        self.groups.as_slice()
     }
 
     pub(crate) fn resets(&self) -> &[u8]

@@ -9,6 +9,7 @@
 
 mod digit;
 mod fresh;
+mod group;
 mod head;
 pub mod laws;
 mod layout;

@@ -7,9 +7,11 @@ ghost use Rattle.aig_io.specs.Output.{Put};
 ghost use Rattle.aig_wave.specs.Frames.{closing_line, frame, next_state};
 ghost use Rattle.aig_wave.specs.Head.{code};
 ghost use Rattle.aig_wave.specs.Wave.{bits, change_text, frame_text, run_text, time_text, value_text};
+ghost use Rattle.aig_wave.specs.Parts.Groups.{AreGroups, Covers};
 ghost use Rattle.aig_wave.specs.Parts.Points.{begin_of, behind_line, head_at, line_piece};
 
 use crate::digit::write_digits;
+use crate::group::Group;
 use crate::layout::Layout;
 use crate::place::letter;
 use crate::signal::Signal;
@@ -133,7 +135,7 @@ fn put_change<W: Sink>(
 }
 
 /// Puts the values of signals, where they are others than before.
-fn put_changes<W: Sink>(
+fn put_signals<W: Sink>(
     output: &mut Output<W>,
     time: u64,
     before: &[u8],
@@ -145,6 +147,45 @@ fn put_changes<W: Sink>(
 {
     for signal in signals {
         put_change(output, time, before, line, signal);
+    }
+}
+
+/// Puts the values of the signals of a group, where they are others than before.
+fn put_group<W: Sink>(
+    output: &mut Output<W>,
+    time: u64,
+    before: &[u8],
+    line: &[u8],
+    group: &Group,
+    signals: &[Signal],
+)
+    requires { Covers group.now signals.now }
+    ensures { Put output.old output.new
+        (flat_map (change_text time (frame 0 before.now) (frame 0 line.now)) signals.now) }
+{
+    if is_new(time, group.stretch(before), group.stretch(line)) {
+        put_signals(output, time, before, line, signals);
+    }
+}
+
+/// Puts the values of signals, where they are others than before.
+fn put_changes<W: Sink>(
+    output: &mut Output<W>,
+    time: u64,
+    before: &[u8],
+    line: &[u8],
+    groups: &[Group],
+    signals: &[Signal],
+)
+    requires { AreGroups groups.now signals.now }
+    ensures { Put output.old output.new
+        (flat_map (change_text time (frame 0 before.now) (frame 0 line.now)) signals.now) }
+{
+    let mut rest = signals;
+    for group in groups {
+        let (front, others) = group.parted(rest);
+        put_group(output, time, before, line, group, front);
+        rest = others;
     }
 }
 
@@ -201,7 +242,14 @@ fn put_frame<W: Sink>(output: &mut Output<W>, layout: &Layout, time: u64, before
     put_head(output, layout, time);
     put_time(output, time);
     put_run(output, time, before.run, shot.run);
-    put_changes(output, time, before.line, shot.line, layout.signals());
+    put_changes(
+        output,
+        time,
+        before.line,
+        shot.line,
+        layout.groups(),
+        layout.signals(),
+    );
 }
 
 /// Writes the line at the end of a run: the state, and z for all else.
