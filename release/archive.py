@@ -27,7 +27,7 @@ def build_over_ci(rt):
         if not is_whole or any(Path(it, "stamp").exists() for it in folders):
             return None
         return crate.build_static(["--jobs", "2"])
-    except (ImportError, AttributeError, TypeError):  # another kit has other words for this
+    except (ImportError, AttributeError, TypeError, SystemExit):  # another kit has other words for this
         return None
 
 
@@ -35,8 +35,7 @@ def main(rt):
     """Builds it in one way or the other."""
     os.chdir(CRATE)
     os.makedirs("out", exist_ok=True)
-    status = build_over_ci(rt)
-    return subprocess.call([rt, "lib"], stdin=subprocess.DEVNULL) if status is None else status
+    return 0 if build_over_ci(rt) == 0 else subprocess.call([rt, "lib"], stdin=subprocess.DEVNULL)
 
 
 if __name__ == "__main__":
