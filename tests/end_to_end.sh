@@ -198,6 +198,11 @@ check '200 MB are enough for the largest variable' within 204800 "$program" aigt
 large 0 2000000 0 > "$work/in"
 wants '' 'aiger: out of memory\n' 1
 check 'a file larger than the 20 MB of memory' within 20480 "$program" aigtoaig --ascii < "$work/in"
+# 40 MB that tell a small circuit: the text is not held
+{ echo 'aag 0 0 0 100000 0'; yes "$(printf '%0400d' 0)" | head -n 100000; } > "$work/in"
+wants '' '' 0
+{ echo 'aag 0 0 0 100000 0'; yes 0 | head -n 100000; } > "$work/want_out"
+check 'a text larger than the 20 MB of memory' within 20480 "$program" aigtoaig --ascii < "$work/in"
 
 # --- simulation ---
 printf 'aag 3 2 0 1 1\n2\n4\n6\n6 2 4\n' > "$work/gate"
