@@ -1,7 +1,7 @@
 #!/usr/bin/env python3
 """Builds the archive of the library, crates/aiger_c/out/libaiger_c.a, with a proof of its exports.
 
-    release/archive.py RT     RT is the kit's command rt
+    release/archive.py RT [COMPILER]     RT is the kit's command rt; COMPILER is llvm or rattle, the kit's own
 
 `rt ci` proves each crate from nothing but builds no archive, and what it leaves of the libraries `rt lib` does not take:
 it would prove them once more. So where nothing else was kept, only the exports are proved here, over what `rt ci` built.
@@ -15,7 +15,7 @@ from pathlib import Path
 CRATE = Path(__file__).resolve().parent.parent / "crates" / "aiger_c"
 
 
-def build_over_ci(rt):
+def build_over_ci(rt, flags):
     """Builds the archive over what `rt ci` left. Returns the status, or None where something else was kept."""
     sys.path.insert(0, str(Path(shutil.which(rt)).resolve().parent))
     try:
@@ -26,18 +26,19 @@ def build_over_ci(rt):
         is_whole = all(os.path.isdir(it.rlib) for it in crate.below())
         if not is_whole or any(Path(it, "stamp").exists() for it in folders):
             return None
-        return crate.build_static(["--jobs", "2"])
+        return crate.build_static(["--jobs", "2", *flags])
     except (ImportError, AttributeError, TypeError, SystemExit):  # another kit has other words for this
         return None
 
 
-def main(rt):
+def main(rt, compiler="llvm"):
     """Builds it in one way or the other."""
+    flags = ["--backend", compiler]
     os.chdir(CRATE)
     os.makedirs("out", exist_ok=True)
-    return 0 if build_over_ci(rt) == 0 else subprocess.call([rt, "lib"], stdin=subprocess.DEVNULL)
+    return 0 if build_over_ci(rt, flags) == 0 else subprocess.call([rt, "lib", *flags], stdin=subprocess.DEVNULL)
 
 
 if __name__ == "__main__":
-    name, sys.argv = sys.argv[1], ["rt"]
-    sys.exit(main(name))
+    words, sys.argv = sys.argv[1:], ["rt"]
+    sys.exit(main(*words))
