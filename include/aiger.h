@@ -49,7 +49,8 @@ enum aiger_option {
     AIGER_STRIP = 2,     /* convert: leave out symbols and comment */
     AIGER_KEEP_MAP = 4,  /* convert: begin the comment with a map that undoes the conversion; with no other option */
     AIGER_UNDO_MAP = 8,  /* convert: undo a conversion by the map of its image */
-    AIGER_PROPERTIES = 16 /* simulate: show bad states and constraints too */
+    AIGER_PROPERTIES = 16, /* simulate: show bad states and constraints too */
+    AIGER_VCD = 32       /* simulate: write the trace as a dump, which shows them; without AIGER_PROPERTIES */
 };
 
 /* What is wrong, where the status is AIGER_REFUSED. */
@@ -111,7 +112,10 @@ uint32_t aiger_unroll(uint32_t options, uint32_t frames, uint32_t max_var,
                       const uint8_t *input, size_t input_length,
                       uint8_t *output, size_t output_length, aiger_outcome *outcome);
 
-/* Simulates the circuit of an AIGER file over a stimulus, as `aiger aigsim --batch`. The text is the trace. */
+/*
+ * Simulates the circuit of an AIGER file over a stimulus, as `aiger aigsim --batch`. The text is the trace, or, with
+ * AIGER_VCD, the dump of it (a Value Change Dump, for viewers of waves). A bad line of the stimulus leaves no text.
+ */
 uint32_t aiger_simulate(uint32_t options, uint32_t max_var, const uint8_t *model, size_t model_length,
                         const uint8_t *stimulus, size_t stimulus_length,
                         uint8_t *output, size_t output_length, aiger_outcome *outcome);

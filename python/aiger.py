@@ -89,7 +89,7 @@ class _Outcome(ctypes.Structure):
 
 _DONE, _TOO_SHORT, _REFUSED, _OUT_OF_MEMORY, _BAD_OPTIONS, _NOT_CONFIRMED = range(6)
 _WHOLE, _LINE, _GATE, _MAP_LINE = range(4)
-_ASCII, _STRIP, _KEEP_MAP, _UNDO_MAP, _PROPERTIES = 1, 2, 4, 8, 16
+_ASCII, _STRIP, _KEEP_MAP, _UNDO_MAP, _PROPERTIES, _VCD = 1, 2, 4, 8, 16, 32
 
 
 def _load() -> ctypes.CDLL:
@@ -190,15 +190,21 @@ def unroll(data: Data, frames: int, *, ascii: bool = False, max_var: int = LARGE
     )
 
 
-def simulate(model: Data, stimulus: Data, *, properties: bool = False, max_var: int = LARGEST) -> bytes:
+def simulate(
+    model: Data, stimulus: Data, *, properties: bool = False, vcd: bool = False, max_var: int = LARGEST
+) -> bytes:
     """The trace of a stimulus, as ``aiger aigsim --batch`` writes it.
 
     properties   show bad states and constraints too
+    vcd          write the trace as a dump (Value Change Dump), which shows them; without properties
+
+    >>> simulate(b"aag 1 1 0 1 0\\n2\\n3\\n", b"0\\n1\\n", vcd=True).splitlines()[-9:]
+    [b'0i0', b'1o0', b'#1', b'1i0', b'0o0', b'#2', b'zi0', b'zo0', b'#3']
     """
     model, stimulus = bytes(model), bytes(stimulus)
-    options, limit = properties * _PROPERTIES, _number(max_var)
+    options, limit = properties * _PROPERTIES | vcd * _VCD, _number(max_var)
     return _text(
-        2 * len(stimulus) + 64,
+        8 * len(stimulus) + len(model) + 512 if vcd else 2 * len(stimulus) + 64,
         lambda output, room, outcome: _library.aiger_simulate(
             options, limit, model, len(model), stimulus, len(stimulus), output, room, outcome
         ),

@@ -63,6 +63,10 @@ static uint32_t trace(uint8_t *output, size_t room, aiger_outcome *outcome) {
     return aiger_simulate(AIGER_PROPERTIES, AIGER_LARGEST, (const uint8_t *)toggle, sizeof toggle - 1,
                           (const uint8_t *)steps, sizeof steps - 1, output, room, outcome);
 }
+static uint32_t dump(uint8_t *output, size_t room, aiger_outcome *outcome) {
+    return aiger_simulate(AIGER_VCD, AIGER_LARGEST, (const uint8_t *)toggle, sizeof toggle - 1, (const uint8_t *)steps,
+                          sizeof steps - 1, output, room, outcome);
+}
 /* the witness has no text: its words stand for it */
 static uint32_t judged(uint8_t *output, size_t room, aiger_outcome *outcome) {
     char words[32];
@@ -76,7 +80,8 @@ static uint32_t judged(uint8_t *output, size_t room, aiger_outcome *outcome) {
 }
 
 static const struct { const char *name; call *of; } calls[] = {
-    {"to binary", to_binary}, {"to ascii", to_ascii}, {"frames", frames}, {"trace", trace}, {"judged", judged},
+    {"to binary", to_binary}, {"to ascii", to_ascii}, {"frames", frames},
+    {"trace", trace},         {"dump", dump},         {"judged", judged},
 };
 #define CALLS (sizeof calls / sizeof *calls)
 
@@ -158,7 +163,8 @@ static void check_threads(void) {
 
 static void check_refused_options(void) {
     static const uint32_t bad[] = {AIGER_KEEP_MAP | AIGER_ASCII, AIGER_KEEP_MAP | AIGER_STRIP,
-                                   AIGER_KEEP_MAP | AIGER_UNDO_MAP, AIGER_PROPERTIES, 32, 0x80000000u};
+                                   AIGER_KEEP_MAP | AIGER_UNDO_MAP, AIGER_PROPERTIES, AIGER_VCD, 0x80000000u};
+    static const uint32_t no_trace[] = {AIGER_ASCII, AIGER_PROPERTIES | AIGER_VCD, AIGER_VCD | AIGER_ASCII, 64};
     const uint8_t *text = (const uint8_t *)gate;
     uint8_t output[1] = {UNTOUCHED};
     aiger_outcome x;
@@ -169,7 +175,9 @@ static void check_refused_options(void) {
     check(aiger_unroll(2, 1, 1, text, 0, output, 1, &x) == AIGER_BAD_OPTIONS, "unroll", "options", 2);
     check(aiger_unroll(0, 0, 1, text, 0, output, 1, &x) == AIGER_BAD_OPTIONS, "unroll", "frames", 0);
     check(aiger_unroll(0, 1000001, 1, text, 0, output, 1, &x) == AIGER_BAD_OPTIONS, "unroll", "frames", 1000001);
-    check(aiger_simulate(1, 1, text, 0, text, 0, output, 1, &x) == AIGER_BAD_OPTIONS, "simulate", "options", 1);
+    for (i = 0; i < sizeof no_trace / sizeof *no_trace; i++)
+        check(aiger_simulate(no_trace[i], 1, text, 0, text, 0, output, 1, &x) == AIGER_BAD_OPTIONS, "simulate",
+              "options", no_trace[i]);
     check(aiger_witness(AIGER_LARGEST + 1, text, 0, text, 0, &x) == AIGER_BAD_OPTIONS, "witness", "limit", 0);
     check(aiger_message(&x, output, 1) == 0 && output[0] == UNTOUCHED, "message", "no fault", 0);
     check(aiger_convert(0, 1, text, 0, output, 1, &x) == AIGER_REFUSED && x.kind == AIGER_NOT_AIGER &&

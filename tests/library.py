@@ -18,7 +18,7 @@ from pathlib import Path
 
 TOP = Path(__file__).resolve().parent.parent
 SEED, MUTANTS = 7, 2400
-FLAGS = "--ascii -a --strip -s --keep-map --undo-map --properties --witness --batch".split()
+FLAGS = "--ascii -a --strip -s --keep-map --undo-map --properties --witness --batch --vcd".split()
 # prints each row of the table, each word of it ended by a NUL
 ROWS = 'work=$1; . tests/rows.sh; row() { printf "%s\\0" $# "$@"; }; rows'
 ESCAPE = re.compile(rb"\\(0[0-7]{0,3}|x[0-9a-f]{1,2}|.)", re.S)
@@ -151,7 +151,9 @@ def mutants(folder, program):
             width = min(int(inputs[1]), 9) if inputs else 1
             steps = b"".join(b"%s\n" % bytes(chance.choice(b"01x") for _ in range(width)) for _ in range(3))
             if kind == 8:
-                yield "aigsim", ["--batch"], {"batch": True}, text, mutated(chance, steps)
+                flags = chance.choice([(), ("properties",), ("vcd",), ("vcd",)])
+                words, options = ["--batch", *(f"--{it}" for it in flags)], dict.fromkeys(flags, True)
+                yield "aigsim", words, options, text, mutated(chance, steps)
             else:
                 yield "aigsim", ["--witness"], {"witness": True}, text, mutated(chance, b"1\nb0\n0\n" + steps + b".\n")
 

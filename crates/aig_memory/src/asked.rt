@@ -1,8 +1,8 @@
 //! What is asked for, by numbers: each option is a bit.
 ghost use Rattle.std.specs.Prelude.{◌≡◌, ◌↔◌, IsTrue};
-ghost use Rattle.aig_memory.specs.Asked.{conversion, has, OnlyHas, simulation, unrolling};
+ghost use Rattle.aig_memory.specs.Asked.{conversion, has, OnlyHas, unrolling};
 
-use aig_command::{Sim, ToAig, Unroll};
+use aig_command::{ToAig, Unroll};
 
 /// ASCII is written, and not binary.
 pub const ASCII: u32 = 1;
@@ -18,6 +18,9 @@ pub const UNDO_MAP: u32 = 8;
 
 /// A line of a trace shows bad states and constraints too.
 pub const PROPERTIES: u32 = 16;
+
+/// The dump of a trace is written, which shows bad states and constraints too.
+pub const VCD: u32 = 32;
 
 /// Whether this option is among the options.
 pub(crate) fn has(options: u32, option: u32) -> bool
@@ -58,20 +61,5 @@ pub(crate) fn unrolling(options: u32, frames: u32, max_var: u32) -> Unroll
         max_var,
         source: None,
         destination: None,
-    }
-}
-
-/// The simulation that the options ask for: a batch, since the whole stimulus is there.
-pub(crate) fn simulation(options: u32, max_var: u32) -> Sim
-    ensures { result ≡ simulation options max_var }
-{
-    Sim {
-        batch: true,
-        properties: has(options, PROPERTIES),
-        witness: false,
-        vcd: false,
-        max_var,
-        model: None,
-        stimulus: None,
     }
 }

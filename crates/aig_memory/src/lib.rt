@@ -18,7 +18,7 @@ mod texts;
 mod verdicts;
 mod wording;
 
-pub use crate::asked::{ASCII, KEEP_MAP, PROPERTIES, STRIP, UNDO_MAP};
+pub use crate::asked::{ASCII, KEEP_MAP, PROPERTIES, STRIP, UNDO_MAP, VCD};
 pub use crate::outcome::{
     BAD_OPTIONS, DONE, GATE, LINE, MAP_LINE, NOT_CONFIRMED, OUT_OF_MEMORY, Outcome, REFUSED,
     TOO_SHORT, WHOLE,

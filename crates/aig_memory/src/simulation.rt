@@ -1,15 +1,17 @@
 //! Simulation from bytes to bytes.
-ghost use Rattle.std.specs.Prelude.{◌≡◌, ◌⊎◌, ◌↔◌, IfErr, IfOk, IsTrue, None, true};
+ghost use Rattle.std.specs.Prelude.{◌≡◌, ◌⊎◌, ◌↔◌, IfErr, IfOk, IsTrue, List, None, ℕ, true};
 ghost use Rattle.aig_engines.specs.File.{IsFileOf};
 ghost use Rattle.aig_engines.specs.Reading.{IsUnreadable};
-ghost use Rattle.aig_engines.specs.Simulation.{IsSimulationText, columns_of};
+ghost use Rattle.aig_engines.specs.Simulation.{IsWrittenText, columns_of};
 ghost use Rattle.aig_step.specs.Outcome.{first_bad_line};
 ghost use Rattle.aig_step.specs.TraceText.{IsTraceText};
+ghost use Rattle.aig_step.specs.declared.trace.Columns.TheVariants.{Properties};
+ghost use Rattle.aig_wave.specs.Wave.{wave_text};
 ghost use Rattle.aig_memory.specs.Answers.{Answers, IsBadStimulus, IsSimulationRefused};
 ghost use Rattle.aig_memory.specs.Asked.{CanSimulate, has, simulation};
 ghost use Rattle.aig_memory.specs.Outcome.{fault_outcome, out_of_memory, sim_outcome};
 
-use crate::asked::{PROPERTIES, has, only_has};
+use crate::asked::{PROPERTIES, VCD, has, only_has};
 use crate::gathered::Gathered;
 use crate::lent::LentSource;
 use crate::outcome::{BAD_OPTIONS, Outcome, answer, ending};
@@ -17,6 +19,7 @@ use aig_batch::simulate_batched;
 use aig_core::{Checked, Keep, LARGEST};
 use aig_engines::{ToolFault, read_circuit};
 use aig_step::{Columns, SimFault};
+use aig_wave::{WaveRoom, WaveSink};
 use std::alloc::Global;
 
 /// The circuit of a model.
@@ -52,7 +55,41 @@ fn trace(
     Ok(sink.bytes)
 }
 
-/// The trace text of a stimulus for the circuit of a model.
+/// The dump of the trace of a stimulus. The sink fails where memory is refused, and what it says counts first.
+#[tactic(auto, using(crate::proofs::Lents::not_batched))]
+fn dump(alloc: Global, found: &Checked, stimulus: &[u8]) -> Result<Vec<u8>, SimFault>
+    ensures none_bad { IfOk result (λ _. first_bad_line found.now stimulus.now true ≡ None) }
+    ensures text { IfOk result (λ text. (trace : List ℕ)
+        × IsTraceText found.now Properties stimulus.now true trace × (text.items ≡ wave_text found.now trace true)) }
+    ensures err { IfErr result (λ fault.
+        IsBadStimulus found.now stimulus.now fault ⊎ (sim_outcome fault ≡ out_of_memory)) }
+{
+    let mut source = LentSource::new(stimulus)?;
+    let room = WaveRoom::new(alloc, found)?;
+    let mut sink = Gathered::new(alloc);
+    let mut wave = WaveSink::new(room, &mut sink);
+    let done = simulate_batched(alloc, found, Columns::Properties, &mut source, &mut wave);
+    let (sent, _sink) = wave.finish(done.is_ok());
+    source.gives_its_bytes();
+    if sent.is_err() {
+        return Err(SimFault::WriteFailed);
+    }
+    done?;
+    Ok(sink.bytes)
+}
+
+/// The columns of the trace that the options ask for.
+fn columns_of(options: u32) -> Columns
+    ensures { result ≡ columns_of (simulation options 0) }
+{
+    if has(options, PROPERTIES) {
+        Columns::Properties
+    } else {
+        Columns::Plain
+    }
+}
+
+/// What the options ask for of a stimulus, for the circuit of a model: its trace text, or the dump of that.
 fn traced(
     alloc: Global,
     options: u32,
@@ -61,17 +98,16 @@ fn traced(
     stimulus: &[u8],
 ) -> Result<Vec<u8>, ToolFault>
     ensures ok { IfOk result (λ text.
-        IsSimulationText (simulation options max_var) model.now stimulus.now text.items) }
+        IsWrittenText (simulation options max_var) model.now stimulus.now text.items) }
     ensures err { IfErr result (λ fault. IsSimulationRefused (simulation options max_var) model.now stimulus.now fault
         ⊎ (fault_outcome fault ≡ out_of_memory)) }
 {
-    let columns = if has(options, PROPERTIES) {
-        Columns::Properties
-    } else {
-        Columns::Plain
-    };
     let found = circuit_of(alloc, max_var, model)?;
-    let text = trace(alloc, columns, &found, stimulus);
+    let text = if has(options, VCD) {
+        dump(alloc, &found, stimulus)
+    } else {
+        trace(alloc, columns_of(options), &found, stimulus)
+    };
     drop(found);
     Ok(text?)
 }
@@ -80,11 +116,13 @@ fn traced(
 fn can_simulate(options: u32, max_var: u32) -> bool
     ensures { IsTrue result ↔ CanSimulate options max_var }
 {
-    only_has(options, PROPERTIES) && max_var <= LARGEST
+    only_has(options, PROPERTIES + VCD)
+        && max_var <= LARGEST
+        && !(has(options, VCD) && has(options, PROPERTIES))
 }
 
-/// Simulates the circuit of an AIGER file over a stimulus. The text is the trace; the only option is `PROPERTIES`. The
-/// largest index and the counts of the model are at most `max_var`.
+/// Simulates the circuit of an AIGER file over a stimulus. The text is the trace, or with `VCD` the dump of that; the
+/// options are `PROPERTIES` or `VCD`, not both. The largest index and the counts of the model are at most `max_var`.
 pub fn simulate(
     alloc: Global,
     options: u32,
@@ -94,7 +132,7 @@ pub fn simulate(
     output: &mut [u8],
 ) -> Outcome
     ensures { let request = simulation options max_var in
-        Answers (CanSimulate options max_var) (IsSimulationText request model.now stimulus.now)
+        Answers (CanSimulate options max_var) (IsWrittenText request model.now stimulus.now)
         (IsSimulationRefused request model.now stimulus.now) output.old output.new result }
 {
     if !can_simulate(options, max_var) {

@@ -4,7 +4,7 @@
 
 ghost use Rattle.std.specs.Prelude.{◌≡◌, ◌⊎◌};
 ghost use Rattle.aig_engines.specs.Conversion.{IsConversionRefused, IsConversionText};
-ghost use Rattle.aig_engines.specs.Simulation.{IsSimulationText};
+ghost use Rattle.aig_engines.specs.Simulation.{IsWrittenText};
 ghost use Rattle.aig_engines.specs.Unrolling.{IsUnrollingRefused, IsUnrollingText};
 ghost use Rattle.aig_memory.specs.Answers.{Answers, IsSimulationRefused, WitnessAnswers};
 ghost use Rattle.aig_memory.specs.Asked.{CanConvert, CanSimulate, CanUnroll, conversion, simulation, unrolling};
@@ -68,7 +68,7 @@ pub extern "C" fn aiger_simulate(
 ) -> u32
     ensures status { result ≡ outcome.new.status }
     ensures answers { let request = simulation options max_var in
-        Answers (CanSimulate options max_var) (IsSimulationText request model.now stimulus.now)
+        Answers (CanSimulate options max_var) (IsWrittenText request model.now stimulus.now)
         (IsSimulationRefused request model.now stimulus.now) output.old output.new outcome.new }
 {
     *outcome = simulate(alloc, options, max_var, model, stimulus, output);
