@@ -32,7 +32,7 @@ TOP = Path(__file__).resolve().parent.parent
 BODIES = TOP / "tests" / "wrong_bodies"
 RT = os.environ.get("RT", "rt")
 
-FUNCTION = re.compile(r"^( *)(pub )?(?:pub\(\w+\) )?(?:const )?fn (\w+)", re.M)
+FUNCTION = re.compile(r"^( *)(pub )?(?:pub\(\w+\) )?(?:const |extern \"C\" )?fn (\w+)", re.M)
 BLOCK = re.compile(r"^(?:impl\b|(?:pub(?:\(\w+\))? )?trait\b)[^{]*", re.M)
 # What the check says of a function with goals of its own that are open, and not of one that waits for another.
 OPEN = re.compile(r"not proved$|no proof: expected answers")
