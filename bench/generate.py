@@ -17,6 +17,8 @@ kinds:
   binary-near     the same, over the 60 places before them: each delta has one byte
   run-far         a binary file of N gates to simulate, over any places before them, with 64 inputs, latches and outputs
   run-near        the same, over the 60 places before them
+  steps-far       a binary file as run-far's, without latches
+  steps-near      the same, over the 60 places before them
   batch-far       the circuit of run-far, to simulate in a batch of 1,024 runs of 100 steps
   batch-near      the circuit of run-near, so too
   text            10 inputs, and 10 outputs that are these or their negations, to simulate for N steps
@@ -24,7 +26,7 @@ kinds:
   unroll-near     the same, over the 60 places before them
 
 Beside a file to simulate stands its stimulus, in NAME.steps, and the beginning of its trace, in NAME.trace; of text that is
-all of it. The steps of run-far and run-near are so many that all gates of all steps are 300,000,000.
+all of it. The steps of run- and steps- files are so many that all gates of all steps are 300,000,000.
 
 Beside a file to unroll stands what it is over 10 frames, in NAME.unrolled, and the same in ASCII, in NAME.unrolled.ascii.
 
@@ -138,14 +140,15 @@ def spelled(delta):
     return bytes(groups)
 
 
-def binary(count, most, ends=ENDS):
+def binary(count, most, ends=ENDS, has_latches=True):
     """A circuit whose gates are over at most so many places before them: its binary text and its ASCII text."""
     chance = random.Random(6)
-    first = 2 * ends
+    latches = ends * has_latches
+    first = ends + latches
     total = first + count
-    nexts = "".join(f"{chance.randrange(2 * total + 2)}\n" for _ in range(2 * ends))
-    text = bytearray(f"aig {total} {ends} {ends} {ends} {count}\n{nexts}", "ascii")
-    lines = [f"aag {total} {ends} {ends} {ends} {count}\n"]
+    nexts = "".join(f"{chance.randrange(2 * total + 2)}\n" for _ in range(first))
+    text = bytearray(f"aig {total} {ends} {latches} {ends} {count}\n{nexts}", "ascii")
+    lines = [f"aag {total} {ends} {latches} {ends} {count}\n"]
     lines += [f"{2 * place}\n" for place in range(1, ends + 1)]
     for place, literal in enumerate(nexts.splitlines(True), ends + 1):
         lines.append(f"{2 * place} {literal}" if place <= first else literal)
@@ -301,8 +304,12 @@ RUN_KINDS = {
     "run-far": lambda count: binary(count, count, ends=RUN_ENDS),
     "run-near": lambda count: binary(count, 60, ends=RUN_ENDS),
 }
+STEP_KINDS = {
+    "steps-far": lambda count: binary(count, count, ends=RUN_ENDS, has_latches=False),
+    "steps-near": lambda count: binary(count, 60, ends=RUN_ENDS, has_latches=False),
+}
 BATCH_KINDS = {kind.replace("run", "batch"): made for kind, made in RUN_KINDS.items()}
-SIMULATED = (*RUN_KINDS, *BATCH_KINDS, "text")
+SIMULATED = (*RUN_KINDS, *STEP_KINDS, *BATCH_KINDS, "text")
 UNROLLED = {
     "unroll-far": lambda count: binary(count, count),
     "unroll-near": lambda count: binary(count, 60),
@@ -325,7 +332,7 @@ KINDS = {
     "gates-chain": lambda count: gates(count, is_chain=True),
 }
 CONVERTED = [f"{kind}-{count}" for kind in (*KINDS, *BINARY_KINDS) for count in (100_000, 1_000_000)]
-RUNS = [f"{kind}-{count}" for kind in RUN_KINDS for count in (1_000, 10_000, 100_000, 1_000_000)]
+RUNS = [f"{kind}-{count}" for kind in (*RUN_KINDS, *STEP_KINDS) for count in (1_000, 10_000, 100_000, 1_000_000)]
 BATCHES = [f"{kind}-{count}" for kind in BATCH_KINDS for count in (1_000, 10_000, 100_000)]
 DEFAULT = [*CONVERTED, *RUNS, *BATCHES, "text-1000000", *(f"{kind}-100000" for kind in UNROLLED)]
 
@@ -340,7 +347,8 @@ def file_name(text):
 
 def path_of(name, folder=OUT):
     """Where the file of that name goes."""
-    return os.path.join(folder, f"{name}.aig" if name.startswith(("binary-", "run-", "batch-", "unroll-")) else f"{name}.aag")
+    is_binary = name.startswith(("binary-", "run-", "steps-", "batch-", "unroll-"))
+    return os.path.join(folder, f"{name}.aig" if is_binary else f"{name}.aag")
 
 
 def ascii_of(path):
@@ -400,7 +408,7 @@ def write_simulated(kind, count, path):
         lines, given = copied(count), steps(WIDTH, count)
         model, trace = "".join(lines).encode(), copied_trace(given)
     else:
-        model, lines = {**RUN_KINDS, **BATCH_KINDS}[kind](count)
+        model, lines = {**RUN_KINDS, **STEP_KINDS, **BATCH_KINDS}[kind](count)
         given = list(batch_steps(RUN_ENDS)) if kind in BATCH_KINDS else steps(RUN_ENDS, RUN_GATES // count)
         trace = first_of_trace(lines, given[: PLAIN_GATES // count])
     for name, text in ((path, model), (steps_of(path), "".join(given).encode()), (trace_of(path), "".join(trace).encode())):
@@ -444,7 +452,7 @@ def is_written(name, folder=OUT):
 
 def main():
     asked = argparse.ArgumentParser(description=__doc__, formatter_class=argparse.RawDescriptionHelpFormatter)
-    sizes = "by default each kind with 100000 and 1000000, run-far and run-near also with 1000 and 10000, text with 1000000"
+    sizes = "by default each kind with 100000 and 1000000, run- and steps- files also with 1000 and 10000, text with 1000000"
     sizes += ", batch-far and batch-near with 1000, 10000 and 100000, unroll-far and unroll-near with 100000"
     asked.add_argument("names", metavar="KIND-N", nargs="*", type=file_name, help=sizes)
     asked.add_argument("--folder", default=OUT, help="where the files go, NAME.aag or NAME.aig each (bench/out)")

@@ -149,6 +149,13 @@ SIMULATIONS = {
         aim=0.6,
         aimed_bytes=40,
     ),
+    "steps": Simulation(
+        kinds=tuple(generate.STEP_KINDS),
+        unit="gate and step",
+        units=lambda gates: generate.RUN_GATES,
+        aim=0.1,
+        aimed_bytes=100,
+    ),
     "batch": Simulation(
         kinds=tuple(generate.BATCH_KINDS),
         unit="gate and step",
