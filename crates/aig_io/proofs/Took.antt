@@ -1,14 +1,14 @@
 -- Bytes that move one part after another.
 use Rattle.std.proofs.Common.{◌≡◌, ℕ, zero, suc, ◌+◌, ◌-◌, List, ◌++◌, Ok, take, drop, take-add, length, length-drop}
 use Rattle.std.proofs.Common.{Err, IfErr, IsErrAnd, Result}
-use Rattle.std.proofs.Common.{arith, ap, false, refl, sym, ◌∙◌, ◌<◌, ◌≤◌, Option, [], append_assoc, append-nil}
+use Rattle.std.proofs.Common.{arith, ap, false, refl, sym, ◌∙◌, ◌<◌, ◌≤◌, Option, [], append_assoc, append-nil, Bool, true}
 use Rattle.std.proofs.lemmas.List.{drop-drop, take_all}
-use native.Mathlib.Numerals.{unary_clauses}
 use Rattle.aig_io.specs.declared.device.DeviceFault.{DeviceFault}
 use Rattle.aig_io.specs.Memory.{one_call_later, source_after}
 use Rattle.std.proofs.lemmas.Grind.{common_steps}
-use Rattle.aig_io.specs.Devices.{GaveSome, Past, after_fetch, no_file, took}
+use Rattle.aig_io.specs.Devices.{GaveSome, Past, after_fetch, failed_once, gave, gave_all, no_file, took}
 use Rattle.aig_io.specs.declared.transfer.ReadError.{ReadError}
+use Rattle.aig_io.specs.declared.transfer.ReadError.TheVariants as errors
 use Rattle.aig_io.specs.declared.transfer.ReadError.TheVariants.{OutOfMemory}
 
 -- the slice from n on is all that is left
@@ -18,6 +18,20 @@ rest_is bs n = take_all (length bs - n) (drop n bs) (omega (arith, length-drop n
 pub took_twice : (a b c : Past) (xs ys : List ℕ) → b ≡ took xs a → c ≡ took ys b → c ≡ took (xs ++ ys) a
 took_twice a b c xs ys p q =
     q ∙ ap (took ys) p ∙ ap (λ (zs : List ℕ). record a { bytes = zs }) (append_assoc a.bytes xs ys)
+
+-- bytes that came one part after another
+pub gave_then : (ended : Bool) (xs ys : List ℕ) (a b c : Past) → b ≡ took xs a → c ≡ gave ys ended b
+    → c ≡ gave (xs ++ ys) ended a
+gave_then true xs ys a b c p q =
+    q ∙ ap (gave_all ys) p
+    ∙ ap (λ (bytes : List ℕ). record a { bytes = bytes; ends = a.ends + 1 }) (append_assoc a.bytes xs ys)
+gave_then false xs ys a b c p q = took_twice a b c xs ys p q
+
+pub some_later : (error : ReadError) (xs : List ℕ) (a b c : Past) → b ≡ took xs a → GaveSome error b c
+    → GaveSome error a c
+some_later errors.Source xs a b c p (bytes, q) =
+    (xs ++ bytes, q ∙ ap failed_once (took_twice a b (took bytes b) xs bytes p refl))
+some_later errors.OutOfMemory xs a b c p (bytes, ended, q) = (xs ++ bytes, ended, gave_then ended xs bytes a b c p q)
 
 -- it took nothing yet
 pub took_none : (a : Past) → a ≡ took [] a

@@ -1,8 +1,8 @@
 //! The devices that bytes come from and go to, and output in blocks.
 //!
-//! Others call `read_all`, which reads a source to its end; `Window`, which holds a part of its bytes; `Output`, which
-//! sends a text to a sink in blocks; and the devices: `MemorySource` and `MemorySink` in memory, `ReadSource` and
-//! `WriteSink` over std's readers and writers. All of them are a `Source` or a `Sink`.
+//! Others call `read_all` and `read_to_end`, which read a source to its end; `Window`, which holds a part of its
+//! bytes; `Output`, which sends a text to a sink in blocks; and the devices: `MemorySource` and `MemorySink` in memory,
+//! `ReadSource` and `WriteSink` over std's readers and writers. All of them are a `Source` or a `Sink`.
 //!
 //! The definitions that matter most are `Past`, `TookBeginning` and `Put`.
 #![tactic(auto)]
@@ -27,5 +27,5 @@ pub use crate::memory::{MemorySink, MemorySource};
 pub use crate::output::Output;
 pub use crate::record::Record;
 pub use crate::streams::{ReadSource, WriteSink};
-pub use crate::transfer::{ReadError, read_all};
+pub use crate::transfer::{ReadError, read_all, read_to_end};
 pub use crate::window::Window;

@@ -1,6 +1,7 @@
 //! All bytes of a source, and all bytes to a sink.
-ghost use Rattle.std.specs.Prelude.{◌≡◌, ◌≤◌, length, IfErr, IfOk, OnErr, OnOk};
+ghost use Rattle.std.specs.Prelude.{◌≡◌, ◌+◌, ◌≤◌, false, length, vec_len, IfErr, IfOk, OnErr, OnOk};
 ghost use Rattle.aig_io.specs.Devices.{block_size, CanFail, gave_all, GaveSome, took, TookBeginning};
+ghost use Rattle.aig_io.specs.Windows.{Filled};
 ghost use Rattle.aig_io.specs.declared.transfer.ReadError.TheVariants.{Source as SourceFault, OutOfMemory};
 
 use crate::device::{DeviceFault, Sink, Source};
@@ -34,6 +35,23 @@ impl From<AllocError> for ReadError {
     }
 }
 
+/// Adds all bytes that the source still gives, unless it or an allocation fails. After an error some may be lost.
+pub fn read_to_end<R: Source>(source: &mut R, bytes: &mut Vec<u8>) -> Result<(), ReadError>
+    requires { CanFail (R.past source.old) }
+    ensures ok { OnOk result (Filled bytes.old.items bytes.new.items false (R.past source.old) (R.past source.new)) }
+    ensures bound { OnOk result (vec_len bytes.new ≤ R.bound source.old + vec_len bytes.old) }
+    ensures err { IfErr result (λ error. GaveSome error (R.past source.old) (R.past source.new)) }
+{
+    let mut block = [0u8; 8192];
+    loop {
+        let count = source.fetch(&mut block)?;
+        if count == 0 {
+            return Ok(());
+        }
+        bytes.extend_from_slice(&block[..count])?;
+    }
+}
+
 /// Reads all bytes that the source still gives, unless it or an allocation fails. After an error some may be lost.
 pub fn read_all<R: Source>(alloc: Global, source: &mut R) -> Result<Vec<u8>, ReadError>
     requires { CanFail (R.past source.old) }
@@ -41,14 +59,8 @@ pub fn read_all<R: Source>(alloc: Global, source: &mut R) -> Result<Vec<u8>, Rea
     ensures err { IfErr result (λ error. GaveSome error (R.past source.old) (R.past source.new)) }
 {
     let mut all = Vec::new(alloc);
-    let mut block = [0u8; 8192];
-    loop {
-        let count = source.fetch(&mut block)?;
-        if count == 0 {
-            return Ok(all);
-        }
-        all.extend_from_slice(&block[..count])?;
-    }
+    read_to_end(source, &mut all)?;
+    Ok(all)
 }
 
 /// Sends all bytes. On an error the sink took a beginning of them.

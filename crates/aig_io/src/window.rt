@@ -12,7 +12,7 @@ use std::marker::Model;
 /// How many bytes it has room for at first.
 const FIRST_ROOM: usize = 65536;
 
-/// Bytes that a source gave and that are not let go yet. It grows where they fill more than half of it.
+/// Bytes that a source gave and that are not let go yet. It grows where they nearly fill it.
 #[derive(Drop)]
 pub struct Window {
     bytes: Vec<u8>,
@@ -29,7 +29,7 @@ impl Model for Window {
     ghost invariant = { λ w. (w.len ≤ vec_len w.bytes) × (1 < vec_len w.bytes) };
 }
 
-/// Makes room behind so many bytes, where they fill more than half of it.
+/// Makes room behind so many bytes, where they leave an eighth of it or less.
 fn make_room(bytes: &mut Vec<u8>, len: usize) -> Result<(), AllocError>
     requires some { 1 < vec_len bytes.old }
     requires within { len ≤ vec_len bytes.old }
@@ -38,7 +38,7 @@ fn make_room(bytes: &mut Vec<u8>, len: usize) -> Result<(), AllocError>
     ensures grown { vec_len bytes.old ≤ vec_len bytes.new }
 {
     let room = bytes.len();
-    if len > room / 2 {
+    if room - len <= room / 8 {
         bytes.extend_from_within(0..room)?;
     }
     Ok(())

@@ -1,8 +1,7 @@
 -- Bytes that begin with whole lines, of which the first were taken.
-use Rattle.std.proofs.Common.{◌≡◌, ◌+◌, ◌-◌, ◌≤◌, ◌∙◌, ℕ, List, [], ◌∷◌, ◌++◌, drop, length, length-append, inr, true}
+use Rattle.std.proofs.Common.{◌≡◌, ◌+◌, ◌-◌, ◌≤◌, ◌∙◌, ℕ, List, [], ◌∷◌, ◌++◌, drop, length, length-append, inr}
 use Rattle.std.proofs.Common.{append_assoc, ap, sym, subst, refl, arith}
 use Rattle.std.proofs.Math.Seq.{drop-append_seam}
-use Rattle.std.proofs.lemmas.List.{drop-append-le}
 use Rattle.aig_rows.specs.Lines.{Line, IsBehind, AreEnded, ahead, line_bytes, lines_of, bytes_of}
 use Rattle.aig_rows.proofs.Loops.Cutting.{pieces}
 use Rattle.aig_rows.proofs.Grammar.Pieces.{bytes_joined, lines_joined}

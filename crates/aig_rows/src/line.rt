@@ -1,6 +1,7 @@
 //! Lines of a text.
 ghost use Rattle.std.specs.Prelude.{◌≡◌, ◌+◌, ◌^◌, ◌<◌, [], ◌∷◌, ◌++◌, length, MatchOption};
 ghost use Rattle.aig_rows.specs.Lines.{ahead, AreEnded, line, lines_of};
+ghost use Rattle.aig_rows.specs.Parts.Plain.{HasNoLineFeed};
 
 use memchr::{memchr, memrchr};
 use std::marker::Model;
@@ -83,6 +84,7 @@ pub fn split_line(bytes: &[u8]) -> Option<(Line, &[u8])>
 pub fn ended_lines(bytes: &[u8]) -> (&[u8], &[u8])
     ensures cut { bytes.now ≡ result.0.now ++ result.1.now }
     ensures ended { AreEnded (lines_of result.0.now) }
+    ensures all { HasNoLineFeed result.1.now }
 {
     match memrchr(b'\n', bytes) {
         Some(at) => bytes.split_at(at + 1),

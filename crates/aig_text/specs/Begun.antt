@@ -12,7 +12,7 @@ use Rattle.aig_rows.specs.Begun.{AreFirst}
 use Rattle.aig_text.specs.declared.section.Section.TheVariants.{Inputs, JusticeSizes}
 use Rattle.aig_text.specs.declared.pieces.AsciiReader.{AsciiReader}
 use Rattle.aig_text.specs.declared.pieces.Progress.{Progress}
-use Rattle.aig_text.specs.Sections.{Header, Section, sections, Listed, in_ascii}
+use Rattle.aig_text.specs.Sections.{Header, sections, Listed, in_ascii}
 use Rattle.aig_text.specs.Reading.{empty_circuit, sections_at, tail_at}
 
 -- the rows that are due of a section before the first of them

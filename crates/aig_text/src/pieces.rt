@@ -6,6 +6,7 @@ ghost use Rattle.std.specs.Prelude.{IsTrue, ◌↔◌};
 ghost use Rattle.aig_circuit.specs.Wellformed.{largest_index};
 ghost use Rattle.aig_rows.specs.Lines.{Ahead, AreEnded, IsBehind, Line, ahead, lines_of, with_lines};
 ghost use Rattle.aig_rows.specs.Outcomes.{GivesOrMemory};
+ghost use Rattle.aig_rows.specs.Parts.Plain.{HasNoLineFeed};
 ghost use Rattle.aig_rows.specs.Reading.{want_of_memory};
 ghost use Rattle.aig_text.specs.Sections.{in_ascii, sections};
 ghost use Rattle.aig_text.specs.Begun.{IsDone, IsMissing, IsValid, IsWithin, ReadsOn, header_then, rest_of};
@@ -49,7 +50,11 @@ impl Progress {
     }
 
     /// Nothing is due.
-    fn none(alloc: Global) -> Self {
+    fn none(alloc: Global) -> Self
+        ensures circuit { result.circuit ≡ empty_circuit 0 }
+        ensures section { result.section ≡ 0 }
+        ensures due { result.due.count ≡ 0 }
+    {
         Progress {
             circuit: empty_circuit(alloc, 0),
             section: 0,
@@ -176,6 +181,7 @@ impl AsciiReader {
         ensures on { (more : List ℕ) → ReadsOn (rest_of self.old (lines_of (bytes.now ++ more)))
             (rest_of self.new (lines_of (drop result bytes.now ++ more))) }
         ensures within { result ≤ length bytes.now }
+        ensures all { IsDone self.new.progress ⊎ HasNoLineFeed (drop result bytes.now) }
         ensures number { self.new.number ≤ self.old.number + result }
         ensures valid { IsValid self.new.header self.new.progress }
     {

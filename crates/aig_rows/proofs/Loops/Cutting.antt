@@ -3,10 +3,11 @@ use Rattle.std.proofs.Common.{rules}
 use Rattle.std.proofs.lemmas.Bool.{false_from_ne_true}
 use Rattle.std.proofs.Common.{◌≡◌, ◌≢◌, ◌<◌, ℕ, zero, suc, List, [], ◌∷◌, true, false, take, drop, length}
 use Rattle.std.proofs.Common.{get_or, Some, None, refl, ap, arith, eqb, add-one, Bool, ◌+◌, length-take}
-use Rattle.memchr.specs.Find.{IsFirstByte, is_byte}
+use Rattle.memchr.specs.Find.{IsFirstByte, Nowhere, Passes, is_byte}
 use Rattle.std.proofs.lemmas.Bool.Decides.{eqb_tells}
 use Rattle.aig_rows.specs.Lines.{Line, line, lines_of, begun_by, AreEnded}
 use Rattle.aig_rows.specs.Laws.{AreLines}
+use Rattle.aig_rows.specs.Parts.Plain.{HasNoLineFeed}
 
 cut : (bs : List ℕ) (at : ℕ) → at < length bs → ((k : ℕ) → k < at → eqb (get_or bs k 0) 10 ≡ false)
     → eqb (get_or bs at 0) 10 ≡ true
@@ -79,6 +80,18 @@ ended_front bs at l h = rw add-one (ended_through bs at l h)
 pub none_ended : AreEnded (lines_of [])
 unfolding lines_of
 none_ended = tt
+
+-- behind the last line feed there is none
+pub no_feed_behind : (bs : List ℕ) (n : ℕ) → Nowhere (Passes (is_byte 10) bs) n (length bs)
+    → HasNoLineFeed (drop n bs)
+no_feed_behind [] zero h = tt
+no_feed_behind [] (suc n) h = tt
+no_feed_behind (b ∷ bs) zero h = (
+  false_from_ne_true _ (h 0 (omega arith) (omega arith)),
+  no_feed_behind bs zero (λ k low high. h (suc k) (omega arith) (omega (arith, high))),
+)
+no_feed_behind (b ∷ bs) (suc n) h =
+    no_feed_behind bs n (λ k low high. h (suc k) (omega (arith, low)) (omega (arith, high)))
 
 -- the pieces of a text
 begun : (b : ℕ) (bs : List ℕ) (ls : List Line) → b ≢ 10 → AreLines bs ls → AreLines (b ∷ bs) (begun_by b ls)

@@ -1,12 +1,10 @@
 -- Reading rows one after another.
 use Rattle.std.proofs.Common.{subst}
-use Rattle.std.proofs.Common.{append-nil}
-use Rattle.std.proofs.Common.{sym}
 use Rattle.aig_rows.specs.Scanning.{numbers_at}
 use Rattle.std.proofs.Common.{length}
 use Rattle.std.proofs.Common.{rules}
-use Rattle.std.proofs.Common.{◌≡◌, ◌+◌, ◌-◌, ◌<◌, ◌≤◌, ℕ, zero, suc, List, [], ◌∷◌, ◌++◌, map, get_or, false}
-use Rattle.std.proofs.Common.{Option, Some, None, Ok, Err, refl, ap, ◌∙◌, append_assoc, arith}
+use Rattle.std.proofs.Common.{◌≡◌, ◌+◌, ◌≤◌, ℕ, zero, suc, List, [], ◌∷◌, map, get_or, false}
+use Rattle.std.proofs.Common.{Option, Some, None, Ok, Err, refl, arith}
 use Rattle.std.specs.Prelude.{Result, OnOk}
 use Rattle.std.specs.List.{sum}
 use Rattle.std.proofs.lemmas.Bool.{ltb-false}

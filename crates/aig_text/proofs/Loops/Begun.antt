@@ -1,7 +1,7 @@
 -- Sections whose lines come in pieces.
-use Rattle.std.proofs.Common.{◌≡◌, ◌+◌, ◌-◌, ◌*◌, ◌^◌, ◌<◌, ◌≤◌, ◌∙◌, ◌⊎◌, inl, inr, ℕ, zero, suc, List, [], ◌∷◌, ◌++◌}
-use Rattle.std.proofs.Common.{map, length, get_or, drop, append_assoc, append-nil, Result, Ok, Err, refl, sym, ap}
-use Rattle.std.proofs.Common.{subst, arith}
+use Rattle.std.proofs.Common.{◌≡◌, ◌+◌, ◌-◌, ◌<◌, ◌≤◌, ◌∙◌, ◌⊎◌, inl, inr, ℕ, suc, List, [], ◌∷◌, ◌++◌}
+use Rattle.std.proofs.Common.{map, length, get_or, drop, append_assoc, append-nil, Ok, Err, refl, sym, ap}
+use Rattle.std.proofs.Common.{arith}
 use Rattle.std.specs.List.{sum}
 use Rattle.std.proofs.lemmas.List.{map-append}
 use Rattle.std.proofs.lemmas.List.Sums.{sum_by-append, sum_by-cons}
@@ -12,16 +12,16 @@ use Rattle.aig_rows.specs.declared.fault.ReadFault.{ReadFault}
 use Rattle.aig_rows.specs.declared.fault.ReadKind.TheVariants as kinds
 use Rattle.aig_rows.specs.declared.row.Role.TheVariants as roles
 use Rattle.aig_rows.specs.Lines.{Line, Ahead, ahead, with_lines}
-use Rattle.aig_rows.specs.Rows.{gate_of, input_of, latch_of, literal_in, size_form, size_of}
+use Rattle.aig_rows.specs.Rows.{gate_of, input_of, latch_of, literal_in, size_of}
 use Rattle.aig_rows.specs.Reading.{◌>>=◌, Found, fault_at, rows_at, want_of_memory}
 use Rattle.aig_rows.specs.declared.rows.Due.{Due}
-use Rattle.aig_rows.specs.Begun.{carried_over, AreFirst}
+use Rattle.aig_rows.specs.Begun.{carried_over}
 use Rattle.aig_rows.proofs.Loops.Rows.{sizes_small}
 use Rattle.aig_rows.proofs.Loops.FirstRows.{after_rows, rows_go_on, row_wrong}
 use Rattle.aig_text.specs.declared.section.Section.TheVariants.{Inputs, Latches, Outputs, Bad, Constraints}
 use Rattle.aig_text.specs.declared.section.Section.TheVariants.{JusticeSizes, JusticeLiterals, Fairness, Gates}
 use Rattle.aig_text.specs.declared.pieces.Progress.{Progress}
-use Rattle.aig_text.specs.Sections.{Header, Section, sections, Listed, in_ascii, with_sizes, with_justice_literals}
+use Rattle.aig_text.specs.Sections.{Header, Section, sections, in_ascii, with_sizes, with_justice_literals}
 use Rattle.aig_text.specs.Reading.{section_at, sections_at}
 use Rattle.aig_text.specs.Begun.{due_of, rows_due, section_from, HaveReadOf, sections_from, IsDone, IsMissing}
 use Rattle.aig_text.proofs.Loops.Sections.{next_section, rest_none}

@@ -1,21 +1,23 @@
 -- An ASCII file whose bytes come in pieces: what is left tells what all of it told.
-use Rattle.std.proofs.Common.{◌≡◌, ◌≢◌, ◌+◌, ◌-◌, ◌<◌, ◌≤◌, ◌∙◌, ◌⊎◌, inl, inr, ℕ, List, [], ◌∷◌, ◌++◌, drop, length}
+use Rattle.std.proofs.Common.{◌≡◌, ◌+◌, ◌-◌, ◌<◌, ◌≤◌, ◌∙◌, ◌⊎◌, inl, inr, ℕ, List, [], ◌∷◌, ◌++◌, drop, length}
 use Rattle.std.proofs.Common.{append-nil, Result, Ok, Err, refl, sym, ap, arith}
 use Rattle.std.specs.Prelude.{OnErr}
+use Rattle.std.proofs.Math.Seq.{drop-append_seam}
 use Rattle.aig_circuit.specs.declared.circuit.Circuit.{Circuit}
 use Rattle.aig_rows.specs.declared.fault.ReadFault.{ReadFault}
 use Rattle.aig_rows.specs.declared.fault.ReadKind.TheVariants as kinds
 use Rattle.aig_rows.specs.Lines.{Line, Ahead, IsBehind, AreEnded, ahead, lines_of, with_lines}
-use Rattle.aig_rows.specs.Reading.{◌>>=◌, Found, line_found, want_of_memory}
-use Rattle.aig_rows.specs.Outcomes.{GivesOrMemory, GivesOrFails}
+use Rattle.aig_rows.specs.Parts.Plain.{HasNoLineFeed}
+use Rattle.aig_rows.specs.Reading.{◌>>=◌, Found, want_of_memory}
+use Rattle.aig_rows.specs.Outcomes.{GivesOrFails}
 use Rattle.aig_rows.proofs.Loops.Cutting.{some_lines}
 use Rattle.aig_rows.proofs.Loops.FirstRows.{found_joined, refused_joined, found_behind}
 use Rattle.aig_rows.proofs.Taken.{IsTaken, left_fits, lines_cut, taken}
 use Rattle.aig_text.specs.declared.pieces.AsciiReader.{AsciiReader}
 use Rattle.aig_text.specs.declared.pieces.Progress.{Progress}
-use Rattle.aig_text.specs.Sections.{Header, ascii_word, sections, in_ascii}
-use Rattle.aig_text.specs.Reading.{circuit_at, empty_circuit, header_at, header_of, sections_at}
-use Rattle.aig_text.specs.Begun.{IsDone, ReadsOn, header_then, rest_of, sections_from, then_tail}
+use Rattle.aig_text.specs.Sections.{Header, ascii_word}
+use Rattle.aig_text.specs.Reading.{circuit_at, header_at, header_of}
+use Rattle.aig_text.specs.Begun.{IsDone, IsMissing, ReadsOn, header_then, rest_of, sections_from, then_tail}
 
 abbrev pub tailed : Header → Found Circuit → Result Circuit ReadFault
 tailed h r = ◌>>=◌ {B = Circuit} r (then_tail h)
@@ -138,3 +140,14 @@ advances r q h bytes lines rest left at now is same cut ended from to behind on 
           (lines_of left) more t on
           ∙ sym (rest_is q h (lines_of (drop (length lines - length left) bytes ++ more)) same);
     }
+
+-- all of the whole lines were taken, or the sections end before that
+pub all_taken : (q : Progress) (bytes lines rest left : List ℕ) (number : ℕ) (now : Ahead) → bytes ≡ lines ++ rest
+    → HasNoLineFeed rest → ahead number (lines_of left) ≡ now → IsDone q ⊎ IsMissing q now
+    → IsDone q ⊎ HasNoLineFeed (drop (length lines - length left) bytes)
+all_taken q bytes lines rest left number now cut free at (inl done) = inl done
+all_taken q bytes lines rest [] number now cut free at (inr missing) =
+    let all : length lines - length {A = ℕ} [] ≡ length lines = omega arith in
+    inr (rw (cut, all, drop-append_seam lines rest) free)
+all_taken q bytes lines rest (b ∷ left) number now cut free at (inr (due, none)) =
+    absurd (some_lines (b ∷ left) (omega arith) (ap (λ (a : Ahead). a.lines) at ∙ none))

@@ -1,4 +1,5 @@
-use Rattle.aig_rows.proofs.Loops.Cutting.{ended_front, none_ended}
+use Rattle.std.proofs.Common.{◌+◌}
+use Rattle.aig_rows.proofs.Loops.Cutting.{ended_front, no_feed_behind, none_ended}
 use Rattle.aig_rows.proofs.line.ended_lines.Goals as goal
 
 pub returns-in-Some-clause-ended : goal.returns-in-Some-clause-ended
@@ -7,3 +8,10 @@ returns-in-Some-clause-ended c =
 
 pub returns-in-None-clause-ended : goal.returns-in-None-clause-ended
 returns-in-None-clause-ended c = none_ended
+
+pub returns-in-Some-clause-all : goal.returns-in-Some-clause-all
+returns-in-Some-clause-all c =
+    rw c.split_at.ensures.back (no_feed_behind c.args.bytes.now (c.in-Some.at + 1) c.in-Some.ensures.0.after)
+
+pub returns-in-None-clause-all : goal.returns-in-None-clause-all
+returns-in-None-clause-all c = no_feed_behind c.args.bytes.now 0 c.in-None.ensures

@@ -1,4 +1,4 @@
-use Rattle.std.proofs.Common.{◌+◌, ◌∙◌, ℕ, ◌<◌, ◌≤◌, ap, take, length, rules, arith, List}
+use Rattle.std.proofs.Common.{◌+◌, ◌∙◌, ℕ, ap, take, rules, arith, List}
 use Rattle.std.proofs.lemmas.List.{with_items_is}
 use Rattle.aig_io.proofs.Took.{gave_none, memory_refused}
 use Rattle.aig_io.proofs.Windows.{fetched_behind, gave_fetched}

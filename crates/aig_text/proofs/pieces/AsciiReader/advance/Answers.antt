@@ -1,5 +1,5 @@
-use Rattle.std.proofs.Common.{◌∙◌, inr}
-use Rattle.aig_text.proofs.Loops.Pieces.{advances, wrong_on}
+use Rattle.std.proofs.Common.{inr}
+use Rattle.aig_text.proofs.Loops.Pieces.{advances, all_taken, wrong_on}
 use Rattle.aig_text.proofs.pieces.AsciiReader.advance.Goals as goal
 
 pub returns-in-Err-clause-on : goal.returns-in-Err-clause-on
@@ -34,3 +34,9 @@ returns-clause-number c =
     c.at_line-at.result c.read_lines.new.at c.in-Ok.is c.in-Ok.is c.ended_lines.ensures.cut
     c.ended_lines.ensures.ended c.at_line-at.ensures c.at.view_is c.in_default-read_lines.ensures.behind
     c.in_default-read_lines.ensures.on).counted
+
+pub returns-clause-all : goal.returns-clause-all
+returns-clause-all c =
+    all_taken c.read_lines.new.self c.args.bytes.now c.ended_lines.result.0.now c.ended_lines.result.1.now
+    c.at.inside.rest.now c.at.inside.number c.read_lines.new.at c.ended_lines.ensures.cut c.ended_lines.ensures.all
+    c.at.view_is c.in_default-read_lines.ensures.all
