@@ -1,5 +1,5 @@
 -- Buckets and trees, read as what they have of indices.
-use Rattle.std.proofs.Common.{◌≡◌, ◌≢◌, ◌==◌, ◌||◌, zero, suc, Bool, true, take, ◌<◌, ◌≤◌, ◌+◌, ℕ, List, [], ◌∷◌, ◌++◌, false, cond, eqb, length, get_or, drop}
+use Rattle.std.proofs.Common.{◌≡◌, ◌≢◌, ◌==◌, zero, suc, take, ◌<◌, ◌≤◌, ◌+◌, ℕ, List, [], ◌∷◌, ◌++◌, false, cond, eqb, length, get_or, drop}
 use Rattle.std.proofs.Common.{Option, None, Some, refl, sym, ap, ◌∙◌, true≢false, arith}
 use Rattle.std.proofs.Math.ListN.{set as put, replicate}
 use Rattle.std.specs.Option.{is_some, option_or}
@@ -7,53 +7,41 @@ use Rattle.std.specs.Ordering.{nat_cmp}
 use Rattle.std.specs.Cmp.{eq_by_cmp_equiv, unsigned_tied}
 use Rattle.std.specs.BTreeMap.{BTreeMap, get, Updates}
 use Rattle.std.specs.FinMap.{find}
-use Rattle.std.proofs.lemmas.Bool.{ne_eqb, eq-eqb, eqb-false}
-use Rattle.std.specs.List.{list_any}
+use Rattle.std.specs.List.{position_or_len}
 use Rattle.std.proofs.lemmas.Cmp.{nat_cmp_total}
 use Rattle.std.proofs.lemmas.Grind.{common_steps}
-use Rattle.std.proofs.lemmas.List.{drop_all, drop_more, length-set}
+use Rattle.std.proofs.lemmas.List.{drop_more, length-set}
 use Rattle.aig_tables.specs.declared.var_map.bucket.TheConstants.{ROOM}
 use Rattle.aig_tables.specs.Parts.Places.{bucket_of, spread_at, IsSpread}
 use Rattle.aig_tables.proofs.Tables.Maps.{HasNew}
 
-neither : (a b : Bool) → (a || b) ≡ false → (a ≡ false) × (b ≡ false)
-neither true b none = absurd (true≢false none)
-neither false b none = (refl, none)
+-- the first place of an index, told from one entry further to the front
+module _ {T : Type 0} (es : List (ℕ × T)) (q i : ℕ) (e : ℕ × T) (below : i < length es) (is : e ≡ get_or es i e) where
+  more : drop i es ≡ e ∷ drop (i + 1) es
+  more = drop_more es i e below ∙ ap (λ x. x ∷ drop (i + 1) es) (sym is)
 
--- what is found in a list from a place on
-module _ {T : Type 0} (es : List (ℕ × T)) (i q : ℕ) where
-  next : (e : ℕ × T) → i < length es → e ≡ get_or es i e
-      → find nat_cmp q (drop i es) ≡ cond (eqb q e.0) (Some e.1) (find nat_cmp q (drop (i + 1) es))
-  next e below is =
-      ap (find nat_cmp q) (drop_more es i e below ∙ ap (λ x. x ∷ drop (i + 1) es) (sym is))
-      ∙ ap (λ b. cond b (Some e.1) (find nat_cmp q (drop (i + 1) es))) (unsigned_tied q e.0)
+  pub first_here : e.0 ≡ q → i ≡ i + position_or_len (λ (e : ℕ × T). e.0 == q) (drop i es)
+  first_here here = grind (arith, common_steps, more)
 
-  pub found_here : (e : ℕ × T) → i < length es → e ≡ get_or es i e → e.0 ≡ q
-      → find nat_cmp q (drop i es) ≡ Some e.1
-  found_here e below is here =
-      next e below is
-      ∙ ap (λ b. cond b (Some e.1) (find nat_cmp q (drop (i + 1) es))) (eq-eqb q e.0 (sym here))
+  pub first_later : e.0 ≢ q → (i + 1) + position_or_len (λ (e : ℕ × T). e.0 == q) (drop (i + 1) es)
+      ≡ i + position_or_len (λ (e : ℕ × T). e.0 == q) (drop i es)
+  first_later other = grind (arith, common_steps, more)
 
-  pub found_later : (e : ℕ × T) → i < length es → e ≡ get_or es i e → e.0 ≢ q
-      → find nat_cmp q (drop i es) ≡ find nat_cmp q (drop (i + 1) es)
-  found_later e below is other =
-      next e below is
-      ∙ ap (λ b. cond b (Some e.1) (find nat_cmp q (drop (i + 1) es))) (ne_eqb q e.0 (λ e. other (sym e)))
+-- what the first entry with an index has is found, if it is one of so many
+pub found_first : {T : Type 0} (es : List (ℕ × T)) (n q : ℕ) (d : ℕ × T)
+    → position_or_len (λ (e : ℕ × T). e.0 == q) es < n → n ≤ length es
+    → find nat_cmp q (take n es) ≡ Some (get_or es (position_or_len (λ (e : ℕ × T). e.0 == q) es) d).1
+found_first [] n q d below few = absurd (omega (arith, below, few))
+found_first (x ∷ es) zero q d below few = absurd (omega (arith, below))
+found_first (x ∷ es) (suc n) q d below few = grind (arith, common_steps, found_first es n q d, unsigned_tied q x.0)
 
-  pub found_nowhere : length es ≤ i → find nat_cmp q (drop i es) ≡ None
-  found_nowhere past = ap (find nat_cmp q) (drop_all i es past)
-
--- nothing is found where no entry has the index, nor any behind them
-pub none_has : {T : Type 0} (es : List (ℕ × T)) (n q : ℕ) → list_any (λ (e : ℕ × T). e.0 == q) es ≡ false
+-- and nothing is, if none of so many has it
+pub found_nowhere : {T : Type 0} (es : List (ℕ × T)) (n q : ℕ) → n ≤ position_or_len (λ (e : ℕ × T). e.0 == q) es
     → find nat_cmp q (take n es) ≡ None
-none_has [] zero q none = refl
-none_has [] (suc n) q none = refl
-none_has (e ∷ es) zero q none = refl
-none_has (e ∷ es) (suc n) q none =
-    let both : ((e.0 == q) ≡ false) × (list_any (λ (e : ℕ × _). e.0 == q) es ≡ false) = neither _ _ none in
-    ap (λ b. cond b (Some e.1) (find nat_cmp q (take n es)))
-    (unsigned_tied q e.0 ∙ ne_eqb q e.0 (λ (same : q ≡ e.0). eqb-false e.0 q both.0 (sym same)))
-    ∙ none_has es n q both.1
+found_nowhere [] zero q past = refl
+found_nowhere [] (suc n) q past = refl
+found_nowhere (x ∷ es) zero q past = refl
+found_nowhere (x ∷ es) (suc n) q past = grind (arith, common_steps, found_nowhere es n q, unsigned_tied q x.0)
 
 -- what is found in a list with one more entry at its end
 find_push : {T : Type 0} (es : List (ℕ × T)) (k q : ℕ) (v : T)

@@ -1,6 +1,6 @@
 //! A few variables and their values that lie together.
 ghost use Rattle.std.specs.Prelude.{◌≡◌, ◌==◌, ◌↔◌, ◌<◌, ◌≤◌, [], ◌∷◌, ◌++◌, length, IsTrue};
-ghost use Rattle.std.specs.List.{list_any};
+ghost use Rattle.std.specs.List.{position_or_len};
 ghost use Rattle.std.specs.Ordering.{nat_cmp};
 ghost use Rattle.std.specs.FinMap.{find};
 
@@ -28,17 +28,20 @@ impl<T: Copy> Model for Bucket<T> {
     ghost invariant = { λ b. (b.len ≤ MOST) × (length b.entries ≡ MOST) };
 }
 
-/// Whether one of the entries has the index. All are looked at, with no branch at any of them: most that are asked for
-/// are new, and how many entries there are is not to be guessed then.
+/// The place of the first entry that has the index, or how many entries there are. All are looked at, and no branch is
+/// taken at any of them: where an index stands in its bucket is not to be guessed.
 #[inline(always)]
-fn any_has<T: Copy>(entries: &[(u32, T)], index: u32) -> bool
-    ensures { result ≡ list_any (λ e. e.0 == index) entries.now }
+fn first_place<T: Copy>(entries: &[(u32, T)], index: u32) -> usize
+    ensures { result ≡ position_or_len (λ e. e.0 == index) entries.now }
 {
-    let mut any = false;
-    for entry in entries {
-        any |= entry.0 == index;
+    let mut first = entries.len();
+    for behind in 0..entries.len() {
+        let place = entries.len() - 1 - behind;
+        if entries[place].0 == index {
+            first = place;
+        }
     }
-    any
+    first
 }
 
 impl<T: Copy> Bucket<T> {
@@ -57,15 +60,12 @@ impl<T: Copy> Bucket<T> {
     pub(super) fn get(&self, index: u32) -> Option<T>
         ensures { result ≡ find nat_cmp index self.now }
     {
-        if !any_has(&self.entries, index) {
-            return None;
+        let place = first_place(&self.entries, index);
+        if place < self.len as usize {
+            Some(self.entries[place].1)
+        } else {
+            None
         }
-        for entry in &self.entries[..self.len as usize] {
-            if entry.0 == index {
-                return Some(entry.1);
-            }
-        }
-        None
     }
 
     /// Whether there is no room.

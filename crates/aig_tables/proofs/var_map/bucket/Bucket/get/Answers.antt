@@ -1,28 +1,21 @@
-use Rattle.std.proofs.Common.{ap, ◌∙◌, sym, arith, take}
+use Rattle.std.proofs.Common.{ap, ◌∙◌, sym, arith, ◌≤◌, length, Some, get_or}
 use Rattle.std.specs.Ordering.{nat_cmp}
 use Rattle.std.specs.FinMap.{find}
-use Rattle.aig_tables.proofs.Tables.Buckets.{found_here, found_later, found_nowhere, none_has}
+use Rattle.aig_tables.proofs.Tables.Buckets.{found_first, found_nowhere}
 use Rattle.aig_tables.proofs.var_map.bucket.Bucket.get.Goals as goal
 
-pub returns-then-not-any_has : goal.returns-then-not-any_has
-returns-then-not-any_has g c =
-    sym (ap (find nat_cmp c.args.index) (sym c.self.view_is)
-    ∙ none_has c.self.inside.entries c.self.inside.len c.args.index (sym c.any_has.ensures ∙ c.if-not-any_has.true))
+pub returns-then-place-self : goal.returns-then-place-self
+returns-then-place-self g c =
+    let es = c.self.inside.entries in
+    let first = c.first_place-place.ensures in
+    let entry = c.index-self-place.result in
+    let few : c.self.inside.len ≤ length es = omega (arith, c.self.invariant.0, c.self.invariant.1) in
+    ap (λ at. Some (get_or es at entry).1) first
+    ∙ sym (found_first es c.self.inside.len c.args.index entry (rw (sym first) c.if-place-self.true) few)
+    ∙ ap (find nat_cmp c.args.index) c.self.view_is
 
-pub loop-entry-init : goal.loop-entry-init
-loop-entry-init g c = ap (find nat_cmp c.args.index) (sym c.self.view_is)
-
-pub returns-then-entry-index : goal.returns-then-entry-index
-returns-then-entry-index g c =
-    sym (c.loop-entry.invariant
-    ∙ found_here _ _ c.args.index c.entry-item.result c.loop-entry-test.true c.entry-item.is c.if-entry-index.true)
-
-pub loop-entry-preserved : goal.loop-entry-preserved
-loop-entry-preserved g c =
-    c.loop-entry.invariant ∙ found_later _ _ c.args.index c.entry-item.result c.loop-entry-test.true c.entry-item.is
-    c.if-entry-index.false
-
-pub returns : goal.returns
-returns g c = sym (c.loop-entry.invariant
-    ∙ found_nowhere (take c.self.inside.len c.self.inside.entries) c.loop-entry.entry-index c.args.index
-    (omega (arith, c.loop-entry-test.false)))
+pub returns-else-place-self : goal.returns-else-place-self
+returns-else-place-self g c =
+    sym (found_nowhere c.self.inside.entries c.self.inside.len c.args.index
+    (rw (sym c.first_place-place.ensures) c.if-place-self.false))
+    ∙ ap (find nat_cmp c.args.index) c.self.view_is
