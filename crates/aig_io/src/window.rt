@@ -39,7 +39,7 @@ fn make_room(bytes: &mut Vec<u8>, len: usize) -> Result<(), AllocError>
 {
     let room = bytes.len();
     if len > room / 2 {
-        bytes.extend_from_within(0..room)?;
+        bytes.resize(2 * room, 0)?;
     }
     Ok(())
 }
@@ -49,10 +49,9 @@ impl Window {
     pub fn new(alloc: Global) -> Result<Self, AllocError>
         ensures { IfOk result (λ window. window ≡ []) }
     {
-        Ok(Window {
-            bytes: vec![in alloc; 0; FIRST_ROOM]?,
-            len: 0,
-        })
+        let mut bytes = Vec::new(alloc);
+        bytes.resize(FIRST_ROOM, 0)?;
+        Ok(Window { bytes, len: 0 })
     }
 
     /// The bytes that it holds.
