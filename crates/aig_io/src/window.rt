@@ -12,7 +12,11 @@ use std::marker::Model;
 /// How many bytes it has room for at first.
 const FIRST_ROOM: usize = 65536;
 
-/// Bytes that a source gave and that are not let go yet. It grows where they fill more than half of it.
+/// How many bytes are asked for at least.
+const LEAST_ROOM: usize = FIRST_ROOM / 2;
+
+/// Bytes that a source gave and that are not let go yet. It grows where there is little room behind them, and not
+/// sooner: what a file does not fill would be cleared in vain.
 #[derive(Drop)]
 pub struct Window {
     bytes: Vec<u8>,
@@ -29,7 +33,7 @@ impl Model for Window {
     ghost invariant = { λ w. (w.len ≤ vec_len w.bytes) × (1 < vec_len w.bytes) };
 }
 
-/// Makes room behind so many bytes, where they fill more than half of it.
+/// Makes room behind so many bytes, where there is little.
 fn make_room(bytes: &mut Vec<u8>, len: usize) -> Result<(), AllocError>
     requires some { 1 < vec_len bytes.old }
     requires within { len ≤ vec_len bytes.old }
@@ -38,7 +42,7 @@ fn make_room(bytes: &mut Vec<u8>, len: usize) -> Result<(), AllocError>
     ensures grown { vec_len bytes.old ≤ vec_len bytes.new }
 {
     let room = bytes.len();
-    if len > room / 2 {
+    if room - len < LEAST_ROOM {
         bytes.resize(2 * room, 0)?;
     }
     Ok(())
