@@ -9,14 +9,11 @@ use crate::transfer::ReadError;
 use std::alloc::{AllocError, Global};
 use std::marker::Model;
 
-/// How many bytes it has room for at first.
-const FIRST_ROOM: usize = 65536;
+/// How many bytes there is room for at first, and how much room is added where there is little.
+const PIECE: usize = 65536;
 
-/// How many bytes are asked for at least.
-const LEAST_ROOM: usize = FIRST_ROOM / 2;
-
-/// Bytes that a source gave and that are not let go yet. It grows where there is little room behind them, and not
-/// sooner: what a file does not fill would be cleared in vain.
+/// Bytes that a source gave and that are not let go yet. The room behind them is cleared, so it is added piece by piece:
+/// a piece is still in the cache when bytes come, and what a file does not fill is not cleared in vain.
 #[derive(Drop)]
 pub struct Window {
     bytes: Vec<u8>,
@@ -42,8 +39,8 @@ fn make_room(bytes: &mut Vec<u8>, len: usize) -> Result<(), AllocError>
     ensures grown { vec_len bytes.old ≤ vec_len bytes.new }
 {
     let room = bytes.len();
-    if room - len < LEAST_ROOM {
-        bytes.resize(2 * room, 0)?;
+    if room - len < PIECE / 2 {
+        bytes.resize(room + PIECE, 0)?;
     }
     Ok(())
 }
@@ -54,7 +51,7 @@ impl Window {
         ensures { IfOk result (λ window. window ≡ []) }
     {
         let mut bytes = Vec::new(alloc);
-        bytes.resize(FIRST_ROOM, 0)?;
+        bytes.resize(PIECE, 0)?;
         Ok(Window { bytes, len: 0 })
     }
 
