@@ -9,10 +9,11 @@ use crate::transfer::ReadError;
 use std::alloc::{AllocError, Global};
 use std::marker::Model;
 
-/// How many bytes it has room for at first.
-const FIRST_ROOM: usize = 65536;
+/// How many bytes there is room for at first, and how much room is added where there is little.
+const PIECE: usize = 65536;
 
-/// Bytes that a source gave and that are not let go yet. It grows where they nearly fill it.
+/// Bytes that a source gave and that are not let go yet. The room behind them is cleared, so it is added piece by piece:
+/// a piece is still in the cache when bytes come, and what a file does not fill is not cleared in vain.
 #[derive(Drop)]
 pub struct Window {
     bytes: Vec<u8>,
@@ -29,7 +30,7 @@ impl Model for Window {
     ghost invariant = { λ w. (w.len ≤ vec_len w.bytes) × (1 < vec_len w.bytes) };
 }
 
-/// Makes room behind so many bytes, where they leave an eighth of it or less.
+/// Makes room behind so many bytes, where there is little.
 fn make_room(bytes: &mut Vec<u8>, len: usize) -> Result<(), AllocError>
     requires some { 1 < vec_len bytes.old }
     requires within { len ≤ vec_len bytes.old }
@@ -38,8 +39,8 @@ fn make_room(bytes: &mut Vec<u8>, len: usize) -> Result<(), AllocError>
     ensures grown { vec_len bytes.old ≤ vec_len bytes.new }
 {
     let room = bytes.len();
-    if room - len <= room / 8 {
-        bytes.extend_from_within(0..room)?;
+    if room - len < PIECE / 2 {
+        bytes.resize(room + PIECE, 0)?;
     }
     Ok(())
 }
@@ -49,10 +50,9 @@ impl Window {
     pub fn new(alloc: Global) -> Result<Self, AllocError>
         ensures { IfOk result (λ window. window ≡ []) }
     {
-        Ok(Window {
-            bytes: vec![in alloc; 0; FIRST_ROOM]?,
-            len: 0,
-        })
+        let mut bytes = Vec::new(alloc);
+        bytes.resize(PIECE, 0)?;
+        Ok(Window { bytes, len: 0 })
     }
 
     /// The bytes that it holds.
