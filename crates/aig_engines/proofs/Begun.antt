@@ -1,45 +1,18 @@
 -- An ASCII file that is read while its source gives it: what was to be read is what is to be read.
-use Rattle.std.proofs.Common.{◌≡◌, ◌+◌, ◌≤◌, ◌∙◌, ◌⊎◌, inl, inr, ℕ, List, [], ◌∷◌, ◌++◌, drop, length, Bool, true}
+use Rattle.std.proofs.Common.{◌≡◌, ◌∙◌, inl, inr, ℕ, List, [], ◌++◌, drop, Bool, true}
 use Rattle.std.proofs.Common.{false, not}
-use Rattle.std.proofs.Common.{append_assoc, append-nil, Result, Ok, Err, refl, sym, ap, arith}
+use Rattle.std.proofs.Common.{append_assoc, append-nil, Result, Ok, Err, sym, ap}
 use Rattle.aig_circuit.specs.declared.circuit.Circuit.{Circuit}
-use Rattle.aig_io.specs.Devices.{CanFail, Past, GaveSome, failed_once, gave, gave_all, took}
+use Rattle.aig_io.specs.Devices.{CanFail, Past, gave, gave_all}
 use Rattle.aig_io.specs.Windows.{Filled}
-use Rattle.aig_io.specs.declared.transfer.ReadError.{ReadError}
-use Rattle.aig_io.specs.declared.transfer.ReadError.TheVariants as errors
-use Rattle.aig_io.proofs.Took.{took_none, took_twice}
+use Rattle.aig_io.proofs.Took.{gave_then, took_none}
 use Rattle.aig_rows.specs.declared.fault.ReadFault.{ReadFault}
 use Rattle.aig_rows.specs.Lines.{lines_of}
 use Rattle.aig_rows.specs.Outcomes.{GivesOrMemory}
 use Rattle.aig_rows.specs.Reading.{want_of_memory}
 use Rattle.aig_text.specs.declared.pieces.AsciiReader.{AsciiReader}
 use Rattle.aig_text.specs.Begun.{ReadsOn, rest_of}
-use Rattle.aig_engines.specs.Begun.{ComesOn, NotAllCame, ReadsFrom}
-
--- bytes that came one part after another
-pub gave_then : (ended : Bool) (xs ys : List ℕ) (a b c : Past) → b ≡ took xs a → c ≡ gave ys ended b
-    → c ≡ gave (xs ++ ys) ended a
-gave_then true xs ys a b c p q =
-    q ∙ ap (gave_all ys) p
-    ∙ ap (λ (bytes : List ℕ). record a { bytes = bytes; ends = a.ends + 1 }) (append_assoc a.bytes xs ys)
-gave_then false xs ys a b c p q = took_twice a b c xs ys p q
-
-pub some_later : (error : ReadError) (xs : List ℕ) (a b c : Past) → b ≡ took xs a → GaveSome error b c
-    → GaveSome error a c
-some_later errors.Source xs a b c p (bytes, q) =
-    (xs ++ bytes, q ∙ ap failed_once (took_twice a b (took bytes b) xs bytes p refl))
-some_later errors.OutOfMemory xs a b c p (bytes, ended, q) = (xs ++ bytes, ended, gave_then ended xs bytes a b c p q)
-
-pub filled_none : (u : List ℕ) (a : Past) → Filled u u true a a
-filled_none u a = record { given = []; held = sym (append-nil u); gave = took_none a }
-
-pub filled_then : (u v w : List ℕ) (more : Bool) (a b c : Past) → Filled u v true a b → Filled v w more b c
-    → Filled u w more a c
-filled_then u v w more a b c f g = record {
-  given = f.given ++ g.given;
-  held = g.held ∙ ap (λ (bytes : List ℕ). bytes ++ g.given) f.held ∙ append_assoc u f.given g.given;
-  gave = gave_then (not more) f.given g.given a b c f.gave g.gave;
-}
+use Rattle.aig_engines.specs.Begun.{ComesOn, ReadsFrom}
 
 pub first_filled : (w : List ℕ) (more : Bool) (a b : Past) → Filled [] w more a b → b ≡ gave w (not more) a
 first_filled w more a b f = f.gave ∙ ap (λ (bytes : List ℕ). gave bytes (not more) a) (sym f.held)
@@ -47,28 +20,6 @@ first_filled w more a b f = f.gave ∙ ap (λ (bytes : List ℕ). gave bytes (no
 pub can_fail_still : (ended : Bool) (xs : List ℕ) (a b : Past) → b ≡ gave xs ended a → CanFail a → CanFail b
 can_fail_still true xs a b is can = rw is can
 can_fail_still false xs a b is can = rw is can
-
-pub comes_none : (u : List ℕ) (more : Bool) (a : Past) → ComesOn u u more more a a
-comes_none u more a = record {
-  given = [];
-  all = sym (append-nil u);
-  gave = λ before bytes is. is ∙ ap (λ (zs : List ℕ). gave zs (not more) before) (sym (append-nil bytes));
-}
-
-pub comes_more : (u v w : List ℕ) (more goes_on : Bool) (a b c : Past) → ComesOn u v more true a b
-    → Filled v w goes_on b c → ComesOn u w more goes_on a c
-comes_more u v w more goes_on a b c f g = record {
-  given = f.given ++ g.given;
-  all = g.held ∙ ap (λ (bytes : List ℕ). bytes ++ g.given) f.all ∙ append_assoc u f.given g.given;
-  gave = λ before bytes is.
-      gave_then (not goes_on) (bytes ++ f.given) g.given before b c (f.gave before bytes is) g.gave
-      ∙ ap (λ (zs : List ℕ). gave zs (not goes_on) before) (append_assoc bytes f.given g.given);
-}
-
-pub comes_not : (error : ReadError) (u v : List ℕ) (more : Bool) (a b c : Past) → ComesOn u v more true a b
-    → GaveSome error b c → NotAllCame error more a c
-comes_not error u v more a b c f h =
-    λ before bytes is. some_later error (bytes ++ f.given) before b c (f.gave before bytes is) h
 
 -- reading goes on
 reads_on_then : (x y z : Result Circuit ReadFault) → ReadsOn x y → ReadsOn y z → ReadsOn x z

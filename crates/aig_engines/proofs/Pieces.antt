@@ -1,7 +1,6 @@
 -- An ASCII file whose first bytes were fetched, and whose header was read.
-use Rattle.std.proofs.Common.{◌≡◌, ◌≢◌, ◌<◌, ◌≤◌, ◌∙◌, ◌⊎◌, inl, inr, ℕ, List, [], ◌∷◌, ◌++◌, drop, length, true, false}
-use Rattle.std.proofs.Common.{append_assoc, Result, Ok, Err, refl, sym, ap, arith}
-use Rattle.std.specs.Prelude.{IfErr, IfOk}
+use Rattle.std.proofs.Common.{◌≡◌, ◌≢◌, ◌<◌, ◌≤◌, ◌∙◌, inl, inr, ℕ, List, [], ◌∷◌, ◌++◌, drop, length, true, false}
+use Rattle.std.proofs.Common.{append_assoc, Result, Ok, Err, refl, sym, ap}
 use Rattle.std.proofs.lemmas.List.{drop-append-le}
 use Rattle.aig_circuit.specs.declared.circuit.Circuit.{Circuit}
 use Rattle.aig_circuit.specs.Form.{IsInForm}
@@ -14,17 +13,17 @@ use Rattle.aig_rows.proofs.Loops.Cutting.{pieces, some_lines}
 use Rattle.aig_rows.proofs.Taken.{lines_cut}
 use Rattle.aig_text.specs.declared.pieces.AsciiReader.{AsciiReader}
 use Rattle.aig_text.specs.Begun.{rest_of}
-use Rattle.aig_text.specs.Reading.{IsFirstFault, circuit_at, fault_of, first_ascii_fault, first_word_is, reading}
+use Rattle.aig_text.specs.Reading.{circuit_at, first_word_is, reading}
 use Rattle.aig_text.specs.Reading.{unless_faulty}
 use Rattle.aig_text.proofs.Grammar.Faults.{checked_tells, line_fault}
 use Rattle.aig_text.proofs.Grammar.Text.{circuit_in_form}
 use Rattle.aig_binary.specs.BinaryGrammar.{binary_word}
 use Rattle.aig_engines.specs.declared.fault.ToolFault.{ToolFault}
 use Rattle.aig_engines.specs.declared.fault.ToolFault.TheVariants as faults
-use Rattle.aig_engines.specs.File.{IsFileOf, file_reading, first_fault}
+use Rattle.aig_engines.specs.File.{IsFileOf, file_reading}
 use Rattle.aig_engines.specs.Reading.{HasRead, IsUnreadable, NotRead}
 use Rattle.aig_engines.specs.Begun.{IsWrongRest}
-use Rattle.aig_engines.proofs.Begun.{gave_then, some_later}
+use Rattle.aig_io.proofs.Took.{gave_then, some_later}
 
 -- these first bytes begin no binary file, and the reader and the bytes that are held tell the same as they
 pub record IsBegun (limit : ℕ) (first held : List ℕ) (r : AsciiReader) : Type 0 where

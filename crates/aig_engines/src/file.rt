@@ -1,6 +1,6 @@
 //! Files of either kind.
 ghost use Rattle.std.specs.Prelude.{◌≡◌, ◌+◌, ◌^◌, ◌<◌, ◌≤◌, ◌++◌, Ok, IfOk, IfErr, IsTrue, OnOk, false};
-ghost use Rattle.std.specs.Prelude.{length, not};
+ghost use Rattle.std.specs.Prelude.{length, not, vec_len};
 ghost use Rattle.aig_io.specs.Devices.{CanFail, GaveSome, Past, gave};
 ghost use Rattle.aig_io.specs.Windows.{Filled};
 ghost use Rattle.aig_rows.specs.Lines.{lines_of};
@@ -11,7 +11,7 @@ ghost use Rattle.aig_engines.specs.Begun.{ComesOn, IsWrongRest, NotAllCame, Read
 
 use crate::fault::ToolFault;
 use aig_binary::{BINARY_WORD, read_file_keeping};
-use aig_core::{Checked, Circuit, Keep, ReadError, Source, Window};
+use aig_core::{Checked, Circuit, Keep, ReadError, Source, Window, read_to_end};
 use aig_rows::ended_lines;
 use aig_text::{AsciiReader, Limits, check_read, first_word_is};
 use std::alloc::Global;
@@ -48,18 +48,18 @@ fn fetch_line<R: Source>(source: &mut R, window: &mut Window) -> Result<bool, Re
     }
 }
 
-/// Fetches all that the source still gives, where it goes on.
-fn fetch_all<R: Source>(source: &mut R, window: &mut Window, more: bool) -> Result<(), ReadError>
+/// The bytes of the window, and all that the source still gives, where it goes on.
+fn fetch_all<R: Source>(source: &mut R, window: Window, more: bool) -> Result<Vec<u8>, ReadError>
     requires { CanFail (R.past source.old) }
-    ensures ok { OnOk result (ComesOn window.old window.new more false (R.past source.old) (R.past source.new)) }
-    ensures bound { OnOk result (length window.new ≤ R.bound source.old + length window.old) }
+    ensures ok { IfOk result (λ all. ComesOn window all.items more false (R.past source.old) (R.past source.new)) }
+    ensures bound { IfOk result (λ all. vec_len all ≤ R.bound source.old + length window) }
     ensures err { IfErr result (λ error. NotAllCame error more (R.past source.old) (R.past source.new)) }
 {
-    let mut goes_on = more;
-    while goes_on {
-        goes_on = window.fill(source)?;
+    let mut bytes = window.into_bytes();
+    if more {
+        read_to_end(source, &mut bytes)?;
     }
-    Ok(())
+    Ok(bytes)
 }
 
 /// The first bytes of a source, with a line at least, and whether it goes on.
@@ -111,21 +111,22 @@ fn read_lines<R: Source>(
 fn read_rest<R: Source>(
     alloc: Global,
     source: &mut R,
-    window: &mut Window,
+    window: Window,
     reader: AsciiReader,
 ) -> Result<Circuit, ToolFault>
     requires source { CanFail (R.past source.old) }
     requires valid { IsValid reader.header reader.progress }
-    requires counted { reader.number + length window.old + R.bound source.old ≤ 2 ^ 63 }
-    ensures ok { IfOk result (λ c. HasRead (λ bytes. rest_of reader (lines_of (window.old ++ bytes)) ≡ Ok c)
+    requires counted { reader.number + length window + R.bound source.old ≤ 2 ^ 63 }
+    ensures ok { IfOk result (λ c. HasRead (λ bytes. rest_of reader (lines_of (window ++ bytes)) ≡ Ok c)
         (R.past source.old) (R.past source.new)) }
-    ensures err { IfErr result (λ fault. NotRead (IsWrongRest reader window.old) fault
+    ensures err { IfErr result (λ fault. NotRead (IsWrongRest reader window) fault
         (R.past source.old) (R.past source.new)) }
 {
     let mut reader = reader;
-    let more = read_lines(source, window, &mut reader)?;
-    fetch_all(source, window, more)?;
-    match reader.finish(alloc, window.as_slice()) {
+    let mut window = window;
+    let more = read_lines(source, &mut window, &mut reader)?;
+    let bytes = fetch_all(source, window, more)?;
+    match reader.finish(alloc, bytes.as_slice()) {
         Ok(circuit) => Ok(circuit),
         Err(fault) => Err(ToolFault::Read(fault)),
     }
@@ -146,9 +147,7 @@ fn read_whole<R: Source>(
     ensures err { (before : Past) → R.past source.old ≡ gave window (not more) before
         → IfErr result (λ fault. NotRead (IsUnreadable limits.max_var) fault before (R.past source.new)) }
 {
-    let mut window = window;
-    fetch_all(source, &mut window, more)?;
-    let mut bytes = window.into_bytes();
+    let mut bytes = fetch_all(source, window, more)?;
     if !fit(&mut bytes) {
         return Err(ToolFault::OutOfMemory);
     }
@@ -180,7 +179,6 @@ pub fn read_circuit<R: Source>(
     let (reader, used) = AsciiReader::begin(alloc, lines, limits);
     let mut window = first;
     window.pass(used);
-    let circuit = read_rest(alloc, source, &mut window, reader)?;
-    drop(window);
+    let circuit = read_rest(alloc, source, window, reader)?;
     Ok(check_read(alloc, circuit, keep)?)
 }

@@ -1,5 +1,5 @@
 use Rattle.std.proofs.lemmas.Result.{err_from_is_err_and}
-use Rattle.aig_engines.proofs.Begun.{some_later}
+use Rattle.aig_io.proofs.Took.{some_later}
 use Rattle.aig_engines.proofs.file.fetch_line.Goals as goal
 
 pub returns-in_err-fill-clause-err : goal.returns-in_err-fill-clause-err
