@@ -1,17 +1,20 @@
 -- Signals that stand in one group.
-use Rattle.std.proofs.Common.{◌≡◌, ◌∙◌, ◌+◌, ◌-◌, ◌<◌, ◌≤◌, ◌++◌, ◌==◌, ◌||◌, ℕ, List, [], ◌∷◌, Bool, true, false, not}
-use Rattle.std.proofs.Common.{bytes_eq, length, take, drop}
+use Rattle.std.proofs.Common.{◌≡◌, ◌∙◌, ◌+◌, ◌-◌, ◌<◌, ◌≤◌, ◌++◌, ◌==◌, ◌||◌, ◌&&◌, ℕ, List, [], ◌∷◌, Bool, true, false, not}
+use Rattle.std.proofs.Common.{bytes_eq, map, length, take, drop, if◌then◌else◌}
 use Rattle.std.proofs.Common.{ap, ap₂, arith, get_or, refl, sym}
-use Rattle.std.proofs.lemmas.Bool.{false≢true}
+use Rattle.std.proofs.lemmas.Bool.{eqb-true, false≢true}
 use Rattle.std.proofs.lemmas.List.{at_drop_more, drop-drop, drop-take, take-append-drop, take-take}
 use Rattle.std.proofs.lemmas.List.Concat.{flat_map-append}
 use Rattle.std.proofs.lemmas.Slice.Eq.{bytes_eq-Decides}
-use Rattle.std.specs.List.{flat_map}
+use Rattle.std.specs.List.{AllByRecursion, flat_map}
+use Rattle.aig_circuit.proofs.Checking.InForm.{back, front}
 use Rattle.aig_wave.specs.declared.group.Group.{Group}
 use Rattle.aig_wave.specs.declared.signal.Signal.{Signal}
+use Rattle.aig_wave.specs.declared.tag.Tag.{Tag}
 use Rattle.aig_wave.specs.Frames.{frame}
 use Rattle.aig_wave.specs.Wave.{bits, change_text}
-use Rattle.aig_wave.specs.Parts.Groups.{AreGroups, Covers, IsWithin, stretch}
+use Rattle.aig_wave.specs.Parts.Groups.{AreBits, AreGroups, Covers, IsWithin, stretch}
+use Rattle.aig_wave.specs.Parts.Tags.{AreIn, bit_text, bits_text, changes_text, IsTag, place_of, signal_in}
 
 bits_within : (g : Group) (s : Signal) (line : List ℕ) → IsWithin g s
     → take s.size (drop (s.start - g.start) (stretch g line)) ≡ bits s line
@@ -40,35 +43,87 @@ module _ (time : ℕ) (g : Group) (before line : List ℕ) where
       ∙ ap (λ (t : List ℕ). take s.size (drop (s.start - g.start) t)) same ∙ bits_within g s line within in
       rw (late, (bytes_eq-Decides (bits s before) (bits s line)).1 alike) refl
 
-  none_change : (ss : List Signal) → (time == 0) ≡ false → stretch g before ≡ stretch g line → Covers g ss
-      → flat_map (change_text time (frame 0 before) (frame 0 line)) ss ≡ []
+  none_change : (ts : List Tag) → (time == 0) ≡ false → stretch g before ≡ stretch g line → Covers g ts
+      → changes_text time before line ts ≡ []
   none_change [] late same covers = refl
-  none_change (s ∷ ss) late same covers =
-      ap (λ (t : List ℕ). t ++ flat_map (change_text time (frame 0 before) (frame 0 line)) ss)
-      (no_change s late same covers.0) ∙ none_change ss late same covers.1
+  none_change (t ∷ ts) late same covers =
+      ap (λ (text : List ℕ). text ++ changes_text time before line ts)
+      (no_change (signal_in t) late same covers.0) ∙ none_change ts late same covers.1
 
   -- where the characters of a group are not new, no signal of it changes
-  pub no_changes : (ss : List Signal) (x y : List ℕ) → x ≡ stretch g before → y ≡ stretch g line
-      → false ≡ ((time == 0) || not (bytes_eq x y)) → Covers g ss
-      → flat_map (change_text time (frame 0 before) (frame 0 line)) ss ≡ []
-  no_changes ss x y p q old covers =
+  pub no_changes : (ts : List Tag) (x y : List ℕ) → x ≡ stretch g before → y ≡ stretch g line
+      → false ≡ ((time == 0) || not (bytes_eq x y)) → Covers g ts → changes_text time before line ts ≡ []
+  no_changes ts x y p q old covers =
       let is = both (time == 0) (bytes_eq x y) old in
-      none_change ss is.0 (sym p ∙ (bytes_eq-Decides x y).0 is.1 ∙ q) covers
+      none_change ts is.0 (sym p ∙ (bytes_eq-Decides x y).0 is.1 ∙ q) covers
 
-pub parted_text : (f : Signal → List ℕ) (n : ℕ) (ss front others : List Signal) → front ≡ take n ss
-    → others ≡ drop n ss → flat_map f front ++ flat_map f others ≡ flat_map f ss
-parted_text f n ss front others p q =
+one_bit : (s : Signal) (line : List ℕ) → s.size ≡ 1 → s.start < length line → bits s line ≡ get_or line s.start 0 ∷ []
+one_bit s line one low = rw (one, at_drop_more (λ (xs : List ℕ). xs) line s.start 0 low) refl
+
+shown_bit : (same : Bool) (text : List ℕ)
+    → (if same then [] else text) ≡ (if not (same && true) then text else [])
+shown_bit true text = refl
+shown_bit false text = refl
+
+module _ (time : ℕ) (before line : List ℕ) (late : (time == 0) ≡ false) where
+  bit_change : (s : Signal) → s.size ≡ 1 → s.start < length before → s.start < length line
+      → bit_text (get_or before s.start 0) (get_or line s.start 0) s
+      ≡ change_text time (frame 0 before) (frame 0 line) s
+  bit_change s one low here =
+      rw (late, one_bit s before one low, one_bit s line one here, one)
+      (shown_bit (get_or before s.start 0 == get_or line s.start 0) _)
+
+  -- signals of one position that change, as any others do
+  pub bits_change : (ts : List Tag) → AreBits ts → AreIn (length before) ts → AreIn (length line) ts
+      → bits_text before line ts ≡ changes_text time before line ts
+  bits_change [] are low here = refl
+  bits_change (t ∷ ts) are low here =
+      ap₂ (λ (a b : List ℕ). a ++ b) (bit_change (signal_in t) are.0 low.0 here.0)
+      (bits_change ts are.1 low.1 here.1)
+
+-- signals of one position stand in a line that has all of their group
+pub in_line : (g : Group) (n : ℕ) (ts : List Tag) → g.end ≤ n → Covers g ts → AreBits ts → AreIn n ts
+in_line g n [] long covers are = tt
+in_line g n (t ∷ ts) long covers are =
+    let last : place_of t + (signal_in t).size ≤ g.end = covers.0.1 in
+    let one : (signal_in t).size ≡ 1 = are.0 in
+    (omega arith, in_line g n ts long covers.1 are.1)
+
+pub parted_text : (f : Tag → List ℕ) (n : ℕ) (ts front others : List Tag) → front ≡ take n ts
+    → others ≡ drop n ts → flat_map f front ++ flat_map f others ≡ flat_map f ts
+parted_text f n ts front others p q =
     sym (flat_map-append f front others)
-    ∙ ap (flat_map f) (ap₂ (λ (x y : List Signal). x ++ y) p q ∙ take-append-drop n ss)
+    ∙ ap (flat_map f) (ap₂ (λ (x y : List Tag). x ++ y) p q ∙ take-append-drop n ts)
 
-pub next_group : (gs : List Group) (i : ℕ) (d : Group) (ss : List Signal) → i < length gs
-    → AreGroups (drop i gs) ss → AreGroups (get_or gs i d ∷ drop (i + 1) gs) ss
-next_group gs i d ss low are = rw (at_drop_more (λ (xs : List Group). xs) gs i d low) at are
+pub next_group : (gs : List Group) (i : ℕ) (d : Group) (ts : List Tag) → i < length gs
+    → AreGroups (drop i gs) ts → AreGroups (get_or gs i d ∷ drop (i + 1) gs) ts
+next_group gs i d ts low are = rw (at_drop_more (λ (xs : List Group). xs) gs i d low) at are
 
-pub next_signal : (start end : ℕ) (g : Group) (ss : List Signal) (i : ℕ) (d : Signal) → i < length ss
-    → (start ≤ (get_or ss i d).start) × ((get_or ss i d).start + (get_or ss i d).size ≤ end)
-    → g.start ≤ start → end ≤ g.end → Covers g (drop (i + 1) ss) → Covers g (drop i ss)
-next_signal start end g ss i d low here before behind rest =
+pub next_signal : (start end : ℕ) (g : Group) (ts : List Tag) (i : ℕ) (d : Tag) → i < length ts
+    → (start ≤ place_of (get_or ts i d))
+    × (place_of (get_or ts i d) + (signal_in (get_or ts i d)).size ≤ end)
+    → g.start ≤ start → end ≤ g.end → Covers g (drop (i + 1) ts) → Covers g (drop i ts)
+next_signal start end g ts i d low here before behind rest =
     let first = here.0 in
     let last = here.1 in
-    rw (at_drop_more (λ (xs : List Signal). xs) ss i d low) ((omega arith, omega arith), rest)
+    rw (at_drop_more (λ (xs : List Tag). xs) ts i d low) ((omega arith, omega arith), rest)
+
+pub next_bit : (ts : List Tag) (i : ℕ) (d : Tag) → i < length ts → (signal_in (get_or ts i d)).size ≡ 1
+    → AreBits (drop (i + 1) ts) → AreBits (drop i ts)
+next_bit ts i d low one rest =
+    rw (at_drop_more (λ (xs : List Tag). xs) ts i d low) (one, rest)
+
+pub both_true : (a : Bool) (n : ℕ) (c : Bool) → c ≡ (a && (n == 1)) → c ≡ true → (a ≡ true) × (n ≡ 1)
+both_true true n c e is = (refl, eqb-true n 1 (sym e ∙ is))
+both_true false n c e is = absurd (false≢true (sym e ∙ is))
+
+pub parted_tags : (n : ℕ) (ts these others : List Tag) → these ≡ take n ts → others ≡ drop n ts
+    → AllByRecursion IsTag ts → AllByRecursion IsTag these × AllByRecursion IsTag others
+parted_tags n ts these others p q are =
+    let all : AllByRecursion IsTag (take n ts ++ drop n ts) = rw (take-append-drop n ts) are in
+    (rw p (front IsTag (take n ts) (drop n ts) all), rw q (back IsTag (take n ts) (drop n ts) all))
+
+-- the changes of tags are those of their signals
+pub changes_of : (f : Signal → List ℕ) (ts : List Tag) → flat_map (λ t. f (signal_in t)) ts ≡ flat_map f (map signal_in ts)
+changes_of f [] = refl
+changes_of f (t ∷ ts) = ap (λ (text : List ℕ). f (signal_in t) ++ text) (changes_of f ts)

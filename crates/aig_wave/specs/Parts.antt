@@ -3,4 +3,5 @@
 pub mod Points
 pub mod Cuts
 pub mod Taking
+pub mod Tags
 pub mod Groups

@@ -1,20 +1,21 @@
 //! Groups of signals, whose characters are compared at once.
-ghost use Rattle.std.specs.Prelude.{◌≡◌, ◌≤◌, IfOk, drop, length, take};
-ghost use Rattle.aig_wave.specs.Parts.Groups.{AreGroups, Covers, IsWithin, stretch};
+ghost use Rattle.std.specs.Prelude.{◌≡◌, ◌<◌, ◌≤◌, ◌&&◌, ◌==◌, IfOk, IsTrue, drop, length, take, true};
+ghost use Rattle.aig_wave.specs.Parts.Groups.{AreBits, AreGroups, Covers, IsGroup, IsWithin, stretch};
+ghost use Rattle.aig_wave.specs.declared.bits.TheConstants.{GROUP};
 
+use crate::bits::GROUP;
 use crate::signal::Signal;
+use crate::tag::Tag;
 use aig_circuit::OutOfMemory;
 use std::alloc::Global;
 
-/// How many signals are in a group.
-const GROUP: usize = 32;
-
-/// So many signals, and between where their characters stand in a line.
+/// So many signals, between where their characters stand in a line, and whether each has one position.
 #[derive(Clone, Copy)]
 pub struct Group {
     count: usize,
     start: usize,
     end: usize,
+    bits: bool,
 }
 
 /// The larger of two numbers.
@@ -41,6 +42,7 @@ impl Group {
         ensures within { IfOk result (λ g. IsWithin g signal.now) }
         ensures start { IfOk result (λ g. g.start ≤ self.start) }
         ensures end { IfOk result (λ g. self.end ≤ g.end) }
+        ensures bits { IfOk result (λ g. g.bits ≡ (self.bits && (signal.now.size == 1))) }
     {
         let Some(end) = signal.start.checked_add(signal.size as usize) else {
             return Err(OutOfMemory);
@@ -49,27 +51,30 @@ impl Group {
             count: self.count,
             start: self.start.min(signal.start),
             end: larger(self.end, end),
+            bits: self.bits && signal.size == 1,
         })
     }
 
     /// The group of these signals.
-    fn of(signals: &[Signal]) -> Result<Self, OutOfMemory>
-        ensures count { IfOk result (λ g. g.count ≡ length signals.now) }
-        ensures covers { IfOk result (λ g. Covers g signals.now) }
+    fn of(tags: &[Tag]) -> Result<Self, OutOfMemory>
+        ensures count { IfOk result (λ g. g.count ≡ length tags.now) }
+        ensures group { IfOk result (λ g. IsGroup g tags.now) }
     {
         let mut group = Group {
             count: 0,
             start: usize::MAX,
             end: 0,
+            bits: tags.len() <= GROUP,
         };
-        for signal in signals {
-            let wider = group.widened(signal)?;
+        for tag in tags {
+            let wider = group.widened(&tag.signal)?;
             group = wider;
         }
         Ok(Group {
-            count: signals.len(),
+            count: tags.len(),
             start: group.start,
             end: group.end,
+            bits: group.bits,
         })
     }
 
@@ -81,24 +86,48 @@ impl Group {
         piece(line, self.start, self.end.saturating_sub(self.start))
     }
 
+    /// Whether each of its signals has one position, and that is in a line.
+    #[inline(always)]
+    pub(crate) fn has_bits_in(&self, line: &[u8]) -> bool
+        ensures bits { IsTrue result → self.now.bits ≡ true }
+        ensures within { IsTrue result → self.now.end ≤ length line.now }
+    {
+        self.bits && self.end <= line.len()
+    }
+
     /// The signals of the group, which stand first, and the others.
     #[inline(always)]
-    pub(crate) fn parted<'a>(&self, signals: &'a [Signal]) -> (&'a [Signal], &'a [Signal])
-        ensures front { result.0.now ≡ take self.now.count signals.now }
-        ensures others { result.1.now ≡ drop self.now.count signals.now }
+    pub(crate) fn parted<'a>(&self, tags: &'a [Tag]) -> (&'a [Tag], &'a [Tag])
+        ensures front { result.0.now ≡ take self.now.count tags.now }
+        ensures others { result.1.now ≡ drop self.now.count tags.now }
     {
-        signals.split_at(self.count.min(signals.len()))
+        tags.split_at(self.count.min(tags.len()))
     }
 }
 
+/// How many signals the next group has: the first one, and those behind it that have one position, or more, as it has.
+fn next_count(tags: &[Tag]) -> usize
+    ensures within { result ≤ length tags.now }
+    ensures some { 0 < length tags.now → 0 < result }
+{
+    let mut count = tags.len().min(1);
+    while count < tags.len() && count < GROUP {
+        if (tags[count].signal.size == 1) != (tags[0].signal.size == 1) {
+            return count;
+        }
+        count += 1;
+    }
+    count
+}
+
 /// Signals in groups.
-pub(crate) fn groups_of(alloc: Global, signals: &[Signal]) -> Result<Vec<Group>, OutOfMemory>
-    ensures { IfOk result (λ groups. AreGroups groups.items signals.now) }
+pub(crate) fn groups_of(alloc: Global, tags: &[Tag]) -> Result<Vec<Group>, OutOfMemory>
+    ensures { IfOk result (λ groups. AreGroups groups.items tags.now) }
 {
     let mut groups = Vec::new(alloc);
-    let mut rest = signals;
+    let mut rest = tags;
     while rest.len() > 0 {
-        let (front, others) = rest.split_at(rest.len().min(GROUP));
+        let (front, others) = rest.split_at(next_count(rest));
         groups.push(Group::of(front)?)?;
         rest = others;
     }

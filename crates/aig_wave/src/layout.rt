@@ -1,6 +1,6 @@
 //! What a dump shows of a circuit.
-ghost use Rattle.std.specs.Prelude.{◌≡◌, ◌+◌, ◌≤◌, ◌++◌, IfOk, OnOk, length};
-ghost use Rattle.std.specs.List.{flat_map};
+ghost use Rattle.std.specs.Prelude.{◌≡◌, ◌+◌, ◌≤◌, ◌++◌, IfOk, OnOk, length, map};
+ghost use Rattle.std.specs.List.{AllByRecursion, flat_map};
 ghost use Rattle.aig_circuit.specs.Wellformed.{IsWithinLimits, count_of};
 ghost use Rattle.aig_circuit.specs.declared.circuit.TheConstants.{LARGEST};
 ghost use Rattle.aig_meaning.specs.Trace.{reset_state, reset_value};
@@ -8,6 +8,7 @@ ghost use Rattle.aig_step.specs.TraceText.{character_of, values_text};
 ghost use Rattle.aig_wave.specs.Head.{head, scope_text};
 ghost use Rattle.aig_wave.specs.Layout.{layout_of};
 ghost use Rattle.aig_wave.specs.Parts.Groups.{AreGroups};
+ghost use Rattle.aig_wave.specs.Parts.Tags.{IsTag, signal_in};
 ghost use Rattle.aig_wave.specs.Places.{kinds};
 ghost use Rattle.aig_wave.specs.Signals.{signals_of};
 
@@ -15,6 +16,7 @@ use crate::group::{Group, groups_of};
 use crate::head::{put_closing, put_opening, put_scope};
 use crate::place::{next_place, width};
 use crate::signal::{Signal, add_signals, names_of};
+use crate::tag::{Tag, tags_of};
 use aig_circuit::{Circuit, Kind, Latch, OutOfMemory, Reset};
 use std::alloc::Global;
 use std::marker::Model;
@@ -23,7 +25,8 @@ use std::marker::Model;
 #[derive(Drop)]
 pub(crate) struct Layout {
     head: Vec<u8>,
-    signals: Vec<Signal>,
+    /// The signals.
+    tags: Vec<Tag>,
     /// The signals in groups.
     groups: Vec<Group>,
     resets: Vec<u8>,
@@ -32,21 +35,23 @@ pub(crate) struct Layout {
 }
 
 impl Model for Layout {
-    ghost use Rattle.std.specs.Prelude.{◌+◌, ◌≤◌, length};
+    ghost use Rattle.std.specs.Prelude.{◌+◌, ◌≤◌, length, map};
+    ghost use Rattle.std.specs.List.{AllByRecursion};
     ghost use Rattle.aig_wave.specs.Layout.{Layout as LayoutRecord};
     ghost use Rattle.aig_wave.specs.Parts.Groups.{AreGroups};
+    ghost use Rattle.aig_wave.specs.Parts.Tags.{IsTag, signal_in};
 
     ghost Value = { LayoutRecord };
 
     ghost view = { λ w. record {
       head = w.head.items;
-      signals = w.signals.items;
+      signals = map signal_in w.tags.items;
       resets = w.resets.items;
       next = w.next;
       width = w.width;
     } };
 
-    ghost invariant = { λ w. (w.next + length w.resets.items ≤ w.width) × AreGroups w.groups.items w.signals.items };
+    ghost invariant = { λ w. (w.next + length w.resets.items ≤ w.width) × AllByRecursion IsTag w.tags.items × AreGroups w.groups.items w.tags.items };
 }
 
 /// Adds the scope and the signals of a kind.
@@ -118,11 +123,13 @@ impl Layout {
         ensures { IfOk result (λ w. w ≡ layout_of circuit.now) }
     {
         let (head, signals) = head_and_signals(alloc, circuit)?;
-        let groups = groups_of(alloc, signals.as_slice())?;
+        let tags = tags_of(alloc, signals.as_slice())?;
+        drop(signals);
+        let groups = groups_of(alloc, tags.as_slice())?;
         let resets = resets_of(alloc, circuit)?;
         Ok(Layout {
             head,
-            signals,
+            tags,
             groups,
             resets,
             next: next_place(circuit),
@@ -136,16 +143,13 @@ impl Layout {
         self.head.as_slice()
     }
 
-    pub(crate) fn signals(&self) -> &[Signal]
-        ensures { result.now ≡ self.now.signals }
+    /// The signals, and their groups.
+    pub(crate) fn tags(&self) -> (&[Tag], &[Group])
+        ensures signals { map signal_in result.0.now ≡ self.now.signals }
+        ensures tags { AllByRecursion IsTag result.0.now }
+        ensures groups { AreGroups result.1.now result.0.now }
     {
-        self.signals.as_slice()
-    }
-
-    pub(crate) fn groups(&self) -> &[Group]
-        ensures { AreGroups result.now self.now.signals }
-    {
-        self.groups.as_slice()
+        (self.tags.as_slice(), self.groups.as_slice())
     }
 
     pub(crate) fn resets(&self) -> &[u8]

@@ -7,6 +7,7 @@
 //! tells what it stands on.
 #![tactic(auto)]
 
+mod bits;
 mod digit;
 mod fresh;
 mod group;
@@ -15,8 +16,10 @@ pub mod laws;
 mod layout;
 mod name;
 mod place;
+mod reversed;
 mod room;
 mod signal;
+mod tag;
 mod tape;
 mod wave;
 mod waver;

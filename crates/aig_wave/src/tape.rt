@@ -1,20 +1,22 @@
 //! Frames, put one after the other.
 ghost use Rattle.std.specs.Prelude.{◌≡◌, ◌+◌, ◌-◌, ◌^◌, ◌<◌, ◌≤◌, ◌++◌, [], IfOk, length, replicate};
-ghost use Rattle.std.specs.Prelude.{reverse, false, if◌then◌else◌, bytes_eq, codes, not, ◌==◌, ◌||◌, ◌∷◌};
+ghost use Rattle.std.specs.Prelude.{false, if◌then◌else◌, bytes_eq, not, ◌==◌, ◌||◌};
 ghost use Rattle.std.specs.Fmt.{digits};
-ghost use Rattle.std.specs.List.{flat_map};
+ghost use Rattle.std.specs.List.{AllByRecursion};
 ghost use Rattle.aig_io.specs.Output.{Put};
 ghost use Rattle.aig_wave.specs.Frames.{closing_line, frame, next_state};
-ghost use Rattle.aig_wave.specs.Head.{code};
 ghost use Rattle.aig_wave.specs.Wave.{bits, change_text, frame_text, run_text, time_text, value_text};
-ghost use Rattle.aig_wave.specs.Parts.Groups.{AreGroups, Covers};
+ghost use Rattle.aig_wave.specs.Parts.Groups.{AreGroups, IsGroup};
 ghost use Rattle.aig_wave.specs.Parts.Points.{begin_of, behind_line, head_at, line_piece};
+ghost use Rattle.aig_wave.specs.Parts.Tags.{IsTag, changes_text, signal_in};
 
+use crate::bits::put_bits;
 use crate::digit::write_digits;
 use crate::group::Group;
 use crate::layout::Layout;
-use crate::place::letter;
+use crate::reversed::put_reversed;
 use crate::signal::Signal;
+use crate::tag::Tag;
 use aig_circuit::OutOfMemory;
 use aig_io::{Output, Sink};
 use aig_step::is_stop;
@@ -33,17 +35,6 @@ fn bits<'a>(signal: &Signal, line: &'a [u8]) -> &'a [u8]
     front
 }
 
-/// Puts characters from the last to the first.
-fn put_reversed<W: Sink>(output: &mut Output<W>, bytes: &[u8])
-    ensures { Put output.old output.new (reverse bytes.now) }
-{
-    let mut at = bytes.len();
-    while at > 0 {
-        at -= 1;
-        output.put(&[bytes[at]]);
-    }
-}
-
 /// Puts the value of a signal.
 fn put_value<W: Sink>(output: &mut Output<W>, signal: &Signal, characters: &[u8])
     ensures { Put output.old output.new (value_text signal.now characters.now) }
@@ -57,15 +48,8 @@ fn put_value<W: Sink>(output: &mut Output<W>, signal: &Signal, characters: &[u8]
     output.put(b" ");
 }
 
-/// Puts the identifier code of a signal.
-fn put_code<W: Sink>(output: &mut Output<W>, signal: &Signal)
-    ensures { Put output.old output.new (code signal.now) }
-{
-    output.put(&[letter(signal.kind)]);
-    output.put_number(u64::from(signal.first));
-}
-
 /// Whether characters are shown at this time: at the first, and where they are others than before.
+#[inline(always)]
 fn is_new(time: u64, before: &[u8], characters: &[u8]) -> bool
     ensures { result ≡ ((time == 0) || not (bytes_eq before.now characters.now)) }
 {
@@ -79,74 +63,26 @@ fn is_new_run(time: u64, before: u64, run: u64) -> bool
     time == 0 || before != run
 }
 
-/// Whether a character is shown at this time.
-fn is_new_bit(time: u64, before: u8, bit: u8) -> bool
-    ensures { result ≡ ((time == 0) || not (before == bit)) }
-{
-    time == 0 || before != bit
-}
-
-/// Puts the value of a signal of one position, where it is another one than before.
-fn put_bit<W: Sink>(output: &mut Output<W>, time: u64, before: u8, bit: u8, signal: &Signal)
-    ensures { Put output.old output.new
-        (if (time == 0) || not (before == bit) then bit ∷ (code signal.now ++ codes "\n") else []) }
-{
-    if is_new_bit(time, before, bit) {
-        output.put(&[bit, letter(signal.kind)]);
-        output.put_number(u64::from(signal.first));
-        output.put(b"\n");
-    }
-}
-
-/// Puts the value of a signal of any size, where it is another one than before.
-fn put_vector<W: Sink>(
-    output: &mut Output<W>,
-    time: u64,
-    before: &[u8],
-    line: &[u8],
-    signal: &Signal,
-)
-    ensures { Put output.old output.new (change_text time (frame 0 before.now) (frame 0 line.now) signal.now) }
-{
-    let characters = bits(signal, line);
-    if is_new(time, bits(signal, before), characters) {
-        put_value(output, signal, characters);
-        put_code(output, signal);
-        output.put(b"\n");
-    }
-}
-
 /// Puts the value of a signal, where it is another one than before.
-fn put_change<W: Sink>(
-    output: &mut Output<W>,
-    time: u64,
-    before: &[u8],
-    line: &[u8],
-    signal: &Signal,
-)
-    ensures { Put output.old output.new (change_text time (frame 0 before.now) (frame 0 line.now) signal.now) }
+fn put_change<W: Sink>(output: &mut Output<W>, time: u64, before: &[u8], line: &[u8], tag: &Tag)
+    requires { IsTag tag.now }
+    ensures { Put output.old output.new
+        (change_text time (frame 0 before.now) (frame 0 line.now) (signal_in tag.now)) }
 {
-    let at = signal.start;
-    if signal.size == 1 && at < before.len() && at < line.len() {
-        put_bit(output, time, before[at], line[at], signal);
-        return;
+    let characters = bits(&tag.signal, line);
+    if is_new(time, bits(&tag.signal, before), characters) {
+        put_value(output, &tag.signal, characters);
+        output.put(tag.tail());
     }
-    put_vector(output, time, before, line, signal);
 }
 
 /// Puts the values of signals, where they are others than before.
-fn put_signals<W: Sink>(
-    output: &mut Output<W>,
-    time: u64,
-    before: &[u8],
-    line: &[u8],
-    signals: &[Signal],
-)
-    ensures { Put output.old output.new
-        (flat_map (change_text time (frame 0 before.now) (frame 0 line.now)) signals.now) }
+fn put_tags<W: Sink>(output: &mut Output<W>, time: u64, before: &[u8], line: &[u8], tags: &[Tag])
+    requires { AllByRecursion IsTag tags.now }
+    ensures { Put output.old output.new (changes_text time before.now line.now tags.now) }
 {
-    for signal in signals {
-        put_change(output, time, before, line, signal);
+    for tag in tags {
+        put_change(output, time, before, line, tag);
     }
 }
 
@@ -157,14 +93,34 @@ fn put_group<W: Sink>(
     before: &[u8],
     line: &[u8],
     group: &Group,
-    signals: &[Signal],
+    tags: &[Tag],
 )
-    requires { Covers group.now signals.now }
-    ensures { Put output.old output.new
-        (flat_map (change_text time (frame 0 before.now) (frame 0 line.now)) signals.now) }
+    requires group { IsGroup group.now tags.now }
+    requires tags { AllByRecursion IsTag tags.now }
+    ensures { Put output.old output.new (changes_text time before.now line.now tags.now) }
+{
+    if time > 0 && group.has_bits_in(before) && group.has_bits_in(line) {
+        put_bits(output, before, line, tags);
+    } else {
+        put_tags(output, time, before, line, tags);
+    }
+}
+
+/// Puts the values of the signals of a group, where the characters of the group are others than before.
+fn put_new_group<W: Sink>(
+    output: &mut Output<W>,
+    time: u64,
+    before: &[u8],
+    line: &[u8],
+    group: &Group,
+    tags: &[Tag],
+)
+    requires group { IsGroup group.now tags.now }
+    requires tags { AllByRecursion IsTag tags.now }
+    ensures { Put output.old output.new (changes_text time before.now line.now tags.now) }
 {
     if is_new(time, group.stretch(before), group.stretch(line)) {
-        put_signals(output, time, before, line, signals);
+        put_group(output, time, before, line, group, tags);
     }
 }
 
@@ -175,16 +131,16 @@ fn put_changes<W: Sink>(
     before: &[u8],
     line: &[u8],
     groups: &[Group],
-    signals: &[Signal],
+    tags: &[Tag],
 )
-    requires { AreGroups groups.now signals.now }
-    ensures { Put output.old output.new
-        (flat_map (change_text time (frame 0 before.now) (frame 0 line.now)) signals.now) }
+    requires groups { AreGroups groups.now tags.now }
+    requires tags { AllByRecursion IsTag tags.now }
+    ensures { Put output.old output.new (changes_text time before.now line.now tags.now) }
 {
-    let mut rest = signals;
+    let mut rest = tags;
     for group in groups {
         let (front, others) = group.parted(rest);
-        put_group(output, time, before, line, group, front);
+        put_new_group(output, time, before, line, group, front);
         rest = others;
     }
 }
@@ -194,8 +150,7 @@ fn put_time<W: Sink>(output: &mut Output<W>, time: u64)
     ensures { Put output.old output.new (time_text time) }
 {
     output.put(b"#");
-    output.put_number(time);
-    output.put(b"\n");
+    output.put_row(time, &[]);
 }
 
 /// Puts a number in binary.
@@ -242,14 +197,22 @@ fn put_frame<W: Sink>(output: &mut Output<W>, layout: &Layout, time: u64, before
     put_head(output, layout, time);
     put_time(output, time);
     put_run(output, time, before.run, shot.run);
-    put_changes(
-        output,
-        time,
-        before.line,
-        shot.line,
-        layout.groups(),
-        layout.signals(),
-    );
+    let (tags, groups) = layout.tags();
+    put_changes(output, time, before.line, shot.line, groups, tags);
+}
+
+/// The state in which the next line stands, where this is the line before, and the run has a step or not.
+fn state<'a>(layout: &'a Layout, before: &'a [u8], ran: bool) -> &'a [u8]
+    requires { length before.now ≡ layout.now.width }
+    ensures value { result.now ≡ (if ran then next_state layout.now before.now else layout.now.resets) }
+    ensures within { length result.now ≤ layout.now.width }
+{
+    let resets = layout.resets();
+    if ran {
+        let next = layout.next();
+        return &before[next..next + resets.len()];
+    }
+    resets
 }
 
 /// Writes the line at the end of a run: the state, and z for all else.
@@ -268,8 +231,8 @@ pub(crate) struct Tape {
     layout: Layout,
     time: u64,
     run: u64,
-    /// The state in which the next line stands.
-    state: Vec<u8>,
+    /// Whether the run has a step.
+    ran: bool,
     /// The frame before.
     before: Vec<u8>,
     before_run: u64,
@@ -278,8 +241,8 @@ pub(crate) struct Tape {
 }
 
 impl Model for Tape {
-    ghost use Rattle.std.specs.Prelude.{◌≡◌, ◌≤◌, length};
-    ghost use Rattle.aig_wave.specs.Frames.{frame};
+    ghost use Rattle.std.specs.Prelude.{◌≡◌, ◌≤◌, length, if◌then◌else◌};
+    ghost use Rattle.aig_wave.specs.Frames.{frame, next_state};
     ghost use Rattle.aig_wave.specs.Parts.Points.{Taping};
 
     ghost Value = { Taping };
@@ -289,13 +252,13 @@ impl Model for Tape {
       point = record {
         time = t.time;
         run = t.run;
-        state = t.state.items;
+        state = if t.ran then next_state t.layout t.before.items else t.layout.resets;
         before = frame t.before_run t.before.items;
       };
     } };
 
-    ghost invariant = { λ t. (t.run ≤ t.time) × (length t.state.items ≡ length t.layout.resets)
-        × (length t.before.items ≡ t.layout.width) × (length t.closing.items ≡ t.layout.width) };
+    ghost invariant = { λ t. (t.run ≤ t.time) × (length t.before.items ≡ t.layout.width)
+        × (length t.closing.items ≡ t.layout.width) };
 }
 
 impl Tape {
@@ -303,18 +266,24 @@ impl Tape {
     pub(crate) fn new(alloc: Global, layout: Layout) -> Result<Self, OutOfMemory>
         ensures { IfOk result (λ t. t ≡ record { layout = layout; point = begin_of layout }) }
     {
-        let state = Vec::from_slice(alloc, layout.resets())?;
         let before = vec![in alloc; b'z'; layout.width()]?;
         let closing = vec![in alloc; b'z'; layout.width()]?;
         Ok(Tape {
             layout,
             time: 0,
             run: 0,
-            state,
+            ran: false,
             before,
             before_run: 0,
             closing,
         })
+    }
+
+    /// How long the line of a step is.
+    pub(crate) fn width(&self) -> usize
+        ensures { result ≡ self.now.layout.width }
+    {
+        self.layout.width()
     }
 
     /// The time of the next frame.
@@ -348,11 +317,9 @@ impl Tape {
             line: text,
         };
         put_frame(output, &self.layout, self.time, before, shot);
-        let resets = self.layout.resets();
-        let next = self.layout.next();
-        self.state.copy_from_slice(&text[next..next + resets.len()]);
         self.before.copy_from_slice(text);
         self.before_run = self.run;
+        self.ran = true;
         self.time += 1;
     }
 
@@ -371,8 +338,8 @@ impl Tape {
             self.old.layout self.old.point.time self.old.point.before
             (frame self.old.point.run (closing_line self.old.layout self.old.point.state))) }
     {
-        let resets = self.layout.resets();
-        write_closing(self.closing.as_mut_slice(), self.state.as_slice());
+        let state = state(&self.layout, self.before.as_slice(), self.ran);
+        write_closing(self.closing.as_mut_slice(), state);
         let before = Shot {
             run: self.before_run,
             line: self.before.as_slice(),
@@ -382,9 +349,9 @@ impl Tape {
             line: self.closing.as_slice(),
         };
         put_frame(output, &self.layout, self.time, before, shot);
-        self.state.copy_from_slice(resets);
         self.before.copy_from_slice(self.closing.as_slice());
         self.before_run = self.run;
+        self.ran = false;
         self.run += 1;
         self.time += 1;
     }

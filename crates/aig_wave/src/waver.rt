@@ -9,6 +9,7 @@ ghost use Rattle.aig_wave.specs.Frames.{frames_of};
 ghost use Rattle.aig_wave.specs.Layout.{Layout as LayoutRecord};
 ghost use Rattle.aig_wave.specs.Wave.{dump};
 ghost use Rattle.aig_wave.specs.Parts.Taking.{TookEnded};
+ghost use Rattle.memchr.specs.Find.{IsFirstByte, is_byte};
 
 use crate::room::WaveRoom;
 use crate::tape::Tape;
@@ -20,6 +21,22 @@ use std::marker::Model;
 /// The last time at which a block may still come.
 const LAST: u64 = u64::MAX - ROOM as u64 - 1;
 
+/// Among so many first bytes a line feed is looked for without a search, which costs most where lines are short.
+const FEW: usize = 16;
+
+/// Where the first line feed is.
+#[inline(always)]
+fn first_line_feed(bytes: &[u8]) -> Option<usize>
+    ensures { IsFirstByte (is_byte 10) bytes.now result }
+{
+    for at in 0..bytes.len().min(FEW) {
+        if bytes[at] == b'\n' {
+            return Some(at);
+        }
+    }
+    memchr(b'\n', bytes)
+}
+
 /// Where the dump stands, the line that is coming, and the output. It remembers that its sink failed.
 #[derive(Drop)]
 pub(crate) struct Waver<'a, W: Sink> {
@@ -30,6 +47,7 @@ pub(crate) struct Waver<'a, W: Sink> {
 }
 
 impl<'a, W: Sink> Model for Waver<'a, W> {
+    ghost use Rattle.std.specs.Prelude.{◌≡◌, ◌+◌};
     ghost use Rattle.aig_wave.specs.Dumping.{Waving};
 
     ghost Value = { Waving W };
@@ -39,6 +57,8 @@ impl<'a, W: Sink> Model for Waver<'a, W> {
       kept = s.kept;
       output = s.output;
     } };
+
+    ghost invariant = { λ s. s.kept.room ≡ s.tape.layout.width + 2 };
 }
 
 impl<'a, W: Sink> Waver<'a, W> {
@@ -61,6 +81,10 @@ impl<'a, W: Sink> Waver<'a, W> {
         requires { self.old.tape.point.time < 2 ^ 64 - 1 }
         ensures { TookEnded self.old self.new piece.now }
     {
+        if self.kept.is_empty() && piece.len() <= self.tape.width() {
+            self.tape.take_line(&mut self.output, piece);
+            return;
+        }
         self.kept.keep(piece);
         self.tape.take_line(&mut self.output, self.kept.as_slice());
         self.kept.clear();
@@ -73,7 +97,7 @@ impl<'a, W: Sink> Waver<'a, W> {
             → Dumps w o self.new (text ++ bytes.now) }
     {
         let mut rest = bytes;
-        while let Some(at) = memchr(b'\n', rest) {
+        while let Some(at) = first_line_feed(rest) {
             let (piece, others) = rest.split_at(at);
             self.take_ended(piece);
             let (_, others) = others.split_at(1);

@@ -4,27 +4,37 @@ use Rattle.aig_io.proofs.Puts.{put_nothing, put_twice}
 use Rattle.aig_wave.specs.declared.group.Group.{Group}
 use Rattle.aig_wave.specs.Frames.{frame}
 use Rattle.aig_wave.specs.Wave.{change_text}
+use Rattle.aig_wave.specs.declared.tag.Tag.{Tag}
 use Rattle.aig_wave.specs.Parts.Groups.{AreGroups}
-use Rattle.aig_wave.proofs.Grouped.{next_group, parted_text}
+use Rattle.aig_wave.specs.Parts.Tags.{signal_in}
+use Rattle.aig_wave.proofs.Grouped.{next_group, parted_tags, parted_text}
 use Rattle.aig_wave.proofs.tape.put_changes.Goals as goal
 
-pub put_group-requires : goal.put_group-requires
-put_group-requires g c =
+pub put_new_group-requires-clause-group : goal.put_new_group-requires-clause-group
+put_new_group-requires-clause-group g c =
     rw c.parted.ensures.front
     (next_group c.args.groups.now c.loop-group.group-index _ c.loop-group.rest.now c.loop-group-test.true
     c.loop-group.invariant.groups).0
 
+pub put_new_group-requires-clause-tags : goal.put_new_group-requires-clause-tags
+put_new_group-requires-clause-tags g c =
+    (parted_tags _ c.loop-group.rest.now _ _ c.parted.ensures.front c.parted.ensures.others
+    c.loop-group.invariant.tags).0
+
 pub loop-group-preserved : goal.loop-group-preserved
 loop-group-preserved g c =
-    let f = change_text c.args.time (frame 0 c.args.before.now) (frame 0 c.args.line.now) in
+    let f = λ (t : Tag). change_text c.args.time (frame 0 c.args.before.now) (frame 0 c.args.line.now) (signal_in t) in
+    let parts = parted_tags _ c.loop-group.rest.now _ _ c.parted.ensures.front c.parted.ensures.others
+    c.loop-group.invariant.tags in
     record {
+      tags = parts.1;
       groups = rw c.parted.ensures.others
           (next_group c.args.groups.now c.loop-group.group-index _ c.loop-group.rest.now c.loop-group-test.true
           c.loop-group.invariant.groups).1;
       left = λ o left.
           c.loop-group.invariant.left o
           (rw (parted_text f _ c.loop-group.rest.now _ _ c.parted.ensures.front c.parted.ensures.others) at
-          (put_twice _ _ _ _ _ c.put_group.ensures left));
+          (put_twice _ _ _ _ _ c.put_new_group.ensures left));
     }
 
 pub returns : goal.returns

@@ -1,11 +1,15 @@
+use Rattle.std.proofs.Common.{◌∙◌, ap}
+use Rattle.std.specs.List.{flat_map}
 use Rattle.aig_io.proofs.Puts.{put_twice}
+use Rattle.aig_wave.specs.Frames.{frame}
+use Rattle.aig_wave.specs.Wave.{change_text}
+use Rattle.aig_wave.proofs.Grouped.{changes_of}
 use Rattle.aig_wave.proofs.tape.put_frame.Goals as goal
-
-pub put_changes-requires : goal.put_changes-requires
-put_changes-requires g c = rw c.signals.ensures c.groups.ensures
 
 pub returns : goal.returns
 returns g c =
+    let f = change_text c.args.time (frame 0 c.args.before.line.now) (frame 0 c.args.shot.line.now) in
     put_twice _ _ _ _ _ c.put_head.ensures
     (put_twice _ _ _ _ _ c.put_time.ensures
-    (put_twice _ _ _ _ _ c.put_run.ensures (rw c.signals.ensures at c.put_changes.ensures)))
+    (put_twice _ _ _ _ _ c.put_run.ensures
+    (rw (changes_of f c.tags.result.0.now ∙ ap (flat_map f) c.tags.ensures.signals) at c.put_changes.ensures)))

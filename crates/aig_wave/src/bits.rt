@@ -1,0 +1,78 @@
+//! Changes of signals of one position, each written whole where it is to stand.
+ghost use Rattle.std.specs.Prelude.{◌≡◌, ◌+◌, ◌*◌, ◌≤◌, ◌==◌, ◌++◌, length, take, if◌then◌else◌};
+ghost use Rattle.std.specs.List.{AllByRecursion};
+ghost use Rattle.aig_io.specs.Output.{Put};
+ghost use Rattle.aig_wave.specs.declared.bits.TheConstants.{GROUP};
+ghost use Rattle.aig_wave.specs.declared.tag.TheConstants.{TAIL};
+ghost use Rattle.aig_wave.specs.Parts.Tags.{AreIn, IsTag, bit_text, bits_text, signal_in};
+
+use crate::tag::{TAIL, Tag, write_text};
+use aig_io::{Line, Output, Sink};
+
+/// How many signals are written at once.
+pub(crate) const GROUP: usize = 32;
+
+/// 1 where two bytes differ, else 0. It has no branch, since nothing foretells which bits change.
+#[inline(always)]
+fn is_other(one: u8, other: u8) -> usize
+    ensures { result ≡ (if one == other then 0 else 1) }
+{
+    (usize::from(one.wrapping_sub(other)) + 255) / 256
+}
+
+/// Writes the change of a signal of one position, and answers where it ends: where it begins, if nothing changes.
+#[inline(always)]
+fn write_bit(bytes: &mut [u8], at: usize, before: u8, bit: u8, tag: &Tag) -> usize
+    requires room { at + (TAIL + 1) ≤ length bytes.old }
+    requires tag { IsTag tag.now }
+    ensures within { result ≤ at + (TAIL + 1) }
+    ensures text { take result bytes.new ≡ take at bytes.old ++ bit_text before bit (signal_in tag.now) }
+{
+    let end = write_text(bytes, at, &[bit]);
+    write_text(bytes, end, &tag.tail);
+    at + (tag.size + 1) * is_other(before, bit)
+}
+
+/// Signals of one position, and two lines.
+#[derive(Drop)]
+struct Bits<'a> {
+    before: &'a [u8],
+    line: &'a [u8],
+    tags: &'a [Tag],
+}
+
+impl<'a> Line for Bits<'a> {
+    type State = ();
+
+    ghost is_whole = { λ l _. AllByRecursion IsTag l.tags.now
+        × (AreIn (length l.before.now) l.tags.now × AreIn (length l.line.now) l.tags.now) };
+
+    ghost size = { λ l _. length l.tags.now * (TAIL + 1) };
+
+    ghost text = { λ l _. bits_text l.before.now l.line.now l.tags.now };
+
+    ghost leads = { λ _ _ _. Unit {0} };
+
+    #[inline(always)]
+    fn write(&self, _state: &mut (), line: &mut [u8], at: usize) -> usize {
+        let mut end = at;
+        for tag in self.tags {
+            let place = tag.signal.start;
+            end = write_bit(line, end, self.before[place], self.line[place], tag);
+        }
+        end
+    }
+}
+
+/// Puts the values of signals of one position, where they are others than before.
+#[inline(always)]
+pub(crate) fn put_bits<W: Sink>(output: &mut Output<W>, before: &[u8], line: &[u8], tags: &[Tag])
+    requires few { length tags.now ≤ GROUP }
+    requires tags { AllByRecursion IsTag tags.now }
+    requires before { AreIn (length before.now) tags.now }
+    requires line { AreIn (length line.now) tags.now }
+    ensures { Put output.old output.new (bits_text before.now line.now tags.now) }
+{
+    let mut room = [0u8; GROUP * (TAIL + 1)];
+    output.put_line(&mut room, &Bits { before, line, tags }, &mut ());
+}
