@@ -5,3 +5,4 @@ pub mod Reported
 pub mod InOrder
 pub mod Properties
 pub mod Parted
+pub mod Operands

@@ -2,9 +2,12 @@
 -- a gate's position, or 0 at the end of a list.
 use Rattle.std.specs.Prelude.{ℕ, zero, suc, ◌≡◌, ◌<◌, List, [], ◌∷◌, map, length, slice_index_or}
 use Rattle.std.specs.List.{AllByRecursion}
+use Rattle.aig_circuit.specs.declared.circuit.Gate.{Gate}
+use Rattle.aig_topo.specs.declared.lists.GateNeeds.{GateNeeds}
 use Rattle.aig_topo.specs.declared.lists.GateNode.{GateNode}
 use Rattle.aig_topo.specs.declared.operands.Needs.{Needs}
 use Rattle.aig_circuit.specs.Wellformed.{AreDistinct}
+use Rattle.aig_topo.specs.Needs.{how_many, needs_of}
 
 -- the gate behind one in its list, and the first of its own list
 pub record Link : Type 0 where
@@ -62,3 +65,10 @@ pub record AreLists (links : List Link) : Type 0 where
   pub ends : (gate : ℕ) → LeadsTo links (first_of links gate) (list_of links gate)
   pub once : (gate : ℕ) → AreDistinct (list_of links gate)
   pub below : (gate : ℕ) → AllByRecursion (λ g. g < length links) (list_of links gate)
+
+-- what these gates need, how many each of them needs, and a list for each that is empty yet
+pub record AreNeedsOf (gates : List Gate) (all : GateNeeds) : Type 0 where
+  pub needs : needs_in all.lists.rows.items ≡ map (needs_of gates) gates
+  pub counts : all.counts.items ≡ map how_many (needs_in all.lists.rows.items)
+  pub lists : AreLists (links_in all.lists.rows.items)
+  pub empty : (gate : ℕ) → list_in all.lists.rows.items gate ≡ []

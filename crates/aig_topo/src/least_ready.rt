@@ -1,14 +1,14 @@
 //! The least ready order.
 ghost use Rattle.std.specs.Prelude.{◌≡◌, ◌+◌, ◌*◌, ◌<◌, ◌≤◌, ℕ, suc, length, slice_index, IfOk};
 ghost use Rattle.aig_topo.specs.Order.{IsLeastReadyOrder, gate_operands, left_over, operands_over};
-ghost use Rattle.aig_topo.specs.Lists.{needs_in};
+ghost use Rattle.aig_topo.specs.Lists.{needs_in, AreNeedsOf};
 ghost use Rattle.aig_topo.specs.Needs.{AreThere};
 ghost use Rattle.aig_topo.specs.Progress.{CountsDown, CountsFor};
 ghost use Rattle.aig_topo.specs.Waiting.{rest_by};
 
 use crate::least_ready::ready::Ready;
 use crate::least_ready::taking::{count_if_taken, look_at_all};
-use crate::lists::Lists;
+use crate::lists::{GateNeeds, Lists};
 use crate::order::Order;
 use aig_circuit::{Circuit, LARGEST, OutOfMemory};
 use std::alloc::Global;
@@ -56,6 +56,30 @@ fn count_rests(order: &mut Order, lists: &Lists)
     }
 }
 
+/// The least ready order of a circuit's gates, by what they need. Each listed gate is one step, and so is each operand
+/// over its variable; every gate still waits for its operands over gates that are not listed.
+pub fn order_by_needs(
+    alloc: Global,
+    circuit: &Circuit,
+    needs: GateNeeds,
+) -> Result<Order, OutOfMemory>
+    requires few { length circuit.now.gates ≤ LARGEST }
+    requires needs { AreNeedsOf circuit.now.gates needs }
+    ensures least { IfOk result (λ order. IsLeastReadyOrder circuit.now order.list) }
+    ensures as_many { IfOk result (λ order. length order.waiting ≡ length circuit.now.gates) }
+    ensures waiting { IfOk result (λ order. (gate : ℕ) → gate < length circuit.now.gates
+        → slice_index order.waiting gate ≡ left_over order.list (gate_operands circuit.now.gates gate)) }
+    ensures steps { IfOk result (λ order. order.steps ≡ length order.list + operands_over circuit.now order.list) }
+    ensures few { IfOk result (λ order. order.steps ≤ 3 * length circuit.now.gates) }
+{
+    let mut lists = needs.lists;
+    let mut order = Order::waiting_for(alloc, needs.counts)?;
+    let mut ready = Ready::new(alloc, circuit.gates.len() as u32)?;
+    look_at_all(&mut order, &mut lists, &mut ready);
+    count_rests(&mut order, &lists);
+    Ok(order)
+}
+
 /// The least ready order of a circuit's gates. Each listed gate is one step, and so is each operand over its variable;
 /// every gate still waits for its operands over gates that are not listed.
 pub fn gate_order(alloc: Global, circuit: &Circuit) -> Result<Order, OutOfMemory>
@@ -67,10 +91,6 @@ pub fn gate_order(alloc: Global, circuit: &Circuit) -> Result<Order, OutOfMemory
     ensures steps { IfOk result (λ order. order.steps ≡ length order.list + operands_over circuit.now order.list) }
     ensures few { IfOk result (λ order. order.steps ≤ 3 * length circuit.now.gates) }
 {
-    let (mut lists, counts) = Lists::new(alloc, circuit)?;
-    let mut order = Order::waiting_for(alloc, counts)?;
-    let mut ready = Ready::new(alloc, lists.len() as u32)?;
-    look_at_all(&mut order, &mut lists, &mut ready);
-    count_rests(&mut order, &lists);
-    Ok(order)
+    let needs = GateNeeds::new(alloc, circuit)?;
+    order_by_needs(alloc, circuit, needs)
 }

@@ -1,7 +1,8 @@
 //! The order of a circuit's gates, and cycles among them.
 //!
 //! Others call `gate_order`, which makes the least ready order of the gates and counts its steps; `Order`, which it is;
-//! and `first_cyclic_gate`, which finds a cycle without an order.
+//! `GateNeeds`, by which a caller sees first what gates need, with `order_by_needs`; and `first_cyclic_gate`, which finds
+//! a cycle without an order.
 //!
 //! The definition that matters most is `IsLeastReadyOrder`.
 #![tactic(auto)]
@@ -13,5 +14,7 @@ mod operands;
 mod order;
 
 pub use crate::cycle::first_cyclic_gate;
-pub use crate::least_ready::gate_order;
+pub use crate::least_ready::{gate_order, order_by_needs};
+pub use crate::lists::GateNeeds;
+pub use crate::operands::Needs;
 pub use crate::order::Order;

@@ -1,9 +1,9 @@
 //! What is still to be asked of each gate, and a list of gates for each gate, in one table.
-ghost use Rattle.std.specs.Prelude.{◌≡◌, ◌≢◌, ◌<◌, ◌≤◌, ℕ, List, [], ◌∷◌, length, map, slice_set, IfOk};
+ghost use Rattle.std.specs.Prelude.{◌≡◌, ◌≢◌, ◌<◌, ◌≤◌, ℕ, List, [], ◌∷◌, length, map, slice_index_or, slice_set, IfOk};
 ghost use Rattle.std.specs.Option.{IfSome, IfNone};
 ghost use Rattle.aig_circuit.specs.Wellformed.{IsAmong};
-ghost use Rattle.aig_topo.specs.Needs.{linked, needs_of, how_many, under};
-ghost use Rattle.aig_topo.specs.Lists.{needs_in, links_in, first_of, list_in, AreLists};
+ghost use Rattle.aig_topo.specs.Needs.{linked, needs_of, no_needs, how_many, under};
+ghost use Rattle.aig_topo.specs.Lists.{needs_in, links_in, first_of, list_in, AreLists, AreNeedsOf};
 ghost use Rattle.aig_topo.specs.Waiting.{needs_by, rest_by};
 
 use crate::operands::{Needs, gate_index, look_up};
@@ -142,5 +142,37 @@ impl Lists {
         let gate = first - 1;
         self.rows[list as usize].first = self.rows[gate as usize].next;
         Some(gate)
+    }
+}
+
+/// What the gates of a circuit need. Each operand is looked up once, and what comes behind goes by positions.
+#[derive(Drop)]
+pub struct GateNeeds {
+    pub(crate) lists: Lists,
+    /// How many gates each of them needs, 0 to 2.
+    pub(crate) counts: Vec<u8>,
+}
+
+impl GateNeeds {
+    /// What the gates of a circuit need.
+    pub fn new(alloc: Global, circuit: &Circuit) -> Result<Self, AllocError>
+        requires { length circuit.now.gates ≤ LARGEST }
+        ensures { IfOk result (λ all. AreNeedsOf circuit.now.gates all) }
+    {
+        let (lists, counts) = Lists::new(alloc, circuit)?;
+        Ok(GateNeeds { lists, counts })
+    }
+
+    /// What the gate of this position needs.
+    #[inline(always)]
+    pub fn get(&self, gate: u32) -> Needs
+        requires { gate < length self.now.lists.rows.items }
+        ensures { result ≡ slice_index_or (needs_in self.now.lists.rows.items) gate no_needs }
+    {
+        let row = self.lists.rows[gate as usize];
+        Needs {
+            left: row.next,
+            right: row.rest,
+        }
     }
 }

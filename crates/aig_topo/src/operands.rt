@@ -13,9 +13,9 @@ use std::alloc::{AllocError, Global};
 
 /// The gates that a gate's operands are over: each is one more than its position, or 0 where there is none.
 #[derive(Clone, Copy)]
-pub(crate) struct Needs {
-    pub(crate) left: u32,
-    pub(crate) right: u32,
+pub struct Needs {
+    pub left: u32,
+    pub right: u32,
 }
 
 impl Needs {

@@ -1,6 +1,6 @@
 -- Repeats, unknown literals and faults over sections end to end, as the loops over each section tell them.
 use Rattle.std.proofs.Common.{◌≡◌, ℕ, List, [], ◌∷◌, ◌++◌, true, false, cond, Option, None, Some}
-use Rattle.std.proofs.Common.{refl, sym, ap, ◌∙◌, inl, ⊎_elim, map}
+use Rattle.std.proofs.Common.{refl, sym, ap, ◌∙◌, inl, ⊎_elim, map, arith}
 use Rattle.std.specs.List.{concat, flat_map}
 use Rattle.std.specs.Option.{option_map, option_or}
 use Rattle.std.specs.Ordering.{nat_cmp}
@@ -13,9 +13,11 @@ use Rattle.aig_circuit.specs.declared.circuit.Latch.{Latch}
 use Rattle.aig_circuit.specs.declared.circuit.Gate.{Gate}
 use Rattle.aig_circuit.specs.declared.circuit.Circuit.{Circuit}
 use Rattle.aig_core.specs.declared.fault.CheckFault.{CheckFault}
-use Rattle.aig_core.specs.declared.fault.CheckFault.TheVariants.{Redefined}
+use Rattle.aig_core.specs.declared.fault.CheckFault.TheVariants.{Redefined, Cyclic}
 use Rattle.aig_circuit.specs.Wellformed.{defined_variables, literal_lists, used_literals, operands}
-use Rattle.aig_core.specs.Fault.{first_repeat, first_redefinition, first_unknown, with_all, is_known, IsFault}
+use Rattle.aig_core.specs.Fault.{first_repeat, first_redefinition, first_unknown, first_undefined, first_structural_fault}
+use Rattle.aig_core.specs.Fault.{with_all, is_known, IsFault}
+use Rattle.aig_topo.specs.Order.{first_cyclic}
 use Rattle.aig_circuit.proofs.Checking.Joined.{defined_inputs, defined_latches, defined_gates, used_nexts}
 use Rattle.aig_circuit.proofs.Checking.Joined.{defined_is}
 
@@ -123,3 +125,12 @@ pub unknowns : (s : FinSet nat_cmp) (c : Circuit)
 unknowns s c =
     sym (unknown_append s (map (λ (l : Latch). l.next) c.latches ++ concat (literal_lists c))
     (flat_map operands c.gates))
+
+-- where nothing is defined twice and what is used outside of gates is known, the first fault is that of gates
+pub fault_of_gates : (c : Circuit) → first_repeat set.empty (defined_variables c) ≡ None
+    → first_unknown (with_all set.empty (defined_variables c))
+    (map (λ (l : Latch). l.next) c.latches ++ concat (literal_lists c)) ≡ None
+    → first_structural_fault c
+    ≡ option_or (first_undefined (with_all set.empty (defined_variables c)) (flat_map operands c.gates))
+    (option_map Cyclic (first_cyclic c.gates))
+fault_of_gates c once ends = grind (arith, common_steps, once, ends, unknowns (with_all set.empty (defined_variables c)) c)

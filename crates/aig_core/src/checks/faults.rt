@@ -1,15 +1,15 @@
 //! What is wrong with a circuit: the first variable that is defined twice, or else the first literal that is used and
 //! not defined, or else the first gate that depends on a cycle.
-ghost use Rattle.std.specs.Prelude.{◌≡◌, ◌≤◌, ◌*◌, ◌++◌, IfOk, IfErr, OnOk, None, map, true, false};
+ghost use Rattle.std.specs.Prelude.{◌≡◌, ◌≤◌, ◌||◌, ◌*◌, ◌++◌, IfOk, IfErr, OnOk, None, Some, length, map, nat_lt, if◌then◌else◌};
 ghost use Rattle.std.specs.List.{concat, flat_map};
 ghost use Rattle.std.specs.Option.{option_map, option_to_list, IfSome};
 ghost use Rattle.std.specs.FinSet as set;
-ghost use Rattle.aig_circuit.specs.Wellformed.{defined_variables, literal_lists, used_literals};
+ghost use Rattle.aig_circuit.specs.Wellformed.{defined_variables, literal_lists, operands};
 ghost use Rattle.aig_core.specs.Fault.{first_structural_fault, first_repeat, first_redefinition, first_unknown};
-ghost use Rattle.aig_core.specs.Fault.{with_all};
-ghost use Rattle.aig_core.specs.Fault.{is_known, IsFault};
+ghost use Rattle.aig_core.specs.Fault.{first_undefined, with_all, is_known, IsFault};
 ghost use Rattle.aig_circuit.specs.Form.{IsInForm};
 ghost use Rattle.aig_topo.specs.Order.{first_cyclic, IsLeastReadyOrder};
+ghost use Rattle.aig_topo.specs.Lists.{AreNeedsOf};
 ghost use Rattle.aig_core.specs.declared.fault.CheckFault.TheVariants.{Cyclic as CyclicFault};
 ghost use Rattle.aig_core.specs.Parts.InOrder.{are_in_order, has_gates_in_order};
 ghost use Rattle.aig_circuit.specs.declared.circuit.TheConstants.{LARGEST as largest};
@@ -18,7 +18,7 @@ use crate::checks::Keep;
 use crate::fault::CheckFault;
 use aig_circuit::{Circuit, Entry, Gate, LARGEST, Listing, Lit, OutOfMemory};
 use aig_tables::VarSet;
-use aig_topo::{Order, first_cyclic_gate, gate_order};
+use aig_topo::{GateNeeds, Needs, Order, first_cyclic_gate, order_by_needs};
 use std::alloc::Global;
 
 /// Adds the variable that an entry defines to those that were seen, unless it was seen before.
@@ -119,15 +119,20 @@ fn define_in_order<T: Entry>(seen: &mut VarSet, entries: &Listing<T>) -> Result<
     Ok(in_order)
 }
 
-/// The variables that inputs and latches define, unless one of them is defined twice.
-fn definitions_before_gates(alloc: Global, circuit: &Circuit) -> Result<VarSet, CheckFault>
+/// The variables that inputs and latches define, unless one of them is defined twice, in a set that is fast for about so
+/// many.
+fn definitions_before_gates(
+    alloc: Global,
+    circuit: &Circuit,
+    expected: usize,
+) -> Result<VarSet, CheckFault>
     ensures variables { IfOk result (λ variables.
         variables ≡ with_all set.empty (circuit.now.inputs ++ map (λ l. l.var) circuit.now.latches)) }
     ensures ok { OnOk result
         (first_repeat set.empty (circuit.now.inputs ++ map (λ l. l.var) circuit.now.latches) ≡ None) }
     ensures err { IfErr result (λ e. IsFault e (first_redefinition set.empty (defined_variables circuit.now))) }
 {
-    let mut variables = VarSet::new(alloc, circuit.definition_count(), circuit.max_var)?;
+    let mut variables = VarSet::new(alloc, expected, circuit.max_var)?;
     define_all(&mut variables, &circuit.inputs)?;
     define_all(&mut variables, &circuit.latches)?;
     Ok(variables)
@@ -141,7 +146,7 @@ fn definitions(alloc: Global, circuit: &Circuit) -> Result<(VarSet, bool), Check
     ensures ok { OnOk result (first_repeat set.empty (defined_variables circuit.now) ≡ None) }
     ensures err { IfErr result (λ e. IsFault e (first_redefinition set.empty (defined_variables circuit.now))) }
 {
-    let mut variables = definitions_before_gates(alloc, circuit)?;
+    let mut variables = definitions_before_gates(alloc, circuit, circuit.definition_count())?;
     let in_order = define_in_order(&mut variables, &circuit.gates)?;
     Ok((variables, in_order))
 }
@@ -151,7 +156,7 @@ pub(crate) fn find_redefinition(alloc: Global, circuit: &Circuit) -> Result<(), 
     ensures ok { OnOk result (first_repeat set.empty (defined_variables circuit.now) ≡ None) }
     ensures err { IfErr result (λ e. IsFault e (first_redefinition set.empty (defined_variables circuit.now))) }
 {
-    let mut variables = definitions_before_gates(alloc, circuit)?;
+    let mut variables = definitions_before_gates(alloc, circuit, circuit.definition_count())?;
     define_all(&mut variables, &circuit.gates)
 }
 
@@ -177,11 +182,67 @@ fn first_undefined_end(variables: &VarSet, circuit: &Circuit) -> Option<Lit>
     next.or_else(|| unknown_in_lists(variables, &circuit.literal_lists()))
 }
 
-/// The first literal that a circuit uses, of those that are no constants and over none of the variables.
-fn first_undefined(variables: &VarSet, circuit: &Circuit) -> Option<Lit>
-    ensures { result ≡ first_unknown variables.now (used_literals circuit.now) }
+/// Whether an operand is a constant, or over a gate, as what is needed for it tells, or over one of the variables that
+/// are defined before gates.
+#[inline(always)]
+fn knows_operand(before: &VarSet, need: u32, literal: Lit) -> bool
+    ensures { result ≡ (nat_lt 0 need || is_known before.now literal) }
 {
-    first_undefined_end(variables, circuit).or_else(|| first_unknown_use(variables, &circuit.gates))
+    need > 0 || knows(before, literal)
+}
+
+/// The first operand of a gate that is not known.
+#[inline(always)]
+fn unknown_operand(before: &VarSet, needs: Needs, gate: &Gate) -> Option<Lit>
+    ensures { result ≡ if nat_lt 0 needs.left || is_known before.now gate.now.left
+        then (if nat_lt 0 needs.right || is_known before.now gate.now.right then None else Some gate.now.right)
+        else Some gate.now.left }
+{
+    if !knows_operand(before, needs.left, gate.left) {
+        return Some(gate.left);
+    }
+    if !knows_operand(before, needs.right, gate.right) {
+        return Some(gate.right);
+    }
+    None
+}
+
+/// The first literal that gates use, of those that are no constants and that the circuit does not define. What is over
+/// a gate is not looked up again.
+fn first_unknown_operand(before: &VarSet, needs: &GateNeeds, circuit: &Circuit) -> Option<Lit>
+    requires few { length circuit.now.gates ≤ largest }
+    requires needs { AreNeedsOf circuit.now.gates needs.now }
+    requires before { before.now ≡ with_all set.empty (circuit.now.inputs ++ map (λ l. l.var) circuit.now.latches) }
+    ensures { result ≡ first_unknown (with_all set.empty (defined_variables circuit.now))
+        (flat_map operands circuit.now.gates) }
+{
+    let gates = circuit.gates.as_slice();
+    for at in 0..gates.len() {
+        if let Some(literal) = unknown_operand(before, needs.get(at as u32), &gates[at]) {
+            return Some(literal);
+        }
+    }
+    None
+}
+
+/// What the gates of a circuit need that defines no variable twice, or the first literal that they use and that it does
+/// not define.
+fn known_needs(alloc: Global, circuit: &Circuit) -> Result<GateNeeds, CheckFault>
+    requires in_form { IsInForm circuit.now }
+    requires once { first_repeat set.empty (defined_variables circuit.now) ≡ None }
+    ensures needs { IfOk result (λ needs. AreNeedsOf circuit.now.gates needs) }
+    ensures ok { OnOk result (first_unknown (with_all set.empty (defined_variables circuit.now))
+        (flat_map operands circuit.now.gates) ≡ None) }
+    ensures err { IfErr result (λ e. IsFault e (first_undefined
+        (with_all set.empty (defined_variables circuit.now)) (flat_map operands circuit.now.gates))) }
+{
+    let needs = GateNeeds::new(alloc, circuit)?;
+    let expected = circuit.inputs.len() + circuit.latches.len();
+    let before = definitions_before_gates(alloc, circuit, expected)?;
+    match first_unknown_operand(&before, &needs, circuit) {
+        Some(literal) => Err(CheckFault::Undefined(literal)),
+        None => Ok(needs),
+    }
 }
 
 /// The literal of a gate.
@@ -192,14 +253,15 @@ fn own_literal(gate: &Gate) -> Lit
     Lit(2 * gate.var.0)
 }
 
-/// The least ready order of the gates, or the literal of the first one that depends on a cycle.
-fn order_of_all(alloc: Global, circuit: &Circuit) -> Result<Order, CheckFault>
-    requires { IsInForm circuit.now }
+/// The least ready order of the gates, by what they need, or the literal of the first one that depends on a cycle.
+fn order_of_all(alloc: Global, circuit: &Circuit, needs: GateNeeds) -> Result<Order, CheckFault>
+    requires in_form { IsInForm circuit.now }
+    requires needs { AreNeedsOf circuit.now.gates needs }
     ensures ok { OnOk result (first_cyclic circuit.now.gates ≡ None) }
     ensures least { IfOk result (λ order. IsLeastReadyOrder circuit.now order.list) }
     ensures err { IfErr result (λ e. IsFault e (option_map CyclicFault (first_cyclic circuit.now.gates))) }
 {
-    let order = gate_order(alloc, circuit)?;
+    let order = order_by_needs(alloc, circuit, needs)?;
     match order.first_left() {
         Some(gate) => Err(CheckFault::Cyclic(own_literal(&circuit.gates.as_slice()[gate]))),
         None => Ok(order),
@@ -219,26 +281,37 @@ fn find_cycle(alloc: Global, circuit: &Circuit) -> Result<(), CheckFault>
     }
 }
 
-/// The first fault of a circuit but for cycles. Where there is none, whether its gates stand in order, so that there is
-/// no cycle.
-fn find_fault_but_cycles(alloc: Global, circuit: &Circuit) -> Result<bool, CheckFault>
-    requires { IsInForm circuit.now }
-    ensures cycles { IfOk result (λ in_order. in_order ≡ false
-        → first_structural_fault circuit.now ≡ option_map CyclicFault (first_cyclic circuit.now.gates)) }
-    ensures in_order { IfOk result (λ in_order. in_order ≡ true → first_structural_fault circuit.now ≡ None) }
+/// The first fault of a circuit but for what its gates use: a variable that is defined twice, or else a literal that is
+/// used outside of gates and not defined. Where there is none, the variables that it defines, and whether its gates
+/// stand in order.
+fn find_fault_outside_gates(alloc: Global, circuit: &Circuit) -> Result<(VarSet, bool), CheckFault>
+    ensures variables { IfOk result (λ found. found.0 ≡ with_all set.empty (defined_variables circuit.now)) }
+    ensures in_order { IfOk result (λ found. found.1 ≡ has_gates_in_order circuit.now) }
+    ensures once { OnOk result (first_repeat set.empty (defined_variables circuit.now) ≡ None) }
+    ensures ok { OnOk result (first_unknown (with_all set.empty (defined_variables circuit.now))
+        (map (λ l. l.next) circuit.now.latches ++ concat (literal_lists circuit.now)) ≡ None) }
     ensures err { IfErr result (λ e. IsFault e (first_structural_fault circuit.now)) }
 {
     let (variables, in_order) = definitions(alloc, circuit)?;
-    if in_order && first_undefined_end(&variables, circuit).is_none() {
-        return Ok(true);
-    }
-    match first_undefined(&variables, circuit) {
+    match first_undefined_end(&variables, circuit) {
         Some(literal) => Err(CheckFault::Undefined(literal)),
-        None => Ok(false),
+        None => Ok((variables, in_order)),
+    }
+}
+
+/// The first literal that gates use and that is over none of the variables, as a fault.
+fn find_undefined_operand(variables: &VarSet, circuit: &Circuit) -> Result<(), CheckFault>
+    ensures ok { OnOk result (first_unknown variables.now (flat_map operands circuit.now.gates) ≡ None) }
+    ensures err { IfErr result (λ e. IsFault e (first_undefined variables.now (flat_map operands circuit.now.gates))) }
+{
+    match first_unknown_use(variables, &circuit.gates) {
+        Some(literal) => Err(CheckFault::Undefined(literal)),
+        None => Ok(()),
     }
 }
 
 /// The first fault of a circuit. Where there is none, the order of its gates, if that is to be kept and had to be made.
+/// Each map of its variables is let go before the next one is made.
 pub(crate) fn find_fault(
     alloc: Global,
     circuit: &Circuit,
@@ -249,12 +322,19 @@ pub(crate) fn find_fault(
     ensures least { IfOk result (λ some. IfSome some (λ order. IsLeastReadyOrder circuit.now order.list)) }
     ensures err { IfErr result (λ e. IsFault e (first_structural_fault circuit.now)) }
 {
-    if find_fault_but_cycles(alloc, circuit)? {
+    let (variables, in_order) = find_fault_outside_gates(alloc, circuit)?;
+    if in_order {
         return Ok(None);
     }
     match keep {
-        Keep::Order => Ok(Some(order_of_all(alloc, circuit)?)),
+        Keep::Order => {
+            drop(variables);
+            let needs = known_needs(alloc, circuit)?;
+            Ok(Some(order_of_all(alloc, circuit, needs)?))
+        }
         Keep::Circuit => {
+            find_undefined_operand(&variables, circuit)?;
+            drop(variables);
             find_cycle(alloc, circuit)?;
             Ok(None)
         }

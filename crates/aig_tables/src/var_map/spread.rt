@@ -15,7 +15,7 @@ use std::collections::BTreeMap;
 use std::marker::Model;
 
 /// How many variables there are in a bucket on average.
-const VARIABLES_PER_BUCKET: usize = 3;
+const VARIABLES_PER_BUCKET: usize = 4;
 
 /// The most buckets that there may be.
 const MOST_BUCKETS: usize = u32::MAX as usize;

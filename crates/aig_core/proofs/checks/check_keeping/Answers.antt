@@ -1,4 +1,3 @@
-use Rattle.std.proofs.Common.{rules}
 use Rattle.aig_core.proofs.Checking.Faultless.{refuted, well_formed}
 use Rattle.aig_core.proofs.checks.check_keeping.Goals as goal
 
