@@ -28,8 +28,9 @@ fn write_bit(bytes: &mut [u8], at: usize, before: u8, bit: u8, tag: &Tag) -> usi
     ensures within { result ≤ at + (TAIL + 1) }
     ensures text { take result bytes.new ≡ take at bytes.old ++ bit_text before bit (signal_in tag.now) }
 {
+    let tail = tag.tail;
     let end = write_text(bytes, at, &[bit]);
-    write_text(bytes, end, &tag.tail);
+    write_text(bytes, end, &tail);
     at + (tag.size + 1) * is_other(before, bit)
 }
 

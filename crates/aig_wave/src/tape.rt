@@ -23,6 +23,9 @@ use aig_step::is_stop;
 use std::alloc::Global;
 use std::marker::Model;
 
+/// To put so few signals costs no more than to compare their group first.
+const FEW: usize = 4;
+
 /// The characters of a signal in a line.
 #[inline(always)]
 fn bits<'a>(signal: &Signal, line: &'a [u8]) -> &'a [u8]
@@ -106,7 +109,7 @@ fn put_group<W: Sink>(
     }
 }
 
-/// Puts the values of the signals of a group, where the characters of the group are others than before.
+/// Puts the values of the signals of a group, where the characters of the group are others than before, or are few.
 fn put_new_group<W: Sink>(
     output: &mut Output<W>,
     time: u64,
@@ -119,7 +122,7 @@ fn put_new_group<W: Sink>(
     requires tags { AllByRecursion IsTag tags.now }
     ensures { Put output.old output.new (changes_text time before.now line.now tags.now) }
 {
-    if is_new(time, group.stretch(before), group.stretch(line)) {
+    if tags.len() <= FEW || is_new(time, group.stretch(before), group.stretch(line)) {
         put_group(output, time, before, line, group, tags);
     }
 }
@@ -146,6 +149,7 @@ fn put_changes<W: Sink>(
 }
 
 /// Puts a time.
+#[inline(always)]
 fn put_time<W: Sink>(output: &mut Output<W>, time: u64)
     ensures { Put output.old output.new (time_text time) }
 {
@@ -190,6 +194,7 @@ struct Shot<'a> {
 }
 
 /// Puts a frame behind another, and the head before the first.
+#[inline(always)]
 fn put_frame<W: Sink>(output: &mut Output<W>, layout: &Layout, time: u64, before: Shot, shot: Shot)
     ensures { Put output.old output.new (head_at layout.now time ++ frame_text layout.now time
         (frame before.entry.run before.entry.line.now) (frame shot.entry.run shot.entry.line.now)) }

@@ -5,5 +5,5 @@ use Rattle.aig_wave.proofs.tape.put_new_group.Goals as goal
 pub returns-else-is_new : goal.returns-else-is_new
 returns-else-is_new g c =
     rw (no_changes c.args.time c.args.group.now c.args.before.now c.args.line.now c.args.tags.now _ _
-    c.stretch.ensures c.stretch-2.ensures c.if-is_new.ensures c.requires.group.covers)
+    c.stretch.ensures c.stretch-else-tags-le-FEW.ensures c.if-is_new.ensures c.requires.group.covers)
     (put_nothing _)
