@@ -9,4 +9,5 @@ pub mod WitnessesUnrolled
 pub mod Texts
 pub mod Dumps
 pub mod Begun
+pub mod BinaryPieces
 pub mod Pieces
