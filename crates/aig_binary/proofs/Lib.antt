@@ -3,6 +3,8 @@ pub mod OneByOne
 pub mod Defined
 pub mod Stages
 pub mod Grammar
+pub mod Joined
+pub mod Front
 pub mod Written
 pub mod Canonical
 pub mod Files

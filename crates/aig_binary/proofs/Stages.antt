@@ -1,25 +1,18 @@
 -- The steps of reading a binary file, one after another.
 use Rattle.std.proofs.Common.{rules}
 use Rattle.std.proofs.lemmas.List.{length-map}
-use Rattle.std.proofs.Common.{◌≡◌, ◌+◌, ℕ, zero, suc, List, [], ◌∷◌, map, length, Ok, Err, refl, sym, ap, ◌∙◌, ◌⊎◌}
+use Rattle.std.proofs.Common.{◌≡◌, ◌+◌, ℕ, zero, suc, List, [], ◌∷◌, map, length, Ok, Err, refl, sym, ap, ◌∙◌}
 use Rattle.std.specs.Prelude.{slice_index}
-use Rattle.std.proofs.Common.{inl, inr}
 use Rattle.aig_circuit.specs.declared.circuit.Circuit.{Circuit}
-use Rattle.aig_circuit.specs.declared.circuit.Gate.{Gate}
-use Rattle.aig_core.specs.Names.{nothing_named}
-use Rattle.aig_rows.specs.declared.fault.ReadFault.{ReadFault}
-use Rattle.aig_rows.specs.Lines.{Line, Ahead, ahead, lines_of}
+use Rattle.aig_rows.specs.Lines.{Ahead}
 use Rattle.aig_text.specs.declared.header_line.Header.{Header}
 use Rattle.aig_rows.specs.declared.row.NextState.{NextState}
-use Rattle.aig_text.specs.Sections.{latches_from, sections, no_lines, in_binary}
+use Rattle.aig_text.specs.Sections.{latches_from, no_lines}
 use Rattle.aig_rows.specs.Rows.{Form, next_form, next_of}
 use Rattle.aig_rows.specs.Outcomes.{rows_meant}
-use Rattle.aig_text.specs.Reading.{header_at, section_at, sections_at, empty_circuit, tail_at}
-use Rattle.aig_rows.specs.Reading.{◌>>=◌, Found, at_line, carried_on, row_at, rows_at, want_of_memory}
-use Rattle.aig_rows.proofs.Loops.Cutting.{pieces}
+use Rattle.aig_text.specs.Reading.{section_at}
+use Rattle.aig_rows.specs.Reading.{◌>>=◌, Found, carried_on, row_at, rows_at}
 use Rattle.aig_rows.proofs.Steps.{both_ok}
-use Rattle.aig_binary.specs.BinaryGrammar.{binary_word}
-use Rattle.aig_binary.specs.BinaryReading.{filled, gates_at, with_definitions, binary_at}
 use Rattle.aig_binary.specs.Parts.NextStates.{latches_by}
 use Rattle.aig_binary.proofs.Defined.{latches_of_rows}
 
@@ -38,40 +31,6 @@ module _ (h : Header) (c : Circuit) where
 pub nothing_found : (h : Header) (c : Circuit) (at : Ahead) → section_at no_lines h c at ≡ Ok (c, at)
 unfolding rows_at
 nothing_found h c at = refl
-
-module _ (limit : ℕ) (ls : List Line) where
-  pub no_header : (e : ReadFault) → header_at binary_word limit (ahead 1 ls) ≡ Err e → binary_at limit ls ≡ Err e
-  unfolding binary_at
-  no_header e r = rw r refl
-
-  module _ (p : Header) (at : Ahead) (is : header_at binary_word limit (ahead 1 ls) ≡ Ok (p, at)) where
-    pub not_filled : (e : ReadFault) → at_line 1 (filled p) ≡ Err e → binary_at limit ls ≡ Err e
-    unfolding binary_at
-    not_filled e r = rw (is, r) refl
-
-    module _ (h : Header) (all : at_line 1 (filled p) ≡ Ok h) where
-      pub no_sections : (e : ReadFault)
-          → (e ≡ want_of_memory) ⊎ (sections_at in_binary h sections (empty_circuit h.max_var) at ≡ Err e)
-          → (e ≡ want_of_memory) ⊎ (binary_at limit ls ≡ Err e)
-      unfolding binary_at
-      no_sections e (inl m) = inl m
-      no_sections e (inr r) = inr (rw (is, all, r) refl)
-
-      module _ (c : Circuit) (n : ℕ) (bytes : List ℕ)
-          (found : sections_at in_binary h sections (empty_circuit h.max_var) at ≡ Ok (c, ahead n (lines_of bytes)))
-        where
-          pub no_gates : (e : ReadFault)
-              → (e ≡ want_of_memory) ⊎ (gates_at (1 + h.inputs + h.latches) 1 h.gates bytes ≡ Err e)
-              → (e ≡ want_of_memory) ⊎ (binary_at limit ls ≡ Err e)
-          unfolding binary_at
-          no_gates e (inl m) = inl m
-          no_gates e (inr r) = inr (rw (is, all, found, (pieces bytes).joined, r) refl)
-
-          pub then_tail : (gates : List Gate) (behind : List ℕ)
-              → gates_at (1 + h.inputs + h.latches) 1 h.gates bytes ≡ Ok (gates, behind)
-              → binary_at limit ls ≡ tail_at h nothing_named (with_definitions h gates c) n (lines_of behind)
-          unfolding binary_at
-          then_tail gates behind g = rw (is, all, found, (pieces bytes).joined, g) refl
 
 -- so many rows are read
 rows_count : (form : Form) (bound carried count : ℕ) (at after : Ahead) (rows : List (List ℕ))

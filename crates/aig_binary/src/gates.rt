@@ -1,13 +1,16 @@
 //! Gates: each by two deltas, one gate after the other.
-ghost use Rattle.std.specs.Prelude.{◌≡◌, ◌+◌, ◌*◌, ◌^◌, ◌<◌, ◌≤◌, IfOk, length, nat_le};
+ghost use Rattle.std.specs.Prelude.{◌≡◌, ◌+◌, ◌*◌, ◌^◌, ◌<◌, ◌≤◌, ◌++◌, ◌⊎◌, ◌↔◌, List, ℕ, Err, IfErr, IfOk};
+ghost use Rattle.std.specs.Prelude.{IsTrue, OnOk, drop, length, nat_le};
 ghost use Rattle.std.specs.List.{list_all};
+ghost use Rattle.aig_rows.specs.declared.fault.ReadKind.TheVariants.{Truncated};
 ghost use Rattle.aig_rows.specs.Outcomes.{GivesOrFails, GivesOrMemory};
-ghost use Rattle.aig_binary.specs.BinaryReading.{no_delta, lowered_at, gate_at, gates_at};
+ghost use Rattle.aig_rows.specs.Reading.{want_of_memory};
+ghost use Rattle.aig_binary.specs.BinaryReading.{no_delta, lowered_at, gate_at};
+ghost use Rattle.aig_binary.specs.Begun.{NoneIsThere, gates_from};
 
 use crate::delta::get_delta;
 use aig_core::{Gate, Listing, Lit, Var};
 use aig_text::{Place, ReadFault, ReadKind};
-use std::alloc::Global;
 
 /// Whether no byte is the last one of a delta.
 fn all_go_on(bytes: &[u8]) -> bool
@@ -63,32 +66,81 @@ fn next_gate(variable: u32, bytes: &[u8]) -> Result<(Gate, &[u8]), ReadKind>
     Ok((gate, rest))
 }
 
-/// So many gates, of this variable and the next ones, and what follows them.
-pub(crate) fn read_gates(
-    alloc: Global,
+/// Whether the bytes end too early.
+fn is_cut(kind: &ReadKind) -> bool
+    ensures { IsTrue result ↔ (kind.now ≡ Truncated) }
+{
+    match kind {
+        ReadKind::Truncated => true,
+        _ => false,
+    }
+}
+
+/// Adds the next gates to those that were found, as far as the bytes tell them and no more than `count` are found then;
+/// the first gate has this variable. Answers how many bytes these gates take.
+pub(crate) fn read_first_gates(
+    found: &mut Listing<Gate>,
     variable: u32,
     count: u32,
     bytes: &[u8],
-) -> Result<(Listing<Gate>, &[u8]), ReadFault>
-    requires { variable + count ≤ 2 ^ 31 }
-    ensures gates { GivesOrMemory (λ x. (x.0, x.1.now)) result (gates_at variable 1 count bytes.now) }
-    ensures shorter { IfOk result (λ x. length x.1.now ≤ length bytes.now) }
+) -> Result<usize, ReadFault>
+    requires variables { variable + count ≤ 2 ^ 31 }
+    requires fewer { length found.old ≤ count }
+    ensures on { IfOk result (λ used. (more : List ℕ) → gates_from variable count found.old (bytes.now ++ more)
+        ≡ gates_from variable count found.new (drop used bytes.now ++ more)) }
+    ensures all { IfOk result (λ used. NoneIsThere variable count found.new (drop used bytes.now)) }
+    ensures fewer { OnOk result (length found.new ≤ count) }
+    ensures within { IfOk result (λ used. used ≤ length bytes.now) }
+    ensures err { IfErr result (λ e. (e ≡ want_of_memory) ⊎ ((more : List ℕ)
+        → gates_from variable count found.old (bytes.now ++ more) ≡ Err e)) }
 {
-    // A gate has two bytes at least: a count that the bytes cannot hold takes no memory.
-    let most = (count as usize).min(bytes.len() / 2);
-    let mut found = Listing::from_vec(Vec::with_capacity(alloc, most)?);
     let mut rest = bytes;
-    for at in 0..count {
+    for at in found.len() as u32..count {
         match next_gate(variable + at, rest) {
             Ok((gate, behind)) => {
                 found.push(gate)?;
                 rest = behind;
             }
             Err(kind) => {
+                if is_cut(&kind) {
+                    return Ok(bytes.len() - rest.len());
+                }
                 let place = Place::Gate(u64::from(at) + 1);
                 return Err(ReadFault { place, kind });
             }
         }
     }
+    Ok(bytes.len() - rest.len())
+}
+
+/// The gates that were found, with the others up to so many in all, and what follows them.
+pub(crate) fn read_gates(
+    found: Listing<Gate>,
+    variable: u32,
+    count: u32,
+    bytes: &[u8],
+) -> Result<(Listing<Gate>, &[u8]), ReadFault>
+    requires variables { variable + count ≤ 2 ^ 31 }
+    requires fewer { length found ≤ count }
+    ensures gates { GivesOrMemory (λ x. (x.0, x.1.now)) result (gates_from variable count found bytes.now) }
+    ensures shorter { IfOk result (λ x. length x.1.now ≤ length bytes.now) }
+{
+    let mut found = found;
+    let used = match read_first_gates(&mut found, variable, count, bytes) {
+        Ok(used) => used,
+        Err(fault) => {
+            drop(found);
+            return Err(fault);
+        }
+    };
+    let read = found.len();
+    if read < count as usize {
+        drop(found);
+        return Err(ReadFault {
+            place: Place::Gate(read as u64 + 1),
+            kind: ReadKind::Truncated,
+        });
+    }
+    let (_, rest) = bytes.split_at(used);
     Ok((found, rest))
 }

@@ -11,11 +11,13 @@ mod delta;
 mod file;
 mod gates;
 pub mod laws;
+mod pieces;
 mod reader;
 mod writer;
 
 pub use crate::delta::{Delta, get_delta, put_delta};
 pub use crate::file::{read_file, read_file_keeping};
+pub use crate::pieces::BinaryReader;
 pub use crate::reader::{BINARY_WORD, read_binary};
 pub use crate::writer::{put_gates, write_binary};
 pub use aig_core::{Ordered, is_in_binary_order};

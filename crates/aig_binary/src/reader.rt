@@ -12,9 +12,10 @@ ghost use Rattle.aig_rows.specs.Reading.{at_line, want_of_memory};
 ghost use Rattle.aig_checked.specs.BinaryOrder.{IsInBinaryOrder};
 ghost use Rattle.aig_binary.specs.BinaryGrammar.{IsBinaryText};
 ghost use Rattle.aig_binary.specs.BinaryReading.{filled, with_definitions, binary_at, first_binary_fault};
+ghost use Rattle.aig_binary.specs.Begun.{front_at};
 ghost use Rattle.aig_binary.specs.Parts.NextStates.{latches_by};
 
-use crate::gates::read_gates;
+use crate::pieces::BinaryReader;
 use aig_core::{Checked, Circuit, Gate, Latch, Listing, Ordered, Var};
 use aig_text::{
     Cursor, Header, Limits, NextState, Place, ReadFault, ReadKind, SECTIONS, Section,
@@ -147,7 +148,7 @@ fn read_sections(
 }
 
 /// Adds the definitions that no line tells.
-fn define(
+pub(crate) fn define(
     alloc: Global,
     header: &Header,
     gates: Listing<Gate>,
@@ -162,32 +163,32 @@ fn define(
     Ok(())
 }
 
+/// Reads the lines in front of the gates, and moves behind them.
+pub(crate) fn read_front(
+    alloc: Global,
+    at: &mut Cursor,
+    limits: Limits,
+) -> Result<(Header, Circuit), ReadFault>
+    ensures front { GivesOrMemory (λ x. (x, at.new)) result (front_at limits.max_var at.old) }
+    ensures limited { IfOk result (λ x. x.0.inputs + x.0.latches + x.0.gates ≤ largest_index) }
+{
+    let promised = header(BINARY_WORD, at, limits)?;
+    let header = filled(promised)?;
+    let mut circuit = empty_circuit(alloc, header.max_var);
+    if let Err(fault) = read_sections(alloc, &header, &mut circuit, at) {
+        drop(circuit);
+        return Err(fault);
+    }
+    Ok((header, circuit))
+}
+
 /// Reads a circuit from the lines and the gates of a text. Whether it is well formed is not checked here.
 fn read_circuit(alloc: Global, bytes: &[u8], limits: Limits) -> Result<Circuit, ReadFault>
     ensures { GivesOrMemory (λ c. c) result (binary_at limits.max_var (lines_of bytes.now)) }
 {
     let mut at = Cursor::new(bytes);
-    let promised = header(BINARY_WORD, &mut at, limits)?;
-    let header = filled(promised)?;
-    let mut circuit = empty_circuit(alloc, header.max_var);
-    if let Err(fault) = read_sections(alloc, &header, &mut circuit, &mut at) {
-        drop(circuit);
-        return Err(fault);
-    }
-    let first = 1 + header.inputs + header.latches;
-    let (gates, rest) = match read_gates(alloc, first, header.gates, at.rest) {
-        Ok(found) => found,
-        Err(fault) => {
-            drop(circuit);
-            return Err(fault);
-        }
-    };
-    // The inputs that a header promises take memory only where all that is due of lines and gates was there.
-    if let Err(fault) = define(alloc, &header, gates, &mut circuit) {
-        drop(circuit);
-        return Err(fault);
-    }
-    tail(alloc, &header, circuit, Cursor::at_line(at.number, rest))
+    let (header, circuit) = read_front(alloc, &mut at, limits)?;
+    BinaryReader::new(alloc, header, circuit, at.number).finish(alloc, at.rest)
 }
 
 /// Reads a binary file, within these limits. The error is the first fault of the text, or that memory ran out.
@@ -198,8 +199,8 @@ pub fn read_binary(alloc: Global, bytes: &[u8], limits: Limits) -> Result<Checke
         → MatchResult result (λ d. d ≡ c) (λ e. e ≡ want_of_memory) }
     ensures fault { IfErr result (λ e. IsFirstFault e (first_binary_fault limits.max_var bytes.now)) }
 {
-    // What is read of a binary file is well formed already: its gates are in order, and define all that is used. That it
-    // is in binary order stays known, so nobody need look at its gates again.
+    // What is read of a binary file is well formed already: its gates are in order, and define all that is used. That
+    // it is in binary order stays known, so nobody need look at its gates again.
     let circuit = read_circuit(alloc, bytes, limits)?;
     Ok(Ordered::from_well_ordered(circuit).into_checked())
 }

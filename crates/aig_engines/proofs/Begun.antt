@@ -1,17 +1,15 @@
--- An ASCII file that is read while its source gives it: what was to be read is what is to be read.
+-- A file that is read while its source gives it: what was to be read is what is to be read.
 use Rattle.std.proofs.Common.{◌≡◌, ◌∙◌, inl, inr, ℕ, List, [], ◌++◌, drop, Bool, true}
 use Rattle.std.proofs.Common.{false, not}
 use Rattle.std.proofs.Common.{append_assoc, append-nil, Result, Ok, Err, sym, ap}
 use Rattle.aig_circuit.specs.declared.circuit.Circuit.{Circuit}
-use Rattle.aig_io.specs.Devices.{CanFail, Past, gave, gave_all}
+use Rattle.aig_io.specs.Devices.{CanFail, Past, gave, gave_all, took}
 use Rattle.aig_io.specs.Windows.{Filled}
 use Rattle.aig_io.proofs.Took.{gave_then, took_none}
 use Rattle.aig_rows.specs.declared.fault.ReadFault.{ReadFault}
-use Rattle.aig_rows.specs.Lines.{lines_of}
 use Rattle.aig_rows.specs.Outcomes.{GivesOrMemory}
 use Rattle.aig_rows.specs.Reading.{want_of_memory}
-use Rattle.aig_text.specs.declared.pieces.AsciiReader.{AsciiReader}
-use Rattle.aig_text.specs.Begun.{ReadsOn, rest_of}
+use Rattle.aig_text.specs.Begun.{ReadsOn}
 use Rattle.aig_engines.specs.Begun.{ComesOn, ReadsFrom}
 
 pub first_filled : (w : List ℕ) (more : Bool) (a b : Past) → Filled [] w more a b → b ≡ gave w (not more) a
@@ -27,30 +25,29 @@ reads_on_then x y z p (inl m) = inl m
 reads_on_then x y z (inl m) (inr e) = inl (sym e ∙ m)
 reads_on_then x y z (inr d) (inr e) = inr (d ∙ e)
 
-pub reads_none : (r : AsciiReader) (u : List ℕ) (a : Past) → ReadsFrom r r u u true a a
-reads_none r u a = record {
-  given = [];
-  gave = took_none a;
-  on = λ others. inr (ap (λ (bytes : List ℕ). rest_of r (lines_of (bytes ++ others))) (append-nil u));
-}
+module _ (tell : List ℕ → Result Circuit ReadFault) where
+  pub reads_none : (u : List ℕ) (a : Past) → ReadsFrom tell tell u u true a a
+  reads_none u a = record {
+    given = [];
+    gave = took_none a;
+    on = λ others. inr (ap (λ (bytes : List ℕ). tell (bytes ++ others)) (append-nil u));
+  }
 
-pub reads_more : (r q s : AsciiReader) (u v w : List ℕ) (used : ℕ) (more : Bool) (a b c : Past)
-    → ReadsFrom r q u v true a b
-    → ((others : List ℕ) → ReadsOn (rest_of q (lines_of (v ++ others))) (rest_of s (lines_of (drop used v ++ others))))
-    → Filled (drop used v) w more b c → ReadsFrom r s u w more a c
-reads_more r q s u v w used more a b c before on f = record {
-  given = before.given ++ f.given;
-  gave = gave_then (not more) before.given f.given a b c before.gave f.gave;
-  on = λ others.
-      let first =
-      ap (λ (bytes : List ℕ). rest_of r (lines_of (bytes ++ others))) (sym (append_assoc u before.given f.given))
-      ∙ ap (λ (bytes : List ℕ). rest_of r (lines_of bytes)) (append_assoc (u ++ before.given) f.given others) in
-      let last =
-      ap (λ (bytes : List ℕ). rest_of s (lines_of (bytes ++ others))) f.held
-      ∙ ap (λ (bytes : List ℕ). rest_of s (lines_of bytes)) (append_assoc (drop used v) f.given others) in
-      rw (first, last)
-      (reads_on_then _ _ _ (before.on (f.given ++ others)) (on (f.given ++ others)));
-}
+  pub reads_more : (q s : List ℕ → Result Circuit ReadFault) (u v w : List ℕ) (used : ℕ) (more : Bool) (a b c : Past)
+      → ReadsFrom tell q u v true a b → ((others : List ℕ) → ReadsOn (q (v ++ others)) (s (drop used v ++ others)))
+      → Filled (drop used v) w more b c → ReadsFrom tell s u w more a c
+  reads_more q s u v w used more a b c before on f = record {
+    given = before.given ++ f.given;
+    gave = gave_then (not more) before.given f.given a b c before.gave f.gave;
+    on = λ others.
+        let first =
+        ap (λ (bytes : List ℕ). tell (bytes ++ others)) (sym (append_assoc u before.given f.given))
+        ∙ ap tell (append_assoc (u ++ before.given) f.given others) in
+        let last =
+        ap (λ (bytes : List ℕ). s (bytes ++ others)) f.held
+        ∙ ap s (append_assoc (drop used v) f.given others) in
+        rw (first, last) (reads_on_then _ _ _ (before.on (f.given ++ others)) (on (f.given ++ others)));
+  }
 
 ends_by : (x y : Result Circuit ReadFault) (r : Result Circuit ReadFault) → ReadsOn x y → GivesOrMemory (λ c. c) r y
     → GivesOrMemory (λ c. c) r x
@@ -63,14 +60,15 @@ ends_by x y (Err f) (inl m) (inr h) =
 ends_by x y (Err f) (inr e) (inr h) = inr (e ∙ h)
 
 -- the rest of a file was read
-pub record RestRead (r : AsciiReader) (u : List ℕ) (a c : Past) (answer : Result Circuit ReadFault) : Type 0 where
+pub record RestRead (tell : List ℕ → Result Circuit ReadFault) (u : List ℕ) (a c : Past)
+    (answer : Result Circuit ReadFault) : Type 0 where
   pub bytes : List ℕ
   pub gave : c ≡ gave_all bytes a
-  pub is : GivesOrMemory (λ d. d) answer (rest_of r (lines_of (u ++ bytes)))
+  pub is : GivesOrMemory (λ d. d) answer (tell (u ++ bytes))
 
-pub rest_read : (r s : AsciiReader) (u v w : List ℕ) (more : Bool) (a b c : Past) (answer : Result Circuit ReadFault)
-    → ReadsFrom r s u v more a b → ComesOn v w more false b c → GivesOrMemory (λ d. d) answer (rest_of s (lines_of w))
-    → RestRead r u a c answer
+pub rest_read : (r s : List ℕ → Result Circuit ReadFault) (u v w : List ℕ) (more : Bool) (a b c : Past)
+    (answer : Result Circuit ReadFault) → ReadsFrom r s u v more a b → ComesOn v w more false b c
+    → GivesOrMemory (λ d. d) answer (s w) → RestRead r u a c answer
 rest_read r s u v w more a b c answer reads all h =
     let h = rw all.all at h in
     record {
@@ -79,4 +77,24 @@ rest_read r s u v w more a b c answer reads all h =
       is =
           rw (← append_assoc u reads.given all.given)
           (ends_by _ _ answer (reads.on all.given) h);
+    }
+
+-- and all of it, of which the first bytes came before
+pub record WholeRead (tell : List ℕ → Result Circuit ReadFault) (first : List ℕ) (b c : Past)
+    (answer : Result Circuit ReadFault) : Type 0 where
+  pub others : List ℕ
+  pub gave : (before : Past) → b ≡ took first before → c ≡ gave_all (first ++ others) before
+  pub is : GivesOrMemory (λ d. d) answer (tell (first ++ others))
+
+pub whole_read : (tell s : List ℕ → Result Circuit ReadFault) (u v bytes : List ℕ) (a b c : Past)
+    (answer : Result Circuit ReadFault) → ReadsFrom tell s u v true a b → c ≡ gave_all bytes b
+    → GivesOrMemory (λ d. d) answer (s (v ++ bytes)) → WholeRead tell u a c answer
+whole_read tell s u v bytes a b c answer reads gave h =
+    let all : u ++ (reads.given ++ bytes) ≡ (u ++ reads.given) ++ bytes = sym (append_assoc u reads.given bytes) in
+    record {
+      others = reads.given ++ bytes;
+      gave = λ before first.
+          gave_then true u (reads.given ++ bytes) before a c first
+          (gave_then true reads.given bytes a b c reads.gave gave);
+      is = rw all (ends_by _ _ answer (reads.on bytes) h);
     }

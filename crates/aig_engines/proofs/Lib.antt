@@ -10,4 +10,5 @@ pub mod Texts
 pub mod Dumps
 pub mod WitnessDumps
 pub mod Begun
+pub mod BinaryPieces
 pub mod Pieces

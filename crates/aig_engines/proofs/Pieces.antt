@@ -22,7 +22,7 @@ use Rattle.aig_engines.specs.declared.fault.ToolFault.{ToolFault}
 use Rattle.aig_engines.specs.declared.fault.ToolFault.TheVariants as faults
 use Rattle.aig_engines.specs.File.{IsFileOf, file_reading}
 use Rattle.aig_engines.specs.Reading.{HasRead, IsUnreadable, NotRead}
-use Rattle.aig_engines.specs.Begun.{IsWrongRest}
+use Rattle.aig_engines.specs.Begun.{IsWrongRest, ascii_rest}
 use Rattle.aig_io.proofs.Took.{gave_then, some_later}
 
 -- these first bytes begin no binary file, and the reader and the bytes that are held tell the same as they
@@ -34,6 +34,13 @@ same_word : (word : List ℕ) (ls more : List Line) → ls ≢ [] → first_word
 same_word word [] more some = absurd (some refl)
 same_word word (l ∷ ls) more some = refl
 
+pub word_stays : (first lines rest more : List ℕ) → first ≡ lines ++ rest → AreEnded (lines_of lines)
+    → 0 < length lines
+    → first_word_is binary_word (lines_of (first ++ more)) ≡ first_word_is binary_word (lines_of lines)
+word_stays first lines rest more cut ended some =
+    ap (first_word_is binary_word) (lines_cut first lines rest more cut ended)
+    ∙ same_word binary_word (lines_of lines) (lines_of (rest ++ more)) (some_lines lines some)
+
 pub begun : (limit : ℕ) (first lines rest : List ℕ) (used : ℕ) (r : AsciiReader) → first ≡ lines ++ rest
     → AreEnded (lines_of lines) → 0 < length lines → first_word_is binary_word (lines_of lines) ≡ false
     → used ≤ length lines
@@ -43,9 +50,7 @@ begun limit first lines rest used r cut ended some other within on held is =
     let left : held ≡ drop used lines ++ rest =
     is ∙ ap (drop used) cut ∙ drop-append-le used lines rest within in
     record {
-      other = λ more.
-          ap (first_word_is binary_word) (lines_cut first lines rest more cut ended)
-          ∙ same_word binary_word (lines_of lines) (lines_of (rest ++ more)) (some_lines lines some) ∙ other;
+      other = λ more. word_stays first lines rest more cut ended some ∙ other;
       told = λ more.
           ap (λ (bytes : List ℕ). circuit_at limit (lines_of bytes))
           (ap (λ (bytes : List ℕ). bytes ++ more) cut ∙ append_assoc lines rest more)
@@ -91,7 +96,7 @@ module _ (limit : ℕ) (first held : List ℕ) (r : AsciiReader) (begin : IsBegu
       (begin.told h.bytes ∙ h.holds) is
 
   pub refused : (fault : ToolFault) (before a b : Past) → a ≡ took first before
-      → NotRead (IsWrongRest r held) fault a b → NotRead (IsUnreadable limit) fault before b
+      → NotRead (IsWrongRest (ascii_rest r) held) fault a b → NotRead (IsUnreadable limit) fault before b
   refused fault before a b gave (inl (error, is, some)) =
       inl (error, is, some_later error first before a b gave some)
   refused fault before a b gave (inr h) = inr (record {

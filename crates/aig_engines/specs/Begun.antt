@@ -1,5 +1,6 @@
--- An ASCII file that is read while its source gives it (this project's profile).
-use Rattle.std.specs.Prelude.{◌≡◌, ◌++◌, ◌⊎◌, ℕ, List, Bool, not, Err}
+-- A file that is read while its source gives it (this project's profile).
+use Rattle.std.specs.Prelude.{◌≡◌, ◌++◌, ◌⊎◌, ℕ, List, Bool, not, Result, Err}
+use Rattle.aig_circuit.specs.declared.circuit.Circuit.{Circuit}
 use Rattle.aig_io.specs.Devices.{Past, GaveSome, gave}
 use Rattle.aig_io.specs.declared.transfer.ReadError.{ReadError}
 use Rattle.aig_rows.specs.declared.fault.ReadFault.{ReadFault}
@@ -24,19 +25,20 @@ abbrev pub NotAllCame : ReadError → Bool → (source source_now : Past) → Ty
 NotAllCame error more source source_now =
     (before : Past) (bytes : List ℕ) → source ≡ gave bytes (not more) before → GaveSome error before source_now
 
--- Whatever comes, what the reader was to read of the bytes that were held, of those that came and of what comes is what
--- it is to read of those that are held and of what comes.
-pub record ReadsFrom (reader reader_now : AsciiReader) (held held_now : List ℕ) (more : Bool)
+-- what the other bytes of an ASCII file tell to a reader
+abbrev pub ascii_rest : AsciiReader → List ℕ → Result Circuit ReadFault
+ascii_rest r bytes = rest_of r (lines_of bytes)
+
+-- Whatever comes, what the bytes that were held, those that came and what comes were to tell is what those that are
+-- held and what comes are to tell.
+pub record ReadsFrom (tell tell_now : List ℕ → Result Circuit ReadFault) (held held_now : List ℕ) (more : Bool)
     (source source_now : Past) : Type 0 where
   pub given : List ℕ
   pub gave : source_now ≡ gave given (not more) source
-  pub on :
-      (others : List ℕ)
-      → ReadsOn (rest_of reader (lines_of (held ++ given ++ others)))
-      (rest_of reader_now (lines_of (held_now ++ others)))
+  pub on : (others : List ℕ) → ReadsOn (tell (held ++ given ++ others)) (tell_now (held_now ++ others))
 
--- the fault is the first that a reader finds in what is held and these bytes, unless memory was refused
-abbrev pub IsWrongRest : AsciiReader → List ℕ → ToolFault → List ℕ → Type 0
-IsWrongRest reader held fault bytes =
+-- the fault is the first in what is held and these bytes tell, unless memory was refused
+abbrev pub IsWrongRest : (List ℕ → Result Circuit ReadFault) → List ℕ → ToolFault → List ℕ → Type 0
+IsWrongRest tell held fault bytes =
     (first : ReadFault) × (fault ≡ faults.Read first)
-    × ((first ≡ want_of_memory) ⊎ (rest_of reader (lines_of (held ++ bytes)) ≡ Err first))
+    × ((first ≡ want_of_memory) ⊎ (tell (held ++ bytes) ≡ Err first))

@@ -7,8 +7,9 @@ ghost use Rattle.aig_rows.specs.Lines.{lines_of};
 ghost use Rattle.aig_text.specs.Begun.{IsValid, rest_of};
 ghost use Rattle.aig_engines.specs.File.{IsFileOf};
 ghost use Rattle.aig_engines.specs.Reading.{HasRead, IsUnreadable, NotRead};
-ghost use Rattle.aig_engines.specs.Begun.{ComesOn, IsWrongRest, NotAllCame, ReadsFrom};
+ghost use Rattle.aig_engines.specs.Begun.{ComesOn, IsWrongRest, NotAllCame, ReadsFrom, ascii_rest};
 
+use crate::binary::read_binary_file;
 use crate::fault::ToolFault;
 use aig_binary::{BINARY_WORD, read_file_keeping};
 use aig_core::{Checked, Circuit, Keep, ReadError, Source, Window, read_to_end};
@@ -49,7 +50,11 @@ fn fetch_line<R: Source>(source: &mut R, window: &mut Window) -> Result<bool, Re
 }
 
 /// The bytes of the window, and all that the source still gives, where it goes on.
-fn fetch_all<R: Source>(source: &mut R, window: Window, more: bool) -> Result<Vec<u8>, ReadError>
+pub(crate) fn fetch_all<R: Source>(
+    source: &mut R,
+    window: Window,
+    more: bool,
+) -> Result<Vec<u8>, ReadError>
     requires { CanFail (R.past source.old) }
     ensures ok { IfOk result (λ all. ComesOn window all.items more false (R.past source.old) (R.past source.new)) }
     ensures bound { IfOk result (λ all. vec_len all ≤ R.bound source.old + length window) }
@@ -91,8 +96,8 @@ fn read_lines<R: Source>(
     requires source { CanFail (R.past source.old) }
     requires valid { IsValid reader.old.header reader.old.progress }
     requires counted { reader.old.number + length window.old + R.bound source.old ≤ 2 ^ 63 }
-    ensures ok { IfOk result (λ more. ReadsFrom reader.old reader.new window.old window.new more
-        (R.past source.old) (R.past source.new)) }
+    ensures ok { IfOk result (λ more. ReadsFrom (ascii_rest reader.old) (ascii_rest reader.new) window.old window.new
+        more (R.past source.old) (R.past source.new)) }
     ensures valid { OnOk result (IsValid reader.new.header reader.new.progress) }
     ensures counted { OnOk result (reader.new.number + length window.new + R.bound source.new ≤ 2 ^ 63) }
     ensures err { IfErr result (λ error. GaveSome error (R.past source.old) (R.past source.new)) }
@@ -117,9 +122,9 @@ fn read_rest<R: Source>(
     requires source { CanFail (R.past source.old) }
     requires valid { IsValid reader.header reader.progress }
     requires counted { reader.number + length window + R.bound source.old ≤ 2 ^ 63 }
-    ensures ok { IfOk result (λ c. HasRead (λ bytes. rest_of reader (lines_of (window ++ bytes)) ≡ Ok c)
+    ensures ok { IfOk result (λ c. HasRead (λ bytes. ascii_rest reader (window ++ bytes) ≡ Ok c)
         (R.past source.old) (R.past source.new)) }
-    ensures err { IfErr result (λ fault. NotRead (IsWrongRest reader window) fault
+    ensures err { IfErr result (λ fault. NotRead (IsWrongRest (ascii_rest reader) window) fault
         (R.past source.old) (R.past source.new)) }
 {
     let mut reader = reader;
@@ -133,7 +138,7 @@ fn read_rest<R: Source>(
 }
 
 /// Reads a file of which the window has the first bytes, when all of them are there.
-fn read_whole<R: Source>(
+pub(crate) fn read_whole<R: Source>(
     alloc: Global,
     source: &mut R,
     window: Window,
@@ -157,7 +162,7 @@ fn read_whole<R: Source>(
 }
 
 /// Reads the source to its end, as a file of either kind within this limit, and keeps what is wanted of the check
-/// later. Of an ASCII file only a part is held at a time.
+/// later. Only a part of it is held at a time.
 pub fn read_circuit<R: Source>(
     alloc: Global,
     source: &mut R,
@@ -173,8 +178,11 @@ pub fn read_circuit<R: Source>(
     let limits = Limits { max_var };
     let (first, more) = fetch_first(alloc, source)?;
     let (lines, _) = ended_lines(first.as_slice());
-    if !more || lines.is_empty() || first_word_is(lines, BINARY_WORD) {
+    if !more || lines.is_empty() {
         return read_whole(alloc, source, first, more, limits, keep);
+    }
+    if first_word_is(lines, BINARY_WORD) {
+        return read_binary_file(alloc, source, first, limits);
     }
     let (reader, used) = AsciiReader::begin(alloc, lines, limits);
     let mut window = first;

@@ -7,6 +7,7 @@
 //! The definitions that matter most are `IsConversionText`, `IsSimulationText`, `IsUnrollingText` and `Headline`.
 #![tactic(auto)]
 
+mod binary;
 mod conversion;
 pub mod dump_laws;
 mod engine;

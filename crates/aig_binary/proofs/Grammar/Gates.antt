@@ -19,7 +19,7 @@ use Rattle.aig_binary.specs.BinaryReading.{no_delta, lowered, lowered_at, gate_a
 use Rattle.aig_binary.proofs.Deltas.Reading.{delta_is, delta_read}
 
 -- what is left of a literal less the delta at the front
-record IsLowered (from least low : ℕ) (bytes rest : List ℕ) : Type 0 where
+pub record IsLowered (from least low : ℕ) (bytes rest : List ℕ) : Type 0 where
   pub spelling : List ℕ
   pub are : bytes ≡ spelling ++ rest
   pub delta : IsDelta spelling (from - low)
@@ -43,18 +43,18 @@ lowered_by from least bytes (Some found) p read h =
       below = omega arith;
     })
 
-lowered_is : (from least : ℕ) (bytes : List ℕ) (p : ℕ × List ℕ) → lowered_at from least bytes ≡ Ok p
+pub lowered_is : (from least : ℕ) (bytes : List ℕ) (p : ℕ × List ℕ) → lowered_at from least bytes ≡ Ok p
     → IsLowered from least p.0 bytes p.1
 unfolding lowered_at
 lowered_is from least bytes p h = lowered_by from least bytes (delta_at bytes) p refl h
 
-lowered_found : (from least low : ℕ) (d rest : List ℕ) → IsDelta d (from - low) → low + least ≤ from
+pub lowered_found : (from least low : ℕ) (d rest : List ℕ) → IsDelta d (from - low) → low + least ≤ from
     → lowered_at from least (d ++ rest) ≡ Ok (low, rest)
 unfolding lowered_at
 lowered_found from least low d rest delta below = search (rules, le-ltb, delta_read, or_from)
 
 -- a gate of this variable, at the front
-record IsGateAt (variable : ℕ) (bytes : List ℕ) (g : Gate) (rest : List ℕ) : Type 0 where
+pub record IsGateAt (variable : ℕ) (bytes : List ℕ) (g : Gate) (rest : List ℕ) : Type 0 where
   pub spelling : List ℕ
   pub are : bytes ≡ spelling ++ rest
   pub spelled : SpellsGate spelling g
@@ -62,13 +62,13 @@ record IsGateAt (variable : ℕ) (bytes : List ℕ) (g : Gate) (rest : List ℕ)
   pub left : g.left < literal_of g.var
   pub right : g.right ≤ g.left
 
-abbrev gate : ℕ → ℕ → ℕ → Gate
+abbrev pub gate : ℕ → ℕ → ℕ → Gate
 gate variable left right = record { var = variable; left = left; right = right }
 
-abbrev with_right : ℕ → ℕ → ℕ × List ℕ → Result (Gate × List ℕ) ReadKind
+abbrev pub with_right : ℕ → ℕ → ℕ × List ℕ → Result (Gate × List ℕ) ReadKind
 with_right variable left right = Ok (gate variable left right.0, right.1)
 
-abbrev then_right : ℕ → ℕ × List ℕ → Result (Gate × List ℕ) ReadKind
+abbrev pub then_right : ℕ → ℕ × List ℕ → Result (Gate × List ℕ) ReadKind
 then_right variable left = lowered_at left.0 0 left.1 >>= with_right variable left.0
 
 two_lowered : (variable left right : ℕ) (bytes between rest : List ℕ)
@@ -86,7 +86,7 @@ two_lowered variable left right bytes between rest l r =
       right = omega arith;
     }
 
-gate_is : (variable : ℕ) (bytes : List ℕ) (p : Gate × List ℕ) → gate_at variable bytes ≡ Ok p
+pub gate_is : (variable : ℕ) (bytes : List ℕ) (p : Gate × List ℕ) → gate_at variable bytes ≡ Ok p
     → IsGateAt variable bytes p.0 p.1
 unfolding gate_at
 gate_is variable bytes p h =
@@ -97,7 +97,7 @@ gate_is variable bytes p h =
     (two_lowered variable a.0.0 b.0.0 bytes a.0.1 b.0.1 (lowered_is (literal_of variable) 1 bytes a.0 a.1)
     (lowered_is a.0.0 0 a.0.1 b.0 b.1))
 
-gate_found : (g : Gate) (bytes rest : List ℕ) → SpellsGate bytes g → g.left < literal_of g.var → g.right ≤ g.left
+pub gate_found : (g : Gate) (bytes rest : List ℕ) → SpellsGate bytes g → g.left < literal_of g.var → g.right ≤ g.left
     → gate_at g.var (bytes ++ rest) ≡ Ok (g, rest)
 unfolding gate_at
 gate_found g bytes rest s left right = search (rules, append_assoc, lowered_found)

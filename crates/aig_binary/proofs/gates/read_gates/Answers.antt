@@ -1,12 +1,21 @@
-use Rattle.std.proofs.Common.{rules}
-use Rattle.aig_binary.proofs.OneByOne.{gates_more, gates_wrong, gates_done}
+use Rattle.std.proofs.Common.{◌∙◌, ◌+◌, Err, ℕ, inr, ap, arith, sym}
+use Rattle.aig_binary.proofs.OneByOne.{alone_cut, alone_done, alone_wrong}
+use Rattle.aig_rows.specs.declared.fault.Place.TheVariants as places
+use Rattle.aig_rows.specs.declared.fault.ReadKind.TheVariants as kinds
 use Rattle.aig_binary.proofs.gates.read_gates.Goals as goal
 
 pub returns-in-Err-clause-gates : goal.returns-in-Err-clause-gates
-returns-in-Err-clause-gates c = search (rules, gates_wrong)
+returns-in-Err-clause-gates c =
+    alone_wrong c.args.variable c.args.count c.args.found c.args.bytes.now c.in-Err.fault c.in-Err.ensures.err
 
-pub loop-at-preserved : goal.loop-at-preserved
-loop-at-preserved c = search (rules, gates_more)
+pub returns-then-read-count-clause-gates : goal.returns-then-read-count-clause-gates
+returns-then-read-count-clause-gates c =
+    inr (alone_cut c.args.variable c.args.count c.args.found c.read_first_gates.new.found c.args.bytes.now _
+    c.in-Ok.ensures.on c.in-Ok.ensures.all (omega (arith, c.len-read.ensures, c.if-read-count.true))
+    ∙ ap (λ (k : ℕ). Err (record { place = places.Gate (k + 1); kind = kinds.Truncated })) (sym c.len-read.ensures))
 
 pub returns-clause-gates : goal.returns-clause-gates
-returns-clause-gates c = search (rules, gates_done)
+returns-clause-gates c =
+    rw c.split_at.ensures.back
+    (alone_done c.args.variable c.args.count c.args.found c.read_first_gates.new.found c.args.bytes.now _
+    c.in-Ok.ensures.on (omega (arith, c.len-read.ensures, c.if-read-count.false)))

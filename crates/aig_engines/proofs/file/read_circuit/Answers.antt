@@ -1,7 +1,7 @@
 use Rattle.std.proofs.Common.{◌≢◌, ◌∙◌, Err, Ok, arith, inr, length, sym}
 use Rattle.std.proofs.lemmas.Bool.{eqb-false}
 use Rattle.std.proofs.lemmas.Result.{err_from_is_err_and}
-use Rattle.aig_engines.proofs.Pieces.{IsBegun, begun, checked, in_form, refused}
+use Rattle.aig_engines.proofs.Pieces.{IsBegun, begun, checked, in_form, refused, word_stays}
 use Rattle.aig_engines.proofs.file.read_circuit.Goals as goal
 
 pub returns-in_err-circuit-clause-err : goal.returns-in_err-circuit-clause-err
@@ -62,3 +62,11 @@ returns-clause-ok g c =
     checked c.args.max_var c.in_ok-first.first c.pass.new.self c.begin-reader.result.0 begin c.in_ok-circuit.circuit
     _ _ _ (Ok c.in_ok-check_read.field-0) first c.in_ok-circuit.ensures.ok c.in_ok-check_read.ensures in
     all
+
+pub read_binary_file-requires-clause-binary : goal.read_binary_file-requires-clause-binary
+read_binary_file-requires-clause-binary g c = λ more.
+    let none : length c.ended_lines.result.0.now ≢ 0 =
+    eqb-false _ _ (sym c.is_empty.ensures ∙ c.if-is_empty.false) in
+    word_stays c.in_ok-first.first c.ended_lines.result.0.now c.ended_lines.result.1.now more
+    (sym c.as_slice.ensures ∙ c.ended_lines.ensures.cut) c.ended_lines.ensures.ended (omega (arith, none))
+    ∙ sym c.first_word_is.ensures ∙ c.if-first_word_is.true

@@ -1,6 +1,7 @@
 use Rattle.std.proofs.Common.{ap, arith, length, length-drop, not}
 use Rattle.std.proofs.lemmas.Result.{err_from_is_err_and}
 use Rattle.aig_io.proofs.Took.{some_later}
+use Rattle.aig_engines.specs.Begun.{ascii_rest}
 use Rattle.aig_engines.proofs.Begun.{can_fail_still, reads_more}
 use Rattle.aig_engines.proofs.file.read_lines.Goals as goal
 
@@ -16,7 +17,8 @@ loop-more-preserved g c =
     let came = rw c.pass.ensures at c.in_ok-more.ensures.ok in
     record {
       reads =
-          reads_more c.args.reader.now c.loop-more.reader c.advance-used.new.self c.args.window.now c.loop-more.window
+          reads_more (ascii_rest c.args.reader.now) (ascii_rest c.loop-more.reader) (ascii_rest c.advance-used.new.self)
+          c.args.window.now c.loop-more.window
           c.fetch_line.new.window c.advance-used.result c.in_ok-more.more _ _ _ reads
           (rw c.as_slice.ensures at c.advance-used.ensures.on) came;
       valid = c.advance-used.ensures.valid;

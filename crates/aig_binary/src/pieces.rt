@@ -1,0 +1,133 @@
+//! A binary file whose gates come in pieces.
+ghost use Rattle.std.specs.Prelude.{◌≡◌, ◌+◌, ◌^◌, ◌<◌, ◌≤◌, ◌++◌, ◌⊎◌, ◌↔◌, [], List, ℕ, IfErr, IfOk, IsTrue, Ok};
+ghost use Rattle.std.specs.Prelude.{drop, length};
+ghost use Rattle.aig_circuit.specs.Wellformed.{largest_index};
+ghost use Rattle.aig_rows.specs.Lines.{AreEnded, ahead, lines_of};
+ghost use Rattle.aig_rows.specs.Outcomes.{GivesOrMemory};
+ghost use Rattle.aig_rows.specs.Reading.{want_of_memory};
+ghost use Rattle.aig_text.specs.Begun.{ReadsOn};
+ghost use Rattle.aig_binary.specs.BinaryReading.{binary_at};
+ghost use Rattle.aig_binary.specs.Begun.{AllIsTaken, FitsHeader, HasAllGates, front_at, gates_then, rest_of};
+
+use crate::gates::{read_first_gates, read_gates};
+use crate::reader::{define, read_front};
+use aig_core::{Circuit, Gate, Listing};
+use aig_text::{Cursor, Header, Limits, ReadFault, tail};
+use std::alloc::Global;
+
+/// A reader of a binary file that takes its gates piece by piece. After a fault it holds that, and takes all bytes.
+#[derive(Drop)]
+pub struct BinaryReader {
+    /// The header, or the first fault of the gates so far.
+    header: Result<Header, ReadFault>,
+    /// What the lines in front of the gates told.
+    circuit: Circuit,
+    /// The gates so far.
+    gates: Listing<Gate>,
+    /// The number of the first line behind the gates.
+    number: u64,
+}
+
+impl BinaryReader {
+    /// It stands behind the lines that told this.
+    pub(crate) fn new(alloc: Global, header: Header, circuit: Circuit, number: u64) -> Self
+        requires { header.inputs + header.latches + header.gates ≤ largest_index }
+        ensures from { (bytes : List ℕ) → rest_of result bytes ≡ gates_then header circuit [] number bytes }
+        ensures number { result.number ≡ number }
+        ensures fits { FitsHeader result.header result.gates }
+    {
+        BinaryReader {
+            header: Ok(header),
+            circuit,
+            gates: Listing::new(alloc),
+            number,
+        }
+    }
+
+    /// Reads the lines in front of the gates, where these lines have them all, and answers how many bytes they take.
+    pub fn begin(alloc: Global, lines: &[u8], limits: Limits) -> Result<(Self, usize), ReadFault>
+        requires ended { AreEnded (lines_of lines.now) }
+        ensures on { IfOk result (λ x. (more : List ℕ) → binary_at limits.max_var (lines_of (lines.now ++ more))
+            ≡ rest_of x.0 (drop x.1 lines.now ++ more)) }
+        ensures within { IfOk result (λ x. x.1 ≤ length lines.now) }
+        ensures number { IfOk result (λ x. x.0.number ≤ 1 + x.1) }
+        ensures fits { IfOk result (λ x. FitsHeader x.0.header x.0.gates) }
+        ensures err { IfErr result (λ e. (e ≡ want_of_memory)
+            ⊎ (front_at limits.max_var (ahead 1 (lines_of lines.now)) ≡ Err e)) }
+    {
+        let mut at = Cursor::new(lines);
+        let (header, circuit) = read_front(alloc, &mut at, limits)?;
+        let used = lines.len() - at.rest.len();
+        Ok((BinaryReader::new(alloc, header, circuit, at.number), used))
+    }
+
+    /// Whether all gates were read.
+    pub fn is_done(&self) -> bool
+        ensures { IsTrue result ↔ HasAllGates self.now.header self.now.gates }
+    {
+        match &self.header {
+            Ok(header) => self.gates.len() == header.gates as usize,
+            Err(_) => false,
+        }
+    }
+
+    /// Reads the gates that the bytes that come next tell. Answers how many bytes it took.
+    pub fn advance(&mut self, bytes: &[u8]) -> usize
+        requires { FitsHeader self.old.header self.old.gates }
+        ensures on { (more : List ℕ) → ReadsOn (rest_of self.old (bytes.now ++ more))
+            (rest_of self.new (drop result bytes.now ++ more)) }
+        ensures within { result ≤ length bytes.now }
+        ensures all { AllIsTaken self.new.header self.new.gates (drop result bytes.now) }
+        ensures number { self.new.number ≡ self.old.number }
+        ensures fits { FitsHeader self.new.header self.new.gates }
+    {
+        let Ok(header) = self.header else {
+            return bytes.len();
+        };
+        let first = 1 + header.inputs + header.latches;
+        match read_first_gates(&mut self.gates, first, header.gates, bytes) {
+            Ok(used) => used,
+            Err(fault) => {
+                self.header = Err(fault);
+                bytes.len()
+            }
+        }
+    }
+
+    /// The circuit that the file tells of which the last bytes are these.
+    pub fn finish(self, alloc: Global, bytes: &[u8]) -> Result<Circuit, ReadFault>
+        requires counted { self.number + length bytes.now < 2 ^ 64 }
+        requires fits { FitsHeader self.header self.gates }
+        ensures { GivesOrMemory (λ c. c) result (rest_of self bytes.now) }
+    {
+        let BinaryReader {
+            header,
+            circuit,
+            gates,
+            number,
+        } = self;
+        let mut circuit = circuit;
+        let header = match header {
+            Ok(header) => header,
+            Err(fault) => {
+                drop(circuit);
+                drop(gates);
+                return Err(fault);
+            }
+        };
+        let first = 1 + header.inputs + header.latches;
+        let (gates, rest) = match read_gates(gates, first, header.gates, bytes) {
+            Ok(found) => found,
+            Err(fault) => {
+                drop(circuit);
+                return Err(fault);
+            }
+        };
+        // The inputs that a header promises take memory only where all that is due of lines and gates was there.
+        if let Err(fault) = define(alloc, &header, gates, &mut circuit) {
+            drop(circuit);
+            return Err(fault);
+        }
+        tail(alloc, &header, circuit, Cursor::at_line(number, rest))
+    }
+}
