@@ -3,6 +3,7 @@ pub mod Values
 pub mod Wellformed
 pub mod Justice
 pub mod Form
+pub mod SymbolText
 pub mod Symbols
 pub mod Naming
 pub mod Parts

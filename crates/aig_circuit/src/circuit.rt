@@ -60,7 +60,7 @@ pub enum Kind {
 }
 
 /// The name of what stands at a position among its kind, counted from 0. To contracts a circuit's symbols are a list of
-/// these; the circuit itself keeps all names in one list of bytes (`Symbols`).
+/// these; the circuit itself keeps the lines of all in one list of bytes (`Symbols`).
 #[derive(Clone, PartialEq, Drop)]
 pub struct Symbol {
     /// What it names.

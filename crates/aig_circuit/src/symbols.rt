@@ -1,16 +1,19 @@
-//! The symbols of a circuit. Their names stand in one list of bytes, one behind the other, so no name has memory of its
-//! own.
+//! The symbols of a circuit. They are kept as the text that a file has of them: their lines stand in one list of bytes,
+//! one behind the other, so no name has memory of its own, and all are written at once.
 ghost use Rattle.std.specs.Prelude.{◌≡◌, [], ◌∷◌, ◌++◌, length, All, Contains, IfNone, IfOk, IfSome, OnOk, OnErr};
+ghost use Rattle.std.specs.List.{flat_map};
 ghost use Rattle.std.specs.Cmp.Lexicographic.{pointwise, lists_per};
 ghost use Rattle.std.specs.Iterator.{YieldsFirst, item_count};
 ghost use Rattle.aig_circuit.specs.Naming.{IsFor};
+ghost use Rattle.aig_circuit.specs.SymbolText.{kind_letter, symbol_text};
 ghost use Rattle.aig_circuit.specs.contracts.circuit.SymbolPartialEq.TheImpl.Laws.{laws-law as symbol_laws};
 
 use crate::circuit::{Kind, Symbol};
+use itoa::Buffer;
 use std::alloc::{AllocError, Global};
 use std::marker::Model;
 
-/// A symbol whose name stands among others.
+/// A symbol whose line stands among others.
 #[derive(Clone, Copy)]
 struct StoredSymbol {
     kind: Kind,
@@ -21,10 +24,10 @@ struct StoredSymbol {
     end: usize,
 }
 
-/// Symbols, in the order of a file. To a contract they are the list of them, wherever their names stand.
+/// Symbols, in the order of a file. To a contract they are the list of them, wherever their lines stand.
 #[derive(Drop)]
 pub struct Symbols {
-    /// The names, one behind the other. Where memory ran out once, a name may stand here that no row has.
+    /// The lines in canonical spelling, one behind the other.
     bytes: Vec<u8>,
     rows: Vec<StoredSymbol>,
 }
@@ -35,11 +38,11 @@ impl Model for Symbols {
 
     ghost Value = { List SymbolRecord };
 
-    ghost use Rattle.aig_circuit.specs.Symbols.{AreWithin, symbols_in};
+    ghost use Rattle.aig_circuit.specs.Symbols.{AreLines, symbols_in};
 
     ghost view = { λ s. symbols_in s.bytes.items s.rows.items };
 
-    ghost invariant = { λ s. AreWithin s.bytes.items s.rows.items };
+    ghost invariant = { λ s. AreLines s.bytes.items s.rows.items };
 }
 
 /// A symbol that is looked at where its name stands.
@@ -121,6 +124,34 @@ impl<'a> Iterator for EachSymbol<'a> {
     }
 }
 
+/// The letter that a symbol of this kind begins with.
+fn letter(kind: Kind) -> &'static [u8]
+    ensures { result.now ≡ kind_letter kind }
+{
+    match kind {
+        Kind::Input => b"i",
+        Kind::Latch => b"l",
+        Kind::Output => b"o",
+        Kind::Bad => b"b",
+        Kind::Constraint => b"c",
+        Kind::Justice => b"j",
+        Kind::Fairness => b"f",
+    }
+}
+
+/// The line of a symbol in canonical spelling.
+fn line_of(alloc: Global, symbol: &BorrowedSymbol) -> Result<Vec<u8>, AllocError>
+    ensures { IfOk result (λ line. line.items ≡ symbol_text symbol.now) }
+{
+    let mut digits = Buffer::new();
+    let mut line = Vec::from_slice(alloc, letter(symbol.kind))?;
+    line.extend_from_slice(digits.format(symbol.position).as_bytes())?;
+    line.extend_from_slice(b" ")?;
+    line.extend_from_slice(symbol.name)?;
+    line.extend_from_slice(b"\n")?;
+    Ok(line)
+}
+
 impl Symbols {
     /// No symbols yet; memory is taken from `alloc` where there are more.
     pub fn new(alloc: Global) -> Self
@@ -161,20 +192,54 @@ impl Symbols {
             .map(|symbol| symbol.name)
     }
 
+    /// Makes room for so many symbols more, whose lines have so many bytes.
+    pub fn reserve(&mut self, count: usize, bytes: usize) -> Result<(), AllocError>
+        ensures { self.new ≡ self.old }
+    {
+        self.rows.reserve(count)?;
+        self.bytes.reserve(bytes)
+    }
+
     /// Adds a symbol at the end. If an allocation fails, the symbols stay as they are.
     pub fn push(&mut self, symbol: &BorrowedSymbol) -> Result<(), AllocError>
         ensures ok { OnOk result (self.new ≡ self.old ++ symbol.now ∷ []) }
         ensures err { OnErr result (self.new ≡ self.old) }
     {
-        let start = self.bytes.len();
-        self.bytes.extend_from_slice(symbol.name)?;
-        self.rows.push(StoredSymbol {
+        let line = line_of(*self.bytes.allocator(), symbol)?;
+        self.push_line(symbol, line.as_slice())
+    }
+
+    /// Adds a symbol at the end, of which this is the line in canonical spelling, with its line feed. If an allocation
+    /// fails, the symbols stay as they are.
+    #[inline(always)]
+    pub fn push_line(&mut self, symbol: &BorrowedSymbol, line: &[u8]) -> Result<(), AllocError>
+        requires { line.now ≡ symbol_text symbol.now }
+        ensures ok { OnOk result (self.new ≡ self.old ++ symbol.now ∷ []) }
+        ensures err { OnErr result (self.new ≡ self.old) }
+    {
+        let before = self.bytes.len();
+        self.bytes.extend_from_slice(line)?;
+        let end = self.bytes.len() - 1;
+        let row = StoredSymbol {
             kind: symbol.kind,
             position: symbol.position,
-            start,
-            end: self.bytes.len(),
-        })?;
-        Ok(())
+            start: end - symbol.name.len(),
+            end,
+        };
+        match self.rows.push(row) {
+            Ok(()) => Ok(()),
+            Err(_) => {
+                self.bytes.truncate(before);
+                Err(AllocError)
+            }
+        }
+    }
+
+    /// The lines of all symbols in canonical spelling.
+    pub fn as_text(&self) -> &[u8]
+        ensures { result.now ≡ flat_map symbol_text self.now }
+    {
+        self.bytes.as_slice()
     }
 
     /// The same symbols in memory of their own, unless an allocation fails.

@@ -58,7 +58,7 @@ passed true x y h = cc
 passed false x y h = (refl, h)
 
 -- digits that are not padded are what `decimal` writes of their number
-digits_are_decimal : (digits rest : List ℕ) (n : ℕ) → n < 2 ^ 64 → IsNumber digits n
+pub digits_are_decimal : (digits rest : List ℕ) (n : ℕ) → n < 2 ^ 64 → IsNumber digits n
     → is_padded (digits ++ rest) ≡ false → digits ≡ decimal n
 digits_are_decimal digits rest n small is h =
     sym (

@@ -3,9 +3,8 @@
 use Rattle.std.specs.Prelude.{◌-◌, ◌==◌, ◌&&◌, ℕ, List, [], ◌∷◌, ◌++◌, Option, None, Some, codes, decimal}
 use Rattle.std.specs.Prelude.{if◌then◌else◌}
 use Rattle.std.specs.List.{flat_map}
-use Rattle.aig_circuit.specs.declared.circuit.Symbol.{Symbol}
 use Rattle.aig_circuit.specs.declared.circuit.Circuit.{Circuit}
-pub use Rattle.aig_text.specs.Tail.{kind_letter}
+pub use Rattle.aig_circuit.specs.SymbolText.{symbol_text}
 use Rattle.aig_text.specs.Sections.{ascii_word, header_row, rows_of, least_header_numbers}
 use Rattle.aig_rows.specs.Rows.{Row}
 
@@ -34,12 +33,6 @@ shortened least (n ∷ ns) = number_before least n (shortened (least - 1) ns)
 
 abbrev pub header_text : List ℕ → List ℕ → List ℕ
 header_text word ns = word ++ more_numbers_text (shortened least_header_numbers ns)
-
-abbrev pub name_text : List ℕ → List ℕ
-name_text name = codes " " ++ (name ++ codes "\n")
-
-abbrev pub symbol_text : Symbol → List ℕ
-symbol_text s = kind_letter s.kind ++ (decimal s.position ++ name_text s.name)
 
 abbrev pub comment_text : Option (List ℕ) → List ℕ
 comment_text None = []

@@ -2,22 +2,11 @@
 -- latches and the rest, and then a line `c` and the comment where there is one.
 use Rattle.std.specs.Prelude.{◌≡◌, ◌++◌, ℕ, List, [], ◌∷◌, Option, None, Some, codes}
 use Rattle.std.specs.List.{AllZip}
-use Rattle.aig_circuit.specs.declared.circuit.Kind.{Kind}
-use Rattle.aig_circuit.specs.declared.circuit.Kind.TheVariants.{Input, Latch, Output, Bad, Constraint, Justice}
-use Rattle.aig_circuit.specs.declared.circuit.Kind.TheVariants.{Fairness}
 use Rattle.aig_circuit.specs.declared.circuit.Symbol.{Symbol}
 use Rattle.aig_circuit.specs.declared.circuit.Circuit.{Circuit}
+pub use Rattle.aig_circuit.specs.SymbolText.{kind_letter}
 use Rattle.aig_rows.specs.Lines.{Line, bytes_of}
 use Rattle.aig_rows.specs.Spelling.{IsNumber, IsLineEnd}
-
-abbrev pub kind_letter : Kind → List ℕ
-kind_letter Input = codes "i"
-kind_letter Latch = codes "l"
-kind_letter Output = codes "o"
-kind_letter Bad = codes "b"
-kind_letter Constraint = codes "c"
-kind_letter Justice = codes "j"
-kind_letter Fairness = codes "f"
 
 -- the letter, the position, exactly one space, and then the name, whatever it holds
 pub record IsSymbolLine (l : Line) (s : Symbol) : Type 0 where

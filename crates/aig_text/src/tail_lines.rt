@@ -1,8 +1,10 @@
 //! The tail of a file: symbols and comment.
-ghost use Rattle.std.specs.Prelude.{◌≡◌, IfErr, IfOk, OnOk};
+ghost use Rattle.std.specs.Prelude.{◌≡◌, ◌^◌, ◌<◌, drop, IfErr, IfOk, OnOk, Some};
 ghost use Rattle.aig_core.specs.Names.{nothing_named, with_name};
-ghost use Rattle.aig_rows.specs.Lines.{line as line_of};
-ghost use Rattle.aig_text.specs.Parts.Kept.{kept_symbol};
+ghost use Rattle.aig_rows.specs.CanonicalNumber.{is_padded};
+ghost use Rattle.aig_rows.specs.Kept.{kept_first};
+ghost use Rattle.aig_rows.specs.Lines.{line as line_of, line_bytes};
+ghost use Rattle.aig_text.specs.Parts.Kept.{kept_symbol, position_at};
 ghost use Rattle.aig_rows.specs.Outcomes.{Gives, GivesOrMemory};
 ghost use Rattle.aig_text.specs.Scanning.{is_comment_line, kind_at, symbol, symbol_at};
 ghost use Rattle.aig_text.specs.Reading.{checked_symbol, count_named, tail_at, with_comment, with_symbol};
@@ -10,8 +12,14 @@ ghost use Rattle.aig_rows.specs.Reading.{at_line, want_of_memory};
 
 use crate::header_line::Header;
 use aig_core::{BorrowedSymbol, Circuit, Kind, Listing, NamedCounts, Names};
-use aig_rows::{Cursor, Line, Place, ReadFault, ReadKind, ends_line, leading_number, split_line};
-use std::alloc::Global;
+use aig_rows::{
+    Cursor, Line, Place, ReadFault, ReadKind, canonical_number, ends_line, leading_number,
+    split_line,
+};
+use std::alloc::{AllocError, Global};
+
+/// Positions from here on are not read at once: canonical numbers above this one are all taken as it.
+const FAR: u64 = 1 << 33;
 
 /// What a symbol line holds.
 #[derive(Clone, Copy)]
@@ -38,22 +46,44 @@ fn kind_of_letter(letter: u8) -> Option<Kind>
     }
 }
 
+/// What is kept of the number at the front, however it is spelled, and what stands behind the one space that follows
+/// it.
+#[tactic(auto, unfolding(crate::specs::Parts::Kept::position_at))]
+fn spelled_position(text: &[u8]) -> Option<(u64, &[u8])>
+    ensures { Gives (λ x. (x.0, x.1.now)) result (kept_first (position_at text.now)) }
+{
+    let (position, rest) = leading_number(text)?;
+    match rest.split_first() {
+        Some((b' ', name)) => Some((position, name)),
+        _ => None,
+    }
+}
+
+/// What is kept of the number at the front, and what stands behind the one space that follows it. Most are canonical,
+/// and so are read at once.
+#[inline(always)]
+fn leading_position(text: &[u8]) -> Option<(u64, &[u8])>
+    ensures { Gives (λ x. (x.0, x.1.now)) result (kept_first (position_at text.now)) }
+{
+    match canonical_number(text, b' ') {
+        Some((position, name)) if position < FAR => Some((position, name)),
+        _ => spelled_position(text),
+    }
+}
+
 /// Reads a symbol line.
-#[tactic(auto, unfolding(crate::specs::Scanning::symbol_at))]
+#[tactic(auto, unfolding(crate::specs::Scanning::symbol_at, crate::specs::Parts::Kept::position_at))]
 fn leading_symbol(text: &[u8]) -> Option<Naming>
     ensures { Gives (λ x. symbol x.kind x.position x.name.now) result (kept_symbol (symbol_at text.now)) }
 {
     let (letter, rest) = text.split_first()?;
     let kind = kind_of_letter(*letter)?;
-    let (position, rest) = leading_number(rest)?;
-    match rest.split_first() {
-        Some((b' ', name)) => Some(Naming {
-            kind,
-            position,
-            name,
-        }),
-        _ => None,
-    }
+    let (position, name) = leading_position(rest)?;
+    Some(Naming {
+        kind,
+        position,
+        name,
+    })
 }
 
 /// Whether the line is the line `c`.
@@ -92,6 +122,7 @@ fn read_symbol<'a>(
     ensures symbol { GivesOrMemory (λ s. s) result
         (at_line number (checked_symbol header.now names.old (symbol_at line.entry.text.now))) }
     ensures named { IfOk result (λ s. names.new ≡ with_name names.old s.kind s.position) }
+    ensures small { IfOk result (λ s. s.position < 2 ^ 32) }
 {
     let place = Place::Line(number);
     let Some(found) = leading_symbol(line.text) else {
@@ -129,12 +160,36 @@ fn put_comment(alloc: Global, circuit: &mut Circuit, bytes: &[u8]) -> Result<(),
     Ok(())
 }
 
-/// Adds the symbol to those of the circuit.
-fn put_symbol(circuit: &mut Circuit, symbol: &BorrowedSymbol) -> Result<(), ReadFault>
+/// Whether the position in a symbol line has a zero before its other digits.
+#[inline(always)]
+fn is_padded(text: &[u8]) -> bool
+    ensures { result ≡ is_padded (drop 1 text.now) }
+{
+    match text {
+        [_, first, next, ..] => next.is_ascii_digit() && *first == b'0',
+        _ => false,
+    }
+}
+
+/// Adds the symbol of a line to those of the circuit. These are the bytes of the line; most are canonical, and so are
+/// kept as they are.
+fn put_symbol(
+    circuit: &mut Circuit,
+    symbol: &BorrowedSymbol,
+    line: Line,
+    bytes: &[u8],
+) -> Result<(), ReadFault>
+    requires symbol { symbol_at line.text.now ≡ Some symbol.now }
+    requires small { symbol.now.position < 2 ^ 32 }
+    requires bytes { bytes.now ≡ line_bytes (line_of line.text.now line.ended) }
     ensures ok { OnOk result (circuit.new ≡ with_symbol circuit.old symbol.now) }
     ensures err { IfErr result (λ e. e ≡ want_of_memory) }
 {
-    circuit.symbols.push(symbol)?;
+    if line.ended && !is_padded(line.text) {
+        circuit.symbols.push_line(symbol, bytes)?;
+    } else {
+        circuit.symbols.push(symbol)?;
+    }
     Ok(())
 }
 
@@ -156,11 +211,29 @@ fn read_tail_lines(
             return put_comment(alloc, circuit, after);
         }
         let symbol = read_symbol(header, names, line, number)?;
-        put_symbol(circuit, &symbol)?;
+        let (bytes, _) = rest.split_at(rest.len() - after.len());
+        put_symbol(circuit, &symbol, line, bytes)?;
         rest = after;
         number += 1;
     }
     Ok(())
+}
+
+/// Makes room for the symbols that a text may have: at most as many as there are things to name, each in a line of at
+/// least three bytes.
+fn reserve_symbols(header: &Header, circuit: &mut Circuit, text: &[u8]) -> Result<(), AllocError>
+    ensures { circuit.new ≡ circuit.old }
+{
+    let things = header.inputs as usize
+        + header.latches as usize
+        + header.outputs as usize
+        + header.bad as usize
+        + header.constraints as usize
+        + header.justice as usize
+        + header.fairness as usize;
+    circuit
+        .symbols
+        .reserve(things.min(text.len() / 3), text.len())
 }
 
 /// Adds the symbols and the comment of the lines from here on. If there are none, it takes no memory.
@@ -185,6 +258,7 @@ pub(crate) fn read_tail(
         justice: header.justice,
         fairness: header.fairness,
     };
+    reserve_symbols(header, circuit, at.rest)?;
     let mut names = Names::new(alloc, counts)?;
     let read = read_tail_lines(alloc, header, &mut names, circuit, at);
     drop(names);

@@ -3,9 +3,8 @@ ghost use Rattle.std.specs.List.{flat_map};
 ghost use Rattle.std.specs.Prelude.{◌≡◌, ◌-◌, ◌<◌, ◌∷◌, ℕ, List, OnErr, OnOk};
 ghost use Rattle.aig_io.specs.Output.{Put};
 ghost use Rattle.aig_io.specs.Devices.{CanFail, took, TookBeginning};
-ghost use Rattle.aig_text.specs.AsciiText.{ascii_text, comment_text, header_text, kind_letter, line_text};
-ghost use Rattle.aig_text.specs.AsciiText.{more_numbers_text, row_text, shortened, name_text, numbers_text};
-ghost use Rattle.aig_text.specs.AsciiText.{spaced_number, symbol_text, tail_text};
+ghost use Rattle.aig_text.specs.AsciiText.{ascii_text, comment_text, header_text, line_text, more_numbers_text};
+ghost use Rattle.aig_text.specs.AsciiText.{numbers_text, row_text, shortened, spaced_number, symbol_text, tail_text};
 ghost use Rattle.aig_text.specs.Sections.{header_row, rows_of, literal_rows_of};
 ghost use Rattle.aig_rows.specs.Rows.{gate_row, input_row, latch_row, literal_row, reset_number, size_row};
 ghost use Rattle.aig_text.specs.declared.writer.TheConstants.{FEW};
@@ -13,8 +12,7 @@ ghost use Rattle.aig_text.specs.declared.writer.WriteFault.TheVariants.{Device};
 
 use crate::header_line::{ASCII_WORD, HEADER_LEAST, HEADER_NUMBERS};
 use aig_core::{
-    BorrowedSymbol, Checked, Circuit, DeviceFault, Gate, Kind, Latch, Listing, Lit, Output, Reset,
-    Sink, Symbols, Var,
+    Checked, Circuit, DeviceFault, Gate, Latch, Listing, Lit, Output, Reset, Sink, Symbols, Var,
 };
 use thiserror::Error;
 
@@ -180,46 +178,11 @@ pub fn put_lines<T: NumberedLine, W: Sink>(output: &mut Output<W>, items: &[T])
     }
 }
 
-/// The letter that a symbol of this kind begins with.
-fn letter(kind: Kind) -> &'static [u8]
-    ensures { result.now ≡ kind_letter kind }
-{
-    match kind {
-        Kind::Input => b"i",
-        Kind::Latch => b"l",
-        Kind::Output => b"o",
-        Kind::Bad => b"b",
-        Kind::Constraint => b"c",
-        Kind::Justice => b"j",
-        Kind::Fairness => b"f",
-    }
-}
-
-/// A space, a name and the line feed.
-fn put_name<W: Sink>(output: &mut Output<W>, name: &[u8])
-    ensures { Put output.old output.new (name_text name.now) }
-{
-    output.put(b" ");
-    output.put(name);
-    output.put(b"\n");
-}
-
-/// A symbol line.
-fn put_symbol<W: Sink>(output: &mut Output<W>, symbol: &BorrowedSymbol)
-    ensures { Put output.old output.new (symbol_text symbol.now) }
-{
-    output.put(letter(symbol.kind));
-    output.put_number(u64::from(symbol.position));
-    put_name(output, symbol.name);
-}
-
 /// The symbol lines.
 fn put_symbols<W: Sink>(output: &mut Output<W>, symbols: &Symbols)
     ensures { Put output.old output.new (flat_map symbol_text symbols.now) }
 {
-    for symbol in symbols.iter() {
-        put_symbol(output, &symbol);
-    }
+    output.put(symbols.as_text());
 }
 
 /// The comment section, where there is one.

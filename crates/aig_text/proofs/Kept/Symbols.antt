@@ -1,20 +1,30 @@
 -- Symbol lines are judged by what is kept of their positions as by the positions.
 use Rattle.std.proofs.Common.{rules}
-use Rattle.std.proofs.Common.{◌≡◌, ◌<◌, ◌≤◌, ◌^◌, ℕ, List, Bool, true, false, cond, refl, ap, ◌∙◌}
+use Rattle.std.proofs.Common.{◌≡◌, ◌<◌, ◌≤◌, ◌^◌, ℕ, List, [], ◌∷◌, ◌++◌, drop, Bool, true, false, cond, refl, ap, ◌∙◌}
+use Rattle.std.proofs.Common.{append_assoc, arith, decimal}
 use Rattle.std.proofs.Common.{Option, Some, None, Ok, Err}
 use Rattle.std.specs.Prelude.{nat_le}
 use Rattle.std.proofs.lemmas.Bool.{cases_lt, le-leb, lt-leb}
 use Rattle.aig_core.specs.declared.names.Names.{Names}
 use Rattle.aig_circuit.specs.declared.circuit.Kind.{Kind}
+use Rattle.aig_circuit.specs.declared.circuit.Kind.TheVariants.{Input}
+use Rattle.aig_circuit.specs.SymbolText.{kind_letter, symbol_text}
 use Rattle.aig_circuit.specs.declared.circuit.Symbol.{Symbol}
 use Rattle.aig_core.specs.Names.{is_named}
+use Rattle.aig_rows.specs.declared.fault.ReadKind.{ReadKind}
 use Rattle.aig_rows.specs.declared.fault.ReadKind.TheVariants as kinds
 use Rattle.aig_text.specs.Sections.{Header}
-use Rattle.aig_text.specs.Scanning.{symbol}
-use Rattle.aig_text.specs.Reading.{count_named, checked_symbol}
-use Rattle.aig_rows.specs.Reading.{unless_wrong}
-use Rattle.aig_text.specs.Parts.Kept.{kept_symbol}
-use Rattle.aig_rows.specs.Kept.{kept}
+use Rattle.aig_text.specs.Tail.{IsSymbolLine}
+use Rattle.aig_text.specs.Scanning.{symbol, symbol_at}
+use Rattle.aig_text.specs.Reading.{count_named, checked_symbol, fault_in_symbol}
+use Rattle.aig_rows.specs.Reading.{at_line, unless_wrong}
+use Rattle.aig_rows.specs.Lines.{line}
+use Rattle.aig_rows.specs.CanonicalNumber.{canonical_before, is_padded}
+use Rattle.aig_text.specs.Parts.Kept.{kept_symbol, position_at}
+use Rattle.aig_rows.specs.Kept.{kept, kept_first}
+use Rattle.aig_rows.proofs.Canonical.{canonical_reads, decimal_is_number, digits_are_decimal}
+use Rattle.aig_rows.proofs.Grammar.Spellings.{number_is_read}
+use Rattle.aig_text.proofs.Grammar.Symbols.{symbol_reads}
 use Rattle.aig_rows.proofs.Kept.Numbers.{kept_small, kept_large}
 
 -- the symbol behind what is kept of it
@@ -68,3 +78,41 @@ module _ (h : Header) (before : Names) where
   symbol_right o kind position name e small close new =
       ap (checked_symbol h before) (near o kind position name e small close)
       ∙ judged (symbol kind position name) false false (lt-leb (count_named h kind) position close) new
+
+  -- a symbol that is right is that of the line
+  line_tells : (n : ℕ) (t s : Symbol) (fault : Option ReadKind)
+      → at_line n (unless_wrong t fault) ≡ Ok s → t ≡ s
+  line_tells n t s None h = cc
+  line_tells n t s (Some kind) h = cc
+
+  pub right_is_told : (n : ℕ) (o : Option Symbol) (s : Symbol) → at_line n (checked_symbol h before o) ≡ Ok s
+      → o ≡ Some s
+  unfolding checked_symbol
+  right_is_told n None s r = cc
+  right_is_told n (Some t) s r = ap (λ (u : Symbol). Some u) (line_tells n t s (fault_in_symbol h before t) r)
+
+-- a position that is read at once
+pub position_read : (text name : List ℕ) (position : ℕ) → position < 2 ^ 33
+    → canonical_before 32 text ≡ Some (position, name) → kept_first (position_at text) ≡ Some (position, name)
+unfolding position_at
+position_read text name position small h =
+    ap (λ (t : List ℕ). kept_first (position_at t)) (canonical_reads position 32 text name small h)
+    ∙ rw (
+    number_is_read (decimal position) (32 ∷ name) position (decimal_is_number position (omega (arith, small))) refl
+    )
+    (ap (λ (n : ℕ). Some (n, name)) (kept_small position (omega (arith, small))))
+
+-- a line whose position has no zero before its other digits is spelled as the symbol is written
+behind_letter : (k : Kind) (rest : List ℕ) → drop 1 (kind_letter k ++ rest) ≡ rest
+behind_letter Input rest = refl
+behind_letter k rest = refl
+
+pub canonical_line : (text : List ℕ) (s : Symbol) → s.position < 2 ^ 64 → symbol_at text ≡ Some s
+    → is_padded (drop 1 text) ≡ false → text ++ 10 ∷ [] ≡ symbol_text s
+canonical_line text s small read plain =
+    let l : IsSymbolLine (line text true) s = symbol_reads (line text true) text s refl read in
+    let behind = ap (drop 1) l.text ∙ behind_letter s.kind (l.digits ++ (32 ∷ s.name)) in
+    let digits = digits_are_decimal l.digits (32 ∷ s.name) s.position small l.position (rw behind at plain) in
+    ap (λ (t : List ℕ). t ++ 10 ∷ []) l.text
+    ∙ ap (λ (d : List ℕ). (kind_letter s.kind ++ (d ++ (32 ∷ s.name))) ++ 10 ∷ []) digits
+    ∙ simp append_assoc

@@ -1,13 +1,14 @@
 -- Reading the tail line by line.
 use Rattle.std.proofs.Common.{◌≡◌, ◌+◌, ℕ, List, [], ◌∷◌, length, true, false, Result, Ok, Err, refl, ap, ◌∙◌, sym, ◌⊎◌}
-use Rattle.std.proofs.Common.{inl, inr}
+use Rattle.std.proofs.Common.{◌-◌, ◌++◌, inl, inr, take, arith}
+use Rattle.std.proofs.lemmas.List.{length-append, take-append-le, take_all}
 use Rattle.std.specs.Prelude.{OnOk, IfErr}
 use Rattle.aig_core.specs.declared.names.Names.{Names}
 use Rattle.aig_circuit.specs.declared.circuit.Circuit.{Circuit}
 use Rattle.aig_circuit.specs.declared.circuit.Symbol.{Symbol}
 use Rattle.aig_core.specs.Names.{with_name}
 use Rattle.aig_rows.specs.declared.fault.ReadFault.{ReadFault}
-use Rattle.aig_rows.specs.Lines.{Line, lines_of}
+use Rattle.aig_rows.specs.Lines.{Line, bytes_of, line_bytes, lines_of}
 use Rattle.aig_text.specs.Sections.{Header}
 use Rattle.aig_text.specs.Scanning.{symbol_at, is_comment_line}
 use Rattle.aig_text.specs.Reading.{checked_symbol, with_comment, with_symbol, tail_at}
@@ -42,6 +43,19 @@ module _ (h : Header) (before : Names) (c : Circuit) (n : ℕ) where
       ≡ tail_at h before c n (lines_of bytes)
   unfolding tail_at
   one_symbol bytes rest l s are other r = sym (rw (are, other, r) refl)
+
+-- what stands before the rest of a text, where that begins at its second line, is the first line
+front_of : (xs ys : List ℕ) → take (length (xs ++ ys) - length ys) (xs ++ ys) ≡ xs
+front_of xs ys =
+    ap (λ (n : ℕ). take n (xs ++ ys)) (let all = length-append xs ys in omega (arith, all))
+    ∙ take-append-le (length xs) xs ys (omega arith) ∙ take_all (length xs) xs (omega arith)
+
+pub first_bytes : (bytes after : List ℕ) (l : Line) → lines_of bytes ≡ l ∷ lines_of after
+    → take (length bytes - length after) bytes ≡ line_bytes l
+first_bytes bytes after l are =
+    let whole : bytes ≡ line_bytes l ++ after =
+    sym (pieces bytes).joined ∙ ap bytes_of are ∙ ap (λ (t : List ℕ). line_bytes l ++ t) (pieces after).joined in
+    ap (λ (t : List ℕ). take (length t - length after) t) whole ∙ front_of (line_bytes l) after
 
 -- what a function that may want memory did to the circuit is what reading gives
 pub done_or_memory : (r : Result (Unit {0}) ReadFault) (c d : Circuit) (read : Result Circuit ReadFault) → read ≡ Ok d

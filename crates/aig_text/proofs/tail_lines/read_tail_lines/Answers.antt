@@ -2,7 +2,8 @@ use Rattle.std.proofs.Common.{rules}
 use Rattle.std.proofs.Common.{◌∙◌, sym}
 use Rattle.std.proofs.lemmas.Result.{err_from_is_err_and}
 use Rattle.aig_rows.specs.Lines.{line}
-use Rattle.aig_text.proofs.Loops.Tail.{no_tail, comment_tail, wrong_symbol, one_symbol, done_or_memory}
+use Rattle.aig_text.proofs.Loops.Tail.{no_tail, comment_tail, wrong_symbol, one_symbol, done_or_memory, first_bytes}
+use Rattle.aig_text.proofs.Kept.Symbols.{right_is_told}
 use Rattle.aig_text.proofs.tail_lines.read_tail_lines.Goals as goal
 
 pub returns-then-is_comment_line : goal.returns-then-is_comment_line
@@ -18,6 +19,14 @@ returns-in_err-symbol c =
     c.in_err-symbol.field-0.0 c.in-Some.ensures.lines (sym c.is_comment_line.ensures ∙ c.if-is_comment_line.false)
     c.in_err-symbol.ensures.symbol
     )
+
+pub put_symbol-requires-clause-symbol : goal.put_symbol-requires-clause-symbol
+put_symbol-requires-clause-symbol c =
+    right_is_told c.args.header.now c.loop-line.names c.loop-line.number _ _ c.in_ok-symbol.ensures.symbol
+
+pub put_symbol-requires-clause-bytes : goal.put_symbol-requires-clause-bytes
+put_symbol-requires-clause-bytes c =
+    c.split_at.ensures.front ∙ first_bytes c.loop-line.rest.now c.in-Some.after.now _ c.in-Some.ensures.lines
 
 pub loop-line-preserved : goal.loop-line-preserved
 loop-line-preserved c = search (rules, one_symbol)
