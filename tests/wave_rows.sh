@@ -23,6 +23,7 @@ at() { printf '#%s\\n' "$1"; [ $# = 1 ] || printf '%s\\n' "${@:2}"; }
 
 rows_waves() {
     rows_frames
+    rows_groups
     rows_wave_runs
     rows_buses
     rows_wave_names
@@ -56,6 +57,17 @@ rows_frames() {
     dumped 'the dump of each section but justice and fairness' '0\n1\n' "$each" \
         "$(at 0 'b0 r' 0i0 1l0 xl1 xo0 xb0 xb1 xc0)$(at 1 1i0 1l1 0o0 1b0 0b1 1c0)$(
             at 2 zi0 0l0 zo0 zb0 zb1 zc0)$(at 3)"
+}
+
+# bits that change at the ends of groups of 32, between others that stay
+rows_groups() {
+    local bits
+    mapfile -t bits < <(seq 0 69 | awk '{ print "wire 1 i" $1 " i" $1 }')
+    model "aag 70 70 0 0 0\n$(seq -s '\n' 2 2 140)\n"
+    dumped 'the dump of bits that change beside others that stay' \
+        "$(digits 70 0)\n1$(digits 30 0)11$(digits 36 0)1\n$(digits 69 0)1\n" "$(scope inputs "${bits[@]}")" \
+        "$(at 0 'b0 r' $(seq -f '0i%g' 0 69))$(at 1 1i0 1i31 1i32 1i69)$(at 2 0i0 0i31 0i32)$(
+            at 3 $(seq -f 'zi%g' 0 69))$(at 4)"
 }
 
 rows_wave_runs() {
