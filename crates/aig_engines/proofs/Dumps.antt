@@ -6,6 +6,7 @@ use Rattle.aig_circuit.specs.declared.circuit.Circuit.{Circuit}
 use Rattle.aig_circuit.specs.declared.circuit.Latch.{Latch}
 use Rattle.aig_circuit.specs.declared.circuit.TheConstants.{LARGEST}
 use Rattle.aig_circuit.specs.Wellformed.{IsWellFormed}
+use Rattle.aig_command.specs.declared.request.ToAig.{ToAig}
 use Rattle.aig_image.specs.Image.{image_by}
 use Rattle.aig_image.specs.Relabelled.{relabelled_latch, relabelled_literal}
 use Rattle.aig_image.specs.Renumbering.{in_new_order, renumbered}
@@ -16,7 +17,7 @@ use Rattle.aig_wave.specs.Laws.{ShowTheSame}
 use Rattle.aig_wave.specs.Wave.{wave_text}
 use Rattle.aig_wave.proofs.Alike.{same_wave}
 use Rattle.aig_wave.proofs.Retold.{dumps_lose_nothing}
-use Rattle.aig_engines.specs.Conversion.{IsSource, IsTextAs}
+use Rattle.aig_engines.specs.Conversion.{IsConversionText, IsSource, IsTextAs}
 use Rattle.aig_engines.specs.DumpLaws.{ConversionsAreDumpedAlike, DumpsAreKept, DumpsAreUnambiguous}
 use Rattle.aig_engines.specs.DumpLaws.{DumpsTellTraces}
 use Rattle.aig_engines.specs.File.{IsFileOf}
@@ -35,7 +36,7 @@ show_itself c = record {
   resets = refl;
 }
 
-show_back : (c d : Circuit) → ShowTheSame c d → ShowTheSame d c
+pub show_back : (c d : Circuit) → ShowTheSame c d → ShowTheSame d c
 show_back c d s = record {
   symbols = sym s.symbols;
   inputs = sym s.inputs;
@@ -100,15 +101,22 @@ file_shown false false c text good (image, is_image, is) =
       subst (ShowTheSame c) (sym is_image.2) (by_number c is_image.0),
     )
 
-pub dumped_alike : ConversionsAreDumpedAlike
-dumped_alike request keeps limit file converted p c d of_file of_converted text done =
+-- a file and its conversion show the same
+pub shown_alike : (request : ToAig) → request.strip ≡ false → request.max_var ≡ LARGEST → (file converted : List ℕ)
+    → IsConversionText request file converted → (c d : Circuit) → IsFileOf file LARGEST c
+    → IsFileOf converted LARGEST d → ShowTheSame c d
+shown_alike request keeps limit file converted p c d of_file of_converted =
     let good = well_formed_file file request.max_var p.found p.read in
     let source = source_shown request.undo_map p.found p.source good p.is_source in
     let made = file_shown request.ascii request.keep_map p.source converted source.0 (rw keeps at p.written_as) in
     let same_found = one_circuit file LARGEST p.found c (rw limit at p.read) of_file in
     let same_made = one_circuit converted LARGEST made.0 d made.1 of_converted in
-    same_wave c d (subst (λ (e : Circuit). ShowTheSame e d) same_found
-    (subst (ShowTheSame p.found) same_made (show_through p.found p.source made.0 source.1 made.2))) text done
+    subst (λ (e : Circuit). ShowTheSame e d) same_found
+    (subst (ShowTheSame p.found) same_made (show_through p.found p.source made.0 source.1 made.2))
+
+pub dumped_alike : ConversionsAreDumpedAlike
+dumped_alike request keeps limit file converted p c d of_file of_converted =
+    same_wave c d (shown_alike request keeps limit file converted p c d of_file of_converted)
 
 at_limit : (text : List ℕ) (limit : ℕ) (c : Circuit) → limit ≡ LARGEST → IsFileOf text limit c
     → IsFileOf text LARGEST c

@@ -8,5 +8,6 @@ pub mod Unrollings
 pub mod WitnessesUnrolled
 pub mod Texts
 pub mod Dumps
+pub mod WitnessDumps
 pub mod Begun
 pub mod Pieces

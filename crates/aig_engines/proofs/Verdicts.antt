@@ -21,12 +21,17 @@ use Rattle.aig_binary.proofs.Files.{one_circuit}
 use Rattle.aig_engines.proofs.Meant.{converted_file}
 use Rattle.aig_engines.proofs.TripsExist.{well_formed_file}
 
+-- a witness file claims one thing of a circuit
+pub one_claim : (c d : Circuit) (witness : List ℕ) (claim other : Claim) → c ≡ d → SaysClaim c witness claim
+    → SaysClaim d witness other → claim ≡ other
+one_claim c d witness claim other same says_one says_too =
+    let says : SaysClaim d witness claim = subst (λ (e : Circuit). SaysClaim e witness claim) same says_one in
+    cc
+
 pub one_witness_answer : WitnessAnswersAreUnambiguous
 one_witness_answer request model witness verdict other p q =
     let same : p.found ≡ q.found = one_circuit model request.max_var p.found q.found p.read q.read in
-    let says : SaysClaim q.found witness p.claim = subst (λ (c : Circuit). SaysClaim c witness p.claim) same p.says in
-    let says_too : SaysClaim q.found witness q.claim = q.says in
-    let claims : p.claim ≡ q.claim = cc in
+    let claims : p.claim ≡ q.claim = one_claim p.found q.found witness p.claim q.claim same p.says q.says in
     let one = one_verdict q.found witness q.claim (well_formed_file model request.max_var q.found q.read) q.says in
     one.2 verdict
     (subst (λ (k : Claim). IsVerdict q.found k verdict) claims
@@ -64,7 +69,7 @@ right_run_is_confirmed request c file claim rows step read below trace confirmed
     )
 
 -- a verdict for the file of a circuit is one for the file of a circuit that means the same
-carried : (before after : Sim) (file other witness : List ℕ) (verdict : Verdict) (c d : Circuit)
+unfoldable pub carried : (before after : Sim) (file other witness : List ℕ) (verdict : Verdict) (c d : Circuit)
     → before.max_var ≡ LARGEST → after.max_var ≡ LARGEST → IsFileOf file LARGEST c → IsFileOf other LARGEST d
     → MeansTheSame c d → IsWitnessAnswer before file witness verdict → IsWitnessAnswer after other witness verdict
 carried before after file other witness verdict c d limit limit_after is is_other means p =

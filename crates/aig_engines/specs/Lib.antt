@@ -7,6 +7,8 @@ pub mod Reading
 pub mod Begun
 pub mod Outcome
 pub mod WitnessOutcome
+pub mod WitnessDump
 pub mod Messages
 pub mod Laws
 pub mod DumpLaws
+pub mod WitnessDumpLaws

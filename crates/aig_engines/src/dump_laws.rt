@@ -1,6 +1,7 @@
 //! Laws of dumps: facts about the definitions alone, each the contract of a function with an empty body.
 ghost use Rattle.aig_engines.specs.DumpLaws.{ConversionsAreDumpedAlike, DumpsAreKept, DumpsAreUnambiguous};
 ghost use Rattle.aig_engines.specs.DumpLaws.{DumpsTellTraces};
+ghost use Rattle.aig_engines.specs.WitnessDumpLaws.{VerdictsHaveDumps, WitnessDumpsAreKept, WitnessDumpsAreUnambiguous};
 
 /// A file and its conversion, or what is undone from it, have one dump of each trace text, where the symbols are kept.
 pub fn conversions_are_dumped_alike()
@@ -21,4 +22,20 @@ pub fn dumps_are_kept()
 /// A dump tells its trace: two stimuli of a model with one dump have one trace with the properties.
 pub fn dumps_tell_traces()
     ensures { DumpsTellTraces }
+{}
+
+/// A model and a witness file have a dump exactly where they have a verdict, and with this verdict.
+pub fn verdicts_have_dumps()
+    ensures { VerdictsHaveDumps }
+{}
+
+/// A model and a witness file have one dump at most.
+pub fn witness_dumps_are_unambiguous()
+    ensures { WitnessDumpsAreUnambiguous }
+{}
+
+/// A file and its conversion, or what is undone from it, have the same dump of every witness file, where the symbols
+/// are kept.
+pub fn witness_dumps_are_kept()
+    ensures { WitnessDumpsAreKept }
 {}
