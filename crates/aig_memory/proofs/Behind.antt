@@ -103,7 +103,7 @@ or_true : (b : Bool) → (b || true) ≡ true
 or_true true = refl
 or_true false = refl
 
-all_judged : (ls : List Line) → filter (λ (l : Line). l.ended || true) ls ≡ ls
+pub all_judged : (ls : List Line) → filter (λ (l : Line). l.ended || true) ls ≡ ls
 all_judged [] = refl
 all_judged (l ∷ ls) = rw (or_true l.ended) (ap (λ ks. l ∷ ks) (all_judged ls))
 

@@ -3,3 +3,4 @@ pub mod Outcome
 pub mod Message
 pub mod Asked
 pub mod Answers
+pub mod Started

@@ -4,6 +4,8 @@
 //! the `Outcome` that each call answers: a caller may stand in any language. A call makes its whole text first, and
 //! then copies it to the output where there is room for it; otherwise the output is as it was.
 //!
+//! The program calls `judge_and_dump` for the dump of a witness's run, which needs the verdict before the first byte.
+//!
 //! The definitions that matter most are `Answers` and `fault_outcome`.
 #![tactic(auto)]
 
@@ -13,7 +15,9 @@ pub mod kind;
 pub mod laws;
 mod lent;
 mod outcome;
+mod run_dump;
 mod simulation;
+mod started;
 mod texts;
 mod verdicts;
 mod wording;
@@ -23,6 +27,7 @@ pub use crate::outcome::{
     BAD_OPTIONS, DONE, GATE, LINE, MAP_LINE, NOT_CONFIRMED, OUT_OF_MEMORY, Outcome, REFUSED,
     TOO_SHORT, WHOLE,
 };
+pub use crate::run_dump::judge_and_dump;
 pub use crate::simulation::simulate;
 pub use crate::texts::{convert, unroll};
 pub use crate::verdicts::witness;

@@ -57,7 +57,7 @@ fn trace(
 
 /// The dump of the trace of a stimulus. The sink fails where memory is refused, and what it says counts first.
 #[tactic(auto, using(crate::proofs::Lents::not_batched))]
-fn dump(alloc: Global, found: &Checked, stimulus: &[u8]) -> Result<Vec<u8>, SimFault>
+pub(crate) fn dump(alloc: Global, found: &Checked, stimulus: &[u8]) -> Result<Vec<u8>, SimFault>
     ensures none_bad { IfOk result (λ _. first_bad_line found.now stimulus.now true ≡ None) }
     ensures text { IfOk result (λ text. (trace : List ℕ)
         × IsTraceText found.now Properties stimulus.now true trace × (text.items ≡ wave_text found.now trace true)) }

@@ -17,7 +17,7 @@ use std::alloc::Global;
 
 /// The verdict on a witness file.
 #[tactic(auto, using(crate::proofs::Lents::not_judged))]
-fn judged(alloc: Global, found: &Checked, witness: &[u8]) -> Result<Verdict, SimFault>
+pub(crate) fn judged(alloc: Global, found: &Checked, witness: &[u8]) -> Result<Verdict, SimFault>
     ensures ok { IfOk result (IsVerdictFor found.now witness.now) }
     ensures err { IfErr result (λ fault.
         IsBadWitness found.now witness.now fault ⊎ (sim_outcome fault ≡ out_of_memory)) }
