@@ -3,12 +3,12 @@
 
     tests/cuts.py PROGRAM
 
-The files are those of small_rows.py: circuits in ASCII and binary, with and without a map, stimuli and
-witnesses. What is refused as a circuit must be refused by all tools in the same words. What is accepted must
-have the image, the traces, the unrolled circuit and the answer to a witness that are worked out here from its
-ASCII text. A cut or changed stimulus must have the trace that is worked out here up to its first bad line, and
-nothing with --batch if there is one; a witness must have its answer. Whatever comes, the status is 0, 1 or 2, a
-refusal is one line of a kind that is known, and with it nothing is sent but the trace before a bad line.
+The files are those of small_rows.py: circuits in ASCII and binary, with and without a map, stimuli and witnesses.
+What is refused as a circuit must be refused by all tools in the same words. What is accepted must have the image, the
+traces, the unrolled circuit and the answer to a witness that are worked out here from its ASCII text. A cut or
+changed stimulus must have the trace that is worked out here up to its first bad line, and nothing with --batch if
+there is one; a witness must have its answer, and its dump. Whatever comes, the status is 0, 1 or 2, a refusal is one
+line of a kind that is known, and with it nothing is sent but the trace before a bad line.
 
 The last line is 'N passed, M failed', and counts files that were cut or changed.
 """
@@ -123,6 +123,8 @@ class Judge:
         self.runner.put("model", model)
         made, _ = soak.parsed(self.ask("aigtoaig --ascii", model)[0])
         self.expect("aigsim --witness model", text, *witnesses.wanted(made, "-", text.decode("latin-1")))
+        wanted = waves.wanted_of_run(made, {}, "-", text.decode("latin-1"))
+        self.expect("aigsim --witness --vcd model", text, *wanted)
 
 
 def edits(text, place):

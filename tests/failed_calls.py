@@ -76,8 +76,8 @@ class Calls:
             _, steps = self.read_in_order()[-1]
             size = piece or len(steps)
             counts = [steps[:end].count(b"\n") for end in range(size, len(steps) + size, size)]
-        # the last time of a dump is sent alone
-        counts += [len(lines) - 1] * ("--vcd" in self.words)
+        # the last time of a dump is sent alone, but for that of a witness
+        counts += [len(lines) - 1] * ("--vcd" in self.words and "--witness" not in self.words)
         texts = [b"".join(lines[first:last]) for first, last in itertools.pairwise([0, *counts, len(lines)])]
         size = piece or len(self.row.output)
         return [text[at : at + size] for text in texts for at in range(0, len(text), size)]

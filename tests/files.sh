@@ -478,6 +478,9 @@ half=' 10 10 \n.\n 1x xx \n.\n'
 wants " 10 10 \n 1x xx \n.\n 10 10  0 \n.\n 1x xx  x \n.\n${half}confirmed 0\n$half" '' 0
 check 'the examples of help of aigsim run' simulation_examples
 if grep -q '^#4$' "$files/a.vcd"; then pass; else fail 'the example of help of aigsim writes a waveform'; fi
+if grep -q '^$comment confirmed 0 $end$' "$files/w.vcd"; then pass; else
+    fail 'the example of help of aigsim writes the waveform of a witness'
+fi
 helps 'help of aigunroll' aigunroll --help
 # its examples too; the half adder has no latches, so each frame is a copy of it
 grep '^  aiger aigunroll ' "$work/out" | sed 's/^  aiger/"$program"/; s/   .*//' > "$work/examples"

@@ -38,7 +38,7 @@ OF_ARGUMENTS = """--keep-map needs binary output
 model and stimulus are both standard input
 compressed output is not supported
 --witness stands alone
---vcd excludes --properties and --witness
+--vcd excludes --properties
 an argument is not UTF-8 text""".split("\n")
 BY_CLAP = "error: .."
 ALL = [*NAMED, OF_MEMORY, *OF_ARGUMENTS, BY_CLAP]

@@ -162,13 +162,18 @@ class Round:
         self.expect(what, Call(["aigtoaig", *words], source), wanted)
 
 
+def is_denial(output):
+    """Whether this is what is written for a witness that is not confirmed."""
+    return output == b"not confirmed\n" or output.startswith(b"$comment not confirmed $end\n$version ")
+
+
 def wrong_form(call, output, errors, status):
     """What should hold of any answer and does not hold of this one, if there is such a thing."""
     if status not in (0, 1, 2):
         return "status 0, 1 or 2"
     if status == 0:
         return "nothing on standard error" if errors else None
-    if status == 1 and (output, errors) == (b"not confirmed\n", b"") and "--witness" in call.words:
+    if status == 1 and not errors and is_denial(output) and "--witness" in call.words:
         return None
     if status == 2 and errors.startswith(b"error: "):
         return "no output" if output else None
@@ -691,7 +696,7 @@ def refused_alike(here, text, errors, limit):
     steps, old = {"steps": b"0\n"}, {"out.aag": b"as it was\n"}
     for words in ([], ["--strip"], ["--keep-map"], ["--undo-map"], ["--undo-map", "--ascii"]):
         here.expect("a refusal is one of all tools", Call(["aigtoaig", *words, *limit], text), b"", errors, 1)
-    for words in ([], ["--batch"], ["--properties"], ["--vcd"], ["--witness"]):
+    for words in ([], ["--batch"], ["--properties"], ["--vcd"], ["--witness"], ["--witness", "--vcd"]):
         call = Call(["aigsim", *words, *limit, "-", "steps"], text, steps)
         here.expect("a refusal is one of all tools", call, b"", errors, 1)
     unroll = ["aigunroll", "--frames", "2", *limit]

@@ -3,6 +3,13 @@
 
 # dumped NAME STIMULUS SCOPES FRAMES: a simulation that ends well, with what its dump says of signals, then of times
 dumped() { traced "$1" "$2" "$(dump "$3" "$4")" --vcd "$model"; }
+# run_of NAME WITNESS ANSWER SCOPES FRAMES: the answer to a witness, and the dump of its run
+run_of() {
+    row "$1" "$2" "\$comment $3 \$end\\n$(dump "$4" "$5")" '' "$([[ $3 = confirmed* ]]; echo $?)" \
+        aigsim --witness --vcd "$model"
+}
+# no_run NAME WITNESS TEXT WORD..: a witness that has no dump
+no_run() { row "$1" "$2" '' "aiger: $3\n" 1 aigsim --witness --vcd "${@:4}"; }
 # cut_short NAME STIMULUS SCOPES FRAMES LINE: this line is bad, and the dump of those before it stands
 cut_short() { untraced "$1" "$2" "$(dump "$3" "$4")" "-: line $5: bad stimulus line" --vcd "$model"; }
 # not_dumped NAME STIMULUS TEXT WORD..: a simulation that fails before the first line, and writes nothing
@@ -28,6 +35,7 @@ rows_waves() {
     rows_buses
     rows_wave_names
     rows_cut_dumps
+    rows_witness_runs
     rows_wave_words
 }
 
@@ -138,18 +146,52 @@ rows_cut_dumps() {
     not_dumped 'no dump of a model with a bad line' '1\n' "$model: line 2: bad line" "$model"
 }
 
+# the run of a witness, which begins in its first state
+rows_witness_runs() {
+    local all closed='zi0 zb0 zb1 zc0' latch
+    model 'aag 3 1 2 0 0 2 1\n2\n4 2\n6 4 6\n4\n6\n1\ni0 go\nl0 a\nl1 b\nb0 hit\n'
+    all=$(scope inputs 'wire 1 i0 go')$(scope latches 'reg 1 l0 a' 'reg 1 l1 b')
+    all+=$(scope bad 'wire 1 b0 hit' 'wire 1 b1 b1')$(scope constraints 'wire 1 c0 c0')
+    run_of 'the run of a witness, with x' '1\nb0\n01\n1\n0\nx\n.\n' 'confirmed 1' "$all" \
+        "$(at 0 'b0 r' 1i0 0l0 1l1 0b0 1b1 1c0)$(at 1 0i0 1l0 0l1 1b0 0b1)$(at 2 xi0 0l0 1l1 0b0 1b1)$(
+            at 3 zi0 xl0 0l1 zb0 zb1 zc0)$(at 4)"
+    run_of 'the run of a witness for the other bad state, CR LF and . without LF' '1\r\nb1\r\n01\r\n1\r\n.' \
+        'confirmed 0' "$all" "$(at 0 'b0 r' 1i0 0l0 1l1 0b0 1b1 1c0)$(at 1 zi0 1l0 0l1 zb0 zb1 zc0)$(at 2)"
+    run_of 'the run of a witness that is not confirmed' '1\nb1\n00\n0\n.\n' 'not confirmed' "$all" \
+        "$(at 0 'b0 r' 0i0 0l0 0l1 0b0 0b1 1c0)$(at 1 $closed)$(at 2)"
+    run_of 'a first state, and no step' '1\nb1\n01\n.\n' 'not confirmed' "$all" \
+        "$(at 0 'b0 r' zi0 0l0 1l1 zb0 zb1 zc0)$(at 1)"
+    run_of 'a first state with x, and no step' '1\nb1\n0x\n.\n' 'not confirmed' "$all" \
+        "$(at 0 'b0 r' zi0 0l0 xl1 zb0 zb1 zc0)$(at 1)"
+    no_run 'no run of a wrong first state' '1\nb0\n1x\n1\n.\n' '-: line 3: bad witness line' "$model"
+    no_run 'no run with a wrong step' '1\nb0\n01\n1\n1\n2\n.\n' '-: line 6: bad witness line' "$model"
+    no_run 'no run without its end' '1\nb0\n01\n1\n' '-: line 5: bad witness line' "$model"
+    no_run 'no run with a line behind it' '1\nb0\n01\n1\n.\n\n' '-: line 6: bad witness line' "$model"
+    no_run 'no run of an empty witness' '' '-: line 1: bad witness line' "$model"
+    no_run 'no run of a witness that is not there' '' "$work/none: cannot read" "$model" "$work/none"
+    no_run 'no run for a model that is not there' '1\nb0\n01\n.\n' "$work/none: cannot read" "$work/none"
+    model 'aag 1 0 1 0 0 1\n2 3 1\n2\n'
+    latch=$(scope latches 'reg 1 l0 l0')$(scope bad 'wire 1 b0 b0')
+    run_of 'the run of a witness from a reset to 1' '1\nb0\n1\n\n\n.\n' 'confirmed 0' "$latch" \
+        "$(at 0 'b0 r' 1l0 1b0)$(at 1 0l0 0b0)$(at 2 1l0 zb0)$(at 3)"
+    model 'aag 0 0 0 0 0 1\n1\n'
+    run_of 'the run of a witness without latches and inputs' '1\nb0\n\n\n.\n' 'confirmed 0' \
+        "$(scope bad 'wire 1 b0 b0')" "$(at 0 'b0 r' 1b0)$(at 1 zb0)$(at 2)"
+}
+
 rows_wave_words() {
-    local excludes='--vcd excludes --properties and --witness'
+    local excludes='--vcd excludes --properties'
     model 'aag 1 1 0 0 0\n2\n'
     row 'the option --vcd behind the names' '1\n' \
         "$(dump "$(scope inputs 'wire 1 i0 i0')" "$(at 0 'b0 r' 1i0)$(at 1 zi0)$(at 2)")" '' 0 aigsim "$model" - --vcd
     unwanted 'a dump with properties' "$excludes" aigsim --vcd --properties "$model"
     unwanted 'a dump with properties, in a batch' "$excludes" aigsim --properties "$work/none" --batch --vcd
-    unwanted 'a dump with a witness' "$excludes" aigsim --vcd --witness "$model" "$work/none"
     unwanted 'a dump, and model and stimulus by standard input' 'model and stimulus are both standard input' \
         aigsim --vcd --properties -
     unwanted 'a dump with a witness that does not stand alone' '--witness stands alone' \
         aigsim --vcd --witness --batch "$model"
+    unwanted 'a dump of a witness with properties' '--witness stands alone' \
+        aigsim --vcd --witness --properties "$model"
     misused 'the option --vcd twice' \
         "the argument '--vcd' cannot be used multiple times\n\nUsage: aiger aigsim [OPTIONS] <model> [stimulus]" \
         aigsim --vcd x --vcd

@@ -1,6 +1,6 @@
 #!/usr/bin/env python3
 """Compares the dumps that the program writes with what is worked out here, on circuits with hostile names and on
-stimuli made by chance.
+stimuli and witnesses made by chance.
 
     tests/waves.py PROGRAM
 
@@ -9,7 +9,8 @@ indices follow or nearly, words of the dump itself, equal ones, and any bytes. T
 dump of each circuit, of its binary image, of its mapped image and of what is undone, step by step or as a batch, must
 be the text that is made here from the trace. A reader, which knows of a circuit only how many of each kind it has, must
 get the trace back from the dump; and so from what vcd2fst and fst2vcd make of some dumps, where these are installed
-(package gtkwave), with the same words for each signal. GTKWave, where it and xvfb-run are installed, must show each
+(package gtkwave), with the same words for each signal. The witnesses are those of witnesses.py, and so are the answers
+before the dumps of their runs. GTKWave, where it and xvfb-run are installed, must show each
 signal of a circuit that has all of these names.
 
 The last line is 'N passed, M failed', with ', K skipped' behind it if they are not, and counts dumps.
@@ -28,6 +29,7 @@ from pathlib import Path
 sys.dont_write_bytecode = True
 import images
 import traces
+import witnesses
 
 CIRCUITS = 400
 # of so many of them some go through other programs
@@ -150,6 +152,26 @@ def wanted(made, names, name, lines, is_batch=False):
         return dump(made, names, [full for _, full in traced], True), b"", 0
     output = b"" if is_batch else dump(made, names, [full for _, full in traced], False)
     return output, f"aiger: {name}: line {bad_at}: bad stimulus line\n".encode(), 1
+
+
+def lines_of_run(made, lines):
+    """The trace with properties of the run of a witness of these lines, which is right."""
+    order, state, traced = images.placed(made.gates), lines[2], []
+    for given in lines[3:-1]:
+        _, full, state = traces.step(made, order, state, given)
+        traced.append(full)
+    return [*traced, "."]
+
+
+def wanted_of_run(made, names, name, text):
+    """Standard output, standard error and the status for a witness of this name."""
+    answer, errors, status = witnesses.wanted(made, name, text)
+    if errors:
+        return answer, errors, status
+    lines = witnesses.lines_of(text)
+    started = dataclasses.replace(made, resets=list(lines[2]))
+    run = dump(started, names, lines_of_run(made, lines), True)
+    return b"$comment " + answer.rstrip() + b" $end\n" + run, errors, status
 
 
 # --- the reader ---
@@ -307,10 +329,9 @@ def through_others(made, text, lines, file):
     return None if trace_of(made, came) == lines else f"another trace, from {came!r}"
 
 
-def of_dump(made, lines, text, file):
-    """What is wrong with this dump of a stimulus without a bad line, if anything is. With a file it goes through other
-    programs too."""
-    traced = [full for _, full in traces.lines_of_trace(made, lines)[0]]
+def of_dump(made, traced, text, file):
+    """What is wrong with this dump of the lines of a trace with properties, if anything is. With a file it goes through
+    other programs too."""
     try:
         came = trace_of(made, text)
         if came != traced:
@@ -338,8 +359,25 @@ def judge(program, folder, number, has_others):
             return f"circuit {number}, {model!r} over {given!r}, {words}: wanted {should!r}, came {came!r}"
     text, _, status = wanted(made, names, steps, lines)
     file = Path(folder) / f"dump.{number}" if has_others and number % EACH == 0 else None
-    said = of_dump(made, lines, text, file) if status == 0 else None
-    return f"circuit {number}, {source!r} over {given!r}, the dump {text!r}: {said}" if said else None
+    traced = [full for _, full in traces.lines_of_trace(made, lines)[0]]
+    said = of_dump(made, traced, text, file) if status == 0 else None
+    if said:
+        return f"circuit {number}, {source!r} over {given!r}, the dump {text!r}: {said}"
+    return judge_run(program, folder, number, made, names, [source, others[number % 3]], file)
+
+
+def judge_run(program, folder, number, made, names, models, file):
+    """What is wrong with the dumps of a witness's run, if anything is."""
+    given, witness = witnesses.given(random.Random(number), made), Path(folder) / f"witness.{number}"
+    witness.write_bytes(given.encode())
+    should = wanted_of_run(made, names, witness, given)
+    for model in models:
+        came = traces.ran(program, model, "aigsim", "--witness", "--vcd", "-", str(witness))
+        if came != should:
+            return f"circuit {number}, {model!r} and the witness {given!r}: wanted {should!r}, came {came!r}"
+    text, errors, _ = should
+    said = None if errors else of_dump(made, lines_of_run(made, witnesses.lines_of(given)), text, file)
+    return f"circuit {number}, {models[0]!r} and the witness {given!r}, the dump {text!r}: {said}" if said else None
 
 
 def seen_by_viewer(text, folder):

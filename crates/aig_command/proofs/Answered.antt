@@ -58,7 +58,7 @@ is_usage words (Some asked) (Err usage.KeepMapExcludesUndoMap) is some h = is �
 is_usage words (Some asked) (Err usage.BothStandardInput) is some h = is ∙ ap Some h
 is_usage words (Some asked) (Err usage.CompressedOutput) is some h = is ∙ ap Some h
 is_usage words (Some asked) (Err usage.WitnessAlone) is some h = is ∙ ap Some h
-is_usage words (Some asked) (Err usage.VcdExcludesPropertiesAndWitness) is some h = is ∙ ap Some h
+is_usage words (Some asked) (Err usage.VcdExcludesProperties) is some h = is ∙ ap Some h
 
 module _ (words : List Text) (m : ArgMatches) (h : HasMatchesOf aiger words m) (e : faults words ≡ []) where
   pub rows_known : is_some (option_and_then asked_by (subcommand_rows_of m)) ≡ true
@@ -125,7 +125,7 @@ module _ (words : List Text) (kind : ErrorKind) (passes : takes aiger words ≡ 
   refused_usage (Err usage.BothStandardInput) h = absurd h
   refused_usage (Err usage.CompressedOutput) h = absurd h
   refused_usage (Err usage.WitnessAlone) h = absurd h
-  refused_usage (Err usage.VcdExcludesPropertiesAndWitness) h = absurd h
+  refused_usage (Err usage.VcdExcludesProperties) h = absurd h
 
 -- ---- an argument that asks for a text
 

@@ -107,9 +107,9 @@ HasOneStandardInput request = name_of request.model ≡ None → name_of request
 abbrev pub IsWitnessAlone : Sim → Type 0
 IsWitnessAlone request = request.witness ≡ true → (request.batch ≡ false) × (request.properties ≡ false)
 
--- A dump is made of a trace, and always has the properties.
+-- A dump always has the properties.
 abbrev pub IsDumpAlone : Sim → Type 0
-IsDumpAlone request = request.vcd ≡ true → (request.properties ≡ false) × (request.witness ≡ false)
+IsDumpAlone request = request.vcd ≡ true → request.properties ≡ false
 
 -- A circuit is unrolled over one frame or more, and not over too many.
 abbrev pub HasFrames : Unroll → Type 0

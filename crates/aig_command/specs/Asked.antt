@@ -106,12 +106,12 @@ simulation rows = record {
 }
 
 -- the first reason to refuse a simulation: the standard input is one stream and cannot give two files; judging a
--- witness writes no trace that an option could change; and a dump always has the properties
+-- witness writes no trace that an option could change, but a dump; and a dump always has the properties
 abbrev pub simulation_refusal : Simulation → Option Usage
 simulation_refusal s =
     if is_none s.model && is_none s.stimulus then Some usage.BothStandardInput
     else if s.witness && (s.batch || s.properties) then Some usage.WitnessAlone
-    else if s.vcd && (s.properties || s.witness) then Some usage.VcdExcludesPropertiesAndWitness
+    else if s.vcd && s.properties then Some usage.VcdExcludesProperties
     else None
 
 -- an unrolling: from which file to which, over how many frames, and how

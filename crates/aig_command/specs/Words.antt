@@ -11,5 +11,5 @@ usage_words usages.KeepMapExcludesUndoMap = codes "--keep-map excludes --undo-ma
 usage_words usages.BothStandardInput = codes "model and stimulus are both standard input"
 usage_words usages.CompressedOutput = codes "compressed output is not supported"
 usage_words usages.WitnessAlone = codes "--witness stands alone"
-usage_words usages.VcdExcludesPropertiesAndWitness = codes "--vcd excludes --properties and --witness"
+usage_words usages.VcdExcludesProperties = codes "--vcd excludes --properties"
 usage_words usages.OutOfMemory = codes "out of memory"

@@ -66,7 +66,9 @@ With --vcd a Value Change Dump (IEEE 1364) goes to the standard output in the
 place of the trace, for a wave viewer. It has all that --properties shows, by
 the names of the symbols, and each line of the trace takes 1 ns. At the end of
 a run the latches show the state that was reached, and all else is z. The
-number of the run, counted from 0, is r.
+number of the run, counted from 0, is r. With --witness it is the run of the
+witness from its first state, behind a comment with the answer, and all of it
+is held in memory.
 
 Exit status:
   0  done, also for --help; with --witness, confirmed
@@ -82,6 +84,7 @@ Examples, of a model with two inputs, a bad state and no latches:
   aiger aigsim --vcd model.aag steps.txt > a.vcd   as waves
   printf '1\\nb0\\n\\n11\\n.\\n' > witness.txt          a witness of one step
   aiger aigsim --witness model.aag witness.txt     whether it is right
+  aiger aigsim --witness --vcd model.aag witness.txt > w.vcd   its run as waves
   aiger aigsim - steps.txt < model.aag             the model from a stream";
 
 const UNROLL_ABOUT: &str = "Unroll a circuit over time frames, as one circuit without latches";
@@ -119,11 +122,11 @@ each line";
 
 const WITNESS_HELP: &str = "\
 Judge a witness in the place of the stimulus: does its run
-reach a bad state? Not with --batch, --properties or --vcd";
+reach a bad state? Not with --batch or --properties";
 
 const VCD_HELP: &str = "\
 Write a waveform, a Value Change Dump, in the place of the
-trace. Not with --properties or --witness";
+trace or of the answer. Not with --properties";
 
 const KEEP_MAP_HELP: &str = "\
 Keep a map of the renumbering in the comment, so that

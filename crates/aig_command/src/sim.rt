@@ -43,8 +43,8 @@ fn check(request: &Sim) -> Result<(), Usage>
     if request.witness && (request.batch || request.properties) {
         return Err(Usage::WitnessAlone);
     }
-    if request.vcd && (request.properties || request.witness) {
-        return Err(Usage::VcdExcludesPropertiesAndWitness);
+    if request.vcd && request.properties {
+        return Err(Usage::VcdExcludesProperties);
     }
     Ok(())
 }

@@ -24,8 +24,8 @@ pub enum Usage {
     CompressedOutput,
     /// A witness is judged, and a batch or properties in a trace are asked for too.
     WitnessAlone,
-    /// A dump is asked for, which always has the properties, and with it properties, or that a witness is judged.
-    VcdExcludesPropertiesAndWitness,
+    /// A dump is asked for, which always has the properties, and with it properties.
+    VcdExcludesProperties,
     /// An allocation failed; nothing is known of the command line.
     OutOfMemory,
 }
@@ -43,7 +43,7 @@ impl Usage {
             Usage::BothStandardInput => "model and stimulus are both standard input",
             Usage::CompressedOutput => "compressed output is not supported",
             Usage::WitnessAlone => "--witness stands alone",
-            Usage::VcdExcludesPropertiesAndWitness => "--vcd excludes --properties and --witness",
+            Usage::VcdExcludesProperties => "--vcd excludes --properties",
             Usage::OutOfMemory => "out of memory",
         }
     }

@@ -36,7 +36,7 @@ line_of_usage usages.KeepMapExcludesStrip other = refl
 line_of_usage usages.KeepMapExcludesUndoMap other = refl
 line_of_usage usages.BothStandardInput other = refl
 line_of_usage usages.WitnessAlone other = refl
-line_of_usage usages.VcdExcludesPropertiesAndWitness other = refl
+line_of_usage usages.VcdExcludesProperties other = refl
 line_of_usage usages.CompressedOutput other = refl
 line_of_usage usages.OutOfMemory other = refl
 

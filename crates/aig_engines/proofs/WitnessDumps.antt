@@ -1,4 +1,4 @@
--- A model and a witness file have one dump, with the verdict that they have, and a file and its conversion have the same.
+-- A model and a witness file have one dump, with their verdict, and a file and its conversion have the same.
 use Rattle.std.proofs.Common.{◌≡◌, ◌∙◌, ◌++◌, ◌∷◌, ℕ, List, [], ap, ap₂, map, refl, subst, sym, true}
 use Rattle.aig_circuit.specs.declared.circuit.Circuit.{Circuit}
 use Rattle.aig_circuit.specs.declared.circuit.Latch.{Latch}

@@ -11,7 +11,8 @@ use Rattle.aig_circuit.specs.declared.circuit.Reset.{Reset}
 use Rattle.aig_circuit.specs.declared.circuit.Symbol.{Symbol}
 use Rattle.aig_circuit.specs.declared.value.Val.{Val}
 use Rattle.aig_circuit.specs.declared.value.Val.TheVariants.{Zero, One, X}
-use Rattle.aig_circuit.specs.Wellformed.{AreDistinct, IsKnown, IsVariableUpTo, IsWellFormed, count_of, defined_variables}
+use Rattle.aig_circuit.specs.Wellformed.{AreDistinct, IsKnown, IsVariableUpTo, IsWellFormed}
+use Rattle.aig_circuit.specs.Wellformed.{count_of, defined_variables}
 use Rattle.aig_circuit.specs.Wellformed.{largest_index, literal_lists, operands, used_literals}
 use Rattle.aig_meaning.specs.Meaning.{IsRow, Row, literal_value}
 use Rattle.aig_meaning.specs.Trace.{Follow, IsTrace, MayStartAt, reset_state, reset_value}

@@ -18,6 +18,7 @@ use Rattle.aig_engines.specs.File.{IsFileOf}
 use Rattle.aig_engines.specs.Outcome.{Done}
 use Rattle.aig_engines.specs.Reading.{HasRead, IsUnreadable, NotRead}
 use Rattle.aig_engines.specs.Simulation.{IsWrittenText, columns_of}
+use Rattle.aig_engines.specs.WitnessDump.{JudgedWith, NotDumpedFor}
 use Rattle.aig_engines.specs.WitnessOutcome.{NotAnsweredFor, OfSteps, answer_line}
 use Rattle.aig_tools.specs.Named.{DoneBetween, NotReadFrom, OfSource, World, files_read, input_read, source_read}
 
@@ -64,18 +65,30 @@ NotTraced request fault model model_now stimulus stimulus_now sink sink_now =
     ⊎ ((found : Circuit) × HasRead (λ bytes. IsFileOf bytes request.max_var found) model model_now
     × OfSteps (λ sim. SimulatedAs request found (Some sim) stimulus stimulus_now sink sink_now) fault)
 
+-- A witness file was judged, and the sink took the line of the verdict, or a dump, as the request asks.
+abbrev pub AnsweredAs : Sim → Circuit → Verdict → (witness witness_now sink sink_now : Past) → Type 0
+AnsweredAs request c verdict witness witness_now sink sink_now =
+    MatchBool request.vcd (JudgedWith c verdict witness witness_now (λ text. sink_now ≡ took text sink))
+    (Judged c verdict witness witness_now × (sink_now ≡ took (answer_line verdict) sink))
+
+-- what a fault says where it was to be judged
+abbrev pub NotAnsweredAs : Sim → Circuit → ToolFault → (witness witness_now sink sink_now : Past) → Type 0
+NotAnsweredAs request c fault witness witness_now sink sink_now =
+    MatchBool request.vcd (NotDumpedFor c fault witness witness_now sink sink_now)
+    (NotAnsweredFor c fault witness witness_now sink sink_now)
+
 -- What was done for a circuit with a stimulus: its trace was written, or the dump of that; or it was judged as a
--- witness file, and the line of the verdict was written.
+-- witness file, and the verdict was written.
 abbrev pub DoneAs : Sim → Circuit → Option Verdict → (stimulus stimulus_now sink sink_now : Past) → Type 0
 DoneAs request c None stimulus stimulus_now sink sink_now =
     (request.witness ≡ false) × SimulatedAs request c None stimulus stimulus_now sink sink_now
 DoneAs request c (Some verdict) stimulus stimulus_now sink sink_now =
-    (request.witness ≡ true) × Judged c verdict stimulus stimulus_now × (sink_now ≡ took (answer_line verdict) sink)
+    (request.witness ≡ true) × AnsweredAs request c verdict stimulus stimulus_now sink sink_now
 
 -- what a fault says
 abbrev pub NotDoneAs : Sim → Circuit → ToolFault → (stimulus stimulus_now sink sink_now : Past) → Type 0
 NotDoneAs request c fault stimulus stimulus_now sink sink_now =
-    ((request.witness ≡ true) × NotAnsweredFor c fault stimulus stimulus_now sink sink_now)
+    ((request.witness ≡ true) × NotAnsweredAs request c fault stimulus stimulus_now sink sink_now)
     ⊎ ((request.witness ≡ false)
     × OfSteps (λ sim. SimulatedAs request c (Some sim) stimulus stimulus_now sink sink_now) fault)
 

@@ -3,7 +3,7 @@
 //! Others call `start`, from the arguments to the status, and `serve`, the same over any `FileAccess`. The engines
 //! `run_toaig`, `run_sim`, `run_witness` and `run_unroll` work over any source and sink; but for `run_sim` they stand
 //! in `aig_engines`. Only these two crates know what each standard stream is for, the lines on standard error, and
-//! statuses.
+//! statuses. The dump of a witness's run is written by `start` and `serve` alone.
 //!
 //! The definition that matters most is `Ends`. Those of `aig_engines` are here too.
 #![tactic(auto)]
@@ -13,6 +13,7 @@ mod named;
 mod program;
 mod simulation;
 mod tracing;
+mod witnessing;
 
 pub use crate::program::{refuse_for_memory, refuse_words, serve, start};
 pub use crate::simulation::run_sim;

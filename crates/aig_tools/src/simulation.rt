@@ -6,9 +6,10 @@ ghost use Rattle.aig_engines.specs.WitnessOutcome.{OfSteps};
 ghost use Rattle.aig_tools.specs.SimulationOutcome.{DoneAs, NotDoneAs, NotTraced, SimulatedAs, Traced};
 
 use crate::tracing::{write_dump, write_trace};
+use crate::witnessing::judge_as_asked;
 use aig_command::Sim;
 use aig_core::{Checked, Keep, Sink, Source};
-use aig_engines::{ToolFault, judge, read_circuit};
+use aig_engines::{ToolFault, read_circuit};
 use aig_step::{Columns, SimFault};
 use aig_witness::Verdict;
 use std::alloc::Global;
@@ -92,7 +93,7 @@ pub(crate) fn trace_or_judge<R: Source, W: Sink>(
         (R.past stimulus.old) (R.past stimulus.new) (W.past output.old) (W.past output.new)) }
 {
     if request.witness {
-        return Ok(Some(judge(alloc, found, stimulus, output)?));
+        return Ok(Some(judge_as_asked(alloc, request, found, stimulus, output)?));
     }
     simulate_as_asked(alloc, request, found, stimulus, output)?;
     Ok(None)

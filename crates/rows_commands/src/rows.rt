@@ -61,6 +61,8 @@ aigsim --witness -- --batch --properties => witness 2147483647 --batch --propert
 aigsim --batch -- m --witness => batch 2147483647 m --witness;\
 aigsim --vcd m => vcd 2147483647 m -;\
 aigsim - s --vcd --max-var 7 --batch => batch vcd 7 - s;\
+aigsim --vcd m w --witness => witness vcd 2147483647 m w;\
+aigsim --witness - w --vcd --max-var 7 => witness vcd 7 - w;\
 aigsim --vcd -- --properties --witness => vcd 2147483647 --properties --witness";
 
 /// Arguments after the program's name, and what they ask for: the frames of the unrolling, its option, its limit, its
@@ -116,9 +118,8 @@ aigsim --vcd - => model and stimulus are both standard input;\
 aigsim --vcd --witness --properties - => model and stimulus are both standard input;\
 aigsim --vcd --witness --batch m => --witness stands alone;\
 aigsim --properties --witness --vcd m => --witness stands alone;\
-aigsim --properties --vcd m => --vcd excludes --properties and --witness;\
-aigsim --vcd m w --witness => --vcd excludes --properties and --witness;\
-aigsim --batch --max-var 7 --vcd --properties - s => --vcd excludes --properties and --witness;\
+aigsim --properties --vcd m => --vcd excludes --properties;\
+aigsim --batch --max-var 7 --vcd --properties - s => --vcd excludes --properties;\
 aigunroll --frames 2 - x.aig.gz => compressed output is not supported;\
 aigunroll --ascii --frames 2 a.aag .gz => compressed output is not supported;\
 aigtoaig --help => help;\
