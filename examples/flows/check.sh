@@ -2,7 +2,7 @@
 # check.sh DESIGN.v TOP CLOCK: looks for a run of the design that breaks an assertion, and confirms it.
 #
 # Yosys writes the design as design.aig, ABC looks for a counterexample of at most 50 steps, aiger confirms it as the
-# witness file design.aiw and writes its steps as the waveform run.vcd, and Yosys replays that file on the Verilog, says which
+# witness file design.aiw and writes its run as the waveform run.vcd, and Yosys replays that file on the Verilog, says which
 # assertion fails and writes design.vcd.
 set -euo pipefail
 aiger=${AIGER:-aiger} abc=${ABC:-berkeley-abc}
@@ -25,7 +25,6 @@ digits=$(sed 's/#.*//' counterexample | tr -d '\n ')
 "$aiger" aigtoaig --ascii design.aig |
     awk -v bad="$bad" -v digits="$digits" -f "$here/folded_witness.awk" > design.aiw
 "$aiger" aigsim --witness design.aig design.aiw
-# behind the first three lines of a witness are its steps
-sed 1,3d design.aiw | "$aiger" aigsim --vcd design.aig > run.vcd
+"$aiger" aigsim --witness --vcd design.aig design.aiw > run.vcd
 yosys -q -p "read_verilog -formal $design; prep -top $top;
     sim -q -r design.aiw -map design.map -clock $clock -vcd design.vcd" 2>&1 | grep Assert
