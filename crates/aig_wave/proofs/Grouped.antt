@@ -1,5 +1,6 @@
 -- Signals that stand in one group.
-use Rattle.std.proofs.Common.{◌≡◌, ◌∙◌, ◌+◌, ◌-◌, ◌<◌, ◌≤◌, ◌++◌, ◌==◌, ◌||◌, ◌&&◌, ℕ, List, [], ◌∷◌, Bool, true, false, not}
+use Rattle.std.proofs.Common.{◌≡◌, ◌∙◌, ◌+◌, ◌-◌, ◌<◌, ◌≤◌, ◌++◌, ◌==◌, ◌||◌, ◌&&◌, ℕ, List, [], ◌∷◌, Bool}
+use Rattle.std.proofs.Common.{true, false, not}
 use Rattle.std.proofs.Common.{bytes_eq, map, length, take, drop, if◌then◌else◌}
 use Rattle.std.proofs.Common.{ap, ap₂, arith, get_or, refl, sym}
 use Rattle.std.proofs.lemmas.Bool.{eqb-true, false≢true}
@@ -124,6 +125,7 @@ parted_tags n ts these others p q are =
     (rw p (front IsTag (take n ts) (drop n ts) all), rw q (back IsTag (take n ts) (drop n ts) all))
 
 -- the changes of tags are those of their signals
-pub changes_of : (f : Signal → List ℕ) (ts : List Tag) → flat_map (λ t. f (signal_in t)) ts ≡ flat_map f (map signal_in ts)
+pub changes_of : (f : Signal → List ℕ) (ts : List Tag)
+    → flat_map (λ t. f (signal_in t)) ts ≡ flat_map f (map signal_in ts)
 changes_of f [] = refl
 changes_of f (t ∷ ts) = ap (λ (text : List ℕ). f (signal_in t) ++ text) (changes_of f ts)

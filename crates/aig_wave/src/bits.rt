@@ -28,6 +28,7 @@ fn write_bit(bytes: &mut [u8], at: usize, before: u8, bit: u8, tag: &Tag) -> usi
     ensures within { result ≤ at + (TAIL + 1) }
     ensures text { take result bytes.new ≡ take at bytes.old ++ bit_text before bit (signal_in tag.now) }
 {
+    // a copy of its own is moved at once, since it lies apart from the bytes
     let tail = tag.tail;
     let end = write_text(bytes, at, &[bit]);
     write_text(bytes, end, &tail);

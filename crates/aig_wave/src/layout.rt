@@ -51,7 +51,8 @@ impl Model for Layout {
       width = w.width;
     } };
 
-    ghost invariant = { λ w. (w.next + length w.resets.items ≤ w.width) × AllByRecursion IsTag w.tags.items × AreGroups w.groups.items w.tags.items };
+    ghost invariant = { λ w. (w.next + length w.resets.items ≤ w.width)
+        × AllByRecursion IsTag w.tags.items × AreGroups w.groups.items w.tags.items };
 }
 
 /// Adds the scope and the signals of a kind.

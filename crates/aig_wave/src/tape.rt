@@ -90,6 +90,7 @@ fn put_tags<W: Sink>(output: &mut Output<W>, time: u64, before: &[u8], line: &[u
 }
 
 /// Puts the values of the signals of a group, where they are others than before.
+#[inline(always)]
 fn put_group<W: Sink>(
     output: &mut Output<W>,
     time: u64,
@@ -110,6 +111,7 @@ fn put_group<W: Sink>(
 }
 
 /// Puts the values of the signals of a group, where the characters of the group are others than before, or are few.
+#[inline(always)]
 fn put_new_group<W: Sink>(
     output: &mut Output<W>,
     time: u64,
@@ -128,6 +130,7 @@ fn put_new_group<W: Sink>(
 }
 
 /// Puts the values of signals, where they are others than before.
+#[inline(always)]
 fn put_changes<W: Sink>(
     output: &mut Output<W>,
     time: u64,
@@ -167,6 +170,7 @@ fn put_binary<W: Sink>(output: &mut Output<W>, number: u64)
 }
 
 /// Puts the run of a frame, where it is another one than before.
+#[inline(always)]
 fn put_run<W: Sink>(output: &mut Output<W>, time: u64, before: u64, run: u64)
     ensures { Put output.old output.new (run_text time (frame before []) (frame run [])) }
 {
@@ -299,6 +303,7 @@ impl Tape {
     }
 
     /// Puts the frame of a step.
+    #[inline(always)]
     fn take_step<W: Sink>(&mut self, output: &mut Output<W>, text: &[u8])
         requires time { self.old.point.time < 2 ^ 64 - 1 }
         requires whole { length text.now ≡ self.old.layout.width }
@@ -362,6 +367,7 @@ impl Tape {
     }
 
     /// Takes a line, and puts its frame. One that is no line of a trace is passed over.
+    #[inline(always)]
     pub(crate) fn take_line<W: Sink>(&mut self, output: &mut Output<W>, text: &[u8])
         requires { self.old.point.time < 2 ^ 64 - 1 }
         ensures point { self.new ≡ record self.old { point = behind_line self.old.layout self.old.point text.now } }

@@ -77,6 +77,7 @@ impl<'a, W: Sink> Waver<'a, W> {
     }
 
     /// Takes the rest of a line, which has ended.
+    #[inline(always)]
     fn take_ended(&mut self, piece: &[u8])
         requires { self.old.tape.point.time < 2 ^ 64 - 1 }
         ensures { TookEnded self.old self.new piece.now }

@@ -8,7 +8,8 @@ short_digits : (room : List ℕ) (from n : ℕ) → from ≤ 64 → length room 
 short_digits room from n within long is low =
     let left : length (drop from room) ≡ length room - from = length-drop from room in
     let few = length-decimal-le 10 n (omega arith) (omega arith) (omega arith) in
-    let all : take (64 - from) (drop from room) ≡ drop from room = take_all (64 - from) (drop from room) (omega arith) in
+    let all : take (64 - from) (drop from room) ≡ drop from room =
+    take_all (64 - from) (drop from room) (omega arith) in
     rw all (rw is few)
 
 pub write_text-requires : goal.write_text-requires
