@@ -3,6 +3,7 @@ ghost use Rattle.std.specs.Prelude.{◌≡◌, ◌+◌, ◌*◌, ◌<◌, ◌≤
 ghost use Rattle.std.specs.List.{All};
 ghost use Rattle.aig_lanes.specs.declared.run.Run.{Run as RunRecord};
 ghost use Rattle.aig_lanes.specs.Parts.InputBits.{AreBlocks, HoldsLane, one_step};
+ghost use Rattle.aig_lanes.specs.Parts.Lanes.{IsClear};
 ghost use Rattle.aig_lanes.specs.Parts.LaneTexts.{HoldsRun, KeepsRun, LaneStands, ShowsRows, shown_size};
 ghost use Rattle.aig_lanes.specs.Parts.Sheets.{SameRoom};
 ghost use Rattle.aig_lanes.specs.Runs.{IsRunOf};
@@ -21,10 +22,12 @@ use std::alloc::Global;
 fn begin_steps(
     machine: &Machine,
     shown: &Shown,
+    is_clear: bool,
     table: &mut [Plane],
     state: &mut [Plane],
     sheet: &mut Sheet,
 )
+    requires clear { IsTrue is_clear → IsClear table.old }
     requires table { length table.old ≡ 2 * (1 + machine.now.max_var) }
     requires state { length state.old ≡ 2 * length machine.now.latches }
     requires shows { ShowsRows machine.now shown.now }
@@ -34,7 +37,7 @@ fn begin_steps(
 {
     // That there is a variable where there is a latch is known by this read.
     let _parts = machine.parts();
-    shown.begin(table, state, sheet);
+    shown.begin(is_clear, table, state, sheet);
 }
 
 /// A step of each run that has it. What it shows is kept, and the state behind it.
@@ -128,6 +131,8 @@ fn one_step_each(alloc: Global) -> Result<RunGroup<'static>, OutOfMemory>
 pub struct Bench {
     bits: Vec<BlockBits>,
     table: Vec<Plane>,
+    /// Whether the table has x in all lanes, as it has before the first step.
+    is_clear: bool,
     state: Vec<Plane>,
     /// What the steps of a group show, in lanes of the sheet.
     pub shown: Shown,
@@ -165,6 +170,7 @@ impl Bench {
         Ok(Bench {
             bits,
             table,
+            is_clear: true,
             state,
             shown,
             sheet,
@@ -201,10 +207,12 @@ impl Bench {
         begin_steps(
             machine,
             &self.shown,
+            self.is_clear,
             &mut self.table,
             &mut self.state,
             &mut self.sheet,
         );
+        self.is_clear = false;
         take_steps(
             machine,
             &self.shown,

@@ -1,9 +1,13 @@
-use Rattle.std.proofs.Common.{◌≡◌, ◌∙◌, List, arith, subst}
+use Rattle.std.proofs.Common.{◌≡◌, ◌∙◌, List, arith, subst, sym}
 use Rattle.std.proofs.lemmas.List.{take_all, with_items_is}
 use Rattle.aig_circuit.specs.declared.value.Val.{Val}
+use Rattle.aig_lanes.specs.Parts.Lanes.{IsClear}
 use Rattle.aig_lanes.specs.Parts.LaneTexts.{KeepsTrace}
 use Rattle.aig_lanes.specs.Parts.Sheets.{text_in}
 use Rattle.aig_bench.proofs.bench.Bench.step_lanes.Goals as goal
+
+pub begin_steps-requires-clause-clear : goal.begin_steps-requires-clause-clear
+begin_steps-requires-clause-clear c told = subst IsClear (sym c.deref_mut.ensures.value) (c.requires.is.clear told)
 
 pub returns-clause-keeps : goal.returns-clause-keeps
 returns-clause-keeps c j run lane fits bits room short =
