@@ -40,6 +40,7 @@ CIRCUITS = {
     "a toggle": rows.TOGGLE,
     "a latch and a gate": rows.HELD,
     "a latch and a gate in binary": rows.HELD_IMAGE,
+    "a latch and a gate in padded deltas": rows.HELD_PADDED,
     "a bad state": rows.BAD,
     "every section": rows.EVERY + rows.EVERY_NAMES,
     "every section with its map": rows.EVERY_MAPPED,

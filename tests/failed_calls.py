@@ -8,7 +8,8 @@ writes of one byte, so that a device fails behind each byte, and with large ones
 an interruption, and for a write by taking no byte. Then each row is run into a full device, into a pipe that
 nobody reads, over a folder in the place of each file, and into a file that may have N bytes, N from 0 to as
 many as there are. A failed read sends nothing, and of a simulation the lines before it; a failed write leaves a
-beginning of the output. Both are told by their line, with status 1.
+beginning of the output. Both are told by their line, with status 1. Standard input that is cut before any of its
+bytes is answered alike by small and by large reads.
 
 The last line is 'N passed, M failed', and counts runs.
 """
@@ -117,6 +118,15 @@ class Calls:
         _, errors, status = self.runner.run(self.words, self.row.given, output=output)
         self.judge(kind, (b"aiger: -: cannot write\n", 1), (errors, status), "")
 
+    def cuts(self):
+        """Standard input cut before each byte, by reads of one byte and by large ones: it is answered alike."""
+        for place in range(len(self.row.given)):
+            slow, fast = (
+                self.runner.run(self.words, self.row.given[:place], {"LD_PRELOAD": self.preload, "PIECE": piece})
+                for piece in ("1", "0")
+            )
+            self.judge("cut files in pieces", fast, slow, f"before byte {place}")
+
     def streams(self):
         self.refused_output("full devices", FULL)
         reader, writer = os.pipe()
@@ -149,6 +159,7 @@ def judged(program, preload, under, number):
             it.reads(piece, error)
         for error in (DEVICE_ERROR, INTERRUPTED, NO_BYTES):
             it.writes(piece, error)
+    it.cuts()
     it.streams()
     it.folders()
     return it.came, it.wrong

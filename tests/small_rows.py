@@ -31,8 +31,13 @@ EQUAL_MAPPED = EQUAL_IMAGE + b"c\naigmap 1 2 1 0 1 0\n1\n2 0 0\naigmap end\n"
 TOGGLE = b"aag 1 0 1 2 0\n2 3\n2\n3\n"
 HELD = b"aag 3 1 1 1 1\n2\n4 6\n6\n6 2 5\n"
 HELD_IMAGE = b"aig 3 1 1 1 1\n6\n6\n\x01\x03"
+# the same with a CR in each line, and deltas that could be shorter
+HELD_PADDED = b"aig 3 1 1 1 1 \r\n6\r\n6 \r\n\x81\x80\x00\x83\x80\x80\x80\x00"
 HELD_TWICE = b"aag 4 2 0 2 2\n2\n4\n6\n8\n6 2 1\n8 7 4\n"
 HELD_TWICE_IMAGE = b"aig 4 2 0 2 2\n6\n8\n\x04\x01\x01\x03"
+# its first delta has two bytes
+FAR_IMAGE = b"aig 66 65 0 1 1\n132\n\x82\x01\x00i64 far\nc\n"
+FAR = b"aag 66 65 0 1 1\n%s132\n132 2 2\ni64 far\nc\n" % b"".join(b"%d\n" % it for it in range(2, 132, 2))
 BAD = b"aag 1 0 1 0 0 1\n2 3\n2\n"
 EVERY = b"aag 9 1 2 1 1 2 1 2 1\n18\n4 19 1\n14 4 14\n6\n14\n15\n7\n2\n1\n19\n4\n6\n5\n6 19 14\n"
 EVERY_NAMES = b"b1 a\nc0 b\nj0 c\nf0 d\no0 e\nl1 f\ni0 g\nc\n"
@@ -93,6 +98,8 @@ ROWS = [
     Row("a latch and a gate, unrolled", "aigunroll --frames 2 --ascii", HELD, HELD_TWICE),
     Row("a latch and a gate, unrolled to binary", "aigunroll --frames 2", HELD, HELD_TWICE_IMAGE),
     Row("a latch and a gate to binary", "aigtoaig", HELD, HELD_IMAGE),
+    Row("a latch and a gate in padded deltas", "aigtoaig", HELD_PADDED, HELD_IMAGE),
+    Row("a gate far from its operand", "aigtoaig --ascii", FAR_IMAGE, FAR),
     *simulated("two runs", "", HELD_IMAGE, b"1\n.\n1\n.\n", b"0 1 1 1\n.\n0 1 1 1\n.\n"),
     *simulated("steps without latches", "", HALF, b"01\n11\n.\n10\nx0\n" * 6, SUMS),
     *simulated("steps without latches in a batch", "--batch", HALF, b"01\n11\n.\n10\nx0\n" * 6, SUMS),
