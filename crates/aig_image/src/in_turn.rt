@@ -12,7 +12,7 @@ ghost use Rattle.aig_image.specs.Relabelled.{relabelled_literal, FitIntoLiterals
 
 use crate::image::{take_gates, with_larger_first};
 use crate::labelling::relabel;
-use crate::numbers::Numbers;
+use crate::numbers::{AHEAD, Numbers};
 use aig_checked::{Checked, Ordered};
 use aig_circuit::{Circuit, Gate, Listing, Lit, OutOfMemory, Var};
 use aig_topo::Order;
@@ -76,6 +76,9 @@ fn number_in_turn(
 {
     let mut numbers = Numbers::of_first(alloc, circuit)?;
     for at in 0..gates.len() {
+        if at % AHEAD == 0 && numbers.is_any_overfull(gates, at) {
+            return Ok(None);
+        }
         let Some(gate) = next_gate(&mut numbers, gates[at])? else {
             return Ok(None);
         };

@@ -1,5 +1,5 @@
 //! The new numbers of variables.
-ghost use Rattle.std.specs.Prelude.{◌≡◌, ◌↔◌, ◌⊎◌, ◌+◌, ◌==◌, ◌≤◌, ◌<◌, ◌++◌, ℕ, List, [], length, map};
+ghost use Rattle.std.specs.Prelude.{◌≡◌, ◌↔◌, ◌⊎◌, ◌+◌, ◌==◌, ◌≤◌, ◌<◌, ◌++◌, ℕ, List, [], length, map, false};
 ghost use Rattle.std.specs.Prelude.{IfOk, OnOk, IsTrue, if◌then◌else◌};
 ghost use Rattle.std.specs.Option.{IfSome};
 ghost use Rattle.aig_circuit.specs.Literal.{variable_of};
@@ -51,6 +51,9 @@ impl Defines for Gate {
     }
 }
 
+/// How many variables are read ahead together.
+pub(crate) const AHEAD: usize = 32;
+
 /// The new numbers of variables, from 1 on in the order in which they are noted.
 #[derive(Drop)]
 pub struct Numbers {
@@ -82,6 +85,27 @@ impl Numbers {
         ensures { result ≡ number_of self.now var }
     {
         self.numbers.get(var).unwrap_or(0)
+    }
+
+    /// Whether the place of a variable is overfull, which none is: who asks wants the read alone.
+    #[inline(always)]
+    fn is_overfull(&self, var: Var) -> bool
+        ensures { result ≡ false }
+    {
+        self.numbers.is_overfull(var)
+    }
+
+    /// Reads ahead where the variables of gates from this position on have their places. None is overfull: that is asked
+    /// for the sake of the reads alone.
+    pub(crate) fn is_any_overfull(&self, gates: &[Gate], from: usize) -> bool
+        ensures { result ≡ false }
+    {
+        let end = gates.len().min(from.saturating_add(AHEAD));
+        let mut any = false;
+        for at in from..end {
+            any |= self.is_overfull(gates[at].var);
+        }
+        any
     }
 
     /// Gives a variable the next number, unless it has one.

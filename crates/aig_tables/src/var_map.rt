@@ -1,5 +1,5 @@
 //! Maps from variables.
-ghost use Rattle.std.specs.Prelude.{◌≡◌, ◌<◌, ◌-◌, ◌^◌, IfOk, OnOk, OnErr, not};
+ghost use Rattle.std.specs.Prelude.{◌≡◌, ◌<◌, ◌-◌, ◌^◌, IfOk, OnOk, OnErr, not, false};
 ghost use Rattle.std.specs.Option.{IfSome};
 ghost use Rattle.std.specs.Ordering.{nat_cmp};
 ghost use Rattle.std.specs.FinMap as map;
@@ -91,6 +91,15 @@ impl<T: MapValue> VarMap<T> {
         } else {
             self.spread.get(var)
         }
+    }
+
+    /// Whether the place of a variable is overfull, which none is. Who asks wants the read alone: what is read of several
+    /// variables, one behind the other, is on its way from memory before the first of them is looked up.
+    #[inline(always)]
+    pub fn is_overfull(&self, var: Var) -> bool
+        ensures { result ≡ false }
+    {
+        !self.places.covers(var.0 as usize) && self.spread.is_overfull(var)
     }
 
     /// Gives a variable its value, unless it has one, and answers whether it had none.

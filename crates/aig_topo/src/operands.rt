@@ -1,5 +1,5 @@
 //! Which gates the operands of gates are over.
-ghost use Rattle.std.specs.Prelude.{◌≡◌, ◌<◌, ◌≤◌, ℕ, length, IfOk};
+ghost use Rattle.std.specs.Prelude.{◌≡◌, ◌<◌, ◌≤◌, ℕ, length, false, IfOk};
 ghost use Rattle.std.specs.Option.{IfSome};
 ghost use Rattle.std.specs.FinMap.{get};
 ghost use Rattle.aig_circuit.specs.Literal.{variable_of};
@@ -28,6 +28,22 @@ impl Needs {
     }
 }
 
+/// How many variables are read ahead together.
+const AHEAD: usize = 32;
+
+/// Reads ahead where the variables of gates from this position on have their places. None is overfull: that is asked
+/// for the sake of the reads alone.
+fn is_any_overfull(index: &VarMap<u32>, gates: &[Gate], from: usize) -> bool
+    ensures { result ≡ false }
+{
+    let end = gates.len().min(from.saturating_add(AHEAD));
+    let mut any = false;
+    for at in from..end {
+        any |= index.is_overfull(gates[at].var);
+    }
+    any
+}
+
 /// The positions of gates by the variables that they define. Of two gates that define one, it has the first.
 pub(crate) fn gate_index(alloc: Global, circuit: &Circuit) -> Result<VarMap<u32>, AllocError>
     requires { length circuit.now.gates ≤ LARGEST }
@@ -36,6 +52,9 @@ pub(crate) fn gate_index(alloc: Global, circuit: &Circuit) -> Result<VarMap<u32>
     let gates = circuit.gates.as_slice();
     let mut index = VarMap::for_circuit(alloc, circuit)?;
     for position in 0..gates.len() {
+        if position % AHEAD == 0 && is_any_overfull(&index, gates, position) {
+            return Err(AllocError);
+        }
         index.insert(gates[position].var, position as u32)?;
     }
     Ok(index)

@@ -1,5 +1,5 @@
 //! A few variables and their values that lie together.
-ghost use Rattle.std.specs.Prelude.{◌≡◌, ◌==◌, ◌↔◌, ◌<◌, ◌≤◌, [], ◌∷◌, ◌++◌, length, IsTrue};
+ghost use Rattle.std.specs.Prelude.{◌≡◌, ◌==◌, ◌↔◌, ◌<◌, ◌≤◌, [], ◌∷◌, ◌++◌, length, IsTrue, false};
 ghost use Rattle.std.specs.List.{position_or_len};
 ghost use Rattle.std.specs.Ordering.{nat_cmp};
 ghost use Rattle.std.specs.FinMap.{find};
@@ -13,8 +13,8 @@ const ROOM: usize = 7;
 /// A few variables and their values that lie together.
 #[derive(Drop)]
 pub(super) struct Bucket<T: Copy> {
-    entries: [(u32, T); ROOM],
     len: u32,
+    entries: [(u32, T); ROOM],
 }
 
 impl<T: Copy> Model for Bucket<T> {
@@ -74,6 +74,14 @@ impl<T: Copy> Bucket<T> {
         ensures { IsTrue result ↔ (ROOM ≤ length self.now) }
     {
         self.len as usize == ROOM
+    }
+
+    /// Whether it holds more than there is room for, which it never does.
+    #[inline(always)]
+    pub(super) fn is_overfull(&self) -> bool
+        ensures { result ≡ false }
+    {
+        self.len as usize > ROOM
     }
 
     /// Puts one more entry there.

@@ -1,5 +1,5 @@
 //! Maps from variables of large indices.
-ghost use Rattle.std.specs.Prelude.{◌≡◌, ◌^◌, ◌<◌, ◌≤◌, ℕ, List, [], length, IfOk, OnOk, OnErr, not};
+ghost use Rattle.std.specs.Prelude.{◌≡◌, ◌^◌, ◌<◌, ◌≤◌, ℕ, List, [], length, IfOk, OnOk, OnErr, not, false};
 ghost use Rattle.std.proofs.Math.ListN.{replicate};
 ghost use Rattle.std.specs.Ordering.{nat_cmp};
 ghost use Rattle.std.specs.FinMap as map;
@@ -92,6 +92,14 @@ impl<T: MapValue> Spread<T> {
         } else {
             None
         }
+    }
+
+    /// Whether the bucket of a variable is overfull, which none is.
+    #[inline(always)]
+    pub(super) fn is_overfull(&self, var: Var) -> bool
+        ensures { result ≡ false }
+    {
+        self.buckets[bucket_of(self.buckets.len(), var.0)].is_overfull()
     }
 
     /// Gives a variable its value, unless it has one, and answers whether it had none.
