@@ -1,5 +1,5 @@
 -- A binary file whose first bytes were fetched, and whose lines in front of the gates were read.
-use Rattle.std.proofs.Common.{◌≡◌, ◌≤◌, ◌∙◌, inl, inr, ℕ, List, ◌++◌, length, true, false, Result, Ok}
+use Rattle.std.proofs.Common.{◌≡◌, ◌≤◌, ◌∙◌, inl, inr, ℕ, List, ◌++◌, length, true, Result, Ok}
 use Rattle.std.proofs.Common.{Err, sym, ap, append_assoc, drop}
 use Rattle.std.proofs.lemmas.List.{drop-append-le}
 use Rattle.aig_circuit.specs.declared.circuit.Circuit.{Circuit}
@@ -19,6 +19,7 @@ use Rattle.aig_engines.specs.declared.fault.ToolFault.{ToolFault}
 use Rattle.aig_engines.specs.File.{IsFileOf}
 use Rattle.aig_engines.specs.Reading.{HasRead, IsUnreadable, NotRead}
 use Rattle.aig_engines.specs.Begun.{IsWrongRest, ReadsFrom}
+use Rattle.std.proofs.Common.{Bool, not}
 use Rattle.aig_engines.proofs.Begun.{WholeRead, whole_read}
 
 -- the front was read of the whole lines of what came
@@ -74,8 +75,9 @@ module _ (limit : ℕ) (first held : List ℕ) (s : List ℕ → Result Circuit 
           holds = (e, h.holds.1, rw (word w.others) (line_fault limit (first ++ w.others) e w.is));
         })
 
--- all bytes of a source are held
-pub all_held : (first held : List ℕ) (before a b : Past) → a ≡ took first before → Filled first held false a b
-    → b ≡ gave held true before
-all_held first held before a b came f =
-    gave_then true first f.given before a b came f.gave ∙ ap (λ (bytes : List ℕ). gave bytes true before) (sym f.held)
+-- what is held is what a source gave
+pub all_held : (first held : List ℕ) (more : Bool) (before a b : Past) → a ≡ took first before
+    → Filled first held more a b → b ≡ gave held (not more) before
+all_held first held more before a b came f =
+    gave_then (not more) first f.given before a b came f.gave
+    ∙ ap (λ (bytes : List ℕ). gave bytes (not more) before) (sym f.held)

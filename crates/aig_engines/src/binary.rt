@@ -16,7 +16,7 @@ use crate::fault::ToolFault;
 use crate::file::{fetch_all, read_whole};
 use aig_binary::{BinaryReader, Ordered};
 use aig_core::{Checked, Circuit, Keep, ReadError, Source, Window};
-use aig_rows::ended_lines;
+use aig_rows::{ReadKind, ended_lines};
 use aig_text::Limits;
 use std::alloc::Global;
 
@@ -40,34 +40,41 @@ fn fetch_twice<R: Source>(source: &mut R, window: &mut Window) -> Result<bool, R
     }
 }
 
-/// Fetches the lines in front of the gates, of which the window has the first bytes, and has them read. Where there are
-/// no such lines, all bytes were fetched, and there is no reader. Lines that are not there yet are read anew when twice
-/// as much is held, so on the whole no more than twice.
+/// Fetches the lines in front of the gates, of which the window has the first bytes, and has them read. There is no
+/// reader where they are not right. Answers whether the source goes on. Lines that are not there yet are read anew when
+/// twice as much is held, so on the whole no more than twice.
 fn read_front<R: Source>(
     alloc: Global,
     source: &mut R,
     window: &mut Window,
     limits: Limits,
-) -> Result<Option<BinaryReader>, ReadError>
+) -> Result<(Option<BinaryReader>, bool), ReadError>
     requires source { CanFail (R.past source.old) }
     requires counted { length window.old + R.bound source.old ≤ 2 ^ 62 }
-    ensures begun { IfOk result (λ found. MatchOption found
-        (Filled window.old window.new false (R.past source.old) (R.past source.new))
+    ensures begun { IfOk result (λ found. MatchOption found.0
+        (Filled window.old window.new found.1 (R.past source.old) (R.past source.new))
         (λ r. ReadsFrom (binary_reading limits.max_var) (rest_of r) window.old window.new true
         (R.past source.old) (R.past source.new))) }
-    ensures fits { IfOk result (λ found. IfSome found (λ r. FitsHeader r.header r.gates)) }
-    ensures counted { IfOk result (λ found. IfSome found
+    ensures fits { IfOk result (λ found. IfSome found.0 (λ r. FitsHeader r.header r.gates)) }
+    ensures counted { IfOk result (λ found. IfSome found.0
         (λ r. r.number + length window.new + R.bound source.new ≤ 2 ^ 63)) }
     ensures err { IfErr result (λ error. GaveSome error (R.past source.old) (R.past source.new)) }
 {
     loop {
         let (lines, _) = ended_lines(window.as_slice());
-        if let Ok((reader, used)) = BinaryReader::begin(alloc, lines, limits) {
-            window.pass(used);
-            return Ok(Some(reader));
+        match BinaryReader::begin(alloc, lines, limits) {
+            Ok((reader, used)) => {
+                window.pass(used);
+                return Ok((Some(reader), true));
+            }
+            Err(fault) => {
+                if !matches!(fault.kind, ReadKind::Truncated) {
+                    return Ok((None, true));
+                }
+            }
         }
         if !fetch_twice(source, window)? {
-            return Ok(None);
+            return Ok((None, false));
         }
     }
 }
@@ -137,8 +144,9 @@ pub(crate) fn read_binary_file<R: Source>(
         → IfErr result (λ fault. NotRead (IsUnreadable limits.max_var) fault before (R.past source.new)) }
 {
     let mut window = window;
-    let Some(reader) = read_front(alloc, source, &mut window, limits)? else {
-        return read_whole(alloc, source, window, false, limits, Keep::Circuit);
+    let (front, more) = read_front(alloc, source, &mut window, limits)?;
+    let Some(reader) = front else {
+        return read_whole(alloc, source, window, more, limits, Keep::Circuit);
     };
     let circuit = read_rest(alloc, source, window, reader)?;
     Ok(Ordered::from_well_ordered(circuit).into_checked())

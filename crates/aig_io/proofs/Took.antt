@@ -1,7 +1,8 @@
 -- Bytes that move one part after another.
 use Rattle.std.proofs.Common.{◌≡◌, ℕ, zero, suc, ◌+◌, ◌-◌, List, ◌++◌, Ok, take, drop, take-add, length, length-drop}
 use Rattle.std.proofs.Common.{Err, IfErr, IsErrAnd, Result}
-use Rattle.std.proofs.Common.{arith, ap, false, refl, sym, ◌∙◌, ◌<◌, ◌≤◌, Option, [], append_assoc, append-nil, Bool, true}
+use Rattle.std.proofs.Common.{arith, ap, false, refl, sym, ◌∙◌, ◌<◌, ◌≤◌, Option, [], append_assoc, append-nil}
+use Rattle.std.proofs.Common.{Bool, true}
 use Rattle.std.proofs.lemmas.List.{drop-drop, take_all}
 use Rattle.aig_io.specs.declared.device.DeviceFault.{DeviceFault}
 use Rattle.aig_io.specs.Memory.{one_call_later, source_after}

@@ -7,7 +7,8 @@ pub returns-in-Ok-clause-ok : goal.returns-in-Ok-clause-ok
 returns-in-Ok-clause-ok g c =
     let all =
     rest_read (rest_of c.args.reader) (rest_of c.read_gates.new.reader) c.args.window
-    c.read_gates.new.window c.in_ok-bytes.bytes.items c.in_ok-more.more _ _ _ (Ok c.in-Ok.circuit) c.in_ok-more.ensures.ok c.in_ok-bytes.ensures.ok
+    c.read_gates.new.window c.in_ok-bytes.bytes.items c.in_ok-more.more _ _ _ (Ok c.in-Ok.circuit)
+    c.in_ok-more.ensures.ok c.in_ok-bytes.ensures.ok
     (rw c.as_slice.ensures.value at c.in-Ok.ensures) in
     record { bytes = all.bytes; gave = all.gave; holds = all.is }
 
@@ -15,6 +16,7 @@ pub returns-clause-err : goal.returns-clause-err
 returns-clause-err g c =
     let all =
     rest_read (rest_of c.args.reader) (rest_of c.read_gates.new.reader) c.args.window
-    c.read_gates.new.window c.in_ok-bytes.bytes.items c.in_ok-more.more _ _ _ (Err c.in-Err.fault) c.in_ok-more.ensures.ok c.in_ok-bytes.ensures.ok
+    c.read_gates.new.window c.in_ok-bytes.bytes.items c.in_ok-more.more _ _ _ (Err c.in-Err.fault)
+    c.in_ok-more.ensures.ok c.in_ok-bytes.ensures.ok
     (rw c.as_slice.ensures.value at c.in-Err.ensures) in
     inr (record { bytes = all.bytes; gave = all.gave; holds = (c.in-Err.fault, refl, all.is) })
