@@ -67,11 +67,11 @@ fn read_front<R: Source>(
                 window.pass(used);
                 return Ok((Some(reader), true));
             }
-            Err(fault) => {
-                if !matches!(fault.kind, ReadKind::Truncated) {
-                    return Ok((None, true));
-                }
-            }
+            Err(fault) => match fault.kind {
+                ReadKind::Truncated => {}
+                ReadKind::OutOfMemory => return Err(ReadError::OutOfMemory),
+                _ => return Ok((None, true)),
+            },
         }
         if !fetch_twice(source, window)? {
             return Ok((None, false));
