@@ -98,6 +98,8 @@ def rows(folder):
         if tool == "aigsim":
             inputs += [meant(given)] * (len(inputs) == 1)
             whole = "batch" in options or "witness" in options or status == b"0"
+            # the library makes no dump of a witness's run
+            whole = whole and not {"witness", "vcd"} <= options.keys()
         else:
             inputs = (inputs or [meant(given)]) + [b""]
             whole = True

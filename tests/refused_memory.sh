@@ -2,7 +2,7 @@
 # Runs each row of the table in rows.sh with its Nth growth of memory refused, N from 1 until there is no Nth growth; of a row
 # that grows more than a hundred times, some N.
 # A run with a refusal answers 'aiger: out of memory', status 1, and writes nothing; a simulation without --batch has
-# then read nothing of its stimulus or its witness either. The run without a refusal gives the row's own answer. A row
+# then read nothing of its stimulus or its witness either, but where a witness is to be dumped. The run without a refusal gives the row's own answer. A row
 # counts once. What happens before anything is read is the same for all rows with the same words, so it is refused
 # once, with a folder as standard input and as the model; and what happens before a stimulus is read is so with the
 # same model, with a folder as the stimulus.
@@ -103,8 +103,9 @@ row() {
     shift 5
     without_model "$@"
     # the model comes by standard input where it is named by -, which in these rows is the first name; and a batch keeps the
-    # stimulus that it reads
-    [ "${1-}" != aigsim ] || [ "${2-}" = - ] || [[ " $* " = *' --batch '* ]] || reads=stimulus
+    # stimulus that it reads, a dump of a witness the witness
+    [ "${1-}" != aigsim ] || [ "${2-}" = - ] || [[ " $* " = *' --batch '* ]] ||
+        [[ " $* " = *' --witness '* && " $* " = *' --vcd '* ]] || reads=stimulus
     leave_out 1 "${unread[@]}"
     [ "${unread[*]@Q}" = "${*@Q}" ] || leave_out $((known + 1)) "$@"
     sparse=$each
