@@ -80,7 +80,6 @@ fn refused(fault: SimFault) -> SimFault
 
 /// Judges a witness file for a circuit, and makes the dump of the run that it claims. It fails at the first wrong line,
 /// or where memory is refused.
-#[inline(never)]
 pub fn judge_and_dump(
     alloc: Global,
     found: Checked,

@@ -57,8 +57,6 @@ fn trace(
 
 /// The dump of the trace of a stimulus. The sink fails where memory is refused, and what it says counts first.
 #[tactic(auto, using(crate::proofs::Lents::not_batched))]
-// Not built into its callers, whose stack would then hold the rooms for lines several times over.
-#[inline(never)]
 pub(crate) fn dump(alloc: Global, found: &Checked, stimulus: &[u8]) -> Result<Vec<u8>, SimFault>
     ensures none_bad { IfOk result (λ _. first_bad_line found.now stimulus.now true ≡ None) }
     ensures text { IfOk result (λ text. (trace : List ℕ)

@@ -17,8 +17,6 @@ use std::alloc::Global;
 
 /// The verdict on a witness file.
 #[tactic(auto, using(crate::proofs::Lents::not_judged))]
-// As `dump`, which the program calls behind it.
-#[inline(never)]
 pub(crate) fn judged(alloc: Global, found: &Checked, witness: &[u8]) -> Result<Verdict, SimFault>
     ensures ok { IfOk result (IsVerdictFor found.now witness.now) }
     ensures err { IfErr result (λ fault.

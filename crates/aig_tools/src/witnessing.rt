@@ -67,7 +67,6 @@ fn comment_line(verdict: Verdict) -> Message
 }
 
 /// Sends the verdict and the dump of a run. It fails only where the sink fails, which then took a beginning of them.
-#[inline(never)]
 fn send_dump<W: Sink>(verdict: Verdict, run: &[u8], sink: &mut W) -> Result<(), WriteFault>
     requires { CanFail (W.past sink.old) }
     ensures ok { OnOk result (W.past sink.new ≡ took (comment_line verdict ++ run.now) (W.past sink.old)) }
