@@ -27,7 +27,7 @@ FIRST, FAR, NEAR, MOST = 1024, 64, 4, 16384
 ANSWERS = 8
 # how many kilobytes of stack there are before a program begins
 STACK = 128
-# The dump of a witness needs more than Linux gives beforehand, so what comes of it where the stack cannot grow is not tried.
+# The dump of a witness needs more than Linux gives beforehand, so it is not tried where the stack cannot grow.
 STACK_OF_A_WITNESS_DUMP = 192
 LIMITED = ["-c", 'ulimit -v "$0" && LD_PRELOAD=$PRELOAD exec "$@"']
 WITH_STACK = ["-c", 'ulimit -s "$0" && exec "$@"']

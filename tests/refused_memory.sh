@@ -3,7 +3,8 @@
 # that grows more than a hundred times, some N.
 # A run with a refusal answers 'aiger: out of memory', status 1, and writes nothing; a simulation without --batch has
 # then read nothing of its stimulus or its witness either, but where a witness is to be dumped. The run without a
-# refusal gives the row's own answer. A row counts once. What happens before anything is read is the same for all rows with the same words, so it is refused
+# refusal gives the row's own answer. A row counts once.
+# What happens before anything is read is the same for all rows with the same words, so it is refused
 # once, with a folder as standard input and as the model; and what happens before a stimulus is read is so with the
 # same model, with a folder as the stimulus.
 #

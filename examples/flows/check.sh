@@ -2,8 +2,8 @@
 # check.sh DESIGN.v TOP CLOCK: looks for a run of the design that breaks an assertion, and confirms it.
 #
 # Yosys writes the design as design.aig, ABC looks for a counterexample of at most 50 steps, aiger confirms it as the
-# witness file design.aiw and writes its run as the waveform run.vcd, and Yosys replays that file on the Verilog, says which
-# assertion fails and writes design.vcd.
+# witness file design.aiw and writes its run as the waveform run.vcd, and Yosys replays that file on the Verilog, says
+# which assertion fails and writes design.vcd.
 set -euo pipefail
 aiger=${AIGER:-aiger} abc=${ABC:-berkeley-abc}
 here=$(dirname "$(readlink -f "${BASH_SOURCE[0]}")")
