@@ -1,14 +1,13 @@
 -- Steps of runs side by side.
 use Rattle.std.proofs.Common.{rules}
 use Rattle.std.proofs.Common.{◌≡◌, ◌+◌, ◌-◌, ◌*◌, ◌<◌, ◌≤◌, ◌++◌, ap₂, ℕ, List, [], ◌∷◌, length, map, get_or}
-use Rattle.std.proofs.Common.{drop, replicate, refl, set, sym, take, ap, subst, ◌∙◌, arith, inl, inr}
+use Rattle.std.proofs.Common.{drop, refl, set, sym, take, ap, subst, ◌∙◌, arith, inl, inr}
 use Rattle.std.specs.List.{All}
 use Rattle.std.proofs.Math.Nat.{mul-le-mul_right}
 use Rattle.std.proofs.lemmas.Bool.{cases_lt}
-use Rattle.std.proofs.lemmas.List.{drop_at, get_or-replicate, get_or-set_other, get_or-set_same, length-set}
+use Rattle.std.proofs.lemmas.List.{drop_at}
 use Rattle.std.proofs.lemmas.List.{length-append, length-take, length-take-le, take_all, take_more}
 use Rattle.std.proofs.lemmas.List.Elements.{All-append, All-map, All-nil}
-use Rattle.std.proofs.lemmas.Simd.{length-replicate}
 use Rattle.aig_circuit.specs.declared.circuit.Circuit.{Circuit}
 use Rattle.aig_circuit.specs.declared.circuit.Latch.{Latch}
 use Rattle.aig_circuit.specs.declared.circuit.Reset.{Reset}
@@ -23,7 +22,7 @@ use Rattle.aig_lanes.specs.declared.run.Run.{Run}
 use Rattle.aig_lanes.specs.declared.shown.Shown.{Shown}
 use Rattle.aig_step.specs.declared.trace.Columns.{Columns}
 use Rattle.aig_step.specs.declared.trace.Columns.TheVariants.{Plain, Properties}
-use Rattle.aig_lanes.specs.Parts.Groups.{Assigned}
+use Rattle.aig_lanes.specs.Parts.Groups.{Assigned, Begun}
 use Rattle.aig_lanes.specs.Parts.Kept.{asked, reset_literal, reset_literals, seen, step_literals}
 use Rattle.aig_lanes.specs.Parts.LaneTexts.{HoldsRun, KeepsTrace, LaneStands, ShowsRows}
 use Rattle.aig_lanes.specs.Parts.LaneTexts.{end_of}
@@ -110,24 +109,20 @@ module _ (c : Circuit) (run : Run) (step lane : ℕ) (table begun table_now stat
   ]
 
 -- before the first step the literals of resets have their values
-reset_read : (variables : ℕ) (r : Reset) → 1 < variables
-    → literal_value (read_from (set (replicate variables X) 0 Zero)) (reset_literal r) ≡ reset_value r
-reset_read variables resets.Zero some =
-    get_or-set_same (replicate variables X) 0 Zero Zero (omega (arith, some, length-replicate variables X))
-reset_read variables resets.One some =
-    ap value_not
-    (get_or-set_same (replicate variables X) 0 Zero Zero (omega (arith, some, length-replicate variables X)))
-reset_read variables resets.Uninit some =
-    get_or-set_other (replicate variables X) 0 1 Zero Zero (λ e. omega (arith, e))
-    ∙ get_or-replicate variables 1 X Zero some
+reset_read : (values : List Val) (r : Reset) → read_from values 0 ≡ Zero → read_from values 1 ≡ X
+    → literal_value (read_from values) (reset_literal r) ≡ reset_value r
+reset_read values resets.Zero constant unknown = constant
+reset_read values resets.One constant unknown = ap value_not constant
+reset_read values resets.Uninit constant unknown = unknown
 
-reset_shown : (variables : ℕ) (latches : List Latch) → (0 < length latches → 1 < variables)
-    → map (literal_value (read_from (set (replicate variables X) 0 Zero))) (reset_literals latches)
+reset_shown : (values : List Val) (latches : List Latch) → read_from values 0 ≡ Zero
+    → (0 < length latches → read_from values 1 ≡ X)
+    → map (literal_value (read_from values)) (reset_literals latches)
     ≡ map (λ (l : Latch). reset_value l.reset) latches
-reset_shown variables [] some = refl
-reset_shown variables (l ∷ ls) some =
-    ap₂ (λ (v : Val) vs. v ∷ vs) (reset_read variables l.reset (some (omega arith)))
-    (reset_shown variables ls (λ _. some (omega arith)))
+reset_shown values [] constant unknown = refl
+reset_shown values (l ∷ ls) constant unknown =
+    let is = unknown (omega arith) in
+    ap₂ (λ (v : Val) vs. v ∷ vs) (reset_read values l.reset constant is) (reset_shown values ls constant (λ _. is))
 
 reset_below : (variables : ℕ) (r : Reset) → 1 < variables → IsLiteralBelow variables (reset_literal r)
 reset_below variables resets.Zero some = omega (arith, some)
@@ -152,17 +147,16 @@ literals_below size columns c below = search (rules, All-append, All-map, asked_
 -- before the first step
 pub stands_first : (c : Circuit) (run : Run) (lane : ℕ) (table state : List (List ℕ)) (shown : Shown)
     (sheet : List BytesText) → ShowsRows c shown → length c.latches ≤ c.max_var
-    → IsLane lane table (set (replicate (1 + c.max_var) X) 0 Zero)
-    → IsLane lane state
-    (map (literal_value (read_from (set (replicate (1 + c.max_var) X) 0 Zero))) shown.resets.items)
+    → (begun : Begun lane (1 + c.max_var) table)
+    → IsLane lane state (map (literal_value (read_from begun.now.values)) shown.resets.items)
     → take (end_of shown 0) (text_in lane sheet)
-    ≡ values_text (map (literal_value (read_from (set (replicate (1 + c.max_var) X) 0 Zero))) shown.resets.items)
+    ≡ values_text (map (literal_value (read_from begun.now.values)) shown.resets.items)
     → LaneStands c run 0 lane table state shown sheet
-stands_first c run lane table state shown sheet shows room is from kept =
-    let values = set (replicate (1 + c.max_var) X) 0 Zero in
+stands_first c run lane table state shown sheet shows room begun from kept =
+    let values = begun.now.values in
     let resets : map (literal_value (read_from values)) shown.resets.items ≡ reset_state c =
     ap (map (literal_value (read_from values))) shows.resets
-    ∙ reset_shown (1 + c.max_var) c.latches (λ some. omega (arith, some, room)) in
+    ∙ reset_shown values c.latches begun.constant (λ some. begun.unknown (omega (arith, some, room))) in
     let none : 0 * length shown.literals.items ≡ 0 = omega arith in
     let end : end_of shown 0 ≡ length shown.resets.items = omega arith in
     record {
@@ -177,11 +171,7 @@ stands_first c run lane table state shown sheet shows room is from kept =
             ∙ kept
             ∙ ap values_text resets;
       };
-      table_stands = λ _. record {
-        values = values;
-        stand = is;
-        size_is = length-set (replicate (1 + c.max_var) X) 0 Zero ∙ length-replicate (1 + c.max_var) X;
-      };
+      table_stands = λ _. begun.now;
       state_stands = λ _. subst (λ (vs : List Val). IsLane lane state vs) resets from;
     }
 

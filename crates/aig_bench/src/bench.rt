@@ -3,7 +3,7 @@ ghost use Rattle.std.specs.Prelude.{◌≡◌, ◌+◌, ◌*◌, ◌<◌, ◌≤
 ghost use Rattle.std.specs.List.{All};
 ghost use Rattle.aig_lanes.specs.declared.run.Run.{Run as RunRecord};
 ghost use Rattle.aig_lanes.specs.Parts.InputBits.{AreBlocks, HoldsLane, one_step};
-ghost use Rattle.aig_lanes.specs.Parts.Lanes.{IsClear};
+ghost use Rattle.aig_lanes.specs.Parts.Groups.{IsTable, IsWhole};
 ghost use Rattle.aig_lanes.specs.Parts.LaneTexts.{HoldsRun, KeepsRun, LaneStands, ShowsRows, shown_size};
 ghost use Rattle.aig_lanes.specs.Parts.Sheets.{SameRoom};
 ghost use Rattle.aig_lanes.specs.Runs.{IsRunOf};
@@ -18,16 +18,16 @@ use aig_lanes::{
 use aig_step::{Columns, Machine};
 use std::alloc::Global;
 
-/// Before the first step of a group: all variables are x but the constant, and the state is that by the resets.
+/// Before the first step of a group: the state is that by the resets.
 fn begin_steps(
     machine: &Machine,
     shown: &Shown,
-    is_clear: bool,
+    is_whole: bool,
     table: &mut [Plane],
     state: &mut [Plane],
     sheet: &mut Sheet,
 )
-    requires clear { IsTrue is_clear → IsClear table.old }
+    requires whole { IsTrue is_whole → IsWhole table.old }
     requires table { length table.old ≡ 2 * (1 + machine.now.max_var) }
     requires state { length state.old ≡ 2 * length machine.now.latches }
     requires shows { ShowsRows machine.now shown.now }
@@ -37,7 +37,7 @@ fn begin_steps(
 {
     // That there is a variable where there is a latch is known by this read.
     let _parts = machine.parts();
-    shown.begin(is_clear, table, state, sheet);
+    shown.begin(is_whole, table, state, sheet);
 }
 
 /// A step of each run that has it. What it shows is kept, and the state behind it.
@@ -131,8 +131,8 @@ fn one_step_each(alloc: Global) -> Result<RunGroup<'static>, OutOfMemory>
 pub struct Bench {
     bits: Vec<BlockBits>,
     table: Vec<Plane>,
-    /// Whether the table has x in all lanes, as it has before the first step.
-    is_clear: bool,
+    /// Whether variables have values in each lane of the table, as they have before the first step.
+    is_whole: bool,
     state: Vec<Plane>,
     /// What the steps of a group show, in lanes of the sheet.
     pub shown: Shown,
@@ -170,7 +170,7 @@ impl Bench {
         Ok(Bench {
             bits,
             table,
-            is_clear: true,
+            is_whole: true,
             state,
             shown,
             sheet,
@@ -200,19 +200,20 @@ impl Bench {
         requires fits { steps * shown_size self.old.shown < 2 ^ 64 }
         ensures is { IsBench machine.now self.new }
         ensures same { HasSameRoom self.old self.new }
-        ensures keeps { (j : ℕ) (run : RunRecord) → j < 256 → IsRunOf machine.now run
+        ensures lanes { (j : ℕ) (run : RunRecord) → j < 256 → IsRunOf machine.now run
             → HoldsLane j run self.old.bits.items → HoldsRun j run self.old.shown self.old.sheet
-            → length run.steps ≤ steps → KeepsRun machine.now run j self.new.shown self.new.sheet }
+            → (length run.steps ≤ steps → KeepsRun machine.now run j self.new.shown self.new.sheet)
+            × (steps ≤ length run.steps → IsTable j (1 + machine.now.max_var) self.new.table.items) }
     {
         begin_steps(
             machine,
             &self.shown,
-            self.is_clear,
+            self.is_whole,
             &mut self.table,
             &mut self.state,
             &mut self.sheet,
         );
-        self.is_clear = false;
+        self.is_whole = false;
         take_steps(
             machine,
             &self.shown,
@@ -251,7 +252,12 @@ impl Bench {
         ensures keeps { (j : ℕ) → j < length vectors.now.steps
             → KeepsRun machine.now (one_step (slice_index_or vectors.now.steps j [])) j self.new.shown self.new.sheet }
     {
+        if vectors.len() == 0 {
+            return;
+        }
         fill_across(&mut self.bits, vectors, machine.parts().inputs.len());
         self.step_lanes(machine, 1);
+        // Each lane took a step, so the table serves again as it stands.
+        self.is_whole = true;
     }
 }

@@ -1,10 +1,12 @@
 //! Tables of x in all lanes.
-ghost use Rattle.std.specs.Prelude.{◌≡◌, ◌*◌, ◌<◌, ◌^◌, ℕ, length, replicate, IfOk, IsTrue};
+ghost use Rattle.std.specs.Prelude.{◌≡◌, ◌*◌, ◌<◌, ◌≤◌, ◌^◌, ℕ, length, replicate, IfOk, IsTrue};
 ghost use Rattle.aig_circuit.specs.declared.value.Val.TheVariants.{X};
-ghost use Rattle.aig_lanes.specs.Parts.Lanes.{IsClear, IsLane};
+ghost use Rattle.aig_lanes.specs.Parts.Groups.{Begun, IsWhole};
+ghost use Rattle.aig_lanes.specs.Parts.Lanes.{IsLane};
 
+use crate::lanes::put_all;
 use crate::planes::{Plane, plane_of};
-use aig_circuit::OutOfMemory;
+use aig_circuit::{OutOfMemory, Val};
 use std::alloc::Global;
 
 /// A table of x in all lanes, for so many variables.
@@ -27,13 +29,28 @@ pub(crate) fn fill_table(table: &mut [Plane])
     table.fill(plane_of(true));
 }
 
-/// Puts x into all lanes of a table, unless it is clear and so has it there.
-pub(crate) fn clear_table(table: &mut [Plane], is_clear: bool)
-    requires { IsTrue is_clear → IsClear table.old }
+/// Puts x into all lanes of a table, unless variables have values in each of them.
+fn make_whole(table: &mut [Plane], is_whole: bool)
+    requires { IsTrue is_whole → IsWhole table.old }
     ensures size { length table.new ≡ length table.old }
-    ensures clear { IsClear table.new }
+    ensures whole { IsWhole table.new }
 {
-    if !is_clear {
+    if !is_whole {
         fill_table(table);
+    }
+}
+
+/// Makes a table that for the first step: the constant is 0, and variable 1 is x, if there is one. Where variables have
+/// values in each lane, the others keep them.
+pub(crate) fn begin_table(table: &mut [Plane], is_whole: bool)
+    requires whole { IsTrue is_whole → IsWhole table.old }
+    requires constant { 2 ≤ length table.old }
+    ensures size { length table.new ≡ length table.old }
+    ensures begun { (l variables : ℕ) → l < 256 → length table.old ≡ 2 * variables → Begun l variables table.new }
+{
+    make_whole(table, is_whole);
+    put_all(table, 0, Val::Zero);
+    if table.len() > 3 {
+        put_all(table, 1, Val::X);
     }
 }

@@ -5,7 +5,7 @@ ghost use Rattle.std.specs.List.{All};
 ghost use Rattle.aig_circuit.specs.declared.value.Val.{Val as Value};
 ghost use Rattle.aig_lanes.specs.declared.run.Run.{Run as RunRecord};
 ghost use Rattle.aig_lanes.specs.Parts.InputBits.{AreBlocks, HasRoom, HasStep, HoldsBlock, HoldsBlocks, HoldsInputs};
-ghost use Rattle.aig_lanes.specs.Parts.InputBits.{HoldsLane, IsWord, SameRooms, TellsOther, one_step, word_at};
+ghost use Rattle.aig_lanes.specs.Parts.InputBits.{HoldsLane, IsWord, SameRooms, TellsOther, one_step, step_of, word_at};
 
 use crate::sheets::longest_in;
 use crate::vectors::{RunGroup, Vectors};
@@ -125,18 +125,20 @@ fn fill_lanes(lanes: &mut [LaneBits], runs: &[Vectors], first: usize)
     }
 }
 
-/// Puts those of each step of a run, from an input on, into a lane of its own.
+/// Puts those of each step of a run, from an input on, into a lane of its own, and those of the last one into the lanes
+/// that are left.
 fn fill_firsts(lanes: &mut [LaneBits], run: &Vectors, first: usize)
-    requires lanes { length run.now.steps ≤ length lanes.old }
+    requires some { 0 < length run.now.steps }
     requires inputs { All (λ (vector : List Value). first ≤ length vector) run.now.steps }
     requires room { (l : ℕ) → l < length lanes.old → 0 < length (slice_index_or lanes.old l []) }
-    ensures holds { (l : ℕ) → l < length run.now.steps
-        → HoldsInputs first (one_step (slice_index_or run.now.steps l [])) (slice_index_or lanes.new l []) }
+    ensures holds { (l : ℕ) → l < length lanes.old
+        → HoldsInputs first (one_step (step_of run.now l)) (slice_index_or lanes.new l []) }
     ensures count { length lanes.new ≡ length lanes.old }
     ensures sizes { (l : ℕ) → length (slice_index_or lanes.new l []) ≡ length (slice_index_or lanes.old l []) }
 {
-    for lane in 0..run.len() {
-        lanes[lane].put_first(word_of(run.text(lane), first));
+    let last = run.len() - 1;
+    for lane in 0..lanes.len() {
+        lanes[lane].put_first(word_of(run.text(lane.min(last)), first));
     }
 }
 
@@ -194,13 +196,13 @@ impl BlockBits {
         fill_lanes(&mut self.lanes, runs, first);
     }
 
-    /// Puts the inputs of each step of a run, from one on, into a lane of its own.
+    /// Puts the inputs of each step of a run, from one on, into a lane of its own, as `fill_firsts` does.
     fn fill_across(&mut self, run: &Vectors, first: usize)
-        requires lanes { length run.now.steps ≤ 256 }
+        requires some { 0 < length run.now.steps }
         requires inputs { All (λ (vector : List Value). first ≤ length vector) run.now.steps }
         requires room { HasStep self.old }
-        ensures holds { (l : ℕ) → l < length run.now.steps
-            → HoldsInputs first (one_step (slice_index_or run.now.steps l [])) (slice_index_or self.new l []) }
+        ensures holds { (l : ℕ) → l < 256
+            → HoldsInputs first (one_step (step_of run.now l)) (slice_index_or self.new l []) }
         ensures sizes { (l : ℕ) → length (slice_index_or self.new l []) ≡ length (slice_index_or self.old l []) }
     {
         fill_firsts(&mut self.lanes, run, first);
@@ -252,14 +254,14 @@ pub fn fill_bits(bits: &mut [BlockBits], runs: &[Vectors], inputs: usize)
     }
 }
 
-/// Puts the inputs of each step of a run into a lane of its own, as the first step there.
+/// Puts the inputs of each step of a run into a lane of its own, as the first step there, and those of the last one
+/// into the lanes that are left.
 pub fn fill_across(bits: &mut [BlockBits], run: &Vectors, inputs: usize)
-    requires lanes { length run.now.steps ≤ 256 }
+    requires some { 0 < length run.now.steps }
     requires inputs { All (λ (vector : List Value). length vector ≡ inputs) run.now.steps }
     requires blocks { AreBlocks inputs (length bits.old) }
     requires room { All HasStep bits.old }
-    ensures holds { (l : ℕ) → l < length run.now.steps
-        → HoldsLane l (one_step (slice_index_or run.now.steps l [])) bits.new }
+    ensures holds { (l : ℕ) → l < 256 → HoldsLane l (one_step (step_of run.now l)) bits.new }
     ensures same { SameRooms bits.old bits.new }
 {
     for block in 0..bits.len() {

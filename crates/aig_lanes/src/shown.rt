@@ -1,12 +1,12 @@
 //! What steps show, in all lanes.
 ghost use Rattle.std.specs.Prelude.{◌≡◌, ◌+◌, ◌-◌, ◌*◌, ◌/◌, ◌++◌, ◌<◌, ◌≤◌, ◌^◌, ℕ, List, [], IfOk, drop, length, map};
-ghost use Rattle.std.specs.Prelude.{IsTrue, replicate, slice_index_or, slice_set, take};
+ghost use Rattle.std.specs.Prelude.{IsTrue, slice_index_or, take};
 ghost use Rattle.std.specs.List.{All};
 ghost use Rattle.aig_circuit.specs.declared.circuit.Latch.{Latch as LatchRecord};
 ghost use Rattle.aig_circuit.specs.declared.value.Val.{Val as Value};
-ghost use Rattle.aig_circuit.specs.declared.value.Val.TheVariants.{X, Zero};
 ghost use Rattle.aig_meaning.specs.Meaning.{Row as RowRecord, literal_value};
-ghost use Rattle.aig_lanes.specs.Parts.Lanes.{IsClear, IsLane, IsPair};
+ghost use Rattle.aig_lanes.specs.Parts.Groups.{Begun, IsWhole};
+ghost use Rattle.aig_lanes.specs.Parts.Lanes.{IsLane, IsPair};
 ghost use Rattle.aig_lanes.specs.Parts.Kept.{asked as asked_of, reset_literal as literal_by};
 ghost use Rattle.aig_lanes.specs.Parts.Kept.{reset_literals as literals_by, seen as seen_of};
 ghost use Rattle.aig_lanes.specs.Parts.Sheets.{SameRoom, text_in};
@@ -14,8 +14,8 @@ ghost use Rattle.aig_lanes.specs.Runs.{row_of};
 ghost use Rattle.aig_step.specs.Parts.Tables.{IsLiteralBelow, read_from};
 ghost use Rattle.aig_step.specs.TraceText.{values_text};
 
-use crate::group::{clear_table, fill_table};
-use crate::lanes::{planes_of, put_all, put_literals};
+use crate::group::{begin_table, fill_table};
+use crate::lanes::{planes_of, put_literals};
 use crate::planes::{Plane, plane_of};
 use crate::run::FullRow;
 use crate::sheets::Sheet;
@@ -165,26 +165,22 @@ impl Shown {
         Sheet::new(alloc, self.literals.len(), self.resets.len(), groups)
     }
 
-    /// Before the first step: all variables are x but the constant, and the state by the resets is put. A table that is
-    /// clear has x in all lanes before.
-    pub fn begin(&self, is_clear: bool, table: &mut [Plane], state: &mut [Plane], sheet: &mut Sheet)
-        requires clear { IsTrue is_clear → IsClear table.old }
+    /// Before the first step the state by the resets is put. In a table that has values in each lane, the variables but
+    /// the constant and the first keep them: those of inputs, latches and gates are put at each step.
+    pub fn begin(&self, is_whole: bool, table: &mut [Plane], state: &mut [Plane], sheet: &mut Sheet)
+        requires whole { IsTrue is_whole → IsWhole table.old }
         requires constant { 2 ≤ length table.old }
         requires state { length state.old ≡ 2 * length self.now.resets.items }
         requires below { All (IsLiteralBelow (length table.old / 2)) self.now.resets.items }
         ensures room { SameRoom sheet.old sheet.new }
-        ensures table { (l variables : ℕ) → l < 256 → length table.old ≡ 2 * variables
-            → IsLane l table.new (slice_set (replicate variables X) 0 Zero) }
-        ensures text { (l variables : ℕ) → l < 256 → length table.old ≡ 2 * variables
+        ensures table { (l variables : ℕ) → l < 256 → length table.old ≡ 2 * variables → Begun l variables table.new }
+        ensures text { (l : ℕ) (values : List Value) → l < 256 → IsLane l table.new values
             → end_of self.now 0 ≤ length (text_in l sheet.old) → take (end_of self.now 0) (text_in l sheet.new)
-            ≡ values_text (map (literal_value (read_from (slice_set (replicate variables X) 0 Zero)))
-            self.now.resets.items) }
-        ensures state { (l variables : ℕ) → l < 256 → length table.old ≡ 2 * variables
-            → IsLane l state.new (map (literal_value (read_from (slice_set (replicate variables X) 0 Zero)))
-            self.now.resets.items) }
+            ≡ values_text (map (literal_value (read_from values)) self.now.resets.items) }
+        ensures state { (l : ℕ) (values : List Value) → l < 256 → IsLane l table.new values
+            → IsLane l state.new (map (literal_value (read_from values)) self.now.resets.items) }
     {
-        clear_table(table, is_clear);
-        put_all(table, 0, Val::Zero);
+        begin_table(table, is_whole);
         show_literals(&self.resets, table, sheet, 0);
         fill_table(state);
         put_literals(&self.resets, table, state);

@@ -5,17 +5,17 @@ use Rattle.aig_circuit.specs.declared.circuit.Circuit.{Circuit}
 use Rattle.aig_lanes.specs.declared.run.Run.{Run}
 use Rattle.aig_bench.specs.declared.bench.Bench.{Bench}
 use Rattle.aig_lanes.specs.Parts.InputBits.{AreBlocks, HasRoom, HasStep, SameRooms}
-use Rattle.aig_lanes.specs.Parts.Lanes.{IsClear}
+use Rattle.aig_lanes.specs.Parts.Groups.{IsWhole}
 use Rattle.aig_lanes.specs.Parts.LaneTexts.{HoldsRuns, ShowsRows, end_of, shown_size}
 use Rattle.aig_lanes.specs.Parts.Sheets.{SameRoom, text_in}
 use Rattle.aig_step.specs.Parts.Lines.{line_size}
 
--- it has bits for each input, a place for each variable and latch, and room for a line; where it says that its table is
--- clear, it is; and it shows what rows show
+-- it has bits for each input, a place for each variable and latch, and room for a line; where it says that its table
+-- is whole, it is; and it shows what rows show
 pub record IsBench (c : Circuit) (bench : Bench) : Type 0 where
   pub bits : AreBlocks (length c.inputs) (length bench.bits.items)
   pub table : length bench.table.items ≡ 2 * (1 + c.max_var)
-  pub clear : IsTrue bench.is_clear → IsClear bench.table.items
+  pub whole : IsTrue bench.is_whole → IsWhole bench.table.items
   pub state : length bench.state.items ≡ 2 * length c.latches
   pub shows : ShowsRows c bench.shown
   pub line : length bench.line.items ≡ line_size c

@@ -1,7 +1,8 @@
 -- Runs of a group, stepped side by side: what stands in a lane. Only the simulator cites this.
-use Rattle.std.specs.Prelude.{◌≡◌, ◌+◌, ◌++◌, ℕ, List, [], ◌∷◌, length, map}
+use Rattle.std.specs.Prelude.{◌≡◌, ◌+◌, ◌*◌, ◌<◌, ◌++◌, ℕ, List, [], ◌∷◌, length, map}
 use Rattle.aig_circuit.specs.declared.circuit.Circuit.{Circuit}
 use Rattle.aig_circuit.specs.declared.value.Val.{Val}
+use Rattle.aig_circuit.specs.declared.value.Val.TheVariants.{X, Zero}
 use Rattle.aig_meaning.specs.Meaning.{IsStepAssignment}
 use Rattle.aig_lanes.specs.declared.run.FullRow.{FullRow}
 use Rattle.aig_lanes.specs.Parts.Lanes.{IsLane}
@@ -14,6 +15,16 @@ pub record IsTable (lane size : ℕ) (table : List (List ℕ)) : Type 0 where
   pub values : List Val
   pub stand : IsLane lane table values
   pub size_is : length values ≡ size
+
+-- in each lane the variables of a table have some values
+abbrev pub IsWhole : List (List ℕ) → Type 0
+IsWhole table = (l variables : ℕ) → l < 256 → length table ≡ 2 * variables → IsTable l variables table
+
+-- in a lane the constant is 0, variable 1 is x, and the others have some values
+pub record Begun (lane size : ℕ) (table : List (List ℕ)) : Type 0 where
+  pub now : IsTable lane size table
+  pub constant : read_from now.values 0 ≡ Zero
+  pub unknown : 1 < size → read_from now.values 1 ≡ X
 
 -- in a lane the table has the values of a step
 pub record Assigned (c : Circuit) (lane : ℕ) (state given : List Val) (table : List (List ℕ)) : Type 0 where

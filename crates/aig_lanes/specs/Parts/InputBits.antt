@@ -1,6 +1,6 @@
 -- The inputs of runs as bits. Only the simulator cites this.
-use Rattle.std.specs.Prelude.{◌≡◌, ◌+◌, ◌*◌, ◌/◌, ◌%◌, ◌^◌, ◌<◌, ◌≤◌, ◌==◌, ℕ, List, [], ◌∷◌, if◌then◌else◌, length}
-use Rattle.std.specs.Prelude.{slice_index_or}
+use Rattle.std.specs.Prelude.{◌≡◌, ◌+◌, ◌-◌, ◌*◌, ◌/◌, ◌%◌, ◌^◌, ◌<◌, ◌≤◌, ◌==◌, ℕ, List, [], ◌∷◌}
+use Rattle.std.specs.Prelude.{if◌then◌else◌, length, min, slice_index_or}
 use Rattle.std.specs.Int.{bit_at}
 use Rattle.aig_circuit.specs.declared.value.Val.{Val}
 use Rattle.aig_lanes.specs.declared.input_bits.InputWord.{InputWord}
@@ -47,6 +47,10 @@ HoldsLane lane run bits = (block : ℕ) → block < length bits
 -- a run of one step
 abbrev pub one_step : List Val → Run
 one_step vector = record { steps = vector ∷ [] }
+
+-- of the steps of a run the one that a lane takes: its own, or else the last
+abbrev pub step_of : Run → (lane : ℕ) → List Val
+step_of run lane = slice_index_or run.steps (min lane (length run.steps - 1)) []
 
 -- each lane has room for a step
 abbrev pub HasStep : List (List InputWord) → Type 0

@@ -1,7 +1,7 @@
 -- Up to 256 runs side by side, a lane for each. A plane has a bit for each lane, in four words of 64. A table has for
 -- each literal the plane of those lanes in which the literal may be 1, so that the negation of a variable, the plane
 -- behind its own, tells where the variable may be 0. Only the simulator cites this.
-use Rattle.std.specs.Prelude.{◌≡◌, ◌*◌, ◌/◌, ◌%◌, ◌<◌, ℕ, List, [], ◌∷◌, length, map, replicate, slice_index_or}
+use Rattle.std.specs.Prelude.{◌≡◌, ◌/◌, ◌%◌, ℕ, List, [], ◌∷◌, length, map, slice_index_or}
 use Rattle.std.specs.Int.{bit_at}
 use Rattle.std.specs.List.{All}
 use Rattle.aig_circuit.specs.declared.value.Val.{Val}
@@ -37,8 +37,3 @@ pub record IsPair (lane : ℕ) (one zero : List ℕ) (x : Val) : Type 0 where
   pub zero_plane : IsPlane zero
   pub one_bit : bit_in lane one ≡ may_be_one x
   pub zero_bit : bit_in lane zero ≡ may_be_one (value_not x)
-
--- all variables of a table are x in each lane
-abbrev pub IsClear : List (List ℕ) → Type 0
-IsClear table =
-    (l variables : ℕ) → l < 256 → length table ≡ 2 * variables → IsLane l table (replicate variables X)

@@ -20,8 +20,8 @@ pub returns-clause-stands : goal.returns-clause-stands
 returns-clause-stands c j run lane holds =
     let machine = c.args.machine.now in
     let parts = c.parts-parts.ensures in
-    let size = 1 + machine.max_var in
+    let begun = c.begin.ensures.table j (1 + machine.max_var) lane c.requires.table in
     stands_first machine run j c.begin.new.table c.begin.new.state c.args.shown.now c.begin.new.sheet
     c.requires.shows (omega (arith, ap length parts.latches, parts.room, parts.max_var))
-    (c.begin.ensures.table j size lane c.requires.table) (c.begin.ensures.state j size lane c.requires.table)
-    (c.begin.ensures.text j size lane c.requires.table (omega (arith, holds)))
+    begun (c.begin.ensures.state j begun.now.values lane begun.now.stand)
+    (c.begin.ensures.text j begun.now.values lane begun.now.stand (omega (arith, holds)))

@@ -1,7 +1,7 @@
 use Rattle.std.proofs.Common.{◌*◌, ◌<◌, ◌∙◌, ℕ, List, [], ap, arith, get_or, length}
 use Rattle.std.proofs.lemmas.List.{get_or_default, length-set}
 use Rattle.aig_lanes.specs.declared.input_bits.InputWord.{InputWord}
-use Rattle.aig_lanes.specs.Parts.InputBits.{HoldsInputs, one_step}
+use Rattle.aig_lanes.specs.Parts.InputBits.{HoldsInputs, one_step, step_of}
 use Rattle.aig_lanes.proofs.Side.InputBits.{put_more, same_sizes}
 use Rattle.aig_lanes.proofs.input_bits.fill_across.Goals as goal
 
@@ -21,7 +21,6 @@ fill_across-requires-clause-room c = λ l low.
 
 pub loop-block-preserved : goal.loop-block-preserved
 loop-block-preserved c =
-    let steps = c.args.run.now.steps in
     let bits = c.loop-block.bits in
     let at = c.loop-block.block in
     let now = c.fill_across.new.self in
@@ -30,8 +29,8 @@ loop-block-preserved c =
     let size = λ (l : ℕ) (lanes : List (List InputWord)). length (get_or lanes l []) in
     record {
       holds = put_more
-          (λ i (lanes : List (List InputWord)). (lane : ℕ) → lane < length steps
-          → HoldsInputs (64 * i) (one_step (get_or steps lane [])) (get_or lanes lane []))
+          (λ i (lanes : List (List InputWord)). (lane : ℕ) → lane < 256
+          → HoldsInputs (64 * i) (one_step (step_of c.args.run.now lane)) (get_or lanes lane []))
           bits at now [] inside c.loop-block.invariant.holds c.fill_across.ensures.holds;
       same = record {
         count = length-set bits at now ∙ c.loop-block.invariant.same.count;

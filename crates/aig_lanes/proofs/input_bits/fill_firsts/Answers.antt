@@ -1,8 +1,9 @@
-use Rattle.std.proofs.Common.{◌<◌, ◌∙◌, ℕ, zero, suc, List, [], ap, arith, get_or, length, set, subst, sym}
+use Rattle.std.proofs.Common.{◌≡◌, ◌<◌, ◌∙◌, ◌-◌, ℕ, zero, suc, List, [], ap, arith, get_or, length, min, set, subst}
+use Rattle.std.proofs.Common.{sym}
 use Rattle.std.proofs.lemmas.List.{get_or-set_same, get_or_default, length-map, length-set}
 use Rattle.aig_circuit.specs.declared.value.Val.{Val}
 use Rattle.aig_lanes.specs.declared.input_bits.InputWord.{InputWord}
-use Rattle.aig_lanes.specs.Parts.InputBits.{HoldsInputs, IsWord, one_step}
+use Rattle.aig_lanes.specs.Parts.InputBits.{HoldsInputs, IsWord, one_step, step_of}
 use Rattle.aig_step.specs.TraceText.{character_of, values_text}
 use Rattle.aig_lanes.proofs.Side.InputBits.{put_more, same_sizes}
 use Rattle.aig_lanes.proofs.input_bits.fill_firsts.Goals as goal
@@ -16,10 +17,11 @@ first_holds first vector words word some is (suc k) d below = absurd (omega (ari
 
 pub word_of-requires : goal.word_of-requires
 word_of-requires c =
-    let vector = get_or c.args.run.now.steps c.loop-lane.lane [] in
+    let at = c.min.result in
+    let vector = get_or c.args.run.now.steps at [] in
     omega (
       arith,
-      c.requires.inputs c.loop-lane.lane [] (omega (arith, c.loop-lane-test.true, c.len-lane-end.ensures)),
+      c.requires.inputs at [] (omega (arith, c.requires.some, c.min.ensures, c.len-last.ensures)),
       ap length c.text.ensures,
       length-map vector character_of,
     )
@@ -28,8 +30,7 @@ pub put_first-requires : goal.put_first-requires
 put_first-requires c =
     let lanes = c.loop-lane.lanes in
     let at = c.loop-lane.lane in
-    let inside : at < length lanes =
-    omega (arith, c.loop-lane-test.true, c.len-lane-end.ensures, c.requires.lanes, c.loop-lane.invariant.count) in
+    let inside : at < length lanes = omega (arith, c.loop-lane-test.true, c.loop-lane.auto.lane-end) in
     omega (
       arith,
       c.requires.room at (omega (arith, inside, c.loop-lane.invariant.count)),
@@ -39,15 +40,15 @@ put_first-requires c =
 
 pub loop-lane-preserved : goal.loop-lane-preserved
 loop-lane-preserved c =
-    let steps = c.args.run.now.steps in
     let lanes = c.loop-lane.lanes in
     let at = c.loop-lane.lane in
     let before = get_or lanes at c.index-lanes-lane.result in
     let now = c.put_first.new.self in
     let first = c.args.first in
-    let vector = get_or steps at [] in
-    let inside : at < length lanes =
-    omega (arith, c.loop-lane-test.true, c.len-lane-end.ensures, c.requires.lanes, c.loop-lane.invariant.count) in
+    let steps = c.args.run.now.steps in
+    let vector = step_of c.args.run.now at in
+    let taken : c.min.result ≡ min at (length steps - 1) = omega (arith, c.min.ensures, c.len-last.ensures) in
+    let inside : at < length lanes = omega (arith, c.loop-lane-test.true, c.loop-lane.auto.lane-end) in
     let was = get_or_default lanes at c.index-lanes-lane.result [] inside in
     let some : 0 < length before =
     omega (
@@ -58,11 +59,12 @@ loop-lane-preserved c =
     ) in
     record {
       holds = λ k.
-          put_more (λ i. HoldsInputs first (one_step (get_or steps i []))) lanes at now [] inside
+          put_more (λ i. HoldsInputs first (one_step (step_of c.args.run.now i))) lanes at now [] inside
           (λ i. c.loop-lane.invariant.holds i)
           (subst (HoldsInputs first (one_step vector)) (sym c.put_first.ensures)
           (first_holds first vector before c.word_of.result some
-          (subst (λ (t : List ℕ). IsWord first t c.word_of.result) c.text.ensures c.word_of.ensures))) k;
+          (subst (λ (t : List ℕ). IsWord first t c.word_of.result)
+          (c.text.ensures ∙ ap (λ (n : ℕ). values_text (get_or steps n [])) taken) c.word_of.ensures))) k;
       count = length-set lanes at now ∙ c.loop-lane.invariant.count;
       sizes = λ k.
           same_sizes (λ (ws : List InputWord). length ws) lanes at now [] inside
@@ -73,4 +75,4 @@ loop-lane-preserved c =
 pub returns-clause-holds : goal.returns-clause-holds
 returns-clause-holds c l below =
     c.loop-lane.invariant.holds l
-    (omega (arith, below, c.loop-lane-test.false, c.loop-lane.auto.lane-end, c.len-lane-end.ensures))
+    (omega (arith, below, c.loop-lane-test.false, c.loop-lane.auto.lane-end))

@@ -22,6 +22,6 @@ returns-clause-keeps c j d below =
     (with_items_is c.args.self.now.bits c.fill_bits.new.bits
     (c.fill_bits.ensures.same.count ∙ c.deref_mut.ensures.len)))
     c.fill_bits.ensures.holds in
-    c.step_lanes.ensures.keeps j (get_or c.args.runs.now j d) lane (c.requires.runs j d below)
-    (λ block inside. bits block inside j d below) (c.requires.room.sheet j d lane below)
+    (c.step_lanes.ensures.lanes j (get_or c.args.runs.now j d) lane (c.requires.runs j d below)
+    (λ block inside. bits block inside j d below) (c.requires.room.sheet j d lane below)).0
     (c.longest.ensures.most j d below)
