@@ -149,7 +149,7 @@ serves_still c d k m a b w same asks bench serves =
           (record {
             bits = serves.bench_is.bits;
             table = serves.bench_is.table;
-            clear = serves.bench_is.clear;
+            whole = serves.bench_is.whole;
             state = serves.bench_is.state;
             shows = serves.bench_is.shows;
             line = bench.line ∙ serves.bench_is.line;
