@@ -27,8 +27,6 @@ FIRST, FAR, NEAR, MOST = 1024, 64, 4, 16384
 ANSWERS = 8
 # how many kilobytes of stack there are before a program begins
 STACK = 128
-# The dump of a witness needs more than Linux gives beforehand, so it is not tried where the stack cannot grow.
-STACK_OF_A_WITNESS_DUMP = 192
 LIMITED = ["-c", 'ulimit -v "$0" && LD_PRELOAD=$PRELOAD exec "$@"']
 WITH_STACK = ["-c", 'ulimit -s "$0" && exec "$@"']
 
@@ -58,14 +56,10 @@ class Sweep:
 
     def with_stack(self):
         """The row with so much stack and no more."""
-        stack = STACK_OF_A_WITNESS_DUMP if self.dumps_a_witness() else STACK
-        came = self.runner.run([*WITH_STACK, str(stack), *self.words], self.row.given)
-        self.came[f"answered with {stack} KB of stack"] += 1
+        came = self.runner.run([*WITH_STACK, str(STACK), *self.words], self.row.given)
+        self.came[f"answered with {STACK} KB of stack"] += 1
         if came != (self.row.output, b"", rows.status_of(self.row)):
-            self.wrong.append(f"{self.row.name}, {stack} KB of stack: came {came!r}")
-
-    def dumps_a_witness(self):
-        return "--witness --vcd" in self.row.words
+            self.wrong.append(f"{self.row.name}, {STACK} KB of stack: came {came!r}")
 
     def sweep(self):
         answers = {(b"", b"aiger: out of memory\n", 1): "out of memory"}
@@ -84,8 +78,7 @@ class Sweep:
 def judged(program, preload, under, number):
     it = Sweep(program, preload, under, number)
     it.with_stack()
-    if not it.dumps_a_witness():
-        it.sweep()
+    it.sweep()
     return it.came, it.wrong
 
 

@@ -44,8 +44,6 @@ fn put_groups<W: Sink>(
 }
 
 /// Sends the text for the front of a stimulus that has no bad line, and the text for what comes behind it.
-// Not built into its caller, nor is `trace_lines`: the rooms for lines of both would stand on its stack at once.
-#[inline(never)]
 fn trace_good<W: Sink>(
     reader: Reader,
     sink: &mut W,
@@ -74,7 +72,6 @@ fn trace_good<W: Sink>(
 }
 
 /// Sends the text for a stimulus that has no bad line, all lines of which the reader takes.
-#[inline(never)]
 fn trace_lines<W: Sink>(reader: Reader, sink: &mut W, bytes: &[u8]) -> Result<(), DeviceFault>
     requires fresh { IsFresh reader }
     requires sink { CanFail (W.past sink.old) }

@@ -9,7 +9,7 @@ ghost use Rattle.aig_engines.specs.WitnessDump.{IsRunDump};
 ghost use Rattle.aig_memory.specs.Answers.{IsBadWitness};
 ghost use Rattle.aig_memory.specs.Outcome.{out_of_memory, sim_outcome};
 
-use crate::simulation::dump;
+use crate::simulation::dump_step_by_step;
 use crate::started::started_by;
 use crate::verdicts::judged;
 use aig_core::{Checked, OutOfMemory};
@@ -58,7 +58,7 @@ fn run_dump(alloc: Global, found: Checked, witness: &[u8]) -> Result<Vec<u8>, Ou
 {
     let (first, steps) = state_and_steps(witness);
     let started = started_by(first, found);
-    let made = dump(alloc, &started, steps);
+    let made = dump_step_by_step(alloc, &started, steps);
     drop(started);
     match made {
         Ok(run) => Ok(run),

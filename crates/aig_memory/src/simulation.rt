@@ -78,6 +78,30 @@ pub(crate) fn dump(alloc: Global, found: &Checked, stimulus: &[u8]) -> Result<Ve
     Ok(sink.bytes)
 }
 
+/// The dump of the trace of a stimulus whose steps are taken one after the other. To take runs side by side, as `dump`
+/// does, wants more stack than the system gives before a program begins.
+pub(crate) fn dump_step_by_step(
+    alloc: Global,
+    found: &Checked,
+    stimulus: &[u8],
+) -> Result<Vec<u8>, SimFault>
+    ensures { IfOk result (λ text. (trace : List ℕ)
+        × IsTraceText found.now Properties stimulus.now true trace × (text.items ≡ wave_text found.now trace true)) }
+{
+    let mut source = LentSource::new(stimulus)?;
+    let room = WaveRoom::new(alloc, found)?;
+    let mut sink = Gathered::new(alloc);
+    let mut wave = WaveSink::new(room, &mut sink);
+    let done = aig_trace::simulate(alloc, found, Columns::Properties, &mut source, &mut wave);
+    let (sent, _sink) = wave.finish(done.is_ok());
+    source.gives_its_bytes();
+    if sent.is_err() {
+        return Err(SimFault::WriteFailed);
+    }
+    done?;
+    Ok(sink.bytes)
+}
+
 /// The columns of the trace that the options ask for.
 fn columns_of(options: u32) -> Columns
     ensures { result ≡ columns_of (simulation options 0) }
