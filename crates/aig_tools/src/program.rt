@@ -29,6 +29,8 @@ const FAILED: u8 = 1;
 const REFUSED: u8 = 2;
 
 /// Does what a request asks for that names one source and one destination, reports a fault, and answers the status.
+// Not built into its caller, on whose stack its blocks would stand under a simulation too. Nor are others below.
+#[inline(never)]
 fn run_reporting<T: Engine, A: FileAccess, R: Source, W: Sink, E: Sink>(
     alloc: Global,
     access: &mut A,
@@ -97,6 +99,7 @@ fn run_simulation<A: FileAccess, R: Source, W: Sink, E: Sink>(
 }
 
 /// Writes a text that was asked for, and answers the status.
+#[inline(never)]
 fn print_text<W: Sink, E: Sink>(text: &str, output: &mut W, errors: &mut E) -> u8
     requires output { CanFail (W.past output.old) }
     requires errors { CanFail (E.past errors.old) }
@@ -115,6 +118,7 @@ fn print_text<W: Sink, E: Sink>(text: &str, output: &mut W, errors: &mut E) -> u
 }
 
 /// Reports why arguments are refused, and answers the status.
+#[inline(never)]
 fn refuse<E: Sink>(errors: &mut E, usage: &Usage) -> u8
     requires { CanFail (E.past errors.old) }
     ensures status { result ≡ status_of usage.now }
@@ -185,6 +189,7 @@ pub fn start<T: Files, R: Source, W: Sink, E: Sink>(
 }
 
 /// Reports that an argument is no text, and answers the status.
+#[inline(never)]
 pub fn refuse_words<E: Sink>(errors: &mut E) -> u8
     requires { CanFail (E.past errors.old) }
     ensures status { result ≡ 2 }
@@ -195,6 +200,7 @@ pub fn refuse_words<E: Sink>(errors: &mut E) -> u8
 }
 
 /// Reports that memory ran out before the arguments were there, and answers the status.
+#[inline(never)]
 pub fn refuse_for_memory<E: Sink>(errors: &mut E) -> u8
     requires { CanFail (E.past errors.old) }
     ensures status { result ≡ 1 }
