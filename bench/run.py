@@ -153,7 +153,7 @@ SIMULATIONS = {
         kinds=tuple(generate.STEP_KINDS),
         unit="gate and step",
         units=lambda gates: generate.RUN_GATES,
-        aim=0.2,
+        aim=0.1,
         aimed_bytes=100,
     ),
     "batch": Simulation(
