@@ -1,6 +1,6 @@
 //! Steps of 256 runs side by side, a lane for each.
 //!
-//! Others call what `aig_batch` steps runs with: their inputs as bits, the tables of a step, `Shown` and `Sheet`.
+//! Others call what `aig_bench` steps runs with: their inputs as bits, the tables of a step, `Shown` and `Sheet`.
 //!
 //! The definitions that matter most are `IsRunOf` and `IsTraceOf`.
 #![tactic(auto)]

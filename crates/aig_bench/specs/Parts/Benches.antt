@@ -1,4 +1,4 @@
--- What runs are stepped in, one group after the other. Only the simulator cites this.
+-- What runs are stepped in, one group after the other.
 use Rattle.std.specs.Prelude.{◌≡◌, ◌+◌, ◌*◌, ◌<◌, ◌≤◌, ◌^◌, ℕ, List, IsTrue, length}
 use Rattle.std.specs.List.{All}
 use Rattle.aig_circuit.specs.declared.circuit.Circuit.{Circuit}

@@ -1,4 +1,4 @@
--- Runs of a group, stepped side by side: what stands in a lane. Only the simulator cites this.
+-- Runs of a group, stepped side by side: what stands in a lane.
 use Rattle.std.specs.Prelude.{◌≡◌, ◌+◌, ◌*◌, ◌<◌, ◌++◌, ℕ, List, [], ◌∷◌, length, map}
 use Rattle.aig_circuit.specs.declared.circuit.Circuit.{Circuit}
 use Rattle.aig_circuit.specs.declared.value.Val.{Val}

@@ -1,4 +1,4 @@
--- The inputs of runs as bits. Only the simulator cites this.
+-- The inputs of runs as bits.
 use Rattle.std.specs.Prelude.{◌≡◌, ◌+◌, ◌-◌, ◌*◌, ◌/◌, ◌%◌, ◌^◌, ◌<◌, ◌≤◌, ◌==◌, ℕ, List, [], ◌∷◌}
 use Rattle.std.specs.Prelude.{if◌then◌else◌, length, min, slice_index_or}
 use Rattle.std.specs.Int.{bit_at}

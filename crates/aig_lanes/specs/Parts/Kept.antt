@@ -1,4 +1,4 @@
--- The literals that are put for a step, side by side. Only the simulator cites this.
+-- The literals that are put for a step, side by side.
 use Rattle.std.specs.Prelude.{◌++◌, ℕ, List, [], map}
 use Rattle.aig_circuit.specs.declared.circuit.Circuit.{Circuit}
 use Rattle.aig_circuit.specs.declared.circuit.Latch.{Latch}

@@ -1,4 +1,4 @@
--- What is kept of runs of a group, stepped side by side. Only the simulator cites this.
+-- What is kept of runs of a group, stepped side by side.
 use Rattle.std.specs.Prelude.{◌≡◌, ◌+◌, ◌*◌, ◌<◌, ◌≤◌, ◌++◌, ℕ, zero, suc, List, [], codes, length}
 use Rattle.std.specs.Prelude.{slice_index_or, take}
 use Rattle.aig_circuit.specs.declared.circuit.Circuit.{Circuit}

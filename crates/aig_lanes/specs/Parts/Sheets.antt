@@ -1,4 +1,4 @@
--- The characters of literals in all lanes. Only the simulator cites this.
+-- The characters of literals in all lanes.
 use Rattle.std.specs.Prelude.{◌≡◌, ◌+◌, ◌-◌, ◌*◌, ◌/◌, ◌%◌, ◌<◌, ◌≤◌, ◌==◌, ◌++◌, ℕ, List, [], if◌then◌else◌}
 use Rattle.std.specs.Prelude.{drop, length, slice_index_or, take}
 use Rattle.std.specs.Int.{bit_at}

@@ -1,5 +1,4 @@
 -- The steps of a run where they stand: lines of one length, each of which begins with the characters of the inputs.
--- Only the simulator cites this.
 use Rattle.std.specs.Prelude.{◌≡◌, ◌+◌, ◌*◌, ◌<◌, ◌≤◌, ℕ, zero, suc, List, [], ◌∷◌, Option, None, Some}
 use Rattle.std.specs.Prelude.{drop, is_some, length, take, true}
 use Rattle.aig_circuit.specs.declared.value.Val.{Val}

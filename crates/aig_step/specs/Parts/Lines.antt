@@ -1,4 +1,4 @@
--- How lines are read and written. Only the simulator cites this.
+-- How lines are read and written.
 use Rattle.std.specs.Prelude.{◌+◌, ◌==◌, ℕ, List, None, Option, length, map, if◌then◌else◌}
 use Rattle.aig_circuit.specs.declared.circuit.Circuit.{Circuit}
 use Rattle.aig_circuit.specs.declared.value.Val.{Val}

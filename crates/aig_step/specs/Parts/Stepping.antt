@@ -1,4 +1,4 @@
--- What runs a circuit step by step. Only the simulator cites this.
+-- What runs a circuit step by step.
 use Rattle.std.specs.Prelude.{◌≡◌, List, map}
 use Rattle.aig_circuit.specs.declared.circuit.Circuit.{Circuit}
 use Rattle.aig_circuit.specs.declared.value.Val.{Val}

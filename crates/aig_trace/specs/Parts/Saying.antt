@@ -1,4 +1,4 @@
--- What the lines of a stimulus say, line by line. Only the simulator cites this.
+-- What the lines of a stimulus say, line by line.
 use Rattle.std.specs.Prelude.{◌++◌, ℕ, List, [], ◌∷◌, true, false, Option, None, Some, max}
 use Rattle.aig_lines.specs.Feeding.{Feeding, Turn, feeding, turn}
 use Rattle.aig_step.specs.Stimulus.{Entry, entry_in}

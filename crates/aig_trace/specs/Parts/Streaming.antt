@@ -1,4 +1,4 @@
--- What came of bytes and of the text for them. Only the simulator cites this.
+-- What came of bytes and of the text for them.
 use Rattle.std.specs.Prelude.{◌≡◌, ℕ, List, Bool, false, true, None, Some, Result, Err, Ok, if◌then◌else◌}
 use Rattle.aig_circuit.specs.declared.circuit.Circuit.{Circuit}
 use Rattle.aig_io.specs.Devices.{Past}

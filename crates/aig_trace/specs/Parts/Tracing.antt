@@ -1,4 +1,4 @@
--- What takes the lines of a stimulus, and what was put for them. Only the simulator cites this.
+-- What takes the lines of a stimulus, and what was put for them.
 use Rattle.std.specs.Prelude.{◌≡◌, ◌++◌, ℕ, List, [], ◌∷◌, Bool, true, Some, codes, if◌then◌else◌, length}
 use Rattle.aig_circuit.specs.declared.circuit.Circuit.{Circuit}
 use Rattle.aig_circuit.specs.declared.value.Val.{Val}

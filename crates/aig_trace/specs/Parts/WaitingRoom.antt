@@ -1,4 +1,4 @@
--- The room for lines that wait for their text. Only the simulator cites this.
+-- The room for lines that wait for their text.
 use Rattle.std.specs.Prelude.{◌≡◌, ◌*◌, ◌<◌, ◌≤◌, ℕ, List, Option, None, Some, length, slice_index_or}
 use Rattle.aig_lanes.specs.Parts.Vectors.{AreVectors}
 

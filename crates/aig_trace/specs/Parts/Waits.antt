@@ -1,4 +1,4 @@
--- Lines of a stimulus that wait for their text, where the circuit has no latches. Only the simulator cites this.
+-- Lines of a stimulus that wait for their text, where the circuit has no latches.
 use Rattle.std.specs.Prelude.{◌≡◌, ◌*◌, ◌<◌, ℕ, List, [], Option, None, Some, drop, length, map, slice_index_or, take}
 use Rattle.aig_bench.specs.declared.bench.Bench.{Bench}
 use Rattle.aig_bench.specs.Parts.Benches.{HasRoomForSteps, IsBench}
