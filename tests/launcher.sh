@@ -100,7 +100,7 @@ make_release() {
         rm -rf "$out"
 }
 make_release
-wants 'version 1.0.0\nkit a kit\n' '' 0
+wants 'version 1.1.0\nkit a kit\n' '' 0
 check 'what the manifest says of version and kit' head -n 2 "$tree/release/MANIFEST"
 : > "$work/calls"
 wants "$small" '' 0
@@ -112,7 +112,7 @@ check 'the second launch' without_kit aigtoaig --ascii < "$work/small"
 check 'the third launch' without_kit aigtoaig --ascii < "$work/small"
 wants '' 'aiger: -: line 1: not an AIGER file\n' 1
 check 'a refusal by the launcher' without_kit aigtoaig --ascii < /dev/null
-wants 'aiger 1.0.0\n' '' 0
+wants 'aiger 1.1.0\n' '' 0
 check 'the version by the launcher' without_kit --version
 wants '' '' 0
 check 'nothing is started of the kit' cat "$work/calls"
@@ -123,7 +123,7 @@ mkdir "$real"
 ( cd "$top" && tar -cf - aiger prove crates.txt release crates/*/{src,specs,proofs} 2> /dev/null ) | tar -xf - -C "$real"
 if ( top=$real && . "$real/release/state.sh" && read_places && [ "$(sources_sum)" = "$(manifest sources)" ] ); then
     begun=${EPOCHREALTIME/./}
-    wants 'aiger 1.0.0\n' '' 0
+    wants 'aiger 1.1.0\n' '' 0
     check 'the first launch of this repository, without the kit' on_the_path "$work/none" "$real/aiger" --version
     took=$((${EPOCHREALTIME/./} - begun))
     if [ "$took" -le 2000000 ]; then pass; else fail 'it answers in 2 s' 'wanted 2000000 us' "came   $took us"; fi
@@ -137,7 +137,7 @@ if command -v dpkg-deb > /dev/null; then
     cp "$top/man/aiger.1" "$tree/man"
     cp "$top"/{LICENSE,CHANGELOG.md} "$tree"
     package() { "$tree/release/deb" "$work/deb" > "$work/deb.out" 2>&1 && dpkg-deb -f "$work"/deb/*.deb Package Version Depends; }
-    wants 'Package: aiger\nVersion: 1.0.0\nDepends: libc6 (>= 2.34)\n' '' 0
+    wants 'Package: aiger\nVersion: 1.1.0\nDepends: libc6 (>= 2.34)\n' '' 0
     check 'a Debian package' package
     dpkg-deb -x "$work/deb/aiger_1.0.0_amd64.deb" "$work/deb"
     wants "$small" '' 0

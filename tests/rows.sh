@@ -1050,10 +1050,10 @@ rows_words() {
     misused 'one word of two' \
         "unrecognized subcommand 'aigtoaig --ascii'\n\n  tip: a similar subcommand exists: 'aigtoaig'$usage" 'aigtoaig --ascii'
     row 'help' 'aag 0 0 0 0 0\n' "$help" '' 0 --help
-    for option in --version -V -Vx; do row "the version: $option" 'aag 0 0 0 0 0\n' 'aiger 1.0.0\n' '' 0 "$option"; done
-    row 'the version behind a subcommand' 'aag 0 0 0 0 0\n' 'aiger-aigtoaig 1.0.0\n' '' 0 aigtoaig --version
-    row 'the version where a model is wanted' '' 'aiger-aigsim 1.0.0\n' '' 0 aigsim -V
-    row 'the version where frames are wanted' '' 'aiger-aigunroll 1.0.0\n' '' 0 aigunroll --version x
+    for option in --version -V -Vx; do row "the version: $option" 'aag 0 0 0 0 0\n' 'aiger 1.1.0\n' '' 0 "$option"; done
+    row 'the version behind a subcommand' 'aag 0 0 0 0 0\n' 'aiger-aigtoaig 1.1.0\n' '' 0 aigtoaig --version
+    row 'the version where a model is wanted' '' 'aiger-aigsim 1.1.0\n' '' 0 aigsim -V
+    row 'the version where frames are wanted' '' 'aiger-aigunroll 1.1.0\n' '' 0 aigunroll --version x
     misused 'no option for the version' "unexpected argument '-v' found$usage" -v
     misused 'another subcommand' "unrecognized subcommand 'convert'$usage" convert --ascii
     misused 'a subcommand that is close to all of them' \

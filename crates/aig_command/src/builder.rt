@@ -8,7 +8,7 @@ use clap::{Arg, ArgAction, Command, value_parser};
 use std::alloc::{AllocError, Global};
 
 /// The program's version, the one place in the sources that has it.
-const VERSION: &str = "1.0.0";
+const VERSION: &str = "1.1.0";
 
 const ABOUT: &str = "Tools for circuits in the AIGER format";
 
@@ -20,7 +20,7 @@ const TO_AIG_ABOUT: &str = "Convert an AIGER file to binary or to ASCII";
 const TO_AIG_AFTER: &str = "\
 The output is ASCII where --ascii is given or the name of the destination ends
 in .aag, and else binary. Nothing is written before the whole conversion has
-succeeded, so the destination may be the source.
+succeeded, so the destination may be the source; it is lost if writing fails.
 
 Exit status:
   0  done, also for --help
@@ -66,9 +66,9 @@ With --vcd a Value Change Dump (IEEE 1364) goes to the standard output in the
 place of the trace, for a wave viewer. It has all that --properties shows, by
 the names of the symbols, and each line of the trace takes 1 ns. At the end of
 a run the latches show the state that was reached, and all else is z. The
-number of the run, counted from 0, is r. With --witness it is the run of the
-witness from its first state, behind a comment with the answer, and all of it
-is held in memory.
+variable run, of code r, is the number of the run, counted from 0. With
+--witness it is the run of the witness from its first state, behind a comment
+with the answer, and all of it is held in memory.
 
 Exit status:
   0  done, also for --help; with --witness, confirmed
@@ -98,7 +98,8 @@ frame and in those before. There are no symbols and no comment.
 The output is ASCII where --ascii is given or the name of the destination ends
 in .aag, and else binary. A circuit with justice properties or fairness
 constraints is refused. Nothing is written before the whole circuit was read
-and only the destination can still fail, so the destination may be the source.
+and only the destination can still fail, so the destination may be the source;
+it is lost if writing fails.
 
 Exit status:
   0  done, also for --help
