@@ -28,7 +28,7 @@ below = {}
 for line in Path("crates.txt").read_text().splitlines():
     head, _, libraries = line.partition("#")[0].partition(":")
     if head.strip():
-        below[head.split()[0]] = libraries.split()
+        below[head.split()[0]] = libraries.replace(",", " ").split()
 below = {name: [it for it in libraries if it in below] for name, libraries in below.items()}
 
 

@@ -16,7 +16,7 @@ read_crates() {
     local line top_crate=${1:-aiger}
     declare -gA stands_on=()
     while IFS= read -r line; do
-        [[ ${line%%#*} =~ ^\ *([a-z0-9_]+)[^:]*:(.*)$ ]] && stands_on[${BASH_REMATCH[1]}]=${BASH_REMATCH[2]}
+        [[ ${line%%#*} =~ ^\ *([a-z0-9_]+)[^:]*:(.*)$ ]] && stands_on[${BASH_REMATCH[1]}]=${BASH_REMATCH[2]//,/ }
     done 2> /dev/null < "$top/crates.txt"
     crates=()
     add_crate "$top_crate"

@@ -189,7 +189,7 @@ class Said:
 def crates():
     """Each crate of crates.txt, and the repository's crates that it stands on."""
     lines = [it.partition("#")[0].partition(":") for it in (TOP / "crates.txt").read_text().splitlines()]
-    listed = {name.split()[0]: below.split() for name, colon, below in lines if colon}
+    listed = {name.split()[0]: below.replace(",", " ").split() for name, colon, below in lines if colon}
     return {name: [it for it in below if it in listed] for name, below in listed.items()}
 
 
