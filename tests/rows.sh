@@ -23,6 +23,9 @@ skip() {
     printf 'SKIPPED %s: %s\n' "$1" "$2"
 }
 
+# is_asked NAME: whether the row of this name runs: each does, or those with the text $asked in their names
+is_asked() { [[ $1 = *"${asked:-}"* ]]; }
+
 # the beginning of a file on one line, for a message
 shown() {
     head -c 300 "$1" | od -An -c -v -w1 | awk '{
