@@ -596,7 +596,7 @@ some_steps() {
     }'
 }
 wants '' '' 0
-check 'the commands of README.md and examples/README.md print what stands there' "$top/tests/readme.py" "$program"
+check 'the commands of the pages print what stands there' "$top/tests/readme.py" "$program"
 for file in "$top"/examples/*.aag "$top"/examples/*.aig; do
     canonical=${file##*/}
     canonical=$top/examples/canonical/${canonical%.*}.aag
