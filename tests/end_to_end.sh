@@ -3,14 +3,21 @@
 # the system, as a closed standard output, a large file or little memory. Then the launcher, and other programs that read
 # AIGER files, where there are any.
 #
-#     tests/end_to_end.sh [rows | rest]     all of this, or the rows alone, or all but these
+#     tests/end_to_end.sh [rows [NAME] | rest]     all of this, or the rows alone, of these perhaps only those that have
+#                                                  NAME in their names, or all but the rows
 . "$(dirname "${BASH_SOURCE[0]}")/rows.sh"
 . "$top/tests/judge.sh"
+case $#${1:-} in
+    0 | 1rows | 1rest) ;;
+    2rows) asked=$2 ;;
+    *) echo "usage: $0 [rows [NAME] | rest]" >&2; exit 2 ;;
+esac
 need_program
 
 # each row through a pipe, and from a file
 row() {
     local name=$1 input=$2
+    is_asked "$name" || return 0
     wants "$3" "$4" "$5"
     shift 5
     printf '%b' "$input" > "$work/in"
@@ -18,8 +25,19 @@ row() {
     judge "$name (pipe)" "${PIPESTATUS[1]}"
     check "$name (file)" "$program" "$@" < "$work/in"
 }
-[ "${1:-rows}" != rows ] || rows
+if [ "${1:-rows}" = rows ]; then
+    rows
+    [ $((passed + failed)) != 0 ] || fail "$asked" 'wanted rows with this in their names' 'came   none'
+fi
 [ "${1:-rest}" = rest ] || finish
+
+# a part of this table, by name; a name that no row has is an error
+wants '2 passed, 0 failed\n' '' 0
+check 'one row alone' "$top/tests/end_to_end.sh" rows 'a last line with spaces and without LF'
+wants 'FAILED no such row\n    wanted rows with this in their names\n    came   none\n0 passed, 1 failed\n' '' 1
+check 'a row that there is not' "$top/tests/end_to_end.sh" rows 'no such row'
+wants '' "usage: $top/tests/end_to_end.sh [rows [NAME] | rest]\n" 2
+check 'a part that there is not' "$top/tests/end_to_end.sh" rest 'a toggle'
 
 convert() { "$program" aigtoaig --ascii "$@"; }
 small='aag 3 1 1 2 0\n6\n2 7\n2\n0\n'
@@ -578,7 +596,7 @@ some_steps() {
     }'
 }
 wants '' '' 0
-check 'the commands of README.md and examples/README.md print what stands there' "$top/tests/readme.py" "$program"
+check 'the commands of the pages print what stands there' "$top/tests/readme.py" "$program"
 for file in "$top"/examples/*.aag "$top"/examples/*.aig; do
     canonical=${file##*/}
     canonical=$top/examples/canonical/${canonical%.*}.aag

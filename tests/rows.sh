@@ -5,6 +5,7 @@
 
 top=$(cd "$(dirname "${BASH_SOURCE[0]}")/.." && pwd)
 program=${AIGER:-$top/crates/aiger/out/aiger}   # AIGER names another executable to try the same rows on
+asked=      # a part of the names of the rows that run, empty for all of them
 passed=0
 failed=0
 skipped=0
@@ -22,6 +23,9 @@ skip() {
     skipped=$((skipped + $1))
     printf 'SKIPPED %s: %s\n' "$1" "$2"
 }
+
+# is_asked NAME: whether the row of this name runs
+is_asked() { [[ $1 = *"$asked"* ]]; }
 
 # the beginning of a file on one line, for a message
 shown() {
