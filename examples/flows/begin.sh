@@ -23,7 +23,7 @@ bad_states() {
     local header
     read -ra header < "$1"
     [ $((${header[8]:-0} + ${header[9]:-0})) = 0 ] || fail 'justice and fairness are not checked'
-    [ "${header[6]:-0}" != 0 ] || fail 'there is no assertion to check, that is no bad state'
+    [ "${header[6]:-0}" != 0 ] || fail 'there is no bad state, so no assertion, to check'
     echo "${header[6]}"
 }
 

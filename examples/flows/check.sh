@@ -11,9 +11,9 @@ design=$1 top=$2 clock=$3 bound=50
 need "$aiger" yosys "$abc"
 
 # What is x may be any value, and the first value of a register that never changes too, which -noff keeps. dffunmap stands
-# behind the last opt, which would bring enables back.
+# behind the last opt, which would bring enables back. Yosys too would take the variable ABC for its own ABC.
 prepare="prep -top $top; async2sync; setundef -undriven -anyseq"
-yosys -q -f 'verilog -formal' "$design" -p "$prepare; memory_map; opt -noff -keepdc -fast; techmap;
+env -u ABC yosys -q -f 'verilog -formal' "$design" -p "$prepare; memory_map; opt -noff -keepdc -fast; techmap;
     opt -noff -keepdc -fast; dffunmap; delete -output; opt_clean; abc -g AND -fast; opt_clean;
     write_aiger -symbols -map design.map design.aig"
 "$aiger" aigtoaig --strip --ascii design.aig design.aag
