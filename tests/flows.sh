@@ -37,7 +37,13 @@ cat > "$work/failing" << 'FAILING'
 [ "$1" != "$FAILS" ] || exit 1
 exec "$PROGRAM" "$@"
 FAILING
-chmod +x "$work/solver" "$work/failing"
+# in the place of Yosys: it does not replay
+mkdir "$work/replay"
+cat > "$work/replay/yosys" << 'REPLAY'
+#!/usr/bin/env bash
+case "$*" in *'sim -q'*) exec "$SIM" ;; *) exec "$YOSYS" "$@" ;; esac
+REPLAY
+chmod +x "$work/solver" "$work/failing" "$work/replay/yosys"
 printf 'aag 1 1 0 0 0 1\n2\n2\n' > "$place/input.aag"
 printf 'aag 1 1 0 1 0\n2\n2\n' > "$place/output.aag"
 printf 'aag 1 1 0 0 0 1 0 1\n2\n2\n1\n2\n' > "$place/justice.aag"
@@ -126,12 +132,15 @@ flows_of_designs() {
     fails outputs 3 'b0: confirmed [3-6] '
     fails constrained 4 'b0: confirmed [4-6] '
     fails starts_at_1 4 'b0: confirmed [4-6] '
+    fails parts 4 'b0: confirmed [4-6] '
     fails second 4 'b0: not confirmed b1: confirmed [4-6] b2: not confirmed '
     holds safe
     holds safe_assumed
     holds contradictory
     says_nothing no_assertion 'there is no bad state, so no assertion, to check'
     says_nothing in_time 'justice and fairness are not checked'
+    design two_clocks "2 $clocked"
+    design falling "2 $clocked"
     design wide '1 confirmed 45 Warning: Assert wide. '
     unrolled wide 46 '1 b0: confirmed 45 '
     unrolled wide 45 '0 no counterexample of at most 45 steps '
@@ -145,14 +154,20 @@ flows_of_models() {
     unrolled 'a model with outputs' 2 '0 no counterexample of at most 2 steps ' outputs.aag
 }
 
+# what Yosys says where registers have another clock than the one that is named, or an edge that falls
+clocked='ERROR: Assertion failed: selection is not empty: @registers_by_another_clock *'
+
 # of what check.sh is given, and of ABC and aiger as they should not be
 flows_that_fail() {
     local queue=("$flows/check.sh" "$flows/queue.v" queue clk) wrong
     flow 'a design that is not there' '2 ERROR: *' "$flows/check.sh" none.v queue clk
     flow 'another top' '2 ERROR: *' "$flows/check.sh" "$flows/queue.v" none clk
-    flow 'another clock' '2 confirmed 5 check.sh: Yosys failed: see replay.log ' "$flows/check.sh" "$flows/queue.v" queue none
-    flow 'a clock that is none' '2 confirmed 5 check.sh: Yosys sees no assertion fail: see replay.log ' \
-        "$flows/check.sh" "$flows/queue.v" queue push
+    flow 'a clock that is not there' "2 $clocked" "$flows/check.sh" "$flows/queue.v" queue none
+    flow 'another input as clock' "2 $clocked" "$flows/check.sh" "$flows/queue.v" queue push
+    flow 'Yosys replays nothing' '2 confirmed 5 check.sh: Yosys sees no assertion fail: see replay.log ' \
+        PATH="$work/replay:$PATH" YOSYS="$(command -v yosys)" SIM=true "${queue[@]}"
+    flow 'Yosys fails' '2 confirmed 5 check.sh: Yosys failed: see replay.log ' \
+        PATH="$work/replay:$PATH" YOSYS="$(command -v yosys)" SIM=false "${queue[@]}"
     flow 'ABC fails' '2 check.sh: ABC failed: see abc.log ' ABC=false "${queue[@]}"
     for said in '' 'Error: Does not work.' 'No output asserted in 49 frames.' 'Output 0 of miter "m" was proved.'; do
         flow "ABC says '$said'" "2 check.sh: ABC's answer is not understood: see abc.log " \
@@ -186,5 +201,5 @@ if command -v yosys > /dev/null && command -v berkeley-abc > /dev/null; then
     flows_that_fail
     flows_with_spaces
 else
-    skip 0 'yosys or berkeley-abc is not installed, to check designs'
+    skip 67 'yosys or berkeley-abc is not installed, to check designs'
 fi
