@@ -10,12 +10,12 @@ here=$(dirname "$(readlink -f "${BASH_SOURCE[0]}")")
 design=$1 top=$2 clock=$3 bound=50
 need "$aiger" yosys "$abc"
 
-# What is x may be any value, and the first value of a register that never changes too, which -noff keeps. dffunmap stands
-# behind the last opt, which would bring enables back. AIGER has one clock: no register may have another one, or an edge
-# that falls. Yosys too would take the variable ABC for its own ABC.
+# What is x may be any value, and so may the first value of a register, which opt without -keepdc would choose. dffunmap
+# stands behind the last opt, which would bring enables back. AIGER has one clock: no register may have another one, or an
+# edge that falls. Yosys too would take the variable ABC for its own ABC.
 prepare="prep -flatten -top $top; async2sync; setundef -undriven -anyseq"
-env -u ABC yosys -q -f 'verilog -formal' "$design" -p "$prepare; memory_map; opt -noff -keepdc -fast; techmap;
-    opt -noff -keepdc -fast; dffunmap; delete -output; opt_clean;
+env -u ABC yosys -q -f 'verilog -formal' "$design" -p "$prepare; memory_map; opt -keepdc -fast; techmap;
+    opt -keepdc -fast; dffunmap; delete -output; opt_clean;
     select -set registers_by_another_clock t:\$_DFF_* i:$clock %co1:+\$_DFF_P_[C] %d;
     select -assert-none @registers_by_another_clock; abc -g AND -fast; opt_clean;
     write_aiger -symbols -map design.map design.aig"
