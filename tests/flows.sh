@@ -90,6 +90,7 @@ fails() {
     design "$1" "1 *confirmed $2 Warning: Assert $1. "
     unrolled "$1" 7 "1 $3"
 }
+# holds DESIGN: within both bounds
 holds() {
     design "$1" '0 no counterexample of at most 50 steps '
     unrolled "$1" 7 '0 no counterexample of at most 7 steps '
@@ -121,7 +122,7 @@ flows_of_examples() {
         "$top/tests/readme.py" "$program" "$flows/README.md"
 }
 
-flows_of_designs() {
+designs_that_fail() {
     fails combinational 0 'b0: confirmed [0-6] '
     fails no_ports 0 'b0: confirmed 0 '
     fails uninitialised 0 'b0: confirmed 0 '
@@ -134,6 +135,9 @@ flows_of_designs() {
     fails starts_at_1 4 'b0: confirmed [4-6] '
     fails parts 4 'b0: confirmed [4-6] '
     fails second 4 'b0: not confirmed b1: confirmed [4-6] b2: not confirmed '
+}
+
+other_designs() {
     holds safe
     holds safe_assumed
     holds contradictory
@@ -154,12 +158,11 @@ flows_of_models() {
     unrolled 'a model with outputs' 2 '0 no counterexample of at most 2 steps ' outputs.aag
 }
 
-# what Yosys says where registers have another clock than the one that is named, or an edge that falls
+queue=("$flows/check.sh" "$flows/queue.v" queue clk)
+# what Yosys says where a register has another clock than the one that is named, or an edge that falls
 clocked='ERROR: Assertion failed: selection is not empty: @registers_by_another_clock *'
 
-# of what check.sh is given, and of ABC and aiger as they should not be
-flows_that_fail() {
-    local queue=("$flows/check.sh" "$flows/queue.v" queue clk) wrong
+flows_that_yosys_ends() {
     flow 'a design that is not there' '2 ERROR: *' "$flows/check.sh" none.v queue clk
     flow 'another top' '2 ERROR: *' "$flows/check.sh" "$flows/queue.v" none clk
     flow 'a clock that is not there' "2 $clocked" "$flows/check.sh" "$flows/queue.v" queue none
@@ -168,14 +171,18 @@ flows_that_fail() {
         PATH="$work/replay:$PATH" YOSYS="$(command -v yosys)" SIM=true "${queue[@]}"
     flow 'Yosys fails' '2 confirmed 5 check.sh: Yosys failed: see replay.log ' \
         PATH="$work/replay:$PATH" YOSYS="$(command -v yosys)" SIM=false "${queue[@]}"
+}
+
+flows_that_abc_or_aiger_ends() {
     flow 'ABC fails' '2 check.sh: ABC failed: see abc.log ' ABC=false "${queue[@]}"
     for said in '' 'Error: Does not work.' 'No output asserted in 49 frames.' 'Output 0 of miter "m" was proved.'; do
         flow "ABC says '$said'" "2 check.sh: ABC's answer is not understood: see abc.log " \
             ABC="$work/solver" SAYS="$said" "${queue[@]}"
     done
-    said='Output 0 of miter "m" was asserted in frame 0. Time = 0 sec' wrong='2 not confirmed check.sh: ABC'
+    said='Output 0 of miter "m" was asserted in frame 0. Time = 0 sec'
     flow 'ABC gives no counterexample' '2 *counterexample*' ABC="$work/solver" SAYS="$said" "${queue[@]}"
-    flow 'ABC gives a wrong one' "$wrong's counterexample is wrong: see abc.log and design.aiw " \
+    flow 'ABC gives a wrong one' \
+        "2 not confirmed check.sh: ABC's counterexample is wrong: see abc.log and design.aiw " \
         ABC="$work/solver" SAYS="$said" GIVES=$'00000000\n0000000# DONE' "${queue[@]}"
     for command in aigtoaig aigsim; do
         flow "aiger fails at $command in check.sh" '2  ' AIGER="$work/failing" PROGRAM="$program" FAILS=$command "${queue[@]}"
@@ -196,9 +203,11 @@ flows_with_spaces() {
 
 if command -v yosys > /dev/null && command -v berkeley-abc > /dev/null; then
     flows_of_examples
-    flows_of_designs
+    designs_that_fail
+    other_designs
     flows_of_models
-    flows_that_fail
+    flows_that_yosys_ends
+    flows_that_abc_or_aiger_ends
     flows_with_spaces
 else
     skip 67 'yosys or berkeley-abc is not installed, to check designs'
