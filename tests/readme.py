@@ -1,11 +1,11 @@
 #!/usr/bin/env python3
-"""Runs the commands of README.md, of examples/README.md and of the manual page, one after the other, and sees that each
-prints what stands there.
+"""Runs the commands of pages, and sees that each prints what stands there.
 
-    tests/readme.py PROGRAM
+    tests/readme.py PROGRAM [PAGE ..]      by default README.md, examples/README.md and the manual page
 
 A command is an indented line that begins with `$`. What it prints is the indented lines behind it. In the manual page
-both stand in literal displays, and the program is found on the PATH.
+both stand in literal displays. Those of a page run in one shell, in which the program is found on the PATH too, so that
+a folder and a variable hold for the next ones.
 """
 import os
 import re
@@ -16,42 +16,45 @@ import tempfile
 from pathlib import Path
 
 TOP = Path(__file__).resolve().parent.parent
+PAGES = (TOP / "README.md", TOP / "examples" / "README.md", TOP / "man" / "aiger.1")
 COMMAND = re.compile(r"^    \$ (.*)\n((?:    (?!\$ ).*\n)*)", re.M)
 DISPLAY = re.compile(r"^\.Bd -literal.*\n((?:(?!\.Ed$).*\n)*)", re.M)
 
 
 def commands(page):
-    """The commands of a page, each with the lines that it prints."""
-    return COMMAND.findall((TOP / page).read_text(encoding="utf-8"))
+    """The commands of a page, each with the lines that it prints; those of a manual page without the escapes of roff."""
+    text = Path(page).read_text(encoding="utf-8")
+    if Path(page).suffix == ".1":
+        displays = "".join(DISPLAY.findall(text))
+        text = re.sub(r"^", "    ", displays.replace(r"\&", "").replace(r"\e", "\\"), flags=re.M)
+    return COMMAND.findall(text)
 
 
-def manual_commands():
-    """Those of the manual page, without the escapes of roff."""
-    displays = "".join(DISPLAY.findall((TOP / "man" / "aiger.1").read_text(encoding="utf-8")))
-    plain = displays.replace(r"\&", "").replace(r"\e", "\\")
-    return COMMAND.findall(re.sub(r"^", "    ", plain, flags=re.M))
-
-
-def run_all(program, found):
-    """Runs commands in a folder with the program and the examples, up to the first that prints something else."""
+def printed(program, words):
+    """What each of the commands prints, in one shell."""
+    script = "\n".join(f"{command}\nprintf '\\0'" for command in words)
     with tempfile.TemporaryDirectory() as room:
         shutil.copytree(TOP / "examples", Path(room) / "examples")
         (Path(room) / "aiger").symlink_to(Path(program).resolve())
         path = {**os.environ, "PATH": f"{room}:{os.environ['PATH']}"}
-        how = {"cwd": room, "shell": True, "stdout": subprocess.PIPE, "stderr": subprocess.STDOUT, "text": True}
-        for command, lines in found:
-            wanted = re.sub(r"^    ", "", lines, flags=re.M)
-            said = subprocess.run(command, check=False, env=path, **how).stdout
-            # a comment may end without a line feed
-            if said.rstrip("\n") != wanted.rstrip("\n"):
-                sys.exit(f"{command} prints\n{said}and not\n{wanted}")
+        how = {"cwd": room, "env": path, "stdout": subprocess.PIPE, "stderr": subprocess.STDOUT, "text": True}
+        return subprocess.run(["bash", "-c", script], check=False, **how).stdout.split("\0")
 
 
-def main(program):
-    for found in (commands("README.md") + commands("examples/README.md"), manual_commands()):
+def main(program, *pages):
+    """Tells the first command of a page that prints something else."""
+    for page in pages or PAGES:
+        found = commands(page)
         if not found:
-            sys.exit("the pages have no command")
-        run_all(program, found)
+            sys.exit(f"{page} has no command")
+        said = printed(program, [command for command, _ in found])
+        if len(said) <= len(found):
+            sys.exit(f"{page} ends at its command {len(said)}")
+        for (command, lines), came in zip(found, said):
+            wanted = re.sub(r"^    ", "", lines, flags=re.M)
+            # a comment may end without a line feed
+            if came.rstrip("\n") != wanted.rstrip("\n"):
+                sys.exit(f"{command} prints\n{came}and not\n{wanted}")
 
 
 if __name__ == "__main__":

@@ -2,20 +2,31 @@
 # check_unrolled.sh MODEL.aig STEPS: whether a run of at most so many steps reaches a bad state, by a SAT solver.
 #
 # aiger writes the model as a circuit without latches, unrolled.aig; ABC sets one of its bad states, if it can; what it
-# gives the inputs is cut into steps, and aiger judges it as a witness for each bad state of the model.
-set -euo pipefail
-aiger=${AIGER:-aiger} abc=${ABC:-berkeley-abc}
+# gives the inputs is cut into steps, and aiger judges it as a witness for each bad state of the model. What the status
+# says stands in begin.sh.
 here=$(dirname "$(readlink -f "${BASH_SOURCE[0]}")")
+. "$here/begin.sh"
+[ $# = 2 ] || fail 'usage: check_unrolled.sh MODEL.aig STEPS'
 model=$1 steps=$2
+need "$aiger" "$abc"
 
-"$aiger" aigunroll --frames "$steps" "$model" unrolled.aig
+"$aiger" aigtoaig --strip --ascii "$model" stripped.aag
+bads=$(bad_states stripped.aag)
+awk -f "$here/folded.awk" stripped.aag | "$aiger" aigunroll --frames "$steps" - unrolled.aig
 rm -f counterexample
-"$abc" -c 'read_aiger unrolled.aig; orpos; sat; write_cex counterexample' | grep -o '^[A-Z]*SATISFIABLE'
-if [ ! -s counterexample ]; then exit; fi
-digits=$(sed 's/#.*//' counterexample | tr -d '\n ')
-"$aiger" aigtoaig --ascii "$model" > model.aag
-for ((bad = 0; bad < $(awk 'NR == 1 { print $7 + 0 }' model.aag); bad++)); do
-    awk -v bad="$bad" -v digits="$digits" -f "$here/unrolled_witness.awk" model.aag > "b$bad.aiw"
-    # a witness that is not confirmed is an answer too, with status 1
-    echo "b$bad: $("$aiger" aigsim --witness "$model" "b$bad.aiw")" || true
+"$abc" -q 'read_aiger unrolled.aig; orpos; sat; write_cex counterexample' > abc.log 2>&1 || fail 'ABC failed: see abc.log'
+case $(grep -oE '^(UN)?SATISFIABLE' abc.log || true) in
+    SATISFIABLE) ;;
+    UNSATISFIABLE) echo "no counterexample of at most $steps steps"; exit 0 ;;
+    *) fail "ABC's answer is not understood: see abc.log" ;;
+esac
+
+confirmed=
+for ((bad = 0; bad < bads; bad++)); do
+    awk -v bad="$bad" -v steps="$steps" -f "$here/unrolled_witness.awk" counterexample stripped.aag > "b$bad.aiw"
+    answer=$(judge "$model" "b$bad.aiw")
+    echo "b$bad: $answer"
+    [ "$answer" = 'not confirmed' ] || confirmed=yes
 done
+[ "$confirmed" ] || fail "ABC's counterexample is wrong: see abc.log"
+exit 1

@@ -1,12 +1,13 @@
-# A counterexample of ABC as a witness file. Standard input is the model in ASCII; bad is the number of the bad state;
-# digits are ABC's: the first values of its latches, then the inputs of each step. ABC's fold adds a latch where the
-# model has constraints, and ABC gives 0 for a latch that starts at 1.
-NR == 1 { inputs = $3; latches = $4; added = $8 > 0 }
-NR > 1 + inputs && NR <= 1 + inputs + latches { state = state (NF == 3 && $3 == 1 ? 1 : 0) }
+# A counterexample of ABC as a witness file. The first file is what `write_cex -a` gives of a model that `&r` has read: the
+# first state, all 0, and a line for each step up to the last one: its inputs, and in the first step behind them the first
+# values of the latches without a reset. The second file is the model in ASCII. bad is the number of the bad state.
+FNR == NR { sub(/#.*/, ""); step[NR - 2] = $0; next }
+FNR == 1 { inputs = $3; latches = $4; at = 1 + inputs }
+FNR > 1 + inputs && FNR <= 1 + inputs + latches { state = state (NF == 2 ? 0 : $3 == 1 ? 1 : substr(step[0], at++, 1)) }
 END {
     print 1
     print "b" bad
     print state
-    for (at = latches + added + 1; at <= length(digits); at += inputs) print substr(digits, at, inputs)
+    for (i = 0; i <= last; i++) print substr(step[i], 1, inputs)
     print "."
 }
