@@ -6,6 +6,9 @@ out=$tree/crates/aiger/out
 mkdir -p "$tree"/crates/{low,next,aiger,beside}/{src,specs} "$tree/release"
 cp "$top"/{aiger,prove} "$tree"
 cp "$top"/release/{state.sh,side_by_side.py,make,deb} "$tree/release"
+# in the place of release/static, which needs the kit: a program that can be told from what was linked
+printf '#!/bin/sh\n{ cat "%s"; printf static; } > "$1" && chmod +x "$1" && echo the_system\n' "$out/aiger" > "$tree/release/static"
+chmod +x "$tree/release/static"
 printf '# crates\naiger: low next std\nbeside: low\nlow: thiserror\nnext:\n' > "$tree/crates.txt"
 printf '// one\n' | tee "$tree"/crates/{low,next,aiger,beside}/src/lib.rt > "$tree/crates/low/specs/More.antt"
 echo 'Handles allowed: none.' > "$tree/HANDLES"
@@ -110,6 +113,8 @@ took=$((${EPOCHREALTIME/./} - begun))
 if [ "$took" -le 2000000 ]; then pass; else fail 'the first launch answers in 2 s' 'wanted 2000000 us' "came   $took us"; fi
 check 'the second launch' without_kit aigtoaig --ascii < "$work/small"
 check 'the third launch' without_kit aigtoaig --ascii < "$work/small"
+wants 'static' '' 0
+check 'it is the static program' tail -c 6 "$out/released"
 wants '' 'aiger: -: line 1: not an AIGER file\n' 1
 check 'a refusal by the launcher' without_kit aigtoaig --ascii < /dev/null
 wants 'aiger 1.1.0\n' '' 0
@@ -187,11 +192,11 @@ broken_release() {
     cp "$work/kept" "$tree/release/$file"
 }
 says='aiger: the released program in release/ is missing or broken\n'
-broken_release 'a released program that is cut' aiger-linux-x86_64.gz truncate -s 1000
-broken_release 'a released program of no bytes' aiger-linux-x86_64.gz truncate -s 0
-broken_release 'another released program' aiger-linux-x86_64.gz sh -c 'gzip -c /bin/sh > "$0"'
-broken_release 'no released program' aiger-linux-x86_64.gz rm
-broken_release 'another sum of the program' MANIFEST sed -i '/^program/s/.$/x/'
+broken_release 'a released program that is cut' aiger-linux-x86_64-static.gz truncate -s 1000
+broken_release 'a released program of no bytes' aiger-linux-x86_64-static.gz truncate -s 0
+broken_release 'another released program' aiger-linux-x86_64-static.gz sh -c 'gzip -c /bin/sh > "$0"'
+broken_release 'no released program' aiger-linux-x86_64-static.gz rm
+broken_release 'another sum of the program' MANIFEST sed -i '/^static /s/.$/x/'
 says=
 broken_release 'another sum of the sources' MANIFEST sed -i '/^sources/s/.$/x/'
 broken_release 'no manifest' MANIFEST rm
@@ -201,6 +206,20 @@ check 'and once it is mended' first_launch aigtoaig --ascii < "$work/small"
 wants "$small" '' 0
 other_program() { printf x >> "$out/released"; without_kit "$@"; }
 check 'another program in its place' other_program aigtoaig --ascii < "$work/small"
+
+# by the processor's list of what it has
+has='cx16 lahf_lm pni popcnt sse4_1 sse4_2 ssse3'
+by_list() { printf 'flags\t\t: fpu %s avx\n' "$1" > "$work/cpuinfo" && CPUINFO=$work/cpuinfo first_launch "${@:2}"; }
+wants "$small" '' 0
+check 'a processor that has what the program needs' by_list "$has" aigtoaig --ascii < "$work/small"
+wants '' 'aiger: this processor is older than x86-64-v2, which the program needs\n' 125
+for name in $has; do
+    check "a processor without $name" by_list "${has/$name/${name}x}" aigtoaig --ascii < "$work/small"
+done
+wants "$small" '' 0
+no_list() { CPUINFO=$1 first_launch "${@:2}"; }
+check 'a system without such a list' no_list "$work/none" aigtoaig --ascii < "$work/small"
+check 'a list of no processor' no_list /dev/null aigtoaig --ascii < "$work/small"
 
 # one byte of a source
 : > "$work/calls"
@@ -500,6 +519,25 @@ judge 'an rt that is killed' $?
 let_go
 wants '' '' 0
 check 'no copy is left of these' ls -A "$TMPDIR"
+
+# --- release/static itself, where it links nothing ---
+cp "$top/release/static" "$tree/release/static"
+wants '' 'usage: release/static FILE\n' 2
+check 'release/static without words' "$tree/release/static"
+wants '' 'aiger: rt of the Rattle kit is not on the PATH\n' 125
+check 'release/static without the kit' with_rt "$work/none" "$tree/release/static" "$work/linked"
+kit=$(readlink -f "$(command -v "${RT:-rt}")")
+if [ -n "$kit" ]; then
+    rm -f "$out/aiger.o"
+    wants '' "aiger: there is no $out/aiger.o: run ./test or ./prove\n" 125
+    check 'release/static without an object' with_rt "$kit" "$tree/release/static" "$work/linked"
+    echo 'int main(void) { return 0; }' |
+        "${kit%/*}/../toolchain/bin/clang" --target=x86_64-linux-gnu -x c -c -o "$out/aiger.o" -
+    wants '' "aiger: $out/aiger was not linked of $out/aiger.o: run ./test or ./prove\n" 125
+    check 'release/static with an object of another program' with_rt "$kit" "$tree/release/static" "$work/linked"
+else
+    skip 2 'no kit'
+fi
 
 # --- what the program is told of memory ---
 unasked() { ( unset GLIBC_TUNABLES && "$@" ); }

@@ -1,9 +1,10 @@
 #!/usr/bin/env python3
 """Runs the rows of small_rows.py with little memory: from as much as lets the program begin to as much as it needs.
 
-    tests/little_memory.py PROGRAM
+    tests/little_memory.py PROGRAM [--static]
 
-fail_call.c tells whether the program began, or whether the loader could not make it ready before that. A
+fail_call.c tells whether the program began, or whether the loader could not make it ready before that. A static program
+takes no such library: there it is the C library that ends what it cannot make ready, by a signal or with 127. A
 program that began answers as it would with ample memory, or that it is out of memory, with status 1, and then
 it has sent nothing. The limit (`ulimit -v`) goes up in steps of a page until the row was answered some times.
 
@@ -15,7 +16,9 @@ be answered: then the stack never grows.
 The last line is 'N passed, M failed', and counts runs.
 """
 import collections
+import functools
 import os
+import signal
 import sys
 
 sys.dont_write_bytecode = True
@@ -29,13 +32,16 @@ ANSWERS = 8
 STACK = 128
 LIMITED = ["-c", 'ulimit -v "$0" && LD_PRELOAD=$PRELOAD exec "$@"']
 WITH_STACK = ["-c", 'ulimit -s "$0" && exec "$@"']
+# how the C library ends a static program that it cannot make ready
+UNREADY = (-signal.SIGSEGV, 127)
 
 
 class Sweep:
     """A row, and what came of it with little memory."""
 
-    def __init__(self, program, preload, under, number):
+    def __init__(self, is_static, program, preload, under, number):
         self.row, self.came, self.wrong = rows.ROWS[number], collections.Counter(), []
+        self.is_static = is_static
         self.runner = rows.Runner("/bin/sh", under)
         self.environment = {"PRELOAD": preload, "STARTED": "started"}
         self.words = [program, *self.row.words.split()]
@@ -45,6 +51,8 @@ class Sweep:
     def within(self, limit):
         """Whether the program began with so many kilobytes, and what came."""
         came = self.runner.run([*LIMITED, str(limit), *self.words], self.row.given, self.environment)
+        if self.is_static:
+            return came[2] not in UNREADY, came
         has_begun = os.path.exists("started")
         if has_begun:
             os.unlink("started")
@@ -75,12 +83,12 @@ class Sweep:
         self.wrong.append(f"{self.row.name}: not answered with {MOST} KB")
 
 
-def judged(program, preload, under, number):
-    it = Sweep(program, preload, under, number)
+def judged(is_static, *of_row):
+    it = Sweep(is_static, *of_row)
     it.with_stack()
     it.sweep()
     return it.came, it.wrong
 
 
 if __name__ == "__main__":
-    rows.judge_rows(judged, *sys.argv[1:])
+    rows.judge_rows(functools.partial(judged, sys.argv[2:] == ["--static"]), sys.argv[1])
