@@ -7,7 +7,8 @@ mkdir -p "$tree"/crates/{low,next,aiger,beside}/{src,specs} "$tree/release"
 cp "$top"/{aiger,prove} "$tree"
 cp "$top"/release/{state.sh,side_by_side.py,make,deb} "$tree/release"
 # in the place of release/static, which needs the kit: a program that can be told from what was linked
-printf '#!/bin/sh\n{ cat "%s"; printf static; } > "$1" && chmod +x "$1" && echo the_system\n' "$out/aiger" > "$tree/release/static"
+printf '#!/bin/sh\n{ cat "%s"; printf static; } > "$1" && chmod +x "$1" && echo of_this\n' "$out/aiger" \
+    > "$tree/release/static"
 chmod +x "$tree/release/static"
 printf '# crates\naiger: low next std\nbeside: low\nlow: thiserror\nnext:\n' > "$tree/crates.txt"
 printf '// one\n' | tee "$tree"/crates/{low,next,aiger,beside}/src/lib.rt > "$tree/crates/low/specs/More.antt"
