@@ -1,8 +1,8 @@
-"""AIGER files converted, unrolled and simulated, and witnesses judged, by libaiger.
+"""AIGER files converted, unrolled and simulated, and witnesses judged, by libaigtools.
 
 The functions take and give bytes, and are those of the program ``aiger``: docs/FORMAT.md says what each text is. The
-library is the one that the variable LIBAIGER names, or libaiger.so beside this file, or that of the system. Calls may
-run in several threads at once.
+library is the one that the variable LIBAIGTOOLS names; or that beside this file or in the folder ``lib`` that holds it;
+or, in a clone of the repository, the released one; or that of the system. Calls may run in several threads at once.
 
 >>> and_gate = b"aag 3 2 0 1 1\\n2\\n4\\n6\\n6 4 2\\n"
 >>> image = convert(and_gate, keep_map=True)
@@ -20,18 +20,22 @@ NOT_VARIABLE 2 line 2: not a variable
 """
 
 import ctypes
-import ctypes.util
 import enum
+import gzip
+import operator
 import os
 from pathlib import Path
-from typing import Callable, Optional, Union
+from typing import Any, Callable, Optional, Tuple, Union
 
-__all__ = ["LARGEST", "Kind", "Refused", "confirm", "convert", "simulate", "unroll", "version"]
+__all__ = ["LARGEST", "Kind", "Refused", "confirm", "convert", "dump", "simulate", "unroll", "version"]
 
 Data = Union[bytes, bytearray, memoryview]
 
 #: The largest ``max_var``, and the one that is taken where none is given.
 LARGEST = 2147483647
+
+#: The most ``frames``.
+MOST_FRAMES = 1000000
 
 
 class Kind(enum.IntEnum):
@@ -92,19 +96,47 @@ _WHOLE, _LINE, _GATE, _MAP_LINE = range(4)
 _ASCII, _STRIP, _KEEP_MAP, _UNDO_MAP, _PROPERTIES, _VCD = 1, 2, 4, 8, 16, 32
 
 
+_NAME = "libaigtools.so.1"
+
+
+def _unpacked(packed: Path) -> ctypes.CDLL:
+    """The released library of a clone, in memory: no file is left behind."""
+    held = os.memfd_create(_NAME)
+    try:
+        with open(held, "wb", closefd=False) as file:
+            file.write(gzip.decompress(packed.read_bytes()))
+        return ctypes.CDLL(f"/proc/self/fd/{held}")
+    finally:
+        os.close(held)
+
+
+def _opened() -> ctypes.CDLL:
+    named = os.environ.get("LIBAIGTOOLS")
+    if named:
+        return ctypes.CDLL(named)
+    here = Path(__file__).resolve().parent
+    for folder in (here, *here.parents):
+        if folder in (here, folder.parent / "lib") and (folder / _NAME).exists():
+            return ctypes.CDLL(str(folder / _NAME))
+    packed = here.parent / "release" / f"{_NAME}.gz"
+    try:
+        return _unpacked(packed) if packed.exists() else ctypes.CDLL(_NAME)
+    except (OSError, EOFError) as why:
+        raise ImportError(f"{why}; release/install of the repository installs {_NAME}") from why
+
+
 def _load() -> ctypes.CDLL:
-    beside = Path(__file__).resolve().parent / "libaiger.so"
-    named = os.environ.get("LIBAIGER") or (beside if beside.exists() else ctypes.util.find_library("aiger"))
-    library = ctypes.CDLL(str(named or "libaiger.so.1"))
+    library = _opened()
     number, text, size = ctypes.c_uint32, (ctypes.c_char_p, ctypes.c_size_t), ctypes.c_size_t
     room, outcome = (ctypes.c_void_p, ctypes.c_size_t), ctypes.POINTER(_Outcome)
     for name, arguments, result in (
-        ("aiger_convert", (number, number, *text, *room, outcome), number),
-        ("aiger_unroll", (number, number, number, *text, *room, outcome), number),
-        ("aiger_simulate", (number, number, *text, *text, *room, outcome), number),
-        ("aiger_witness", (number, *text, *text, outcome), number),
-        ("aiger_message", (outcome, *room), size),
-        ("aiger_version", (), number),
+        ("aigtools_convert", (number, number, *text, *room, outcome), number),
+        ("aigtools_unroll", (number, number, number, *text, *room, outcome), number),
+        ("aigtools_simulate", (number, number, *text, *text, *room, outcome), number),
+        ("aigtools_witness", (number, *text, *text, outcome), number),
+        ("aigtools_dump", (number, *text, *text, *room, outcome), number),
+        ("aigtools_message", (outcome, *room), size),
+        ("aigtools_version", (), number),
     ):
         function = getattr(library, name)
         function.argtypes, function.restype = arguments, result
@@ -118,32 +150,54 @@ def _raise(outcome: _Outcome) -> None:
     if outcome.status == _OUT_OF_MEMORY:
         raise MemoryError
     if outcome.status == _BAD_OPTIONS:
-        raise ValueError("options exclude each other, or a number is out of its range")
+        raise ValueError(f"an option that libaigtools {version()} does not know")
     room = ctypes.create_string_buffer(80)
-    length = _library.aiger_message(outcome, room, len(room))
+    length = _library.aigtools_message(outcome, room, len(room))
     words = room.raw[:length].decode()
     line = outcome.number if outcome.place in (_LINE, _MAP_LINE) else None
     gate = outcome.number if outcome.place == _GATE else None
     raise Refused(words, Kind(outcome.kind), line, gate, outcome.subject)
 
 
-def _text(room: int, call: Callable[[int, int, _Outcome], int]) -> bytes:
-    """The text that a call makes. It is called again where a first guess of its length was too short."""
+def _made(room: int, call: Callable[[int, int, _Outcome], int]) -> Tuple[bytes, _Outcome]:
+    """The text that a call makes, and its outcome. It is called again where a first guess of its length is short."""
     outcome = _Outcome()
     while True:
         output = bytearray(room)
         status = call(ctypes.addressof(ctypes.c_char.from_buffer(output)), room, outcome)
-        if status == _DONE:
-            return bytes(memoryview(output)[: outcome.length])
+        if status in (_DONE, _NOT_CONFIRMED):
+            return bytes(memoryview(output)[: outcome.length]), outcome
         if status != _TOO_SHORT:
             _raise(outcome)
         room = outcome.length
 
 
-def _number(value: int) -> int:
-    if not 0 <= value <= LARGEST:
-        raise ValueError(f"{value} is not from 0 to {LARGEST}")
+def _step(outcome: _Outcome) -> Optional[int]:
+    """The verdict of an outcome."""
+    return outcome.number if outcome.status == _DONE else None
+
+
+def _bytes(data: Data) -> bytes:
+    """The bytes of what has bytes; anything else is a TypeError."""
+    return data if isinstance(data, bytes) else bytes(memoryview(data))
+
+
+def _number(name: str, value: int, least: int = 0, most: int = LARGEST) -> int:
+    if not least <= operator.index(value) <= most:
+        raise ValueError(f"{name} is not from {least} to {most}: {value}")
     return value
+
+
+def _options(*given: Tuple[Any, int]) -> int:
+    """The options that are given, a bit each."""
+    return sum(bit for value, bit in given if value)
+
+
+def _excludes(name: str, **others: Any) -> None:
+    """Refuses an option beside the others that it excludes."""
+    for other, value in others.items():
+        if value:
+            raise ValueError(f"{name} excludes {other}")
 
 
 def convert(
@@ -163,15 +217,17 @@ def convert(
     undo_map   undo a conversion by the map of its image
     max_var    refuse a file with a larger index, or with more of a kind
     """
-    data = bytes(data)
-    options = ascii * _ASCII | strip * _STRIP | keep_map * _KEEP_MAP | undo_map * _UNDO_MAP
-    limit = _number(max_var)
-    return _text(
+    data = _bytes(data)
+    if keep_map:
+        _excludes("keep_map", ascii=ascii, strip=strip, undo_map=undo_map)
+    options = _options((ascii, _ASCII), (strip, _STRIP), (keep_map, _KEEP_MAP), (undo_map, _UNDO_MAP))
+    limit = _number("max_var", max_var)
+    return _made(
         (4 if ascii else 2) * len(data) + 64,
-        lambda output, room, outcome: _library.aiger_convert(
+        lambda output, room, outcome: _library.aigtools_convert(
             options, limit, data, len(data), output, room, outcome
         ),
-    )
+    )[0]
 
 
 def unroll(data: Data, frames: int, *, ascii: bool = False, max_var: int = LARGEST) -> bytes:
@@ -180,14 +236,15 @@ def unroll(data: Data, frames: int, *, ascii: bool = False, max_var: int = LARGE
     >>> unroll(b"aag 1 0 1 1 0\\n2 3\\n2\\n", 2, ascii=True)
     b'aag 0 0 0 2 0\\n0\\n1\\n'
     """
-    data = bytes(data)
-    options, count, limit = ascii * _ASCII, _number(frames), _number(max_var)
-    return _text(
+    data = _bytes(data)
+    options, limit = _options((ascii, _ASCII)), _number("max_var", max_var)
+    count = _number("frames", frames, 1, MOST_FRAMES)
+    return _made(
         min(count, 64) * (4 if ascii else 2) * len(data) + 64,
-        lambda output, room, outcome: _library.aiger_unroll(
+        lambda output, room, outcome: _library.aigtools_unroll(
             options, count, limit, data, len(data), output, room, outcome
         ),
-    )
+    )[0]
 
 
 def simulate(
@@ -196,19 +253,26 @@ def simulate(
     """The trace of a stimulus, as ``aiger aigsim --batch`` writes it.
 
     properties   show bad states and constraints too
-    vcd          write the trace as a dump (Value Change Dump), which shows them; without properties
+    vcd          write the trace as a waveform (Value Change Dump), with them; without properties
 
     >>> simulate(b"aag 1 1 0 1 0\\n2\\n3\\n", b"0\\n1\\n", vcd=True).splitlines()[-9:]
     [b'0i0', b'1o0', b'#1', b'1i0', b'0o0', b'#2', b'zi0', b'zo0', b'#3']
     """
-    model, stimulus = bytes(model), bytes(stimulus)
-    options, limit = properties * _PROPERTIES | vcd * _VCD, _number(max_var)
-    return _text(
-        8 * len(stimulus) + len(model) + 512 if vcd else 2 * len(stimulus) + 64,
-        lambda output, room, outcome: _library.aiger_simulate(
+    model, stimulus = _bytes(model), _bytes(stimulus)
+    if vcd:
+        _excludes("vcd", properties=properties)
+    options, limit = _options((properties, _PROPERTIES), (vcd, _VCD)), _number("max_var", max_var)
+    return _made(
+        _room_of_dump(model, stimulus) if vcd else 2 * len(stimulus) + 64,
+        lambda output, room, outcome: _library.aigtools_simulate(
             options, limit, model, len(model), stimulus, len(stimulus), output, room, outcome
         ),
-    )
+    )[0]
+
+
+def _room_of_dump(model: bytes, steps: bytes) -> int:
+    """A guess of how long a waveform is."""
+    return 8 * len(steps) + len(model) + 512
 
 
 def confirm(model: Data, witness: Data, *, max_var: int = LARGEST) -> Optional[int]:
@@ -217,15 +281,34 @@ def confirm(model: Data, witness: Data, *, max_var: int = LARGEST) -> Optional[i
     >>> confirm(b"aag 1 0 1 0 0 1\\n2 3\\n2\\n", b"1\\nb0\\n0\\n\\n\\n.\\n")
     1
     """
-    model, witness = bytes(model), bytes(witness)
+    model, witness = _bytes(model), _bytes(witness)
     outcome = _Outcome()
-    status = _library.aiger_witness(_number(max_var), model, len(model), witness, len(witness), outcome)
+    limit = _number("max_var", max_var)
+    status = _library.aigtools_witness(limit, model, len(model), witness, len(witness), outcome)
     if status not in (_DONE, _NOT_CONFIRMED):
         _raise(outcome)
-    return outcome.number if status == _DONE else None
+    return _step(outcome)
+
+
+def dump(model: Data, witness: Data, *, max_var: int = LARGEST) -> Tuple[Optional[int], bytes]:
+    """What ``confirm`` answers, and the waveform of the run, as ``aiger aigsim --witness --vcd`` writes it.
+
+    >>> step, text = dump(b"aag 1 0 1 0 0 1\\n2 3\\n2\\n", b"1\\nb0\\n0\\n\\n\\n.\\n")
+    >>> step, text.splitlines()[0]
+    (1, b'$comment confirmed 1 $end')
+    """
+    model, witness = _bytes(model), _bytes(witness)
+    limit = _number("max_var", max_var)
+    text, outcome = _made(
+        _room_of_dump(model, witness),
+        lambda output, room, outcome: _library.aigtools_dump(
+            limit, model, len(model), witness, len(witness), output, room, outcome
+        ),
+    )
+    return _step(outcome), text
 
 
 def version() -> str:
     """The version of the library."""
-    number = _library.aiger_version()
+    number = _library.aigtools_version()
     return f"{number >> 16}.{number >> 8 & 255}.{number & 255}"
