@@ -110,17 +110,20 @@ def _unpacked(packed: Path) -> ctypes.CDLL:
         os.close(held)
 
 
-def _opened() -> ctypes.CDLL:
-    named = os.environ.get("LIBAIGTOOLS")
-    if named:
-        return ctypes.CDLL(named)
+def _place() -> str:
+    """Where the library lies as a file, or its name, for the system to find."""
     here = Path(__file__).resolve().parent
     for folder in (here, *here.parents):
         if folder in (here, folder.parent / "lib") and (folder / _NAME).exists():
-            return ctypes.CDLL(str(folder / _NAME))
-    packed = here.parent / "release" / f"{_NAME}.gz"
+            return str(folder / _NAME)
+    return _NAME
+
+
+def _opened() -> ctypes.CDLL:
+    named = os.environ.get("LIBAIGTOOLS") or _place()
+    packed = Path(__file__).resolve().parents[1] / "release" / f"{_NAME}.gz"
     try:
-        return _unpacked(packed) if packed.exists() else ctypes.CDLL(_NAME)
+        return _unpacked(packed) if named == _NAME and packed.exists() else ctypes.CDLL(named)
     except (OSError, EOFError) as why:
         raise ImportError(f"{why}; release/install of the repository installs {_NAME}") from why
 

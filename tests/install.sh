@@ -105,15 +105,18 @@ usage='usage: release/install [PREFIX] [--destdir DIR]'
 check 'a prefix that is no whole path' fails 2 "$usage" "$tree/release/install" opt
 check 'another option' fails 2 "$usage" "$tree/release/install" --help
 check 'two prefixes' fails 1 'install: one PREFIX' "$tree/release/install" /a /b
+check 'the root as prefix' fails 1 'install: a PREFIX is a folder below /' "$tree/release/install" /
 check 'no folder' fails 1 'install: --destdir wants a folder' "$tree/release/install" --destdir
 check 'a place that cannot be written' fails 1 "install: cannot write $work/file/bin/aiger: Not a directory" \
     "$tree/release/install" "$work/file"
 
 # --- the Python module in a clone ---
 left_behind() { find "$tree/python" "$tree/release" -newer "$work/aiger" -name '*libaigtools*' ! -name '*.gz'; }
-in_clone() { PYTHONDONTWRITEBYTECODE=1 PYTHONPATH="$tree/python" python3 -c "$module"; }
+in_clone() { PYTHONPATH="$tree/python" python3 -Bc "$module"; }
 check 'the module in a clone' same "$module_says" in_clone
 check 'it leaves no library behind' same '' left_behind
+check 'a library that is named and not there' fails 1 "ImportError: $work/none" env LIBAIGTOOLS="$work/none" \
+    PYTHONPATH="$tree/python" python3 -Bc "$module"
 
 # a released file that is broken or missing
 mv "$tree/release/libaigtools.so.1.gz" "$work/kept.gz"
