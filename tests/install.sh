@@ -1,6 +1,6 @@
 #!/usr/bin/env bash
-# What release/install and release/deb make, and the Python module in a clone: in a copy of the repository without the kit,
-# whose path has a space.
+# What release/install and release/deb make, and the Python module in a clone: in a copy of the repository without the
+# kit, whose path has a space.
 #
 #     tests/install.sh                     of the released program and library
 #     tests/install.sh FOLDER PROGRAM      of this program, and of the library as release/library makes it
@@ -32,15 +32,23 @@ skip() {
 
 # same WANTED WORD..: whether the words print this
 same() {
-    local came
-    came=$("${@:2}") && [ "$came" = "$1" ] || { printf 'wanted %s\ncame   %s\n' "$1" "$came" && false; }
+    local came status=0
+    came=$("${@:2}") || status=$?
+    if [ "$status" != 0 ] || [ "$came" != "$1" ]; then
+        printf 'wanted %s\ncame   %s\nstatus %s\n' "$1" "$came" "$status"
+        return 1
+    fi
 }
 
 # fails STATUS TEXT WORD..: whether the words end with this status, and their standard error has this text
 fails() {
     local status=0
     "${@:3}" > "$work/out" 2> "$work/err" || status=$?
-    [ "$status" = "$1" ] && grep -qF "$2" "$work/err" || { cat "$work/out" "$work/err" && echo "status $status" && false; }
+    if [ "$status" != "$1" ] || ! grep -qF "$2" "$work/err"; then
+        cat "$work/out" "$work/err"
+        printf 'status %s\n' "$status"
+        return 1
+    fi
 }
 
 # The copy, whose program and library are the released ones or those that are given.

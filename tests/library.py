@@ -288,10 +288,11 @@ def check_options(program):
         "aigsim": ((aigtools.simulate, aigtools.confirm, aigtools.dump), {"batch", "witness"}),
     }
     for command, (functions, chosen) in calls.items():
-        help_text = subprocess.run([program, command, "--help"], stdout=subprocess.PIPE, text=True, check=True).stdout
-        there = {it.replace("-", "_") for it in re.findall(r"^ {2,6}(?:-\w, )?--([a-z-]+)", help_text, re.M)} - {"help", "version"}
-        names = [name for it in functions for name in list(inspect.signature(it).parameters)]
-        here = {it for it in names if it not in ("data", "model", "stimulus", "witness")} | chosen
+        said = subprocess.run([program, command, "--help"], stdout=subprocess.PIPE, text=True, check=True).stdout
+        words = re.findall(r"^ {2,6}(?:-\w, )?--([a-z-]+)", said, re.M)
+        there = {it.replace("-", "_") for it in words} - {"help", "version"}
+        names = {name for it in functions for name in inspect.signature(it).parameters}
+        here = names - {"data", "model", "stimulus", "witness"} | chosen
         judge(f"the options of {command}", there == here and len(there) > 1, there, here)
 
 
