@@ -61,9 +61,9 @@ release_given() {
     local name version
     version=$(sed -n 's/^Version: //p' "$1/aigtools.pc")
     cp "$1/aigtools.pc" "$tree/release"
-    gzip -1 -n -c "$2" > "$tree/release/aiger-linux-x86_64.gz"
+    gzip -1 -n -c "$2" > "$tree/release/aiger-linux-x86_64-static.gz"
     for name in libaigtools.a libaigtools.so.1; do gzip -1 -n -c "$1/$name" > "$tree/release/$name.gz"; done
-    printf '%s\n' "version $version" "program $(sha256 < "$2")" "archive $(sha256 < "$1/libaigtools.a")" \
+    printf '%s\n' "version $version" "static $(sha256 < "$2")" "archive $(sha256 < "$1/libaigtools.a")" \
         "library $(sha256 < "$1/libaigtools.so.1")" > "$tree/release/MANIFEST"
 }
 [ $# = 0 ] || release_given "$@"
@@ -81,7 +81,7 @@ converts() {
         ! "$work/converts" < "$top/examples/half_adder.aag" 2> /dev/null &&
         LD_LIBRARY_PATH=$libraries "$work/converts" < "$top/examples/half_adder.aag" | cmp - "$work/image"
 }
-gzip -dc "$tree/release/aiger-linux-x86_64.gz" > "$work/aiger" && chmod 755 "$work/aiger"
+gzip -dc "$tree/release/aiger-linux-x86_64-static.gz" > "$work/aiger" && chmod 755 "$work/aiger"
 "$work/aiger" aigtoaig --keep-map "$top/examples/half_adder.aag" "$work/image"
 
 # --- release/install ---
@@ -204,7 +204,7 @@ python3-aigtools_${version}_all.deb" ls "$packages"
         skip 1 'only root installs packages, so they were unpacked'
     fi
     check 'the library asks for no newer C library' same GLIBC_2.14 newest_needed "$root$multiarch/libaigtools.so.1"
-    check 'the program asks for no newer one' same GLIBC_2.34 newest_needed "$root/usr/bin/aiger"
+    check 'what the program needs' same '' field aiger Depends
     check 'the program of the package' same "$(cat "$top/examples/canonical/lock.aag")" \
         "$root/usr/bin/aiger" aigtoaig --ascii "$top/examples/lock.aag"
     check 'the manual page of the package' test -s "$root/usr/share/man/man1/aiger.1.gz"
