@@ -6,7 +6,6 @@
 
 mod abreast;
 mod entry;
-pub mod laws;
 mod line_tracer;
 mod reader;
 mod stream;

@@ -1,5 +1,5 @@
 //! Laws: facts about the definitions alone, each the contract of a function with an empty body.
-ghost use Rattle.aig_trace.specs.Laws.{OneTraceText, SameMeaningSameText, KnownCharactersStay};
+ghost use Rattle.aig_trace_laws.specs.Laws.{OneTraceText, SameMeaningSameText, KnownCharactersStay};
 
 /// A stimulus has exactly one trace text over a well-formed circuit.
 pub fn one_trace_text()

@@ -11,7 +11,7 @@ use Rattle.aig_circuit.specs.declared.value.Val.{Val}
 use Rattle.aig_circuit.specs.declared.value.Val.TheVariants.{Zero, One, X}
 use Rattle.aig_meaning.specs.Completion.{Stays}
 use Rattle.aig_rows.specs.Lines.{Line, line, begun_by, lines_of}
-use Rattle.aig_trace.specs.Laws.{IsAsKnown}
+use Rattle.aig_trace_laws.specs.Laws.{IsAsKnown}
 use Rattle.aig_step.specs.Stimulus.{Entry, Step, Stop, Stimulus, before_rest, entry_in, entry_of, judged_lines}
 use Rattle.aig_step.specs.Stimulus.{lines_say, runs_of}
 use Rattle.aig_step.specs.Stimulus.{stimulus, text_of, value_of, values_of, with_step, without_return}

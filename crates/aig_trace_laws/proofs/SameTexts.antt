@@ -7,7 +7,7 @@ use Rattle.aig_meaning.specs.Meaning.{Row}
 use Rattle.aig_meaning.specs.Trace.{IsTrace, reset_state}
 use Rattle.aig_meaning.proofs.Traces.{same_meaning_same_traces}
 use Rattle.aig_step.specs.declared.trace.Columns.{Columns}
-use Rattle.aig_trace.specs.Laws.{SameMeaningSameText}
+use Rattle.aig_trace_laws.specs.Laws.{SameMeaningSameText}
 use Rattle.aig_step.specs.Stimulus.{Stimulus, runs_of, stimulus}
 use Rattle.aig_step.specs.TraceText.{IsTraceText, last_stop, rows_text, run_text}
 use Rattle.aig_step.proofs.States.{same_reset_state}

@@ -7,7 +7,7 @@ use Rattle.aig_circuit.specs.Wellformed.{IsWellFormed}
 use Rattle.aig_meaning.specs.Meaning.{Row}
 use Rattle.aig_meaning.specs.Trace.{IsTrace, reset_state}
 use Rattle.aig_meaning.proofs.Traces.{one_trace, reset_state_is_first}
-use Rattle.aig_trace.specs.Laws.{OneTraceText}
+use Rattle.aig_trace_laws.specs.Laws.{OneTraceText}
 use Rattle.aig_step.specs.Stimulus.{runs_of, stimulus}
 use Rattle.aig_step.specs.StimulusText.{AreSteps}
 use Rattle.aig_step.specs.TraceText.{last_stop, rows_text, run_text}

@@ -14,11 +14,11 @@ use Rattle.aig_meaning.specs.Trace.{IsTrace, reset_state}
 use Rattle.aig_meaning.proofs.Traces.{known_values_stay}
 use Rattle.aig_step.specs.declared.trace.Columns.{Columns}
 use Rattle.aig_step.specs.declared.trace.Columns.TheVariants.{Plain, Properties}
-use Rattle.aig_trace.specs.Laws.{KnownCharactersStay}
+use Rattle.aig_trace_laws.specs.Laws.{KnownCharactersStay}
 use Rattle.aig_step.specs.Stimulus.{runs_of, stimulus}
 use Rattle.aig_step.specs.TraceText.{character_of, last_stop, properties_text, row_text, rows_text, run_text}
 use Rattle.aig_step.specs.TraceText.{values_text}
-use Rattle.aig_trace.proofs.KnownLines.{runs_known, stays_itself, stimulus_known}
+use Rattle.aig_trace_laws.proofs.KnownLines.{runs_known, stays_itself, stimulus_known}
 
 -- a character that is not x stays
 abbrev Keeps : ℕ → ℕ → Type 0
