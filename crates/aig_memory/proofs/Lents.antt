@@ -1,43 +1,29 @@
--- What a source over the bytes of a caller gave, once a call is over.
-use Rattle.std.proofs.Common.{◌≡◌, ◌⊎◌, ◌+◌, ◌<◌, ℕ, List, Bool, true, false, inl, inr, refl, subst, arith, ap, ◌∙◌}
-use Rattle.std.proofs.Common.{Err, IfErr, IfOk, Ok, Result}
-use Rattle.std.proofs.Common.{Some, drop, length, take, take-add}
-use Rattle.aig_io.proofs.Took.{gave_next}
-use Rattle.aig_io.specs.Devices.{Past, after_fetch, gave, gave_all, unused}
-use Rattle.aig_io.specs.declared.device.DeviceFault.{DeviceFault}
+-- What came of the bytes of a caller, once a call is over.
+use Rattle.std.proofs.Common.{◌≡◌, ◌⊎◌, ℕ, List, inl, inr, subst, ap, ◌∙◌, Err, IfErr, IfOk, Ok, Result}
+use Rattle.aig_io.specs.Devices.{Past, unused}
 use Rattle.aig_io.specs.declared.transfer.ReadError.TheVariants as errors
 use Rattle.aig_circuit.specs.declared.circuit.Circuit.{Circuit}
 use Rattle.aig_step.specs.declared.fault.SimFault.{SimFault}
-use Rattle.aig_step.specs.declared.fault.SimFault.TheVariants as sim_faults
 use Rattle.aig_step.specs.declared.trace.Columns.{Columns}
-use Rattle.aig_step.specs.Outcome.{first_bad_line}
 use Rattle.aig_batch.specs.Batched.{NotBatched}
-use Rattle.aig_witness.specs.Confirming.{NotJudged}
-use Rattle.aig_witness.specs.Witness.{first_bad_witness_line}
+use Rattle.aig_dump.specs.InMemory.{IsBadStimulus, WantsMemory}
+use Rattle.aig_dump.specs.Lent.{HasGiven, lent}
+use Rattle.aig_dump.proofs.Lents as lents
 use Rattle.aig_engines.specs.declared.fault.ToolFault.{ToolFault}
 use Rattle.aig_engines.specs.Reading.{HasRead, NotRead}
-use Rattle.aig_memory.specs.Answers.{Answers, IsBadStimulus, IsBadWitness}
-use Rattle.aig_memory.proofs.Behind.{bad_line_stays, wrong_line_stays}
-use Rattle.aig_memory.specs.Lent.{HasGiven, lent}
+use Rattle.aig_memory.specs.Answers.{Answers}
 use Rattle.aig_memory.specs.Outcome.{IsPlaced, fault_outcome, out_of_memory, sim_outcome}
 use Rattle.aig_memory.specs.declared.outcome.Outcome.{Outcome}
 
--- a fetch that is not at the end gives the next bytes
-pub fetched : (bs into : List ℕ) (at n ends : ℕ) → 0 < n → take n into ≡ take n (drop at bs)
-    → record { origin = lent bs; bytes = take (at + n) bs; ends = ends; failures = 0 }
-    ≡ after_fetch {E = DeviceFault} into (Ok n)
-    (record { origin = lent bs; bytes = take at bs; ends = ends; failures = 0 })
-fetched bs into at n ends some front =
-    let before : Past = record { origin = lent bs; bytes = take at bs; ends = ends; failures = 0 } in
-    rw (gave_next into n before some, front, take-add) refl
+-- a fault that blames no line tells that memory was refused
+pub told : (fault : SimFault) → WantsMemory fault → sim_outcome fault ≡ out_of_memory
+told fault (inl is) = ap sim_outcome is
+told fault (inr (inl is)) = ap sim_outcome is
+told fault (inr (inr is)) = ap sim_outcome is
 
 module _ (input : List ℕ) (now : Past) (given : HasGiven now) where
-  -- what was read to its end is all of the input
-  all_read : (bytes : List ℕ) → now ≡ gave_all bytes (unused (lent input)) → bytes ≡ input
-  all_read bytes is = let all = rw is at given.whole in all (omega arith)
-
   pub whole : (Holds : List ℕ → Type 0) → HasRead Holds (unused (lent input)) now → Holds input
-  whole Holds read = subst Holds (all_read read.bytes read.gave) read.holds
+  whole Holds read = subst Holds (lents.all_read input now given read.bytes read.gave) read.holds
 
   -- nothing was made of it: it is refused, or memory was
   pub not_read : (IsRefused : ToolFault → List ℕ → Type 0) (fault : ToolFault)
@@ -47,41 +33,16 @@ module _ (input : List ℕ) (now : Past) (given : HasGiven now) where
   not_read IsRefused fault (inl (errors.OutOfMemory, is, some)) = inr (ap fault_outcome is)
   not_read IsRefused fault (inr read) = inl (whole (IsRefused fault) read)
 
-  -- the first bad line of what was read is that of all of the input
-  bad_line : (c : Circuit) (bytes : List ℕ) (ended : Bool) (k : ℕ) → now ≡ gave bytes ended (unused (lent input))
-      → first_bad_line c bytes ended ≡ Some k → first_bad_line c input true ≡ Some k
-  bad_line c bytes true k is first = subst (λ bs. first_bad_line c bs true ≡ Some k) (all_read bytes is) first
-  bad_line c bytes false k is first =
-      bad_line_stays c (length bytes) k input
-      (subst (λ bs. first_bad_line c bs false ≡ Some k) (rw is at given.front) first)
-
   pub not_batched : (c : Circuit) (columns : Columns) (fault : SimFault) (sink sink_now : Past)
       → NotBatched c columns fault (unused (lent input)) now sink sink_now
       → IsBadStimulus c input fault ⊎ (sim_outcome fault ≡ out_of_memory)
-  not_batched c columns (sim_faults.BadStimulus line) sink sink_now said =
-      inl (line, refl, bad_line c said.0.0 said.0.1 line said.0.2.past said.0.2.first)
-  not_batched c columns (sim_faults.BadWitness line) sink sink_now said = absurd said.0
-  not_batched c columns sim_faults.OutOfMemory sink sink_now said = inr refl
-  not_batched c columns sim_faults.ReadFailed sink sink_now said = inr refl
-  not_batched c columns sim_faults.WriteFailed sink sink_now said = inr refl
-
-  -- the same of a witness file
-  wrong_line_of : (c : Circuit) (bytes : List ℕ) (ended : Bool) (k : ℕ) → now ≡ gave bytes ended (unused (lent input))
-      → first_bad_witness_line c bytes ended ≡ Some k → first_bad_witness_line c input true ≡ Some k
-  wrong_line_of c bytes true k is first =
-      subst (λ bs. first_bad_witness_line c bs true ≡ Some k) (all_read bytes is) first
-  wrong_line_of c bytes false k is first =
-      wrong_line_stays c (length bytes) k input
-      (subst (λ bs. first_bad_witness_line c bs false ≡ Some k) (rw is at given.front) first)
-
-  pub not_judged : (c : Circuit) (fault : SimFault) → NotJudged c fault (unused (lent input)) now
-      → IsBadWitness c input fault ⊎ (sim_outcome fault ≡ out_of_memory)
-  not_judged c (sim_faults.BadWitness line) said =
-      inl (line, refl, wrong_line_of c said.0 said.1 line said.2.past said.2.first)
-  not_judged c (sim_faults.BadStimulus line) said = absurd said
-  not_judged c sim_faults.OutOfMemory said = inr refl
-  not_judged c sim_faults.ReadFailed said = inr refl
-  not_judged c sim_faults.WriteFailed said = inr refl
+  not_batched c columns fault sink sink_now said =
+      go (lents.not_batched input now given c columns fault sink sink_now said)
+    where
+      go : IsBadStimulus c input fault ⊎ WantsMemory fault
+          → IsBadStimulus c input fault ⊎ (sim_outcome fault ≡ out_of_memory)
+      go (inl bad) = inl bad
+      go (inr memory) = inr (told fault memory)
 
 -- what is answered once it is known whether there is a text
 pub answered : {V : Type 0} (items : V → List ℕ) (CanDo : Type 0) (IsText : List ℕ → Type 0)

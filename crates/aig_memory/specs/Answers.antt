@@ -1,14 +1,11 @@
 -- What a call answers (this project's interface for C).
-use Rattle.std.specs.Prelude.{◌≡◌, ◌≤◌, ◌⊎◌, ℕ, List, true, Some}
+use Rattle.std.specs.Prelude.{◌≡◌, ◌≤◌, ◌⊎◌, ℕ, List}
 use Rattle.aig_circuit.specs.declared.circuit.Circuit.{Circuit}
 use Rattle.aig_command.specs.Aiger.{largest_index}
 use Rattle.aig_command.specs.declared.request.Sim.{Sim}
-use Rattle.aig_step.specs.declared.fault.SimFault.{SimFault}
-use Rattle.aig_step.specs.declared.fault.SimFault.TheVariants.{BadStimulus, BadWitness}
-use Rattle.aig_step.specs.Outcome.{first_bad_line}
 use Rattle.aig_witness.specs.declared.verdict.Verdict.{Verdict}
 use Rattle.aig_witness.specs.declared.verdict.Verdict.TheVariants.{Confirmed, NotConfirmed}
-use Rattle.aig_witness.specs.Witness.{Claim, IsVerdict, SaysClaim, first_bad_witness_line}
+use Rattle.aig_dump.specs.InMemory.{IsBadStimulus, IsBadWitness}
 use Rattle.aig_engines.specs.declared.fault.ToolFault.{ToolFault}
 use Rattle.aig_engines.specs.File.{IsFileOf}
 use Rattle.aig_engines.specs.Reading.{IsUnreadable}
@@ -41,16 +38,6 @@ Answers CanDo IsText IsFault before after outcome =
     ((¬ CanDo) × (after ≡ before) × (outcome ≡ ending BAD_OPTIONS 0 0))
     ⊎ (CanDo × (Made IsText before after outcome ⊎ ((after ≡ before) × NotMade IsFault outcome)))
 
--- This line of the stimulus is the first bad one.
-abbrev pub IsBadStimulus : Circuit → (stimulus : List ℕ) → SimFault → Type 0
-IsBadStimulus c stimulus fault =
-    (line : ℕ) × (fault ≡ BadStimulus line) × (first_bad_line c stimulus true ≡ Some line)
-
--- This line of the witness file is the first wrong one, or the one that is missing behind it.
-abbrev pub IsBadWitness : Circuit → (witness : List ℕ) → SimFault → Type 0
-IsBadWitness c witness fault =
-    (line : ℕ) × (fault ≡ BadWitness line) × (first_bad_witness_line c witness true ≡ Some line)
-
 -- The model has no trace of the stimulus for this reason: it is no file of a circuit, or a line of the stimulus is bad.
 abbrev pub IsSimulationRefused : Sim → (model stimulus : List ℕ) → ToolFault → Type 0
 IsSimulationRefused request model stimulus fault =
@@ -62,10 +49,6 @@ abbrev pub IsWitnessRefused : Sim → (model witness : List ℕ) → ToolFault �
 IsWitnessRefused request model witness fault =
     IsUnreadable request.max_var fault model
     ⊎ ((found : Circuit) × IsFileOf model request.max_var found × OfSteps (IsBadWitness found witness) fault)
-
--- the verdict on what a witness file claims of a circuit
-abbrev pub IsVerdictFor : Circuit → (witness : List ℕ) → Verdict → Type 0
-IsVerdictFor c witness verdict = (claim : Claim) × SaysClaim c witness claim × IsVerdict c claim verdict
 
 -- the outcome of a verdict
 abbrev pub verdict_outcome : Verdict → Outcome

@@ -1,25 +1,22 @@
 //! Simulation from bytes to bytes.
-ghost use Rattle.std.specs.Prelude.{◌≡◌, ◌⊎◌, ◌↔◌, IfErr, IfOk, IsTrue, List, None, ℕ, true};
+ghost use Rattle.std.specs.Prelude.{◌≡◌, ◌⊎◌, ◌↔◌, IfErr, IfOk, IsTrue, None, true};
 ghost use Rattle.aig_engines.specs.File.{IsFileOf};
 ghost use Rattle.aig_engines.specs.Reading.{IsUnreadable};
 ghost use Rattle.aig_engines.specs.Simulation.{IsWrittenText, columns_of};
 ghost use Rattle.aig_step.specs.Outcome.{first_bad_line};
 ghost use Rattle.aig_step.specs.TraceText.{IsTraceText};
-ghost use Rattle.aig_step.specs.declared.trace.Columns.TheVariants.{Properties};
-ghost use Rattle.aig_wave.specs.Wave.{wave_text};
-ghost use Rattle.aig_memory.specs.Answers.{Answers, IsBadStimulus, IsSimulationRefused};
+ghost use Rattle.aig_dump.specs.InMemory.{IsBadStimulus};
+ghost use Rattle.aig_memory.specs.Answers.{Answers, IsSimulationRefused};
 ghost use Rattle.aig_memory.specs.Asked.{CanSimulate, has, simulation};
 ghost use Rattle.aig_memory.specs.Outcome.{fault_outcome, out_of_memory, sim_outcome};
 
 use crate::asked::{PROPERTIES, VCD, has, only_has};
-use crate::gathered::Gathered;
-use crate::lent::LentSource;
 use crate::outcome::{BAD_OPTIONS, Outcome, answer, ending};
 use aig_batch::simulate_batched;
 use aig_core::{Checked, Keep, LARGEST};
+use aig_dump::{Gathered, LentSource, dump};
 use aig_engines::{ToolFault, read_circuit};
 use aig_step::{Columns, SimFault};
-use aig_wave::{WaveRoom, WaveSink};
 use std::alloc::Global;
 
 /// The circuit of a model.
@@ -51,53 +48,6 @@ fn trace(
     let mut sink = Gathered::new(alloc);
     let done = simulate_batched(alloc, found, columns, &mut source, &mut sink);
     source.gives_its_bytes();
-    done?;
-    Ok(sink.bytes)
-}
-
-/// The dump of the trace of a stimulus. The sink fails where memory is refused, and what it says counts first.
-#[tactic(auto, using(crate::proofs::Lents::not_batched))]
-pub(crate) fn dump(alloc: Global, found: &Checked, stimulus: &[u8]) -> Result<Vec<u8>, SimFault>
-    ensures none_bad { IfOk result (λ _. first_bad_line found.now stimulus.now true ≡ None) }
-    ensures text { IfOk result (λ text. (trace : List ℕ)
-        × IsTraceText found.now Properties stimulus.now true trace × (text.items ≡ wave_text found.now trace true)) }
-    ensures err { IfErr result (λ fault.
-        IsBadStimulus found.now stimulus.now fault ⊎ (sim_outcome fault ≡ out_of_memory)) }
-{
-    let mut source = LentSource::new(stimulus)?;
-    let room = WaveRoom::new(alloc, found)?;
-    let mut sink = Gathered::new(alloc);
-    let mut wave = WaveSink::new(room, &mut sink);
-    let done = simulate_batched(alloc, found, Columns::Properties, &mut source, &mut wave);
-    let (sent, _sink) = wave.finish(done.is_ok());
-    source.gives_its_bytes();
-    if sent.is_err() {
-        return Err(SimFault::WriteFailed);
-    }
-    done?;
-    Ok(sink.bytes)
-}
-
-/// The dump of the trace of a stimulus whose steps are taken one after the other. To take runs side by side, as `dump`
-/// does, wants more stack than the system gives before a program begins.
-pub(crate) fn dump_step_by_step(
-    alloc: Global,
-    found: &Checked,
-    stimulus: &[u8],
-) -> Result<Vec<u8>, SimFault>
-    ensures { IfOk result (λ text. (trace : List ℕ)
-        × IsTraceText found.now Properties stimulus.now true trace × (text.items ≡ wave_text found.now trace true)) }
-{
-    let mut source = LentSource::new(stimulus)?;
-    let room = WaveRoom::new(alloc, found)?;
-    let mut sink = Gathered::new(alloc);
-    let mut wave = WaveSink::new(room, &mut sink);
-    let done = aig_trace::simulate(alloc, found, Columns::Properties, &mut source, &mut wave);
-    let (sent, _sink) = wave.finish(done.is_ok());
-    source.gives_its_bytes();
-    if sent.is_err() {
-        return Err(SimFault::WriteFailed);
-    }
     done?;
     Ok(sink.bytes)
 }

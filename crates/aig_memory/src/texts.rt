@@ -7,11 +7,10 @@ ghost use Rattle.aig_memory.specs.Asked.{CanConvert, CanUnroll, conversion, unro
 ghost use Rattle.aig_memory.specs.Outcome.{fault_outcome, out_of_memory};
 
 use crate::asked::{ASCII, KEEP_MAP, STRIP, UNDO_MAP, conversion, only_has, unrolling};
-use crate::gathered::Gathered;
-use crate::lent::LentSource;
 use crate::outcome::{BAD_OPTIONS, Outcome, answer, ending};
 use aig_command::ToAig;
 use aig_core::LARGEST;
+use aig_dump::{Gathered, LentSource};
 use aig_engines::{Engine, ToolFault};
 use std::alloc::Global;
 

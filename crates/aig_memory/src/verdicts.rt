@@ -1,32 +1,17 @@
 //! Verdicts on witness files.
 ghost use Rattle.std.specs.Prelude.{◌≡◌, ◌⊎◌, IfErr, IfOk};
 ghost use Rattle.aig_engines.specs.WitnessOutcome.{IsWitnessAnswer};
-ghost use Rattle.aig_memory.specs.Answers.{IsBadWitness, IsVerdictFor, IsWitnessRefused, verdict_outcome};
-ghost use Rattle.aig_memory.specs.Answers.{WitnessAnswers};
+ghost use Rattle.aig_memory.specs.Answers.{IsWitnessRefused, WitnessAnswers, verdict_outcome};
 ghost use Rattle.aig_memory.specs.Asked.{simulation};
-ghost use Rattle.aig_memory.specs.Outcome.{fault_outcome, out_of_memory, sim_outcome};
+ghost use Rattle.aig_memory.specs.Outcome.{fault_outcome, out_of_memory};
 
-use crate::lent::LentSource;
 use crate::outcome::{BAD_OPTIONS, DONE, NOT_CONFIRMED, Outcome, ending, fault_outcome};
 use crate::simulation::circuit_of;
-use aig_core::{Checked, LARGEST};
+use aig_core::LARGEST;
+use aig_dump::judged;
 use aig_engines::ToolFault;
-use aig_step::SimFault;
-use aig_witness::{Verdict, confirm};
+use aig_witness::Verdict;
 use std::alloc::Global;
-
-/// The verdict on a witness file.
-#[tactic(auto, using(crate::proofs::Lents::not_judged))]
-pub(crate) fn judged(alloc: Global, found: &Checked, witness: &[u8]) -> Result<Verdict, SimFault>
-    ensures ok { IfOk result (IsVerdictFor found.now witness.now) }
-    ensures err { IfErr result (λ fault.
-        IsBadWitness found.now witness.now fault ⊎ (sim_outcome fault ≡ out_of_memory)) }
-{
-    let mut source = LentSource::new(witness)?;
-    let judged = confirm(alloc, found, &mut source);
-    source.gives_its_bytes();
-    judged
-}
 
 /// The verdict on a witness file for the circuit of a model.
 fn verdict(alloc: Global, max_var: u32, model: &[u8], witness: &[u8]) -> Result<Verdict, ToolFault>
