@@ -20,8 +20,7 @@ use std::alloc::Global;
 #[tactic(auto, using(crate::proofs::Lents::not_judged))]
 pub fn judged(alloc: Global, found: &Checked, witness: &[u8]) -> Result<Verdict, SimFault>
     ensures ok { IfOk result (IsVerdictFor found.now witness.now) }
-    ensures err { IfErr result (λ fault.
-        IsBadWitness found.now witness.now fault ⊎ WantsMemory fault) }
+    ensures err { IfErr result (λ fault. IsBadWitness found.now witness.now fault ⊎ WantsMemory fault) }
 {
     let mut source = LentSource::new(witness)?;
     let judged = confirm(alloc, found, &mut source);
@@ -35,8 +34,7 @@ pub fn dump(alloc: Global, found: &Checked, stimulus: &[u8]) -> Result<Vec<u8>, 
     ensures none_bad { IfOk result (λ _. first_bad_line found.now stimulus.now true ≡ None) }
     ensures text { IfOk result (λ text. (trace : List ℕ)
         × IsTraceText found.now Properties stimulus.now true trace × (text.items ≡ wave_text found.now trace true)) }
-    ensures err { IfErr result (λ fault.
-        IsBadStimulus found.now stimulus.now fault ⊎ WantsMemory fault) }
+    ensures err { IfErr result (λ fault. IsBadStimulus found.now stimulus.now fault ⊎ WantsMemory fault) }
 {
     let mut source = LentSource::new(stimulus)?;
     let room = WaveRoom::new(alloc, found)?;

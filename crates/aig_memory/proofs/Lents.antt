@@ -16,7 +16,7 @@ use Rattle.aig_memory.specs.Outcome.{IsPlaced, fault_outcome, out_of_memory, sim
 use Rattle.aig_memory.specs.declared.outcome.Outcome.{Outcome}
 
 -- a fault that blames no line tells that memory was refused
-pub told : (fault : SimFault) → WantsMemory fault → sim_outcome fault ≡ out_of_memory
+told : (fault : SimFault) → WantsMemory fault → sim_outcome fault ≡ out_of_memory
 told fault (inl is) = ap sim_outcome is
 told fault (inr (inl is)) = ap sim_outcome is
 told fault (inr (inr is)) = ap sim_outcome is
