@@ -267,7 +267,7 @@ def check_symbols(folder):
 
 def check_numbers(program):
     """The header, the Python module and the sources have the same numbers, and the versions are the same."""
-    sources = [(TOP / f"crates/aig_memory/src/{name}.rt").read_text() for name in ("kind", "outcome", "asked")]
+    sources = [(TOP / f"crates/aig_library/src/{name}.rt").read_text() for name in ("kind", "outcome", "asked")]
     there = dict(re.findall(r"pub const ([A-Z_]+): u32 = (\d+);", "".join(sources)))
     here = dict(re.findall(r"\bAIGTOOLS_([A-Z_]+) = (\d+)", (TOP / "include/aigtools.h").read_text()))
     judge("AIGTOOLS_NO_FAULT is 0", here.pop("NO_FAULT") == "0")

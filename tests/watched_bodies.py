@@ -1,5 +1,5 @@
 #!/usr/bin/env python3
-"""Sees that the tests of crates/rows_failures fail with each wrong body tests/watched_bodies/CRATE/NAME.edit.
+"""Sees that the tests of crates/test_failures fail with each wrong body tests/watched_bodies/CRATE/NAME.edit.
 
     tests/watched_bodies.py             puts each into a copy of the sources and runs the tests there, a minute each
     tests/watched_bodies.py --places    sees that each of their old texts stands once, and runs nothing
@@ -21,7 +21,7 @@ import wrong_bodies
 from wrong_bodies import RT, TOP, Unfit, WrongBody
 
 BODIES = TOP / "tests" / "watched_bodies"
-TESTS = "rows_failures"
+TESTS = "test_failures"
 RESULT = re.compile(r"^test result: .* (\d+) passed; (\d+) failed", re.M)
 
 

@@ -6,7 +6,7 @@ ghost use Rattle.aig_io.specs.Devices.{CanFail, took};
 ghost use Rattle.aig_lanes.specs.declared.run.Run.{Run as RunRecord};
 ghost use Rattle.aig_batch.specs.Batched.{NotBatched};
 ghost use Rattle.aig_step.specs.Outcome.{Simulated, Traced, first_bad_line};
-ghost use Rattle.aig_bench.specs.Parts.Benches.{Fits, HasRoomFor, IsBench};
+ghost use Rattle.aig_lanes.specs.Parts.Benches.{Fits, HasRoomFor, IsBench};
 ghost use Rattle.aig_batch.specs.Parts.RunsRead.{PutRuns, Says, entries_of_groups};
 ghost use Rattle.aig_batch.specs.Parts.Sent.{NotTraced, SentSo};
 ghost use Rattle.aig_trace.specs.Parts.Tracing.{IsFresh};
@@ -16,12 +16,11 @@ ghost use Rattle.aig_meaning.specs.Meaning.{MeansTheSame};
 use crate::collected::collect;
 use crate::front::read_front;
 use crate::text_group::run_group;
-use aig_bench::Bench;
 use aig_checked::Checked;
 use aig_io::{DeviceFault, Output, Sink, Source};
-use aig_lanes::RunGroup;
+use aig_lanes::{Bench, RunGroup};
 use aig_step::{Columns, Machine, SimFault};
-use aig_trace::{MOST_INPUTS, Reader, line_room};
+use aig_trace::{MOST_INPUTS, StimulusReader, line_room};
 use std::alloc::Global;
 
 /// Puts the texts of groups, one after the other.
@@ -45,7 +44,7 @@ fn put_groups<W: Sink>(
 
 /// Sends the text for the front of a stimulus that has no bad line, and the text for what comes behind it.
 fn trace_good<W: Sink>(
-    reader: Reader,
+    reader: StimulusReader,
     sink: &mut W,
     groups: &[RunGroup],
     bench: &mut Bench,
@@ -72,7 +71,11 @@ fn trace_good<W: Sink>(
 }
 
 /// Sends the text for a stimulus that has no bad line, all lines of which the reader takes.
-fn trace_lines<W: Sink>(reader: Reader, sink: &mut W, bytes: &[u8]) -> Result<(), DeviceFault>
+fn trace_lines<W: Sink>(
+    reader: StimulusReader,
+    sink: &mut W,
+    bytes: &[u8],
+) -> Result<(), DeviceFault>
     requires fresh { IsFresh reader }
     requires sink { CanFail (W.past sink.old) }
     ensures { (c : CircuitRecord) → MeansTheSame c reader.tracing.circuit
@@ -88,7 +91,7 @@ fn trace_collected<W: Sink>(
     alloc: Global,
     checked: &Checked,
     columns: Columns,
-    reader: Reader,
+    reader: StimulusReader,
     sink: &mut W,
     bytes: &[u8],
 ) -> Result<(), SimFault>
@@ -153,7 +156,7 @@ pub fn simulate_batched<R: Source, W: Sink>(
     ensures err { IfErr result (λ error. NotBatched checked.now columns error
         (R.past source.old) (R.past source.new) (W.past sink.old) (W.past sink.new)) }
 {
-    let reader = Reader::new(alloc, checked, columns)?;
+    let reader = StimulusReader::new(alloc, checked, columns)?;
     let bytes = match collect(alloc, checked, source) {
         Ok(bytes) => bytes,
         Err(fault) => {

@@ -17,7 +17,7 @@ use std::alloc::Global;
 pub(crate) const LANES: usize = 256;
 
 /// How long the first line is, with its line feed; 0 where there is none.
-fn first_stride(bytes: &[u8]) -> usize {
+fn first_line_len(bytes: &[u8]) -> usize {
     match memchr(b'\n', bytes) {
         Some(next) => next + 1,
         None => 0,
@@ -46,7 +46,7 @@ fn read_run<'a>(inputs: usize, bytes: &'a [u8]) -> Option<(Vectors<'a>, &'a [u8]
     ensures fits { IfSome result (λ read. All (λ (vector : List Value). length vector ≡ inputs) read.0.steps) }
     ensures good { IfSome result (λ read. HasNoBadLine inputs read.1.now) }
 {
-    let stride = first_stride(bytes);
+    let stride = first_line_len(bytes);
     let mut steps = 0;
     let mut rest = bytes;
     while let Some(next) = first_end(inputs, rest) {

@@ -4,15 +4,14 @@ ghost use Rattle.std.specs.List.{All};
 ghost use Rattle.aig_circuit.specs.declared.value.Val.{Val as Value};
 ghost use Rattle.aig_io.specs.Output.{Put};
 ghost use Rattle.aig_lanes.specs.declared.run.Run.{Run as RunRecord};
-ghost use Rattle.aig_bench.specs.Parts.Benches.{Fits, HasRoomFor, HasSameRoom, IsBench};
+ghost use Rattle.aig_lanes.specs.Parts.Benches.{Fits, HasRoomFor, HasSameRoom, IsBench};
 ghost use Rattle.aig_lanes.specs.Parts.LaneTexts.{HoldsRun, HoldsRuns, KeepsRun, kept_text, shown_size};
 ghost use Rattle.aig_lanes.specs.Parts.Sheets.{text_in};
 ghost use Rattle.aig_batch.specs.Parts.RunsRead.{kept_texts, text_of_group};
 ghost use Rattle.aig_lanes.specs.Runs.{IsRunOf};
 
-use aig_bench::{Bench, ShownLine};
 use aig_io::{Output, Sink};
-use aig_lanes::{Sheet, Shown, Vectors};
+use aig_lanes::{Bench, LaneColumns, Sheet, ShownLine, Vectors};
 use aig_step::Machine;
 
 /// Puts the line of each step of a run, and the line that ends it.
@@ -20,7 +19,7 @@ fn put_run<W: Sink>(
     output: &mut Output<W>,
     line: &mut [u8],
     run: &Vectors,
-    shown: &Shown,
+    shown: &LaneColumns,
     sheet: &Sheet,
     lane: usize,
 )
@@ -50,7 +49,7 @@ fn put_runs<W: Sink>(
     output: &mut Output<W>,
     line: &mut [u8],
     runs: &[Vectors],
-    shown: &Shown,
+    shown: &LaneColumns,
     sheet: &Sheet,
 )
     requires lanes { length runs.now ≤ 256 }

@@ -8,3 +8,5 @@ pub mod Front
 pub mod Written
 pub mod Canonical
 pub mod Files
+pub mod ReadingOn
+pub mod FileSource

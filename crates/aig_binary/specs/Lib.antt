@@ -6,4 +6,5 @@ pub mod Begun
 pub mod Laws
 pub mod FileLaws
 pub mod File
+pub mod Sources
 pub mod Parts

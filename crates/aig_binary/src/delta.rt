@@ -93,6 +93,7 @@ pub(crate) fn write_delta(bytes: &mut [u8], at: usize, value: u32) -> usize
 }
 
 /// The shortest spelling of a number.
+#[tactic(auto, using(crate::proofs::Deltas::Stored::some_stored))]
 pub fn put_delta(value: u32) -> Delta
     ensures { result ≡ shortest_delta value }
 {
@@ -115,6 +116,7 @@ fn small_only(value: u64, count: usize) -> Option<(u32, usize)>
 /// The number at the front in one to three bytes, and how many they are; none where it has more of them. Most numbers
 /// of a file are as short, and read without a loop.
 #[inline(always)]
+#[tactic(auto, using(crate::proofs::Deltas::Reading::delta_of_one, crate::proofs::Deltas::Reading::delta_of_two, crate::proofs::Deltas::Reading::delta_of_three))]
 fn get_short_delta(bytes: &[u8]) -> Option<(u32, usize)>
     requires { 3 ≤ length bytes.now }
     ensures delta { IfSome result (λ x. delta_at bytes.now ≡ Some (x.0, drop x.1 bytes.now)) }

@@ -34,7 +34,7 @@ fn no_delta(bytes: &[u8]) -> ReadKind
 /// What is left of a literal less the delta at the front, which is at least so much, and what follows it.
 #[inline(always)]
 #[tactic(auto, unfolding(crate::specs::BinaryReading::lowered_at))]
-fn lowered(from: u32, least: u32, bytes: &[u8]) -> Result<(u32, &[u8]), ReadKind>
+fn lower(from: u32, least: u32, bytes: &[u8]) -> Result<(u32, &[u8]), ReadKind>
     ensures literal { GivesOrFails (λ x. (x.0, x.1.now)) result (lowered_at from least bytes.now) }
     ensures shorter { IfOk result (λ x. length x.1.now ≤ length bytes.now) }
 {
@@ -56,8 +56,8 @@ fn next_gate(variable: u32, bytes: &[u8]) -> Result<(Gate, &[u8]), ReadKind>
     ensures gate { GivesOrFails (λ x. (x.0, x.1.now)) result (gate_at variable bytes.now) }
     ensures shorter { IfOk result (λ x. length x.1.now ≤ length bytes.now) }
 {
-    let (left, rest) = lowered(2 * variable, 1, bytes)?;
-    let (right, rest) = lowered(left, 0, rest)?;
+    let (left, rest) = lower(2 * variable, 1, bytes)?;
+    let (right, rest) = lower(left, 0, rest)?;
     let gate = Gate {
         var: Var(variable),
         left: Lit(left),

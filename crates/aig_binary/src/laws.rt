@@ -9,6 +9,7 @@ pub fn shortest_is_delta()
 {}
 
 /// A number has no other shortest spelling.
+#[tactic(auto, using(crate::proofs::Deltas::Shortest::shortest_is_one))]
 pub fn shortest_is_one()
     ensures { ShortestIsOne }
 {}

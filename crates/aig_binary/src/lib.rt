@@ -1,8 +1,8 @@
 //! Binary AIGER files: deltas, the reader and the writer of circuits in binary order. Files of either kind, ASCII or
 //! binary, are read here too.
 //!
-//! Others call `read_file` (`read_file_keeping`), which reads a file of either kind; `read_binary` and `write_binary`;
-//! `aig_unroll` also calls `put_gates`.
+//! Others call `read_file` (`read_file_keeping`), which reads a file of either kind, and `read_source`, which reads a
+//! source to its end, a part at a time; `read_binary` and `write_binary`; `aig_unroll` also calls `put_gates`.
 //!
 //! The definitions that matter most are `IsFileOf`, `IsBinaryText`, `first_binary_fault` and `binary_text`.
 #![tactic(auto)]
@@ -12,13 +12,17 @@ mod file;
 mod gates;
 pub mod laws;
 mod pieces;
+mod piecewise;
 mod reader;
+mod source;
+mod source_fault;
 mod writer;
 
 pub use crate::delta::{Delta, get_delta, put_delta};
 pub use crate::file::{read_file, read_file_keeping};
-pub use crate::pieces::BinaryReader;
 pub use crate::reader::{BINARY_WORD, read_binary};
+pub use crate::source::read_source;
+pub use crate::source_fault::SourceFault;
 pub use crate::writer::{put_gates, write_binary};
 pub use aig_core::{Ordered, is_in_binary_order};
 pub use aig_text::{Limits, ReadFault};

@@ -1,15 +1,14 @@
 //! A binary file whose gates come in pieces.
-ghost use Rattle.std.specs.Prelude.{◌≡◌, ◌+◌, ◌^◌, ◌<◌, ◌≤◌, ◌++◌, ◌⊎◌, ◌↔◌, [], List, ℕ, IfErr, IfOk, IsTrue, Ok};
+ghost use Rattle.std.specs.Prelude.{◌≡◌, ◌+◌, ◌<◌, ◌≤◌, ◌++◌, ◌⊎◌, [], List, ℕ, IfErr, IfOk, Ok};
 ghost use Rattle.std.specs.Prelude.{drop, length};
 ghost use Rattle.aig_circuit.specs.Wellformed.{largest_index};
 ghost use Rattle.aig_rows.specs.Lines.{AreEnded, ahead, lines_of};
-ghost use Rattle.aig_rows.specs.Outcomes.{GivesOrMemory};
 ghost use Rattle.aig_rows.specs.Reading.{want_of_memory};
-ghost use Rattle.aig_text.specs.Begun.{ReadsOn};
 ghost use Rattle.aig_binary.specs.BinaryReading.{binary_at};
 ghost use Rattle.aig_binary.specs.Begun.{AllIsTaken, FitsHeader, HasAllGates, front_at, gates_then, rest_of};
 
 use crate::gates::{read_first_gates, read_gates};
+use crate::piecewise::Pieces;
 use crate::reader::{define, read_front};
 use aig_core::{Circuit, Gate, Listing};
 use aig_text::{Cursor, Header, Limits, ReadFault, tail};
@@ -17,7 +16,7 @@ use std::alloc::Global;
 
 /// A reader of a binary file that takes its gates piece by piece. After a fault it holds that, and takes all bytes.
 #[derive(Drop)]
-pub struct BinaryReader {
+pub(crate) struct BinaryReader {
     /// The header, or the first fault of the gates so far.
     header: Result<Header, ReadFault>,
     /// What the lines in front of the gates told.
@@ -45,7 +44,11 @@ impl BinaryReader {
     }
 
     /// Reads the lines in front of the gates, where these lines have them all, and answers how many bytes they take.
-    pub fn begin(alloc: Global, lines: &[u8], limits: Limits) -> Result<(Self, usize), ReadFault>
+    pub(crate) fn begin(
+        alloc: Global,
+        lines: &[u8],
+        limits: Limits,
+    ) -> Result<(Self, usize), ReadFault>
         requires ended { AreEnded (lines_of lines.now) }
         ensures on { IfOk result (λ x. (more : List ℕ) → binary_at limits.max_var (lines_of (lines.now ++ more))
             ≡ rest_of x.0 (drop x.1 lines.now ++ more)) }
@@ -60,27 +63,31 @@ impl BinaryReader {
         let used = lines.len() - at.rest.len();
         Ok((BinaryReader::new(alloc, header, circuit, at.number), used))
     }
+}
 
-    /// Whether all gates were read.
-    pub fn is_done(&self) -> bool
-        ensures { IsTrue result ↔ HasAllGates self.now.header self.now.gates }
-    {
+impl Pieces for BinaryReader {
+    ghost rest = { rest_of };
+
+    ghost next_line = { λ r. r.number };
+
+    ghost is_valid = { λ r. FitsHeader r.header r.gates };
+
+    ghost has_all = { λ r. HasAllGates r.header r.gates };
+
+    ghost leaves = { λ r. AllIsTaken r.header r.gates };
+
+    fn is_piece(_came: &[u8]) -> bool {
+        true
+    }
+
+    fn is_done(&self) -> bool {
         match &self.header {
             Ok(header) => self.gates.len() == header.gates as usize,
             Err(_) => false,
         }
     }
 
-    /// Reads the gates that the bytes that come next tell. Answers how many bytes it took.
-    pub fn advance(&mut self, bytes: &[u8]) -> usize
-        requires { FitsHeader self.old.header self.old.gates }
-        ensures on { (more : List ℕ) → ReadsOn (rest_of self.old (bytes.now ++ more))
-            (rest_of self.new (drop result bytes.now ++ more)) }
-        ensures within { result ≤ length bytes.now }
-        ensures all { AllIsTaken self.new.header self.new.gates (drop result bytes.now) }
-        ensures number { self.new.number ≡ self.old.number }
-        ensures fits { FitsHeader self.new.header self.new.gates }
-    {
+    fn advance(&mut self, bytes: &[u8]) -> usize {
         let Ok(header) = self.header else {
             return bytes.len();
         };
@@ -94,12 +101,7 @@ impl BinaryReader {
         }
     }
 
-    /// The circuit that the file tells of which the last bytes are these.
-    pub fn finish(self, alloc: Global, bytes: &[u8]) -> Result<Circuit, ReadFault>
-        requires counted { self.number + length bytes.now < 2 ^ 64 }
-        requires fits { FitsHeader self.header self.gates }
-        ensures { GivesOrMemory (λ c. c) result (rest_of self bytes.now) }
-    {
+    fn finish(self, alloc: Global, bytes: &[u8]) -> Result<Circuit, ReadFault> {
         let BinaryReader {
             header,
             circuit,

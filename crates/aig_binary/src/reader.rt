@@ -16,6 +16,7 @@ ghost use Rattle.aig_binary.specs.Begun.{front_at};
 ghost use Rattle.aig_binary.specs.Parts.NextStates.{latches_by};
 
 use crate::pieces::BinaryReader;
+use crate::piecewise::Pieces;
 use aig_core::{Checked, Circuit, Gate, Latch, Listing, Ordered, Var};
 use aig_text::{
     Cursor, Header, Limits, NextState, Place, ReadFault, ReadKind, SECTIONS, Section,
@@ -27,7 +28,7 @@ use std::alloc::Global;
 pub const BINARY_WORD: &[u8] = b"aig";
 
 /// The header, where its definitions are all the variables.
-fn filled(header: Header) -> Result<Header, ReadFault>
+fn check_filled(header: Header) -> Result<Header, ReadFault>
     ensures value { result ≡ at_line 1 (filled header) }
     ensures same { IfOk result (λ h. h ≡ header) }
     ensures all { IfOk result (λ h. h.inputs + h.latches + h.gates ≡ header.max_var) }
@@ -43,6 +44,7 @@ fn filled(header: Header) -> Result<Header, ReadFault>
 }
 
 /// So many inputs, of the first variables.
+#[tactic(auto, using(aig_checked::proofs::Numbered::Ranges::range_more))]
 fn inputs(alloc: Global, count: u32) -> Result<Listing<Var>, ReadFault>
     requires { count < 2 ^ 31 }
     ensures ok { IfOk result (λ found. found ≡ range_with_len 1 count) }
@@ -97,6 +99,7 @@ fn read_latches(
 }
 
 /// Adds what the lines of a section tell of it, and moves behind these lines.
+#[tactic(auto, using(crate::proofs::Stages::nothing_found))]
 fn read_lines(
     alloc: Global,
     section: Section,
@@ -173,7 +176,7 @@ pub(crate) fn read_front(
     ensures limited { IfOk result (λ x. x.0.inputs + x.0.latches + x.0.gates ≤ largest_index) }
 {
     let promised = header(BINARY_WORD, at, limits)?;
-    let header = filled(promised)?;
+    let header = check_filled(promised)?;
     let mut circuit = empty_circuit(alloc, header.max_var);
     if let Err(fault) = read_sections(alloc, &header, &mut circuit, at) {
         drop(circuit);

@@ -105,7 +105,7 @@ pub fn write_binary<W: Sink>(ordered: &Ordered, sink: &mut W) -> Result<(), Writ
     ensures err { OnErr result (TookBeginning (binary_text ordered.now) (W.past sink.old) (W.past sink.new)) }
 {
     let mut output = Output::new(sink);
-    put_text(&mut output, ordered.checked().circuit());
+    put_text(&mut output, ordered.as_checked().circuit());
     let (sent, _sink) = output.finish();
     sent?;
     Ok(())

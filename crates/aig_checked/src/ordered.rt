@@ -188,7 +188,7 @@ impl Ordered {
     }
 
     /// The circuit.
-    pub fn checked(&self) -> &Checked
+    pub fn as_checked(&self) -> &Checked
         ensures value { result.now ≡ self.now }
         ensures ordered { IsInBinaryOrder self.now }
     {

@@ -28,7 +28,7 @@ fn parse<'a>(alloc: Global, words: &'a [String]) -> Result<ArgMatches<'a>, Error
 }
 
 /// What arguments ask for that `clap` takes.
-fn asked(alloc: Global, matches: &ArgMatches<'_>) -> Result<Command, Usage>
+fn read_matches(alloc: Global, matches: &ArgMatches<'_>) -> Result<Command, Usage>
     requires known { is_some (option_and_then asked_by (subcommand_rows_of matches.now)) ≡ true }
     requires within { IfSome (option_and_then asked_by (subcommand_rows_of matches.now)) IsWithinLimits }
     ensures answer { IfSome (option_and_then asked_by (subcommand_rows_of matches.now)) (λ asked.
@@ -106,7 +106,7 @@ pub fn command(alloc: Global, words: &[String]) -> Result<Command, Usage>
     ensures err { IfErr result (IsUsage (texts words.now)) }
 {
     match parse(alloc, words) {
-        Ok(matches) => asked(alloc, &matches),
+        Ok(matches) => read_matches(alloc, &matches),
         Err(error) => not_taken(alloc, words, &error),
     }
 }

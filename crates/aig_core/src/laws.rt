@@ -11,16 +11,19 @@ pub use aig_circuit::laws::largest_is_the_largest_index;
 pub use aig_io::laws::room_is_the_block_size;
 
 /// A circuit in form is well formed exactly where the check finds no fault.
+#[tactic(auto, using(crate::proofs::Checking::Faultless::faultless_is_well_formed))]
 pub fn faultless_is_well_formed()
     ensures { FaultlessIsWellFormed }
 {}
 
 /// A well-formed circuit defines at most as many variables as its largest index.
+#[tactic(auto, using(aig_circuit::proofs::Checking::Fitting::definitions_fit))]
 pub fn definitions_fit()
     ensures { DefinitionsFit }
 {}
 
 /// A well-formed circuit keeps to its form, so each of its literals is in range.
+#[tactic(auto, using(aig_circuit::proofs::Checking::Fitting::well_formed_in_form))]
 pub fn well_formed_is_in_form()
     ensures { WellFormedIsInForm }
 {}
@@ -38,11 +41,13 @@ pub fn gates_have_one_order()
 {}
 
 /// Where each variable is defined once, gates have a rank exactly where the least ready order has every gate.
+#[tactic(auto, using(aig_topo::proofs::Ordering::Ranked::rank_exactly_where_all_are_ordered))]
 pub fn rank_exactly_where_all_are_ordered()
     ensures { RankExactlyWhereAllAreOrdered }
 {}
 
 /// A gate is in the least ready order exactly where it does not depend on a cycle.
+#[tactic(auto, using(aig_topo::proofs::Ordering::Cyclic::ordered_exactly_where_it_ends))]
 pub fn ordered_exactly_where_it_ends()
     ensures { OrderedExactlyWhereItEnds }
 {}
@@ -71,6 +76,7 @@ pub fn faults_are_reported_exactly()
 
 /// The first fault of a circuit is a cycle exactly where each variable is defined once, each used literal is known, and
 /// the gates have no rank.
+#[tactic(auto, using(crate::proofs::Checking::Reported::cycle_exactly_where_no_rank))]
 pub fn cycle_exactly_where_no_rank()
     ensures { CycleExactlyWhereNoRank }
 {}

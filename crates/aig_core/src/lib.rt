@@ -25,7 +25,7 @@ pub use aig_circuit::{
 };
 pub use aig_io::{
     Block, DeviceFault, MOST_DIGITS, MemorySink, MemorySource, Output, ROOM, ReadError, ReadSource,
-    Sink, Source, Window, WriteSink, read_all, read_to_end,
+    Sink, SliceSource, Source, VecSink, Window, WriteSink, read_all, read_to_end,
 };
 pub use aig_tables::VarMap;
 pub use aig_topo::{Order, gate_order};

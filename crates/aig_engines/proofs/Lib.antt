@@ -9,6 +9,4 @@ pub mod WitnessesUnrolled
 pub mod Texts
 pub mod Dumps
 pub mod WitnessDumps
-pub mod Begun
-pub mod BinaryPieces
-pub mod Pieces
+pub mod SourceFaults

@@ -18,8 +18,8 @@ use Rattle.aig_witness.specs.declared.verdict.Verdict.{Verdict}
 use Rattle.aig_witness.specs.Witness.{Claim}
 use Rattle.aig_binary.proofs.Files.{one_circuit}
 use Rattle.aig_engines.specs.File.{IsFileOf}
-use Rattle.aig_engines.specs.WitnessDump.{IsRunDump, IsWitnessDumpText, comment_line, reset_to, started_in}
-use Rattle.aig_engines.specs.WitnessDump.{with_resets}
+use Rattle.aig_claims.specs.RunDump.{IsRunDump, comment_line, reset_to, started_in, with_resets}
+use Rattle.aig_engines.specs.WitnessDump.{IsWitnessDumpText}
 use Rattle.aig_engines.specs.WitnessDumpLaws.{VerdictsHaveDumps, WitnessDumpsAreKept, WitnessDumpsAreUnambiguous}
 use Rattle.aig_engines.proofs.Dumps.{shown_alike, show_back}
 use Rattle.aig_engines.proofs.Meant.{converted_file}

@@ -4,7 +4,6 @@ pub mod Simulation
 pub mod Unrolling
 pub mod Blame
 pub mod Reading
-pub mod Begun
 pub mod Outcome
 pub mod WitnessOutcome
 pub mod WitnessDump

@@ -29,7 +29,7 @@ pub enum Ready {
 
 /// What is wanted of the check later: a binary image of the circuit that is read needs an order of its gates. ASCII
 /// needs none, and a circuit that is undone comes from gates in order.
-fn kept(request: &ToAig) -> Keep {
+fn what_to_keep(request: &ToAig) -> Keep {
     if request.ascii || request.undo_map {
         Keep::Circuit
     } else {
@@ -38,7 +38,7 @@ fn kept(request: &ToAig) -> Keep {
 }
 
 /// The circuit without its symbols and its comment, where the request asks for that.
-fn changed(alloc: Global, request: &ToAig, circuit: Checked) -> Checked
+fn strip_if_asked(alloc: Global, request: &ToAig, circuit: Checked) -> Checked
     ensures { result ≡ changed request.now circuit }
 {
     if !request.strip {
@@ -53,7 +53,7 @@ fn changed(alloc: Global, request: &ToAig, circuit: Checked) -> Checked
 }
 
 /// The circuit whose mapped image was read, where the request asks to undo the map.
-fn undone(alloc: Global, request: &ToAig, found: Checked) -> Result<Checked, MapFault>
+fn undo_if_asked(alloc: Global, request: &ToAig, found: Checked) -> Result<Checked, MapFault>
     ensures ok { IfOk result (λ source. IsSource request.now.undo_map found source) }
     ensures err { IfErr result (λ e. (request.now.undo_map ≡ true) × IsMapFault found e) }
 {
@@ -131,9 +131,9 @@ impl Engine for ToAig {
     }
 
     fn read<R: Source>(&self, alloc: Global, source: &mut R) -> Result<Ready, ToolFault> {
-        let found = read_circuit(alloc, source, self.max_var, kept(self))?;
-        let source_circuit = undone(alloc, self, found)?;
-        let circuit = changed(alloc, self, source_circuit);
+        let found = read_circuit(alloc, source, self.max_var, what_to_keep(self))?;
+        let source_circuit = undo_if_asked(alloc, self, found)?;
+        let circuit = strip_if_asked(alloc, self, source_circuit);
         Ok(make_ready(alloc, self, circuit)?)
     }
 

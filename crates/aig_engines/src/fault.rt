@@ -3,8 +3,9 @@ ghost use Rattle.std.specs.Prelude.{◌≡◌, ◌↔◌, IsTrue, Some};
 ghost use Rattle.aig_engines.specs.Messages.{error_text};
 ghost use Rattle.aig_engines.specs.declared.fault.ToolFault.TheVariants.{Map, OutOfMemory, Read, Sim, Sink, Unroll};
 ghost use Rattle.aig_engines.specs.Blame.{at_fault, Memory};
-ghost use Rattle.aig_engines.specs.Reading.{tool_fault_of};
+ghost use Rattle.aig_engines.specs.Reading.{fault_of_source};
 
+use aig_binary::SourceFault;
 use aig_core::ReadError;
 use aig_order::MapFault;
 use aig_step::SimFault;
@@ -73,13 +74,14 @@ impl fmt::Display for ToolFault {
 
 impl Error for ToolFault {}
 
-impl From<ReadError> for ToolFault {
-    ghost from_gives = { λ error fault. fault ≡ tool_fault_of error };
+impl From<SourceFault> for ToolFault {
+    ghost from_gives = { λ error fault. fault ≡ fault_of_source error };
 
-    fn from(error: ReadError) -> ToolFault {
+    fn from(error: SourceFault) -> ToolFault {
         match error {
-            ReadError::Source => ToolFault::Source,
-            ReadError::OutOfMemory => ToolFault::OutOfMemory,
+            SourceFault::Source(ReadError::Source) => ToolFault::Source,
+            SourceFault::Source(ReadError::OutOfMemory) => ToolFault::OutOfMemory,
+            SourceFault::File(fault) => ToolFault::Read(fault),
         }
     }
 }

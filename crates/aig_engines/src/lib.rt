@@ -2,12 +2,11 @@
 //!
 //! Others call `run_toaig`, `run_witness` and `run_unroll`, which work over any source and sink; `read_circuit`; the
 //! trait `Engine`; and what is reported on standard error. The engine of `aigsim` stands above, in `aig_tools`, since
-//! it needs `aig_batch`, which stands beside this crate.
+//! it needs `aig_dump`, which stands beside this crate.
 //!
 //! The definitions that matter most are `IsConversionText`, `IsSimulationText`, `IsUnrollingText` and `Headline`.
 #![tactic(auto)]
 
-mod binary;
 mod conversion;
 pub mod dump_laws;
 mod engine;

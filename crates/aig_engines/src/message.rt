@@ -16,7 +16,7 @@ use aig_core::{Output, Sink};
 use aig_step::SimFault;
 
 /// A file by its name, and a stream by `-`.
-fn shown(name: &Option<String>) -> &str
+fn name_or_dash(name: &Option<String>) -> &str
     ensures { result.now ≡ shown (name_of name.now) }
 {
     match name {
@@ -107,8 +107,10 @@ fn name_at_fault<'a, T: Engine>(request: &'a T, fault: &ToolFault) -> &'a str
         (at_fault fault.now) }
 {
     match fault {
-        ToolFault::Sink | ToolFault::Sim(SimFault::WriteFailed) => shown(request.destination()),
-        _ => shown(request.source()),
+        ToolFault::Sink | ToolFault::Sim(SimFault::WriteFailed) => name_or_dash(
+            request.destination(),
+        ),
+        _ => name_or_dash(request.source()),
     }
 }
 
@@ -119,8 +121,8 @@ fn simulation_name_at_fault<'a>(request: &'a Sim, fault: &ToolFault) -> &'a str
     match fault {
         ToolFault::Sink | ToolFault::Sim(SimFault::WriteFailed) => "-",
         ToolFault::Sim(SimFault::BadStimulus(_) | SimFault::BadWitness(_) | SimFault::ReadFailed) =>
-            shown(&request.stimulus),
-        _ => shown(&request.model),
+            name_or_dash(&request.stimulus),
+        _ => name_or_dash(&request.model),
     }
 }
 

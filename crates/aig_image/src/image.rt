@@ -67,7 +67,7 @@ pub fn sort_operands(gates: Listing<Gate>) -> Listing<Gate>
 }
 
 /// The circuit by these numbers, the larger operand of each gate first, in the same memory.
-fn renumbered(numbers: &Numbers, circuit: Circuit) -> Circuit
+fn renumber(numbers: &Numbers, circuit: Circuit) -> Circuit
     requires { FitIntoLiterals (number_of numbers.now) }
     ensures { result ≡ record (with_operands_sorted (relabelled (number_of numbers.now) circuit)) {
       max_var = numbers.now.noted;
@@ -144,7 +144,7 @@ impl Renumbering {
         ensures { IsBinaryImage circuit result }
     {
         let gates = self.taken.unwrap_or(circuit.gates);
-        Ordered::from_well_ordered(renumbered(&self.numbers, Circuit { gates, ..circuit }))
+        Ordered::from_well_ordered(renumber(&self.numbers, Circuit { gates, ..circuit }))
     }
 }
 

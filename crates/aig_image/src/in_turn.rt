@@ -27,7 +27,7 @@ pub(crate) struct InTurn {
 
 /// A literal by the new number of its variable, none where that has none yet. A constant stays.
 #[inline(always)]
-fn numbered(numbers: &Numbers, literal: Lit) -> Option<Lit>
+fn by_new_number(numbers: &Numbers, literal: Lit) -> Option<Lit>
     requires { FitIntoLiterals (number_of numbers.now) }
     ensures known { IfSome result (λ _. HasNumber numbers.now literal) }
     ensures literal { IfSome result (λ l. l ≡ relabelled_literal (number_of numbers.now) literal) }
@@ -52,10 +52,10 @@ fn next_gate(numbers: &mut Numbers, gate: Gate) -> Result<Option<Gate>, AllocErr
     ensures numbers { IfOk result (λ some. IfSome some (λ _.
         numbers.new.numbers ≡ with_new numbers.old.numbers gate.var (numbers.old.noted + 1))) }
 {
-    let Some(left) = numbered(numbers, gate.left) else {
+    let Some(left) = by_new_number(numbers, gate.left) else {
         return Ok(None);
     };
-    let Some(right) = numbered(numbers, gate.right) else {
+    let Some(right) = by_new_number(numbers, gate.right) else {
         return Ok(None);
     };
     numbers.note(gate.var)?;

@@ -6,6 +6,7 @@ ghost use Rattle.aig_image.specs.Laws.{ImageMeansTheSame, ImageKeepsTraces};
 
 /// Renumbering is one to one from the variables that a well-formed circuit defines onto the numbers from 1 up to the
 /// count of its inputs, latches and gates.
+#[tactic(auto, using(crate::proofs::Numbering::OneToOne::one_to_one))]
 pub fn renumbering_is_one_to_one()
     ensures { RenumberingIsOneToOne }
 {}
@@ -26,11 +27,13 @@ pub fn image_is_one()
 {}
 
 /// A well-formed circuit in binary order is its own binary image.
+#[tactic(auto, using(crate::proofs::Imaging::OwnImage::own_image))]
 pub fn ordered_is_its_own_image()
     ensures { OrderedIsItsOwnImage }
 {}
 
 /// A circuit by other variables, with its gates in another order and the operands of each in either, means the same.
+#[tactic(auto, using(crate::proofs::Meaning::Renamed::renamed_means_the_same))]
 pub fn renamed_means_the_same()
     ensures { RenamedMeansTheSame }
 {}

@@ -191,6 +191,7 @@ impl Numbers {
 
     /// The new numbers of a circuit's variables if its gates stand in order, each after those that it uses; otherwise
     /// None.
+    #[tactic(auto, using(crate::proofs::Numbering::Noted::few))]
     pub(crate) fn of_ordered(alloc: Global, circuit: &Circuit) -> Result<Option<Self>, AllocError>
         requires { length circuit.now.inputs + length circuit.now.latches + length circuit.now.gates ≤ LARGEST }
         ensures numbers { IfOk result (λ some. IfSome some (λ n. AreNumbered n

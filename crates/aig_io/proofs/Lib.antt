@@ -6,3 +6,4 @@ pub mod Outgoing
 pub mod Puts
 pub mod Filled
 pub mod Windows
+pub mod Lents

@@ -7,3 +7,4 @@ pub mod Digits
 pub mod Memory
 pub mod Streams
 pub mod Laws
+pub mod Lent

@@ -50,6 +50,7 @@ fn short_len(number: u64) -> usize
 
 /// How many digits a number has.
 #[inline]
+#[tactic(auto, using(crate::proofs::DigitCounts::ten_less))]
 fn decimal_len(number: u64) -> usize
     ensures value { result ≡ length (decimal number) }
     ensures short { result ≤ MOST_DIGITS }
@@ -134,6 +135,7 @@ fn write_eight_digits(bytes: &mut [u8], at: usize, number: u32)
 }
 
 /// Writes a number of nine to sixteen digits, as `write_number` writes a number.
+#[tactic(auto, using(std::proofs::Common::append_assoc, crate::proofs::LeadingDigits::double_text))]
 fn write_double_number(bytes: &mut [u8], at: usize, number: u64) -> usize
     requires high { 10 ^ 8 ≤ number }
     requires low { number < 10 ^ 16 }

@@ -1,8 +1,9 @@
 //! The devices that bytes come from and go to, and output in blocks.
 //!
 //! Others call `read_all` and `read_to_end`, which read a source to its end; `Window`, which holds a part of its
-//! bytes; `Output`, which sends a text to a sink in blocks; and the devices: `MemorySource` and `MemorySink` in memory,
-//! `ReadSource` and `WriteSink` over std's readers and writers. All of them are a `Source` or a `Sink`.
+//! bytes; `Output`, which sends a text to a sink in blocks; and the devices: `SliceSource` and `VecSink` over
+//! bytes in memory, `ReadSource` and `WriteSink` over std's readers and writers, and for tests `MemorySource` and
+//! `MemorySink`, of which a call can be chosen to fail. All of them are a `Source` or a `Sink`.
 //!
 //! The definitions that matter most are `Past`, `TookBeginning` and `Put`.
 #![tactic(auto)]
@@ -11,6 +12,7 @@ mod block;
 mod device;
 mod digits;
 pub mod laws;
+mod lent;
 mod line;
 mod memory;
 mod output;
@@ -22,6 +24,7 @@ mod window;
 pub use crate::block::{Block, ROOM};
 pub use crate::device::{DeviceFault, Sink, Source};
 pub use crate::digits::MOST_DIGITS;
+pub use crate::lent::{SliceSource, VecSink};
 pub use crate::line::Line;
 pub use crate::memory::{MemorySink, MemorySource};
 pub use crate::output::Output;

@@ -156,7 +156,7 @@ impl MemorySink {
     }
 
     /// The bytes that it took.
-    pub fn taken(&self) -> &[u8]
+    pub fn bytes(&self) -> &[u8]
         ensures { result.now ≡ self.now.past.bytes }
     {
         self.taken.as_slice()

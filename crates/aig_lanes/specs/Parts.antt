@@ -1,3 +1,4 @@
+pub mod Benches
 pub mod Lanes
 pub mod Groups
 pub mod Sheets

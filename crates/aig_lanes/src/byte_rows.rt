@@ -57,6 +57,7 @@ fn write_bits(line: &mut [u8], at: usize, ones: &[u8], zeros: &[u8], place: usiz
 
 /// Puts bytes over others, from a place on.
 #[inline(always)]
+#[tactic(auto, using(crate::proofs::Side::Eights::overwritten_whole))]
 fn overwrite(bytes: &mut [u8], at: usize, part: &[u8])
     requires { at + length part.now ≤ length bytes.old }
     ensures { bytes.new ≡ overwritten at part.now bytes.old }
@@ -93,6 +94,7 @@ impl ByteRows {
 
     /// Puts the bytes of literals, from a place on, as far as there are places.
     #[inline(always)]
+    #[tactic(auto, using(crate::proofs::Side::Eights::text_size, crate::proofs::Side::Sheets::rows_with, std::proofs::lemmas::List::with_items_is, crate::proofs::Side::Eights::overwritten_size, crate::proofs::Side::Eights::texts_overwritten))]
     pub(crate) fn put(&mut self, at: usize, ones: &[u8], zeros: &[u8])
         requires { length ones.now ≡ length zeros.now }
         ensures { (place : ℕ) → bytes_text place self.new
@@ -110,6 +112,7 @@ impl ByteRows {
 
     /// Writes the characters that so many literals, from one on, have in a lane, from a place on.
     #[inline(always)]
+    #[tactic(auto, using(crate::proofs::Side::Sheets::text_long, crate::proofs::Side::Sheets::rows_with, crate::proofs::Side::Sheets::zip_take, crate::proofs::Side::Sheets::zip_drop))]
     pub(crate) fn write(&self, line: &mut [u8], at: usize, from: usize, count: usize, place: usize)
         requires lane { place < 8 }
         requires has { from + count ≤ length (bytes_text place self.now) }

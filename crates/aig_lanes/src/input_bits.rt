@@ -33,7 +33,7 @@ fn other_than(text: &[u8], first: usize, character: u8) -> u64
 }
 
 /// The characters from one on, fewer than 64, and zeros behind them.
-fn padded(text: &[u8], first: usize) -> [u8; 64]
+fn pad(text: &[u8], first: usize) -> [u8; 64]
     requires { first ≤ length text.now × length text.now < first + 64 }
     ensures { (k : ℕ) → first + k < length text.now
         → slice_index_or result k 0 ≡ slice_index_or text.now (first + k) 0 }
@@ -56,7 +56,7 @@ fn word_of(text: &[u8], first: usize) -> InputWord
             zero: other_than(text, first, b'1'),
         };
     }
-    let rest = padded(text, first);
+    let rest = pad(text, first);
     InputWord {
         one: other_than(&rest, 0, b'0'),
         zero: other_than(&rest, 0, b'1'),

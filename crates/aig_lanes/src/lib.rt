@@ -1,28 +1,28 @@
 //! Steps of 256 runs side by side, a lane for each.
 //!
-//! Others call what `aig_bench` steps runs with: their inputs as bits, the tables of a step, `Shown` and `Sheet`.
+//! Others call `Bench`, which steps the runs of a group, or a step in each lane; `Vectors` and `RunGroup`, which are its
+//! inputs; and `LaneColumns`, `Sheet` and `ShownLine` for the lines of the steps.
 //!
-//! The definitions that matter most are `IsRunOf` and `IsTraceOf`.
+//! The definitions that matter most are `IsBench`, `IsRunOf` and `IsTraceOf`.
 #![tactic(auto)]
 
+mod bench;
 mod byte_rows;
-mod group;
 mod input_bits;
 mod input_planes;
+mod lane_columns;
 mod lanes;
 mod planes;
 mod run;
 mod sheets;
-mod shown;
+mod shown_line;
+mod tables;
 mod transposed;
 mod vectors;
 
-pub use crate::group::new_table;
-pub use crate::input_bits::{BlockBits, InputWord, fill_across, fill_bits, new_bits};
-pub use crate::input_planes::put_vectors;
-pub use crate::lanes::assign_lanes;
-pub use crate::planes::Plane;
+pub use crate::bench::Bench;
+pub use crate::lane_columns::LaneColumns;
 pub use crate::run::{FullRow, Run, Trace};
 pub use crate::sheets::Sheet;
-pub use crate::shown::Shown;
-pub use crate::vectors::{RunGroup, Vectors, longest};
+pub use crate::shown_line::ShownLine;
+pub use crate::vectors::{RunGroup, Vectors};

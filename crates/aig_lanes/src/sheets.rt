@@ -11,7 +11,7 @@ ghost use Rattle.aig_step.specs.TraceText.{character_of, values_text};
 
 use crate::byte_rows::ByteRows;
 use crate::planes::Plane;
-use crate::transposed::transposed;
+use crate::transposed::transpose;
 use crate::vectors::{RunGroup, Vectors};
 use aig_circuit::{Listing, OutOfMemory, Val};
 use std::alloc::{AllocError, Global};
@@ -155,8 +155,8 @@ impl Sheet {
         put_bytes(
             &mut self.byte_rows,
             at,
-            &transposed(planes, 0),
-            &transposed(planes, 1),
+            &transpose(planes, 0),
+            &transpose(planes, 1),
         );
     }
 

@@ -44,7 +44,7 @@ fn in_turn(one: u8x32, other: u8x32) -> (u8x32, u8x32)
 
 /// The bytes of eight rows, taken in turn from the first half of the rows and from the second.
 #[inline(always)]
-fn woven(rows: [u8x32; 8]) -> [u8x32; 8]
+fn weave(rows: [u8x32; 8]) -> [u8x32; 8]
     ensures { (m : ℕ) → m < 256 → byte_at m result ≡ byte_at (m / 2 + 128 * (m % 2)) rows }
 {
     let mut between = [u8x32::splat(0); 8];
@@ -72,11 +72,11 @@ fn flat(rows: [u8x32; 8]) -> [u8; 256]
 /// the next eight lanes, and so on. A weaving moves the last bit of a byte's place to the front of the place. So three
 /// of them bring the number of the plane, which was before the number of the byte in it, behind that.
 #[inline(always)]
-pub(crate) fn transposed(planes: &[Plane; 16], first: usize) -> [u8; 256]
+pub(crate) fn transpose(planes: &[Plane; 16], first: usize) -> [u8; 256]
     requires { first < 2 }
     ensures { (octet r j : ℕ) → octet < 32 → r < 8 → j < 8
         → bit_at (slice_index_or result (8 * octet + r) 0) j
         ≡ bit_in (8 * octet + j) (slice_index_or planes.now (2 * r + first) []) }
 {
-    flat(woven(woven(woven(rows_of(planes, first)))))
+    flat(weave(weave(weave(rows_of(planes, first)))))
 }

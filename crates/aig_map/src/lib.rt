@@ -1,8 +1,8 @@
 //! Map blocks: what a conversion to binary order changed, as text at the front of a comment.
 //!
 //! `aig_order` calls `map_comment` and `new_map_comment`, which make the comment with a block; `read_block`, which
-//! reads one; and `source_variables`, `positions`, `take_out`, `make_undone`, `tells_comment` and `tells_order`, of
-//! which undoing is made.
+//! reads one; and `source_variables`, `positions_by_place`, `into_recorded`, `make_undone`, `tells_comment` and
+//! `tells_order`, of which undoing is made.
 //!
 //! The definitions that matter most are `block_text`, `IsMappedImage` and `IsUndoneFrom`.
 #![tactic(auto)]
@@ -13,7 +13,6 @@ mod map_block;
 mod map_reading;
 mod map_text;
 mod recorded;
-mod text_sink;
 mod turns;
 mod undone;
 
@@ -22,6 +21,6 @@ pub use crate::fault::MapFault;
 pub use crate::map_block::{MapBlock, MappedGate};
 pub use crate::map_reading::read_block;
 pub use crate::map_text::{KeptVariables, keep_variables, map_comment, new_map_comment};
-pub use crate::recorded::{Recorded, take_out};
-pub use crate::turns::{positions, tells_order};
+pub use crate::recorded::{Recorded, into_recorded};
+pub use crate::turns::{positions_by_place, tells_order};
 pub use crate::undone::{SourceVariables, make_undone, source_variables};

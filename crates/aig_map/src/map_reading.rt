@@ -32,6 +32,7 @@ fn after_text<'a>(bytes: &'a [u8], text: &[u8]) -> Option<&'a [u8]>
 /// The last number of a line, and what follows the line. Whether operands were exchanged is told by one digit in every
 /// good line, which is read by its two bytes.
 #[inline(always)]
+#[tactic(auto, using(crate::proofs::BlockReading::Lines::flag_is_read))]
 fn line_end_number(bytes: &[u8]) -> Option<(u64, &[u8])>
     ensures { Gives (λ x. (x.0, x.1.now)) result (last_number_at bytes.now) }
 {

@@ -13,9 +13,8 @@ ghost use Rattle.aig_map.specs.Parts.Kept.{AreRelabelled, AreVariablesOf, record
 ghost use Rattle.aig_map.specs.Parts.Recorded.{counted_row};
 
 use crate::map_block::MappedGate;
-use crate::text_sink::TextSink;
 use aig_core::{
-    Circuit, DeviceFault, Gate, LARGEST, Latch, Listing, OutOfMemory, Output, Sink, Var,
+    Circuit, DeviceFault, Gate, LARGEST, Latch, Listing, OutOfMemory, Output, Sink, Var, VecSink,
 };
 use aig_image::{Defines, Labels, NamesVariables};
 use aig_text::put_numbers;
@@ -60,7 +59,7 @@ fn put_variables<T: Defines, W: Sink>(output: &mut Output<W>, items: &[T])
 /// What the block records of a gate that had this variable and became another; the first gate of the image has the
 /// variable `first`.
 #[inline(always)]
-fn recorded(first: u32, var: Var, new: &Gate) -> MappedGate
+fn record_of(first: u32, var: Var, new: &Gate) -> MappedGate
     ensures { result ≡ recorded_by first var new.now }
 {
     MappedGate {
@@ -76,7 +75,7 @@ fn mapped_gate<L: Labels>(labels: &L, first: u32, gate: &Gate) -> MappedGate
     requires { FitIntoLiterals (L.label labels.now) }
     ensures { result ≡ mapped_gate (L.label labels.now) first gate.now }
 {
-    recorded(first, gate.var, &gate.relabel(labels))
+    record_of(first, gate.var, &gate.relabel(labels))
 }
 
 /// Puts the line of a gate.
@@ -185,7 +184,7 @@ fn put_new_gates<W: Sink>(output: &mut Output<W>, first: u32, variables: &[Var],
         → Put output.old output.new (flat_map (λ g. numbers_text (gate_row (mapped_gate f first g))) old) }
 {
     for (at, gate) in gates.iter().enumerate() {
-        put_gate(output, recorded(first, variables[at], gate));
+        put_gate(output, record_of(first, variables[at], gate));
     }
 }
 
@@ -265,9 +264,9 @@ pub fn map_comment<L: Labels>(
     requires fits { length circuit.now.inputs + length circuit.now.latches ≤ LARGEST }
     ensures { IfOk result (λ r. r ≡ mapped_comment (block_by (L.label labels.now) circuit.now) circuit.now) }
 {
-    let mut kept = TextSink::with_room(alloc, most_bytes(circuit))?;
+    let mut kept = VecSink::with_room(alloc, most_bytes(circuit))?;
     match write_comment(labels, circuit, &mut kept) {
-        Ok(()) => Ok(kept.into_text()),
+        Ok(()) => Ok(Listing::from_vec(kept.into_vec())),
         // the sink fails only where memory is refused
         Err(_) => Err(OutOfMemory),
     }
@@ -284,9 +283,9 @@ pub fn new_map_comment(
     ensures { (f : ℕ → ℕ) (c : CircuitRecord) → AreVariablesOf variables.now c → circuit.now ≡ relabelled f c
         → IfOk result (λ r. r ≡ mapped_comment (block_by f c) circuit.now) }
 {
-    let mut kept = TextSink::with_room(alloc, most_bytes(circuit))?;
+    let mut kept = VecSink::with_room(alloc, most_bytes(circuit))?;
     match write_new_comment(variables, circuit, &mut kept) {
-        Ok(()) => Ok(kept.into_text()),
+        Ok(()) => Ok(Listing::from_vec(kept.into_vec())),
         // the sink fails only where memory is refused
         Err(_) => Err(OutOfMemory),
     }

@@ -31,7 +31,7 @@ fn exchanges(alloc: Global, gates: &[MappedGate]) -> Result<Vec<bool>, OutOfMemo
 
 /// Takes out of a block what it records beside variables and places. The block is let go, so that it takes no memory
 /// while the source is made.
-pub fn take_out(alloc: Global, block: MapBlock) -> Result<Recorded, OutOfMemory>
+pub fn into_recorded(alloc: Global, block: MapBlock) -> Result<Recorded, OutOfMemory>
     ensures { IfOk result (λ r. IsTakenOutOf block r) }
 {
     let exchanged = exchanges(alloc, block.gates.as_slice())?;

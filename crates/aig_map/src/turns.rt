@@ -6,11 +6,9 @@ ghost use Rattle.std.specs.Option.{IfSome};
 ghost use Rattle.aig_circuit.specs.declared.circuit.TheConstants.{LARGEST};
 ghost use Rattle.aig_topo.specs.Order.{IsLeastReadyOrder};
 ghost use Rattle.aig_circuit.specs.Wellformed.{AreDistinct, defined_variables};
-ghost use Rattle.aig_checked.specs.BinaryOrder.{IsInBinaryOrder};
 ghost use Rattle.aig_map.specs.declared.map_block.MappedGate.{MappedGate as MappedGateRecord};
-ghost use Rattle.aig_map.specs.MapReading.{HasCountsOf, IsWithinBounds};
-ghost use Rattle.aig_map.specs.Undone.{places_recorded, undone};
-ghost use Rattle.aig_map.specs.Parts.Tables.{block_read};
+ghost use Rattle.aig_map.specs.Undone.{undone};
+ghost use Rattle.aig_map.specs.Parts.Tables.{block_read, IsFit};
 ghost use Rattle.aig_map.specs.Parts.Turns.{positions, ready_from, AreLinks, AreTakenInTurn, IsClear};
 
 use crate::map_block::MappedGate;
@@ -18,7 +16,7 @@ use aig_core::{Circuit, Gate, OutOfMemory};
 use std::alloc::Global;
 
 /// The positions in the source, place by place.
-pub fn positions(alloc: Global, gates: &[MappedGate]) -> Result<Vec<u32>, OutOfMemory>
+pub fn positions_by_place(alloc: Global, gates: &[MappedGate]) -> Result<Vec<u32>, OutOfMemory>
     requires few { length gates.now ≤ LARGEST }
     requires once { AreDistinct (map (λ (g : MappedGateRecord). g.place) gates.now) }
     requires there { AllByRecursion (λ (g : MappedGateRecord). g.place < length gates.now) gates.now }
@@ -84,10 +82,7 @@ pub(crate) fn are_taken_in_turn(
 /// Whether the places in a block are the order in which conversion takes the gates of its source, if the source defines
 /// no variable twice; by the positions in the source, place by place.
 pub fn tells_order(alloc: Global, places: &[u32], image: &Circuit) -> Result<bool, OutOfMemory>
-    requires ordered { IsInBinaryOrder image.now }
-    requires counts { HasCountsOf (block_read image.now) image.now }
-    requires bounds { IsWithinBounds (block_read image.now) }
-    requires once { AreDistinct (places_recorded (block_read image.now).gates) }
+    requires fit { IsFit (block_read image.now) image.now }
     requires are { places.now ≡ positions (block_read image.now).gates }
     ensures { (comment : Option (List ℕ))
         → AreDistinct (defined_variables (undone (block_read image.now) comment image.now))

@@ -10,13 +10,12 @@ ghost use Rattle.aig_image.specs.Renumbering.{source_variable};
 ghost use Rattle.aig_image.specs.Reordered.{exchanged_by, exchanged_if, taken};
 ghost use Rattle.aig_map.specs.declared.fault.MapFault.TheVariants.{Forged as IsForged, OutOfMemory as IsOutOfMemory};
 ghost use Rattle.aig_map.specs.declared.map_block.MappedGate.{MappedGate as MappedGateRecord};
-ghost use Rattle.aig_map.specs.MapReading.{HasCountsOf, IsWithinBounds};
+ghost use Rattle.aig_map.specs.MapReading.{IsWithinBounds};
 ghost use Rattle.aig_map.specs.Parts.Placed.{table_of, with_gates};
 ghost use Rattle.aig_map.specs.Parts.Had.{without_gates};
 ghost use Rattle.aig_map.specs.Parts.Confirmed.{DifferWhereExchanged, ExchangesDiffer};
-ghost use Rattle.aig_map.specs.Parts.Tables.{block_read, source_read, ArePut, IsTakenOutOf};
-ghost use Rattle.aig_map.specs.Parts.Turns.{positions};
-ghost use Rattle.aig_map.specs.Undone.{places_recorded, source_variables};
+ghost use Rattle.aig_map.specs.Parts.Tables.{block_read, source_read, ArePut, IsBlockOf};
+ghost use Rattle.aig_map.specs.Undone.{source_variables};
 
 use crate::fault::MapFault;
 use crate::map_block::{MapBlock, MappedGate};
@@ -144,6 +143,7 @@ fn exchanges_equal(exchanged: bool, gate: &Gate) -> bool
 /// Exchanges the operands of the gates that are recorded as exchanged, up to the first one with equal operands. Returns
 /// whether there is none.
 #[inline(never)]
+#[tactic(auto, using(crate::proofs::Confirming::Exchanges::not_all_differ, crate::proofs::Confirming::Exchanges::one_more_exchanged, crate::proofs::Confirming::Exchanges::one_more_differs))]
 fn exchange_recorded(found: &mut [Gate], exchanged: &[bool]) -> bool
     requires { length exchanged.now ≡ length found.old }
     ensures all { OnTrue result (found.new ≡ exchanged_by exchanged.now found.old) }
@@ -183,6 +183,7 @@ fn gates_at_positions(
 }
 
 /// The gates of the source, unless the operands of one are equal and recorded as exchanged.
+#[tactic(auto, using(std::proofs::lemmas::List::take_all, std::proofs::lemmas::List::drop_all))]
 fn source_gates(
     alloc: Global,
     variables: &SourceVariables,
@@ -334,12 +335,8 @@ pub fn make_undone(
     comment: &[u8],
     image: &Circuit,
 ) -> Result<Circuit, MapFault>
-    requires counts { HasCountsOf (block_read image.now) image.now }
-    requires bounds { IsWithinBounds (block_read image.now) }
-    requires once { AreDistinct (places_recorded (block_read image.now).gates) }
+    requires block { IsBlockOf image.now recorded.now places.now comment.now }
     requires variables { variables.now.variables.items ≡ source_variables (block_read image.now) }
-    requires are { places.now ≡ positions (block_read image.now).gates }
-    requires taken { IsTakenOutOf (block_read image.now) recorded.now }
     ensures ok { IfOk result (λ c. c ≡ source_read image.now comment.now) }
     ensures differ { OnOk result (ExchangesDiffer (block_read image.now) image.now) }
     ensures err { IfErr result (λ e. (e ≡ IsOutOfMemory)

@@ -11,6 +11,7 @@ pub use aig_image::laws::{
 };
 
 /// A well-formed circuit has exactly one mapped image, which is well formed and in binary order.
+#[tactic(auto, using(aig_map::proofs::Mapping::MappedOrder::mapped_image_is_one))]
 pub fn mapped_image_is_one()
     ensures { MappedImageIsOne }
 {}

@@ -7,15 +7,13 @@ ghost use Rattle.aig_checked.specs.BinaryOrder.{IsInBinaryOrder};
 ghost use Rattle.aig_map.specs.MapBlock.{IsMappedImage};
 ghost use Rattle.aig_map.specs.MapReading.{block_reading};
 ghost use Rattle.aig_map.specs.Parts.Confirmed.{ExchangesDiffer};
-ghost use Rattle.aig_map.specs.Parts.Tables.{block_read, source_read, IsTakenOutOf};
-ghost use Rattle.aig_map.specs.Parts.Turns.{positions};
-ghost use Rattle.aig_map.specs.Undone.{IsMapFault, IsUndoneFrom, comment_behind, places_recorded, source_variables};
-ghost use Rattle.aig_map.specs.Undone.{undone};
+ghost use Rattle.aig_map.specs.Parts.Tables.{block_read, source_read, IsBlockOf};
+ghost use Rattle.aig_map.specs.Undone.{IsMapFault, IsUndoneFrom, comment_behind, source_variables, undone};
 
 use aig_core::{Checked, Circuit, OutOfMemory, is_defined_once, is_in_binary_order};
 use aig_map::{
-    MapBlock, MapFault, Recorded, SourceVariables, make_undone, positions, read_block,
-    source_variables, take_out, tells_comment, tells_order,
+    MapBlock, MapFault, Recorded, SourceVariables, into_recorded, make_undone, positions_by_place,
+    read_block, source_variables, tells_comment, tells_order,
 };
 use std::alloc::Global;
 
@@ -49,11 +47,7 @@ fn has_image(
     places: &[u32],
     comment: &[u8],
 ) -> Result<bool, OutOfMemory>
-    requires ordered { IsInBinaryOrder image.now }
-    requires read { block_reading image.now ≡ Ok (block_read image.now, comment.now) }
-    requires once { AreDistinct (places_recorded (block_read image.now).gates) }
-    requires are { places.now ≡ positions (block_read image.now).gates }
-    requires taken { IsTakenOutOf (block_read image.now) recorded.now }
+    requires block { IsBlockOf image.now recorded.now places.now comment.now }
     requires differ { ExchangesDiffer (block_read image.now) image.now }
     ensures { IsWellFormed (source_read image.now comment.now)
         → IfOk result (λ is. IsTrue is ↔ IsMappedImage (source_read image.now comment.now) image.now) }
@@ -66,7 +60,7 @@ fn has_image(
 }
 
 /// The source, which is forged where it is well formed and its mapped image is another circuit than this one.
-fn confirm(
+fn confirm_source(
     alloc: Global,
     source: Circuit,
     image: &Checked,
@@ -74,11 +68,7 @@ fn confirm(
     places: &[u32],
     comment: &[u8],
 ) -> Result<Circuit, MapFault>
-    requires ordered { IsInBinaryOrder image.now }
-    requires read { block_reading image.now ≡ Ok (block_read image.now, comment.now) }
-    requires once { AreDistinct (places_recorded (block_read image.now).gates) }
-    requires are { places.now ≡ positions (block_read image.now).gates }
-    requires taken { IsTakenOutOf (block_read image.now) recorded.now }
+    requires block { IsBlockOf image.now recorded.now places.now comment.now }
     requires is { source ≡ source_read image.now comment.now }
     requires differ { ExchangesDiffer (block_read image.now) image.now }
     ensures ok { IfOk result (λ c. c ≡ source) }
@@ -110,12 +100,8 @@ fn source_by_places(
     places: &[u32],
     comment: &[u8],
 ) -> Result<Circuit, MapFault>
-    requires ordered { IsInBinaryOrder image.now }
-    requires read { block_reading image.now ≡ Ok (block_read image.now, comment.now) }
-    requires once { AreDistinct (places_recorded (block_read image.now).gates) }
+    requires block { IsBlockOf image.now recorded.now places.now comment.now }
     requires variables { variables.now.variables.items ≡ source_variables (block_read image.now) }
-    requires are { places.now ≡ positions (block_read image.now).gates }
-    requires taken { IsTakenOutOf (block_read image.now) recorded.now }
     ensures ok { IfOk result (λ c. c ≡ source_read image.now comment.now) }
     ensures formed { IfOk result (λ c. AreDistinct (defined_variables c) → IsWellFormed c) }
     ensures image { IfOk result (λ c. IsWellFormed c → IsMappedImage c image.now) }
@@ -125,7 +111,7 @@ fn source_by_places(
         Ok(source) => source,
         Err(fault) => return Err(fault),
     };
-    confirm(alloc, source, image, recorded, places, comment)
+    confirm_source(alloc, source, image, recorded, places, comment)
 }
 
 /// The source by the block that was read, if it is well formed. The block is let go before there are gates of the
@@ -148,11 +134,11 @@ fn source_by_block(
         Ok(variables) => variables,
         Err(fault) => return Err(fault),
     };
-    let places = match positions(alloc, block.gates.as_slice()) {
+    let places = match positions_by_place(alloc, block.gates.as_slice()) {
         Ok(places) => places,
         Err(_) => return Err(MapFault::OutOfMemory),
     };
-    match take_out(alloc, block) {
+    match into_recorded(alloc, block) {
         Ok(recorded) => source_by_places(
             alloc,
             image,
@@ -184,6 +170,7 @@ fn undo_by_block(
 }
 
 /// The circuit whose mapped image this is, or why there is none.
+#[tactic(auto, using(aig_map::proofs::Sources::Refused::unread))]
 fn recover(alloc: Global, image: &Checked) -> Result<Checked, MapFault>
     ensures ok { IfOk result (λ c. IsUndoneFrom image.now c) }
     ensures fault { IfErr result (λ e. IsMapFault image.now e) }

@@ -153,6 +153,7 @@ fn plain_number(bytes: &[u8]) -> Option<(u64, u8, &[u8])>
 
 /// How many digits stand at the front, where they are one to eight and nine bytes stand there.
 #[inline(always)]
+#[tactic(auto, using(std::proofs::lemmas::Nat::trailing_le))]
 fn short_end(bytes: &[u8]) -> Option<u32>
     ensures { IfSome result (λ end. (0 < end) × (end ≤ 8) × (8 < length bytes.now)) }
 {

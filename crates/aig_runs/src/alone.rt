@@ -12,7 +12,7 @@ use aig_step::{Row, Simulator};
 use std::alloc::{AllocError, Global};
 
 /// The values, in a list of their own.
-fn listed(alloc: Global, values: &[Val]) -> Result<Listing<Val>, AllocError>
+fn list_of(alloc: Global, values: &[Val]) -> Result<Listing<Val>, AllocError>
     ensures { IfOk result (λ list. list ≡ values.now) }
 {
     Ok(Listing::from_vec(Vec::from_slice(alloc, values)?))
@@ -23,12 +23,12 @@ fn full_row(alloc: Global, shown: Row<'_>, given: &Listing<Val>) -> Result<FullR
     ensures { IfOk result (λ full. (row : RowRecord) → IsShown shown.entry row → row.inputs ≡ given.now
         → row_of full ≡ row) }
 {
-    let state = listed(alloc, shown.state)?;
+    let state = list_of(alloc, shown.state)?;
     let inputs = given.copy(alloc)?;
-    let outputs = listed(alloc, shown.outputs)?;
-    let next = listed(alloc, shown.next)?;
-    let bad = listed(alloc, shown.bad)?;
-    let constraints = listed(alloc, shown.constraints)?;
+    let outputs = list_of(alloc, shown.outputs)?;
+    let next = list_of(alloc, shown.next)?;
+    let bad = list_of(alloc, shown.bad)?;
+    let constraints = list_of(alloc, shown.constraints)?;
     Ok(FullRow {
         state,
         inputs,

@@ -8,14 +8,14 @@ ghost use Rattle.aig_lanes.specs.Runs.{IsTraceOf};
 ghost use Rattle.aig_step.specs.declared.trace.Columns.TheVariants.{Properties};
 
 use aig_circuit::{Listing, OutOfMemory};
-use aig_lanes::{Run, Sheet, Shown, Trace};
+use aig_lanes::{LaneColumns, Run, Sheet, Trace};
 use std::alloc::Global;
 
 /// The trace of a run, by what its lane shows. There is a line to write in.
 fn take_trace(
     alloc: Global,
     run: &Run,
-    shown: &Shown,
+    shown: &LaneColumns,
     sheet: &Sheet,
     line: &mut [u8],
     lane: usize,
@@ -41,7 +41,7 @@ fn take_trace(
 pub(crate) fn take_traces(
     alloc: Global,
     runs: &[Run],
-    shown: &Shown,
+    shown: &LaneColumns,
     sheet: &Sheet,
     line: &mut [u8],
 ) -> Result<Vec<Trace>, OutOfMemory>

@@ -136,6 +136,7 @@ impl Code {
 
 /// The value of a literal.
 #[inline(always)]
+#[tactic(auto, using(crate::proofs::Running::Cells::codes_length, crate::proofs::Running::Cells::is_code_at, crate::proofs::Running::Cells::value_at))]
 pub(crate) fn look_up(codes: &[u8], literal: Lit) -> Code
     requires coded { AreCodes codes.now }
     requires below { IsLiteralBelow (length (values_of_bytes codes.now)) literal }
@@ -185,6 +186,7 @@ fn put(codes: &mut [u8], variable: usize, value: Code)
 
 impl Table {
     /// A table for so many variables.
+    #[tactic(auto, using(crate::proofs::Running::Cells::x_are_codes, crate::proofs::Running::Cells::x_length))]
     pub(crate) fn new(alloc: Global, variables: usize) -> Result<Self, AllocError>
         requires { variables < 2 ^ 62 }
         ensures { IfOk result (λ t. length t ≡ variables) }

@@ -78,7 +78,7 @@ impl Machine {
             return Machine::of_ordered(alloc, circuit);
         }
         let image = binary_image(alloc, checked)?;
-        let made = Machine::of_ordered(alloc, image.checked().circuit());
+        let made = Machine::of_ordered(alloc, image.as_checked().circuit());
         drop(image);
         made
     }

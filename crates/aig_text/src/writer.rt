@@ -75,7 +75,8 @@ pub fn put_numbers<W: Sink>(output: &mut Output<W>, first: u64, others: &[u64])
 
 /// The numbers that are written of these: all up to the last one that is not 0, and at least so many.
 #[inline(always)]
-fn shortened(numbers: &[u64], least: usize) -> &[u64]
+#[tactic(auto, using(crate::proofs::Canonical::Shortened::one_less, crate::proofs::Canonical::Shortened::no_less, crate::proofs::Canonical::Shortened::all_needed))]
+fn shorten(numbers: &[u64], least: usize) -> &[u64]
     ensures { result.now ≡ shortened least numbers.now }
 {
     let mut end = numbers.len();
@@ -91,7 +92,7 @@ pub fn put_header<W: Sink>(output: &mut Output<W>, word: &[u8], numbers: &[u64])
     ensures { Put output.old output.new (header_text word.now numbers.now) }
 {
     output.put(word);
-    put_more_numbers(output, shortened(numbers, HEADER_LEAST));
+    put_more_numbers(output, shorten(numbers, HEADER_LEAST));
 }
 
 /// The number that says what a latch with this literal starts at.

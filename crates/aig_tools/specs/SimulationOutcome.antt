@@ -1,50 +1,22 @@
 -- What came of a simulation, or of judging a witness file.
-use Rattle.std.specs.Prelude.{◌≡◌, ◌⊎◌, ℕ, List, Bool, Option, None, Some, MatchBool, false, is_none, true}
-use Rattle.aig_io.specs.Devices.{Origin, Past, TookBeginning, took, unused}
+use Rattle.std.specs.Prelude.{◌≡◌, ◌⊎◌, ℕ, List, Option, None, Some, MatchBool, false, true}
+use Rattle.aig_io.specs.Devices.{Past, took}
 use Rattle.aig_circuit.specs.declared.circuit.Circuit.{Circuit}
 use Rattle.aig_command.specs.Answer.{name_of}
 use Rattle.aig_command.specs.declared.request.Sim.{Sim}
 use Rattle.aig_step.specs.declared.fault.SimFault.{SimFault}
-use Rattle.aig_step.specs.declared.fault.SimFault.TheVariants.{WriteFailed}
-use Rattle.aig_step.specs.declared.trace.Columns.{Columns}
-use Rattle.aig_step.specs.declared.trace.Columns.TheVariants.{Properties}
-use Rattle.aig_batch.specs.Batched.{NotBatched}
-use Rattle.aig_step.specs.Outcome.{NotSimulated, Simulated}
-use Rattle.aig_wave.specs.Wave.{wave_text}
 use Rattle.aig_witness.specs.declared.verdict.Verdict.{Verdict}
 use Rattle.aig_witness.specs.Confirming.{Judged}
+use Rattle.aig_claims.specs.RunDump.{JudgedWith}
+use Rattle.aig_dump.specs.Dumped.{DumpedAs, Ran}
 use Rattle.aig_engines.specs.declared.fault.ToolFault.{ToolFault}
 use Rattle.aig_engines.specs.File.{IsFileOf}
 use Rattle.aig_engines.specs.Outcome.{Done}
 use Rattle.aig_engines.specs.Reading.{HasRead, IsUnreadable, NotRead}
 use Rattle.aig_engines.specs.Simulation.{IsWrittenText, columns_of}
-use Rattle.aig_engines.specs.WitnessDump.{JudgedWith, NotDumpedFor}
+use Rattle.aig_engines.specs.WitnessDump.{NotDumpedFor}
 use Rattle.aig_engines.specs.WitnessOutcome.{NotAnsweredFor, OfSteps, answer_line}
 use Rattle.aig_tools.specs.Named.{DoneBetween, NotReadFrom, OfSource, World, files_read, input_read, source_read}
-
--- What came of a simulation that writes its trace, as a batch or step by step: it succeeded, or ended with a fault.
-abbrev pub Ran : Bool → Circuit → Columns → Option SimFault → (stimulus stimulus_now sink sink_now : Past) → Type 0
-Ran batch c columns None stimulus stimulus_now sink sink_now = Simulated c columns stimulus stimulus_now sink sink_now
-Ran batch c columns (Some fault) stimulus stimulus_now sink sink_now =
-    MatchBool batch (NotBatched c columns fault stimulus stimulus_now sink sink_now)
-    (NotSimulated c columns fault stimulus stimulus_now sink sink_now)
-
--- The trace of a simulation, with all its columns, went to a sink that had taken nothing. This is done with the dump of
--- what that sink took; the dump is ended where the simulation succeeded.
-pub record Dumped (batch : Bool) (c : Circuit) (fault : Option SimFault) (stimulus stimulus_now : Past)
-    (IsDone : List ℕ → Type 0) : Type 0 where
-  pub origin : Origin
-  pub trace : Past
-  pub ran : Ran batch c Properties fault stimulus stimulus_now (unused origin) trace
-  pub done : IsDone (wave_text c trace.bytes (is_none fault))
-
--- What came of a simulation that writes the dump of its trace: the output took the dump; or it failed, and took a
--- beginning of the dump, however the simulation ended.
-abbrev pub DumpedAs : Bool → Circuit → Option SimFault → (stimulus stimulus_now sink sink_now : Past) → Type 0
-DumpedAs batch c fault stimulus stimulus_now sink sink_now =
-    Dumped batch c fault stimulus stimulus_now (λ dump. sink_now ≡ took dump sink)
-    ⊎ ((fault ≡ Some WriteFailed) × ((other : Option SimFault)
-    × Dumped batch c other stimulus stimulus_now (λ dump. TookBeginning dump sink sink_now)))
 
 -- what came of a simulation that writes what the request asks for
 abbrev pub SimulatedAs : Sim → Circuit → Option SimFault → (stimulus stimulus_now sink sink_now : Past) → Type 0

@@ -12,7 +12,6 @@ pub mod laws;
 mod named;
 mod program;
 mod simulation;
-mod tracing;
 mod witnessing;
 
 pub use crate::program::{refuse_for_memory, refuse_words, serve, start};

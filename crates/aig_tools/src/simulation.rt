@@ -5,10 +5,10 @@ ghost use Rattle.aig_engines.specs.Simulation.{columns_of};
 ghost use Rattle.aig_engines.specs.WitnessOutcome.{OfSteps};
 ghost use Rattle.aig_tools.specs.SimulationOutcome.{DoneAs, NotDoneAs, NotTraced, SimulatedAs, Traced};
 
-use crate::tracing::{write_dump, write_trace};
 use crate::witnessing::judge_as_asked;
 use aig_command::Sim;
 use aig_core::{Checked, Keep, Sink, Source};
+use aig_dump::{write_dump, write_trace};
 use aig_engines::{ToolFault, read_circuit};
 use aig_step::{Columns, SimFault};
 use aig_witness::Verdict;

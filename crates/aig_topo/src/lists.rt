@@ -1,8 +1,9 @@
 //! What is still to be asked of each gate, and a list of gates for each gate, in one table.
 ghost use Rattle.std.specs.Prelude.{◌≡◌, ◌≢◌, ◌<◌, ◌≤◌, ℕ, List, [], ◌∷◌, length, map, slice_index_or, slice_set, IfOk};
+ghost use Rattle.std.specs.List.{AllByRecursion};
 ghost use Rattle.std.specs.Option.{IfSome, IfNone};
 ghost use Rattle.aig_circuit.specs.Wellformed.{IsAmong};
-ghost use Rattle.aig_topo.specs.Needs.{linked, needs_of, no_needs, how_many, under};
+ghost use Rattle.aig_topo.specs.Needs.{linked, needs_of, no_needs, how_many, under, AreThere};
 ghost use Rattle.aig_topo.specs.Lists.{needs_in, links_in, first_of, list_in, AreLists, AreNeedsOf};
 ghost use Rattle.aig_topo.specs.Waiting.{needs_by, rest_by};
 
@@ -89,10 +90,12 @@ impl Lists {
     /// What the first gate of a list needs beside the gate that it waits for; nothing, where the list is empty.
     #[inline(always)]
     pub(crate) fn first_rest(&self, list: u32) -> u32
+        requires needs { AreThere (needs_in self.now.rows.items) }
         requires there { list < length self.now.rows.items }
         requires lists { AreLists (links_in self.now.rows.items) }
-        ensures { (u : ℕ) → (us : List ℕ) → list_in self.now.rows.items list ≡ u ∷ us
+        ensures rest { (u : ℕ) → (us : List ℕ) → list_in self.now.rows.items list ≡ u ∷ us
             → linked result ≡ rest_by self.now.rows.items u }
+        ensures there { AllByRecursion (λ h. h < length self.now.rows.items) (linked result) }
     {
         let first = self.rows[list as usize].first;
         if first == 0 {
@@ -130,7 +133,7 @@ impl Lists {
         ensures lists { AreLists (links_in self.new.rows.items) }
         ensures needs { needs_in self.new.rows.items ≡ needs_in self.old.rows.items }
         ensures none { IfNone result (list_in self.old.rows.items list ≡ []) }
-        ensures same { IfNone result (self.new.rows.items ≡ self.old.rows.items) }
+        ensures same { IfNone result (self.new ≡ self.old) }
         ensures first { IfSome result (λ gate.
             list_in self.old.rows.items list ≡ gate ∷ list_in self.new.rows.items list) }
         ensures others { (g : ℕ) → g ≢ list → list_in self.new.rows.items g ≡ list_in self.old.rows.items g }

@@ -56,6 +56,7 @@ fn has_mark(marks: &[u64], number: usize) -> bool
 
 impl Order {
     /// No gate taken, where each waits for so many operands.
+    #[tactic(auto, using(crate::proofs::Ordering::Counted::begins))]
     pub(crate) fn waiting_for(alloc: Global, waiting: Vec<u8>) -> Result<Self, AllocError>
         requires few { length waiting.items ≤ LARGEST }
         requires at_most_two { AllByRecursion (λ w. w ≤ 2) waiting.items }

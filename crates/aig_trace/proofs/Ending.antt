@@ -12,7 +12,7 @@ use Rattle.aig_step.specs.declared.fault.SimFault.TheVariants.{WriteFailed}
 use Rattle.aig_step.specs.declared.trace.Columns.{Columns}
 use Rattle.aig_step.specs.Outcome.{NotSimulated, Simulated, Streamed, first_bad_line}
 use Rattle.aig_trace.specs.Parts.Streaming.{Ends, IsTraced, Simulates, ended_so}
-use Rattle.aig_trace.proofs.SameTexts.{same_meaning_same_text}
+use Rattle.aig_trace_laws.proofs.SameTexts.{same_meaning_same_text}
 
 -- A text was put into an output that held nothing, and nothing of it is left there.
 module _ {W : Type 0} (a b : Out W) (text : List ℕ) (put : Put a b text) (unheld : a.held ≡ []) where

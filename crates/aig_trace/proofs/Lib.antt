@@ -6,7 +6,3 @@ pub mod Shows
 pub mod Traced
 pub mod Waits
 pub mod Ending
-pub mod KnownLines
-pub mod KnownTexts
-pub mod OneText
-pub mod SameTexts

@@ -3,22 +3,22 @@ use Rattle.std.proofs.Common.{◌≡◌, ◌∙◌, ◌<◌, ℕ, List, [], ◌�
 use Rattle.std.proofs.Common.{sym}
 use Rattle.std.proofs.Common.{true, false, ◌++◌, ◌+◌, Bool, Some, None, append_assoc, get_or, take}
 use Rattle.std.proofs.lemmas.List.{take_more}
-use Rattle.aig_bench.specs.declared.bench.Bench.{Bench}
-use Rattle.aig_bench.specs.Parts.Benches.{HasRoomForSteps, IsBench}
+use Rattle.aig_lanes.specs.declared.bench.Bench.{Bench}
+use Rattle.aig_lanes.specs.Parts.Benches.{HasRoomForSteps, IsBench}
 use Rattle.aig_circuit.specs.declared.circuit.Circuit.{Circuit}
 use Rattle.aig_circuit.specs.declared.circuit.Latch.{Latch}
 use Rattle.aig_circuit.specs.declared.value.Val.{Val}
 use Rattle.aig_io.specs.Output.{Out, Put}
 use Rattle.aig_meaning.specs.Meaning.{IsRow, Row, literal_value}
 use Rattle.aig_meaning.specs.Trace.{reset_state, reset_value}
-use Rattle.aig_lanes.specs.declared.shown.Shown.{Shown}
+use Rattle.aig_lanes.specs.declared.lane_columns.LaneColumns.{LaneColumns}
 use Rattle.aig_lanes.specs.Parts.InputBits.{one_step}
 use Rattle.aig_lanes.specs.Parts.LaneTexts.{KeepsRun, KeepsTrace, shown_text}
 use Rattle.aig_lanes.specs.Parts.Sheets.{BytesText, text_in}
 use Rattle.aig_step.specs.declared.trace.Columns.{Columns}
 use Rattle.aig_step.specs.Stimulus.{Entry, Step, Stop, entry_in}
 use Rattle.aig_step.specs.TraceText.{row_text, values_text}
-use Rattle.aig_bench.proofs.ShownTexts.{line_kept}
+use Rattle.aig_lanes.proofs.Benches.ShownTexts.{line_kept}
 use Rattle.aig_trace.specs.declared.waiting.Waiting.{Waiting}
 use Rattle.aig_trace.specs.Parts.Tracing.{Did, HeardLine, IsSameTracer, LineTracing, Moved, TookLine, Tracing, point_of}
 use Rattle.aig_trace.specs.Parts.Waits.{IsSameBench, Serves, ShowsSteps}
@@ -26,14 +26,14 @@ use Rattle.aig_trace.proofs.Going.{goes_one}
 use Rattle.aig_trace.proofs.Traced.{did_twice}
 
 -- the row that a lane shows
-pub record ShowsRow (c : Circuit) (vector : List Val) (shown : Shown) (text : List ℕ) : Type 0 where
+pub record ShowsRow (c : Circuit) (vector : List Val) (shown : LaneColumns) (text : List ℕ) : Type 0 where
   pub row : Row
   pub is_row : IsRow c row
   pub from : row.state ≡ reset_state c
   pub inputs : row.inputs ≡ vector
   pub is : shown_text shown 0 (values_text vector) text ≡ row_text shown.columns row
 
-shown_row : (c : Circuit) (vector : List Val) (shown : Shown) (text : List ℕ) (rows : List Row)
+shown_row : (c : Circuit) (vector : List Val) (shown : LaneColumns) (text : List ℕ) (rows : List Row)
     → KeepsTrace c (vector ∷ []) shown text rows → ShowsRow c vector shown text
 shown_row c vector shown text [] keeps = absurd keeps.traced.1
 shown_row c vector shown text (row ∷ rows) keeps =
@@ -51,7 +51,7 @@ no_values [] none = refl
 no_values (v ∷ vs) none = absurd (omega (arith, none))
 
 -- the line of a step was put, which a lane shows
-pub did_step : {W : Type 0} (t u : Tracing) (a b : Out W) (vector : List Val) (shown : Shown) (sheet : List BytesText)
+pub did_step : {W : Type 0} (t u : Tracing) (a b : Out W) (vector : List Val) (shown : LaneColumns) (sheet : List BytesText)
     (lane : ℕ) → t.circuit.latches ≡ [] → length t.state ≡ length t.circuit.latches
     → u ≡ record t { has_step = true } → shown.columns ≡ t.columns
     → KeepsRun t.circuit (one_step vector) lane shown sheet

@@ -2,4 +2,3 @@ pub use Rattle.aig_step.specs.Stimulus
 pub use Rattle.aig_step.specs.TraceText
 pub use Rattle.aig_step.specs.Outcome
 pub mod Parts
-pub mod Laws

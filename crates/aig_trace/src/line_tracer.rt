@@ -4,7 +4,7 @@ ghost use Rattle.aig_io.specs.Output.{Put};
 ghost use Rattle.aig_trace.specs.Parts.Tracing.{Did, IsSameTracer, point_of};
 ghost use Rattle.aig_trace.specs.Parts.Waits.{MayServe, waiting_in};
 
-use crate::abreast::Abreast;
+use crate::side_by_side::SideBySide;
 use crate::tracer::Tracer;
 use aig_io::{DeviceFault, Output, Sink};
 use aig_lines::LineTaker;
@@ -15,7 +15,7 @@ use std::marker::Model;
 pub(crate) struct LineTracer<'a, W: Sink> {
     tracer: Tracer,
     /// Lines that wait, where the circuit has no latches.
-    abreast: Option<Abreast>,
+    side_by_side: Option<SideBySide>,
     output: Output<'a, W>,
 }
 
@@ -25,20 +25,24 @@ impl<'a, W: Sink> Model for LineTracer<'a, W> {
 
     ghost Value = { LineTracing W };
 
-    ghost view = { λ t. record { tracing = t.tracer; waiting = waiting_in t.abreast; output = t.output } };
+    ghost view = { λ t. record { tracing = t.tracer; waiting = waiting_in t.side_by_side; output = t.output } };
 
-    ghost invariant = { λ t. MayServe t.tracer.circuit t.tracer.columns t.abreast };
+    ghost invariant = { λ t. MayServe t.tracer.circuit t.tracer.columns t.side_by_side };
 }
 
 impl<'a, W: Sink> LineTracer<'a, W> {
     /// The tracer goes on from where it stands.
-    pub(crate) fn new(tracer: Tracer, abreast: Option<Abreast>, output: Output<'a, W>) -> Self
-        requires { MayServe tracer.circuit tracer.columns abreast }
-        ensures { result ≡ record { tracing = tracer; waiting = waiting_in abreast; output = output.entry } }
+    pub(crate) fn new(
+        tracer: Tracer,
+        side_by_side: Option<SideBySide>,
+        output: Output<'a, W>,
+    ) -> Self
+        requires { MayServe tracer.circuit tracer.columns side_by_side }
+        ensures { result ≡ record { tracing = tracer; waiting = waiting_in side_by_side; output = output.entry } }
     {
         LineTracer {
             tracer,
-            abreast,
+            side_by_side,
             output,
         }
     }
@@ -50,8 +54,8 @@ impl<'a, W: Sink> LineTracer<'a, W> {
         ensures same { IsSameTracer self.old.tracing self.new.tracing }
         ensures settled { self.new.waiting ≡ [] }
     {
-        if let Some(abreast) = &mut self.abreast {
-            abreast.settle(&mut self.tracer, &mut self.output);
+        if let Some(side_by_side) = &mut self.side_by_side {
+            side_by_side.settle(&mut self.tracer, &mut self.output);
         }
     }
 
@@ -81,11 +85,11 @@ impl<'a, W: Sink> LineTracer<'a, W> {
     {
         let LineTracer {
             tracer,
-            abreast,
+            side_by_side,
             output,
         } = self;
         drop(tracer);
-        drop(abreast);
+        drop(side_by_side);
         output
     }
 }
@@ -102,9 +106,9 @@ impl<'a, W: Sink> LineTaker for LineTracer<'a, W> {
 
     #[inline(always)]
     fn take(&mut self, text: &[u8]) -> bool {
-        match &mut self.abreast {
+        match &mut self.side_by_side {
             None => self.tracer.take_line(&mut self.output, text),
-            Some(abreast) => abreast.take_line(&mut self.tracer, &mut self.output, text),
+            Some(side_by_side) => side_by_side.take_line(&mut self.tracer, &mut self.output, text),
         }
     }
 }

@@ -5,8 +5,8 @@ ghost use Rattle.aig_step.specs.declared.fault.SimFault.TheVariants.{OutOfMemory
 ghost use Rattle.aig_trace.specs.Parts.Tracing.{IsFresh, PutText};
 ghost use Rattle.aig_trace.specs.Parts.Waits.{MayServe, waiting_in};
 
-use crate::abreast::{Abreast, MOST_INPUTS};
 use crate::line_tracer::LineTracer;
+use crate::side_by_side::{MOST_INPUTS, SideBySide};
 use crate::tracer::{Tracer, line_room};
 use aig_checked::Checked;
 use aig_circuit::OutOfMemory;
@@ -18,30 +18,30 @@ use std::marker::Model;
 
 /// What cuts the bytes of a stimulus into lines, and the tracer for them.
 #[derive(Drop)]
-pub struct Reader {
+pub struct StimulusReader {
     feeder: LineFeeder,
     tracer: Tracer,
     /// What takes lines side by side, where the circuit has no latches.
-    abreast: Option<Abreast>,
+    side_by_side: Option<SideBySide>,
 }
 
-impl Model for Reader {
+impl Model for StimulusReader {
     ghost use Rattle.aig_trace.specs.Parts.Tracing.{Reading};
     ghost use Rattle.aig_trace.specs.Parts.Waits.{MayServe, waiting_in};
 
     ghost Value = { Reading };
 
-    ghost view = { λ r. record { feeder = r.feeder; tracing = r.tracer; waiting = waiting_in r.abreast } };
+    ghost view = { λ r. record { feeder = r.feeder; tracing = r.tracer; waiting = waiting_in r.side_by_side } };
 
-    ghost invariant = { λ r. MayServe r.tracer.circuit r.tracer.columns r.abreast };
+    ghost invariant = { λ r. MayServe r.tracer.circuit r.tracer.columns r.side_by_side };
 }
 
 /// What takes lines side by side, if the circuit has no latches, and not too many inputs.
-fn make_abreast(
+fn make_side_by_side(
     alloc: Global,
     checked: &Checked,
     tracer: &Tracer,
-) -> Result<Option<Abreast>, OutOfMemory>
+) -> Result<Option<SideBySide>, OutOfMemory>
     requires { MeansTheSame checked.now tracer.now.circuit }
     ensures serves { IfOk result (λ made. MayServe tracer.now.circuit tracer.now.columns made) }
     ensures settled { IfOk result (λ made. waiting_in made ≡ []) }
@@ -53,10 +53,10 @@ fn make_abreast(
     if circuit.inputs.len() > MOST_INPUTS {
         return Ok(None);
     }
-    Ok(Some(Abreast::new(alloc, tracer, line_room(checked))?))
+    Ok(Some(SideBySide::new(alloc, tracer, line_room(checked))?))
 }
 
-impl Reader {
+impl StimulusReader {
     /// It stands before the first byte. All room that it needs is made here.
     pub fn new(alloc: Global, checked: &Checked, columns: Columns) -> Result<Self, SimFault>
         ensures same { IfOk result (λ r. MeansTheSame checked.now r.tracing.circuit) }
@@ -65,19 +65,19 @@ impl Reader {
         ensures err { IfErr result (λ e. e ≡ IsOutOfMemory) }
     {
         let tracer = Tracer::new(alloc, checked, columns)?;
-        let Ok(abreast) = make_abreast(alloc, checked, &tracer) else {
+        let Ok(side_by_side) = make_side_by_side(alloc, checked, &tracer) else {
             drop(tracer);
             return Err(SimFault::OutOfMemory);
         };
         let Ok(feeder) = LineFeeder::new(alloc, checked.circuit().inputs.len().max(1)) else {
             drop(tracer);
-            drop(abreast);
+            drop(side_by_side);
             return Err(SimFault::OutOfMemory);
         };
-        Ok(Reader {
+        Ok(StimulusReader {
             feeder,
             tracer,
-            abreast,
+            side_by_side,
         })
     }
 
@@ -94,12 +94,12 @@ impl Reader {
         ensures lines { result.1
             ≡ record { tracing = self.tracing; waiting = self.waiting; output = output.entry } }
     {
-        let Reader {
+        let StimulusReader {
             feeder,
             tracer,
-            abreast,
+            side_by_side,
         } = self;
-        (feeder, LineTracer::new(tracer, abreast, output))
+        (feeder, LineTracer::new(tracer, side_by_side, output))
     }
 
     /// Puts the text for all lines of the bytes up to the first bad one, and ends the run that is going on then, if it

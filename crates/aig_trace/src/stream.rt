@@ -10,7 +10,7 @@ ghost use Rattle.aig_trace.specs.Parts.Streaming.{Ends, IsTraced, ended_so};
 ghost use Rattle.aig_trace.specs.Parts.Tracing.{HasTraced, Task, point_of};
 
 use crate::line_tracer::LineTracer;
-use crate::reader::Reader;
+use crate::reader::StimulusReader;
 use aig_checked::Checked;
 use aig_io::{Output, ROOM, Sink, Source};
 use aig_lines::LineFeeder;
@@ -18,7 +18,7 @@ use aig_step::{Columns, SimFault};
 use std::alloc::Global;
 
 /// How lines end that were taken: the text for them was not sent, or the line of this number is bad, or neither.
-fn ended(failed: bool, good: bool, number: u64) -> Result<(), SimFault>
+fn outcome_of_lines(failed: bool, good: bool, number: u64) -> Result<(), SimFault>
     ensures { result ≡ ended_so failed good number }
 {
     if failed {
@@ -47,7 +47,7 @@ fn trace_chunk<W: Sink>(
     let good = feeder.feed(lines, chunk);
     lines.settle();
     let sent = lines.flush();
-    ended(sent.is_err(), good, feeder.number())
+    outcome_of_lines(sent.is_err(), good, feeder.number())
 }
 
 /// Takes the end of the bytes, and sends the text for it.
@@ -65,7 +65,7 @@ fn trace_end<W: Sink>(feeder: &mut LineFeeder, lines: &mut LineTracer<W>) -> Res
         lines.close();
     }
     let sent = lines.flush();
-    ended(sent.is_err(), good, feeder.number())
+    outcome_of_lines(sent.is_err(), good, feeder.number())
 }
 
 /// Takes all bytes of the source, and sends the text for them.
@@ -129,7 +129,7 @@ pub fn simulate<R: Source, W: Sink>(
         (R.past source.old) (R.past source.new) (W.past sink.old) (W.past sink.new)) }
 {
     let mut block = vec![in alloc; 0; block_room(checked)]?;
-    let reader = match Reader::new(alloc, checked, columns) {
+    let reader = match StimulusReader::new(alloc, checked, columns) {
         Ok(reader) => reader,
         Err(fault) => {
             drop(block);

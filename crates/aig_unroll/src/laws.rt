@@ -13,6 +13,7 @@ pub fn unrolled_is_ordered()
 
 /// Without bad states and constraints, and where all latches start at 0, the unrolled circuit is copies of inputs,
 /// gates and outputs alone.
+#[tactic(auto, using(crate::proofs::Ordering::Plain::plainly_unrolled))]
 pub fn unrolling_is_plain()
     ensures { UnrollingIsPlain }
 {}

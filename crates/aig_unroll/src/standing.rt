@@ -12,6 +12,7 @@ use aig_core::{Gate, Latch, Lit, Reset, Var};
 
 /// What stands for a literal. The sign carries over without a branch.
 #[inline(always)]
+#[tactic(auto, using(crate::proofs::Standings::looked_up))]
 fn stands_for(standing: &[Lit], first_gate: u32, literal: Lit) -> Lit
     requires { HasRoom (length standing.now) first_gate literal }
     ensures { result ≡ stood standing.now first_gate literal }

@@ -58,6 +58,7 @@ fn first_variables(alloc: Global, count: u32) -> Result<Vec<Var>, AllocError>
 }
 
 /// Puts the outputs, the bad states and the gates of one frame at the place of its number.
+#[tactic(auto, using(crate::proofs::Ordering::Frames::row_end))]
 fn put_frame(
     copies: &Frames,
     frame: usize,

@@ -11,11 +11,11 @@ use Rattle.std.specs.List.{AllByRecursion, flat_map}
 use Rattle.aig_circuit.proofs.Checking.InForm.{back, front}
 use Rattle.aig_wave.specs.declared.group.Group.{Group}
 use Rattle.aig_wave.specs.declared.signal.Signal.{Signal}
-use Rattle.aig_wave.specs.declared.tag.Tag.{Tag}
+use Rattle.aig_wave.specs.declared.signal_code.SignalCode.{SignalCode}
 use Rattle.aig_wave.specs.Frames.{frame}
 use Rattle.aig_wave.specs.Wave.{bits, change_text}
 use Rattle.aig_wave.specs.Parts.Groups.{AreBits, AreGroups, Covers, IsWithin, stretch}
-use Rattle.aig_wave.specs.Parts.Tags.{AreIn, bit_text, bits_text, changes_text, IsTag, place_of, signal_in}
+use Rattle.aig_wave.specs.Parts.SignalCodes.{AreIn, bit_text, bits_text, changes_text, IsSignalCode, place_of, signal_in}
 
 bits_within : (g : Group) (s : Signal) (line : List ℕ) → IsWithin g s
     → take s.size (drop (s.start - g.start) (stretch g line)) ≡ bits s line
@@ -44,7 +44,7 @@ module _ (time : ℕ) (g : Group) (before line : List ℕ) where
       ∙ ap (λ (t : List ℕ). take s.size (drop (s.start - g.start) t)) same ∙ bits_within g s line within in
       rw (late, (bytes_eq-Decides (bits s before) (bits s line)).1 alike) refl
 
-  none_change : (ts : List Tag) → (time == 0) ≡ false → stretch g before ≡ stretch g line → Covers g ts
+  none_change : (ts : List SignalCode) → (time == 0) ≡ false → stretch g before ≡ stretch g line → Covers g ts
       → changes_text time before line ts ≡ []
   none_change [] late same covers = refl
   none_change (t ∷ ts) late same covers =
@@ -52,7 +52,7 @@ module _ (time : ℕ) (g : Group) (before line : List ℕ) where
       (no_change (signal_in t) late same covers.0) ∙ none_change ts late same covers.1
 
   -- where the characters of a group are not new, no signal of it changes
-  pub no_changes : (ts : List Tag) (x y : List ℕ) → x ≡ stretch g before → y ≡ stretch g line
+  pub no_changes : (ts : List SignalCode) (x y : List ℕ) → x ≡ stretch g before → y ≡ stretch g line
       → false ≡ ((time == 0) || not (bytes_eq x y)) → Covers g ts → changes_text time before line ts ≡ []
   no_changes ts x y p q old covers =
       let is = both (time == 0) (bytes_eq x y) old in
@@ -75,7 +75,7 @@ module _ (time : ℕ) (before line : List ℕ) (late : (time == 0) ≡ false) wh
       (shown_bit (get_or before s.start 0 == get_or line s.start 0) _)
 
   -- signals of one position that change, as any others do
-  pub bits_change : (ts : List Tag) → AreBits ts → AreIn (length before) ts → AreIn (length line) ts
+  pub bits_change : (ts : List SignalCode) → AreBits ts → AreIn (length before) ts → AreIn (length line) ts
       → bits_text before line ts ≡ changes_text time before line ts
   bits_change [] are low here = refl
   bits_change (t ∷ ts) are low here =
@@ -83,49 +83,49 @@ module _ (time : ℕ) (before line : List ℕ) (late : (time == 0) ≡ false) wh
       (bits_change ts are.1 low.1 here.1)
 
 -- signals of one position stand in a line that has all of their group
-pub in_line : (g : Group) (n : ℕ) (ts : List Tag) → g.end ≤ n → Covers g ts → AreBits ts → AreIn n ts
+pub in_line : (g : Group) (n : ℕ) (ts : List SignalCode) → g.end ≤ n → Covers g ts → AreBits ts → AreIn n ts
 in_line g n [] long covers are = tt
 in_line g n (t ∷ ts) long covers are =
     let last : place_of t + (signal_in t).size ≤ g.end = covers.0.1 in
     let one : (signal_in t).size ≡ 1 = are.0 in
     (omega arith, in_line g n ts long covers.1 are.1)
 
-pub parted_text : (f : Tag → List ℕ) (n : ℕ) (ts front others : List Tag) → front ≡ take n ts
+pub parted_text : (f : SignalCode → List ℕ) (n : ℕ) (ts front others : List SignalCode) → front ≡ take n ts
     → others ≡ drop n ts → flat_map f front ++ flat_map f others ≡ flat_map f ts
 parted_text f n ts front others p q =
     sym (flat_map-append f front others)
-    ∙ ap (flat_map f) (ap₂ (λ (x y : List Tag). x ++ y) p q ∙ take-append-drop n ts)
+    ∙ ap (flat_map f) (ap₂ (λ (x y : List SignalCode). x ++ y) p q ∙ take-append-drop n ts)
 
-pub next_group : (gs : List Group) (i : ℕ) (d : Group) (ts : List Tag) → i < length gs
+pub next_group : (gs : List Group) (i : ℕ) (d : Group) (ts : List SignalCode) → i < length gs
     → AreGroups (drop i gs) ts → AreGroups (get_or gs i d ∷ drop (i + 1) gs) ts
 next_group gs i d ts low are = rw (at_drop_more (λ (xs : List Group). xs) gs i d low) at are
 
-pub next_signal : (start end : ℕ) (g : Group) (ts : List Tag) (i : ℕ) (d : Tag) → i < length ts
+pub next_signal : (start end : ℕ) (g : Group) (ts : List SignalCode) (i : ℕ) (d : SignalCode) → i < length ts
     → (start ≤ place_of (get_or ts i d))
     × (place_of (get_or ts i d) + (signal_in (get_or ts i d)).size ≤ end)
     → g.start ≤ start → end ≤ g.end → Covers g (drop (i + 1) ts) → Covers g (drop i ts)
 next_signal start end g ts i d low here before behind rest =
     let first = here.0 in
     let last = here.1 in
-    rw (at_drop_more (λ (xs : List Tag). xs) ts i d low) ((omega arith, omega arith), rest)
+    rw (at_drop_more (λ (xs : List SignalCode). xs) ts i d low) ((omega arith, omega arith), rest)
 
-pub next_bit : (ts : List Tag) (i : ℕ) (d : Tag) → i < length ts → (signal_in (get_or ts i d)).size ≡ 1
+pub next_bit : (ts : List SignalCode) (i : ℕ) (d : SignalCode) → i < length ts → (signal_in (get_or ts i d)).size ≡ 1
     → AreBits (drop (i + 1) ts) → AreBits (drop i ts)
 next_bit ts i d low one rest =
-    rw (at_drop_more (λ (xs : List Tag). xs) ts i d low) (one, rest)
+    rw (at_drop_more (λ (xs : List SignalCode). xs) ts i d low) (one, rest)
 
 pub both_true : (a : Bool) (n : ℕ) (c : Bool) → c ≡ (a && (n == 1)) → c ≡ true → (a ≡ true) × (n ≡ 1)
 both_true true n c e is = (refl, eqb-true n 1 (sym e ∙ is))
 both_true false n c e is = absurd (false≢true (sym e ∙ is))
 
-pub parted_tags : (n : ℕ) (ts these others : List Tag) → these ≡ take n ts → others ≡ drop n ts
-    → AllByRecursion IsTag ts → AllByRecursion IsTag these × AllByRecursion IsTag others
+pub parted_tags : (n : ℕ) (ts these others : List SignalCode) → these ≡ take n ts → others ≡ drop n ts
+    → AllByRecursion IsSignalCode ts → AllByRecursion IsSignalCode these × AllByRecursion IsSignalCode others
 parted_tags n ts these others p q are =
-    let all : AllByRecursion IsTag (take n ts ++ drop n ts) = rw (take-append-drop n ts) are in
-    (rw p (front IsTag (take n ts) (drop n ts) all), rw q (back IsTag (take n ts) (drop n ts) all))
+    let all : AllByRecursion IsSignalCode (take n ts ++ drop n ts) = rw (take-append-drop n ts) are in
+    (rw p (front IsSignalCode (take n ts) (drop n ts) all), rw q (back IsSignalCode (take n ts) (drop n ts) all))
 
--- the changes of tags are those of their signals
-pub changes_of : (f : Signal → List ℕ) (ts : List Tag)
+-- the changes of signal_codes are those of their signals
+pub changes_of : (f : Signal → List ℕ) (ts : List SignalCode)
     → flat_map (λ t. f (signal_in t)) ts ≡ flat_map f (map signal_in ts)
 changes_of f [] = refl
 changes_of f (t ∷ ts) = ap (λ (text : List ℕ). f (signal_in t) ++ text) (changes_of f ts)

@@ -120,28 +120,28 @@ module _ {W : Type 0} where
   -- what was fresh stays so
   pub still_dump : (w : Layout) (x : Out W) (s : Waving W) (text : List ℕ) → Dumps w (fresh x) s text → IsDump s text
   still_dump w x s text d =
-      let layout : w ≡ s.tape.layout = sym (ap (λ (t : Taping). t.layout) d.tape) in
+      let layout : w ≡ s.dump_state.layout = sym (ap (λ (t : Taping). t.layout) d.dump_state) in
       subst (λ (v : Layout). Dumps v (fresh s.output) s text) layout
       (record {
-        tape = d.tape;
+        dump_state = d.dump_state;
         kept = d.kept;
         put = put_freshly x s.output s.output.name s.output.sink s.output.past.origin _ refl
             (sym (origin_stays x s.output _ d.put)) d.put;
       })
 
-  pub same_origin : (a b : Waving W) (text more : List ℕ) → IsDump a text → Dumps a.tape.layout (fresh a.output) b more
+  pub same_origin : (a b : Waving W) (text more : List ℕ) → IsDump a text → Dumps a.dump_state.layout (fresh a.output) b more
       → origin_of b ≡ origin_of a
   same_origin a b text more d e =
-      let layouts : b.tape.layout ≡ a.tape.layout = ap (λ (t : Taping). t.layout) e.tape in
+      let layouts : b.dump_state.layout ≡ a.dump_state.layout = ap (λ (t : Taping). t.layout) e.dump_state in
       let names : b.output.name ≡ a.output.name = e.put.same in
       let origins : b.output.past.origin ≡ a.output.past.origin = origin_stays a.output b.output _ e.put in
       λ i. wave_origin (layouts i) (names i) (origins i)
 
   pub finished : (s : Waving W) (b : Out W) (text : List ℕ) (done : Bool) (w : Layout) (name : ℕ) (origin : Origin)
       (sink : W) → origin_of s ≡ wave_origin w name origin
-      → Put (fresh s.output) b (dump s.tape.layout (frames_of s.tape.layout text) done)
+      → Put (fresh s.output) b (dump s.dump_state.layout (frames_of s.dump_state.layout text) done)
       → Put (fresh_at name sink origin) b (dump w (frames_of w text) done)
   finished s b text done w name origin sink e p =
-      let is = told s.tape.layout w s.output.name name s.output.past.origin origin e in
+      let is = told s.dump_state.layout w s.output.name name s.output.past.origin origin e in
       subst (λ (v : Layout). Put (fresh_at name sink origin) b (dump v (frames_of v text) done)) is.layout
       (put_freshly s.output b name sink origin _ (p.same ∙ is.name) is.origin p)

@@ -29,8 +29,8 @@ step_time w p l =
     ]
 
 pub took_time : {W : Type 0} (a b : Waving W) (last : List ℕ) → TookEnded a b last
-    → b.tape.point.time ≤ a.tape.point.time + 1
-took_time a b last took = rw took.tape (step_time a.tape.layout a.tape.point (line_kept a last))
+    → b.dump_state.point.time ≤ a.dump_state.point.time + 1
+took_time a b last took = rw took.dump_state (step_time a.dump_state.layout a.dump_state.point (line_kept a last))
 
 module _ {W : Type 0} (w : Layout) (o : Out W) where
   -- the dump of whole lines
@@ -50,15 +50,15 @@ module _ {W : Type 0} (w : Layout) (o : Out W) where
       fold-append cut_byte start text (last ++ 10 ∷ []) ∙ cut_line c last none in
       let kept : line_kept a last ≡ take (w.width + 2) l =
       ap (λ (k : Keeping). take k.room (k.bytes ++ last)) d.kept ∙ kept_twice (w.width + 2) c.begun last in
-      let piece : line_piece a.tape.layout a.tape.point (line_kept a last) ≡ line_piece w p l =
-      ap₂ (λ (t : Taping) (line : List ℕ). line_piece t.layout t.point line) d.tape kept ∙ piece_kept w p l in
+      let piece : line_piece a.dump_state.layout a.dump_state.point (line_kept a last) ≡ line_piece w p l =
+      ap₂ (λ (t : Taping) (line : List ℕ). line_piece t.layout t.point line) d.dump_state kept ∙ piece_kept w p l in
       let all : of_lines c.lines ++ line_piece w p l ≡ of_lines (whole_lines (text ++ (last ++ 10 ∷ []))) =
       sym (dumped_line w c.lines l)
       ∙ ap of_lines (sym (whole_lines_are (text ++ (last ++ 10 ∷ [])) ∙ ap (λ (x : Cut). x.lines) cuts)) in
       let before : of_lines (whole_lines text) ≡ of_lines c.lines = ap of_lines (whole_lines_are text) in
       record {
-        tape = took.tape
-            ∙ ap₂ (λ (t : Taping) (line : List ℕ). record t { point = behind_line t.layout t.point line }) d.tape kept
+        dump_state = took.dump_state
+            ∙ ap₂ (λ (t : Taping) (line : List ℕ). record t { point = behind_line t.layout t.point line }) d.dump_state kept
             ∙ ap (λ (q : Point). record { layout = w; point = q })
             (behind_kept w p l ∙ sym (fold-append (behind_line w) (begin_of w) c.lines (l ∷ []))
             ∙ ap (λ (x : Cut). point_of x.lines) (sym cuts));
@@ -78,7 +78,7 @@ module _ {W : Type 0} (w : Layout) (o : Out W) where
       let same : whole_lines text ≡ whole_lines (text ++ rest) =
       whole_lines_are text ∙ sym (whole_lines_are (text ++ rest) ∙ ap (λ (x : Cut). x.lines) cuts) in
       rw is (record {
-        tape = d.tape ∙ ap (λ (x : Cut). record { layout = w; point = point_of x.lines }) (sym cuts);
+        dump_state = d.dump_state ∙ ap (λ (x : Cut). record { layout = w; point = point_of x.lines }) (sym cuts);
         kept = ap (λ (k : Keeping). keeping_more k rest) d.kept
             ∙ ap (λ (bytes : List ℕ). record { bytes = bytes; room = w.width + 2 })
             (kept_twice (w.width + 2) c.begun rest ∙ ap (λ (x : Cut). take (w.width + 2) x.begun) (sym cuts));
@@ -86,19 +86,19 @@ module _ {W : Type 0} (w : Layout) (o : Out W) where
       })
 
   -- nothing was taken yet
-  pub dumps_nothing : (s : Waving W) → s.tape ≡ record { layout = w; point = begin_of w }
+  pub dumps_nothing : (s : Waving W) → s.dump_state ≡ record { layout = w; point = begin_of w }
       → s.kept ≡ record { bytes = []; room = w.width + 2 } → s.output ≡ o → Dumps w o s []
-  dumps_nothing s tape kept same = record {
-    tape = tape;
+  dumps_nothing s dump_state kept same = record {
+    dump_state = dump_state;
     kept = kept ∙ ap (λ (bytes : List ℕ). record { bytes = bytes; room = w.width + 2 }) (sym (take_none (w.width + 2)));
     put = rw same (subst (Put o o) (ap of_lines (sym (whole_lines_are []))) (put_nothing o));
   }
 
   -- what is put without more of the text
-  pub dumps_still : (a b : Waving W) (text : List ℕ) → Dumps w o a text → b.tape ≡ a.tape → b.kept ≡ a.kept
+  pub dumps_still : (a b : Waving W) (text : List ℕ) → Dumps w o a text → b.dump_state ≡ a.dump_state → b.kept ≡ a.kept
       → Put a.output b.output [] → Dumps w o b text
-  dumps_still a b text d tape kept put = record {
-    tape = tape ∙ d.tape;
+  dumps_still a b text d dump_state kept put = record {
+    dump_state = dump_state ∙ d.dump_state;
     kept = kept ∙ d.kept;
     put = subst (Put o b.output) (append-nil _) (put_twice _ _ _ _ _ d.put put);
   }
@@ -119,11 +119,11 @@ module _ {W : Type 0} (w : Layout) (o : Out W) where
       ∙ sym (dump_done w (filter (is_trace_line w) (whole_lines text)))
 
   pub dumps_end : (a : Waving W) (b c : Out W) (text : List ℕ) (done : Bool) → Dumps w o a text
-      → Put a.output b (ending done a.tape) → Put b c [] → Put o c (dump w (frames_of w text) done)
+      → Put a.output b (ending done a.dump_state) → Put b c [] → Put o c (dump w (frames_of w text) done)
   dumps_end a b c text done d end put =
       subst (Put o c)
-      (append-nil (dump w (frames_of w text) false ++ ending done a.tape)
-      ∙ ap (λ (t : Taping). dump w (frames_of w text) false ++ ending done t) d.tape ∙ ended_text text done)
+      (append-nil (dump w (frames_of w text) false ++ ending done a.dump_state)
+      ∙ ap (λ (t : Taping). dump w (frames_of w text) false ++ ending done t) d.dump_state ∙ ended_text text done)
       (put_twice _ _ _ _ _ (put_twice _ _ _ _ _ d.put end) put)
 
   -- what is left of the bytes leads to the goal

@@ -10,13 +10,13 @@ use Rattle.aig_wave.specs.Parts.Points.{Taping, begin_of, behind_line}
 
 -- where the dump stands, the beginning of a line that has not ended, and the output
 pub record Waving (W : Type 0) : Type 0 where
-  pub tape : Taping
+  pub dump_state : Taping
   pub kept : Keeping
   pub output : Out W
 
 -- From this output on it took this text, and put the dump of it.
 pub record Dumps {W : Type 0} (w : Layout) (o : Out W) (s : Waving W) (text : List ℕ) : Type 0 where
-  pub tape : s.tape ≡ record {
+  pub dump_state : s.dump_state ≡ record {
     layout = w;
     point = fold (behind_line w) (begin_of w) (cut text).lines;
   }

@@ -3,5 +3,5 @@
 pub mod Points
 pub mod Cuts
 pub mod Taking
-pub mod Tags
+pub mod SignalCodes
 pub mod Groups

@@ -23,7 +23,7 @@ wave_origin w name origin = record {
 }
 
 abbrev pub origin_of : {W : Type 0} → Waving W → Origin
-origin_of s = wave_origin s.tape.layout s.output.name s.output.past.origin
+origin_of s = wave_origin s.dump_state.layout s.output.name s.output.past.origin
 
 -- an output to a sink that nothing was sent to
 abbrev pub fresh_at : {W : Type 0} → ℕ → W → Origin → Out W
@@ -40,7 +40,7 @@ fresh o = fresh_at o.name o.sink o.past.origin
 
 -- it took this text, and its sink the dump of it and nothing else
 abbrev pub IsDump : {W : Type 0} → Waving W → List ℕ → Type 0
-IsDump s text = Dumps s.tape.layout (fresh s.output) s text
+IsDump s text = Dumps s.dump_state.layout (fresh s.output) s text
 
 -- what it has come to, and its past
 pub record Wave (W : Type 0) : Type 0 where

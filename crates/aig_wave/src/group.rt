@@ -5,7 +5,7 @@ ghost use Rattle.aig_wave.specs.declared.bits.TheConstants.{GROUP};
 
 use crate::bits::GROUP;
 use crate::signal::Signal;
-use crate::tag::Tag;
+use crate::signal_code::SignalCode;
 use aig_circuit::OutOfMemory;
 use std::alloc::Global;
 
@@ -38,7 +38,7 @@ pub(crate) fn piece(line: &[u8], start: usize, size: usize) -> &[u8]
 
 impl Group {
     /// The group with a signal more. A line that has its characters is no longer than memory.
-    fn widened(self, signal: &Signal) -> Result<Self, OutOfMemory>
+    fn widen(self, signal: &Signal) -> Result<Self, OutOfMemory>
         ensures within { IfOk result (λ g. IsWithin g signal.now) }
         ensures start { IfOk result (λ g. g.start ≤ self.start) }
         ensures end { IfOk result (λ g. self.end ≤ g.end) }
@@ -56,22 +56,22 @@ impl Group {
     }
 
     /// The group of these signals.
-    fn of(tags: &[Tag]) -> Result<Self, OutOfMemory>
-        ensures count { IfOk result (λ g. g.count ≡ length tags.now) }
-        ensures group { IfOk result (λ g. IsGroup g tags.now) }
+    fn of(signal_codes: &[SignalCode]) -> Result<Self, OutOfMemory>
+        ensures count { IfOk result (λ g. g.count ≡ length signal_codes.now) }
+        ensures group { IfOk result (λ g. IsGroup g signal_codes.now) }
     {
         let mut group = Group {
             count: 0,
             start: usize::MAX,
             end: 0,
-            bits: tags.len() <= GROUP,
+            bits: signal_codes.len() <= GROUP,
         };
-        for tag in tags {
-            let wider = group.widened(&tag.signal)?;
+        for signal_code in signal_codes {
+            let wider = group.widen(&signal_code.signal)?;
             group = wider;
         }
         Ok(Group {
-            count: tags.len(),
+            count: signal_codes.len(),
             start: group.start,
             end: group.end,
             bits: group.bits,
@@ -97,22 +97,25 @@ impl Group {
 
     /// The signals of the group, which stand first, and the others.
     #[inline(always)]
-    pub(crate) fn parted<'a>(&self, tags: &'a [Tag]) -> (&'a [Tag], &'a [Tag])
-        ensures front { result.0.now ≡ take self.now.count tags.now }
-        ensures others { result.1.now ≡ drop self.now.count tags.now }
+    pub(crate) fn split<'a>(
+        &self,
+        signal_codes: &'a [SignalCode],
+    ) -> (&'a [SignalCode], &'a [SignalCode])
+        ensures front { result.0.now ≡ take self.now.count signal_codes.now }
+        ensures others { result.1.now ≡ drop self.now.count signal_codes.now }
     {
-        tags.split_at(self.count.min(tags.len()))
+        signal_codes.split_at(self.count.min(signal_codes.len()))
     }
 }
 
 /// How many signals the next group has: the first one, and those behind it that have one position, or more, as it has.
-fn next_count(tags: &[Tag]) -> usize
-    ensures within { result ≤ length tags.now }
-    ensures some { 0 < length tags.now → 0 < result }
+fn next_count(signal_codes: &[SignalCode]) -> usize
+    ensures within { result ≤ length signal_codes.now }
+    ensures some { 0 < length signal_codes.now → 0 < result }
 {
-    let mut count = tags.len().min(1);
-    while count < tags.len() && count < GROUP {
-        if (tags[count].signal.size == 1) != (tags[0].signal.size == 1) {
+    let mut count = signal_codes.len().min(1);
+    while count < signal_codes.len() && count < GROUP {
+        if (signal_codes[count].signal.size == 1) != (signal_codes[0].signal.size == 1) {
             return count;
         }
         count += 1;
@@ -121,11 +124,14 @@ fn next_count(tags: &[Tag]) -> usize
 }
 
 /// Signals in groups.
-pub(crate) fn groups_of(alloc: Global, tags: &[Tag]) -> Result<Vec<Group>, OutOfMemory>
-    ensures { IfOk result (λ groups. AreGroups groups.items tags.now) }
+pub(crate) fn groups_of(
+    alloc: Global,
+    signal_codes: &[SignalCode],
+) -> Result<Vec<Group>, OutOfMemory>
+    ensures { IfOk result (λ groups. AreGroups groups.items signal_codes.now) }
 {
     let mut groups = Vec::new(alloc);
-    let mut rest = tags;
+    let mut rest = signal_codes;
     while rest.len() > 0 {
         let (front, others) = rest.split_at(next_count(rest));
         groups.push(Group::of(front)?)?;

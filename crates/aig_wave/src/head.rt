@@ -6,7 +6,7 @@ ghost use Rattle.aig_wave.specs.Names.{shown};
 ghost use Rattle.aig_wave.specs.Head.{closing, code, opening, range_text, scope, sort, var_text, words};
 
 use crate::digit::write_digits;
-use crate::name::{indexed, shown_byte};
+use crate::name::{shown_byte, split_index};
 use crate::place::letter;
 use crate::signal::{Name, Signal};
 use aig_circuit::{Kind, OutOfMemory};
@@ -77,7 +77,7 @@ fn put_indexed(text: &mut Vec<u8>, front: &[u8], index: u64, size: u32) -> Resul
 fn put_words(text: &mut Vec<u8>, signal: &Signal, name: &[u8]) -> Result<(), OutOfMemory>
     ensures { OnOk result (text.new.items ≡ text.old.items ++ words signal.now name.now) }
 {
-    match indexed(name) {
+    match split_index(name) {
         Some((front, index)) => put_indexed(text, front, index, signal.size),
         None if name.is_empty() => put_code(text, signal),
         None => put_shown(text, name),

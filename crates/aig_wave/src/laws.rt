@@ -2,11 +2,13 @@
 ghost use Rattle.aig_wave.specs.Laws.{CodesAreDistinct, DumpsLoseNothing, HeadIsPlain, SameShownSameWave, WaveGrows};
 
 /// The head of a dump is plain text, whatever the names are.
+#[tactic(auto, using(crate::proofs::Plain::plain_head))]
 pub fn head_is_plain()
     ensures { HeadIsPlain }
 {}
 
 /// Each signal of a circuit has an identifier code of its own.
+#[tactic(auto, using(crate::proofs::Distinct::codes_are_distinct))]
 pub fn codes_are_distinct()
     ensures { CodesAreDistinct }
 {}

@@ -8,7 +8,7 @@ ghost use Rattle.aig_step.specs.TraceText.{character_of, values_text};
 ghost use Rattle.aig_wave.specs.Head.{head, scope_text};
 ghost use Rattle.aig_wave.specs.Layout.{layout_of};
 ghost use Rattle.aig_wave.specs.Parts.Groups.{AreGroups};
-ghost use Rattle.aig_wave.specs.Parts.Tags.{IsTag, signal_in};
+ghost use Rattle.aig_wave.specs.Parts.SignalCodes.{IsSignalCode, signal_in};
 ghost use Rattle.aig_wave.specs.Places.{kinds};
 ghost use Rattle.aig_wave.specs.Signals.{signals_of};
 
@@ -16,7 +16,7 @@ use crate::group::{Group, groups_of};
 use crate::head::{put_closing, put_opening, put_scope};
 use crate::place::{next_place, width};
 use crate::signal::{Signal, add_signals, names_of};
-use crate::tag::{Tag, tags_of};
+use crate::signal_code::{SignalCode, signal_codes_of};
 use aig_circuit::{Circuit, Kind, Latch, OutOfMemory, Reset};
 use std::alloc::Global;
 use std::marker::Model;
@@ -26,7 +26,7 @@ use std::marker::Model;
 pub(crate) struct Layout {
     head: Vec<u8>,
     /// The signals.
-    tags: Vec<Tag>,
+    signal_codes: Vec<SignalCode>,
     /// The signals in groups.
     groups: Vec<Group>,
     resets: Vec<u8>,
@@ -39,20 +39,20 @@ impl Model for Layout {
     ghost use Rattle.std.specs.List.{AllByRecursion};
     ghost use Rattle.aig_wave.specs.Layout.{Layout as LayoutRecord};
     ghost use Rattle.aig_wave.specs.Parts.Groups.{AreGroups};
-    ghost use Rattle.aig_wave.specs.Parts.Tags.{IsTag, signal_in};
+    ghost use Rattle.aig_wave.specs.Parts.SignalCodes.{IsSignalCode, signal_in};
 
     ghost Value = { LayoutRecord };
 
     ghost view = { λ w. record {
       head = w.head.items;
-      signals = map signal_in w.tags.items;
+      signals = map signal_in w.signal_codes.items;
       resets = w.resets.items;
       next = w.next;
       width = w.width;
     } };
 
     ghost invariant = { λ w. (w.next + length w.resets.items ≤ w.width)
-        × AllByRecursion IsTag w.tags.items × AreGroups w.groups.items w.tags.items };
+        × AllByRecursion IsSignalCode w.signal_codes.items × AreGroups w.groups.items w.signal_codes.items };
 }
 
 /// Adds the scope and the signals of a kind.
@@ -124,13 +124,13 @@ impl Layout {
         ensures { IfOk result (λ w. w ≡ layout_of circuit.now) }
     {
         let (head, signals) = head_and_signals(alloc, circuit)?;
-        let tags = tags_of(alloc, signals.as_slice())?;
+        let signal_codes = signal_codes_of(alloc, signals.as_slice())?;
         drop(signals);
-        let groups = groups_of(alloc, tags.as_slice())?;
+        let groups = groups_of(alloc, signal_codes.as_slice())?;
         let resets = resets_of(alloc, circuit)?;
         Ok(Layout {
             head,
-            tags,
+            signal_codes,
             groups,
             resets,
             next: next_place(circuit),
@@ -145,12 +145,12 @@ impl Layout {
     }
 
     /// The signals, and their groups.
-    pub(crate) fn tags(&self) -> (&[Tag], &[Group])
+    pub(crate) fn signal_codes(&self) -> (&[SignalCode], &[Group])
         ensures signals { map signal_in result.0.now ≡ self.now.signals }
-        ensures tags { AllByRecursion IsTag result.0.now }
+        ensures signal_codes { AllByRecursion IsSignalCode result.0.now }
         ensures groups { AreGroups result.1.now result.0.now }
     {
-        (self.tags.as_slice(), self.groups.as_slice())
+        (self.signal_codes.as_slice(), self.groups.as_slice())
     }
 
     pub(crate) fn resets(&self) -> &[u8]

@@ -1,6 +1,6 @@
 //! The waveform of a trace: a Value Change Dump, made of the lines of the trace as they come.
 //!
-//! Others call `WaveRoom`, which takes all memory; `WaveSink`, a sink for a trace text, which sends the dump of it on
+//! Others call `WaveMemory`, which takes all memory; `WaveSink`, a sink for a trace text, which sends the dump of it on
 //! to a sink that nothing was sent to; and `FreshSink`, which makes one of any sink.
 //!
 //! The definitions that matter most are `frames`, `wave_text`, and `wave_origin` with `fresh_origin`, by which a past
@@ -9,6 +9,8 @@
 
 mod bits;
 mod digit;
+mod dump_state;
+mod dump_writer;
 mod fresh;
 mod group;
 mod head;
@@ -19,11 +21,9 @@ mod place;
 mod reversed;
 mod room;
 mod signal;
-mod tag;
-mod tape;
+mod signal_code;
 mod wave;
-mod waver;
 
 pub use crate::fresh::FreshSink;
-pub use crate::room::WaveRoom;
+pub use crate::room::WaveMemory;
 pub use crate::wave::WaveSink;

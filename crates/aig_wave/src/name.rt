@@ -22,7 +22,7 @@ pub(crate) fn shown_byte(byte: u8) -> u8
 }
 
 /// The front and the index of a name of that form.
-pub(crate) fn indexed(name: &[u8]) -> Option<(&[u8], u64)>
+pub(crate) fn split_index(name: &[u8]) -> Option<(&[u8], u64)>
     ensures { MatchOption result (indexed name.now ≡ None)
         (λ x. indexed name.now ≡ Some (record { front = x.0.now; index = x.1 }) × x.1 < 10 ^ 9) }
 {
@@ -46,10 +46,10 @@ pub(crate) fn indexed(name: &[u8]) -> Option<(&[u8], u64)>
 pub(crate) fn follows(name: &[u8], next: &[u8]) -> bool
     ensures { result ≡ follows name.now next.now }
 {
-    let Some((front, index)) = indexed(name) else {
+    let Some((front, index)) = split_index(name) else {
         return false;
     };
-    let Some((other, following)) = indexed(next) else {
+    let Some((other, following)) = split_index(next) else {
         return false;
     };
     front == other && index + 1 == following

@@ -2,14 +2,14 @@
 ghost use Rattle.std.specs.Prelude.{◌≡◌, ◌<◌, ◌≤◌, ℕ, [], ◌⊎◌, ◌↔◌, IfOk, IsTrue, false, is_err, is_ok, length, true};
 ghost use Rattle.aig_io.specs.Devices.{CanFail, Origin, after_send, block_size, unused};
 ghost use Rattle.aig_io.specs.Output.{Put, output_to};
-ghost use Rattle.aig_wave.specs.declared.waver.TheConstants.{LAST};
+ghost use Rattle.aig_wave.specs.declared.dump_writer.TheConstants.{LAST};
 ghost use Rattle.aig_wave.specs.Frames.{frames_of};
 ghost use Rattle.aig_wave.specs.Layout.{Layout as LayoutRecord};
 ghost use Rattle.aig_wave.specs.Standing.{fresh_at, wave_origin};
 ghost use Rattle.aig_wave.specs.Wave.{dump};
 
-use crate::room::WaveRoom;
-use crate::waver::Waver;
+use crate::dump_writer::DumpWriter;
+use crate::room::WaveMemory;
 use aig_io::{DeviceFault, Record, Sink};
 use std::marker::Model;
 
@@ -17,7 +17,7 @@ use std::marker::Model;
 /// What was taken when its sink failed counts as taken; it fails from the next call on.
 #[derive(Drop)]
 pub struct WaveSink<'a, W: Sink> {
-    waver: Waver<'a, W>,
+    dump_writer: DumpWriter<'a, W>,
     failures: u64,
     log: Record,
 }
@@ -29,27 +29,27 @@ impl<'a, W: Sink> Model for WaveSink<'a, W> {
     ghost Value = { Wave W };
 
     ghost view = { λ s. record {
-      waving = s.waver;
+      waving = s.dump_writer;
       past = record {
-        origin = origin_of s.waver;
+        origin = origin_of s.dump_writer;
         bytes = bytes_of s.log.notes;
         ends = sum_of s.log.notes;
         failures = s.failures;
       };
     } };
 
-    ghost invariant = { λ s. IsDump s.waver (bytes_of s.log.notes) };
+    ghost invariant = { λ s. IsDump s.dump_writer (bytes_of s.log.notes) };
 }
 
 impl<'a, W: Sink> WaveSink<'a, W> {
     /// Nothing was taken yet.
-    pub fn new(room: WaveRoom, sink: &'a mut W) -> Self
+    pub fn new(room: WaveMemory, sink: &'a mut W) -> Self
         requires countable { CanFail (W.past sink.old) }
         requires fresh { W.past sink.old ≡ unused (W.past sink.old).origin }
         ensures { result.past ≡ unused (wave_origin room sink.entry.ghost_name (W.past sink.old).origin) }
     {
         WaveSink {
-            waver: Waver::new(room, sink),
+            dump_writer: DumpWriter::new(room, sink),
             failures: 0,
             log: Record::new(),
         }
@@ -65,11 +65,11 @@ impl<'a, W: Sink> WaveSink<'a, W> {
             (dump w (frames_of w self.entry.past.bytes) done) }
     {
         let WaveSink {
-            waver,
+            dump_writer,
             failures: _,
             log: _,
         } = self;
-        waver.finish(done)
+        dump_writer.finish(done)
     }
 }
 
@@ -84,15 +84,15 @@ impl<W: Sink> Sink for WaveSink<'_, W> {
         ensures moves { IfOk result (λ n. 0 < n) }
         ensures past { self.new.past ≡ after_send bytes.now result self.old.past }
         ensures refuses { IsTrue (is_err result)
-            ↔ ((self.old.waving.output.failed ≡ true) ⊎ (LAST ≤ self.old.waving.tape.point.time)) }
+            ↔ ((self.old.waving.output.failed ≡ true) ⊎ (LAST ≤ self.old.waving.dump_state.point.time)) }
         ensures sent { IsTrue (is_ok result) → self.new.waving.output.held ≡ [] }
     {
-        if self.waver.is_over() {
+        if self.dump_writer.is_over() {
             self.failures += 1;
             return Err(DeviceFault);
         }
-        self.waver.take_bytes(bytes);
-        self.waver.flush();
+        self.dump_writer.take_bytes(bytes);
+        self.dump_writer.flush();
         self.log.note(&[0], bytes);
         Ok(bytes.len())
     }

@@ -203,6 +203,7 @@ impl Checker {
     }
 
     /// Takes a line, and answers whether it is one that is due.
+    #[tactic(auto, using(crate::proofs::Witnessing::took_property, crate::proofs::Witnessing::took_first, crate::proofs::Witnessing::took_entry))]
     fn take_line(&mut self, text: &[u8]) -> bool
         requires { self.old.search.steps < 2 ^ 64 - 1 }
         ensures good { result ≡ true → (said : Said) → Stands self.old said → TookDue self.old self.new said text.now }
@@ -246,6 +247,7 @@ impl LineTaker for Checker {
 
     ghost counted = { λ c. c.search.steps };
 
+    #[tactic(auto, using(crate::proofs::Hearing::heard_line))]
     fn take(&mut self, text: &[u8]) -> bool {
         self.take_line(text)
     }

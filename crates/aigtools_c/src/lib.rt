@@ -1,4 +1,4 @@
-//! The calls of `aig_memory` for programs in C, and in languages that call C. `include/aigtools.h` declares and documents
+//! The calls of `aig_library` for programs in C, and in languages that call C. `include/aigtools.h` declares and documents
 //! them.
 #![tactic(auto)]
 
@@ -6,11 +6,11 @@ ghost use Rattle.std.specs.Prelude.{◌≡◌, ◌⊎◌};
 ghost use Rattle.aig_engines.specs.Conversion.{IsConversionRefused, IsConversionText};
 ghost use Rattle.aig_engines.specs.Simulation.{IsWrittenText};
 ghost use Rattle.aig_engines.specs.Unrolling.{IsUnrollingRefused, IsUnrollingText};
-ghost use Rattle.aig_memory.specs.Answers.{Answers, DumpAnswers, IsSimulationRefused, WitnessAnswers};
-ghost use Rattle.aig_memory.specs.Asked.{CanConvert, CanSimulate, CanUnroll, conversion, simulation, unrolling};
-ghost use Rattle.aig_memory.specs.Message.{IsWritten, message_text};
+ghost use Rattle.aig_library.specs.Answers.{Answers, DumpAnswers, IsSimulationRefused, WitnessAnswers};
+ghost use Rattle.aig_library.specs.Asked.{CanConvert, CanSimulate, CanUnroll, conversion, simulation, unrolling};
+ghost use Rattle.aig_library.specs.Message.{IsWritten, message_text};
 
-use aig_memory::{Outcome, convert, dump_witness, message, simulate, unroll, witness};
+use aig_library::{Outcome, convert, dump_witness, message, simulate, unroll, witness};
 use std::alloc::Global;
 
 /// The version in three bytes: 1.1.0 is 0x010100.

@@ -5,12 +5,12 @@ use Rattle.std.specs.List.{AllZip}
 use Rattle.std.proofs.lemmas.List.{take_all, take_more}
 use Rattle.aig_circuit.specs.declared.circuit.Circuit.{Circuit}
 use Rattle.aig_lanes.specs.declared.run.Run.{Run}
-use Rattle.aig_lanes.specs.declared.shown.Shown.{Shown}
+use Rattle.aig_lanes.specs.declared.lane_columns.LaneColumns.{LaneColumns}
 use Rattle.aig_lanes.specs.Parts.LaneTexts.{IsTextOf, KeepsRun}
 use Rattle.aig_lanes.specs.Parts.LaneTexts.{kept_text}
 use Rattle.aig_lanes.specs.Parts.Sheets.{BytesText, text_in}
 use Rattle.aig_batch.specs.Parts.RunsRead.{kept_texts, no_run}
-use Rattle.aig_bench.proofs.ShownTexts.{text_of_kept}
+use Rattle.aig_lanes.proofs.Benches.ShownTexts.{text_of_kept}
 
 -- one more run and one more text
 zip_more : (R : Run → List ℕ → Type 0) (runs : List Run) (texts : List (List ℕ)) (run : Run) (text : List ℕ)
@@ -23,7 +23,7 @@ zip_more R (r ∷ rs) (t ∷ ts) run text each more = (each.0, zip_more R rs ts 
 pub one_behind : (n : ℕ) → suc n ≡ n + 1
 one_behind n = omega arith
 
-module _ (c : Circuit) (runs : List Run) (shown : Shown) (sheet : List BytesText)
+module _ (c : Circuit) (runs : List Run) (shown : LaneColumns) (sheet : List BytesText)
     (each : (j : ℕ) (d : Run) → j < length runs → KeepsRun c (get_or runs j d) j shown sheet) where
   zipped_first : (n : ℕ) → n ≤ length runs
       → AllZip (IsTextOf shown.columns c) (take n runs) (kept_texts shown runs n sheet)

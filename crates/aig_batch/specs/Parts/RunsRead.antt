@@ -5,7 +5,7 @@ use Rattle.std.specs.List.{flat_map}
 use Rattle.aig_circuit.specs.declared.circuit.Circuit.{Circuit}
 use Rattle.aig_io.specs.Output.{Out, Put}
 use Rattle.aig_lanes.specs.declared.run.Run.{Run}
-use Rattle.aig_lanes.specs.declared.shown.Shown.{Shown}
+use Rattle.aig_lanes.specs.declared.lane_columns.LaneColumns.{LaneColumns}
 use Rattle.aig_step.specs.declared.trace.Columns.{Columns}
 use Rattle.aig_step.specs.Stimulus.{Entry, Step, Stop, judged_lines, lines_say, stimulus}
 use Rattle.aig_lanes.specs.Parts.LaneTexts.{kept_text}
@@ -39,7 +39,7 @@ abbrev pub no_run : Run
 no_run = record { steps = [] }
 
 -- the texts of the first runs by what is kept in their lanes
-abbrev pub kept_texts : Shown → List Run → ℕ → List BytesText → List (List ℕ)
+abbrev pub kept_texts : LaneColumns → List Run → ℕ → List BytesText → List (List ℕ)
 kept_texts shown runs zero sheet = []
 kept_texts shown runs (suc lane) sheet =
     kept_texts shown runs lane sheet

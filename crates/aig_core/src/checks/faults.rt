@@ -284,6 +284,7 @@ fn find_cycle(alloc: Global, circuit: &Circuit) -> Result<(), CheckFault>
 /// The first fault of a circuit but for what its gates use: a variable that is defined twice, or else a literal that is
 /// used outside of gates and not defined. Where there is none, the variables that it defines, and whether its gates
 /// stand in order.
+#[tactic(auto, using(crate::proofs::Checking::Sections::unknown_append))]
 fn find_fault_outside_gates(alloc: Global, circuit: &Circuit) -> Result<(VarSet, bool), CheckFault>
     ensures variables { IfOk result (λ found. found.0 ≡ with_all set.empty (defined_variables circuit.now)) }
     ensures in_order { IfOk result (λ found. found.1 ≡ has_gates_in_order circuit.now) }
@@ -312,6 +313,7 @@ fn find_undefined_operand(variables: &VarSet, circuit: &Circuit) -> Result<(), C
 
 /// The first fault of a circuit. Where there is none, the order of its gates, if that is to be kept and had to be made.
 /// Each map of its variables is let go before the next one is made.
+#[tactic(auto, using(crate::proofs::Checking::InOrder::in_order_faultless, crate::proofs::Checking::Sections::fault_of_gates))]
 pub(crate) fn find_fault(
     alloc: Global,
     circuit: &Circuit,

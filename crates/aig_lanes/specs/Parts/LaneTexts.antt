@@ -6,7 +6,7 @@ use Rattle.aig_circuit.specs.declared.value.Val.{Val}
 use Rattle.aig_meaning.specs.Meaning.{Row}
 use Rattle.aig_meaning.specs.Trace.{IsTrace, reset_state, state_after}
 use Rattle.aig_lanes.specs.declared.run.Run.{Run}
-use Rattle.aig_lanes.specs.declared.shown.Shown.{Shown}
+use Rattle.aig_lanes.specs.declared.lane_columns.LaneColumns.{LaneColumns}
 use Rattle.aig_step.specs.declared.trace.Columns.{Columns}
 use Rattle.aig_step.specs.declared.trace.Columns.TheVariants.{Plain, Properties}
 use Rattle.aig_lanes.specs.Parts.Groups.{IsTable}
@@ -16,7 +16,7 @@ use Rattle.aig_lanes.specs.Parts.Sheets.{BytesText, part, text_in}
 use Rattle.aig_step.specs.TraceText.{rows_text, values_text}
 
 -- it shows what the rows of a circuit show
-pub record ShowsRows (c : Circuit) (shown : Shown) : Type 0 where
+pub record ShowsRows (c : Circuit) (shown : LaneColumns) : Type 0 where
   pub outputs : shown.outputs ≡ length c.outputs
   pub bad : shown.bad ≡ length (asked shown.columns c.bad)
   pub constraints : shown.constraints ≡ length (asked shown.columns c.constraints)
@@ -24,19 +24,19 @@ pub record ShowsRows (c : Circuit) (shown : Shown) : Type 0 where
   pub literals : shown.literals.items ≡ step_literals shown.columns c
 
 -- how many characters are kept of so many steps, with the state behind them
-abbrev pub end_of : Shown → ℕ → ℕ
+abbrev pub end_of : LaneColumns → ℕ → ℕ
 end_of shown steps = steps * length shown.literals.items + length shown.resets.items
 
 -- how long a line may be, without its inputs
-abbrev pub shown_size : Shown → ℕ
+abbrev pub shown_size : LaneColumns → ℕ
 shown_size shown = length shown.resets.items + length shown.literals.items + 6
 
 -- in a lane there are places for all steps of a run
-abbrev pub HoldsRun : (lane : ℕ) → Run → Shown → List BytesText → Type 0
+abbrev pub HoldsRun : (lane : ℕ) → Run → LaneColumns → List BytesText → Type 0
 HoldsRun lane run shown sheet = end_of shown (length run.steps) ≤ length (text_in lane sheet)
 
 -- and of each of the runs in its lane
-abbrev pub HoldsRuns : Shown → List BytesText → List Run → Type 0
+abbrev pub HoldsRuns : LaneColumns → List BytesText → List Run → Type 0
 HoldsRuns shown sheet runs =
     (l : ℕ) (d : Run) → l < 256 → l < length runs → HoldsRun l (slice_index_or runs l d) shown sheet
 
@@ -47,7 +47,7 @@ shown_properties Properties from bad constraints text =
     codes " " ++ (part from bad text ++ (codes " " ++ part (from + bad) constraints text))
 
 -- the line of a step by the text of its lane, with this text for its inputs
-abbrev pub shown_text : Shown → (step : ℕ) → (given text : List ℕ) → List ℕ
+abbrev pub shown_text : LaneColumns → (step : ℕ) → (given text : List ℕ) → List ℕ
 shown_text shown step given text =
     part (step * length shown.literals.items) (length shown.resets.items) text
     ++ (codes " " ++ (given ++ (codes " " ++ (part (end_of shown step) shown.outputs text
@@ -56,13 +56,13 @@ shown_text shown step given text =
     ++ codes "\n")))))))
 
 -- the lines of the first steps of a run by the text of its lane
-abbrev pub kept_text : Shown → Run → (steps : ℕ) → (text : List ℕ) → List ℕ
+abbrev pub kept_text : LaneColumns → Run → (steps : ℕ) → (text : List ℕ) → List ℕ
 kept_text shown run zero text = []
 kept_text shown run (suc step) text =
     kept_text shown run step text ++ shown_text shown step (values_text (slice_index_or run.steps step [])) text
 
 -- the text of a lane shows this row for a step with these inputs
-pub record RowStands (shown : Shown) (step : ℕ) (given : List Val) (text : List ℕ) (row : Row) : Type 0 where
+pub record RowStands (shown : LaneColumns) (step : ℕ) (given : List Val) (text : List ℕ) (row : Row) : Type 0 where
   pub state : part (step * length shown.literals.items) (length shown.resets.items) text ≡ values_text row.state
   pub inputs : row.inputs ≡ given
   pub outputs : part (end_of shown step) shown.outputs text ≡ values_text row.outputs
@@ -72,7 +72,7 @@ pub record RowStands (shown : Shown) (step : ℕ) (given : List Val) (text : Lis
   pub next : part ((step + 1) * length shown.literals.items) (length shown.resets.items) text ≡ values_text row.next
 
 -- these rows are the circuit's trace of vectors of inputs, from the reset state, and are kept in the text of a lane
-pub record KeepsTrace (c : Circuit) (vectors : List (List Val)) (shown : Shown) (text : List ℕ) (rows : List Row)
+pub record KeepsTrace (c : Circuit) (vectors : List (List Val)) (shown : LaneColumns) (text : List ℕ) (rows : List Row)
     : Type 0 where
   pub traced : IsTrace c (reset_state c) vectors rows
   pub count : length rows ≡ length vectors
@@ -82,13 +82,13 @@ pub record KeepsTrace (c : Circuit) (vectors : List (List Val)) (shown : Shown) 
       ≡ values_text (state_after (reset_state c) rows)
 
 -- the trace of a run is kept in its lane
-abbrev pub KeepsRun : Circuit → Run → (lane : ℕ) → Shown → List BytesText → Type 0
+abbrev pub KeepsRun : Circuit → Run → (lane : ℕ) → LaneColumns → List BytesText → Type 0
 KeepsRun c run lane shown sheet = (rows : List Row) × KeepsTrace c run.steps shown (text_in lane sheet) rows
 
 -- So many steps were taken side by side: what is kept is the run's trace so far; and where the run has as many steps,
 -- the state behind them stands in its lane.
 pub record LaneStands (c : Circuit) (run : Run) (steps lane : ℕ) (table state : List (List ℕ))
-    (shown : Shown) (sheet : List BytesText) : Type 0 where
+    (shown : LaneColumns) (sheet : List BytesText) : Type 0 where
   pub rows : List Row
   pub keeps : KeepsTrace c (take steps run.steps) shown (text_in lane sheet) rows
   pub table_stands : steps ≤ length run.steps → IsTable lane (1 + c.max_var) table

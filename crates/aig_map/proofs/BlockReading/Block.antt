@@ -8,16 +8,20 @@ use Rattle.std.specs.List.{AllByRecursion, flat_map}
 use Rattle.std.proofs.lemmas.List.Concat.{flat_map-append}
 use Rattle.aig_circuit.specs.declared.circuit.TheConstants.{LARGEST}
 use Rattle.aig_circuit.specs.declared.circuit.Circuit.{Circuit}
-use Rattle.aig_circuit.specs.Wellformed.{IsVariableUpTo}
+use Rattle.aig_circuit.specs.Wellformed.{AreDistinct, IsVariableUpTo}
+use Rattle.aig_checked.specs.BinaryOrder.{IsInBinaryOrder}
 use Rattle.aig_text.specs.AsciiText.{numbers_text}
 use Rattle.aig_rows.proofs.Steps.{both_ok}
 use Rattle.aig_map.specs.declared.map_block.FirstLine.{FirstLine}
 use Rattle.aig_map.specs.declared.map_block.MappedGate.{MappedGate}
 use Rattle.aig_map.specs.declared.map_block.MapBlock.{MapBlock}
+use Rattle.aig_map.specs.declared.recorded.Recorded.{Recorded}
 use Rattle.aig_map.specs.MapBlock.{first_row, variable_row, gate_row, rows_of, last_line, block_text}
 use Rattle.aig_map.specs.MapSpelling.{after_text}
 use Rattle.aig_map.specs.MapReading.{rest_of_block, block_reading, HasCountsOf, IsWithinBounds}
-use Rattle.aig_map.specs.Parts.Tables.{block_in, block_read}
+use Rattle.aig_map.specs.Parts.Tables.{block_in, block_read, IsBlockOf, IsFit, IsTakenOutOf}
+use Rattle.aig_map.specs.Parts.Turns.{positions}
+use Rattle.aig_map.specs.Undone.{places_recorded}
 use Rattle.aig_map.proofs.BlockReading.Lines.{line, variables_are_exact, gates_are_exact}
 use Rattle.aig_map.proofs.BlockReading.Entries.{lines, there, entries_are_read, entries_read}
 use Rattle.aig_map.proofs.BlockReading.FirstLine.{IsFront, front_is_read, front_reads, text_reads}
@@ -170,3 +174,22 @@ read_is_text x b rest h = (block_reads x b rest h).0
 pub read_is_block : (x : Circuit) (b : MapBlock) (rest : List ℕ) → block_reading x ≡ Ok (b, rest) → block_read x ≡ b
 unfolding block_read
 read_is_block x b rest h = ap block_in h
+
+-- it fits where no two of its gates have one place
+pub read_is_fit : (x : Circuit) (b : MapBlock) (rest : List ℕ) → IsInBinaryOrder x → block_reading x ≡ Ok (b, rest)
+    → AreDistinct (places_recorded b.gates) → IsFit b x
+read_is_fit x b rest ordered read once =
+    let within = read_is_within x b rest read in
+    record { ordered = ordered; counts = within.0; bounds = within.1; once = once }
+
+-- and what is kept of it is kept of the block of the circuit
+pub kept_of_block : (x : Circuit) (b : MapBlock) (r : Recorded) (by_place rest : List ℕ) → IsInBinaryOrder x
+    → block_reading x ≡ Ok (b, rest) → AreDistinct (places_recorded b.gates) → by_place ≡ positions b.gates
+    → IsTakenOutOf b r → IsBlockOf x r by_place rest
+kept_of_block x b r by_place rest ordered read once placed recorded =
+    let is = read_is_block x b rest read in record {
+      fit = rw is (read_is_fit x b rest ordered read once);
+      read = rw is read;
+      placed = rw is placed;
+      recorded = rw is recorded;
+    }

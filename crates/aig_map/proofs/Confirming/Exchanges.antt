@@ -21,9 +21,9 @@ use Rattle.aig_map.specs.declared.map_block.MapBlock.{MapBlock}
 use Rattle.aig_map.specs.Parts.Confirmed.{DifferWhereExchanged, ExchangesDiffer, HasTwoOperands, TellsExchanges}
 use Rattle.aig_map.specs.Parts.Confirmed.{gate_in_place}
 use Rattle.aig_map.specs.Parts.Had.{gates_there}
+use Rattle.aig_map.specs.Parts.Tables.{IsFit}
 use Rattle.aig_map.specs.Undone.{comment_behind, exchanges_recorded, source_variables, undone}
 use Rattle.aig_map.proofs.Restoring.Again.{names}
-use Rattle.aig_map.proofs.Restoring.AtPositions.{IsFit}
 use Rattle.aig_map.proofs.Sources.RecordedAt.{none_recorded, recorded_at}
 
 -- what is said of the parts of a block and a circuit is said of these

@@ -2,47 +2,34 @@
 use Rattle.std.proofs.Common.{◌≡◌, ◌↔◌, ◌∙◌, sym, ℕ, List, Bool, false, true≢false, IsTrue, Ok}
 use Rattle.aig_circuit.specs.declared.circuit.Circuit.{Circuit}
 use Rattle.aig_topo.specs.Order.{IsLeastReadyOrder}
-use Rattle.aig_circuit.specs.Wellformed.{AreDistinct, IsWellFormed}
-use Rattle.aig_checked.specs.BinaryOrder.{IsInBinaryOrder}
+use Rattle.aig_circuit.specs.Wellformed.{IsWellFormed}
 use Rattle.aig_map.specs.declared.map_block.MapBlock.{MapBlock}
 use Rattle.aig_map.specs.MapBlock.{IsMappedImage}
 use Rattle.aig_map.specs.MapReading.{block_reading}
 use Rattle.aig_map.specs.Parts.Confirmed.{TellsExchanges, TellsComment}
+use Rattle.aig_map.specs.Parts.Tables.{IsFit}
 use Rattle.aig_map.specs.Parts.Turns.{positions}
-use Rattle.aig_map.specs.Undone.{undone, comment_behind, places_recorded}
-use Rattle.aig_map.proofs.BlockReading.Block.{read_is_within, read_is_text}
+use Rattle.aig_map.specs.Undone.{undone, comment_behind}
+use Rattle.aig_map.proofs.BlockReading.Block.{read_is_text}
 use Rattle.aig_map.proofs.Confirming.RecordedRight.{order_recorded, recorded_right}
 use Rattle.aig_map.proofs.Restoring.Again.{image_again}
-use Rattle.aig_map.proofs.Restoring.AtPositions.{IsFit}
 
-pub confirmed_by_order : (x : Circuit) (b : MapBlock) (rest : List ℕ) → IsWellFormed x → IsInBinaryOrder x
-    → block_reading x ≡ Ok (b, rest) → AreDistinct (places_recorded b.gates)
-    → IsWellFormed (undone b (comment_behind b rest) x)
-    → IsMappedImage (undone b (comment_behind b rest) x) x
-    ↔ (IsLeastReadyOrder (undone b (comment_behind b rest) x) (positions b.gates) × TellsExchanges x.gates b.gates
-    × TellsComment b.has_comment rest)
-confirmed_by_order x b rest good ordered read apart from_good =
-    let from : Circuit = undone b (comment_behind b rest) x in
-    let within = read_is_within x b rest read in
-    let fit : IsFit b x = record { ordered = ordered; counts = within.0; bounds = within.1; once = apart } in (
-      λ is. let right = recorded_right from x b rest from_good is read in
-          (order_recorded from x b rest from_good is read, right.0, right.1),
-      λ (least, exchanges, tells). (
-        positions b.gates,
-        least,
-        sym (image_again b x rest fit good from_good.once (read_is_text x b rest read) exchanges tells),
-      ),
-    )
-
-module _ (x : Circuit) (b : MapBlock) (rest : List ℕ) (good : IsWellFormed x) (ordered : IsInBinaryOrder x)
-    (read : block_reading x ≡ Ok (b, rest)) (apart : AreDistinct (places_recorded b.gates))
-    (formed : IsWellFormed (undone b (comment_behind b rest) x)) where
+module _ (x : Circuit) (b : MapBlock) (rest : List ℕ) (good : IsWellFormed x) (fit : IsFit b x)
+    (read : block_reading x ≡ Ok (b, rest)) (formed : IsWellFormed (undone b (comment_behind b rest) x)) where
   abbrev from : Circuit
   from = undone b (comment_behind b rest) x
 
   parts : IsMappedImage from x
       ↔ (IsLeastReadyOrder from (positions b.gates) × TellsExchanges x.gates b.gates × TellsComment b.has_comment rest)
-  parts = confirmed_by_order x b rest good ordered read apart formed
+  parts = (
+    λ is. let right = recorded_right from x b rest formed is read in
+        (order_recorded from x b rest formed is read, right.0, right.1),
+    λ (least, exchanges, tells). (
+      positions b.gates,
+      least,
+      sym (image_again b x rest fit good formed.once (read_is_text x b rest read) exchanges tells),
+    ),
+  )
 
   refuted : ¬ IsMappedImage from x → IsTrue false ↔ IsMappedImage from x
   refuted never = (λ (e : IsTrue false). absurd (true≢false (sym e)), λ (is : IsMappedImage from x). absurd (never is))

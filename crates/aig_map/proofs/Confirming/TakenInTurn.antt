@@ -17,8 +17,9 @@ use Rattle.aig_image.proofs.Imaging.OneByOne.{ordered_at}
 use Rattle.aig_image.proofs.Relabelling.Formed.{variable_there as carried_variable}
 use Rattle.aig_map.specs.declared.map_block.MappedGate.{MappedGate}
 use Rattle.aig_map.specs.declared.map_block.MapBlock.{MapBlock}
+use Rattle.aig_map.specs.Parts.Tables.{IsFit}
 use Rattle.aig_map.specs.Undone.{undone}
-use Rattle.aig_map.proofs.Restoring.AtPositions.{IsFit, places, order, are, too, position_at}
+use Rattle.aig_map.proofs.Restoring.AtPositions.{places, order, are, too, position_at}
 use Rattle.aig_map.proofs.Restoring.Source.{vs, source, start, gates_are, gates_many, back}
 use Rattle.aig_map.proofs.Sources.RecordedAt.{gate_had, none_recorded, recorded_at}
 use Rattle.aig_topo.specs.Order.{IsLeastReadyOrder, TakesLeast, IsFull, gate_operands}

@@ -28,9 +28,10 @@ use Rattle.aig_map.specs.declared.map_block.MappedGate.{MappedGate}
 use Rattle.aig_map.specs.declared.map_block.MapBlock.{MapBlock}
 use Rattle.aig_map.specs.MapBlock.{block_text, mapped_gate, map_block, mapped_by}
 use Rattle.aig_map.specs.Parts.Confirmed.{TellsExchanges, TellsComment}
+use Rattle.aig_map.specs.Parts.Tables.{IsFit}
 use Rattle.aig_map.specs.Undone.{comment_behind, exchanges_recorded, undone}
 use Rattle.aig_map.proofs.Sources.RecordedAt.{gate_had, none_recorded, recorded_at}
-use Rattle.aig_map.proofs.Restoring.AtPositions.{IsFit, places, order, too}
+use Rattle.aig_map.proofs.Restoring.AtPositions.{places, order, too}
 use Rattle.aig_map.proofs.Restoring.Source.{vs, source, start, as_many, new_is, inputs_are, latches_are}
 use Rattle.aig_map.proofs.Restoring.Source.{variable_there, gates_are, back}
 

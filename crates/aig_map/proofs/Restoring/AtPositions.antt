@@ -22,21 +22,12 @@ use Rattle.aig_image.proofs.Relabelling.Formed.{all_through}
 use Rattle.aig_image.proofs.Numbering.Places.{further}
 use Rattle.aig_map.specs.declared.map_block.MappedGate.{MappedGate}
 use Rattle.aig_map.specs.declared.map_block.MapBlock.{MapBlock}
-use Rattle.aig_map.specs.MapReading.{HasCountsOf, IsWithinBounds}
 use Rattle.aig_map.specs.Parts.Had.{gates_there}
-use Rattle.aig_map.specs.Parts.Tables.{ArePut}
+use Rattle.aig_map.specs.Parts.Tables.{ArePut, IsFit}
 use Rattle.aig_map.specs.Parts.Turns.{positions}
 use Rattle.aig_map.specs.Undone.{exchanges_recorded, places_recorded, source_variables, variable_at_place}
 use Rattle.aig_map.proofs.Sources.RecordedAt.{gate_had}
 use Rattle.aig_map.proofs.Sources.Placed.{places_there}
-use Rattle.aig_checked.specs.BinaryOrder.{IsInBinaryOrder}
-
--- a circuit in binary order, and a block that fits it
-pub record IsFit (b : MapBlock) (x : Circuit) : Type 0 where
-  pub ordered : IsInBinaryOrder x
-  pub counts : HasCountsOf b x
-  pub bounds : IsWithinBounds b
-  pub once : AreDistinct (places_recorded b.gates)
 
 abbrev pub variables_recorded : List MappedGate → List ℕ
 variables_recorded gates = map (λ (g : MappedGate). g.var) gates
@@ -76,11 +67,12 @@ module _ (b : MapBlock) (x : Circuit) (fit : IsFit b x) where
   abbrev pub order : List ℕ
   order = positions_of places
 
+  they_are_there : AllByRecursion (λ (g : MappedGate). g.place < length x.gates) b.gates
+  they_are_there =
+      places_there b.max_var (length b.gates) b.gates fit.bounds.gates (length x.gates) fit.counts.gates
+
   both : ArePlaces order places (length x.gates) × ArePlaces places order (length x.gates)
-  both =
-      place_each b.gates (length x.gates) fit.once
-      (places_there b.max_var (length b.gates) b.gates fit.bounds.gates (length x.gates) fit.counts.gates)
-      fit.counts.gates
+  both = place_each b.gates (length x.gates) fit.once they_are_there fit.counts.gates
 
   pub are : ArePlaces order places (length x.gates)
   are = both.0
@@ -108,86 +100,43 @@ module _ (b : MapBlock) (x : Circuit) (fit : IsFit b x) where
       (all_through (λ i. i < length all) InRange (λ i. get_or all i 0)
       (λ i low. at_place InRange 0 all recorded i low) order there)
 
-module _ (gates : List Gate) (recorded : List MappedGate) (once : AreDistinct (places_recorded recorded))
-    (many : length recorded ≡ length gates)
-    (there : AllByRecursion (λ (g : MappedGate). g.place < length gates) recorded) where
-  abbrev told : List ℕ
-  told = places_recorded recorded
-
-  as_many : length told ≡ length gates
-  as_many = length-map recorded (λ (g : MappedGate). g.place) ∙ many
-
-  each_way : ArePlaces (positions recorded) told (length gates) × ArePlaces told (positions recorded) (length gates)
-  each_way = place_each recorded (length gates) once there many
-
   -- there are as many positions as gates, each is below their count, and no two are the same
-  pub positions_many : length (positions recorded) ≡ length gates
-  positions_many = each_way.1.0
-
-  pub positions_there : AllByRecursion (λ p. p < length gates) (positions recorded)
-  positions_there = by_places (λ p. p < length gates) 0 (positions recorded) (λ i low.
-      let here = each_way.1.1 i (omega (arith, low, positions_many)) in
-      omega (arith, here.0, as_many))
-
-  pub positions_once : AreDistinct (positions recorded)
-  positions_once = places_apart told (positions recorded) (length gates) each_way.1
-
-  module _ (vs : List ℕ) where
-    abbrev f : ℕ → ℕ
-    f = source_variable vs
-
-    -- where the gates were put at their positions, they stand as the places are recorded
-    pub gates_put : (us : List Gate) → length us ≡ length gates
-        → taken us (positions recorded) ≡ map (relabelled_gate f) gates → us ≡ gates_there f gates recorded
-    gates_put us long put =
-        sym (taken_back us (positions recorded) told
-        (subst (ArePlaces (positions recorded) told) (sym long) each_way.0))
-        ∙ ap (λ (gs : List Gate). taken gs told) put
-        ∙ sym (taken_mapped (relabelled_gate f) refl gates told)
-
-    exchanged_too : (e : Bool) (g : Gate) → exchanged_if e (relabelled_gate f g) ≡ relabelled_gate f (exchanged_if e g)
-    exchanged_too true g = refl
-    exchanged_too false g = refl
-
-    -- and with operands exchanged as recorded they are the gates of the source
-    pub gates_exchanged : exchanged_by (exchanges_recorded recorded) (gates_there f gates recorded)
-        ≡ map (relabelled_gate f) (map (gate_had gates) recorded)
-    gates_exchanged =
-        simp map-map
-        (exchanged_each (λ (m : MappedGate). m.exchanged) (λ m. relabelled_gate f (at gates m.place)) recorded
-        ∙ map_each (λ m. exchanged_if m.exchanged (relabelled_gate f (at gates m.place)))
-        (λ m. relabelled_gate f (gate_had gates m)) (λ m. exchanged_too m.exchanged (at gates m.place)) recorded)
-
--- a block that tells of the gates of a circuit, and the tables that are made of it
-module _ (b : MapBlock) (x : Circuit) (counts : HasCountsOf b x) (bounds : IsWithinBounds b)
-    (once : AreDistinct (places_recorded b.gates)) where
-  they_are_there : AllByRecursion (λ (g : MappedGate). g.place < length x.gates) b.gates
-  they_are_there = places_there b.max_var (length b.gates) b.gates bounds.gates (length x.gates) counts.gates
-
-  -- the positions are those of its gates
   pub positions_fit : (length (positions b.gates) ≡ length x.gates)
       × AllByRecursion (λ p. p < length x.gates) (positions b.gates) × AreDistinct (positions b.gates)
   positions_fit = (
-    positions_many x.gates b.gates once counts.gates they_are_there,
-    positions_there x.gates b.gates once counts.gates they_are_there,
-    positions_once x.gates b.gates once counts.gates they_are_there,
+    too.0,
+    by_places (λ p. p < length x.gates) 0 order (λ i low.
+        let here = too.1 i (omega (arith, low, too.0)) in omega (arith, here.0, are.0)),
+    places_apart places order (length x.gates) too,
   )
 
   pub flags_fit : length (exchanges_recorded b.gates) ≡ length x.gates
-  flags_fit = length-map b.gates (λ (g : MappedGate). g.exchanged) ∙ counts.gates
+  flags_fit = length-map b.gates (λ (g : MappedGate). g.exchanged) ∙ fit.counts.gates
 
-  -- its gates that were put at the positions stand as the places are recorded
+  abbrev f : ℕ → ℕ
+  f = source_variable (source_variables b)
+
+  -- where the gates were put at their positions, they stand as the places are recorded
   pub put_as_recorded : (vs positions_are : List ℕ) (gates found : List Gate) → vs ≡ source_variables b
       → positions_are ≡ positions b.gates → gates ≡ x.gates → ArePut (source_variable vs) gates positions_are found
       → found ≡ gates_there (source_variable (source_variables b)) x.gates b.gates
   put_as_recorded vs positions_are gates found same_variables same_positions same_gates put =
-      gates_put x.gates b.gates once counts.gates they_are_there (source_variables b) found
-      (put.many ∙ ap length same_gates)
-      (search rules)
+      let long : length found ≡ length x.gates = put.many ∙ ap length same_gates in
+      let stand : taken found order ≡ map (relabelled_gate f) x.gates = search rules in
+      sym (taken_back found order places (subst (ArePlaces order places) (sym long) are))
+      ∙ ap (λ (gs : List Gate). taken gs places) stand
+      ∙ sym (taken_mapped (relabelled_gate f) refl x.gates places)
+
+  exchanged_too : (e : Bool) (g : Gate) → exchanged_if e (relabelled_gate f g) ≡ relabelled_gate f (exchanged_if e g)
+  exchanged_too true g = refl
+  exchanged_too false g = refl
 
   -- and with operands exchanged by the flags they are the gates of the source
   pub exchanged_as_recorded : exchanged_by (exchanges_recorded b.gates)
       (gates_there (source_variable (source_variables b)) x.gates b.gates)
       ≡ map (relabelled_gate (source_variable (source_variables b))) (map (gate_had x.gates) b.gates)
   exchanged_as_recorded =
-      gates_exchanged x.gates b.gates once counts.gates they_are_there (source_variables b)
+      simp map-map
+      (exchanged_each (λ (m : MappedGate). m.exchanged) (λ m. relabelled_gate f (at x.gates m.place)) b.gates
+      ∙ map_each (λ m. exchanged_if m.exchanged (relabelled_gate f (at x.gates m.place)))
+      (λ m. relabelled_gate f (gate_had x.gates m)) (λ m. exchanged_too m.exchanged (at x.gates m.place)) b.gates)

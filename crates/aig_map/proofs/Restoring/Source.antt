@@ -29,8 +29,9 @@ use Rattle.aig_image.proofs.Relabelling.Relabelled.{names_only}
 use Rattle.aig_map.specs.declared.map_block.MappedGate.{MappedGate}
 use Rattle.aig_map.specs.declared.map_block.MapBlock.{MapBlock}
 use Rattle.aig_map.specs.Parts.Had.{without_gates}
+use Rattle.aig_map.specs.Parts.Tables.{IsFit}
 use Rattle.aig_map.specs.Undone.{exchanges_recorded, places_recorded, source_variables, undone, variable_at_place}
-use Rattle.aig_map.proofs.Restoring.AtPositions.{IsFit, places, order, are, too, by_position, row_in_range}
+use Rattle.aig_map.proofs.Restoring.AtPositions.{places, order, are, too, by_position, row_in_range}
 use Rattle.aig_map.proofs.Restoring.AtPositions.{variables_recorded}
 use Rattle.aig_map.proofs.Sources.RecordedAt.{gate_had, none_recorded, recorded_at}
 

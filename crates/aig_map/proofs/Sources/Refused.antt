@@ -18,7 +18,7 @@ use Rattle.aig_map.specs.MapReading.{◌>>=◌, or_else, entries_at, counted_lin
 use Rattle.aig_map.specs.MapReading.{block_reading}
 use Rattle.aig_map.specs.Parts.Confirmed.{ExchangesDiffer}
 use Rattle.aig_map.specs.Undone.{IsMapFault, IsUndoneFrom, comment_behind, places_recorded, undone}
-use Rattle.aig_map.proofs.BlockReading.Block.{read_is_within}
+use Rattle.aig_map.proofs.BlockReading.Block.{read_is_fit}
 use Rattle.aig_map.proofs.Confirming.Exchanges.{source_differs}
 use Rattle.aig_map.proofs.Confirming.RecordedRight.{recorded_right}
 use Rattle.aig_map.proofs.Sources.OneSource.{is_read, one_source, undone_by_read, undoing_recovers}
@@ -134,10 +134,8 @@ module _ (x : Circuit) (b : MapBlock) (rest : List ℕ) (in_order : IsInBinaryOr
       → (e ≡ OutOfMemory) ⊎ ((e ≡ Forged) × (¬ ExchangesDiffer b x)) → IsMapFault x e
   of_exchanges e good =
       unless (ExchangesDiffer b x) (λ c p.
-      let within = read_is_within x b rest read in
       let by = by_block c p in
-      source_differs b x rest
-      (record { ordered = in_order; counts = within.0; bounds = within.1; once = by.0 }) good
+      source_differs b x rest (read_is_fit x b rest in_order read by.0) good
       (subst (λ (d : Circuit). AreDistinct (defined_variables d)) by.1 p.well_formed.once)
       (recorded_right c x b rest p.well_formed p.image read).0) e
 

@@ -2,13 +2,16 @@
 use Rattle.std.specs.Prelude.{◌≡◌, ℕ, List, [], false, Result, Ok, Err, length, map}
 use Rattle.aig_circuit.specs.declared.circuit.Gate.{Gate}
 use Rattle.aig_circuit.specs.declared.circuit.Circuit.{Circuit}
+use Rattle.aig_circuit.specs.Wellformed.{AreDistinct}
+use Rattle.aig_checked.specs.BinaryOrder.{IsInBinaryOrder}
 use Rattle.aig_image.specs.Relabelled.{relabelled_gate}
 use Rattle.aig_image.specs.Reordered.{taken}
 use Rattle.aig_map.specs.declared.fault.MapFault.{MapFault}
 use Rattle.aig_map.specs.declared.map_block.MapBlock.{MapBlock}
 use Rattle.aig_map.specs.declared.recorded.Recorded.{Recorded}
-use Rattle.aig_map.specs.MapReading.{block_reading}
-use Rattle.aig_map.specs.Undone.{comment_behind, exchanges_recorded, undone}
+use Rattle.aig_map.specs.MapReading.{block_reading, HasCountsOf, IsWithinBounds}
+use Rattle.aig_map.specs.Parts.Turns.{positions}
+use Rattle.aig_map.specs.Undone.{comment_behind, exchanges_recorded, places_recorded, undone}
 
 -- the block that was read, or an empty one
 abbrev pub block_in : Result (MapBlock × List ℕ) MapFault → MapBlock
@@ -28,6 +31,24 @@ pub record IsTakenOutOf (b : MapBlock) (r : Recorded) : Type 0 where
   pub max_var : r.max_var ≡ b.max_var
   pub has_comment : r.has_comment ≡ b.has_comment
   pub exchanged : r.exchanged.items ≡ exchanges_recorded b.gates
+
+-- a circuit in binary order, and a block that has its counts and gives no two gates one place
+pub record IsFit (b : MapBlock) (x : Circuit) : Type 0 where
+  pub ordered : IsInBinaryOrder x
+  pub counts : HasCountsOf b x
+  pub bounds : IsWithinBounds b
+  pub once : AreDistinct (places_recorded b.gates)
+
+-- what is kept of the block at the front of a circuit's comment, and what follows the block there
+pub record IsBlockOf (x : Circuit) (r : Recorded) (by_place rest : List ℕ) : Type 0 where
+  -- The circuit is in binary order, and its block has its counts, is within bounds, and gives each gate its own place.
+  pub fit : IsFit (block_read x) x
+  -- The rest of the comment stands behind the block.
+  pub read : block_reading x ≡ Ok (block_read x, rest)
+  -- The table gives the position in the source of the gate at each place of the image.
+  pub placed : by_place ≡ positions (block_read x).gates
+  -- The largest index, the comment section and the exchanges of operands are those that the block records.
+  pub recorded : IsTakenOutOf (block_read x) r
 
 -- these gates, by labels, stand at these positions
 pub record ArePut (f : ℕ → ℕ) (gates : List Gate) (positions : List ℕ) (found : List Gate) : Type 0 where

@@ -1,24 +1,39 @@
 -- Who waits for whom, where gates are looked at, let wait, released and taken, the least ready one each time.
 use Rattle.std.proofs.Common.{rules}
-use Rattle.std.proofs.Common.{◌≡◌, ◌≢◌, ◌<◌, ◌≤◌, ◌+◌, ℕ, suc, List, [], ◌∷◌, ◌++◌, eqb, Bool, length, get_or}
+use Rattle.std.proofs.Common.{◌≡◌, ◌≢◌, ◌<◌, ◌≤◌, ◌+◌, ◌-◌, ℕ, suc, List, [], ◌∷◌, ◌++◌, eqb, Bool, length, get_or}
 use Rattle.std.proofs.Common.{true, false, Option, None, Some, refl, sym, ap, subst, ◌∙◌, ◌⊎◌, inl, inr, ⊎_elim, arith}
-use Rattle.std.proofs.Common.{true≢false}
+use Rattle.std.proofs.Common.{true≢false, map}
 use mathlib.Core.Bool.{◌||◌, ◌&&◌, not}
+use Rattle.std.specs.List.{AllByRecursion, sum}
 use Rattle.std.proofs.Math.ListN.{set as put}
 use Rattle.std.proofs.lemmas.Bool.{cases_lt}
 use Rattle.std.proofs.lemmas.Bool.Decides.{eqb_tells}
+use Rattle.std.proofs.lemmas.List.{length-append, get_or-set_same}
+use Rattle.aig_circuit.specs.declared.circuit.TheConstants.{LARGEST}
+use Rattle.aig_circuit.specs.declared.circuit.Gate.{Gate}
 use Rattle.aig_circuit.specs.Wellformed.{IsAmong}
+use Rattle.aig_circuit.proofs.Checking.InForm.{joined}
+use Rattle.aig_topo.specs.declared.least_ready.taking.Search.{Search}
+use Rattle.aig_topo.specs.declared.lists.GateNeeds.{GateNeeds}
 use Rattle.aig_topo.specs.declared.lists.GateNode.{GateNode}
+use Rattle.aig_topo.specs.declared.lists.Lists.{Lists}
 use Rattle.aig_topo.specs.declared.operands.Needs.{Needs}
 use Rattle.aig_topo.specs.Order.{TakesLeast, IsFull, left_over}
-use Rattle.aig_topo.specs.Lists.{needs_in, links_in, list_in, AreLists}
-use Rattle.aig_topo.specs.Needs.{linked, needs_at}
-use Rattle.aig_topo.specs.Waiting.{needs_by, rest_by, HasAll, Suffices, AreApart, IsServed, WaitsFor, RowsWait}
+use Rattle.aig_topo.specs.Lists.{needs_in, links_in, list_in, first_of, AreLists, AreNeedsOf}
+use Rattle.aig_topo.specs.Needs.{linked, needs_at, how_many, AreThere}
+use Rattle.aig_topo.specs.Progress.{Progress, CountsFor}
+use Rattle.aig_topo.specs.Ready.{Tree, has, room}
+use Rattle.aig_topo.specs.Waiting.{rest_by, HasAll, Suffices, AreApart, IsRoomy, IsServed, WaitsFor, RowsWait}
+use Rattle.aig_topo.specs.Waiting.{Stands}
+use Rattle.aig_topo.proofs.Ordering.Asked.{counts_one}
 use Rattle.aig_topo.proofs.Ordering.Counted.{among_first, in_longer}
 use Rattle.aig_topo.proofs.Ordering.Cyclic.{among_last}
 use Rattle.aig_topo.proofs.Ordering.LeastReady.{among_or_not}
-use Rattle.aig_topo.proofs.Ordering.LeftOver.{missing_first, none_left, all_in, still_none}
-use Rattle.aig_topo.proofs.Ordering.Rows.{rest_here, rest_elsewhere, needs_elsewhere}
+use Rattle.aig_topo.proofs.Ordering.LeftOver.{listed_first, missing_first, none_left, all_in, still_none}
+use Rattle.aig_topo.proofs.Ordering.Needs.{as_long, are_there, as_many_counts, each_count}
+use Rattle.aig_topo.proofs.Ordering.Rows.{as_many_needs}
+use Rattle.aig_topo.proofs.Ordering.Rows.{rest_here, rest_elsewhere, needs_elsewhere, as_many, as_many_links, as_many_then}
+use Rattle.aig_topo.proofs.Ordering.Rows.{first_fits, there_then, rest_there}
 use Rattle.aig_topo.proofs.Ordering.TakenLeast.{at_the_end}
 
 -- what holds by a list holds by a longer one
@@ -30,235 +45,371 @@ still_waits : (m seen u n : ℕ) (list more needs rest : List ℕ) → HasAll li
     → WaitsFor m seen u list needs rest n → WaitsFor m seen u more needs rest n
 still_waits m seen u n list more needs rest has_all w = search rules
 
-module _ (needs : ℕ → List ℕ) (list : List ℕ) (rows : List GateNode) where
+-- a gate is put at the front of a list
+module _ (rows new : List GateNode) (gate m : ℕ) (front : list_in new m ≡ gate ∷ list_in rows m)
+    (others : (k : ℕ) → k ≢ m → list_in new k ≡ list_in rows k) where
+  in_more : (k u : ℕ) → IsAmong u (list_in new k) → ((u ≡ gate) × (k ≡ m)) ⊎ IsAmong u (list_in rows k)
+  in_more k u a = search (rules, eqb_tells)
+
+  to_more : (k u : ℕ) → IsAmong u (list_in rows k) → IsAmong u (list_in new k)
+  to_more k u a = search (rules, eqb_tells)
+
+  apart_still : ((k : ℕ) → ¬ IsAmong gate (list_in rows k)) → AreApart (links_in rows) → AreApart (links_in new)
+  apart_still nowhere apart k n u a b =
+      ⊎_elim (search (rules, in_more))
+      (λ (i : IsAmong u (list_in rows k)).
+      ⊎_elim
+      (λ (f : (u ≡ gate) × (n ≡ m)). absurd (nowhere k (rw f.0 at i)))
+      (λ (j : IsAmong u (list_in rows n)). apart k n u i j) (in_more n u b))
+      (in_more k u a)
+
+-- the gate at the front is taken out of a list
+module _ (rows new : List GateNode) (m u : ℕ) (front : list_in rows m ≡ u ∷ list_in new m)
+    (others : (k : ℕ) → k ≢ m → list_in new k ≡ list_in rows k) where
+  pub back : (k v : ℕ) → IsAmong v (list_in new k) → IsAmong v (list_in rows k)
+  back k v a = search (rules, eqb_tells)
+
+  pub was_there : IsAmong u (list_in rows m)
+  was_there = subst (IsAmong u) (sym front) (inl refl)
+
+  pub gone : AreLists (links_in rows) → AreApart (links_in rows) → (k : ℕ) → ¬ IsAmong u (list_in new k)
+  gone lists apart k a =
+      let same : k ≡ m = apart k m u (back k u a) was_there in search rules
+
+  apart_too : AreApart (links_in rows) → AreApart (links_in new)
+  apart_too apart k n v a b = apart k n v (back k v a) (back n v b)
+
+-- who waits for a listed gate did so before, where their lists are the same
+pub still_lacks : (rows new : List GateNode) (list more : List ℕ) (served : Option ℕ) → more ≡ list
+    → ((g : ℕ) → IsAmong g list → list_in new g ≡ list_in rows g)
+    → ((m u : ℕ) → served ≢ Some m → IsAmong u (list_in rows m) → ¬ IsAmong m list)
+    → (m u : ℕ) → served ≢ Some m → IsAmong u (list_in new m) → ¬ IsAmong m more
+still_lacks rows new list more served is same lacks m u s a b =
+    let there : IsAmong m list = subst (IsAmong m) is b in
+    lacks m u s (subst (IsAmong u) (same m there) a) there
+
+abbrev pub search_of : Progress → Lists → Tree → ℕ → Search
+search_of order lists ready seen = record { order = order; lists = lists; ready = ready; seen = seen }
+
+module _ (all : List Needs) (lists : Lists) (ready : Tree) (seen : ℕ) where
   -- operands are counted of a gate that is taken out of its list
-  pub recounted : (old new : List ℕ) (gate : ℕ) → ((u : ℕ) → u ≢ gate → get_or new u 0 ≡ get_or old u 0)
-      → ((k : ℕ) → ¬ IsAmong gate (list_in rows k)) → (has : ℕ → Bool) (seen : ℕ) (served : Option ℕ)
-      → RowsWait needs rows list old has seen served (Some gate)
-      → RowsWait needs rows list new has seen served (Some gate)
-  recounted old new gate same nowhere has seen served wait =
-      let out = wait.taken_out gate refl in record {
-        listed = search rules;
-        ready = search rules;
-        waits = λ m u a. subst (WaitsFor m seen u list (needs u) (rest_by rows u))
-            (sym (same u (λ e. nowhere m (rw e at a)))) (wait.waits m u a);
-        lacks = wait.lacks;
+  pub recounted : (old new : Progress) (gate : ℕ) → CountsFor gate old new
+      → RowsWait all (Some gate) (search_of old lists ready seen)
+      → RowsWait all (Some gate) (search_of new lists ready seen)
+  recounted old new gate for_gate wait =
+      let down = for_gate.down in
+      let out = wait.taken_out gate refl in
+      let same : (u : ℕ) → u ≢ gate → get_or new.waiting u 0 ≡ get_or old.waiting u 0 = for_gate.others in
+      subst (λ l. RowsWait all (Some gate)
+      (search_of (record { list = l; waiting = new.waiting; steps = new.steps }) lists ready seen)) (sym down.list)
+      (record {
+        room = rw down.as_many wait.room;
+        within = wait.within;
+        in_turn = wait.in_turn;
+        paid = down.paid ∙ wait.paid;
+        listed = λ u a. subst (IsServed seen u old.list (needs_at all u))
+            (sym (same u (λ e. out.1 (subst (λ v. IsAmong v old.list) e a)))) (wait.listed u a);
+        ready = λ u h. let w = wait.ready u h in (
+          subst (IsServed seen u old.list (needs_at all u))
+              (sym (same u (λ e. true≢false (sym h ∙ (ap (has ready) e ∙ out.2))))) w.0,
+          w.1,
+        );
+        waits = λ m u a. subst (WaitsFor m seen u old.list (needs_at all u) (rest_by lists.rows.items u))
+            (sym (same u (λ e. out.3 m (subst (λ v. IsAmong v (list_in lists.rows.items m)) e a)))) (wait.waits m u a);
         each = wait.each;
         taken_out = wait.taken_out;
-        unasked = search rules;
-      }
+        unasked = λ u above. let w = wait.unasked u above in
+            (w.0, same u (λ e. omega (arith, e, out.0, above)) ∙ w.1);
+      })
 
-  -- a gate is put into the list of one that it needs
-  module _ (new : List GateNode) (gate m rest first : ℕ) (front : list_in new m ≡ gate ∷ list_in rows m)
-      (others : (k : ℕ) → k ≢ m → list_in new k ≡ list_in rows k)
-      (now : needs_in new ≡ put (needs_in rows) gate (record { left = first; right = rest }))
-      (nowhere : (k : ℕ) → ¬ IsAmong gate (list_in rows k)) where
-    in_more : (k u : ℕ) → IsAmong u (list_in new k) → ((u ≡ gate) × (k ≡ m)) ⊎ IsAmong u (list_in rows k)
-    in_more k u a = search (rules, eqb_tells)
-
-    to_more : (k u : ℕ) → IsAmong u (list_in rows k) → IsAmong u (list_in new k)
-    to_more k u a = search (rules, eqb_tells)
-
-    pub rows_wait_in_list : gate < length rows → ¬ IsAmong m list → (waiting : List ℕ)
-        → get_or waiting gate 0 ≡ suc (length (linked rest)) → Suffices list (needs gate) (m ∷ linked rest)
-        → (has : ℕ → Bool) (seen : ℕ) (served : Option ℕ)
-        → RowsWait needs rows list waiting has seen served (Some gate)
-        → RowsWait needs new list waiting has seen served None
-    rows_wait_in_list there missing waiting counted enough has seen served wait =
-        let n : Needs = record { left = first; right = rest } in
-        let out = wait.taken_out gate refl in
-        let here : WaitsFor m seen gate list (needs gate) (linked rest) (get_or waiting gate 0) =
-        record { below = out.0; enough = enough; counted = counted } in record {
-          listed = wait.listed;
-          ready = wait.ready;
-          waits = λ k u a. ⊎_elim
-              (λ (e : (u ≡ gate) × (k ≡ m)).
-              rw e.1 (subst (λ z. WaitsFor m seen z list (needs z) (rest_by new z) (get_or waiting z 0)) (sym e.0)
-              (subst (λ xs. WaitsFor m seen gate list (needs gate) xs (get_or waiting gate 0))
-              (sym (rest_here rows new gate n now there)) here)))
-              (λ (i : IsAmong u (list_in rows k)).
-              let other : u ≢ gate = λ e. nowhere k (rw e at i) in
-              rw (rest_elsewhere rows new gate n now u other) (wait.waits k u i))
-              (in_more k u a);
-          lacks = λ k u s a. ⊎_elim
-              (λ (e : (u ≡ gate) × (k ≡ m)). rw e.1 missing)
-              (wait.lacks k u s) (in_more k u a);
-          each = λ u l. ⊎_elim (λ (a : IsAmong u list). inl a)
-              (λ rest. ⊎_elim (λ (h : has u ≡ true). inr (inl h))
-              (λ late. ⊎_elim (λ (w : (k : ℕ) × IsAmong u (list_in rows k)). inr (inr (inl (w.0, to_more w.0 u w.1))))
-              (λ (o : Some gate ≡ Some u). let e : gate ≡ u = cc in
-              inr (inr (inl (m, subst (IsAmong u) (sym front) (inl (sym e)))))) late) rest) (wait.each u l);
-          taken_out = λ u o. cc;
-          unasked = λ u above. let w = wait.unasked u above in
-              (needs_elsewhere rows new gate n now u (λ e. omega (arith, e, out.0, above)) ∙ w.0, w.1);
-        }
-
-    pub apart_still : AreApart (links_in rows) → AreApart (links_in new)
-    apart_still apart k n u a b =
-        ⊎_elim (search (rules, in_more))
-        (λ (i : IsAmong u (list_in rows k)).
-        ⊎_elim
-        (λ (f : (u ≡ gate) × (n ≡ m)). absurd (nowhere k (rw f.0 at i)))
-        (λ (j : IsAmong u (list_in rows n)). apart k n u i j) (in_more n u b))
-        (in_more k u a)
-
-  -- a gate is put among those that are ready
-  pub rows_wait_no_more : (waiting : List ℕ) (has now : ℕ → Bool) (gate : ℕ) → left_over list (needs gate) ≡ 0
-      → get_or waiting gate 0 ≡ 0 → ((u : ℕ) → now u ≡ (eqb u gate || has u)) → (seen : ℕ) (served : Option ℕ)
-      → RowsWait needs rows list waiting has seen served (Some gate)
-      → RowsWait needs rows list waiting now seen served None
-  rows_wait_no_more waiting has now gate none counted told seen served wait = search (rules, eqb_tells)
-
-  -- the first gate is taken out of a list
-  module _ (new : List GateNode) (list_at u : ℕ) (lists : AreLists (links_in rows))
-      (front : list_in rows list_at ≡ u ∷ list_in new list_at)
-      (others : (k : ℕ) → k ≢ list_at → list_in new k ≡ list_in rows k) where
-    back : (k v : ℕ) → IsAmong v (list_in new k) → IsAmong v (list_in rows k)
-    back k v a = search (rules, eqb_tells)
-
-    pub was_there : IsAmong u (list_in rows list_at)
-    was_there = subst (IsAmong u) (sym front) (inl refl)
-
-    pub gone : AreApart (links_in rows) → (k : ℕ) → ¬ IsAmong u (list_in new k)
-    gone apart k a =
-        let same : k ≡ list_at = apart k list_at u (back k u a) was_there in search rules
-
-    pub apart_too : AreApart (links_in rows) → AreApart (links_in new)
-    apart_too apart k n v a b = apart k n v (back k v a) (back n v b)
-
-    module _ (waiting : List ℕ) (has : ℕ → Bool) (seen : ℕ) (served : Option ℕ)
-        (wait : RowsWait needs rows list waiting has seen served None) where
-      -- it waits for some, so it is neither listed nor ready
-      waited : WaitsFor list_at seen u list (needs u) (rest_by rows u) (get_or waiting u 0)
-      waited = wait.waits list_at u was_there
-
-      idle_not : (b : Bool) → has u ≡ b → b ≡ false
-      idle_not true h = absurd (omega (arith, waited.counted, (wait.ready u h).0.counted))
-      idle_not false h = refl
-
-      pub rows_taken_out : needs_in new ≡ needs_in rows → RowsWait needs new list waiting has seen served (Some u)
-      rows_taken_out same = record {
+module _ (all : List Needs) (lists : Lists) (ready : Tree) (seen : ℕ) where
+  -- it is put into the list of one that it needs
+  pub rows_wait_in_list : (old order : Progress) (new : Lists) (gate m rest : ℕ) → CountsFor gate old order
+      → AreLists (links_in new.rows.items)
+      → needs_in new.rows.items ≡ put (needs_in lists.rows.items) gate
+      (record { left = first_of (links_in lists.rows.items) m; right = rest })
+      → list_in new.rows.items m ≡ gate ∷ list_in lists.rows.items m
+      → ((k : ℕ) → k ≢ m → list_in new.rows.items k ≡ list_in lists.rows.items k) → ¬ IsAmong m old.list
+      → get_or order.waiting gate 0 ≡ suc (length (linked rest))
+      → Suffices old.list (needs_at all gate) (m ∷ linked rest)
+      → AllByRecursion (λ h. h < length old.waiting) (linked rest)
+      → RowsWait all (Some gate) (search_of old lists ready seen) → RowsWait all None (search_of order new ready seen)
+  rows_wait_in_list old order new gate m rest for_gate lists_new now front others lacks counted suffices fit waits =
+      let rows : List GateNode = lists.rows.items in
+      let more : List GateNode = new.rows.items in
+      let list : List ℕ = order.list in
+      let wait = recounted all lists ready seen old order gate for_gate waits in
+      let same = for_gate.down.list in
+      let missing : ¬ IsAmong m list = subst (λ l. ¬ IsAmong m l) (sym same) lacks in
+      let enough : Suffices list (needs_at all gate) (m ∷ linked rest) =
+      subst (λ l. Suffices l (needs_at all gate) (m ∷ linked rest)) (sym same) suffices in
+      let out = wait.taken_out gate refl in
+      let r = wait.room in
+      let first : ℕ = first_of (links_in rows) m in
+      let n : Needs = record { left = first; right = rest } in
+      let there : gate < length rows = omega (arith, out.0, wait.within, r.many) in
+      let long : length more ≡ length rows = as_many_then rows more gate n now in
+      let fits : AllByRecursion (λ h. h < length rows) (linked first ++ linked rest) =
+      joined (λ h. h < length rows) (linked first) (linked rest)
+      (subst (λ c. AllByRecursion (λ h. h < c) (linked first)) (as_many_links rows) (first_fits (links_in rows) m r.lists))
+      (subst (λ c. AllByRecursion (λ h. h < c) (linked rest)) (waits.room.counted ∙ sym r.many) fit) in
+      let here : WaitsFor m seen gate list (needs_at all gate) (linked rest) (get_or order.waiting gate 0) =
+      record { below = out.0; enough = enough; counted = counted } in record {
+        room = record {
+          few = r.few;
+          many = long ∙ r.many;
+          there = there_then rows more gate n now there fits r.there;
+          counted = r.counted;
+          ready = r.ready;
+          lists = lists_new;
+          apart = apart_still rows more gate m front others out.3 r.apart;
+        };
+        within = wait.within;
+        in_turn = wait.in_turn;
+        paid = wait.paid;
         listed = wait.listed;
         ready = wait.ready;
-        waits = λ k v a. rw same (wait.waits k v (back k v a));
-        lacks = λ k v s a. wait.lacks k v s (back k v a);
-        each = search (rules, eqb_tells);
-        taken_out = λ v o. let e : u ≡ v = cc in
-            rw (← e) (
-              waited.below,
-              λ a. omega (arith, waited.counted, (wait.listed u a).counted),
-              idle_not (has u) refl,
-            );
-        unasked = λ v above. let w = wait.unasked v above in (ap (λ ns. needs_at ns v) same ∙ w.0, w.1);
+        waits = λ k u a. ⊎_elim
+            (λ (e : (u ≡ gate) × (k ≡ m)).
+            rw e.1 (subst (λ z. WaitsFor m seen z list (needs_at all z) (rest_by more z) (get_or order.waiting z 0))
+            (sym e.0)
+            (subst (λ xs. WaitsFor m seen gate list (needs_at all gate) xs (get_or order.waiting gate 0))
+            (sym (rest_here rows more gate n now there)) here)))
+            (λ (i : IsAmong u (list_in rows k)).
+            let other : u ≢ gate = λ e. out.3 k (rw e at i) in
+            subst (λ xs. WaitsFor k seen u list (needs_at all u) xs (get_or order.waiting u 0))
+            (sym (rest_elsewhere rows more gate n now u other)) (wait.waits k u i))
+            (in_more rows more gate m front others k u a);
+        each = λ u l. ⊎_elim (λ (a : IsAmong u list). inl a)
+            (λ rest. ⊎_elim (λ (h : has ready u ≡ true). inr (inl h))
+            (λ late. ⊎_elim
+            (λ (w : (k : ℕ) × IsAmong u (list_in rows k)).
+            inr (inr (inl (w.0, to_more rows more gate m front others w.0 u w.1))))
+            (λ (o : Some gate ≡ Some u). let e : gate ≡ u = cc in
+            inr (inr (inl (m, subst (IsAmong u) (sym front) (inl (sym e)))))) late) rest) (wait.each u l);
+        taken_out = λ u o. cc;
+        unasked = λ u above. let w = wait.unasked u above in
+            (needs_elsewhere rows more gate n now u (λ e. omega (arith, e, out.0, above)) ∙ w.0, w.1);
       }
 
-  -- a gate's list is empty
-  pub rows_served : (waiting : List ℕ) (has : ℕ → Bool) (seen g : ℕ) → list_in rows g ≡ []
-      → RowsWait needs rows list waiting has seen (Some g) None
-      → RowsWait needs rows list waiting has seen None None
-  rows_served waiting has seen g none wait = record {
-    listed = wait.listed;
-    ready = wait.ready;
-    waits = wait.waits;
-    lacks = λ m u _ a. wait.lacks m u
-        (λ s. let e : g ≡ m = cc in subst (IsAmong u) none (rw e a)) a;
-    each = wait.each;
-    taken_out = wait.taken_out;
-    unasked = wait.unasked;
-  }
+  -- or it is put among those that are ready
+  pub rows_wait_no_more : (old order : Progress) (now : Tree) (gate : ℕ) → CountsFor gate old order
+      → left_over old.list (needs_at all gate) ≡ 0 → get_or order.waiting gate 0 ≡ 0
+      → ((u : ℕ) → has now u ≡ (eqb u gate || has ready u)) → room now ≡ room ready
+      → RowsWait all (Some gate) (search_of old lists ready seen) → RowsWait all None (search_of order lists now seen)
+  rows_wait_no_more old order now gate for_gate left counted told bits waits =
+      let wait = recounted all lists ready seen old order gate for_gate waits in
+      let list : List ℕ = order.list in
+      let none : left_over list (needs_at all gate) ≡ 0 =
+      subst (λ l. left_over l (needs_at all gate) ≡ 0) (sym for_gate.down.list) left in
+      let bits_too : IsRoomy (length all) lists.rows.items (length order.waiting) (room now) = rw bits wait.room in
+      search (rules, eqb_tells)
 
-  module _ (waiting : List ℕ) (has : ℕ → Bool) (seen : ℕ)
-      (wait : RowsWait needs rows list waiting has seen None None) where
+  module _ (order : Progress) (served : Option ℕ) (stands : Stands all served (search_of order lists ready seen)) where
+    -- the first gate is taken out of a list
+    module _ (new : Lists) (m u : ℕ) (lists_new : AreLists (links_in new.rows.items))
+        (same : needs_in new.rows.items ≡ needs_in lists.rows.items)
+        (front : list_in lists.rows.items m ≡ u ∷ list_in new.rows.items m)
+        (others : (k : ℕ) → k ≢ m → list_in new.rows.items k ≡ list_in lists.rows.items k) where
+      -- it waits for some, so it is neither listed nor ready
+      pub waited : WaitsFor m seen u order.list (needs_at all u) (rest_by lists.rows.items u) (get_or order.waiting u 0)
+      waited = stands.waits.waits m u (was_there lists.rows.items new.rows.items m u front others)
+
+      idle_not : (b : Bool) → has ready u ≡ b → b ≡ false
+      idle_not true h = absurd (omega (arith, waited.counted, (stands.waits.ready u h).0.counted))
+      idle_not false h = refl
+
+      pub rows_taken_out : RowsWait all (Some u) (search_of order new ready seen)
+      rows_taken_out =
+          let rows : List GateNode = lists.rows.items in
+          let less : List GateNode = new.rows.items in
+          let wait = stands.waits in
+          let r = wait.room in
+          let before = back rows less m u front others in record {
+            room = record {
+              few = r.few;
+              many = as_many rows less same ∙ r.many;
+              there = subst AreThere (sym same) r.there;
+              counted = r.counted;
+              ready = r.ready;
+              lists = lists_new;
+              apart = apart_too rows less m u front others r.apart;
+            };
+            within = wait.within;
+            in_turn = wait.in_turn;
+            paid = wait.paid;
+            listed = wait.listed;
+            ready = wait.ready;
+            waits = λ k v a. rw same (wait.waits k v (before k v a));
+            each = search (rules, eqb_tells);
+            taken_out = λ v o. let e : u ≡ v = cc in
+                rw (← e) (
+                  waited.below,
+                  λ a. omega (arith, waited.counted, (wait.listed u a).counted),
+                  idle_not (has ready u) refl,
+                  gone rows less m u front others r.lists r.apart,
+                );
+            unasked = λ v above. let w = wait.unasked v above in (ap (λ ns. needs_at ns v) same ∙ w.0, w.1);
+          }
+
+      -- an operand of it is counted, the rest of what it needs is asked for, and it is entered again
+      module _ (less : Progress) (ahead : ℕ) (ahead_is : linked ahead ≡ rest_by lists.rows.items u)
+          (counts : less.waiting ≡ put order.waiting u (get_or order.waiting u 0 - 1))
+          (steps : less.steps ≡ order.steps + 1) (list : less.list ≡ order.list) where
+        fits : u < length order.waiting
+        fits = omega (arith, waited.below, stands.waits.within, stands.waits.room.counted)
+
+        pub entered_again : IsAmong m order.list → RowsWait all (Some u) (search_of less new ready seen)
+            × (AllByRecursion (λ h. h < length all) (linked ahead) × ((get_or less.waiting u 0 ≡ length (linked ahead))
+            × Suffices less.list (needs_at all u) (linked ahead)))
+        entered_again taken = (
+          recounted all new ready seen order less u
+              (counts_one u order less fits (omega (arith, waited.counted)) counts steps list) rows_taken_out,
+          (
+            rw ahead_is (subst (λ n. AllByRecursion (λ h. h < n) (rest_by lists.rows.items u)) stands.waits.room.many
+                (rest_there lists.rows.items stands.waits.room.there u)),
+            (
+              ap (λ ws. get_or ws u 0) counts
+                  ∙ get_or-set_same order.waiting u (get_or order.waiting u 0 - 1) 0 fits
+                  ∙ omega (arith, waited.counted)
+                  ∙ ap length (sym ahead_is),
+              λ more has_all.
+                  let has : HasAll order.list more = λ g a. has_all g (subst (IsAmong g) (sym list) a) in
+                  waited.enough more has
+                  ∙ listed_first more m (rest_by lists.rows.items u) (has m taken)
+                  ∙ ap (left_over more) (sym ahead_is),
+            ),
+          ),
+        )
+
+    -- a gate's list is empty
+    pub rows_served : (g : ℕ) → served ≡ Some g → list_in lists.rows.items g ≡ []
+        → Stands all None (search_of order lists ready seen)
+    rows_served g is none = record {
+      waits = stands.waits;
+      lacks = λ m u _ a. stands.lacks m u
+          (λ s. let e : g ≡ m = cc in subst (IsAmong u) none (rw e a)) a;
+    }
+
+  module _ (order : Progress) (stands : Stands all None (search_of order lists ready seen)) where
     -- one more gate is looked at
-    later : (u n : ℕ) (ns : List ℕ) → IsServed seen u list ns n → IsServed (seen + 1) u list ns n
+    later : (u n : ℕ) (ns : List ℕ) → IsServed seen u order.list ns n → IsServed (seen + 1) u order.list ns n
     later u n ns s = record { below = omega (arith, s.below); none = s.none; counted = s.counted }
 
-    not_yet : (b : Bool) → has seen ≡ b → b ≡ false
-    not_yet true h = absurd (omega (arith, (wait.ready seen h).0.below))
+    not_yet : (b : Bool) → has ready seen ≡ b → b ≡ false
+    not_yet true h = absurd (omega (arith, (stands.waits.ready seen h).0.below))
     not_yet false h = refl
 
-    pub rows_looked_at : RowsWait needs rows list waiting has (seen + 1) None (Some seen)
-    rows_looked_at = record {
-      listed = λ u a. later u (get_or waiting u 0) (needs u) (wait.listed u a);
-      ready = λ u h. let w = wait.ready u h in (later u (get_or waiting u 0) (needs u) w.0, w.1);
+    pub rows_looked_at : seen < length all → RowsWait all (Some seen) (search_of order lists ready (seen + 1))
+    rows_looked_at there = let wait = stands.waits in record {
+      room = wait.room;
+      within = omega (arith, there);
+      in_turn = wait.in_turn;
+      paid = wait.paid;
+      listed = search (rules, later, wait.listed);
+      ready = search (rules, later, wait.ready);
       waits = λ m u a. let w = wait.waits m u a in
           record { below = omega (arith, w.below); enough = w.enough; counted = w.counted };
-      lacks = wait.lacks;
       each = search (rules, cases_lt);
       taken_out = search (rules, not_yet);
       unasked = λ u above. wait.unasked u (omega (arith, above));
     }
 
     -- who waits lacks some
-    some_left : (m u : ℕ) → IsAmong u (list_in rows m)
-        → left_over list (needs u) ≡ suc (left_over list (rest_by rows u))
+    some_left : (m u : ℕ) → IsAmong u (list_in lists.rows.items m)
+        → left_over order.list (needs_at all u) ≡ suc (left_over order.list (rest_by lists.rows.items u))
     some_left m u a =
-        (wait.waits m u a).enough list (λ g b. b)
-        ∙ missing_first list m (rest_by rows u) (wait.lacks m u (λ e. cc) a)
+        (stands.waits.waits m u a).enough order.list (λ g b. b)
+        ∙ missing_first order.list m (rest_by lists.rows.items u) (stands.lacks m u (λ e. cc) a)
 
     -- where all were looked at and none is ready, no gate can be added
-    pub nothing_left : (count : ℕ) → count ≤ seen → ((g : ℕ) → has g ≡ false) → IsFull count needs list
-    nothing_left count all none g there served = search (rules, all_in, among_or_not, some_left)
+    module _ (none : (g : ℕ) → has ready g ≡ false) where
+      pub nothing_left : seen ≡ length all → IsFull (length all) (needs_at all) order.list
+      nothing_left looked g there served = search (rules, all_in, among_or_not, some_left)
 
-    -- and a gate waits for what is left over, once the rest of what it needs is counted
-    module _ (none : (g : ℕ) → has g ≡ false) where
-      pub one_and_rest : (u : ℕ) → 0 < get_or waiting u 0 → u < seen
-          → get_or waiting u 0 ≡ suc (length (rest_by rows u))
+      -- and a gate waits for what is left over, once the rest of what it needs is counted
+      pub one_and_rest : (u : ℕ) → 0 < get_or order.waiting u 0 → u < seen
+          → get_or order.waiting u 0 ≡ suc (length (rest_by lists.rows.items u))
       one_and_rest u some there = search rules
 
-      pub left_is_counted : (u n : ℕ) → u < seen → (get_or waiting u 0 ≡ 0 → n ≡ 0)
-          → (0 < get_or waiting u 0 → n ≡ suc (left_over list (rest_by rows u))) → n ≡ left_over list (needs u)
+      pub left_is_counted : (u n : ℕ) → u < seen → (get_or order.waiting u 0 ≡ 0 → n ≡ 0)
+          → (0 < get_or order.waiting u 0 → n ≡ suc (left_over order.list (rest_by lists.rows.items u)))
+          → n ≡ left_over order.list (needs_at all u)
       left_is_counted u n there idle counted = search (rules, some_left)
 
     -- the least that is ready comes next
-    module _ (count g : ℕ) (few : seen ≤ count) (ready : has g ≡ true) (least : (h : ℕ) → has h ≡ true → g ≤ h) where
-      pub goes_on_in_turn : TakesLeast count needs [] list → TakesLeast count needs [] (list ++ g ∷ [])
-      goes_on_in_turn in_turn = search (rules, at_the_end, none_left, all_in, cases_lt, some_left)
+    module _ (g : ℕ) (first : has ready g ≡ true) (least : (h : ℕ) → has ready h ≡ true → g ≤ h) where
+      goes_on_in_turn : TakesLeast (length all) (needs_at all) [] (order.list ++ g ∷ [])
+      goes_on_in_turn =
+          let seen_few : seen ≤ length all = stands.waits.within in
+          let in_turn = stands.waits.in_turn in
+          search (rules, at_the_end, none_left, all_in, cases_lt, some_left)
 
-      longer : HasAll list (list ++ g ∷ [])
-      longer h a = among_first h list (g ∷ []) a
+      longer : HasAll order.list (order.list ++ g ∷ [])
+      longer h a = among_first h order.list (g ∷ []) a
 
       -- and then the others in its list are served
-      pub rows_taken : (popped : ℕ → Bool) → ((u : ℕ) → popped u ≡ (not (eqb u g) && has u))
-          → RowsWait needs rows (list ++ g ∷ []) waiting popped seen (Some g) None
-      rows_taken popped rest =
-          let w = wait.ready g ready in
+      pub rows_taken : (popped : Tree) → ((u : ℕ) → has popped u ≡ (not (eqb u g) && has ready u))
+          → room popped ≡ room ready
+          → Stands all (Some g) (search_of
+          (record { list = order.list ++ g ∷ []; waiting = order.waiting; steps = order.steps + 1 }) lists popped seen)
+      rows_taken popped rest bits =
+          let list : List ℕ = order.list in
+          let wait = stands.waits in
+          let w = wait.ready g first in
           let more : List ℕ = list ++ g ∷ [] in record {
-            listed = λ u a. ⊎_elim
-                (λ (b : IsAmong u list).
-                still_served seen u (get_or waiting u 0) list more (needs u) longer (wait.listed u b))
-                (λ (e : u ≡ g).
-                rw e (still_served seen g (get_or waiting g 0) list more (needs g) longer w.0)) (in_longer list g u a);
-            ready = λ u p. ⊎_elim
-                (λ (t : (eqb u g ≡ true) × (u ≡ g)).
-                absurd (true≢false (sym p ∙ (rest u ∙ ap (λ b. not b && has u) t.0))))
-                (λ (f : (eqb u g ≡ false) × (u ≢ g)).
-                let v = wait.ready u (sym (rest u ∙ ap (λ b. not b && has u) f.0) ∙ p) in (
-                  still_served seen u (get_or waiting u 0) list more (needs u) longer v.0,
-                  λ a. ⊎_elim v.1 f.1 (in_longer list g u a),
-                ))
-                (eqb_tells u g);
-            waits = λ k u a.
-                still_waits k seen u (get_or waiting u 0) list more (needs u) (rest_by rows u) longer (wait.waits k u a);
-            lacks = λ k u s a b. ⊎_elim (wait.lacks k u (λ e. cc) a) (λ (e : k ≡ g). s (ap Some (sym e)))
+            waits = record {
+              room = rw bits wait.room;
+              within = wait.within;
+              in_turn = goes_on_in_turn;
+              paid = omega (arith, wait.paid, length-append list (g ∷ []));
+              listed = λ u a. ⊎_elim
+                  (λ (b : IsAmong u list).
+                  still_served seen u (get_or order.waiting u 0) list more (needs_at all u) longer (wait.listed u b))
+                  (λ (e : u ≡ g).
+                  rw e (still_served seen g (get_or order.waiting g 0) list more (needs_at all g) longer w.0))
+                  (in_longer list g u a);
+              ready = λ u p. ⊎_elim
+                  (λ (t : (eqb u g ≡ true) × (u ≡ g)).
+                  absurd (true≢false (sym p ∙ (rest u ∙ ap (λ b. not b && has ready u) t.0))))
+                  (λ (f : (eqb u g ≡ false) × (u ≢ g)).
+                  let v = wait.ready u (sym (rest u ∙ ap (λ b. not b && has ready u) f.0) ∙ p) in (
+                    still_served seen u (get_or order.waiting u 0) list more (needs_at all u) longer v.0,
+                    λ a. ⊎_elim v.1 f.1 (in_longer list g u a),
+                  ))
+                  (eqb_tells u g);
+              waits = λ k u a.
+                  still_waits k seen u (get_or order.waiting u 0) list more (needs_at all u) (rest_by lists.rows.items u)
+                  longer (wait.waits k u a);
+              each = λ u l. ⊎_elim (λ (a : IsAmong u list). inl (among_first u list (g ∷ []) a))
+                  (λ others. ⊎_elim (λ (h : has ready u ≡ true).
+                  ⊎_elim
+                  (λ (t : (eqb u g ≡ true) × (u ≡ g)). inl (among_last list (g ∷ []) u (inl t.1)))
+                  (λ (f : (eqb u g ≡ false) × (u ≢ g)). inr (inl ((rest u ∙ ap (λ b. not b && has ready u) f.0) ∙ h)))
+                  (eqb_tells u g))
+                  (λ late. ⊎_elim (λ (i : (k : ℕ) × IsAmong u (list_in lists.rows.items k)). inr (inr (inl i)))
+                  (λ (o : None ≡ Some u). cc) late) others) (wait.each u l);
+              taken_out = λ u o. cc;
+              unasked = wait.unasked;
+            };
+            lacks = λ k u s a b. ⊎_elim (stands.lacks k u (λ e. cc) a) (λ (e : k ≡ g). s (ap Some (sym e)))
                 (in_longer list g k b);
-            each = λ u l. ⊎_elim (λ (a : IsAmong u list). inl (among_first u list (g ∷ []) a))
-                (λ others. ⊎_elim (λ (h : has u ≡ true).
-                ⊎_elim
-                (λ (t : (eqb u g ≡ true) × (u ≡ g)). inl (among_last list (g ∷ []) u (inl t.1)))
-                (λ (f : (eqb u g ≡ false) × (u ≢ g)). inr (inl ((rest u ∙ ap (λ b. not b && has u) f.0) ∙ h)))
-                (eqb_tells u g))
-                (λ late. ⊎_elim (λ (i : (k : ℕ) × IsAmong u (list_in rows k)). inr (inr (inl i)))
-                (λ (o : None ≡ Some u). cc) late) others) (wait.each u l);
-            taken_out = λ u o. cc;
-            unasked = wait.unasked;
           }
 
 -- at first no gate was looked at
-pub rows_at_first : (rows : List GateNode) (waiting : List ℕ) (has : ℕ → Bool) → ((k : ℕ) → list_in rows k ≡ [])
-    → ((g : ℕ) → has g ≡ false) → ((u : ℕ) → get_or waiting u 0 ≡ length (needs_by rows u))
-    → RowsWait (needs_by rows) rows [] waiting has 0 None None
-rows_at_first rows waiting has empty none counts = search rules
-
-pub all_apart : (rows : List GateNode) → ((k : ℕ) → list_in rows k ≡ []) → AreApart (links_in rows)
-all_apart rows empty m n u a b = absurd (subst (IsAmong u) (empty m) a)
+pub stands_at_first : (gates : List Gate) (needs : GateNeeds) (ready : Tree) → length gates ≤ LARGEST
+    → AreNeedsOf gates needs → ((g : ℕ) → has ready g ≡ false) → length gates ≤ room ready
+    → Stands (needs_in needs.lists.rows.items) None
+    (search_of (record { list = []; waiting = needs.counts.items; steps = 0 }) needs.lists ready 0)
+stands_at_first gates needs ready few made none bits =
+    let rows : List GateNode = needs.lists.rows.items in
+    let all : List Needs = needs_in rows in
+    let counts : List ℕ = needs.counts.items in
+    let long : length all ≡ length gates = as_long gates all made.needs in
+    let many : length rows ≡ length all = sym (as_many_needs rows) in
+    let there : AreThere all = are_there gates all made.needs in
+    let counted : length counts ≡ length all = as_many_counts gates rows counts made.needs made.counts ∙ sym long in
+    let sums : sum counts ≡ 0 + sum (map how_many all) = omega (arith, ap sum made.counts) in
+    let each : (u : ℕ) → get_or counts u 0 ≡ length (needs_at all u) =
+    each_count gates rows counts made.needs made.counts in
+    search (rules, made.empty)

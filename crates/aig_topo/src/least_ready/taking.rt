@@ -1,21 +1,23 @@
 //! Gates are looked at one after the other, and taken once they are ready: each that is left waits in the list of one
 //! gate that it needs.
-ghost use Rattle.std.specs.Prelude.{◌≡◌, ◌≢◌, ◌==◌, ◌||◌, ◌+◌, ◌<◌, ◌≤◌, ℕ, suc, List, [], ◌∷◌, Option, None, Some};
-ghost use Rattle.std.specs.Prelude.{false, length, nat_lt, slice_index};
-ghost use Rattle.std.specs.List.{AllByRecursion};
+ghost use Rattle.std.specs.Prelude.{◌≡◌, ◌≢◌, ◌==◌, ◌||◌, ◌+◌, ◌<◌, ◌≤◌, ℕ, suc, List, ◌∷◌, None, Some};
+ghost use Rattle.std.specs.Prelude.{[], false, length, map, nat_lt, slice_index};
+ghost use Rattle.std.specs.List.{AllByRecursion, sum};
 ghost use Rattle.std.specs.Option.{IfSome, IfNone};
 ghost use Rattle.aig_circuit.specs.Wellformed.{IsAmong};
-ghost use Rattle.aig_topo.specs.Order.{IsFull, TakesLeast, left_over};
-ghost use Rattle.aig_topo.specs.Lists.{links_in, list_in, AreLists};
-ghost use Rattle.aig_topo.specs.Needs.{linked, under};
+ghost use Rattle.aig_topo.specs.Order.{left_over, IsFull, TakesLeast};
+ghost use Rattle.aig_topo.specs.Lists.{links_in, list_in, needs_in, AreLists};
+ghost use Rattle.aig_topo.specs.declared.operands.Needs.{Needs};
+ghost use Rattle.aig_topo.specs.Needs.{how_many, linked, needs_at, under, AreThere};
 ghost use Rattle.aig_topo.specs.Progress.{due, CountsDown, CountsFor};
 ghost use Rattle.aig_topo.specs.Ready.{has, room};
-ghost use Rattle.aig_topo.specs.Waiting.{rest_by, Suffices, IsRoomy, RowsWait};
+ghost use Rattle.aig_topo.specs.Waiting.{rest_by, Suffices, RowsWait, Stands};
 
 use crate::least_ready::ready::Ready;
 use crate::lists::Lists;
 use crate::operands::Needs;
 use crate::order::Order;
+use aig_circuit::LARGEST;
 
 /// A gate that is missing, by its position, and what is needed beside it and what is taken: one more than a position,
 /// or 0 for nothing.
@@ -27,7 +29,7 @@ struct Missing {
 
 /// Counts down what a gate waits for, if the gate that it needs is taken. Answers whether that one is missing.
 #[inline(always)]
-pub(super) fn count_if_taken(needed: u32, gate: u32, order: &mut Order) -> bool
+fn count_if_taken(needed: u32, gate: u32, order: &mut Order) -> bool
     requires there { gate < length order.old.waiting }
     requires needed { AllByRecursion (λ h. h < length order.old.waiting) (linked needed) }
     requires waiting { length (linked needed) ≤ slice_index order.old.waiting gate }
@@ -76,11 +78,13 @@ fn missing_gate(asked: Needs, gate: u32, order: &mut Order) -> Option<Missing>
     None
 }
 
-/// Puts a gate among those that are ready. No gate needs one at so high a position, and to put it there twice would do
-/// no harm: that is asked for the sake of the read alone, by which the row of the first gate that waits for this one is
-/// on its way from memory before this one is taken. A read that decided nothing would be left out by the compiler.
+/// Puts a gate among those that are ready. No gate needs one at so high a position: that is asked for the sake of the read
+/// alone, by which the row of the first gate that waits for this one is on its way from memory before this one is taken.
+/// A read that decided nothing would be left out by the compiler.
 #[inline(always)]
 fn make_ready(gate: u32, lists: &Lists, ready: &mut Ready)
+    requires few { length lists.now.rows.items ≤ LARGEST }
+    requires needs { AreThere (needs_in lists.now.rows.items) }
     requires there { gate < length lists.now.rows.items }
     requires lists { AreLists (links_in lists.now.rows.items) }
     requires bit { gate < room ready.old }
@@ -88,104 +92,140 @@ fn make_ready(gate: u32, lists: &Lists, ready: &mut Ready)
     ensures room { room ready.new ≡ room ready.old }
 {
     if lists.first_rest(gate) == u32::MAX {
-        ready.insert(gate);
+        return;
     }
     ready.insert(gate);
 }
 
-/// Lets a gate wait for the first of those that are still to be asked for and that is not taken, and counts those before
-/// it; if there is none, the gate is ready.
+/// Counts down what a gate that waits needs beside the gate that it waits for, if that is taken.
 #[inline(always)]
-fn enter(gate: u32, asked: Needs, order: &mut Order, lists: &mut Lists, ready: &mut Ready)
-    requires asked { AllByRecursion (λ h. h < length lists.old.rows.items) (under asked) }
-    requires waiting { slice_index order.old.waiting gate ≡ length (under asked) }
-    requires room { IsRoomy lists.old.rows.items (length order.old.waiting) (room ready.old) }
-    requires there { gate < length lists.old.rows.items }
-    requires nowhere { (g : ℕ) → ¬ IsAmong gate (list_in lists.old.rows.items g) }
-    ensures size { length lists.new.rows.items ≡ length lists.old.rows.items }
-    ensures room { IsRoomy lists.new.rows.items (length order.new.waiting) (room ready.new) }
+#[tactic(auto, using(crate::proofs::Ordering::Rows::rest_there))]
+fn count_rest(gate: u32, order: &mut Order, lists: &Lists)
+    requires there { gate < length lists.now.rows.items }
+    requires as_many { length order.old.waiting ≡ length lists.now.rows.items }
+    requires needs { AreThere (needs_in lists.now.rows.items) }
+    requires counted { 0 < slice_index order.old.waiting gate
+        → slice_index order.old.waiting gate ≡ suc (length (rest_by lists.now.rows.items gate)) }
     ensures for_gate { CountsFor gate order.old order.new }
-    ensures of_taken { (g : ℕ) → IsAmong g order.old.list
-        → list_in lists.new.rows.items g ≡ list_in lists.old.rows.items g }
-    ensures rests { (u : ℕ) → u ≢ gate → rest_by lists.new.rows.items u ≡ rest_by lists.old.rows.items u }
-    ensures waits { (needs : ℕ → List ℕ) → (seen : ℕ) → (served : Option ℕ)
-        → Suffices order.old.list (needs gate) (under asked)
-        → RowsWait needs lists.old.rows.items order.old.list order.old.waiting (has ready.old) seen served (Some gate)
-        → RowsWait needs lists.new.rows.items order.new.list order.new.waiting (has ready.new) seen served None }
+    ensures idle { slice_index order.old.waiting gate ≡ 0 → slice_index order.new.waiting gate ≡ 0 }
+    ensures counted { 0 < slice_index order.old.waiting gate
+        → slice_index order.new.waiting gate ≡ suc (left_over order.old.list (rest_by lists.now.rows.items gate)) }
 {
-    match missing_gate(asked, gate, order) {
-        Some(other) => lists.push(other.gate, gate, other.rest),
-        None => make_ready(gate, lists, ready),
+    if order.waiting(gate) > 0 {
+        count_if_taken(lists.rest(gate), gate, order);
     }
 }
 
-/// Counts down each gate that waited for this one, and enters it again. What the next of them needs beside is read
-/// before one is entered, so that it comes from memory meanwhile.
-#[inline(always)]
-fn release_waiting(gate: u32, order: &mut Order, lists: &mut Lists, ready: &mut Ready)
-    requires room { IsRoomy lists.old.rows.items (length order.old.waiting) (room ready.old) }
-    requires there { gate < length lists.old.rows.items }
-    requires taken { IsAmong gate order.old.list }
-    requires counted { (u : ℕ) → IsAmong u (list_in lists.old.rows.items gate)
-        → slice_index order.old.waiting u ≡ suc (length (rest_by lists.old.rows.items u)) }
-    ensures size { length lists.new.rows.items ≡ length lists.old.rows.items }
-    ensures room { IsRoomy lists.new.rows.items (length order.new.waiting) (room ready.new) }
-    ensures down { CountsDown order.old order.new }
-    ensures waits { (needs : ℕ → List ℕ) → (seen : ℕ)
-        → RowsWait needs lists.old.rows.items order.old.list order.old.waiting (has ready.old) seen (Some gate) None
-        → RowsWait needs lists.new.rows.items order.new.list order.new.waiting (has ready.new) seen None None }
-{
-    let mut ahead = lists.first_rest(gate);
-    while let Some(user) = lists.pop(gate) {
-        let asked = Needs {
-            left: 0,
-            right: ahead,
-        };
-        ahead = lists.first_rest(gate);
-        order.count_down(user);
-        enter(user, asked, order, lists, ready);
-    }
+/// A search for the least ready order.
+#[derive(Drop)]
+pub(super) struct Search {
+    pub(super) order: Order,
+    pub(super) lists: Lists,
+    pub(super) ready: Ready,
+    /// How many gates were looked at.
+    pub(super) seen: u32,
 }
 
-/// Enters the gate behind those that were looked at, and takes all that are ready then, each time the least one.
-fn look_at(gate: u32, order: &mut Order, lists: &mut Lists, ready: &mut Ready)
-    ghost needs: { ℕ → List ℕ }
-    requires room { IsRoomy lists.old.rows.items (length order.old.waiting) (room ready.old) }
-    requires there { gate < length lists.old.rows.items }
-    requires in_turn { TakesLeast (length lists.old.rows.items) needs [] order.old.list }
-    requires none { (g : ℕ) → has ready.old g ≡ false }
-    requires waits { RowsWait needs lists.old.rows.items order.old.list order.old.waiting (has ready.old) gate None None }
-    ensures size { length lists.new.rows.items ≡ length lists.old.rows.items }
-    ensures room { IsRoomy lists.new.rows.items (length order.new.waiting) (room ready.new) }
-    ensures in_turn { TakesLeast (length lists.new.rows.items) needs [] order.new.list }
-    ensures none { (g : ℕ) → has ready.new g ≡ false }
-    ensures waits { RowsWait needs lists.new.rows.items order.new.list order.new.waiting (has ready.new) (gate + 1) None
-        None }
-    ensures paid { due order.new + length order.old.list ≡ due order.old + length order.new.list }
-{
-    enter(gate, lists.needs(gate), order, lists, ready);
-    while let Some(next) = ready.pop_first() {
-        order.take(next);
-        release_waiting(next, order, lists, ready);
+impl Search {
+    /// Lets a gate wait for the first of those that are still to be asked for and that is not taken, and counts those
+    /// before it; if there is none, the gate is ready.
+    #[inline(always)]
+    fn enter(&mut self, gate: u32, asked: Needs)
+        ghost all: { List Needs }
+        requires waits { RowsWait all (Some gate) self.old }
+        requires asked { AllByRecursion (λ h. h < length all) (under asked) }
+        requires counted { slice_index self.old.order.waiting gate ≡ length (under asked) }
+        requires enough { Suffices self.old.order.list (needs_at all gate) (under asked) }
+        ensures waits { RowsWait all None self.new }
+        ensures list { self.new.order.list ≡ self.old.order.list }
+        ensures seen { self.new.seen ≡ self.old.seen }
+        ensures of_taken { (g : ℕ) → IsAmong g self.old.order.list
+            → list_in self.new.lists.rows.items g ≡ list_in self.old.lists.rows.items g }
+        ensures rests { (u : ℕ) → u ≢ gate
+            → rest_by self.new.lists.rows.items u ≡ rest_by self.old.lists.rows.items u }
+    {
+        match missing_gate(asked, gate, &mut self.order) {
+            Some(other) => self.lists.push(other.gate, gate, other.rest),
+            None => make_ready(gate, &self.lists, &mut self.ready),
+        }
     }
-}
 
-/// Looks at all gates, one after the other.
-pub(super) fn look_at_all(order: &mut Order, lists: &mut Lists, ready: &mut Ready)
-    ghost needs: { ℕ → List ℕ }
-    requires room { IsRoomy lists.old.rows.items (length order.old.waiting) (room ready.old) }
-    requires in_turn { TakesLeast (length lists.old.rows.items) needs [] order.old.list }
-    requires none { (g : ℕ) → has ready.old g ≡ false }
-    requires waits { RowsWait needs lists.old.rows.items order.old.list order.old.waiting (has ready.old) 0 None None }
-    ensures size { length lists.new.rows.items ≡ length lists.old.rows.items }
-    ensures room { IsRoomy lists.new.rows.items (length order.new.waiting) (room ready.new) }
-    ensures in_turn { TakesLeast (length lists.old.rows.items) needs [] order.new.list }
-    ensures none { (g : ℕ) → has ready.new g ≡ false }
-    ensures waits { RowsWait needs lists.new.rows.items order.new.list order.new.waiting (has ready.new)
-        (length lists.new.rows.items) None None }
-    ensures paid { due order.new + length order.old.list ≡ due order.old + length order.new.list }
-{
-    for gate in 0..lists.len() as u32 {
-        look_at(gate, order, lists, ready);
+    /// Counts down each gate that waited for this one, and enters it again. What the next of them needs beside is read
+    /// before one is entered, so that it comes from memory meanwhile.
+    #[inline(always)]
+    fn release_waiting(&mut self, gate: u32)
+        ghost all: { List Needs }
+        requires taken { IsAmong gate self.old.order.list }
+        requires stands { Stands all (Some gate) self.old }
+        ensures stands { Stands all None self.new }
+        ensures list { self.new.order.list ≡ self.old.order.list }
+        ensures seen { self.new.seen ≡ self.old.seen }
+    {
+        let mut ahead = self.lists.first_rest(gate);
+        while let Some(user) = self.lists.pop(gate) {
+            let asked = Needs {
+                left: 0,
+                right: ahead,
+            };
+            ahead = self.lists.first_rest(gate);
+            self.order.count_down(user);
+            self.enter(user, asked);
+        }
+    }
+
+    /// Enters the gate behind those that were looked at, and takes all that are ready then, each time the least one.
+    fn look_at_next(&mut self)
+        ghost all: { List Needs }
+        requires left { self.old.seen < length all }
+        requires none { (g : ℕ) → has self.old.ready g ≡ false }
+        requires stands { Stands all None self.old }
+        ensures seen { self.new.seen ≡ self.old.seen + 1 }
+        ensures none { (g : ℕ) → has self.new.ready g ≡ false }
+        ensures stands { Stands all None self.new }
+    {
+        let gate = self.seen;
+        self.seen += 1;
+        let asked = self.lists.needs(gate);
+        self.enter(gate, asked);
+        while let Some(next) = self.ready.pop_first() {
+            self.order.take(next);
+            self.release_waiting(next);
+        }
+    }
+
+    /// Counts down what gates that are left need and was taken after it was asked for. Where none is left there is none.
+    fn count_rests(&mut self)
+        ghost all: { List Needs }
+        requires seen { self.old.seen ≡ length all }
+        requires none { (g : ℕ) → has self.old.ready g ≡ false }
+        requires stands { Stands all None self.old }
+        ensures down { CountsDown self.old.order self.new.order }
+        ensures waiting { (u : ℕ) → u < length all
+            → slice_index self.new.order.waiting u ≡ left_over self.old.order.list (needs_at all u) }
+    {
+        if self.order.list().len() == self.lists.len() {
+            return;
+        }
+        for gate in 0..self.lists.len() as u32 {
+            count_rest(gate, &mut self.order, &self.lists);
+        }
+    }
+
+    /// Looks at all gates, one after the other, and counts what is then left to count.
+    pub(super) fn look_at_all(&mut self)
+        ghost all: { List Needs }
+        requires none { (g : ℕ) → has self.old.ready g ≡ false }
+        requires stands { Stands all None self.old }
+        ensures in_turn { TakesLeast (length all) (needs_at all) [] self.new.order.list }
+        ensures full { IsFull (length all) (needs_at all) self.new.order.list }
+        ensures as_many { length self.new.order.waiting ≡ length all }
+        ensures waiting { (u : ℕ) → u < length all
+            → slice_index self.new.order.waiting u ≡ left_over self.new.order.list (needs_at all u) }
+        ensures paid { due self.new.order ≡ length self.new.order.list + sum (map how_many all) }
+    {
+        while (self.seen as usize) < self.lists.len() {
+            self.look_at_next();
+        }
+        self.count_rests();
     }
 }

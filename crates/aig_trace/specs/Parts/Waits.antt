@@ -1,14 +1,14 @@
 -- Lines of a stimulus that wait for their text, where the circuit has no latches.
 use Rattle.std.specs.Prelude.{◌≡◌, ◌*◌, ◌<◌, ℕ, List, [], Option, None, Some, drop, length, map, slice_index_or, take}
-use Rattle.aig_bench.specs.declared.bench.Bench.{Bench}
-use Rattle.aig_bench.specs.Parts.Benches.{HasRoomForSteps, IsBench}
+use Rattle.aig_lanes.specs.declared.bench.Bench.{Bench}
+use Rattle.aig_lanes.specs.Parts.Benches.{HasRoomForSteps, IsBench}
 use Rattle.aig_circuit.specs.declared.circuit.Circuit.{Circuit}
 use Rattle.aig_lanes.specs.Parts.InputBits.{one_step}
 use Rattle.aig_lanes.specs.Parts.LaneTexts.{KeepsRun}
 use Rattle.aig_lanes.specs.Parts.Vectors.{said, vectors_in}
 use Rattle.aig_step.specs.declared.trace.Columns.{Columns}
 use Rattle.aig_step.specs.Stimulus.{Entry, Step, Stop, values_of}
-use Rattle.aig_trace.specs.declared.abreast.Abreast.{Abreast}
+use Rattle.aig_trace.specs.declared.side_by_side.SideBySide.{SideBySide}
 use Rattle.aig_trace.specs.declared.waiting.Waiting.{Waiting}
 
 -- what a line says that is this step of texts, or that ends a run
@@ -45,11 +45,11 @@ pub record IsSameBench (before after : Bench) : Type 0 where
   pub line : length after.line.items ≡ length before.line.items
 
 -- what takes lines serves such a circuit, where there is any
-abbrev pub MayServe : Circuit → Columns → Option Abreast → Type 0
+abbrev pub MayServe : Circuit → Columns → Option SideBySide → Type 0
 MayServe c columns None = Unit {0}
 MayServe c columns (Some a) = Serves c columns a.bench a.waiting
 
 -- what the lines say that wait, where any may
-abbrev pub waiting_in : Option Abreast → List Entry
+abbrev pub waiting_in : Option SideBySide → List Entry
 waiting_in None = []
 waiting_in (Some a) = entries_of a.waiting

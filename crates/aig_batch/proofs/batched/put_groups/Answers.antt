@@ -3,12 +3,12 @@ use Rattle.std.proofs.lemmas.List.{take_more}
 use Rattle.aig_lanes.specs.declared.run.Run.{Run}
 use Rattle.std.specs.List.{AllZip}
 use Rattle.aig_step.specs.declared.trace.Columns.{Columns}
-use Rattle.aig_lanes.specs.declared.shown.Shown.{Shown}
+use Rattle.aig_lanes.specs.declared.lane_columns.LaneColumns.{LaneColumns}
 use Rattle.aig_lanes.specs.Parts.LaneTexts.{IsTextOf}
-use Rattle.aig_bench.specs.Parts.Benches.{HasRoomFor}
+use Rattle.aig_lanes.specs.Parts.Benches.{HasRoomFor}
 use Rattle.aig_batch.specs.Parts.RunsRead.{PutRuns, kept_texts}
 use Rattle.aig_batch.proofs.Side.Fronts.{put_more}
-use Rattle.aig_bench.proofs.Rooms.{room_stays}
+use Rattle.aig_lanes.proofs.Benches.Rooms.{room_stays}
 use Rattle.aig_batch.proofs.Side.TextGroups.{zipped_texts}
 use Rattle.aig_batch.proofs.batched.put_groups.Goals as goal
 
@@ -25,7 +25,7 @@ loop-group-preserved g c =
     let now : take (i + 1) groups ≡ take i groups ++ runs ∷ [] =
     take_more groups i c.group-item.result c.loop-group-test.true
     ∙ ap (λ (r : List Run). take i groups ++ r ∷ []) (sym is_group) in
-    let asks = ap (λ (s : Shown). s.columns) c.run_group.ensures.same.shown ∙ c.loop-group.invariant.asks in
+    let asks = ap (λ (s : LaneColumns). s.columns) c.run_group.ensures.same.shown ∙ c.loop-group.invariant.asks in
     record {
       is = c.run_group.ensures.is;
       asks = asks;

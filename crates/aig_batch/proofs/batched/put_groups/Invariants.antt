@@ -1,6 +1,6 @@
 use Rattle.std.specs.Prelude.{◌≡◌, take}
 use Rattle.std.specs.List.{All}
-use Rattle.aig_bench.specs.Parts.Benches.{HasRoomFor, IsBench}
+use Rattle.aig_lanes.specs.Parts.Benches.{HasRoomFor, IsBench}
 use Rattle.aig_batch.specs.Parts.RunsRead.{PutRuns}
 use Rattle.aig_batch.proofs.batched.put_groups.Given as goal
 

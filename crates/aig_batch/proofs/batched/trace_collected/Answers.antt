@@ -2,7 +2,7 @@ use Rattle.std.proofs.Common.{◌≡◌, ◌∙◌, List, ap, length, sym, subst
 use Rattle.std.specs.List.{All}
 use Rattle.aig_circuit.specs.declared.circuit.Circuit.{Circuit}
 use Rattle.aig_lanes.specs.declared.run.Run.{Run}
-use Rattle.aig_bench.specs.Parts.Benches.{Fits, HasRoomFor}
+use Rattle.aig_lanes.specs.Parts.Benches.{Fits, HasRoomFor}
 use Rattle.aig_step.specs.Parts.Lines.{line_size}
 use Rattle.aig_step.proofs.LineValues.{same_size}
 use Rattle.aig_batch.specs.Parts.RunsRead.{Says, entries_of_groups}

@@ -22,7 +22,7 @@ returns-then-is_stop-clause-says c =
     (λ (vs : List (List Val)). Says c.args.inputs bytes (entries_of_run (record { steps = vs })) more)
     (sym c.new.ensures)
     (run_ends c.args.inputs bytes
-    (vectors_in c.args.inputs c.first_stride-stride.result c.loop-next.steps bytes) before more c.in-Some.next
+    (vectors_in c.args.inputs c.first_line_len-stride.result c.loop-next.steps bytes) before more c.in-Some.next
     c.loop-next.invariant.says c.in-Some.ensures
     (c.split_at-in-Some.ensures.back ∙ ap (λ (r : List ℕ). drop 1 r) c.split_at.ensures.back)
     (ap (λ (t : List ℕ). bytes_eq t (codes ".")) (sym text) ∙ sym c.is_stop.ensures ∙ c.if-is_stop.true))
@@ -30,7 +30,7 @@ returns-then-is_stop-clause-says c =
 pub returns-then-is_stop-clause-fits : goal.returns-then-is_stop-clause-fits
 returns-then-is_stop-clause-fits c =
     subst (λ (vs : List (List Val)). All (λ (v : List Val). length v ≡ c.args.inputs) vs) (sym c.new.ensures)
-    (vectors_fit c.args.inputs c.first_stride-stride.result c.loop-next.steps c.args.bytes.now
+    (vectors_fit c.args.inputs c.first_line_len-stride.result c.loop-next.steps c.args.bytes.now
     c.loop-next.invariant.are)
 
 pub returns-then-is_stop-clause-good : goal.returns-then-is_stop-clause-good
@@ -44,7 +44,7 @@ pub loop-next-preserved : goal.loop-next-preserved
 loop-next-preserved c =
     let inputs = c.args.inputs in
     let bytes = c.args.bytes.now in
-    let stride = c.first_stride-stride.result in
+    let stride = c.first_line_len-stride.result in
     let steps = c.loop-next.steps in
     let before = c.loop-next.rest.now in
     let next = c.in-Some.next in

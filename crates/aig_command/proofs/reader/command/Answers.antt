@@ -4,8 +4,8 @@ use Rattle.aig_command.proofs.Answered.{refused_command, refused_usage, rows_kno
 use Rattle.aig_command.proofs.Answered.{taken_usage}
 use Rattle.aig_command.proofs.reader.command.Goals as goal
 
-pub asked-requires : goal.asked-requires
-asked-requires c =
+pub read_matches-requires : goal.read_matches-requires
+read_matches-requires c =
     record {
       known = rows_known (texts c.args.words.now) c.in-Ok.matches c.in-Ok.ensures.matches c.in-Ok.ensures.kinds;
       within = rows_within (texts c.args.words.now) c.in-Ok.matches c.in-Ok.ensures.matches c.in-Ok.ensures.kinds;
@@ -13,13 +13,13 @@ asked-requires c =
 
 pub returns-in-Ok-clause-ok : goal.returns-in-Ok-clause-ok
 returns-in-Ok-clause-ok c =
-    taken_command (texts c.args.words.now) c.in-Ok.matches c.in-Ok.ensures.matches c.in-Ok.ensures.kinds c.asked.result
-    c.asked.ensures.answer
+    taken_command (texts c.args.words.now) c.in-Ok.matches c.in-Ok.ensures.matches c.in-Ok.ensures.kinds c.read_matches.result
+    c.read_matches.ensures.answer
 
 pub returns-in-Ok-clause-err : goal.returns-in-Ok-clause-err
 returns-in-Ok-clause-err c =
-    taken_usage (texts c.args.words.now) c.in-Ok.matches c.in-Ok.ensures.matches c.in-Ok.ensures.kinds c.asked.result
-    c.asked.ensures.answer
+    taken_usage (texts c.args.words.now) c.in-Ok.matches c.in-Ok.ensures.matches c.in-Ok.ensures.kinds c.read_matches.result
+    c.read_matches.ensures.answer
 
 pub returns-in-Err-clause-ok : goal.returns-in-Err-clause-ok
 returns-in-Err-clause-ok c =

@@ -1,72 +1,11 @@
-use Rattle.std.proofs.Common.{◌≢◌, ◌∙◌, Err, Ok, arith, inr, length, sym}
-use Rattle.std.proofs.lemmas.Bool.{eqb-false}
 use Rattle.std.proofs.lemmas.Result.{err_from_is_err_and}
-use Rattle.aig_engines.proofs.Pieces.{IsBegun, begun, checked, in_form, refused, word_stays}
+use Rattle.aig_engines.proofs.SourceFaults.{not_read}
 use Rattle.aig_engines.proofs.file.read_circuit.Goals as goal
 
-pub returns-in_err-circuit-clause-err : goal.returns-in_err-circuit-clause-err
-returns-in_err-circuit-clause-err g c =
-    let h = err_from_is_err_and c.from_residual-in_err-circuit.result c.from_residual-in_err-circuit.ensures.1 in
-    let none : length c.ended_lines.result.0.now ≢ 0 =
-    eqb-false _ _ (sym c.is_empty.ensures ∙ c.if-is_empty.false) in
-    let first = rw c.if-not-more.false at c.in_ok-first.ensures.ok in
-    let begin : IsBegun c.args.max_var c.in_ok-first.first c.pass.new.self c.begin-reader.result.0 =
-    begun c.args.max_var c.in_ok-first.first c.ended_lines.result.0.now c.ended_lines.result.1.now
-    c.begin-reader.result.1 c.begin-reader.result.0 (sym c.as_slice.ensures ∙ c.ended_lines.ensures.cut)
-    c.ended_lines.ensures.ended (omega (arith, none)) (sym c.first_word_is.ensures ∙ c.if-first_word_is.false)
-    c.begin-reader.ensures.within c.begin-reader.ensures.on c.pass.new.self c.pass.ensures in
-    rw (h.1, h.2)
-    (refused c.args.max_var c.in_ok-first.first c.pass.new.self c.begin-reader.result.0 begin
-    c.in_err-circuit.field-0.0 _ _ _ first c.in_err-circuit.ensures.err)
-
-pub check_read-requires : goal.check_read-requires
-check_read-requires g c =
-    let none : length c.ended_lines.result.0.now ≢ 0 =
-    eqb-false _ _ (sym c.is_empty.ensures ∙ c.if-is_empty.false) in
-    let begin : IsBegun c.args.max_var c.in_ok-first.first c.pass.new.self c.begin-reader.result.0 =
-    begun c.args.max_var c.in_ok-first.first c.ended_lines.result.0.now c.ended_lines.result.1.now
-    c.begin-reader.result.1 c.begin-reader.result.0 (sym c.as_slice.ensures ∙ c.ended_lines.ensures.cut)
-    c.ended_lines.ensures.ended (omega (arith, none)) (sym c.first_word_is.ensures ∙ c.if-first_word_is.false)
-    c.begin-reader.ensures.within c.begin-reader.ensures.on c.pass.new.self c.pass.ensures in
-    in_form c.args.max_var c.in_ok-first.first c.pass.new.self c.begin-reader.result.0 begin c.in_ok-circuit.circuit
-    _ _ c.in_ok-circuit.ensures.ok
-
-pub returns-in_err-check_read-clause-err : goal.returns-in_err-check_read-clause-err
-returns-in_err-check_read-clause-err g c =
-    let h = err_from_is_err_and c.from_residual-in_err-check_read.result
-    c.from_residual-in_err-check_read.ensures.1 in
-    let none : length c.ended_lines.result.0.now ≢ 0 =
-    eqb-false _ _ (sym c.is_empty.ensures ∙ c.if-is_empty.false) in
-    let first = rw c.if-not-more.false at c.in_ok-first.ensures.ok in
-    let begin : IsBegun c.args.max_var c.in_ok-first.first c.pass.new.self c.begin-reader.result.0 =
-    begun c.args.max_var c.in_ok-first.first c.ended_lines.result.0.now c.ended_lines.result.1.now
-    c.begin-reader.result.1 c.begin-reader.result.0 (sym c.as_slice.ensures ∙ c.ended_lines.ensures.cut)
-    c.ended_lines.ensures.ended (omega (arith, none)) (sym c.first_word_is.ensures ∙ c.if-first_word_is.false)
-    c.begin-reader.ensures.within c.begin-reader.ensures.on c.pass.new.self c.pass.ensures in
-    let all =
-    checked c.args.max_var c.in_ok-first.first c.pass.new.self c.begin-reader.result.0 begin c.in_ok-circuit.circuit
-    _ _ _ (Err c.in_err-check_read.field-0.0) first c.in_ok-circuit.ensures.ok c.in_err-check_read.ensures in
-    rw (h.1, h.2) (inr all)
-
 pub returns-clause-ok : goal.returns-clause-ok
-returns-clause-ok g c =
-    let none : length c.ended_lines.result.0.now ≢ 0 =
-    eqb-false _ _ (sym c.is_empty.ensures ∙ c.if-is_empty.false) in
-    let first = rw c.if-not-more.false at c.in_ok-first.ensures.ok in
-    let begin : IsBegun c.args.max_var c.in_ok-first.first c.pass.new.self c.begin-reader.result.0 =
-    begun c.args.max_var c.in_ok-first.first c.ended_lines.result.0.now c.ended_lines.result.1.now
-    c.begin-reader.result.1 c.begin-reader.result.0 (sym c.as_slice.ensures ∙ c.ended_lines.ensures.cut)
-    c.ended_lines.ensures.ended (omega (arith, none)) (sym c.first_word_is.ensures ∙ c.if-first_word_is.false)
-    c.begin-reader.ensures.within c.begin-reader.ensures.on c.pass.new.self c.pass.ensures in
-    let all =
-    checked c.args.max_var c.in_ok-first.first c.pass.new.self c.begin-reader.result.0 begin c.in_ok-circuit.circuit
-    _ _ _ (Ok c.in_ok-check_read.field-0) first c.in_ok-circuit.ensures.ok c.in_ok-check_read.ensures in
-    all
+returns-clause-ok g c = c.in_ok-read_source.ensures
 
-pub read_binary_file-requires-clause-binary : goal.read_binary_file-requires-clause-binary
-read_binary_file-requires-clause-binary g c = λ more.
-    let none : length c.ended_lines.result.0.now ≢ 0 =
-    eqb-false _ _ (sym c.is_empty.ensures ∙ c.if-is_empty.false) in
-    word_stays c.in_ok-first.first c.ended_lines.result.0.now c.ended_lines.result.1.now more
-    (sym c.as_slice.ensures ∙ c.ended_lines.ensures.cut) c.ended_lines.ensures.ended (omega (arith, none))
-    ∙ sym c.first_word_is.ensures ∙ c.if-first_word_is.true
+pub returns-in_err-read_source-clause-err : goal.returns-in_err-read_source-clause-err
+returns-in_err-read_source-clause-err g c =
+    let h = err_from_is_err_and c.from_residual.result c.from_residual.ensures.1 in
+    rw (h.1, h.2) (not_read c.args.max_var c.in_err-read_source.field-0.0 _ _ c.in_err-read_source.ensures)

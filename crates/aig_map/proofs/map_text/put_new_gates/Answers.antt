@@ -8,7 +8,7 @@ use Rattle.aig_map.proofs.map_text.put_new_gates.Goals as goal
 
 pub loop-at-preserved : goal.loop-at-preserved
 loop-at-preserved g c = λ f old are.
-    let here = c.recorded.ensures
+    let here = c.record_of.ensures
     ∙ recorded_is f c.args.first old c.args.variables.now c.args.gates.now c.loop-at.at c.index-variables-at.result
     c.index-gates-at.result are c.loop-at-test.true c.index-variables-at.is c.index-gates-at.is in
     put_more (λ x. numbers_text (gate_row (mapped_gate f c.args.first x))) old c.loop-at.at no_gate

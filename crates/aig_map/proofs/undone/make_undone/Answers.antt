@@ -27,7 +27,7 @@ source_gates-requires-clause-many c = search (rules, positions_fit)
 pub source_gates-requires-clause-there : goal.source_gates-requires-clause-there
 source_gates-requires-clause-there c =
     let image = c.args.image.now in
-    let fit = positions_fit (block_read image) image c.requires.counts c.requires.bounds c.requires.once in
+    let fit = positions_fit (block_read image) image c.requires.block.fit in
     subst (λ (gs : List Gate). AllByRecursion (λ p. p < length gs) c.args.places.now) (sym c.as_slice.ensures)
     (search rules)
 
@@ -49,16 +49,17 @@ returns-clause-ok c =
     let block = block_read image in
     let comment = comment_behind block c.args.comment.now in
     let found = c.in_ok-gates.ensures.ok.0 in
-    let there = put_as_recorded block image c.requires.counts c.requires.bounds c.requires.once _ _ _ found
-    c.requires.variables c.requires.are c.as_slice.ensures c.in_ok-gates.ensures.ok.1 in
+    let block_is = c.requires.block in
+    let there = put_as_recorded block image block_is.fit _ _ _ found c.requires.variables block_is.placed c.as_slice.ensures
+    c.in_ok-gates.ensures.ok.1 in
     let gates = c.in_ok-gates.ensures.ok.3
     ∙ ap₂ (λ (flags : List Bool) (gs : List Gate). exchanged_by flags gs)
-    (c.as_slice-2.ensures.value ∙ c.requires.taken.exchanged) there
-    ∙ exchanged_as_recorded block image c.requires.counts c.requires.bounds c.requires.once in
+    (c.as_slice-2.ensures.value ∙ block_is.recorded.exchanged) there
+    ∙ exchanged_as_recorded block image block_is.fit in
     let front = c.in_ok-others.ensures
     ∙ ap₂ (λ (max_var : ℕ) (has : Bool).
-    without_gates max_var (if has then Some c.args.comment.now else None) image) c.requires.taken.max_var
-    c.requires.taken.has_comment in
+    without_gates max_var (if has then Some c.args.comment.now else None) image) block_is.recorded.max_var
+    block_is.recorded.has_comment in
     let others = c.relabel.ensures
     ∙ ap₂ (λ (vs : List ℕ) (d : Circuit). relabelled (source_variable vs) d) c.requires.variables front in
     ap₂ (λ (d : Circuit) (gs : List Gate). record d { gates = gs }) others gates

@@ -9,7 +9,6 @@ use Rattle.aig_map.specs.Parts.Confirmed.{TellsComment}
 use Rattle.aig_map.specs.Parts.Tables.{block_read, source_read}
 use Rattle.aig_map.specs.Parts.Turns.{positions}
 use Rattle.aig_map.specs.Undone.{comment_behind, undone}
-use Rattle.aig_map.proofs.BlockReading.Block.{read_is_within}
 use Rattle.aig_map.proofs.Confirming.Exchanges.{image_differs}
 use Rattle.aig_map.proofs.Confirming.Judged.{by_comment, by_order}
 use Rattle.aig_order.proofs.undoing.has_image.Goals as goal
@@ -17,14 +16,8 @@ use Rattle.aig_order.proofs.undoing.has_image.Goals as goal
 pub returns-then-not-tells_comment : goal.returns-then-not-tells_comment
 returns-then-not-tells_comment c = search (rules, by_comment)
 
-pub tells_order-requires-clause-counts : goal.tells_order-requires-clause-counts
-tells_order-requires-clause-counts c = search (rules, read_is_within)
-
-pub tells_order-requires-clause-bounds : goal.tells_order-requires-clause-bounds
-tells_order-requires-clause-bounds c = search (rules, read_is_within)
-
-pub tells_order-requires-clause-once : goal.tells_order-requires-clause-once
-tells_order-requires-clause-once c = search rules
+pub tells_order-requires-clause-fit : goal.tells_order-requires-clause-fit
+tells_order-requires-clause-fit c = search rules
 
 pub tells_order-requires-clause-are : goal.tells_order-requires-clause-are
 tells_order-requires-clause-are c = search rules
@@ -40,10 +33,10 @@ returns c = λ formed.
     ↔ IsLeastReadyOrder (undone (block_read y) comment y) (positions (block_read y).gates)))
     c.circuit-circuit.ensures.value c.tells_order.ensures in
     let tells = subst (λ (has : Bool). IsTrue c.tells_comment.result ↔ TellsComment has rest)
-    c.requires.taken.has_comment c.tells_comment.ensures in
+    c.requires.block.recorded.has_comment c.tells_comment.ensures in
     IfOk-weaker c.tells_order.result
     (λ (t : Bool). IsTrue t ↔ IsLeastReadyOrder (source_read image rest) (positions b.gates))
     (λ (t : Bool). IsTrue t ↔ IsMappedImage (source_read image rest) image)
-    (by_order image b rest c.circuit-circuit.ensures.well_formed c.requires.ordered c.requires.read c.requires.once
-    formed (tells.0 c.if-not-tells_comment.false) (image_differs b image c.requires.differ))
+    (by_order image b rest c.circuit-circuit.ensures.well_formed c.requires.block.fit c.requires.block.read formed
+    (tells.0 c.if-not-tells_comment.false) (image_differs b image c.requires.differ))
     (recorded (comment_behind b rest) formed.once)

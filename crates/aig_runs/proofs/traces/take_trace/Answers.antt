@@ -6,7 +6,7 @@ use Rattle.aig_circuit.specs.declared.value.Val.{Val}
 use Rattle.aig_lanes.specs.Parts.LaneTexts.{RowStands}
 use Rattle.aig_lanes.specs.Parts.Sheets.{text_in}
 use Rattle.aig_lanes.specs.Runs.{row_of}
-use Rattle.aig_bench.proofs.ShownTexts.{no_row}
+use Rattle.aig_lanes.proofs.Benches.ShownTexts.{no_row}
 use Rattle.aig_runs.proofs.traces.take_trace.Goals as goal
 
 pub loop-step-preserved : goal.loop-step-preserved

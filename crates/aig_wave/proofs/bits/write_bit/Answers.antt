@@ -26,14 +26,14 @@ chosen false n bit tail text is =
 
 pub returns-clause-text : goal.returns-clause-text
 returns-clause-text c =
-    let tag = c.args.tag.now in
+    let signal_code = c.args.signal_code.now in
     let count = c.is_other.result in
     let same = c.args.before == c.args.bit in
-    let within : c.args.at + (tag.size + 1) * count ≤ c.write_text.result = search rules in
-    written c.args.bytes.now c.write_text.new.line tag.tail c.args.at c.write_text.result c.args.bit
-    ((tag.size + 1) * count) (omega arith) within
-    (c.write_text.ensures.text ∙ ap (λ (t : List ℕ). t ++ tag.tail) c.write_text-end.ensures.text)
-    ∙ ap (λ (d : ℕ). take c.args.at c.args.bytes.now ++ take ((tag.size + 1) * d) (c.args.bit ∷ tag.tail))
+    let within : c.args.at + (signal_code.size + 1) * count ≤ c.write_text.result = search rules in
+    written c.args.bytes.now c.write_text.new.line signal_code.tail c.args.at c.write_text.result c.args.bit
+    ((signal_code.size + 1) * count) (omega arith) within
+    (c.write_text.ensures.text ∙ ap (λ (t : List ℕ). t ++ signal_code.tail) c.write_text-end.ensures.text)
+    ∙ ap (λ (d : ℕ). take c.args.at c.args.bytes.now ++ take ((signal_code.size + 1) * d) (c.args.bit ∷ signal_code.tail))
     c.is_other.ensures
     ∙ ap (λ (t : List ℕ). take c.args.at c.args.bytes.now ++ t)
-    (chosen same tag.size c.args.bit tag.tail _ c.requires.tag.text)
+    (chosen same signal_code.size c.args.bit signal_code.tail _ c.requires.signal_code.text)

@@ -6,18 +6,18 @@ pub returns-in_default : goal.returns-in_default
 unfolding follows
 returns-in_default c = sym (ap (λ i. is_next i (indexed c.args.next.now)) c.in_default.ensures)
 
-pub returns-in_default-indexed : goal.returns-in_default-indexed
+pub returns-in_default-split_index : goal.returns-in_default-split_index
 unfolding follows
-returns-in_default-indexed c = sym (ap₂ is_next c.in-Some.ensures.0 c.in_default-indexed.ensures)
+returns-in_default-split_index c = sym (ap₂ is_next c.in-Some.ensures.0 c.in_default-split_index.ensures)
 
 pub returns-then-eq : goal.returns-then-eq
 unfolding follows
 returns-then-eq c =
-    ap (λ same. same && (c.in-Some.index + 1 == c.in-Some-indexed.following)) c.if-eq.ensures
-    ∙ sym (ap₂ is_next c.in-Some.ensures.0 c.in-Some-indexed.ensures.0)
+    ap (λ same. same && (c.in-Some.index + 1 == c.in-Some-split_index.following)) c.if-eq.ensures
+    ∙ sym (ap₂ is_next c.in-Some.ensures.0 c.in-Some-split_index.ensures.0)
 
 pub returns-else-eq : goal.returns-else-eq
 unfolding follows
 returns-else-eq c =
-    c.if-eq.false ∙ ap (λ same. same && (c.in-Some.index + 1 == c.in-Some-indexed.following)) c.if-eq.ensures
-    ∙ sym (ap₂ is_next c.in-Some.ensures.0 c.in-Some-indexed.ensures.0)
+    c.if-eq.false ∙ ap (λ same. same && (c.in-Some.index + 1 == c.in-Some-split_index.following)) c.if-eq.ensures
+    ∙ sym (ap₂ is_next c.in-Some.ensures.0 c.in-Some-split_index.ensures.0)

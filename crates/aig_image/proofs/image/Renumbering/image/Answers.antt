@@ -7,9 +7,9 @@ use Rattle.aig_image.proofs.Imaging.Ordered.{image_is_ordered}
 use Rattle.aig_image.proofs.Imaging.Renewed.{made_is_image}
 use Rattle.aig_image.proofs.image.Renumbering.image.Goals as goal
 
-is_ordered : (c : goal.After-renumbered) → IsWellFormed c.renumbered.result × IsInBinaryOrder c.renumbered.result
+is_ordered : (c : goal.After-renumber) → IsWellFormed c.renumber.result × IsInBinaryOrder c.renumber.result
 is_ordered c =
-    image_is_ordered c.args.circuit c.renumbered.result c.requires.good
+    image_is_ordered c.args.circuit c.renumber.result c.requires.good
     (search (rules, made_is_image))
 
 pub from_well_ordered-requires-clause-well_formed :

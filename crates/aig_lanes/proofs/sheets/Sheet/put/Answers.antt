@@ -16,13 +16,13 @@ returns-clause-text c = λ l k below in_eight room.
     let inside = c.self.inside in
     let new = c.put_bytes.new.byte_rows in
     let old = c.deref_mut.result.now in
-    let cs = bytes_text (l % 8) (eight_at (l / 8) c.transposed.result c.transposed-2.result) in
+    let cs = bytes_text (l % 8) (eight_at (l / 8) c.transpose.result c.transpose-2.result) in
     let size : length old ≡ 32 = ap length c.deref_mut.ensures.value ∙ c.self.invariant in
     let items = with_items_is inside.byte_rows new (c.put_bytes.ensures.size ∙ sym size ∙ c.deref_mut.ensures.len) in
     let before = ap (text_in l) (c.deref_mut.ensures.value ∙ c.self.view_is) in
     let put = c.put_bytes.ensures.text (l / 8) (l % 8) (rows_with [] []) (omega (arith, below)) in
-    let ones = c.transposed.result in
-    let zeros = c.transposed-2.result in
+    let ones = c.transpose.result in
+    let zeros = c.transpose-2.result in
     let all = c.put_bytes.ensures.ones in
     let all_too = c.put_bytes.ensures.zeros in
     let octet : l / 8 < 32 = omega (arith, below) in
@@ -37,9 +37,9 @@ returns-clause-text c = λ l k below in_eight room.
     (omega (arith, room, ap (λ (t : List ℕ). length t) before))
     ∙ eight_character (l / 8) (l % 8) ones zeros all all_too octet k in_eight
     ∙ ap₂ character_by
-    (c.transposed.ensures (l / 8) k (l % 8) octet in_eight place
+    (c.transpose.ensures (l / 8) k (l % 8) octet in_eight place
     ∙ ap₂ (λ (m n : ℕ). bit_in m (get_or planes n [])) lane first)
-    (c.transposed-2.ensures (l / 8) k (l % 8) octet in_eight place
+    (c.transpose-2.ensures (l / 8) k (l % 8) octet in_eight place
     ∙ ap (λ (m : ℕ). bit_in m (get_or planes (2 * k + 1) [])) lane)
 
 pub returns-clause-front : goal.returns-clause-front

@@ -9,7 +9,7 @@ use Rattle.aig_step.proofs.machine.Machine.new.Goals as goal
 -- what runs means the same as the image, and that the same as the circuit
 pub returns : goal.returns
 returns c =
-    let same : c.circuit.result.now ≡ c.in_ok-image.image = c.circuit.ensures.value ∙ c.checked.ensures.value in
+    let same : c.circuit.result.now ≡ c.in_ok-image.image = c.circuit.ensures.value ∙ c.as_checked.ensures.value in
     IfOk-weaker c.of_ordered-made.result (λ (m : Circuit). MeansTheSame c.in_ok-image.image m)
     (λ (m : Circuit). MeansTheSame c.args.checked.now m)
     (λ m means.

@@ -1,6 +1,6 @@
 use Rattle.std.proofs.Common.{◌≡◌, List, [], ap, refl, subst}
 use Rattle.aig_step.specs.Stimulus.{Entry}
-use Rattle.aig_trace.specs.declared.abreast.Abreast.{Abreast}
+use Rattle.aig_trace.specs.declared.side_by_side.SideBySide.{SideBySide}
 use Rattle.aig_trace.specs.Parts.Tracing.{HasTraced, LineTracing}
 use Rattle.aig_trace.specs.Parts.Waits.{entries_of, waiting_in}
 use Rattle.aig_trace.proofs.Traced.{heard_alone, heard_line}
@@ -11,15 +11,15 @@ returns-in-None-clause-at g c = λ s stands.
     let i = c.self.inside in
     let t : LineTracing g.row.W.Denot = record {
       tracing = i.tracer;
-      waiting = waiting_in i.abreast;
+      waiting = waiting_in i.side_by_side;
       output = i.output;
     } in
     let u : LineTracing g.row.W.Denot = record {
       tracing = c.take_line.new.self;
-      waiting = waiting_in i.abreast;
+      waiting = waiting_in i.side_by_side;
       output = c.take_line.new.output;
     } in
-    let none : waiting_in i.abreast ≡ [] = ap waiting_in c.in-None.is in
+    let none : waiting_in i.side_by_side ≡ [] = ap waiting_in c.in-None.is in
     let took = c.take_line.ensures in
     (heard_line t u s (rw c.self.view_is stands) took.same c.args.text.now c.take_line.result
     (λ is. heard_alone t u c.args.text.now none none (took.good is))
@@ -28,7 +28,7 @@ returns-in-None-clause-at g c = λ s stands.
 pub returns-in-Some-clause-at : goal.returns-in-Some-clause-at
 returns-in-Some-clause-at g c = λ s stands.
     let i = c.self.inside in
-    let a = c.in-Some.abreast in
+    let a = c.in-Some.side_by_side in
     let took = c.take_line-in-Some.ensures in
     let t : LineTracing g.row.W.Denot = record {
       tracing = i.tracer;
@@ -42,7 +42,7 @@ returns-in-Some-clause-at g c = λ s stands.
     } in
     let view : LineTracing g.row.W.Denot = record {
       tracing = i.tracer;
-      waiting = waiting_in i.abreast;
+      waiting = waiting_in i.side_by_side;
       output = i.output;
     } in
     let stood : HasTraced view s = rw c.self.view_is stands in
@@ -57,22 +57,22 @@ returns-in-Some-clause-at g c = λ s stands.
     (heard_line t u s at took.same c.args.text.now c.take_line-in-Some.result took.good
     (λ is.
     let same = took.stays is in
-    (took.bad is, same.0, ap (λ (x : Abreast). entries_of x.waiting) same.2, same.1))).0
+    (took.bad is, same.0, ap (λ (x : SideBySide). entries_of x.waiting) same.2, same.1))).0
 
 pub returns-in-None-clause-goes : goal.returns-in-None-clause-goes
 returns-in-None-clause-goes g c = λ s stands.
     let i = c.self.inside in
     let t : LineTracing g.row.W.Denot = record {
       tracing = i.tracer;
-      waiting = waiting_in i.abreast;
+      waiting = waiting_in i.side_by_side;
       output = i.output;
     } in
     let u : LineTracing g.row.W.Denot = record {
       tracing = c.take_line.new.self;
-      waiting = waiting_in i.abreast;
+      waiting = waiting_in i.side_by_side;
       output = c.take_line.new.output;
     } in
-    let none : waiting_in i.abreast ≡ [] = ap waiting_in c.in-None.is in
+    let none : waiting_in i.side_by_side ≡ [] = ap waiting_in c.in-None.is in
     let took = c.take_line.ensures in
     (heard_line t u s (rw c.self.view_is stands) took.same c.args.text.now c.take_line.result
     (λ is. heard_alone t u c.args.text.now none none (took.good is))
@@ -81,7 +81,7 @@ returns-in-None-clause-goes g c = λ s stands.
 pub returns-in-Some-clause-goes : goal.returns-in-Some-clause-goes
 returns-in-Some-clause-goes g c = λ s stands.
     let i = c.self.inside in
-    let a = c.in-Some.abreast in
+    let a = c.in-Some.side_by_side in
     let took = c.take_line-in-Some.ensures in
     let t : LineTracing g.row.W.Denot = record {
       tracing = i.tracer;
@@ -95,7 +95,7 @@ returns-in-Some-clause-goes g c = λ s stands.
     } in
     let view : LineTracing g.row.W.Denot = record {
       tracing = i.tracer;
-      waiting = waiting_in i.abreast;
+      waiting = waiting_in i.side_by_side;
       output = i.output;
     } in
     let stood : HasTraced view s = rw c.self.view_is stands in
@@ -110,4 +110,4 @@ returns-in-Some-clause-goes g c = λ s stands.
     (heard_line t u s at took.same c.args.text.now c.take_line-in-Some.result took.good
     (λ is.
     let same = took.stays is in
-    (took.bad is, same.0, ap (λ (x : Abreast). entries_of x.waiting) same.2, same.1))).1
+    (took.bad is, same.0, ap (λ (x : SideBySide). entries_of x.waiting) same.2, same.1))).1

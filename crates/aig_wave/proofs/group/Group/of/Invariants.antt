@@ -5,10 +5,10 @@ use Rattle.aig_wave.specs.Parts.Groups.{AreBits, Covers}
 use Rattle.aig_wave.proofs.group.Group.of.Given as goal
 
 -- what is no narrower, and covers the signals that are left, covers all
-abbrev pub invariant-loop-tag : goal.invariant-loop-tag
-invariant-loop-tag l = record {
-  covers : (g : Group) → g.start ≤ l.group.start → l.group.end ≤ g.end → Covers g (drop l.tag-index l.tags)
-      → Covers g l.tags;
-  few : l.group.bits ≡ true → length l.tags ≤ GROUP;
-  bits : l.group.bits ≡ true → AreBits (drop l.tag-index l.tags) → AreBits l.tags;
+abbrev pub invariant-loop-signal_code : goal.invariant-loop-signal_code
+invariant-loop-signal_code l = record {
+  covers : (g : Group) → g.start ≤ l.group.start → l.group.end ≤ g.end → Covers g (drop l.signal_code-index l.signal_codes)
+      → Covers g l.signal_codes;
+  few : l.group.bits ≡ true → length l.signal_codes ≤ GROUP;
+  bits : l.group.bits ≡ true → AreBits (drop l.signal_code-index l.signal_codes) → AreBits l.signal_codes;
 }

@@ -1,0 +1,163 @@
+-- A source whose first bytes were fetched, and of which the header or the lines in front of the gates were read.
+use Rattle.std.proofs.Common.{◌≡◌, ◌≢◌, ◌<◌, ◌≤◌, ◌∙◌, inl, inr, ℕ, List, [], ◌∷◌, ◌++◌, drop, length, true, false}
+use Rattle.std.proofs.Common.{Bool, Result, Ok, Err, append_assoc, ap, not, refl, sym}
+use Rattle.std.proofs.lemmas.List.{drop-append-le}
+use Rattle.aig_circuit.specs.declared.circuit.Circuit.{Circuit}
+use Rattle.aig_circuit.specs.Form.{IsInForm}
+use Rattle.aig_circuit.specs.Wellformed.{IsWellFormed}
+use Rattle.aig_checked.specs.BinaryOrder.{IsInBinaryOrder}
+use Rattle.aig_core.specs.Fault.{first_structural_fault}
+use Rattle.aig_io.specs.Devices.{Past, gave, took}
+use Rattle.aig_io.specs.Windows.{Filled}
+use Rattle.aig_io.proofs.Took.{gave_then, some_later}
+use Rattle.aig_rows.specs.declared.fault.ReadFault.{ReadFault}
+use Rattle.aig_rows.specs.Lines.{Line, AreEnded, lines_of}
+use Rattle.aig_rows.specs.Outcomes.{GivesOrMemory}
+use Rattle.aig_rows.proofs.Loops.Cutting.{pieces, some_lines}
+use Rattle.aig_rows.proofs.Taken.{lines_cut}
+use Rattle.aig_text.specs.declared.pieces.AsciiReader.{AsciiReader}
+use Rattle.aig_text.specs.Begun.{rest_of}
+use Rattle.aig_text.specs.Reading.{circuit_at, first_word_is, reading, unless_faulty}
+use Rattle.aig_text.proofs.Grammar.Faults.{checked_tells, line_fault as ascii_line_fault}
+use Rattle.aig_text.proofs.Grammar.Text.{circuit_in_form}
+use Rattle.aig_binary.specs.declared.source_fault.SourceFault.{SourceFault}
+use Rattle.aig_binary.specs.declared.source_fault.SourceFault.TheVariants as faults
+use Rattle.aig_binary.specs.BinaryGrammar.{binary_word}
+use Rattle.aig_binary.specs.BinaryReading.{binary_reading}
+use Rattle.aig_binary.specs.File.{IsFileOf, file_reading}
+use Rattle.aig_binary.specs.Sources.{AnswersFile, HasRead, ReadsAs, ReadsFrom}
+use Rattle.aig_binary.proofs.Grammar.Accepted.{read_is_ordered, read_is_well_formed, reading_is_accepted}
+use Rattle.aig_binary.proofs.Grammar.Faults.{line_fault}
+use Rattle.aig_binary.proofs.ReadingOn.{RestRead, whole_read}
+
+-- what bytes told is what those tell that are left when the first of their whole lines are taken
+passed : (tell s : List ℕ → Result Circuit ReadFault) (bytes lines rest held : List ℕ) (used : ℕ) → bytes ≡ lines ++ rest
+    → used ≤ length lines → ((more : List ℕ) → tell (lines ++ more) ≡ s (drop used lines ++ more))
+    → held ≡ drop used bytes → (more : List ℕ) → tell (bytes ++ more) ≡ s (held ++ more)
+passed tell s bytes lines rest held used cut within on is more =
+    let left : held ≡ drop used lines ++ rest = is ∙ ap (drop used) cut ∙ drop-append-le used lines rest within in
+    ap tell (ap (λ (x : List ℕ). x ++ more) cut ∙ append_assoc lines rest more)
+    ∙ on (rest ++ more)
+    ∙ ap s (sym (ap (λ (x : List ℕ). x ++ more) left ∙ append_assoc (drop used lines) rest more))
+
+-- these first bytes begin no binary file, and the reader and the bytes that are held tell the same as they
+pub record IsBegun (limit : ℕ) (first held : List ℕ) (r : AsciiReader) : Type 0 where
+  pub other : (more : List ℕ) → first_word_is binary_word (lines_of (first ++ more)) ≡ false
+  pub told : (more : List ℕ) → circuit_at limit (lines_of (first ++ more)) ≡ rest_of r (lines_of (held ++ more))
+
+same_word : (word : List ℕ) (ls more : List Line) → ls ≢ [] → first_word_is word (ls ++ more) ≡ first_word_is word ls
+same_word word [] more some = absurd (some refl)
+same_word word (l ∷ ls) more some = refl
+
+pub word_stays : (first lines rest more : List ℕ) → first ≡ lines ++ rest → AreEnded (lines_of lines)
+    → 0 < length lines
+    → first_word_is binary_word (lines_of (first ++ more)) ≡ first_word_is binary_word (lines_of lines)
+word_stays first lines rest more cut ended some =
+    ap (first_word_is binary_word) (lines_cut first lines rest more cut ended)
+    ∙ same_word binary_word (lines_of lines) (lines_of (rest ++ more)) (some_lines lines some)
+
+pub begun : (limit : ℕ) (first lines rest : List ℕ) (used : ℕ) (r : AsciiReader) → first ≡ lines ++ rest
+    → AreEnded (lines_of lines) → 0 < length lines → first_word_is binary_word (lines_of lines) ≡ false
+    → used ≤ length lines
+    → ((more : List ℕ) → circuit_at limit (lines_of (lines ++ more)) ≡ rest_of r (lines_of (drop used lines ++ more)))
+    → (held : List ℕ) → held ≡ drop used first → IsBegun limit first held r
+begun limit first lines rest used r cut ended some other within on held is = record {
+  other = λ more. word_stays first lines rest more cut ended some ∙ other;
+  told =
+      passed (λ bytes. circuit_at limit (lines_of bytes)) (λ bytes. rest_of r (lines_of bytes)) first lines rest held
+      used cut within on is;
+}
+
+module _ (limit : ℕ) (first held : List ℕ) (r : AsciiReader) (begin : IsBegun limit first held r) where
+  abbrev tell : List ℕ → Result Circuit ReadFault
+  tell bytes = rest_of r (lines_of bytes)
+
+  ascii_reading : (more : List ℕ) → file_reading limit (first ++ more) ≡ reading limit (first ++ more)
+  ascii_reading more = rw (begin.other more) refl
+
+  pub in_form : (c : Circuit) (a b : Past) → RestRead tell held a b (Ok c) → IsInForm c
+  in_form c a b h =
+      circuit_in_form limit (lines_of (first ++ h.bytes)) c (pieces (first ++ h.bytes)).one_each
+      (begin.told h.bytes ∙ h.holds)
+
+  answers : (c : Circuit) (more : List ℕ) (answer : Result Circuit ReadFault)
+      → circuit_at limit (lines_of (first ++ more)) ≡ Ok c
+      → GivesOrMemory (λ d. d) answer (unless_faulty c (first_structural_fault c))
+      → AnswersFile limit answer (first ++ more)
+  answers c more (Ok d) h is = inl ((checked_tells limit (first ++ more) c (Ok d) h is).ok)
+  answers c more (Err e) h is = rw (ascii_reading more) ((checked_tells limit (first ++ more) c (Err e) h is).fault)
+
+  pub checked : (c : Circuit) (before a b : Past) (answer : Result Circuit ReadFault) → a ≡ took first before
+      → RestRead tell held a b (Ok c)
+      → GivesOrMemory (λ d. d) answer (unless_faulty c (first_structural_fault c))
+      → HasRead (λ bytes. AnswersFile limit answer bytes) before b
+  checked c before a b answer gave h is = record {
+    bytes = first ++ h.bytes;
+    gave = gave_then true first h.bytes before a b gave h.gave;
+    holds = answers c h.bytes answer (begin.told h.bytes ∙ h.holds) is;
+  }
+
+  pub refused : (fault : SourceFault) (before a b : Past) → a ≡ took first before
+      → ReadsAs {A = Circuit} (λ answer bytes. GivesOrMemory (λ c. c) answer (tell (held ++ bytes))) (Err fault) a b
+      → ReadsAs (AnswersFile limit) (Err fault) before b
+  refused (faults.Source error) before a b gave some = some_later error first before a b gave some
+  refused (faults.File e) before a b gave h = record {
+    bytes = first ++ h.bytes;
+    gave = gave_then true first h.bytes before a b gave h.gave;
+    holds =
+        rw (ascii_reading h.bytes) (ascii_line_fault limit (first ++ h.bytes) e (rw (begin.told h.bytes) h.holds));
+  }
+
+-- the front was read of the whole lines of what came
+pub front_read : (tell s : List ℕ → Result Circuit ReadFault) (u v lines rest held : List ℕ) (used : ℕ) (a b : Past)
+    → Filled u v true a b → v ≡ lines ++ rest → used ≤ length lines
+    → ((more : List ℕ) → tell (lines ++ more) ≡ s (drop used lines ++ more)) → held ≡ drop used v
+    → ReadsFrom tell s u held true a b
+front_read tell s u v lines rest held used a b f cut within on is = record {
+  given = f.given;
+  gave = f.gave;
+  on = λ others.
+      inr (ap (λ (bytes : List ℕ). tell (bytes ++ others)) (sym f.held)
+      ∙ passed tell s v lines rest held used cut within on is others);
+}
+
+module _ (limit : ℕ) (first held : List ℕ) (s : List ℕ → Result Circuit ReadFault) (a b : Past)
+    (reads : ReadsFrom (binary_reading limit) s first held true a b)
+  where
+    module _ (c : Circuit) (d : Past) (h : RestRead s held b d (Ok c)) where
+      all_read : RestRead (binary_reading limit) first a d (Ok c)
+      all_read = whole_read (binary_reading limit) s first held a b d (Ok c) reads h
+
+      pub is_well_formed : IsWellFormed c
+      is_well_formed = read_is_well_formed limit (lines_of (first ++ all_read.bytes)) c all_read.holds
+
+      pub is_ordered : IsInBinaryOrder c
+      is_ordered = read_is_ordered limit (lines_of (first ++ all_read.bytes)) c all_read.holds
+
+      pub is_file : (before : Past) → a ≡ took first before → HasRead (λ bytes. IsFileOf bytes limit c) before d
+      is_file before came = record {
+        bytes = first ++ all_read.bytes;
+        gave = gave_then true first all_read.bytes before a d came all_read.gave;
+        holds = inr (reading_is_accepted limit (first ++ all_read.bytes) c all_read.holds);
+      }
+
+    pub is_refused : (fault : SourceFault) (before d : Past) → a ≡ took first before
+        → ((more : List ℕ) → first_word_is binary_word (lines_of (first ++ more)) ≡ true)
+        → ReadsAs {A = Circuit} (λ answer bytes. GivesOrMemory (λ c. c) answer (s (held ++ bytes))) (Err fault) b d
+        → ReadsAs (AnswersFile limit) (Err fault) before d
+    is_refused (faults.Source error) before d came word some =
+        some_later error first before a d came (some_later error reads.given a b d reads.gave some)
+    is_refused (faults.File e) before d came word h =
+        let w = whole_read (binary_reading limit) s first held a b d (Err e) reads h in
+        record {
+          bytes = first ++ w.bytes;
+          gave = gave_then true first w.bytes before a d came w.gave;
+          holds = rw (word w.bytes) (line_fault limit (first ++ w.bytes) e w.holds);
+        }
+
+-- what is held is what a source gave
+pub all_held : (first held : List ℕ) (more : Bool) (before a b : Past) → a ≡ took first before
+    → Filled first held more a b → b ≡ gave held (not more) before
+all_held first held more before a b came f =
+    gave_then (not more) first f.given before a b came f.gave
+    ∙ ap (λ (bytes : List ℕ). gave bytes (not more) before) (sym f.held)

@@ -1,0 +1,161 @@
+//! A source that is read to its end as a file of either kind.
+ghost use Rattle.std.specs.Prelude.{◌≡◌, ◌+◌, ◌^◌, ◌≤◌, ◌++◌, List, ℕ, IfErr, IfOk, IfSome};
+ghost use Rattle.std.specs.Prelude.{MatchOption, false, length, not, true};
+ghost use Rattle.aig_io.specs.Devices.{CanFail, GaveSome, Past, gave};
+ghost use Rattle.aig_io.specs.Windows.{Filled};
+ghost use Rattle.aig_rows.specs.Lines.{lines_of};
+ghost use Rattle.aig_text.specs.Reading.{first_word_is};
+ghost use Rattle.aig_binary.specs.BinaryGrammar.{binary_word};
+ghost use Rattle.aig_binary.specs.BinaryReading.{binary_reading};
+ghost use Rattle.aig_binary.specs.Begun.{FitsHeader, rest_of};
+ghost use Rattle.aig_binary.specs.Sources.{AnswersFile, ReadsAs, ReadsFrom};
+
+use crate::file::read_file_keeping;
+use crate::pieces::BinaryReader;
+use crate::piecewise::{fetch_all, fetch_piece, read_rest};
+use crate::reader::BINARY_WORD;
+use crate::source_fault::SourceFault;
+use aig_core::{Checked, Keep, Ordered, ReadError, Source, Window};
+use aig_rows::{ReadKind, ended_lines};
+use aig_text::{AsciiReader, Limits, check_read, first_word_is};
+use std::alloc::Global;
+
+/// Lets go of the room that bytes do not fill, and answers whether no memory was refused. Room grows by doubling, so it
+/// may be twice what is filled. Where a block of up to 32 MB is let go, the C library of Linux keeps blocks of that
+/// size from then on, and what is made of the circuit takes them again: without this the system would give and clear
+/// new pages for it.
+fn fit(bytes: &mut Vec<u8>) -> bool
+    ensures { bytes.new.items ≡ bytes.old.items }
+{
+    bytes.shrink_to_fit();
+    bytes.capacity() == bytes.len()
+}
+
+/// The first bytes of a source, with a line at least, and whether it goes on.
+fn fetch_first<R: Source>(alloc: Global, source: &mut R) -> Result<(Window, bool), ReadError>
+    requires { CanFail (R.past source.old) }
+    ensures ok { IfOk result (λ x. R.past source.new ≡ gave x.0 (not x.1) (R.past source.old)) }
+    ensures bound { IfOk result (λ x. R.bound source.new + length x.0 ≤ 2 ^ 62) }
+    ensures err { IfErr result (λ error. GaveSome error (R.past source.old) (R.past source.new)) }
+{
+    let mut window = Window::new(alloc)?;
+    if !window.fill(source)? {
+        return Ok((window, false));
+    }
+    let (lines, _) = ended_lines(window.as_slice());
+    if !lines.is_empty() {
+        return Ok((window, true));
+    }
+    let more = fetch_piece::<R, AsciiReader>(source, &mut window, 0)?;
+    Ok((window, more))
+}
+
+/// Fetches the lines in front of the gates, of which the window has the first bytes, and has them read. There is no
+/// reader where they are not right. Answers whether the source goes on. Lines that are not there yet are read anew when
+/// twice as much is held, so on the whole no more than twice.
+fn read_front<R: Source>(
+    alloc: Global,
+    source: &mut R,
+    window: &mut Window,
+    limits: Limits,
+) -> Result<(Option<BinaryReader>, bool), ReadError>
+    requires source { CanFail (R.past source.old) }
+    requires counted { length window.old + R.bound source.old ≤ 2 ^ 62 }
+    ensures begun { IfOk result (λ found. MatchOption found.0
+        (Filled window.old window.new found.1 (R.past source.old) (R.past source.new))
+        (λ r. ReadsFrom (binary_reading limits.max_var) (rest_of r) window.old window.new true
+        (R.past source.old) (R.past source.new))) }
+    ensures fits { IfOk result (λ found. IfSome found.0 (λ r. FitsHeader r.header r.gates)) }
+    ensures counted { IfOk result (λ found. IfSome found.0
+        (λ r. r.number + length window.new + R.bound source.new ≤ 2 ^ 63)) }
+    ensures err { IfErr result (λ error. GaveSome error (R.past source.old) (R.past source.new)) }
+{
+    loop {
+        let (lines, _) = ended_lines(window.as_slice());
+        match BinaryReader::begin(alloc, lines, limits) {
+            Ok((reader, used)) => {
+                window.pass(used);
+                return Ok((Some(reader), true));
+            }
+            Err(fault) => match fault.kind {
+                ReadKind::Truncated => {}
+                ReadKind::OutOfMemory => return Err(ReadError::OutOfMemory),
+                _ => return Ok((None, true)),
+            },
+        }
+        let twice = 2 * window.as_slice().len();
+        if !fetch_piece::<R, BinaryReader>(source, window, twice)? {
+            return Ok((None, false));
+        }
+    }
+}
+
+/// Reads a file of which the window has the first bytes, when all of them are there.
+fn read_whole<R: Source>(
+    alloc: Global,
+    source: &mut R,
+    window: Window,
+    more: bool,
+    limits: Limits,
+    keep: Keep,
+) -> Result<Checked, SourceFault>
+    requires { CanFail (R.past source.old) }
+    ensures { (before : Past) → R.past source.old ≡ gave window (not more) before
+        → ReadsAs (AnswersFile limits.max_var) result before (R.past source.new) }
+{
+    let mut bytes = fetch_all(source, window, more)?;
+    if !fit(&mut bytes) {
+        return Err(SourceFault::Source(ReadError::OutOfMemory));
+    }
+    // The text ends here: it is not needed from here on, and may be larger than the circuit.
+    let found = read_file_keeping(alloc, bytes.as_slice(), limits, keep)?;
+    Ok(found)
+}
+
+/// Reads a binary file of which the window has the first bytes.
+fn read_binary_file<R: Source>(
+    alloc: Global,
+    source: &mut R,
+    window: Window,
+    limits: Limits,
+) -> Result<Checked, SourceFault>
+    requires source { CanFail (R.past source.old) }
+    requires counted { length window + R.bound source.old ≤ 2 ^ 62 }
+    requires binary { (more : List ℕ) → first_word_is binary_word (lines_of (window ++ more)) ≡ true }
+    ensures { (before : Past) → R.past source.old ≡ gave window false before
+        → ReadsAs (AnswersFile limits.max_var) result before (R.past source.new) }
+{
+    let mut window = window;
+    let (front, more) = read_front(alloc, source, &mut window, limits)?;
+    let Some(reader) = front else {
+        return read_whole(alloc, source, window, more, limits, Keep::Circuit);
+    };
+    let circuit = read_rest(alloc, source, window, reader)?;
+    Ok(Ordered::from_well_ordered(circuit).into_checked())
+}
+
+/// Reads the source to its end, as a file of either kind within these limits, and keeps what is wanted of the check
+/// later. Only a part of it is held at a time.
+pub fn read_source<R: Source>(
+    alloc: Global,
+    source: &mut R,
+    limits: Limits,
+    keep: Keep,
+) -> Result<Checked, SourceFault>
+    requires { CanFail (R.past source.old) }
+    ensures { ReadsAs (AnswersFile limits.max_var) result (R.past source.old) (R.past source.new) }
+{
+    let (first, more) = fetch_first(alloc, source)?;
+    let (lines, _) = ended_lines(first.as_slice());
+    if !more || lines.is_empty() {
+        return read_whole(alloc, source, first, more, limits, keep);
+    }
+    if first_word_is(lines, BINARY_WORD) {
+        return read_binary_file(alloc, source, first, limits);
+    }
+    let (reader, used) = AsciiReader::begin(alloc, lines, limits);
+    let mut window = first;
+    window.pass(used);
+    let circuit = read_rest(alloc, source, window, reader)?;
+    Ok(check_read(alloc, circuit, keep)?)
+}

@@ -1,0 +1,2 @@
+pub mod RunDump
+pub mod Started

@@ -1,0 +1,6 @@
+pub mod Behind
+pub mod Dumps
+pub mod Lents
+pub mod MemoryDumps
+pub mod Runs
+pub mod RunDumps

@@ -1,0 +1,102 @@
+-- The dump of what a witness file claims is that of a simulation, by the circuit that starts in its first state.
+use Rattle.std.proofs.Common.{◌≡◌, ◌++◌, ◌∙◌, ℕ, List, [], ◌∷◌, true, None, ap, codes, length, map, subst, sym, refl}
+use Rattle.std.specs.List.{AllZip, flat_map}
+use Rattle.std.proofs.lemmas.List.{append-nil}
+use Rattle.aig_circuit.specs.declared.circuit.Circuit.{Circuit}
+use Rattle.aig_circuit.specs.declared.value.Val.{Val}
+use Rattle.aig_meaning.specs.Meaning.{Row}
+use Rattle.aig_meaning.specs.Trace.{IsTrace, reset_state}
+use Rattle.aig_rows.specs.Lines.{Line, lines_of}
+use Rattle.aig_step.specs.declared.trace.Columns.TheVariants.{Properties}
+use Rattle.aig_step.specs.Stimulus.{Runs, judged_lines, runs_of, stimulus, text_of}
+use Rattle.aig_step.specs.TraceText.{IsTraceText, last_stop, rows_text, run_text, values_text}
+use Rattle.aig_step.proofs.StimulusTexts.{stimuli_are_read}
+use Rattle.aig_wave.specs.Wave.{wave_text}
+use Rattle.aig_witness.specs.Witness.{Claim, SaysClaim}
+use Rattle.aig_witness.proofs.WitnessTexts.{witness_files_are_read}
+use Rattle.aig_claims.specs.RunDump.{IsRunDump, started_in}
+use Rattle.aig_claims.specs.Started.{started_by}
+use Rattle.aig_dump.proofs.Behind.{all_judged}
+use Rattle.aig_dump.proofs.MemoryDumps.{IsDumpOf}
+use Rattle.aig_claims.proofs.Starting.{started_by_text, trace_from}
+
+-- lines of which three texts are known
+record AreThree (ls : List Line) (text : List ℕ) (texts : List (List ℕ)) : Type 0 where
+  one : Line
+  two : Line
+  three : Line
+  behind : List Line
+  parted : ls ≡ one ∷ two ∷ three ∷ behind
+  third : text_of three ≡ text
+  others : map text_of behind ≡ texts
+
+three_lines : (ls : List Line) (one two text : List ℕ) (texts : List (List ℕ))
+    → map text_of ls ≡ one ∷ two ∷ text ∷ texts → AreThree ls text texts
+three_lines [] one two text texts is = cc
+three_lines (k ∷ []) one two text texts is = cc
+three_lines (k ∷ l ∷ []) one two text texts is = cc
+three_lines (k ∷ l ∷ m ∷ ls) one two text texts is = record {
+  one = k;
+  two = l;
+  three = m;
+  behind = ls;
+  parted = refl;
+  third = cc;
+  others = cc;
+}
+
+-- the traces of one run that has ended are one trace
+one_run : (c : Circuit) (first : List Val) (steps : List (List Val)) (traces : List (List Row)) (last : List Row)
+    → AllZip (IsTrace c first) (steps ∷ []) traces → IsTrace c first [] last
+    → (rows : List Row) × IsTrace c first steps rows
+    × (flat_map (run_text Properties) traces ++ (rows_text Properties last ++ last_stop true None [])
+    ≡ run_text Properties rows)
+one_run c first steps [] last each is = absurd each
+one_run c first steps (rows ∷ []) [] each is =
+    (rows, each.0, append-nil _ ∙ append-nil (run_text Properties rows))
+one_run c first steps (rows ∷ []) (r ∷ rs) each is = absurd is.1
+one_run c first steps (rows ∷ other ∷ more) last each is = absurd each.1
+
+-- the lines of the steps and the line that ends them
+abbrev Said : List (List Val) → Runs
+Said steps = record { ended = steps ∷ []; unended = [] }
+
+trace_of_run : (c : Circuit) (st text : List ℕ) (steps : List (List Val))
+    → (let said = stimulus (length c.inputs) st true in (runs_of said.entries ≡ Said steps) × (said.bad ≡ None))
+    → IsTraceText c Properties st true text
+    → (rows : List Row) × IsTrace c (reset_state c) steps rows × (text ≡ run_text Properties rows)
+trace_of_run c st text steps (runs, bad) t =
+    let each = subst (λ (r : Runs). AllZip (IsTrace c (reset_state c)) r.ended t.traces) runs t.each in
+    let last = subst (λ (r : Runs). IsTrace c (reset_state c) r.unended t.last) runs t.is_last in
+    let one = one_run c (reset_state c) steps t.traces t.last each last in
+    (one.0, one.1, (rw (bad, runs) at t.is) ∙ one.2)
+
+pub run_dumped : (c : Circuit) (claim : Claim) (witness first st run : List ℕ) → SaysClaim c witness claim
+    → ((one two three : Line) (ls : List Line) → lines_of witness ≡ one ∷ two ∷ three ∷ ls
+    → (first ≡ text_of three) × (lines_of st ≡ ls))
+    → IsDumpOf (started_by first c) st run → IsRunDump c claim run
+run_dumped c claim witness first st run says parted dumped =
+    let file = (witness_files_are_read c witness claim).0 says in
+    let lines = three_lines (lines_of witness) _ _ _ _ file.texts in
+    let known = parted lines.one lines.two lines.three lines.behind lines.parted in
+    let d : Circuit = started_in claim.first c in
+    let started : started_by first c ≡ d =
+    ap (λ text. started_by text c) (known.0 ∙ lines.third) ∙ started_by_text claim.first c in
+    let (trace, is_trace, is) = subst (λ (e : Circuit). IsDumpOf e st run) started dumped in
+    let texts : map text_of (judged_lines st true) ≡ map values_text claim.steps ++ codes "." ∷ [] =
+    ap (map text_of) (all_judged (lines_of st) ∙ known.1) ∙ lines.others in
+    let said = (stimuli_are_read d st true (Said claim.steps) None).1 (record {
+      good = map text_of (judged_lines st true);
+      behind = [];
+      parted = sym (append-nil _);
+      lines = texts ∙ sym (append-nil _ ∙ append-nil _);
+      each = (file.each, tt);
+      last = tt;
+      next = refl;
+    }) in
+    let rows = trace_of_run d st trace claim.steps said is_trace in
+    record {
+      rows = rows.0;
+      trace = trace_from c claim.first claim.steps rows.0 file.starts rows.1;
+      is_dump = is ∙ ap (λ text. wave_text d text true) rows.2;
+    }

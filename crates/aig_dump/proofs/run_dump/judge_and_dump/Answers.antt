@@ -1,0 +1,4 @@
+use Rattle.aig_dump.proofs.run_dump.judge_and_dump.Goals as goal
+
+pub returns-in-Err-clause-err : goal.returns-in-Err-clause-err
+returns-in-Err-clause-err c = c.reason_for_no_dump.ensures c.args.found c.args.witness.now c.in-Err.ensures.err

@@ -1,0 +1,3 @@
+pub mod Dumps
+pub mod Lents
+pub mod Messages

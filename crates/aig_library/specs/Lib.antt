@@ -1,0 +1,4 @@
+pub mod Outcome
+pub mod Message
+pub mod Asked
+pub mod Answers

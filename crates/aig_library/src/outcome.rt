@@ -1,0 +1,214 @@
+//! What came of a call, in numbers.
+ghost use Rattle.std.specs.Prelude.{◌≡◌, IfErr, IfOk};
+ghost use Rattle.aig_library.specs.Outcome.{ending, fault_outcome, map_outcome, place_number, place_of, read_outcome};
+ghost use Rattle.aig_library.specs.Outcome.{IsPlaced, kind_of, refusal, sim_outcome, subject_of, unroll_outcome};
+
+use crate::kind;
+use aig_engines::ToolFault;
+use aig_order::MapFault;
+use aig_step::SimFault;
+use aig_text::{Place, ReadFault, ReadKind};
+use aig_unroll::UnrollFault;
+
+/// The text was written, or the witness is confirmed.
+pub const DONE: u32 = 0;
+
+/// The output has no room for the text.
+pub const TOO_SHORT: u32 = 1;
+
+/// The input is refused: it has a fault.
+pub const REFUSED: u32 = 2;
+
+/// Memory was refused.
+pub const OUT_OF_MEMORY: u32 = 3;
+
+/// The options exclude each other, or are not known, or a number is out of its range.
+pub const BAD_OPTIONS: u32 = 4;
+
+/// The witness file is right, and no step shows what it claims. If its run is dumped, the text was written.
+pub const NOT_CONFIRMED: u32 = 5;
+
+/// The fault has no one place.
+pub const WHOLE: u32 = 0;
+
+/// The fault is in a line.
+pub const LINE: u32 = 1;
+
+/// The fault is in a gate of a binary file.
+pub const GATE: u32 = 2;
+
+/// The fault is in a line of the map.
+pub const MAP_LINE: u32 = 3;
+
+/// What came of a call.
+#[repr(C)]
+#[derive(Clone, Copy, Debug, PartialEq, Eq)]
+pub struct Outcome {
+    /// How it ended.
+    pub status: u32,
+    /// What is wrong, where the status is `REFUSED`: a number of the module `kind`.
+    pub kind: u32,
+    /// Where it is wrong: `WHOLE`, `LINE`, `GATE` or `MAP_LINE`.
+    pub place: u32,
+    /// The variable or the literal that the fault names.
+    pub subject: u32,
+    /// The number of the line or of the gate, counted from 1; or the step at which a witness is confirmed, from 0.
+    pub number: u64,
+    /// How many bytes the text has, where the status is `DONE`, `TOO_SHORT` or `NOT_CONFIRMED`.
+    pub length: u64,
+}
+
+/// An outcome without a fault.
+pub(crate) fn ending(status: u32, number: u64, length: u64) -> Outcome
+    ensures { result ≡ ending status number length }
+{
+    Outcome {
+        status,
+        kind: 0,
+        place: WHOLE,
+        subject: 0,
+        number,
+        length,
+    }
+}
+
+/// The outcome of a fault.
+fn refusal(kind: u32, place: u32, number: u64, subject: u32) -> Outcome
+    ensures { result ≡ refusal kind place number subject }
+{
+    Outcome {
+        status: REFUSED,
+        kind,
+        place,
+        subject,
+        number,
+        length: 0,
+    }
+}
+
+fn kind_of(kind: ReadKind) -> u32
+    ensures { result ≡ kind_of kind }
+{
+    match kind {
+        ReadKind::NotAiger => kind::NOT_AIGER,
+        ReadKind::BadHeader => kind::BAD_HEADER,
+        ReadKind::TooLarge => kind::TOO_LARGE,
+        ReadKind::BadLine => kind::BAD_LINE,
+        ReadKind::NotVariable => kind::NOT_VARIABLE,
+        ReadKind::LiteralRange => kind::LITERAL_RANGE,
+        ReadKind::BadReset => kind::BAD_RESET,
+        ReadKind::Truncated => kind::TRUNCATED,
+        ReadKind::BadDelta => kind::BAD_DELTA,
+        ReadKind::BadSymbol => kind::BAD_SYMBOL,
+        ReadKind::SymbolRange => kind::SYMBOL_RANGE,
+        ReadKind::SymbolTwice => kind::SYMBOL_TWICE,
+        ReadKind::Redefined(_) => kind::REDEFINED,
+        ReadKind::Undefined(_) => kind::UNDEFINED,
+        ReadKind::Cyclic(_) => kind::CYCLIC,
+        ReadKind::OutOfMemory => 0,
+    }
+}
+
+fn subject_of(kind: ReadKind) -> u32
+    ensures { result ≡ subject_of kind }
+{
+    match kind {
+        ReadKind::Redefined(variable) => variable.0,
+        ReadKind::Undefined(literal) | ReadKind::Cyclic(literal) => literal.0,
+        _ => 0,
+    }
+}
+
+fn place_of(place: Place) -> (u32, u64)
+    ensures place { result.0 ≡ place_of place }
+    ensures number { result.1 ≡ place_number place }
+{
+    match place {
+        Place::Whole => (WHOLE, 0),
+        Place::Line(number) => (LINE, number),
+        Place::Gate(number) => (GATE, number),
+    }
+}
+
+fn read_outcome(fault: &ReadFault) -> Outcome
+    ensures { result ≡ read_outcome fault.now }
+{
+    if matches!(fault.kind, ReadKind::OutOfMemory) {
+        return ending(OUT_OF_MEMORY, 0, 0);
+    }
+    let (place, number) = place_of(fault.place);
+    refusal(kind_of(fault.kind), place, number, subject_of(fault.kind))
+}
+
+fn map_outcome(fault: &MapFault) -> Outcome
+    ensures { result ≡ map_outcome fault.now }
+{
+    match fault {
+        MapFault::NotOrdered => refusal(kind::NOT_ORDERED, WHOLE, 0, 0),
+        MapFault::Missing => refusal(kind::NO_MAP, WHOLE, 0, 0),
+        MapFault::Malformed(line) => refusal(kind::BAD_MAP_LINE, MAP_LINE, *line, 0),
+        MapFault::Mismatch => refusal(kind::MAP_MISMATCH, WHOLE, 0, 0),
+        MapFault::Forged => refusal(kind::MAP_FORGED, WHOLE, 0, 0),
+        MapFault::OutOfMemory => ending(OUT_OF_MEMORY, 0, 0),
+    }
+}
+
+fn unroll_outcome(fault: &UnrollFault) -> Outcome
+    ensures { result ≡ unroll_outcome fault.now }
+{
+    match fault {
+        UnrollFault::Unsupported => refusal(kind::NOT_UNROLLABLE, WHOLE, 0, 0),
+        UnrollFault::TooLarge => refusal(kind::TOO_LARGE_UNROLLED, WHOLE, 0, 0),
+        UnrollFault::OutOfMemory => ending(OUT_OF_MEMORY, 0, 0),
+    }
+}
+
+fn sim_outcome(fault: &SimFault) -> Outcome
+    ensures { result ≡ sim_outcome fault.now }
+{
+    match fault {
+        SimFault::BadStimulus(line) => refusal(kind::BAD_STIMULUS, LINE, *line, 0),
+        SimFault::BadWitness(line) => refusal(kind::BAD_WITNESS, LINE, *line, 0),
+        SimFault::OutOfMemory | SimFault::ReadFailed | SimFault::WriteFailed => {
+            ending(OUT_OF_MEMORY, 0, 0)
+        }
+    }
+}
+
+/// What a fault comes to. A source in memory does not fail, and a sink in memory fails where memory is refused.
+pub(crate) fn fault_outcome(fault: &ToolFault) -> Outcome
+    ensures { result ≡ fault_outcome fault.now }
+{
+    match fault {
+        ToolFault::Read(fault) => read_outcome(fault),
+        ToolFault::Map(fault) => map_outcome(fault),
+        ToolFault::Unroll(fault) => unroll_outcome(fault),
+        ToolFault::Sim(fault) => sim_outcome(fault),
+        ToolFault::Source | ToolFault::Sink | ToolFault::OutOfMemory => {
+            ending(OUT_OF_MEMORY, 0, 0)
+        }
+    }
+}
+
+/// Puts the text at the front of the output, where there is room for it.
+fn place_text(text: &[u8], output: &mut [u8]) -> Outcome
+    ensures { IsPlaced text.now output.old output.new result }
+{
+    let length = text.len();
+    if length > output.len() {
+        return ending(TOO_SHORT, 0, length as u64);
+    }
+    output[..length].copy_from_slice(text);
+    ending(DONE, 0, length as u64)
+}
+
+/// Answers a call that makes a text. Without a text the output is left alone.
+pub(crate) fn answer(made: Result<Vec<u8>, ToolFault>, output: &mut [u8]) -> Outcome
+    ensures text { IfOk made (λ text. IsPlaced text.items output.old output.new result) }
+    ensures fault { IfErr made (λ fault. (output.new ≡ output.old) × (result ≡ fault_outcome fault)) }
+{
+    match made {
+        Ok(text) => place_text(text.as_slice(), output),
+        Err(fault) => fault_outcome(&fault),
+    }
+}

@@ -1,4 +1,0 @@
-use Rattle.aig_memory.proofs.run_dump.judge_and_dump.Goals as goal
-
-pub returns-in-Err-clause-err : goal.returns-in-Err-clause-err
-returns-in-Err-clause-err c = c.refused.ensures c.args.found c.args.witness.now c.in-Err.ensures.err

@@ -1,6 +1,0 @@
-pub mod Lent
-pub mod Outcome
-pub mod Message
-pub mod Asked
-pub mod Answers
-pub mod Started

@@ -1,7 +1,0 @@
-//! What the numbers of outcomes say. Each law is a function that does nothing.
-ghost use Rattle.aig_memory.specs.Message.{MessagesTellFaults};
-
-/// The words for the outcome of a fault are those in which the program reports it.
-pub fn messages_tell_faults()
-    ensures { MessagesTellFaults }
-{}

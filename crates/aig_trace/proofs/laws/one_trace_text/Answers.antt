@@ -1,5 +1,0 @@
-use Rattle.aig_trace.proofs.OneText.{one_trace_text}
-use Rattle.aig_trace.proofs.laws.one_trace_text.Goals as goal
-
-pub returns : goal.returns
-returns c = one_trace_text

@@ -1,0 +1,4 @@
+pub mod KnownLines
+pub mod KnownTexts
+pub mod OneText
+pub mod SameTexts

@@ -1,0 +1,5 @@
+use Rattle.aig_trace_laws.proofs.OneText.{one_trace_text}
+use Rattle.aig_trace_laws.proofs.laws.one_trace_text.Goals as goal
+
+pub returns : goal.returns
+returns c = one_trace_text

@@ -1,0 +1,5 @@
+use Rattle.aig_trace_laws.proofs.SameTexts.{same_meaning_same_text}
+use Rattle.aig_trace_laws.proofs.laws.same_meaning_same_text.Goals as goal
+
+pub returns : goal.returns
+returns c = same_meaning_same_text

@@ -1,5 +1,0 @@
-//! Tests of the dumps of traces.
-#![tactic(auto)]
-
-#[cfg(test)]
-mod cases;

@@ -1,0 +1,16 @@
+//! Tests of the simulator's calls and of the three values, where neither a contract decides nor a run of the program
+//! shows what comes. The texts that the program is run on stand in `tests/rows`.
+#![tactic(auto)]
+
+#[cfg(test)]
+mod batches;
+#[cfg(test)]
+mod large;
+#[cfg(test)]
+mod steps;
+#[cfg(test)]
+mod values;
+#[cfg(test)]
+mod waves;
+#[cfg(test)]
+mod witnesses;

@@ -1,0 +1,53 @@
+//! The dump of a trace. What comes is in the contracts; that memory suffices is not. What dumps show of circuits
+//! stands in `tests/rows/waves.sh`.
+use aig_core::{Checked, MemorySink, MemorySource};
+use aig_sim::{Columns, simulate};
+use aig_text::{Limits, read_ascii};
+use aig_wave::{FreshSink, WaveMemory, WaveSink};
+use std::alloc::Global;
+use std::test::Fail;
+
+/// A latch that toggles.
+const TOGGLE: &str = "aag 1 0 1 0 0\n2 3\nl0 state[4]\n";
+
+/// The dump of two steps of it.
+const DUMP: &[u8] = b"$version aiger $end
+$timescale 1 ns $end
+$scope module aiger $end
+$var integer 64 r run $end
+$scope module latches $end
+$var reg 1 l0 state [4] $end
+$upscope $end
+$upscope $end
+$enddefinitions $end
+#0
+b0 r
+0l0
+#1
+1l0
+#2
+0l0
+#3
+";
+
+/// Whether two steps of a circuit have this dump.
+fn is_dumped(alloc: Global, circuit: &Checked, dump: &[u8]) -> Option<bool> {
+    let mut source = MemorySource::new(Vec::from_slice(alloc, b"\n\n").ok()?, 1, 0);
+    let mut sink = MemorySink::new(alloc, 4096, 3, 0).ok()?;
+    let room = WaveMemory::new(alloc, circuit).ok()?;
+    let mut fresh = FreshSink::new(&mut sink);
+    let mut wave = WaveSink::new(room, &mut fresh);
+    let done = simulate(alloc, circuit, Columns::Properties, &mut source, &mut wave).is_ok();
+    let (sent, _fresh) = wave.finish(done);
+    let sink = fresh.finish();
+    Some(done && sent.is_ok() && sink.bytes() == dump)
+}
+
+#[test]
+fn a_trace_is_dumped(rt: HostRuntime) -> Result<(), Fail> {
+    let circuit = read_ascii(rt.alloc(), TOGGLE.as_bytes(), Limits::default())?;
+    let dumped = is_dumped(rt.alloc(), &circuit, DUMP);
+    drop(circuit);
+    assert!(rt; dumped == Some(true));
+    Ok(())
+}
