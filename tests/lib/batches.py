@@ -1,26 +1,17 @@
-#!/usr/bin/env python3
 """Compares the traces that the program writes with --batch with those that it writes without, on circuits and stimuli made
 by chance.
-
-    tests/batches.py PROGRAM
 
 The circuits are those of images.py, some with more inputs or latches. A stimulus has some runs, as many as go side by side or
 not, of 0 to 40 steps each in any mixture. The text must be the same byte for byte, without and with properties; of short
 stimuli it must be the one of the plain evaluation of traces.py too. Then one of the lines is made bad, the first, the last or
 any other: with --batch nothing may be written, and the line must be told.
 """
-import concurrent.futures
 import random
-import sys
-import tempfile
 from pathlib import Path
 
-sys.dont_write_bytecode = True
-import images
-import traces
+from lib import images, traces
 
 CIRCUITS = 140
-AT_ONCE = 4
 RUNS = [0, 1, 2, 255, 256, 257, 600]
 LENGTHS = [range(41), [0, 40], [0, 0, 0, 1, 2], [39, 40], [0], [1], [7]]
 # of a stimulus of so many lines at most the trace is evaluated here too
@@ -61,26 +52,19 @@ def judge(program, folder, number, chance):
         alone = traces.ran(program, model, "aigsim", *words, "-", str(steps))
         came = traces.ran(program, model, "aigsim", "--batch", *words, "-", str(steps))
         if text is not None and alone != (text, b"", 0):
-            return f"circuit {number}, {model!r} over {given!r}: wanted {text!r}, came {alone!r}"
+            return f"{model!r} over {given!r}: wanted {text!r}, came {alone!r}"
         if came != alone:
-            return f"circuit {number}, {model!r} over {given!r}, {words}: came {alone!r}, and with --batch {came!r}"
+            return f"{model!r} over {given!r}, {words}: came {alone!r}, and with --batch {came!r}"
     lines, bad_line = with_bad_line(chance, len(made.inputs), lines)
     given = traces.text_of(chance, lines)
     steps.write_bytes(given.encode())
     came = traces.ran(program, model, "aigsim", "--batch", "-", str(steps))
     if came != (b"", f"aiger: {steps}: line {bad_line}: bad stimulus line\n".encode(), 1):
-        return f"circuit {number}, {model!r} over {given!r}: wanted line {bad_line}, came {came!r}"
+        return f"{model!r} over {given!r}: wanted line {bad_line}, came {came!r}"
     steps.unlink()
     return None
 
 
-def main(program):
-    with tempfile.TemporaryDirectory() as folder, concurrent.futures.ThreadPoolExecutor(AT_ONCE) as pool:
-        asked = [pool.submit(judge, program, folder, number, random.Random(number)) for number in range(CIRCUITS)]
-        wrong = [said for said in (it.result() for it in asked) if said]
-    if wrong:
-        sys.exit(f"{len(wrong)} circuits have other traces with --batch; the first is {wrong[0]}")
-
-
-if __name__ == "__main__":
-    main(*sys.argv[1:])
+def cases(program, folder):
+    for number in range(CIRCUITS):
+        yield judge, program, folder, number, random.Random(number)

@@ -1,7 +1,4 @@
-#!/usr/bin/env python3
 """Compares what the program writes in binary with the images that a plain search gives, on circuits made by chance.
-
-    tests/images.py PROGRAM
 
 Each circuit has shuffled gates, variables far apart, unused indices, symbols and perhaps a comment; half of them have resets,
 bad states, constraints, justice properties and fairness constraints. Its gates are placed by looking at all of them again for
@@ -13,7 +10,6 @@ be told. What circuit and image mean, step by step, is compared in traces.py.
 import dataclasses
 import random
 import subprocess
-import sys
 
 CIRCUITS = 400
 CYCLIC = 300
@@ -225,28 +221,31 @@ def refused_for_cycle(program, gates, text):
     return True
 
 
-def main(program):
+def judge(program, made):
+    """What is wrong with the image of this circuit, if anything is."""
+    text, wanted, mapped = ascii_text(made), image(made), mapped_image(made)
+    if converted(program, text, "--ascii") != text:
+        return f"it does not come back: {text!r}"
+    if converted(program, text) != wanted:
+        return f"it has another image: {text!r}"
+    if converted(program, converted(program, wanted, "--ascii")) != wanted:
+        return f"its image does not come back: {wanted!r}"
+    if converted(program, text, "--keep-map") != mapped:
+        return f"it has another mapped image: {text!r}"
+    if converted(program, mapped, "--undo-map", "--ascii") != text:
+        return f"it is not undone: {mapped!r}"
+    return None
+
+
+def judge_cycle(program, made):
+    """What is wrong with what is told of a cycle of this circuit, if anything is."""
+    text = ascii_text(made)
+    return None if refused_for_cycle(program, made.gates, text) else f"another cycle is told of it: {text!r}"
+
+
+def cases(program, _):
     chance = random.Random(7)
-    for number in range(CIRCUITS):
-        made = circuit(chance)
-        text, wanted = ascii_text(made), image(made)
-        if converted(program, text, "--ascii") != text:
-            sys.exit(f"circuit {number} does not come back: {text!r}")
-        if converted(program, text) != wanted:
-            sys.exit(f"circuit {number} has another image: {text!r}")
-        if converted(program, converted(program, wanted, "--ascii")) != wanted:
-            sys.exit(f"the image of circuit {number} does not come back: {wanted!r}")
-        mapped = mapped_image(made)
-        if converted(program, text, "--keep-map") != mapped:
-            sys.exit(f"circuit {number} has another mapped image: {text!r}")
-        if converted(program, mapped, "--undo-map", "--ascii") != text:
-            sys.exit(f"circuit {number} is not undone: {mapped!r}")
-    for number in range(CYCLIC):
-        made = circuit(chance, may_be_cyclic=True)
-        text = ascii_text(made)
-        if not refused_for_cycle(program, made.gates, text):
-            sys.exit(f"another cycle is told of circuit {number}: {text!r}")
-
-
-if __name__ == "__main__":
-    main(*sys.argv[1:])
+    for _ in range(CIRCUITS):
+        yield judge, program, circuit(chance)
+    for _ in range(CYCLIC):
+        yield judge_cycle, program, circuit(chance, may_be_cyclic=True)

@@ -1,25 +1,18 @@
-#!/usr/bin/env python3
 """Compares the traces that the program writes with those of a plain evaluation, on circuits and stimuli made by chance.
-
-    tests/traces.py PROGRAM
 
 The circuits are those of images.py: with shuffled gates, and half of them with resets, bad states, constraints, justice
 properties and fairness constraints. A stimulus has some runs of some steps over 0, 1 and x; some of them have a bad line. The
 trace of each circuit, of its binary image, of its mapped image and of what is undone from that must be the text that is worked
 out here, value by value, from the circuit's own equations.
 """
-import concurrent.futures
 import random
 import subprocess
 import sys
-import tempfile
 from pathlib import Path
 
-sys.dont_write_bytecode = True
-import images
+from lib import images
 
 CIRCUITS = 2000
-AT_ONCE = 4
 NOT = {"0": "1", "1": "0", "x": "x"}
 
 
@@ -119,22 +112,13 @@ def judge(program, folder, number, made, lines, given):
     for model, words, wanted in asked:
         came = ran(program, model, "aigsim", *words, "-", str(steps))
         if came != (wanted, errors, 1 if bad_at else 0):
-            return f"circuit {number}, {model!r} over {given!r}: wanted {wanted!r} and {errors!r}, came {came!r}"
+            return f"{model!r} over {given!r}: wanted {wanted!r} and {errors!r}, came {came!r}"
     steps.unlink()
     return None
 
 
-def main(program):
+def cases(program, folder):
     chance = random.Random(18)
-    with tempfile.TemporaryDirectory() as folder, concurrent.futures.ThreadPoolExecutor(AT_ONCE) as pool:
-        asked = []
-        for number in range(CIRCUITS):
-            made = images.circuit(chance)
-            asked.append(pool.submit(judge, program, folder, number, made, *stimulus(chance, len(made.inputs))))
-        wrong = [said for said in (it.result() for it in asked) if said]
-    if wrong:
-        sys.exit(f"{len(wrong)} circuits have other traces; the first is {wrong[0]}")
-
-
-if __name__ == "__main__":
-    main(*sys.argv[1:])
+    for number in range(CIRCUITS):
+        made = images.circuit(chance)
+        yield judge, program, folder, number, made, *stimulus(chance, len(made.inputs))

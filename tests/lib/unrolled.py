@@ -1,7 +1,4 @@
-#!/usr/bin/env python3
 """Compares the unrolled circuits that the program writes with those of a plain model, and what they do with what the source does.
-
-    tests/unrolled.py PROGRAM
 
 The circuits are those of images.py, with more latches, of which many have as next literal the latch before, their own negation, a
 constant or an input. A few have about as many gates as are written at once, with bad states and a constraint. Those with justice
@@ -10,16 +7,11 @@ here, literal by literal, over one to six frames: as ASCII and as binary, from t
 circuit must give in one step the outputs of all frames, and the bad states of all frames as far as the constraints have held, as
 they come from the source's own equations, frame after frame.
 """
-import concurrent.futures
 import dataclasses
 import random
-import sys
-import tempfile
 from pathlib import Path
 
-sys.dont_write_bytecode = True
-import images
-import traces
+from lib import images, traces
 
 CIRCUITS = 500
 # how many gates the larger ones have: 256 are written at once
@@ -172,39 +164,34 @@ def judge(program, folder, number, made, frames, given, trace):
     for given_file, arguments, expected in asked:
         came = traces.ran(program, given_file, *arguments)
         if came != (expected, b"", 0):
-            return f"circuit {number}, {arguments} of {given_file!r}: wanted {expected!r}, came {came!r}"
+            return f"{arguments} of {given_file!r}: wanted {expected!r}, came {came!r}"
     steps.unlink()
     return None
 
 
-def refused(program, number, made, frames):
+def refused(program, made, frames):
     """What is wrong with the refusal of this circuit, if anything is."""
     came = traces.ran(program, images.ascii_text(made), "aigunroll", "--frames", str(frames))
     if came != (b"", b"aiger: -: justice or fairness cannot be unrolled\n", 1):
-        return f"circuit {number}, {images.ascii_text(made)!r} is not refused: {came!r}"
+        return f"{images.ascii_text(made)!r} is not refused: {came!r}"
     return None
 
 
-def main(program):
-    chance = random.Random(25)
-    with tempfile.TemporaryDirectory() as folder, concurrent.futures.ThreadPoolExecutor(traces.AT_ONCE) as pool:
-        asked, made_refused = [], 0
-        for number in range(CIRCUITS):
-            made, frames = circuit(chance), chance.randrange(1, FRAMES + 1)
-            if (made.justice or made.fairness) and made_refused < REFUSED:
-                asked.append(pool.submit(refused, program, number, made, frames))
-                made_refused += 1
-            made = without_liveness(chance, made)
-            asked.append(pool.submit(judge, program, folder, number, made, frames, *lines_of_steps(chance, made, frames)))
-        for number, count in enumerate(MANY, CIRCUITS):
-            made, frames = without_liveness(chance, with_gates(chance, circuit(chance), count)), chance.randrange(1, FRAMES + 1)
-            asked.append(pool.submit(judge, program, folder, number, made, frames, *lines_of_steps(chance, made, frames)))
-        wrong = [said for said in (it.result() for it in asked) if said]
-    if made_refused < REFUSED:
-        sys.exit("too few circuits have justice properties or fairness constraints")
-    if wrong:
-        sys.exit(f"{len(wrong)} circuits are unrolled otherwise; the first is {wrong[0]}")
+def all_refused(count):
+    """What is wrong where so many circuits were to be refused."""
+    return None if count == REFUSED else "too few circuits have justice properties or fairness constraints"
 
 
-if __name__ == "__main__":
-    main(*sys.argv[1:])
+def cases(program, folder):
+    chance, made_refused = random.Random(25), 0
+    for number in range(CIRCUITS):
+        made, frames = circuit(chance), chance.randrange(1, FRAMES + 1)
+        if (made.justice or made.fairness) and made_refused < REFUSED:
+            yield refused, program, made, frames
+            made_refused += 1
+        made = without_liveness(chance, made)
+        yield judge, program, folder, number, made, frames, *lines_of_steps(chance, made, frames)
+    for number, count in enumerate(MANY, CIRCUITS):
+        made, frames = without_liveness(chance, with_gates(chance, circuit(chance), count)), chance.randrange(1, FRAMES + 1)
+        yield judge, program, folder, number, made, frames, *lines_of_steps(chance, made, frames)
+    yield all_refused, made_refused

@@ -1,8 +1,5 @@
-#!/usr/bin/env python3
 """Compares the dumps that the program writes with what is worked out here, on circuits with hostile names and on
 stimuli and witnesses made by chance.
-
-    tests/waves.py PROGRAM
 
 The circuits are those of images.py, with more inputs, latches, outputs and properties. Their names are buses, whose
 indices follow or nearly, words of the dump itself, equal ones, and any bytes. The stimuli are those of traces.py. The
@@ -12,29 +9,20 @@ get the trace back from the dump; and so from what vcd2fst and fst2vcd make of s
 (package gtkwave), with the same words for each signal. The witnesses are those of witnesses.py, and so are the answers
 before the dumps of their runs. GTKWave, where it and xvfb-run are installed, must show each
 signal of a circuit that has all of these names.
-
-The last line is 'N passed, M failed', with ', K skipped' behind it if they are not, and counts dumps.
 """
 import collections
-import concurrent.futures
 import dataclasses
 import random
 import re
 import shutil
 import subprocess
-import sys
-import tempfile
 from pathlib import Path
 
-sys.dont_write_bytecode = True
-import images
-import traces
-import witnesses
+from lib import images, traces, witnesses
 
 CIRCUITS = 400
 # of so many of them some go through other programs
 EACH = 8
-AT_ONCE = 4
 CONVERTERS = ["vcd2fst", "fst2vcd"]
 VIEWER = ["xvfb-run", "gtkwave"]
 # tells the signals of the dump that GTKWave has loaded
@@ -356,13 +344,13 @@ def judge(program, folder, number, has_others):
         should = wanted(made, names, steps, lines, bool(words))
         came = traces.ran(program, model, "aigsim", "--vcd", *words, "-", str(steps))
         if came != should:
-            return f"circuit {number}, {model!r} over {given!r}, {words}: wanted {should!r}, came {came!r}"
+            return f"{model!r} over {given!r}, {words}: wanted {should!r}, came {came!r}"
     text, _, status = wanted(made, names, steps, lines)
     file = Path(folder) / f"dump.{number}" if has_others and number % EACH == 0 else None
     traced = [full for _, full in traces.lines_of_trace(made, lines)[0]]
     said = of_dump(made, traced, text, file) if status == 0 else None
     if said:
-        return f"circuit {number}, {source!r} over {given!r}, the dump {text!r}: {said}"
+        return f"{source!r} over {given!r}, the dump {text!r}: {said}"
     return judge_run(program, folder, number, made, names, [source, others[number % 3]], file)
 
 
@@ -374,10 +362,10 @@ def judge_run(program, folder, number, made, names, models, file):
     for model in models:
         came = traces.ran(program, model, "aigsim", "--witness", "--vcd", "-", str(witness))
         if came != should:
-            return f"circuit {number}, {model!r} and the witness {given!r}: wanted {should!r}, came {came!r}"
+            return f"{model!r} and the witness {given!r}: wanted {should!r}, came {came!r}"
     text, errors, _ = should
     said = None if errors else of_dump(made, lines_of_run(made, witnesses.lines_of(given)), text, file)
-    return f"circuit {number}, {models[0]!r} and the witness {given!r}, the dump {text!r}: {said}" if said else None
+    return f"{models[0]!r} and the witness {given!r}, the dump {text!r}: {said}" if said else None
 
 
 def seen_by_viewer(text, folder):
@@ -405,24 +393,19 @@ def judge_viewer(folder):
     return f"GTKWave shows {came} of the dump {text!r}"
 
 
-def main(program):
-    has_converters, has_viewer = (all(map(shutil.which, of)) for of in (CONVERTERS, VIEWER))
-    skipped = 0
-    with tempfile.TemporaryDirectory() as folder, concurrent.futures.ThreadPoolExecutor(AT_ONCE) as pool:
-        asked = [pool.submit(judge, program, folder, number, has_converters) for number in range(CIRCUITS)]
-        if has_viewer:
-            asked.append(pool.submit(judge_viewer, folder))
-        wrong = [said for said in (it.result() for it in asked) if said]
-    for said in wrong[:3]:
-        print(f"FAILED {said}")
-    for has, count, of in ((has_converters, len(range(0, CIRCUITS, EACH)), CONVERTERS), (has_viewer, 1, VIEWER)):
-        if not has:
-            skipped += count
-            print(f"SKIPPED {count}: {' or '.join(of)} is not installed, to read dumps")
-    skips = f", {skipped} skipped" if skipped else ""
-    print(f"{len(asked) - len(wrong)} passed, {len(wrong)} failed{skips}")
-    sys.exit(bool(wrong))
+def is_there(tools):
+    return all(map(shutil.which, tools))
 
 
-if __name__ == "__main__":
-    main(*sys.argv[1:])
+def cases(program, folder):
+    for number in range(CIRCUITS):
+        yield judge, program, folder, number, is_there(CONVERTERS)
+    if is_there(VIEWER):
+        yield judge_viewer, folder
+
+
+def left_out():
+    """How many comparisons are left out, and why."""
+    for count, tools in ((len(range(0, CIRCUITS, EACH)), CONVERTERS), (1, VIEWER)):
+        if not is_there(tools):
+            yield count, f"{' or '.join(tools)} is not installed, to read dumps"

@@ -1,29 +1,18 @@
-#!/usr/bin/env python3
 """Compares what the program answers to witnesses with a plain evaluation, on circuits and witnesses made by chance.
-
-    tests/witnesses.py PROGRAM
 
 The circuits are those of images.py, nearly all of them with bad states. For each a witness is judged: a run of some
 steps over 0, 1 and x, from first values that agree with the resets. Half of the witnesses are then spoiled: cut after
 some byte, or with a line left out, put in, exchanged or changed. The answer, or the number of the first line that is
 wrong, must be what is worked out here, for the circuit as ASCII with the witness by its name, and for the binary image
 or the mapped image with the witness by standard input.
-
-The last line is 'N passed, M failed'.
 """
-import concurrent.futures
 import dataclasses
 import random
-import sys
-import tempfile
 from pathlib import Path
 
-sys.dont_write_bytecode = True
-import images
-import traces
+from lib import images, traces
 
 CIRCUITS = 2000
-AT_ONCE = 4
 LINES = ["", ".", "0", "1", "x", "b0", "b1", "b00", "b", "b2147483648", "01", "..", " ", "1 ", "10x", "c"]
 
 
@@ -139,21 +128,12 @@ def judge(program, folder, number):
     by_stream = traces.ran(program, text.encode(), "aigsim", "--witness", str(model))
     for came, name in ((by_name, file), (by_stream, "-")):
         if came != wanted(made, name, text):
-            return f"circuit {number}, {source!r} over {text!r}: wanted {wanted(made, name, text)!r}, came {came!r}"
+            return f"{source!r} over {text!r}: wanted {wanted(made, name, text)!r}, came {came!r}"
     model.unlink()
     file.unlink()
     return None
 
 
-def main(program):
-    with tempfile.TemporaryDirectory() as folder, concurrent.futures.ThreadPoolExecutor(AT_ONCE) as pool:
-        asked = [pool.submit(judge, program, folder, number) for number in range(CIRCUITS)]
-        wrong = [said for said in (it.result() for it in asked) if said]
-    if wrong:
-        print(f"FAILED {wrong[0]}")
-    print(f"{CIRCUITS - len(wrong)} passed, {len(wrong)} failed")
-    sys.exit(bool(wrong))
-
-
-if __name__ == "__main__":
-    main(*sys.argv[1:])
+def cases(program, folder):
+    for number in range(CIRCUITS):
+        yield judge, program, folder, number

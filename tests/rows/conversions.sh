@@ -1,61 +1,4 @@
-# The table that the end-to-end scripts share. Each script sources this file, defines the function
-#     row NAME INPUT OUTPUT ERRORS STATUS WORD..
-# and calls `rows`. INPUT, OUTPUT and ERRORS are written with the escapes of printf's %b (\n is LF, \r is CR,
-# \t is TAB, \0ooo is the byte ooo in octal). What is wanted was worked out by hand from docs/FORMAT.md.
-
-top=$(cd "$(dirname "${BASH_SOURCE[0]}")/.." && pwd)
-program=${AIGER:-$top/crates/aiger/out/aiger}   # AIGER names another executable to try the same rows on
-asked=      # a part of the names of the rows that run, empty for all of them
-passed=0
-failed=0
-skipped=0
-
-# pass NAME, fail NAME LINE..: count a row, and say what was wanted and what came
-pass() { passed=$((passed + 1)); }
-fail() {
-    failed=$((failed + 1))
-    printf 'FAILED %s\n' "$1"
-    shift
-    [ $# = 0 ] || printf '    %s\n' "$@"
-}
-# skip COUNT REASON: counts rows that are left out, and says why
-skip() {
-    skipped=$((skipped + $1))
-    printf 'SKIPPED %s: %s\n' "$1" "$2"
-}
-
-# is_asked NAME: whether the row of this name runs
-is_asked() { [[ $1 = *"$asked"* ]]; }
-
-# the beginning of a file on one line, for a message
-shown() {
-    head -c 300 "$1" | od -An -c -v -w1 | awk '{
-        byte = substr($0, 2)
-        gsub(/ /, "", byte)
-        printf "%s", byte == "" ? " " : length(byte) == 3 ? "\\" byte : byte
-    }'
-}
-
-need_program() {
-    [ -x "$program" ] && return
-    fail 'the linked program is there' "wanted an executable file $program" "came   none: run ./prove, or ./test --quick"
-    finish
-}
-
-# the last line of each script, which ./test adds up
-finish() {
-    local skips=
-    [ "$skipped" = 0 ] || skips=", $skipped skipped"
-    printf '%s passed, %s failed%s\n' "$passed" "$failed" "$skips"
-    [ "$failed" = 0 ] && [ "$passed" != 0 ]
-    exit
-}
-
-# the rows of aigsim, of aigsim --vcd, of aigsim --witness, and of aigunroll
-. "$top/tests/trace_rows.sh"
-. "$top/tests/wave_rows.sh"
-. "$top/tests/witness_rows.sh"
-. "$top/tests/unroll_rows.sh"
+# The rows of aigtoaig, for the table of all.sh.
 
 # digits COUNT DIGIT
 digits() { printf "%$1s" '' | tr ' ' "$2"; }
@@ -86,44 +29,6 @@ misused() { local name=$1 text=$2; shift 2; row "$name" 'aag 0 0 0 0 0\n' '' "er
 unwanted() { local name=$1 text=$2; shift 2; row "$name" 'aag 0 0 0 0 0\n' '' "aiger: $text\n" 2 "$@"; }
 # a source by its name that is not there
 missing() { local name=$1 file=$2; shift 2; row "$name" 'aag 0 0 0 0 0\n' '' "aiger: $file: cannot read\n" 1 "$@"; }
-
-rows() {
-    rows_accepted
-    rows_lenient
-    rows_header
-    rows_lines
-    rows_literals
-    rows_ends
-    rows_structure
-    rows_tail
-    rows_gates
-    rows_binary
-    rows_deltas
-    rows_delta_lengths
-    rows_binary_lines
-    rows_cuts
-    rows_counts
-    rows_resets
-    rows_binary_resets
-    rows_properties
-    rows_sizes
-    rows_uses
-    rows_named_properties
-    rows_binary_properties
-    rows_property_cuts
-    rows_property_limits
-    rows_property_images
-    rows_images
-    rows_maps
-    rows_undone
-    rows_blocks
-    rows_forged
-    rows_traces
-    rows_waves
-    rows_witnesses
-    rows_unrolled
-    rows_words
-}
 
 rows_accepted() {
     same 'one of each section' 'aag 3 1 1 2 0\n6\n2 7\n2\n0\n'

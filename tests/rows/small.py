@@ -1,22 +1,9 @@
-"""What the hostile scripts have in common: small circuits, what each tool makes of them, and how it is run.
+"""The rows of the hostile programs: small circuits, and what each tool makes of them.
 
 Each answer was worked out by hand from docs/FORMAT.md. Between them the circuits have each section of a file,
 resets of each kind, symbols of each kind, and comments.
 """
-import collections
-import concurrent.futures
 import dataclasses
-import os
-import signal
-import subprocess
-import sys
-import tempfile
-from pathlib import Path
-
-# how many seconds a run may take
-PATIENCE = 20
-# compiles fail_call.c in the way that the other scripts have
-COMPILE = '. "$0/rows.sh"; . "$0/judge.sh"; compile_preload fail_call && cp "$work/fail_call.so" "$1"'
 
 HALF = b"aag 7 2 0 2 3\n2\n4\n6\n12\n6 13 15\n12 2 4\n14 3 5\ni0 x\ni1 y\no0 s\no1 c\nc\nhalf adder\n"
 HALF_GATES = b"aig 5 2 0 2 3\n10\n6\n\x02\x02\x03\x02\x01\x02"
@@ -119,74 +106,3 @@ ROWS = [
 def status_of(row):
     """The status with which a row ends well."""
     return 1 if b"not confirmed" in row.output else 0
-
-
-def folder():
-    """A folder for many small files, which goes with the script: in memory, if there is such a place."""
-    return tempfile.TemporaryDirectory(dir="/dev/shm" if os.access("/dev/shm", os.W_OK) else None)
-
-
-class Runner:
-    """Runs the program in a folder of its own, made under this one, over files that are there by name."""
-
-    def __init__(self, program, under):
-        self.program = program
-        os.chdir(tempfile.mkdtemp(dir=under))
-        signal.signal(signal.SIGALRM, signal.default_int_handler)
-
-    def put(self, name, text):
-        Path(name).write_bytes(text)
-
-    def run(self, words, given, environment=None, source="given", output="output"):
-        """Standard output, standard error and the status of these words over this standard input, or over another file
-        that is there by name; a signal is a status below 0, and SIGKILL a run that took too long. Standard output may
-        go to another file, or to a descriptor; then nothing of it is read here."""
-        if given is not None:
-            self.put("given", given)
-        errors, to_errors = os.pipe()
-        actions = [(os.POSIX_SPAWN_OPEN, 0, source, os.O_RDONLY, 0), (os.POSIX_SPAWN_DUP2, to_errors, 2)]
-        if isinstance(output, int):
-            actions.append((os.POSIX_SPAWN_DUP2, output, 1))
-        else:
-            actions.append((os.POSIX_SPAWN_OPEN, 1, output, os.O_WRONLY | os.O_CREAT | os.O_TRUNC, 0o600))
-        child = os.posix_spawn(self.program, [self.program, *words], environment or {}, file_actions=actions)
-        os.close(to_errors)
-        signal.alarm(PATIENCE)
-        try:
-            _, ended = os.waitpid(child, 0)
-        except KeyboardInterrupt:
-            os.kill(child, signal.SIGKILL)
-            _, ended = os.waitpid(child, 0)
-        signal.alarm(0)
-        with open(errors, "rb") as said:
-            sent = Path(output).read_bytes() if output == "output" else b""
-            return sent, said.read(), os.waitstatus_to_exitcode(ended)
-
-
-def finish(wrong, passed):
-    """Says what was wrong, and how much was right."""
-    for said in wrong[:5]:
-        print(f"FAILED {said}")
-    print(f"{passed} passed, {len(wrong)} failed")
-    sys.exit(bool(wrong))
-
-
-def judge_rows(judged, program):
-    """Judges each row in a process of its own, by a function of the program, of what fail_call.c was compiled to, of
-    a folder and of the row's number, which gives how often what came, and what was wrong. Prints the sums."""
-    total, wrong = collections.Counter(), []
-    pools = concurrent.futures.ProcessPoolExecutor(os.cpu_count())
-    # a library is not loaded from everywhere, as from where there are only files in memory
-    with tempfile.TemporaryDirectory() as compiled, folder() as under, pools as pool:
-        words = ["bash", "-c", COMPILE, Path(__file__).parent, compiled]
-        said = subprocess.run(words, capture_output=True, check=False)
-        preload = f"{compiled}/fail_call.so"
-        if not os.path.exists(preload):
-            finish([f"tests/fail_call.c compiles: {said}"], 0)
-        asked = [pool.submit(judged, os.path.abspath(program), preload, under, number) for number in range(len(ROWS))]
-        for came, said in (it.result() for it in asked):
-            total += came
-            wrong += said
-    for kind, count in sorted(total.items()):
-        print(f"{count:7} {kind}")
-    finish(wrong, total.total() - len(wrong))

@@ -1,4 +1,4 @@
-# The rows of aigsim, for the table of rows.sh. The stimulus comes by standard input, unless a row names another; the model is
+# The rows of aigsim, for the table of all.sh. The stimulus comes by standard input, unless a row names another; the model is
 # the file that was made last.
 
 models=0

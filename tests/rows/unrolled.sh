@@ -1,4 +1,4 @@
-# The rows of aigunroll, for the table of rows.sh. What is wanted was worked out by hand from docs/FORMAT.md, "Unrolled circuit".
+# The rows of aigunroll, for the table of all.sh. What is wanted was worked out by hand from docs/FORMAT.md, "Unrolled circuit".
 
 # unrolls NAME FRAMES SOURCE TEXT: as ASCII; unrolls_to_binary: as binary
 unrolls() { row "$1" "$3" "$4" '' 0 aigunroll --frames "$2" --ascii; }

@@ -1,4 +1,4 @@
-# The rows of aigsim --vcd, for the table of rows.sh. As in trace_rows.sh, the stimulus comes by standard input and the
+# The rows of aigsim --vcd, for the table of all.sh. As in traces.sh, the stimulus comes by standard input and the
 # model is the file that was made last; each row is run with --batch too.
 
 # dumped NAME STIMULUS SCOPES FRAMES: a simulation that ends well, with what its dump says of signals, then of times

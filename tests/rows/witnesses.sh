@@ -1,4 +1,4 @@
-# The rows of aigsim --witness, for the table of rows.sh. The witness comes by standard input, unless a row names
+# The rows of aigsim --witness, for the table of all.sh. The witness comes by standard input, unless a row names
 # another; the model is the file that was made last. What is wanted was worked out by hand from docs/FORMAT.md,
 # "Witness".
 

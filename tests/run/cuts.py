@@ -1,9 +1,9 @@
 #!/usr/bin/env python3
 """Cuts small files after each byte, changes each byte to ten others, and gives them to every tool that takes them.
 
-    tests/cuts.py PROGRAM
+    tests/run/cuts.py PROGRAM [NAME]     all files, or those that have NAME in their names
 
-The files are those of small_rows.py: circuits in ASCII and binary, with and without a map, stimuli and witnesses.
+The files are those of rows/small.py: circuits in ASCII and binary, with and without a map, stimuli and witnesses.
 What is refused as a circuit must be refused by all tools in the same words. What is accepted must have the image, the
 traces, the unrolled circuit and the answer to a witness that are worked out here from its ASCII text. A cut or
 changed stimulus must have the trace that is worked out here up to its first bad line, and nothing with --batch if
@@ -17,44 +17,42 @@ import concurrent.futures
 import itertools
 import os
 import sys
+from pathlib import Path
 
 sys.dont_write_bytecode = True
-import images
-import refusals
-import small_rows as rows
-import soak
-import unrolled
-import waves
-import witnesses
+sys.path[0] = str(Path(__file__).resolve().parent.parent)
+from lib import counts, images, refusals, runs, unrolled, waves, witnesses
+from lib.soak import calls, generators, oracles
+from rows import small
 
 # of these each byte is changed to the first ten that it is not
 OTHERS = b"\x00\n\r 029cx\x80\xff"
 TIMES = 10
 FRAMES = 2
 CIRCUITS = {
-    "a half adder": rows.HALF,
-    "a half adder with its map": rows.HALF_MAPPED,
-    "equal operands": rows.EQUAL,
-    "equal operands in binary": rows.EQUAL_IMAGE,
-    "equal operands with their map": rows.EQUAL_MAPPED,
-    "a toggle": rows.TOGGLE,
-    "a latch and a gate": rows.HELD,
-    "a latch and a gate in binary": rows.HELD_IMAGE,
-    "a latch and a gate in padded deltas": rows.HELD_PADDED,
-    "a bad state": rows.BAD,
-    "every section": rows.EVERY + rows.EVERY_NAMES,
-    "every section with its map": rows.EVERY_MAPPED,
+    "a half adder": small.HALF,
+    "a half adder with its map": small.HALF_MAPPED,
+    "equal operands": small.EQUAL,
+    "equal operands in binary": small.EQUAL_IMAGE,
+    "equal operands with their map": small.EQUAL_MAPPED,
+    "a toggle": small.TOGGLE,
+    "a latch and a gate": small.HELD,
+    "a latch and a gate in binary": small.HELD_IMAGE,
+    "a latch and a gate in padded deltas": small.HELD_PADDED,
+    "a bad state": small.BAD,
+    "every section": small.EVERY + small.EVERY_NAMES,
+    "every section with its map": small.EVERY_MAPPED,
 }
 # what stands beside a circuit that is cut or changed
 STEPS, WITNESS = b"0\n1\n.\nx\n", b"1\nb0\n0\n\n\n.\n"
 STIMULI = {
-    "three steps of a toggle": (rows.TOGGLE, b"\n\n\n.\n"),
-    "two runs": (rows.HELD_IMAGE, b"1\n.\n1\n.\n"),
-    "runs with CR LF": (rows.HELD, b"1\r\n0\r\n.\r\n.\r\nx"),
+    "three steps of a toggle": (small.TOGGLE, b"\n\n\n.\n"),
+    "two runs": (small.HELD_IMAGE, b"1\n.\n1\n.\n"),
+    "runs with CR LF": (small.HELD, b"1\r\n0\r\n.\r\n.\r\nx"),
 }
 WITNESSES = {
-    "a witness of a toggle": (rows.BAD, b"1\nb0\n0\n\n\n.\n"),
-    "a witness of every section": (rows.EVERY, b"1\nb1\n1x\n1\n0\n.\n"),
+    "a witness of a toggle": (small.BAD, b"1\nb0\n0\n\n\n.\n"),
+    "a witness of every section": (small.EVERY, b"1\nb1\n1x\n1\n0\n.\n"),
 }
 
 
@@ -66,12 +64,12 @@ class Judge:
     """Runs the program, judges each answer, and counts what came."""
 
     def __init__(self, program, under):
-        self.runner, self.came = rows.Runner(program, under), collections.Counter()
+        self.runner, self.came = runs.Runner(program, under), collections.Counter()
 
     def ask(self, words, given):
         """The answer, once its form was judged."""
         came = self.runner.run(words.split(), given)
-        wrong = soak.wrong_form(soak.Call(words.split(), given), *came)
+        wrong = calls.wrong_form(calls.Call(words.split(), given), *came)
         if wrong:
             raise Wrong(f"{words} of {given!r}: wanted {wrong}, came {came!r}")
         self.came["runs"] += 1
@@ -96,7 +94,7 @@ class Judge:
             for words in ("aigtoaig --keep-map", undoing, unrolling, *simulations):
                 self.expect(words, text, b"", errors, 1)
             return
-        made, end = soak.parsed(canonical)
+        made, end = generators.parsed(canonical)
         self.expect("aigtoaig", text, images.image(made) + end)
         mapped, _, _ = self.ask("aigtoaig --keep-map", text)
         self.expect(undoing, mapped, canonical)
@@ -105,7 +103,7 @@ class Judge:
             self.expect("aigtoaig --strip", source, images.image(made))
         names = waves.names_of(end)
         for words in ("", "--batch --properties ", "--vcd "):
-            self.expect(f"aigsim {words}- steps", text, *soak.wanted_trace(made, names, "steps", STEPS, words))
+            self.expect(f"aigsim {words}- steps", text, *oracles.wanted_trace(made, names, "steps", STEPS, words))
         self.expect("aigsim --witness - witness", text, *witnesses.wanted(made, "witness", WITNESS.decode()))
         if made.justice or made.fairness:
             self.expect(unrolling, text, b"", b"aiger: -: justice or fairness cannot be unrolled\n", 1)
@@ -115,14 +113,14 @@ class Judge:
     def stimulus(self, text, model):
         """Simulations of a model over the text of a stimulus."""
         self.runner.put("model", model)
-        made, _ = soak.parsed(self.ask("aigtoaig --ascii", model)[0])
+        made, _ = generators.parsed(self.ask("aigtoaig --ascii", model)[0])
         for words in ("", "--properties ", "--vcd ", "--batch ", "--batch --properties ", "--batch --vcd "):
-            self.expect(f"aigsim {words}model", text, *soak.wanted_trace(made, {}, "-", text, words))
+            self.expect(f"aigsim {words}model", text, *oracles.wanted_trace(made, {}, "-", text, words))
 
     def witness(self, text, model):
         """What is answered to the text of a witness."""
         self.runner.put("model", model)
-        made, _ = soak.parsed(self.ask("aigtoaig --ascii", model)[0])
+        made, _ = generators.parsed(self.ask("aigtoaig --ascii", model)[0])
         self.expect("aigsim --witness model", text, *witnesses.wanted(made, "-", text.decode("latin-1")))
         wanted = waves.wanted_of_run(made, {}, "-", text.decode("latin-1"))
         self.expect("aigsim --witness --vcd model", text, *wanted)
@@ -157,27 +155,29 @@ def tasks():
             yield name, how, text, model
 
 
-def main(program):
+def main(program, name=""):
     program, total, wrong = os.path.abspath(program), collections.Counter(), []
-    with rows.folder() as under, concurrent.futures.ProcessPoolExecutor(os.cpu_count()) as pool:
+    with runs.folder() as under, concurrent.futures.ProcessPoolExecutor(os.cpu_count()) as pool:
         asked = []
-        for name, *task in tasks():
+        for file, *task in [it for it in tasks() if name in it[0]]:
             for place in range(len(task[1]) + 1):
-                asked.append((name, pool.submit(judge, program, under, *task, place)))
-        for name, found in itertools.groupby(asked, lambda it: it[0]):
+                asked.append((file, pool.submit(judge, program, under, *task, place)))
+        if not asked:
+            wrong.append(f"{name}: wanted files with this in their names; came none")
+        for file, found in itertools.groupby(asked, lambda it: it[0]):
             came = collections.Counter()
             for _, it in found:
                 some, said = it.result()
                 came += some
                 wrong += said
-            counts = f"{came['cuts']} cuts, {came['changes']} changes, {came['runs']} runs, {came['answers']} answered"
-            print(f"{name}: {counts}")
+            edited = f"{came['cuts']} cuts, {came['changes']} changes"
+            print(f"{file}: {edited}, {came['runs']} runs, {came['answers']} answered")
             total += came
     for kind in refusals.ALL:
         if total[kind]:
             print(f"{total[kind]:7} {kind}")
     print(f"{total['runs']} runs, {total['answers']} answered, {total['runs'] - total['answers']} refused")
-    rows.finish(wrong, total["cuts"] + total["changes"] - len(wrong))
+    counts.finish(wrong, max(total["cuts"] + total["changes"] - len(wrong), 0))
 
 
 if __name__ == "__main__":

@@ -1,12 +1,12 @@
 #!/usr/bin/env bash
-# Runs the linked program on real files and pipes: the rows of the table in rows.sh, and what needs a device of
-# the system, as a closed standard output, a large file or little memory. Then the launcher, and other programs that read
-# AIGER files, where there are any.
+# Runs the linked program on real files and pipes: the rows of tests/rows/all.sh, and what needs a device of the system, as a
+# closed standard output, a large file or little memory.
 #
-#     tests/end_to_end.sh [rows [NAME] | rest]     all of this, or the rows alone, of these perhaps only those that have
-#                                                  NAME in their names, or all but the rows
-. "$(dirname "${BASH_SOURCE[0]}")/rows.sh"
-. "$top/tests/judge.sh"
+#     tests/run/end_to_end.sh [rows [NAME] | rest]     all of this, or the rows alone, of these perhaps only those that have
+#                                                      NAME in their names, or all but the rows
+. "$(dirname "${BASH_SOURCE[0]}")/../lib/judge.sh"
+. "$top/tests/lib/streams.sh"
+. "$top/tests/rows/all.sh"
 case $#${1:-} in
     0 | 1rows | 1rest) ;;
     2rows) asked=$2 ;;
@@ -27,27 +27,17 @@ row() {
 }
 if [ "${1:-rows}" = rows ]; then
     rows
-    [ $((passed + failed)) != 0 ] || fail "$asked" 'wanted rows with this in their names' 'came   none'
+    need_asked
 fi
 [ "${1:-rest}" = rest ] || finish
 
 # a part of this table, by name; a name that no row has is an error
 wants '2 passed, 0 failed\n' '' 0
-check 'one row alone' "$top/tests/end_to_end.sh" rows 'a last line with spaces and without LF'
+check 'one row alone' "$top/tests/run/end_to_end.sh" rows 'a last line with spaces and without LF'
 wants 'FAILED no such row\n    wanted rows with this in their names\n    came   none\n0 passed, 1 failed\n' '' 1
-check 'a row that there is not' "$top/tests/end_to_end.sh" rows 'no such row'
-wants '' "usage: $top/tests/end_to_end.sh [rows [NAME] | rest]\n" 2
-check 'a part that there is not' "$top/tests/end_to_end.sh" rest 'a toggle'
-
-convert() { "$program" aigtoaig --ascii "$@"; }
-small='aag 3 1 1 2 0\n6\n2 7\n2\n0\n'
-printf '%b' "$small" > "$work/small"
-
-# the words run with a standard stream that takes nothing
-output_closed() { "$@" >&-; }
-output_full() { "$@" > /dev/full; }
-errors_closed() { "$@" 2>&-; }
-errors_full() { "$@" 2> /dev/full; }
+check 'a row that there is not' "$top/tests/run/end_to_end.sh" rows 'no such row'
+wants '' "usage: $top/tests/run/end_to_end.sh [rows [NAME] | rest]\n" 2
+check 'a part that there is not' "$top/tests/run/end_to_end.sh" rest 'a toggle'
 
 # --- devices ---
 wants '' 'aiger: -: cannot write\n' 1
@@ -145,12 +135,7 @@ check 'a bad line after 100,000 lines' convert < "$work/in"
 wants 'aag 1 0 0 1 0\n0\n' '' 0
 check 'a line of 3,000,000 digits' convert < "$work/in"
 
-# --- chains of 200,000 gates: gate k has the literal 2k + 2, and is over gate k - 1 and the input (gate 1 over it twice)
-# chain CLOSED NUMBER..: the gates in the order of `seq NUMBER..`; gate CLOSED is over the last one, not the one before
-chain() {
-    printf 'aag 200001 1 0 1 200000\n2\n400002\n'
-    seq "${@:2}" | awk -v closed="$1" '{ print 2 * $1 + 2, ($1 == closed ? 400002 : 2 * $1), 2 }'
-}
+# --- chains of 200,000 gates ---
 chain_comes_back() {
     chain 0 "${@:2}" > "$work/in"
     wants '' '' 0
@@ -198,8 +183,6 @@ all_named 'in order' 0 99999
 all_named 'in reverse order' 99999 -1 0
 
 # --- little memory: what a header asks for is not taken before its lines are there ---
-# within KILOBYTES WORD..: the words with so much memory, for ten seconds at most
-within() { ( ulimit -v "$1" && shift && exec timeout 10 "$@" ); }
 for header in '2147483647 2147483647 0 0 0' '2147483647 0 2147483647 0 0' '2147483647 0 0 2147483647 0' \
     '0 0 0 0 0 2147483647' '0 0 0 0 0 0 2147483647' '0 0 0 0 0 0 0 2147483647' '0 0 0 0 0 0 0 0 2147483647'; do
     printf 'aag %s\n' "$header" > "$work/in"
@@ -266,7 +249,6 @@ check 'a closed standard input as model' "$program" aigsim - "$work/steps" <&-
 check 'a closed standard input as stimulus' "$program" aigsim "$work/gate" <&-
 
 # a model that is refused, or of which the words are, leaves the stimulus alone for whoever reads it next
-unread() { "$program" "$@" 2> /dev/null; cat; }
 wants '11\n.\n0x\n' '' 0
 check 'the stimulus of a model that is refused' unread aigsim "$work/steps" < "$work/steps"
 check 'the stimulus of a model that is not there' unread aigsim "$work/none" < "$work/steps"
@@ -423,7 +405,6 @@ if [ "$(cat "$work/told")" = 'aiger: out of memory' ]; then pass; else
 fi
 
 # --- unrolling ---
-unroll() { "$program" aigunroll --frames "$@"; }
 printf '%b' 'aag 0 0 0 0 0 0 0 1\n0\n' > "$work/live"
 wants '' 'aiger: -: cannot write\n' 1
 check 'an unrolled circuit into a closed standard output' output_closed unroll 2 < "$work/toggle"
@@ -488,7 +469,8 @@ chain_over() {
 # its binary text: the first deltas are 2 and 0, and those of the gate of variable n are 2 and 2n - 4
 image_of_chain() {
     PYTHONPATH=$top/tests python3 -B -c '
-import images, sys
+import sys
+from lib import images
 deltas = b"".join(images.spelled(2) + images.spelled(2 * n - 4) for n in range(2, 200002))
 sys.stdout.buffer.write(b"aig 200001 1 0 1 200000\n400002\n" + deltas)'
 }
@@ -571,15 +553,6 @@ begins 'nearly as many outputs as there may be' 'aag 0 0 0 2147479552 0'
 { printf 'aag 0 0 0 0 0 4096\n'; yes 0 2> /dev/null | head -n 4096; } > "$work/in"
 begins 'nearly as many bad states as there may be' 'aag 2147479552 0 0 0 2147479552 2147479552'
 
-# --- circuits made by chance ---
-wants '' '' 0
-check 'binary images of circuits made by chance, and their maps' "$top/tests/images.py" "$program"
-check 'traces of circuits made by chance, of their images and of what is undone' "$top/tests/traces.py" "$program"
-check 'batches of runs made by chance, of circuits made by chance' "$top/tests/batches.py" "$program"
-check 'circuits made by chance, unrolled' "$top/tests/unrolled.py" "$program"
-wants '2000 passed, 0 failed\n' '' 0
-check 'witnesses made by chance, for circuits made by chance' "$top/tests/witnesses.py" "$program"
-
 # --- the examples ---
 # some_steps INPUTS: two runs of 20 steps, which look made by chance
 some_steps() {
@@ -595,8 +568,6 @@ some_steps() {
         }
     }'
 }
-wants '' '' 0
-check 'the commands of the pages print what stands there' "$top/tests/readme.py" "$program"
 for file in "$top"/examples/*.aag "$top"/examples/*.aig; do
     canonical=${file##*/}
     canonical=$top/examples/canonical/${canonical%.*}.aag
@@ -618,12 +589,5 @@ for file in "$top"/examples/*.aag "$top"/examples/*.aig; do
     check "the trace of a batch over ${file##*/}" "$program" aigsim --batch --properties "$file" "$work/steps"
     if [ "$(grep -c ' ' "$work/want_out")" = 40 ]; then pass; else fail "the trace of the example ${file##*/} has 40 steps"; fi
 done
-
-. "$top/tests/files.sh"
-. "$top/tests/witness_devices.sh"
-witness_devices
-. "$top/tests/launcher.sh"
-. "$top/tests/other_tools.sh"
-. "$top/tests/flows.sh"
 
 finish

@@ -1,7 +1,7 @@
 #!/usr/bin/env python3
-"""Lets each read and each write of the program fail in turn, over the rows of small_rows.py.
+"""Lets each read and each write of the program fail in turn, over the rows of rows/small.py.
 
-    tests/failed_calls.py PROGRAM
+    tests/run/failed_calls.py PROGRAM [NAME]     all rows, or those that have NAME in their names
 
 Each row is run with its Nth read failing, N from 1 until no read fails, and so with its writes: with reads and
 writes of one byte, so that a device fails behind each byte, and with large ones; by an error of the device, by
@@ -19,9 +19,12 @@ import os
 import re
 import resource
 import sys
+from pathlib import Path
 
 sys.dont_write_bytecode = True
-import small_rows as rows
+sys.path[0] = str(Path(__file__).resolve().parent.parent)
+from lib import runs
+from rows import small
 
 PIECES = [1, 3, 0]
 DEVICE_ERROR, INTERRUPTED, NO_BYTES = "5", "4", "0"
@@ -32,7 +35,7 @@ class Calls:
     """A row, and the runs over it; what each is to answer, and what was otherwise."""
 
     def __init__(self, program, preload, under, number):
-        self.row, self.preload, self.runner = rows.ROWS[number], preload, rows.Runner(program, under)
+        self.row, self.preload, self.runner = small.ROWS[number], preload, runs.Runner(program, under)
         self.words, self.came, self.wrong = self.row.words.split(), collections.Counter(), []
         for name, text in self.row.files.items():
             self.runner.put(name, text)
@@ -43,7 +46,7 @@ class Calls:
             self.wrong.append(f"{self.row.name}, {kind}, {of}: wanted {wanted!r}, came {came!r}")
 
     def whole(self):
-        return self.row.output, b"", rows.status_of(self.row)
+        return self.row.output, b"", small.status_of(self.row)
 
     def failing(self, piece, **variables):
         """Whether a call failed, and what came."""
@@ -166,4 +169,4 @@ def judged(program, preload, under, number):
 
 
 if __name__ == "__main__":
-    rows.judge_rows(judged, *sys.argv[1:])
+    runs.judge_rows(judged, *sys.argv[1:])

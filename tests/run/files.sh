@@ -1,5 +1,10 @@
-# Files with names, and what is answered to arguments, for end_to_end.sh: the linked program over files, folders, pipes and
-# devices of the system.
+#!/usr/bin/env bash
+# Files with names, and what is answered to arguments: the linked program over files, folders, pipes and devices of the system.
+#
+#     tests/run/files.sh
+. "$(dirname "${BASH_SOURCE[0]}")/../lib/judge.sh"
+. "$top/tests/lib/streams.sh"
+need_program
 
 aig() { "$program" aigtoaig "$@"; }
 files=$work/files
@@ -193,7 +198,7 @@ if compile_preload fail_sync; then
     cp "$work/binary" "$work/want_out"
     check 'standard output is not waited for' closing "$source"
 else
-    fail 'tests/fail_sync.c compiles' "came   $(cat "$work/compile" 2> /dev/null)"
+    fail 'tests/preload/fail_sync.c compiles' "came   $(cat "$work/compile" 2> /dev/null)"
 fi
 
 # --- streams beside files ---
@@ -216,7 +221,7 @@ ln "$files/a.aig" "$files/linked.aig"
 ln -s a.aig "$files/symbolic.aig"
 made 'a link to the source as destination' "$files/a.aig" aig "$files/a.aig" "$files/symbolic.aig"
 made 'a second name of the source as destination' "$files/a.aig" aig "$files/a.aig" "$files/linked.aig"
-printf 'longer than what comes, so that a file that is not cut would show %s' "$(digits 5000 x)" > "$files/longer"
+printf 'longer than what comes, so that a file that is not cut would show %s' "$(printf '%5000s' '' | tr ' ' x)" > "$files/longer"
 made 'an existing file is cut' "$files/longer" aig "$source" "$files/longer"
 chmod 640 "$files/longer"
 made 'an existing file, once more' "$files/longer" aig "$source" "$files/longer"
@@ -404,17 +409,6 @@ cp "$work/ascii" "$work/want_out"
 name=$files/$'two\nlines and spaces.aag'
 cp "$source" "$name"
 check 'a name with a line feed and spaces' aig --ascii "$name"
-# of what is wrong with arguments: status 2, nothing on standard output, and standard input is left alone
-refused() {
-    local name=$1 text=$2
-    shift 2
-    { "$program" "$@" > "$work/out" 2> "$work/err"; echo $? > "$work/status"; cat > "$work/rest"; } < "$source"
-    if [ "$(cat "$work/status")" = 2 ] && [ ! -s "$work/out" ] && grep -qF -- "$text" "$work/err" &&
-        cmp -s "$work/rest" "$source"; then pass; else
-        fail "$name" "wanted status 2 and '$text'" \
-            "came   status $(cat "$work/status"), output '$(shown "$work/out")', errors '$(shown "$work/err")'"
-    fi
-}
 mapfile -t many < <(yes x | head -n 300)
 longest=$(head -c 131071 /dev/zero | tr '\0' x)   # the longest argument that Linux passes on
 refused '300 arguments' 'x' aigtoaig "${many[@]}"
@@ -502,3 +496,5 @@ wants '' 'aiger: -: cannot write\n' 1
 check 'help into a full standard output' output_full "$program" --help
 check 'help into a closed standard output' output_closed "$program" aigtoaig --help
 check 'the version into a full standard output' output_full "$program" --version
+
+finish

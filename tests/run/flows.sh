@@ -1,5 +1,10 @@
-# The scripts of examples/flows, for end_to_end.sh: from Verilog by Yosys and ABC to a witness that is confirmed, and each way
-# in which that ends otherwise. Where Yosys or ABC is not installed, what needs them counts as skipped.
+#!/usr/bin/env bash
+# The scripts of examples/flows: from Verilog by Yosys and ABC to a witness that is confirmed, and each way in which that ends
+# otherwise. Where Yosys or ABC is not installed, what needs them counts as skipped.
+#
+#     tests/run/flows.sh
+. "$(dirname "${BASH_SOURCE[0]}")/../lib/judge.sh"
+need_program
 
 flows=$top/examples/flows
 place="$work/the flows"
@@ -117,9 +122,8 @@ flows_of_examples() {
         "$flows/check.sh" "$flows/arbiter.v" arbiter clk
     bad_from 1 6
     unrolled 'the arbiter' 7 '1 b0: not confirmed b1: confirmed 6 '
-    wants '' '' 0
-    check 'the commands of examples/flows/README.md print what stands there' \
-        "$top/tests/readme.py" "$program" "$flows/README.md"
+    flow 'the commands of examples/flows/README.md print what stands there' '0 [1-9]* passed, 0 failed ' \
+        "$top/tests/run/readme.py" "$program" "$flows/README.md"
 }
 
 designs_that_fail() {
@@ -212,3 +216,4 @@ if command -v yosys > /dev/null && command -v berkeley-abc > /dev/null; then
 else
     skip 67 'yosys or berkeley-abc is not installed, to check designs'
 fi
+finish

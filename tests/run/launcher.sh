@@ -1,5 +1,11 @@
-# The launcher, prove and release/, for end_to_end.sh: in a folder of the repository's shape, with a command in the place of
-# rt that proves nothing and says what rt says, so that a proof takes no time.
+#!/usr/bin/env bash
+# The launcher, prove and release/: in a folder of the repository's shape, with a command in the place of rt that proves
+# nothing and says what rt says, so that a proof takes no time.
+#
+#     tests/run/launcher.sh
+. "$(dirname "${BASH_SOURCE[0]}")/../lib/judge.sh"
+. "$top/tests/lib/streams.sh"
+need_program
 
 tree=$work/tree
 out=$tree/crates/aiger/out
@@ -556,3 +562,5 @@ rm -rf "$out"
 : > "$out"
 wants '' "aiger: cannot create the folder $out\n" 125
 check 'a file in the place of out, where the program has to be proved' launch aigtoaig --ascii < "$work/small"
+
+finish

@@ -1,7 +1,7 @@
 /* Calls of libaiger that Python cannot make: memory is refused, outputs are too short by one byte, exact and longer,
    and threads call at once. Each check that fails says so; the status is 1 then.
 
-       cc -Iinclude -Wl,--wrap=malloc,--wrap=realloc,--wrap=free tests/library.c libaiger.a -lpthread
+       cc -Iinclude -Wl,--wrap=malloc,--wrap=realloc,--wrap=free tests/run/library.c libaiger.a -lpthread
        library                 the checks
        library FILE TIMES      how many nanoseconds a conversion of the file to binary takes, over so many */
 #define _POSIX_C_SOURCE 200809L

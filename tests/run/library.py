@@ -1,9 +1,9 @@
 #!/usr/bin/env python3
-"""The library libaiger beside the linked program: what it answers to the rows of tests/rows.sh, to inputs that are
+"""The library libaiger beside the linked program: what it answers to the rows of tests/rows/all.sh, to inputs that are
 changed by chance, to memory that is refused, to outputs that are too short, and from threads at once; its symbols; and
 that its header, its Python module and its sources have the same numbers.
 
-    tests/library.py FOLDER PROGRAM     FOLDER holds libaiger.a and libaiger.so.1, as release/library makes them
+    tests/run/library.py FOLDER PROGRAM     FOLDER holds libaiger.a and libaiger.so.1, as release/library makes them
 """
 import doctest
 import os
@@ -16,11 +16,11 @@ import tempfile
 from concurrent.futures import ThreadPoolExecutor
 from pathlib import Path
 
-TOP = Path(__file__).resolve().parent.parent
+TOP = Path(__file__).resolve().parents[2]
 SEED, MUTANTS = 7, 2400
 FLAGS = "--ascii -a --strip -s --keep-map --undo-map --properties --witness --batch --vcd".split()
 # prints each row of the table, each word of it ended by a NUL
-ROWS = 'work=$1; . tests/rows.sh; row() { printf "%s\\0" $# "$@"; }; rows'
+ROWS = 'work=$1; . tests/rows/all.sh; row() { printf "%s\\0" $# "$@"; }; rows'
 ESCAPE = re.compile(rb"\\(0[0-7]{0,3}|x[0-9a-f]{1,2}|.)", re.S)
 LETTERS = {b"n": b"\n", b"r": b"\r", b"t": b"\t", b"\\": b"\\", b"a": b"\a"}
 
@@ -184,18 +184,18 @@ def check_mutants(program):
 
 
 def check_calls(folder):
-    """What only a C program can do: see tests/library.c. The header is also that of a C++ program."""
+    """What only a C program can do: see tests/run/library.c. The header is also that of a C++ program."""
     with tempfile.TemporaryDirectory() as work:
         made = Path(work, "library")
         words = "-std=c99 -pedantic -Wall -Wextra -Werror -O1 -Wl,--wrap=malloc,--wrap=realloc,--wrap=free".split()
         archive, include = Path(folder, "libaiger.a"), f"-I{TOP}/include"
         compiled = subprocess.run(
-            ["gcc", *words, include, "-o", made, TOP / "tests/library.c", archive, "-lpthread"],
+            ["gcc", *words, include, "-o", made, TOP / "tests/run/library.c", archive, "-lpthread"],
             capture_output=True, text=True, check=False,
         )
-        judge("tests/library.c compiles", compiled.returncode == 0, compiled.stderr)
+        judge("tests/run/library.c compiles", compiled.returncode == 0, compiled.stderr)
         ran = subprocess.run([made], capture_output=True, text=True, check=False)
-        judge("the calls of tests/library.c", ran.returncode == 0, ran.stdout)
+        judge("the calls of tests/run/library.c", ran.returncode == 0, ran.stdout)
         example = Path(work, "example")
         words = "-std=c99 -Wall -Wextra -Werror".split()
         source = TOP / "examples/c/aigconvert.c"

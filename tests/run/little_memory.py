@@ -1,7 +1,7 @@
 #!/usr/bin/env python3
-"""Runs the rows of small_rows.py with little memory: from as much as lets the program begin to as much as it needs.
+"""Runs the rows of rows/small.py with little memory: from as much as lets the program begin to as much as it needs.
 
-    tests/little_memory.py PROGRAM [--static]
+    tests/run/little_memory.py PROGRAM [--static] [NAME]     all rows, or those that have NAME in their names
 
 fail_call.c tells whether the program began, or whether the loader could not make it ready before that. A static program
 takes no such library: there it is the C library that ends what it cannot make ready, by a signal or with 127. A
@@ -20,9 +20,12 @@ import functools
 import os
 import signal
 import sys
+from pathlib import Path
 
 sys.dont_write_bytecode = True
-import small_rows as rows
+sys.path[0] = str(Path(__file__).resolve().parent.parent)
+from lib import runs
+from rows import small
 
 # in kilobytes: where the search for the beginning starts, its steps, those of the sweep, and the most there may be
 FIRST, FAR, NEAR, MOST = 1024, 64, 4, 16384
@@ -40,9 +43,9 @@ class Sweep:
     """A row, and what came of it with little memory."""
 
     def __init__(self, is_static, program, preload, under, number):
-        self.row, self.came, self.wrong = rows.ROWS[number], collections.Counter(), []
+        self.row, self.came, self.wrong = small.ROWS[number], collections.Counter(), []
         self.is_static = is_static
-        self.runner = rows.Runner("/bin/sh", under)
+        self.runner = runs.Runner("/bin/sh", under)
         self.environment = {"PRELOAD": preload, "STARTED": "started"}
         self.words = [program, *self.row.words.split()]
         for name, text in self.row.files.items():
@@ -66,12 +69,12 @@ class Sweep:
         """The row with so much stack and no more."""
         came = self.runner.run([*WITH_STACK, str(STACK), *self.words], self.row.given)
         self.came[f"answered with {STACK} KB of stack"] += 1
-        if came != (self.row.output, b"", rows.status_of(self.row)):
+        if came != (self.row.output, b"", small.status_of(self.row)):
             self.wrong.append(f"{self.row.name}, {STACK} KB of stack: came {came!r}")
 
     def sweep(self):
         answers = {(b"", b"aiger: out of memory\n", 1): "out of memory"}
-        answers[self.row.output, b"", rows.status_of(self.row)] = "answered"
+        answers[self.row.output, b"", small.status_of(self.row)] = "answered"
         for limit in range(self.least(), MOST, NEAR):
             has_begun, came = self.within(limit)
             kind = answers.get(came) if has_begun else "not begun" if came[2] and not came[0] else None
@@ -91,4 +94,6 @@ def judged(is_static, *of_row):
 
 
 if __name__ == "__main__":
-    rows.judge_rows(functools.partial(judged, sys.argv[2:] == ["--static"]), sys.argv[1])
+    program, *words = sys.argv[1:]
+    is_static = words[:1] == ["--static"]
+    runs.judge_rows(functools.partial(judged, is_static), program, *words[is_static:])

@@ -1,11 +1,17 @@
-# Other programs that read AIGER files, for end_to_end.sh: each that is installed reads the binary image of each example
-# and writes it again, and what it writes must be read here and have as many inputs, latches, outputs, gates and constraints,
-# and the same resets. The examples of a program that is not installed count as skipped.
+#!/usr/bin/env bash
+# Other programs that read AIGER files: each that is installed reads the binary image of each example and writes it again, and
+# what it writes must be read here and have as many inputs, latches, outputs, gates and constraints, and the same resets. The
+# examples of a program that is not installed count as skipped.
+#
+#     tests/run/other_tools.sh
 #
 # Tried with berkeley-abc 1.01 and yosys 0.23 of Debian 12. They may merge equal gates and leave out gates that nothing
 # uses; no example has such gates. For yosys a latch has to be made a flip-flop of its gate library (simplemap). Both read a
 # bad state as an output: abc writes outputs as bad states where there is a constraint. Yosys drops constraints, and gates
 # that nothing else uses, so it is given constraints as outputs.
+. "$(dirname "${BASH_SOURCE[0]}")/../lib/judge.sh"
+. "$top/tests/lib/streams.sh"
+need_program
 
 # write_again TOOL: has the tool read in.aig and write out.aig, in the folder $work, where it may leave other files too
 write_again() {
@@ -90,3 +96,4 @@ if command -v yosys > /dev/null; then
 else
     skip 1 'yosys is not installed, to write a design with assertions'
 fi
+finish

@@ -1,5 +1,5 @@
 #!/usr/bin/env bash
-# Runs each row of the table in rows.sh with its Nth growth of memory refused, N from 1 until there is no Nth growth; of a row
+# Runs each row of tests/rows/all.sh with its Nth growth of memory refused, N from 1 until there is no Nth growth; of a row
 # that grows more than a hundred times, some N.
 # A run with a refusal answers 'aiger: out of memory', status 1, and writes nothing; a simulation without --batch has
 # then read nothing of its stimulus or its witness either, but where a witness is to be dumped. The run without a
@@ -8,10 +8,12 @@
 # once, with a folder as standard input and as the model; and what happens before a stimulus is read is so with the
 # same model, with a folder as the stimulus.
 #
-#     tests/refused_memory.sh [K N]     all rows, or every Nth one from number K on, counted from 0
-. "$(dirname "${BASH_SOURCE[0]}")/rows.sh"
-. "$top/tests/judge.sh"
+#     tests/run/refused_memory.sh [K N | NAME]     all rows, or every Nth one from number K on, counted from 0, or those that
+#                                                  have NAME in their names
+. "$(dirname "${BASH_SOURCE[0]}")/../lib/judge.sh"
+. "$top/tests/rows/all.sh"
 need_program
+[ $# = 2 ] || { asked=${1-} && set --; }
 most=200000   # a row that grows more often than this fails
 part=${1:-0}
 parts=${2:-1}
@@ -19,7 +21,7 @@ rows_met=0
 each=100      # of a row's own growths so many are refused one by one, and behind them ever fewer of many
 
 if ! compile_preload refuse_growth; then
-    fail 'tests/refuse_growth.c compiles' \
+    fail 'tests/preload/refuse_growth.c compiles' \
         'wanted gcc, cc, clang or that of the kit' "came   $(cat "$work/compile" 2> /dev/null)"
     finish
 fi
@@ -97,7 +99,7 @@ without_model() {
 }
 
 row() {
-    [ $((rows_met++ % parts)) = "$part" ] || return 0
+    is_asked "$1" && [ $((rows_met++ % parts)) = "$part" ] || return 0
     local name=$1 input=$work/in status=$5 number ended known reads=source position unread sparse=
     printf '%b' "$2" > "$work/in"
     wants "$3" "$4" "$5"
@@ -172,6 +174,7 @@ for latches in 10 1000; do
     unrolls "$latches latches over three frames" 3 "$(shifted "$latches")\n" "$(shifted_on "$latches")\n"
 done
 
+need_asked
 # without a single growth refused the table would show nothing
 if [ "$growths" -gt 0 ]; then
     pass

@@ -1,7 +1,7 @@
 #!/usr/bin/env python3
 """Large inputs are answered, where the contracts would allow that the program says it is out of memory.
 
-    tests/sizes.py PROGRAM
+    tests/run/sizes.py PROGRAM [NAME]     all, or what has NAME in the name of its function
 
 Files, stimuli, witnesses and map blocks have more than 64 MB. Each section has 500,000 lines. There are 20,000 runs,
 1,000 frames, and 4,000,000 gates, each before the one that it is over. What is wanted is made here by rule. A run may
@@ -19,7 +19,8 @@ import tempfile
 from pathlib import Path
 
 sys.dont_write_bytecode = True
-import small_rows as rows
+sys.path[0] = str(Path(__file__).resolve().parent.parent)
+from lib import counts
 
 # bytes: a large file, and what a run may take; seconds that a run may take
 MANY, MEMORY, PATIENCE = 70_000_000, 1_500_000_000, 100
@@ -254,17 +255,20 @@ def window_edges(room):
             room.judge(f"line {number}", came == (f"aiger: -: line {number}: bad line\n".encode(), 1), came)
 
 
-def main(program):
+JUDGES = [large_chains, large_tails, large_sections, many_runs, many_latches, long_stimuli, many_frames, window_edges]
+
+
+def main(program, name=""):
     _, most = resource.getrlimit(resource.RLIMIT_AS)
     # the limit is that of this process, and each run has it from here
     resource.setrlimit(resource.RLIMIT_AS, (MEMORY if most == resource.RLIM_INFINITY else min(most, MEMORY), most))
     room = Room(os.path.abspath(program))
-    for judge in (large_chains, large_tails, large_sections, many_runs, many_latches, long_stimuli, many_frames, window_edges):
+    for judge in [it for it in JUDGES if name in it.__name__]:
         with tempfile.TemporaryDirectory() as folder:
             os.chdir(folder)
             judge(room)
             os.chdir("/")
-    rows.finish(room.wrong, room.passed)
+    counts.finish(room.wrong, room.passed)
 
 
 if __name__ == "__main__":

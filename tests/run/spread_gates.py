@@ -1,7 +1,7 @@
 #!/usr/bin/env python3
 """A circuit of 1,000,000 gates in any order, with variables spread up to the largest, against the same in order.
 
-    tests/spread_gates.py PROGRAM
+    tests/run/spread_gates.py PROGRAM
 
 What is in any order may take at most eight times the time of a processor: as ASCII, as binary, with a map, and back
 by that map. The least of some runs counts. Each output is judged too: ASCII text is the file itself, and so is what
@@ -16,9 +16,10 @@ import tempfile
 from pathlib import Path
 
 sys.dont_write_bytecode = True
-sys.path.insert(0, str(Path(__file__).resolve().parent.parent / "bench"))
+TESTS = Path(__file__).resolve().parent.parent
+sys.path[:1] = [str(TESTS), str(TESTS.parent / "bench")]
 import generate
-import small_rows as rows
+from lib import counts
 
 GATES = 1_000_000
 TIMES = 8
@@ -73,7 +74,7 @@ def main(program):
         passed += slow <= TIMES * fast
         if slow > TIMES * fast:
             wrong.append(f"{kind}: wanted {TIMES} times at most")
-    rows.finish(wrong, passed)
+    counts.finish(wrong, passed)
 
 
 if __name__ == "__main__":

@@ -2,13 +2,11 @@
 # What only the static program has: it runs in a root without a C library, asks for large pages by itself, and says what an
 # older processor lacks. Its answers are those of the program: see the rows.
 #
-#     tests/static.sh PROGRAM
+#     tests/run/static.sh PROGRAM
 export AIGER=$1
-. "$(dirname "${BASH_SOURCE[0]}")/rows.sh"
-. "$top/tests/judge.sh"
+. "$(dirname "${BASH_SOURCE[0]}")/../lib/judge.sh"
+. "$top/tests/lib/streams.sh"
 need_program
-small='aag 3 1 1 2 0\n6\n2 7\n2\n0\n'
-printf '%b' "$small" > "$work/small"
 
 # --- a root that has the program, a circuit, and nothing else ---
 root=$work/root

@@ -1,7 +1,7 @@
 #!/usr/bin/env python3
 """One number is the version: each place that has it must have the one that stands on top of CHANGELOG.md.
 
-    tests/versions.py PROGRAM
+    tests/run/versions.py PROGRAM
 
 What release/make writes is left out while it is of other sources. The last line is 'N passed, M failed', with
 ', K skipped' behind it where something was left out.
@@ -11,7 +11,11 @@ import subprocess
 import sys
 from pathlib import Path
 
-TOP = Path(__file__).resolve().parent.parent
+sys.dont_write_bytecode = True
+sys.path[0] = str(Path(__file__).resolve().parent.parent)
+from lib import counts
+
+TOP = Path(__file__).resolve().parents[2]
 SUM = 'top=$1; . "$top/release/state.sh" && read_places && sources_sum'
 
 
@@ -54,19 +58,19 @@ def made_places():
 
 def main(program):
     wanted = found(r"^## \[(\d[^]]*)\]", read("CHANGELOG.md"))
-    those, skips = list(places(program)), ""
+    those, left_out = list(places(program)), []
     if said(["bash", "-c", SUM, "bash", TOP]).strip() == found(r"^sources (.*)$", read("release/MANIFEST")):
         those += made_places()
     else:
         left_out = [place for place, _ in made_places()]
-        skips = f", {len(left_out)} skipped"
         print(f"SKIPPED {', '.join(left_out)}: of other sources")
-    wrong = [(place, version) for place, version in those if version != wanted]
-    for place, version in wrong:
-        print(f"FAILED the version in {place}\n    wanted {wanted}, as in CHANGELOG.md\n    came   {version or 'none'}")
-    print(f"{len(those) - len(wrong)} passed, {len(wrong)} failed{skips}")
-    return 1 if wrong else 0
+    wrong = [
+        f"the version in {place}\n    wanted {wanted}, as in CHANGELOG.md\n    came   {version or 'none'}"
+        for place, version in those
+        if version != wanted
+    ]
+    counts.finish(wrong, len(those) - len(wrong), len(left_out))
 
 
 if __name__ == "__main__":
-    sys.exit(main(*sys.argv[1:]))
+    main(*sys.argv[1:])

@@ -1,11 +1,11 @@
 #!/usr/bin/env python3
 """Sees that the tests of crates/rows_failures fail with each wrong body tests/watched_bodies/CRATE/NAME.edit.
 
-    tests/watched_bodies.py             puts each into a copy of the sources and runs the tests there, a minute each
-    tests/watched_bodies.py --places    sees that each of their old texts stands once, and runs nothing
+    tests/run/watched_bodies.py             puts each into a copy of the sources and runs the tests there, a minute each
+    tests/run/watched_bodies.py --places    sees that each of their old texts stands once, and runs nothing
 
 No contract refuses these: none says which file a call of the runtime reaches, nor that a file is synced. The tests run
-over a runtime in memory that watches its calls. The edits have the form of wrong_bodies.py.
+over a runtime in memory that watches its calls. The edits have the form of those of wrong_bodies.py.
 
 The last line is 'N passed, M failed'. The variable RT names another rt than the one on the PATH.
 """
@@ -17,8 +17,8 @@ import tempfile
 from pathlib import Path
 
 sys.dont_write_bytecode = True
-import wrong_bodies
-from wrong_bodies import RT, TOP, Unfit, WrongBody
+sys.path[0] = str(Path(__file__).resolve().parent.parent)
+from lib.bodies import RT, TOP, Unfit, WrongBody, crates, tell
 
 BODIES = TOP / "tests" / "watched_bodies"
 TESTS = "rows_failures"
@@ -69,7 +69,7 @@ def try_all(bodies):
     with tempfile.TemporaryDirectory(prefix="watched-bodies-") as folder:
         room = Path(folder) / "crates"
         shutil.copy2(TOP / "crates.txt", folder)
-        for name in wrong_bodies.crates():
+        for name in crates():
             shutil.copytree(TOP / "crates" / name / "src", room / name / "src")
         counts = run_tests(room)
         if not counts or counts[1]:
@@ -80,7 +80,7 @@ def try_all(bodies):
 def main(words):
     bodies, unfit = found()
     failures = unfit + (try_all(bodies) if words != ["--places"] and not unfit else [])
-    wrong_bodies.tell(failures)
+    tell(failures)
     print(f"{max(len(bodies) + len(unfit) - len(failures), 0)} passed, {len(failures)} failed")
     return 1 if failures or not bodies else 0
 

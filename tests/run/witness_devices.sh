@@ -1,5 +1,10 @@
-# Witnesses over devices of the system: standard streams that fail, names, pipes, and little memory. end_to_end.sh calls
-# witness_devices, once files.sh was run: functions of both are used here.
+#!/usr/bin/env bash
+# Witnesses over devices of the system: standard streams that fail, names, pipes, and little memory.
+#
+#     tests/run/witness_devices.sh
+. "$(dirname "${BASH_SOURCE[0]}")/../lib/judge.sh"
+. "$top/tests/lib/streams.sh"
+need_program
 
 # a toggle that is bad where it is 1, and its witnesses: confirmed, not confirmed, and with bad lines
 make_witnesses() {
@@ -14,17 +19,6 @@ make_witnesses() {
     printf 'aag 1 1 0 0 0\n' > "$judged/cut.aag"
 }
 confirm() { "$program" aigsim --witness "$judged/model.aag" "$@"; }
-
-witness_devices() {
-    make_witnesses
-    witness_outputs
-    witness_inputs
-    witness_left_alone
-    witness_in_pieces
-    witness_names
-    witness_pipes
-    witness_memory
-}
 
 witness_outputs() {
     local stream
@@ -196,3 +190,13 @@ witness_without_memory() {
         fail 'a model of a witness too large for the memory' "came   $(cat "$work/told")"
     fi
 }
+
+make_witnesses
+witness_outputs
+witness_inputs
+witness_left_alone
+witness_in_pieces
+witness_names
+witness_pipes
+witness_memory
+finish

@@ -1,7 +1,7 @@
 #!/usr/bin/env python3
 """Sees that the prover refuses each wrong body tests/wrong_bodies/CRATE/NAME.edit.
 
-    tests/wrong_bodies.py [CRATE ..]     tries those of the crates named, or of all
+    tests/run/wrong_bodies.py [CRATE ..]     tries those of the crates named, or of all
 
 A wrong body is a file with a line 'file: src/F.rt' and pairs of lines 'old: TEXT' and 'new: TEXT', as in must-fail/:
 each old text stands in that file exactly once, and further pairs apply to what the earlier ones made. A line
@@ -19,8 +19,6 @@ Each public function that has a body wants a wrong one, here or in must-fail/, b
 
 The last line is 'N passed, M failed'. The variable RT names another rt than the one on the PATH.
 """
-
-import os
 import re
 import shutil
 import subprocess
@@ -28,124 +26,19 @@ import sys
 import tempfile
 from pathlib import Path
 
-TOP = Path(__file__).resolve().parent.parent
-BODIES = TOP / "tests" / "wrong_bodies"
-RT = os.environ.get("RT", "rt")
+sys.dont_write_bytecode = True
+sys.path[0] = str(Path(__file__).resolve().parent.parent)
+from lib.bodies import RT, TOP, Unfit, WrongBody, crates, functions_of, tell
 
-FUNCTION = re.compile(r"^( *)(pub )?(?:pub\(\w+\) )?(?:const |extern \"C\" )?fn (\w+)", re.M)
-BLOCK = re.compile(r"^(?:impl\b|(?:pub(?:\(\w+\))? )?trait\b)[^{]*", re.M)
+BODIES = TOP / "tests" / "wrong_bodies"
 # What the check says of a function with goals of its own that are open, and not of one that waits for another.
 OPEN = re.compile(r"not proved$|no proof: expected answers")
-
-
 # A goal with values at which it is false, and a proof file that names what is not there any more.
 REFUTED = "allow values at which this goal is false"
 MISSING_NAME = re.compile(r"has no field|is not in scope|has no `|was not admitted|has no goal")
 
 # The ways in which a wrong body is refused.
 WAYS = ("refuted", "without a proof", "for want of a name")
-
-
-class Unfit(Exception):
-    """A wrong body that cannot be tried."""
-
-
-class Function:
-    """A function of a file: where it stands, and its name as the check prints it, without its module."""
-
-    def __init__(self, text, head):
-        indent = head[1]
-        end = re.compile(rf"^{indent}(\}}|\{{\}})$", re.M).search(text, head.end())
-        self.start, self.end = head.start(), end.end() if end else len(text)
-        self.is_public_with_a_body = bool(head[2] and end and end[1] == "}")
-        self.is_method = bool(indent)
-        blocks = [*BLOCK.finditer(text, 0, self.start)][-1:] if indent else []
-        self.name = "::".join([*(block_name(it[0]) for it in blocks), head[3]])
-
-    def path(self, crate, file):
-        """How its whole name ends. A method stands in the module of its type, which may be that of another file."""
-        if self.is_method:
-            return f"::{self.name}"
-        module = file.removeprefix("src/").removesuffix(".rt").replace("/", "::")
-        return "::".join([crate, *([] if module in ("lib", "main") else [module]), self.name])
-
-
-def block_name(head):
-    """The name of an impl block or a trait: the type, then the trait and what it is applied to."""
-    head = re.sub(r"^impl\s*(<(?:[^<>]|<[^<>]*>)*>)?|^.*\btrait\b", "", head)
-    head = re.split(r"\swhere\s", head)[0]
-    trait, is_for, implementor = head.partition(" for ")
-    if not is_for:
-        trait, implementor = "", head
-    words = [re.sub(r"&('\w+ )?|<.*", "", implementor), trait.partition("<")[0], *re.findall(r"^[^<]*<([\w:]+)", trait)]
-    return "Ref" * implementor.startswith("&") + "".join(it.strip().rpartition("::")[2] for it in words)
-
-
-def functions_of(text):
-    return [Function(text, it) for it in FUNCTION.finditer(text)]
-
-
-class Change:
-    """One text in place of another, in a file or in one function of it."""
-
-    def __init__(self, file, function, old, new):
-        self.file, self.function, self.old, self.new = file, function, old, new
-
-    def place(self, text):
-        """Where the old text stands."""
-        start, end = 0, len(text)
-        if self.function:
-            spans = [(it.start, it.end) for it in functions_of(text) if it.name == self.function]
-            if len(spans) != 1:
-                raise Unfit(f"{self.file} has {len(spans)} functions {self.function}")
-            start, end = spans[0]
-        if text.count(self.old, start, end) != 1:
-            raise Unfit(f"an old text stands there {text.count(self.old, start, end)} times, and not once: {self.old}")
-        return text.index(self.old, start, end)
-
-    def made(self, text):
-        at = self.place(text)
-        return text[:at] + self.new + text[at + len(self.old) :]
-
-
-class WrongBody:
-    """The changes of a file NAME.edit, and the functions that they are in; None among these is another place."""
-
-    def __init__(self, crate, path):
-        self.label = f"{crate}/{path.stem}"
-        self.changes = []
-        file = function = old = None
-        for line in path.read_text(encoding="utf-8").splitlines():
-            word, _, rest = line.partition(":")
-            rest = rest.removeprefix(" ")
-            if word == "file":
-                file, function = rest, None
-            elif word == "in":
-                function = rest
-            elif word == "old":
-                old = rest
-            elif word == "new" and file and old:
-                self.changes.append(Change(file, function, old, rest))
-                old = None
-        if not self.changes:
-            raise Unfit("it has no pair of lines 'old:' and 'new:'")
-        self.functions = {it for it in self.changed(crate) if it != "use"}
-
-    def changed(self, crate):
-        texts = {}
-        for change in self.changes:
-            path = TOP / "crates" / crate / change.file
-            if not change.file.startswith("src/") or not path.is_file():
-                raise Unfit(f"there is no {change.file} below src/")
-            text = texts.get(change.file) or path.read_text(encoding="utf-8")
-            middle = change.place(text) + len(change.old) // 2
-            inside = [it for it in functions_of(text) if it.start <= middle <= it.end]
-            yield inside[-1].path(crate, change.file) if inside else "use" if change.old.startswith("use ") else None
-            texts[change.file] = change.made(text)
-
-    def function(self):
-        """The one function that it changes."""
-        return next(iter(self.functions)) if len(self.functions) == 1 else None
 
 
 class Said:
@@ -184,13 +77,6 @@ class Said:
     def start(self):
         lines = self.text.splitlines()
         return " / ".join([it for it in lines if "error" in it][:2] or lines[-2:])[:300]
-
-
-def crates():
-    """Each crate of crates.txt, and the repository's crates that it stands on."""
-    lines = [it.partition("#")[0].partition(":") for it in (TOP / "crates.txt").read_text().splitlines()]
-    listed = {name.split()[0]: below.replace(",", " ").split() for name, colon, below in lines if colon}
-    return {name: [it for it in below if it in listed] for name, below in listed.items()}
 
 
 def needed(crate, known):
@@ -267,11 +153,6 @@ class Copy:
             judged.update(found)
             waiting = [it for it in waiting if it not in judged]
         return judged
-
-
-def tell(failures):
-    """Prints failures as they are found, and answers how many."""
-    return sum(1 for it in failures if not print(f"FAILED {it}", flush=True))
 
 
 def without(crate, changed):

@@ -1,0 +1,49 @@
+#!/usr/bin/env python3
+"""Compares what the program makes of circuits, stimuli and witnesses made by chance with plain evaluations.
+
+    tests/run/by_chance.py PROGRAM [KIND [NUMBER]]     all of it, or one kind, or one circuit of it
+
+A kind is a module of tests/lib: see its head for what is compared. Its circuits have numbers from 0 on, and a circuit of
+one number is always the same one.
+
+The last line is 'N passed, M failed', with ', K skipped' behind it if something is not there that a kind compares with.
+"""
+import concurrent.futures
+import os
+import sys
+import tempfile
+from pathlib import Path
+
+sys.dont_write_bytecode = True
+sys.path[0] = str(Path(__file__).resolve().parent.parent)
+from lib import batches, counts, images, traces, unrolled, waves, witnesses
+
+KINDS = {it.__name__.rpartition(".")[2]: it for it in (images, traces, batches, unrolled, witnesses, waves)}
+
+
+def cases(program, folder, kinds, number):
+    """Each case that is asked for: its name, the function that judges it, and what that is called with."""
+    for kind in kinds:
+        for at, case in enumerate(KINDS[kind].cases(program, folder)):
+            if number in (None, at):
+                yield f"{kind} {at}", *case
+
+
+def main(program, kind=None, number=None):
+    kinds, skipped = [kind] if kind else list(KINDS), 0
+    if kind not in (None, *KINDS):
+        counts.finish([f"{kind}: wanted a kind of {', '.join(KINDS)}"], 0)
+    program, number = os.path.abspath(program), None if number is None else int(number)
+    with tempfile.TemporaryDirectory() as folder, concurrent.futures.ProcessPoolExecutor(os.cpu_count()) as pool:
+        asked = [(name, pool.submit(*case)) for name, *case in cases(program, folder, kinds, number)]
+        said = [(name, it.result()) for name, it in asked]
+    if not said:
+        counts.finish([f"{kind} {number}: there is no circuit of this number"], 0)
+    for count, reason in waves.left_out() if "waves" in kinds and number is None else ():
+        skipped += count
+        print(f"SKIPPED {count}: {reason}")
+    counts.finish([f"{name}: {why}" for name, why in said if why], sum(not why for _, why in said), skipped)
+
+
+if __name__ == "__main__":
+    main(*sys.argv[1:])
