@@ -11,3 +11,9 @@ def finish(wrong, passed, skipped=0):
     skips = f", {skipped} skipped" if skipped else ""
     print(f"{passed} passed, {len(wrong)} failed{skips}")
     sys.exit(bool(wrong) or not passed)
+
+
+def need(found, name):
+    """Ends the program where nothing has the name that was asked for in its own."""
+    if not found:
+        finish([f"{name}: wanted rows with this in their names; came none"], 0)

@@ -64,8 +64,7 @@ def judge_rows(judged, program, name=""):
     wrong. Prints the sums."""
     total, wrong = collections.Counter(), []
     numbers = [number for number, row in enumerate(small.ROWS) if name in row.name]
-    if not numbers:
-        counts.finish([f"{name}: wanted rows with this in their names; came none"], 0)
+    counts.need(numbers, name)
     pools = concurrent.futures.ProcessPoolExecutor(os.cpu_count())
     # a library is not loaded from everywhere, as from where there are only files in memory
     with tempfile.TemporaryDirectory() as compiled, folder() as under, pools as pool:

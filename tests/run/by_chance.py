@@ -30,15 +30,12 @@ def cases(program, folder, kinds, number):
 
 
 def main(program, kind=None, number=None):
-    kinds, skipped = [kind] if kind else list(KINDS), 0
-    if kind not in (None, *KINDS):
-        counts.finish([f"{kind}: wanted a kind of {', '.join(KINDS)}"], 0)
+    kinds, skipped = [it for it in KINDS if kind in (None, it)], 0
     program, number = os.path.abspath(program), None if number is None else int(number)
     with tempfile.TemporaryDirectory() as folder, concurrent.futures.ProcessPoolExecutor(os.cpu_count()) as pool:
         asked = [(name, pool.submit(*case)) for name, *case in cases(program, folder, kinds, number)]
         said = [(name, it.result()) for name, it in asked]
-    if not said:
-        counts.finish([f"{kind} {number}: there is no circuit of this number"], 0)
+    counts.need(said, kind if number is None else f"{kind} {number}")
     for count, reason in waves.left_out() if "waves" in kinds and number is None else ():
         skipped += count
         print(f"SKIPPED {count}: {reason}")

@@ -162,8 +162,7 @@ def main(program, name=""):
         for file, *task in [it for it in tasks() if name in it[0]]:
             for place in range(len(task[1]) + 1):
                 asked.append((file, pool.submit(judge, program, under, *task, place)))
-        if not asked:
-            wrong.append(f"{name}: wanted files with this in their names; came none")
+        counts.need(asked, name)
         for file, found in itertools.groupby(asked, lambda it: it[0]):
             came = collections.Counter()
             for _, it in found:
@@ -177,7 +176,7 @@ def main(program, name=""):
         if total[kind]:
             print(f"{total[kind]:7} {kind}")
     print(f"{total['runs']} runs, {total['answers']} answered, {total['runs'] - total['answers']} refused")
-    counts.finish(wrong, max(total["cuts"] + total["changes"] - len(wrong), 0))
+    counts.finish(wrong, total["cuts"] + total["changes"] - len(wrong))
 
 
 if __name__ == "__main__":

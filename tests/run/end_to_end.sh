@@ -36,6 +36,12 @@ wants '2 passed, 0 failed\n' '' 0
 check 'one row alone' "$top/tests/run/end_to_end.sh" rows 'a last line with spaces and without LF'
 wants 'FAILED no such row\n    wanted rows with this in their names\n    came   none\n0 passed, 1 failed\n' '' 1
 check 'a row that there is not' "$top/tests/run/end_to_end.sh" rows 'no such row'
+wants 'FAILED no such row: wanted rows with this in their names; came none\n0 passed, 1 failed\n' '' 1
+for file in by_chance cuts failed_calls little_memory sizes; do
+    check "a row that there is not of $file" "$top/tests/run/$file.py" "$program" 'no such row'
+done
+wants '1 passed, 0 failed\n' '' 0
+check 'one circuit made by chance, alone' "$top/tests/run/by_chance.py" "$program" images 3
 wants '' "usage: $top/tests/run/end_to_end.sh [rows [NAME] | rest]\n" 2
 check 'a part that there is not' "$top/tests/run/end_to_end.sh" rest 'a toggle'
 
