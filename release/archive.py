@@ -1,5 +1,5 @@
 #!/usr/bin/env python3
-"""Builds the archive of the library, crates/aiger_c/out/libaiger_c.a, with a proof of its exports.
+"""Builds the archive of the library, crates/aigtools_c/out/libaigtools_c.a, with a proof of its exports.
 
     release/archive.py RT [COMPILER]     RT is the kit's command rt; COMPILER is llvm or rattle, the kit's own
 
@@ -12,7 +12,7 @@ import subprocess
 import sys
 from pathlib import Path
 
-CRATE = Path(__file__).resolve().parent.parent / "crates" / "aiger_c"
+CRATE = Path(__file__).resolve().parent.parent / "crates" / "aigtools_c"
 
 
 def build_over_ci(rt, flags):

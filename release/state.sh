@@ -69,13 +69,22 @@ is_linked() {
 }
 
 # The same of the library: whether its archive was built from $library_sources, and where both are.
-archive=$top/crates/aiger_c/out/libaiger_c.a
+archive=$top/crates/aigtools_c/out/libaigtools_c.a
 is_archived() {
     local of_sources of_archive
-    { read -r of_sources of_archive; } 2> /dev/null < "$top/crates/aiger_c/out/linked" &&
+    { read -r of_sources of_archive; } 2> /dev/null < "$top/crates/aigtools_c/out/linked" &&
         [ "$of_sources" = "$library_sources" ] && [ "$(sha256 < "$archive")" = "$of_archive" ]
 }
 library_sources_sum() (
-    read_places aiger_c
+    read_places aigtools_c
     sources_sum
 )
+
+# unpack_released NAME KEY FILE: the released file of this name, whose sum the manifest has under that key
+unpack_released() {
+    { gzip -dc "$top/release/$1.gz" > "$3"; } 2> /dev/null || true
+    [ "$(sha256 < "$3")" = "$(manifest "$2")" ] || fail "the released $1 is missing or broken"
+}
+
+# write_pc PREFIX LIBRARIES: the file for pkg-config of the library in these folders
+write_pc() { sed "s|^prefix=.*|prefix=$1|; s|^libdir=.*|libdir=$2|" "$top/release/aigtools.pc"; }

@@ -1,8 +1,13 @@
 /* Converts the AIGER file at standard input to binary, with a map that undoes it. From the top of the repository:
 
-       release/library . && gcc -Iinclude -o aigconvert examples/c/aigconvert.c libaiger.a
-       ./aigconvert < examples/half_adder.aag > half_adder.aig */
-#include <aiger.h>
+       gzip -dc release/libaigtools.a.gz > libaigtools.a
+       cc -Iinclude -o aigconvert examples/c/aigconvert.c libaigtools.a
+       ./aigconvert < examples/half_adder.aag > half_adder.aig
+
+   Where the library is installed:
+
+       cc -o aigconvert examples/c/aigconvert.c $(pkg-config --cflags --libs aigtools) */
+#include <aigtools.h>
 #include <stdio.h>
 #include <stdlib.h>
 
@@ -22,19 +27,19 @@ static uint8_t *read_all(FILE *file, size_t *length) {
 int main(void) {
     size_t length, room;
     uint8_t *input = read_all(stdin, &length), *output, words[80];
-    aiger_outcome outcome;
+    aigtools_outcome outcome;
     if (!input) return 1;
 
     /* a likely size first; with less than is needed, the outcome tells how much that is */
     output = malloc(room = length + 64);
-    while (output && aiger_convert(AIGER_KEEP_MAP, AIGER_LARGEST, input, length,
-                                   output, room, &outcome) == AIGER_TOO_SHORT) {
+    while (output && aigtools_convert(AIGTOOLS_KEEP_MAP, AIGTOOLS_LARGEST, input, length,
+                                      output, room, &outcome) == AIGTOOLS_TOO_SHORT) {
         free(output);
         output = malloc(room = outcome.length);
     }
     free(input);
-    if (!output || outcome.status != AIGER_DONE) {
-        room = output ? aiger_message(&outcome, words, sizeof words) : 0;
+    if (!output || outcome.status != AIGTOOLS_DONE) {
+        room = output ? aigtools_message(&outcome, words, sizeof words) : 0;
         fprintf(stderr, "%.*s\n", (int)room, (const char *)words);
         free(output);
         return 1;

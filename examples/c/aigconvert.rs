@@ -1,6 +1,7 @@
 //! Converts the AIGER file at standard input to ASCII. From the top of the repository:
 //!
-//!     release/library . && rustc --edition 2021 -L . -l static=aiger examples/c/aigconvert.rs
+//!     gzip -dc release/libaigtools.a.gz > libaigtools.a
+//!     rustc --edition 2021 -L . -l static=aigtools examples/c/aigconvert.rs
 //!     ./aigconvert < half_adder.aig
 use std::io::{Read, Write};
 
@@ -9,7 +10,7 @@ const LARGEST: u32 = 2147483647;
 const DONE: u32 = 0;
 const TOO_SHORT: u32 = 1;
 
-/// `aiger_outcome` of aiger.h.
+/// `aigtools_outcome` of aigtools.h.
 #[repr(C)]
 #[derive(Debug, Default)]
 struct Outcome {
@@ -23,7 +24,7 @@ struct Outcome {
 
 unsafe extern "C" {
     #[rustfmt::skip]
-    fn aiger_convert(options: u32, max_var: u32, input: *const u8, input_length: usize,
+    fn aigtools_convert(options: u32, max_var: u32, input: *const u8, input_length: usize,
                      output: *mut u8, output_length: usize, outcome: &mut Outcome) -> u32;
 }
 
@@ -34,7 +35,7 @@ fn to_ascii(input: &[u8]) -> Result<Vec<u8>, Outcome> {
         let mut outcome = Outcome::default();
         // What is passed lives through the call, and the output overlaps nothing.
         let status = unsafe {
-            aiger_convert(ASCII, LARGEST, input.as_ptr(), input.len(), output.as_mut_ptr(), output.len(), &mut outcome)
+            aigtools_convert(ASCII, LARGEST, input.as_ptr(), input.len(), output.as_mut_ptr(), output.len(), &mut outcome)
         };
         output.resize(outcome.length as usize, 0);
         match status {

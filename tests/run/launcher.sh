@@ -11,9 +11,10 @@ tree=$work/tree
 out=$tree/crates/aiger/out
 mkdir -p "$tree"/crates/{low,next,aiger,beside}/{src,specs} "$tree/release"
 cp "$top"/{aiger,prove} "$tree"
-cp "$top"/release/{state.sh,side_by_side.py,make,deb} "$tree/release"
+cp "$top"/release/{state.sh,side_by_side.py,make} "$tree/release"
 # in the place of release/static, which needs the kit: a program that can be told from what was linked
-printf '#!/bin/sh\n{ cat "%s"; printf static; } > "$1" && chmod +x "$1" && echo the_system\n' "$out/aiger" > "$tree/release/static"
+printf '#!/bin/sh\n{ cat "%s"; printf static; } > "$1" && chmod +x "$1" && echo of_this\n' "$out/aiger" \
+    > "$tree/release/static"
 chmod +x "$tree/release/static"
 printf '# crates\naiger: low next std\nbeside: low\nlow: thiserror\nnext:\n' > "$tree/crates.txt"
 printf '// one\n' | tee "$tree"/crates/{low,next,aiger,beside}/src/lib.rt > "$tree/crates/low/specs/More.antt"
@@ -140,24 +141,6 @@ if ( top=$real && . "$real/release/state.sh" && read_places && [ "$(sources_sum)
     if [ "$took" -le 2000000 ]; then pass; else fail 'it answers in 2 s' 'wanted 2000000 us' "came   $took us"; fi
 else
     skip 2 'the released program is of other sources'
-fi
-
-# a Debian package of it
-if command -v dpkg-deb > /dev/null; then
-    mkdir "$tree/man" "$work/deb"
-    cp "$top/man/aiger.1" "$tree/man"
-    cp "$top"/{LICENSE,CHANGELOG.md} "$tree"
-    package() { "$tree/release/deb" "$work/deb" > "$work/deb.out" 2>&1 && dpkg-deb -f "$work"/deb/*.deb Package Version Depends; }
-    wants 'Package: aiger\nVersion: 1.1.0\nDepends: libc6 (>= 2.34)\n' '' 0
-    check 'a Debian package' package
-    dpkg-deb -x "$work/deb/aiger_1.0.0_amd64.deb" "$work/deb"
-    wants "$small" '' 0
-    check 'the program of the package' "$work/deb/usr/bin/aiger" aigtoaig --ascii < "$work/small"
-    wants './usr/bin/aiger\n./usr/share/doc/aiger/changelog.gz\n./usr/share/doc/aiger/copyright\n./usr/share/man/man1/aiger.1.gz\n' '' 0
-    contents() { dpkg-deb -c "$work/deb/aiger_1.0.0_amd64.deb" | awk '/^-/ { print $6 }' | sort; }
-    check 'the files of the package' contents
-else
-    skip 3 'no dpkg-deb'
 fi
 
 # at once: eight first launches

@@ -1,11 +1,11 @@
-/* Calls of libaiger that Python cannot make: memory is refused, outputs are too short by one byte, exact and longer,
+/* Calls of libaigtools that Python cannot make: memory is refused, outputs are too short by one byte, exact and longer,
    and threads call at once. Each check that fails says so; the status is 1 then.
 
-       cc -Iinclude -Wl,--wrap=malloc,--wrap=realloc,--wrap=free tests/run/library.c libaiger.a -lpthread
+       cc -Iinclude -Wl,--wrap=malloc,--wrap=realloc,--wrap=free tests/run/library.c libaigtools.a -lpthread
        library                 the checks
        library FILE TIMES      how many nanoseconds a conversion of the file to binary takes, over so many */
 #define _POSIX_C_SOURCE 200809L
-#include "aiger.h"
+#include "aigtools.h"
 
 #include <pthread.h>
 #include <stdio.h>
@@ -15,6 +15,8 @@
 
 #define ROOM 4096
 #define UNTOUCHED 0xAA
+/* an array of characters as the two arguments of an input */
+#define TEXT(it) (const uint8_t *)(it), sizeof(it) - 1
 
 void *__real_malloc(size_t size);
 void *__real_realloc(void *old, size_t size);
@@ -47,41 +49,46 @@ static const char gate[] = "aag 7 2 0 2 3\n2\n4\n6\n12\n6 13 15\n12 2 4\n14 3 5\
 static const char toggle[] = "aag 1 0 1 1 0 1\n2 3\n2\n2\n";
 static const char steps[] = "\n\n\n";
 static const char claim[] = "1\nb0\n0\n\n\n.\n";
+static const char wrong_claim[] = "1\nb0\n0\n\n.\n";
 
-typedef uint32_t call(uint8_t *output, size_t room, aiger_outcome *outcome);
+typedef uint32_t call(uint8_t *output, size_t room, aigtools_outcome *outcome);
 
-static uint32_t to_binary(uint8_t *output, size_t room, aiger_outcome *outcome) {
-    return aiger_convert(AIGER_KEEP_MAP, AIGER_LARGEST, (const uint8_t *)gate, sizeof gate - 1, output, room, outcome);
+static uint32_t to_binary(uint8_t *output, size_t room, aigtools_outcome *outcome) {
+    return aigtools_convert(AIGTOOLS_KEEP_MAP, AIGTOOLS_LARGEST, TEXT(gate), output, room, outcome);
 }
-static uint32_t to_ascii(uint8_t *output, size_t room, aiger_outcome *outcome) {
-    return aiger_convert(AIGER_ASCII, AIGER_LARGEST, (const uint8_t *)gate, sizeof gate - 1, output, room, outcome);
+static uint32_t to_ascii(uint8_t *output, size_t room, aigtools_outcome *outcome) {
+    return aigtools_convert(AIGTOOLS_ASCII, AIGTOOLS_LARGEST, TEXT(gate), output, room, outcome);
 }
-static uint32_t frames(uint8_t *output, size_t room, aiger_outcome *outcome) {
-    return aiger_unroll(0, 5, AIGER_LARGEST, (const uint8_t *)toggle, sizeof toggle - 1, output, room, outcome);
+static uint32_t frames(uint8_t *output, size_t room, aigtools_outcome *outcome) {
+    return aigtools_unroll(0, 5, AIGTOOLS_LARGEST, TEXT(toggle), output, room, outcome);
 }
-static uint32_t trace(uint8_t *output, size_t room, aiger_outcome *outcome) {
-    return aiger_simulate(AIGER_PROPERTIES, AIGER_LARGEST, (const uint8_t *)toggle, sizeof toggle - 1,
-                          (const uint8_t *)steps, sizeof steps - 1, output, room, outcome);
+static uint32_t trace(uint8_t *output, size_t room, aigtools_outcome *outcome) {
+    return aigtools_simulate(AIGTOOLS_PROPERTIES, AIGTOOLS_LARGEST, TEXT(toggle), TEXT(steps), output, room, outcome);
 }
-static uint32_t dump(uint8_t *output, size_t room, aiger_outcome *outcome) {
-    return aiger_simulate(AIGER_VCD, AIGER_LARGEST, (const uint8_t *)toggle, sizeof toggle - 1, (const uint8_t *)steps,
-                          sizeof steps - 1, output, room, outcome);
+static uint32_t dump(uint8_t *output, size_t room, aigtools_outcome *outcome) {
+    return aigtools_simulate(AIGTOOLS_VCD, AIGTOOLS_LARGEST, TEXT(toggle), TEXT(steps), output, room, outcome);
 }
 /* the witness has no text: its words stand for it */
-static uint32_t judged(uint8_t *output, size_t room, aiger_outcome *outcome) {
+static uint32_t judged(uint8_t *output, size_t room, aigtools_outcome *outcome) {
     char words[32];
-    uint32_t status = aiger_witness(AIGER_LARGEST, (const uint8_t *)toggle, sizeof toggle - 1, (const uint8_t *)claim,
-                                    sizeof claim - 1, outcome);
-    if (status != AIGER_DONE) return status;
+    uint32_t status = aigtools_witness(AIGTOOLS_LARGEST, TEXT(toggle), TEXT(claim), outcome);
+    if (status != AIGTOOLS_DONE) return status;
     outcome->length = (uint64_t)snprintf(words, sizeof words, "confirmed %lu", (unsigned long)outcome->number);
-    if (outcome->length > room) return outcome->status = AIGER_TOO_SHORT;
+    if (outcome->length > room) return outcome->status = AIGTOOLS_TOO_SHORT;
     memcpy(output, words, outcome->length);
     return status;
 }
 
+static uint32_t run_of(const char *witness, size_t length, uint8_t *output, size_t room, aigtools_outcome *outcome) {
+    return aigtools_dump(AIGTOOLS_LARGEST, TEXT(toggle), (const uint8_t *)witness, length, output, room, outcome);
+}
+static uint32_t run(uint8_t *output, size_t room, aigtools_outcome *outcome) {
+    return run_of(claim, sizeof claim - 1, output, room, outcome);
+}
+
 static const struct { const char *name; call *of; } calls[] = {
-    {"to binary", to_binary}, {"to ascii", to_ascii}, {"frames", frames},
-    {"trace", trace},         {"dump", dump},         {"judged", judged},
+    {"to binary", to_binary}, {"to ascii", to_ascii}, {"frames", frames}, {"trace", trace},
+    {"dump", dump},           {"judged", judged},     {"run", run},
 };
 #define CALLS (sizeof calls / sizeof *calls)
 
@@ -102,12 +109,12 @@ static void check_rooms(const char *name, call *of, const uint8_t *text, size_t 
     size_t rooms[] = {0, length - 1, length, length + 7}, i;
     for (i = 0; i < 4; i++) {
         uint8_t output[ROOM];
-        aiger_outcome outcome;
+        aigtools_outcome outcome;
         size_t written = rooms[i] < length ? 0 : length;
         uint32_t status;
         memset(output, UNTOUCHED, sizeof output);
         status = of(output, rooms[i], &outcome);
-        check(status == (written ? AIGER_DONE : AIGER_TOO_SHORT), name, "status for the room", (long)rooms[i]);
+        check(status == (written ? AIGTOOLS_DONE : AIGTOOLS_TOO_SHORT), name, "status for the room", (long)rooms[i]);
         check(outcome.status == status && outcome.length == length, name, "outcome for the room", (long)rooms[i]);
         check(memcmp(output, text, written) == 0, name, "text in the room", (long)rooms[i]);
         check(is_untouched(output + written, ROOM - written), name, "what stands behind the text", (long)rooms[i]);
@@ -117,7 +124,7 @@ static void check_rooms(const char *name, call *of, const uint8_t *text, size_t 
 static void check_refusals(const char *name, call *of) {
     long all, number, blocks = held;
     uint8_t output[ROOM];
-    aiger_outcome outcome;
+    aigtools_outcome outcome;
     growths = 0;
     of(output, ROOM, &outcome);
     all = growths;
@@ -128,8 +135,8 @@ static void check_refusals(const char *name, call *of) {
         before = number;
         of(output, ROOM, &outcome);
         before = -1;
-        check(outcome.status == AIGER_OUT_OF_MEMORY && outcome.length == 0 && outcome.kind == 0, name, "out of memory",
-              number);
+        check(outcome.status == AIGTOOLS_OUT_OF_MEMORY && outcome.length == 0 && outcome.kind == 0, name,
+              "out of memory", number);
         check(is_untouched(output, ROOM), name, "output untouched, out of memory", number);
         check(held == blocks, name, "all given back, out of memory", number);
     }
@@ -143,9 +150,9 @@ static void *call_often(void *wrong) {
     int i;
     for (i = 0; i < 2000; i++) {
         uint8_t output[ROOM];
-        aiger_outcome outcome;
+        aigtools_outcome outcome;
         size_t k = (size_t)i % CALLS;
-        if (calls[k].of(output, ROOM, &outcome) != AIGER_DONE || outcome.length != lengths[k] ||
+        if (calls[k].of(output, ROOM, &outcome) != AIGTOOLS_DONE || outcome.length != lengths[k] ||
             memcmp(output, texts[k], lengths[k]) != 0)
             *(int *)wrong = 1;
     }
@@ -162,35 +169,55 @@ static void check_threads(void) {
 }
 
 static void check_refused_options(void) {
-    static const uint32_t bad[] = {AIGER_KEEP_MAP | AIGER_ASCII, AIGER_KEEP_MAP | AIGER_STRIP,
-                                   AIGER_KEEP_MAP | AIGER_UNDO_MAP, AIGER_PROPERTIES, AIGER_VCD, 0x80000000u};
-    static const uint32_t no_trace[] = {AIGER_ASCII, AIGER_PROPERTIES | AIGER_VCD, AIGER_VCD | AIGER_ASCII, 64};
+    static const uint32_t bad[] = {AIGTOOLS_KEEP_MAP | AIGTOOLS_ASCII, AIGTOOLS_KEEP_MAP | AIGTOOLS_STRIP,
+                                   AIGTOOLS_KEEP_MAP | AIGTOOLS_UNDO_MAP, AIGTOOLS_PROPERTIES, AIGTOOLS_VCD, 1u << 31};
+    static const uint32_t no_trace[] = {AIGTOOLS_ASCII, AIGTOOLS_PROPERTIES | AIGTOOLS_VCD,
+                                        AIGTOOLS_VCD | AIGTOOLS_ASCII, 64};
+    static const uint32_t above = AIGTOOLS_LARGEST + 1;
     const uint8_t *text = (const uint8_t *)gate;
     uint8_t output[1] = {UNTOUCHED};
-    aiger_outcome x;
+    aigtools_outcome x;
     size_t i;
-    for (i = 0; i < sizeof bad / sizeof *bad; i++)
-        check(aiger_convert(bad[i], 1, text, 0, output, 1, &x) == AIGER_BAD_OPTIONS, "convert", "options", bad[i]);
-    check(aiger_convert(0, AIGER_LARGEST + 1, text, 0, output, 1, &x) == AIGER_BAD_OPTIONS, "convert", "limit", 0);
-    check(aiger_unroll(2, 1, 1, text, 0, output, 1, &x) == AIGER_BAD_OPTIONS, "unroll", "options", 2);
-    check(aiger_unroll(0, 0, 1, text, 0, output, 1, &x) == AIGER_BAD_OPTIONS, "unroll", "frames", 0);
-    check(aiger_unroll(0, 1000001, 1, text, 0, output, 1, &x) == AIGER_BAD_OPTIONS, "unroll", "frames", 1000001);
+#define IS_BAD(of) check((of) == AIGTOOLS_BAD_OPTIONS, "options", #of, (long)i)
+    for (i = 0; i < sizeof bad / sizeof *bad; i++) IS_BAD(aigtools_convert(bad[i], 1, text, 0, output, 1, &x));
     for (i = 0; i < sizeof no_trace / sizeof *no_trace; i++)
-        check(aiger_simulate(no_trace[i], 1, text, 0, text, 0, output, 1, &x) == AIGER_BAD_OPTIONS, "simulate",
-              "options", no_trace[i]);
-    check(aiger_witness(AIGER_LARGEST + 1, text, 0, text, 0, &x) == AIGER_BAD_OPTIONS, "witness", "limit", 0);
-    check(aiger_message(&x, output, 1) == 0 && output[0] == UNTOUCHED, "message", "no fault", 0);
-    check(aiger_convert(0, 1, text, 0, output, 1, &x) == AIGER_REFUSED && x.kind == AIGER_NOT_AIGER &&
-              x.place == AIGER_LINE && x.number == 1, "convert", "nothing at all", 0);
-    check(aiger_message(&x, output, 1) == 25 && output[0] == UNTOUCHED, "message", "too short", 0);
-    check(aiger_version() == AIGER_VERSION, "version", "that of the header", aiger_version());
+        IS_BAD(aigtools_simulate(no_trace[i], 1, text, 0, text, 0, output, 1, &x));
+    IS_BAD(aigtools_convert(0, above, text, 0, output, 1, &x));
+    IS_BAD(aigtools_unroll(AIGTOOLS_STRIP, 1, 1, text, 0, output, 1, &x));
+    IS_BAD(aigtools_unroll(0, 0, 1, text, 0, output, 1, &x));
+    IS_BAD(aigtools_unroll(0, 1000001, 1, text, 0, output, 1, &x));
+    IS_BAD(aigtools_witness(above, text, 0, text, 0, &x));
+    IS_BAD(aigtools_dump(above, text, 0, text, 0, output, 1, &x));
+    check(aigtools_message(&x, output, 1) == 0 && output[0] == UNTOUCHED, "message", "no fault", 0);
+    check(aigtools_convert(0, 1, text, 0, output, 1, &x) == AIGTOOLS_REFUSED && x.kind == AIGTOOLS_NOT_AIGER &&
+              x.place == AIGTOOLS_LINE && x.number == 1, "convert", "nothing at all", 0);
+    check(aigtools_message(&x, output, 1) == 25 && output[0] == UNTOUCHED, "message", "too short", 0);
+    check(aigtools_version() == AIGTOOLS_VERSION, "version", "that of the header", aigtools_version());
+}
+
+static void check_verdicts_with_runs(void) {
+    static const char line[] = "$comment not confirmed $end\n";
+    uint8_t output[ROOM];
+    aigtools_outcome x, too_short;
+    run(output, ROOM, &x);
+    check(x.status == AIGTOOLS_DONE && x.number == 1, "run", "confirmed at step 1", (long)x.number);
+    memset(output, UNTOUCHED, sizeof output);
+    run_of(wrong_claim, sizeof wrong_claim - 1, output, ROOM, &x);
+    check(x.status == AIGTOOLS_NOT_CONFIRMED && x.number == 0, "run", "not confirmed", x.status);
+    check(memcmp(output, line, sizeof line - 1) == 0 && is_untouched(output + x.length, ROOM - x.length), "run",
+          "the text that is not confirmed", (long)x.length);
+    run_of(wrong_claim, sizeof wrong_claim - 1, output, x.length - 1, &too_short);
+    check(too_short.status == AIGTOOLS_TOO_SHORT && too_short.length == x.length && too_short.number == 0, "run",
+          "too short", (long)too_short.length);
+    run_of(claim, 4, output, ROOM, &x);
+    check(x.status == AIGTOOLS_REFUSED && x.kind == AIGTOOLS_BAD_WITNESS, "run", "refused", x.status);
 }
 
 static int time_conversion(const char *path, long times) {
     FILE *file = fopen(path, "rb");
     size_t length;
     uint8_t *text = malloc(1u << 30), *output = malloc(1u << 30);
-    aiger_outcome outcome;
+    aigtools_outcome outcome;
     struct timespec from, to;
     long i;
     if (!file || !text || !output) return 2;
@@ -198,7 +225,7 @@ static int time_conversion(const char *path, long times) {
     fclose(file);
     clock_gettime(CLOCK_MONOTONIC, &from);
     for (i = 0; i < times; i++)
-        if (aiger_convert(0, AIGER_LARGEST, text, length, output, 1u << 30, &outcome) != AIGER_DONE) return 2;
+        if (aigtools_convert(0, AIGTOOLS_LARGEST, text, length, output, 1u << 30, &outcome) != AIGTOOLS_DONE) return 2;
     clock_gettime(CLOCK_MONOTONIC, &to);
     printf("%.0f ns\n",
            ((double)(to.tv_sec - from.tv_sec) * 1e9 + (double)(to.tv_nsec - from.tv_nsec)) / (double)times);
@@ -209,12 +236,13 @@ int main(int count, char **words) {
     size_t i;
     if (count == 3) return time_conversion(words[1], atol(words[2]));
     for (i = 0; i < CALLS; i++) {
-        aiger_outcome outcome;
-        check(calls[i].of(texts[i], ROOM, &outcome) == AIGER_DONE, calls[i].name, "done", (long)i);
+        aigtools_outcome outcome;
+        check(calls[i].of(texts[i], ROOM, &outcome) == AIGTOOLS_DONE, calls[i].name, "done", (long)i);
         lengths[i] = outcome.length;
         check_rooms(calls[i].name, calls[i].of, texts[i], lengths[i]);
         check_refusals(calls[i].name, calls[i].of);
     }
+    check_verdicts_with_runs();
     check_refused_options();
     check_threads();
     return failed;

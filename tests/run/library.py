@@ -1,11 +1,12 @@
 #!/usr/bin/env python3
-"""The library libaiger beside the linked program: what it answers to the rows of tests/rows/all.sh, to inputs that are
-changed by chance, to memory that is refused, to outputs that are too short, and from threads at once; its symbols; and
-that its header, its Python module and its sources have the same numbers.
+"""The library libaigtools beside the linked program: what it answers to the rows of tests/rows/all.sh, to inputs that are
+changed by chance, to memory that is refused, to outputs that are too short, and from threads at once; its symbols; that
+its header, its Python module and its sources have the same numbers; and that each option of a command is one of a call.
 
-    tests/run/library.py FOLDER PROGRAM     FOLDER holds libaiger.a and libaiger.so.1, as release/library makes them
+    tests/run/library.py FOLDER PROGRAM     FOLDER holds libaigtools.a and libaigtools.so.1, as release/library makes them
 """
 import doctest
+import inspect
 import os
 import random
 import re
@@ -65,20 +66,29 @@ def options_of(words):
     return name, options, files
 
 
+def judged(with_run, model, witness, options):
+    """The same where a witness is judged, with the waveform of its run or without."""
+    if with_run:
+        step, output = aigtools.dump(model, witness, **options)
+    else:
+        step = aigtools.confirm(model, witness, **options)
+        output = b"not confirmed\n" if step is None else b"confirmed %d\n" % step
+    return output, "", int(step is None)
+
+
 def answer(name, options, first, second):
     """What the library answers, as the program would: its output, the words of its error, and its status."""
     options = dict(options)
     try:
         if name == "aigtoaig":
-            return aiger.convert(first, **options), "", 0
+            return aigtools.convert(first, **options), "", 0
         if name == "aigunroll":
-            return aiger.unroll(first, **options), "", 0
+            return aigtools.unroll(first, **options), "", 0
         options.pop("batch", None)
         if options.pop("witness", False):
-            step = aiger.confirm(first, second, **options)
-            return (b"not confirmed\n", "", 1) if step is None else (b"confirmed %d\n" % step, "", 0)
-        return aiger.simulate(first, second, **options), "", 0
-    except aiger.Refused as refused:
+            return judged(options.pop("vcd", False), first, second, options)
+        return aigtools.simulate(first, second, **options), "", 0
+    except aigtools.Refused as refused:
         return b"", str(refused), 1
 
 
@@ -98,8 +108,6 @@ def rows(folder):
         if tool == "aigsim":
             inputs += [meant(given)] * (len(inputs) == 1)
             whole = "batch" in options or "witness" in options or status == b"0"
-            # the library makes no dump of a witness's run
-            whole = whole and not {"witness", "vcd"} <= options.keys()
         else:
             inputs = (inputs or [meant(given)]) + [b""]
             whole = True
@@ -139,7 +147,7 @@ def mutants(folder, program):
     chance = random.Random(SEED)
     seeds = [path.read_bytes() for path in sorted((TOP / "examples").glob("*.a[ai]g"))]
     seeds += [row[3][0] for row in rows(folder) if row[4][2] == 0 and len(row[3][0]) < 2000][::7]
-    seeds += [aiger.convert(it, keep_map=True) for it in seeds]
+    seeds += [aigtools.convert(it, keep_map=True) for it in seeds]
     for number in range(MUTANTS):
         text, kind = mutated(chance, chance.choice(seeds)), chance.randrange(10)
         if kind < 6:
@@ -157,7 +165,9 @@ def mutants(folder, program):
                 words, options = ["--batch", *(f"--{it}" for it in flags)], dict.fromkeys(flags, True)
                 yield "aigsim", words, options, text, mutated(chance, steps)
             else:
-                yield "aigsim", ["--witness"], {"witness": True}, text, mutated(chance, b"1\nb0\n0\n" + steps + b".\n")
+                flags = chance.choice([("witness",), ("witness", "vcd")])
+                words, options = [f"--{it}" for it in flags], dict.fromkeys(flags, True)
+                yield "aigsim", words, options, text, mutated(chance, b"1\nb0\n0\n" + steps + b".\n")
 
 
 def check_mutants(program):
@@ -183,61 +193,136 @@ def check_mutants(program):
         judge("some inputs are refused, and some are not", MUTANTS // 4 < refused < MUTANTS * 3 // 4, refused)
 
 
+WARNINGS = "-std=c99 -pedantic -Wall -Wextra -Werror".split()
+
+
+def compiled(name, made, *words):
+    """Whether gcc makes a program of the words, with the header and the archive, without a warning."""
+    words = ["gcc", *WARNINGS, f"-I{TOP}/include", "-o", made, *words]
+    ran = subprocess.run(words, capture_output=True, text=True, check=False)
+    judge(f"{name} compiles", ran.returncode == 0, ran.stderr)
+    return ran.returncode == 0
+
+
 def check_calls(folder):
     """What only a C program can do: see tests/run/library.c. The header is also that of a C++ program."""
+    archive = Path(folder, "libaigtools.a")
     with tempfile.TemporaryDirectory() as work:
-        made = Path(work, "library")
-        words = "-std=c99 -pedantic -Wall -Wextra -Werror -O1 -Wl,--wrap=malloc,--wrap=realloc,--wrap=free".split()
-        archive, include = Path(folder, "libaiger.a"), f"-I{TOP}/include"
-        compiled = subprocess.run(
-            ["gcc", *words, include, "-o", made, TOP / "tests/run/library.c", archive, "-lpthread"],
-            capture_output=True, text=True, check=False,
-        )
-        judge("tests/run/library.c compiles", compiled.returncode == 0, compiled.stderr)
-        ran = subprocess.run([made], capture_output=True, text=True, check=False)
-        judge("the calls of tests/run/library.c", ran.returncode == 0, ran.stdout)
-        example = Path(work, "example")
-        words = "-std=c99 -Wall -Wextra -Werror".split()
-        source = TOP / "examples/c/aigconvert.c"
-        subprocess.run(["gcc", *words, include, "-o", example, source, archive], check=True)
-        circuit = (TOP / "examples/half_adder.aag").read_bytes()
-        ran = subprocess.run([example], input=circuit, capture_output=True, check=False)
-        judge("the example in C", ran.stdout == aiger.convert(circuit, keep_map=True), ran)
+        made = Path(work, "made")
+        wrapped = "-O1 -Wl,--wrap=malloc,--wrap=realloc,--wrap=free".split()
+        if compiled("tests/run/library.c", made, *wrapped, TOP / "tests/run/library.c", archive, "-lpthread"):
+            ran = subprocess.run([made], capture_output=True, text=True, check=False)
+            judge("the calls of tests/run/library.c", ran.returncode == 0, ran.stdout)
+        if compiled("the example in C", made, TOP / "examples/c/aigconvert.c", archive):
+            circuit = (TOP / "examples/half_adder.aag").read_bytes()
+            ran = subprocess.run([made], input=circuit, capture_output=True, check=False)
+            judge("the example in C", ran.stdout == aigtools.convert(circuit, keep_map=True), ran)
+        check_other_library(archive, Path(work))
         if shutil.which("g++"):
-            words = f"-std=c++11 -pedantic -Wall -Werror -fsyntax-only -x c++ {TOP}/include/aiger.h".split()
+            words = f"-std=c++11 -pedantic -Wall -Werror -fsyntax-only -x c++ {TOP}/include/aigtools.h".split()
             judge("the header in C++", subprocess.run(["g++", *words], check=False).returncode == 0)
 
 
+# what a model checker carries of Biere's library: a header aiger.h, and a function of another type than ours had
+OTHER_HEADER = """#ifndef aiger_h_INCLUDED
+#define aiger_h_INCLUDED
+typedef struct aiger aiger;
+const char *aiger_version (void);
+#endif
+"""
+BOTH = """#include "aiger.h"
+#include "aigtools.h"
+#include <stdio.h>
+const char *aiger_version (void) { return "1.9.9"; }
+int main (void) { printf ("%s %x", aiger_version (), (unsigned) aigtools_version ()); return 0; }
+"""
+
+
+def check_other_library(archive, work):
+    """A program can link with Biere's library too."""
+    Path(work, "aiger.h").write_text(OTHER_HEADER)
+    Path(work, "both.c").write_text(BOTH)
+    if compiled("a program with Biere's library", work / "both", work / "both.c", archive):
+        ran = subprocess.run([work / "both"], stdout=subprocess.PIPE, text=True, check=False)
+        major, minor, patch = map(int, aigtools.version().split("."))
+        judge("both libraries", ran.stdout == f"1.9.9 {major << 16 | minor << 8 | patch:x}", ran)
+
+
 def check_symbols(folder):
-    """The archive has the exports and the kit's calls of malloc, and nothing else that could be in a program's way."""
+    """Both forms have the exports of the header, and nothing else that could be in a program's way."""
 
     def symbols(path, *options):
         ran = subprocess.run(["nm", "--format=posix", *options, path], stdout=subprocess.PIPE, text=True, check=True)
         return {line.split()[0] for line in ran.stdout.splitlines() if len(line.split()) > 1}
 
-    header = (TOP / "include/aiger.h").read_text()
-    exports = set(re.findall(r"\b(aiger_[a-z]+)\(", header))
-    kit = {"rattle_alloc", "rattle_realloc", "rattle_dealloc"}
+    exports = set(re.findall(r"\b(aigtools_[a-z]+)\(", (TOP / "include/aigtools.h").read_text()))
     calls = {"malloc", "realloc", "free", "memcpy", "memmove", "memset", "memcmp", "bcmp"}
-    made = symbols(Path(folder, "libaiger.a"), "-g", "--defined-only")
-    judge("the symbols of libaiger.a", exports <= made <= exports | kit, sorted(made))
-    wanted = symbols(Path(folder, "libaiger.a"), "-u")
-    judge("what libaiger.a wants", wanted <= calls | kit | {"_GLOBAL_OFFSET_TABLE_"}, sorted(wanted))
-    shared = symbols(Path(folder, "libaiger.so.1"), "-D", "--defined-only")
-    judge("the symbols of libaiger.so", shared == exports, sorted(shared))
+    made = symbols(Path(folder, "libaigtools.a"), "-g", "--defined-only")
+    judge("the symbols of libaigtools.a", made == exports, sorted(made))
+    wanted = symbols(Path(folder, "libaigtools.a"), "-u")
+    judge("what libaigtools.a wants", wanted <= calls | {"_GLOBAL_OFFSET_TABLE_"}, sorted(wanted))
+    shared = symbols(Path(folder, "libaigtools.so.1"), "-D", "--defined-only")
+    judge("the symbols of libaigtools.so", shared == exports, sorted(shared))
 
 
 def check_numbers(program):
     """The header, the Python module and the sources have the same numbers, and the versions are the same."""
     sources = [(TOP / f"crates/aig_memory/src/{name}.rt").read_text() for name in ("kind", "outcome", "asked")]
     there = dict(re.findall(r"pub const ([A-Z_]+): u32 = (\d+);", "".join(sources)))
-    here = dict(re.findall(r"\bAIGER_([A-Z_]+) = (\d+)", (TOP / "include/aiger.h").read_text()))
-    judge("AIGER_NO_FAULT is 0", here.pop("NO_FAULT") == "0")
+    here = dict(re.findall(r"\bAIGTOOLS_([A-Z_]+) = (\d+)", (TOP / "include/aigtools.h").read_text()))
+    judge("AIGTOOLS_NO_FAULT is 0", here.pop("NO_FAULT") == "0")
     judge("the numbers of the header", here == there, here, there)
     kinds = dict(re.findall(r"pub const ([A-Z_]+): u32 = (\d+);", sources[0]))
-    judge("the kinds of the Python module", {it.name: str(it.value) for it in aiger.Kind} == kinds, kinds)
+    judge("the kinds of the Python module", {it.name: str(it.value) for it in aigtools.Kind} == kinds, kinds)
     said = subprocess.run([program, "--version"], stdout=subprocess.PIPE, text=True, check=True).stdout
-    judge("the version", said == f"aiger {aiger.version()}\n", said, aiger.version())
+    judge("the version", said == f"aiger {aigtools.version()}\n", said, aigtools.version())
+    package = (TOP / "release/aigtools.pc").read_text()
+    judge("the version for pkg-config", f"\nVersion: {aigtools.version()}\n" in package, package)
+
+
+def check_options(program):
+    """Each option of a command is one of its calls, or says which call it is; and each of a call one of the command."""
+    calls = {
+        "aigtoaig": ((aigtools.convert,), set()),
+        "aigunroll": ((aigtools.unroll,), set()),
+        "aigsim": ((aigtools.simulate, aigtools.confirm, aigtools.dump), {"batch", "witness"}),
+    }
+    for command, (functions, chosen) in calls.items():
+        said = subprocess.run([program, command, "--help"], stdout=subprocess.PIPE, text=True, check=True).stdout
+        words = re.findall(r"^ {2,6}(?:-\w, )?--([a-z-]+)", said, re.M)
+        there = {it.replace("-", "_") for it in words} - {"help", "version"}
+        names = {name for it in functions for name in inspect.signature(it).parameters}
+        here = names - {"data", "model", "stimulus", "witness"} | chosen
+        judge(f"the options of {command}", there == here and len(there) > 1, there, here)
+
+
+def refuses(error, words, call, *inputs, **options):
+    """Whether a call fails with an error that has these words."""
+    try:
+        call(*inputs, **options)
+    except error as told:
+        return words in str(told)
+    return False
+
+
+def check_arguments():
+    """What the Python module makes of arguments of other types, and of those that cannot be met."""
+    gate = b"aag 1 1 0 1 0\n2\n3\n"
+    for same in (gate, bytearray(gate), memoryview(gate)):
+        judge("an option that is not False", aigtools.convert(same, ascii=2) == gate, type(same))
+    for data in (17, "aag 0 0 0 0 0\n", None, [97]):
+        judge("no bytes", refuses(TypeError, "bytes-like", aigtools.convert, data), data)
+        judge("no bytes for a witness", refuses(TypeError, "bytes-like", aigtools.dump, gate, data), data)
+    for other in ("ascii", "strip", "undo_map"):
+        why = f"keep_map excludes {other}"
+        judge(why, refuses(ValueError, why, aigtools.convert, gate, keep_map=True, **{other: True}))
+    why = "vcd excludes properties"
+    judge(why, refuses(ValueError, why, aigtools.simulate, gate, b"", vcd=True, properties=True))
+    for frames in (0, 1000001):
+        judge("frames", refuses(ValueError, "frames is not from 1 to 1000000", aigtools.unroll, gate, frames), frames)
+    for limit in (-1, aigtools.LARGEST + 1):
+        why = f"max_var is not from 0 to {aigtools.LARGEST}"
+        judge(why, refuses(ValueError, why, aigtools.confirm, gate, b"", max_var=limit), limit)
 
 
 def main(folder, program):
@@ -247,15 +332,17 @@ def main(folder, program):
     check_calls(folder)
     check_symbols(folder)
     check_numbers(program)
-    tried = doctest.testmod(aiger)
+    check_options(program)
+    check_arguments()
+    tried = doctest.testmod(aigtools)
     judge("the examples of the Python module", tried.attempted > 5 and not tried.failed, tried)
     print(f"{passed} passed, {failed} failed")
     return failed != 0 or passed == 0
 
 
 if __name__ == "__main__":
-    os.environ["LIBAIGER"] = str(Path(sys.argv[1], "libaiger.so.1").resolve())
+    os.environ["LIBAIGTOOLS"] = str(Path(sys.argv[1], "libaigtools.so.1").resolve())
     sys.path.insert(0, str(TOP / "python"))
-    import aiger
+    import aigtools
 
     sys.exit(main(*sys.argv[1:]))

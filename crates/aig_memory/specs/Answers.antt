@@ -12,9 +12,10 @@ use Rattle.aig_witness.specs.Witness.{Claim, IsVerdict, SaysClaim, first_bad_wit
 use Rattle.aig_engines.specs.declared.fault.ToolFault.{ToolFault}
 use Rattle.aig_engines.specs.File.{IsFileOf}
 use Rattle.aig_engines.specs.Reading.{IsUnreadable}
+use Rattle.aig_engines.specs.WitnessDump.{IsWitnessDumpText}
 use Rattle.aig_engines.specs.WitnessOutcome.{IsWitnessAnswer, OfSteps}
 use Rattle.aig_memory.specs.Asked.{simulation}
-use Rattle.aig_memory.specs.Outcome.{IsPlaced, ending, fault_outcome, out_of_memory}
+use Rattle.aig_memory.specs.Outcome.{IsPlaced, IsPlacedAs, ending, fault_outcome, out_of_memory}
 use Rattle.aig_memory.specs.declared.outcome.Outcome.{Outcome}
 use Rattle.aig_memory.specs.declared.outcome.TheConstants.{BAD_OPTIONS, DONE, NOT_CONFIRMED}
 
@@ -67,10 +68,10 @@ IsWitnessRefused request model witness fault =
 abbrev pub IsVerdictFor : Circuit → (witness : List ℕ) → Verdict → Type 0
 IsVerdictFor c witness verdict = (claim : Claim) × SaysClaim c witness claim × IsVerdict c claim verdict
 
--- the outcome of a verdict
-abbrev pub verdict_outcome : Verdict → Outcome
-verdict_outcome (Confirmed step) = ending DONE step 0
-verdict_outcome NotConfirmed = ending NOT_CONFIRMED 0 0
+-- the outcome of a verdict, with a text of so many bytes
+abbrev pub verdict_outcome : Verdict → (length : ℕ) → Outcome
+verdict_outcome (Confirmed step) length = ending DONE step length
+verdict_outcome NotConfirmed length = ending NOT_CONFIRMED 0 length
 
 -- What is answered where a witness file is judged.
 abbrev pub WitnessAnswers : (max_var : ℕ) (model witness : List ℕ) → Outcome → Type 0
@@ -78,5 +79,21 @@ WitnessAnswers max_var model witness outcome =
     ((¬ (max_var ≤ largest_index)) × (outcome ≡ ending BAD_OPTIONS 0 0))
     ⊎ ((max_var ≤ largest_index)
     × (((verdict : Verdict) × IsWitnessAnswer (simulation 0 max_var) model witness verdict
-    × (outcome ≡ verdict_outcome verdict))
+    × (outcome ≡ verdict_outcome verdict 0))
     ⊎ NotMade (IsWitnessRefused (simulation 0 max_var) model witness) outcome))
+
+-- there is a verdict and a dump, which is put into the output where there is room for it; then the outcome tells both
+pub record Dumped (request : Sim) (model witness before after : List ℕ) (outcome : Outcome) : Type 0 where
+  pub verdict : Verdict
+  pub text : List ℕ
+  pub is_dump : IsWitnessDumpText request model witness verdict text
+  pub placed : IsPlacedAs (verdict_outcome verdict) text before after outcome
+
+-- What is answered where the run of a witness file is dumped: there is a dump exactly where there is a verdict. Without
+-- a dump the output is as it was.
+abbrev pub DumpAnswers : (max_var : ℕ) (model witness before after : List ℕ) → Outcome → Type 0
+DumpAnswers max_var model witness before after outcome =
+    ((¬ (max_var ≤ largest_index)) × (after ≡ before) × (outcome ≡ ending BAD_OPTIONS 0 0))
+    ⊎ ((max_var ≤ largest_index)
+    × (Dumped (simulation 0 max_var) model witness before after outcome
+    ⊎ ((after ≡ before) × NotMade (IsWitnessRefused (simulation 0 max_var) model witness) outcome)))

@@ -105,8 +105,12 @@ fault_outcome faults.Sink = out_of_memory
 fault_outcome faults.OutOfMemory = out_of_memory
 
 -- The text is at the front of the output, and what stood behind it is as it was; or it has more bytes than there is
--- room for, and the output is as it was. The outcome tells how many bytes it has.
-abbrev pub IsPlaced : (text before after : List ℕ) → Outcome → Type 0
-IsPlaced text before after outcome =
-    ((after ≡ text ++ drop (length text) before) × (outcome ≡ ending DONE 0 (length text)))
+-- room for, and the output is as it was. The outcome tells how many bytes it has: the first is that of a text that was
+-- placed.
+abbrev pub IsPlacedAs : (ℕ → Outcome) → (text before after : List ℕ) → Outcome → Type 0
+IsPlacedAs done text before after outcome =
+    ((after ≡ text ++ drop (length text) before) × (outcome ≡ done (length text)))
     ⊎ ((length before < length text) × (after ≡ before) × (outcome ≡ ending TOO_SHORT 0 (length text)))
+
+abbrev pub IsPlaced : (text before after : List ℕ) → Outcome → Type 0
+IsPlaced = IsPlacedAs (ending DONE 0)

@@ -25,7 +25,7 @@ pub const OUT_OF_MEMORY: u32 = 3;
 /// The options exclude each other, or are not known, or a number is out of its range.
 pub const BAD_OPTIONS: u32 = 4;
 
-/// The witness file is right, and no step shows what it claims.
+/// The witness file is right, and no step shows what it claims. If its run is dumped, the text was written.
 pub const NOT_CONFIRMED: u32 = 5;
 
 /// The fault has no one place.
@@ -54,7 +54,7 @@ pub struct Outcome {
     pub subject: u32,
     /// The number of the line or of the gate, counted from 1; or the step at which a witness is confirmed, from 0.
     pub number: u64,
-    /// How many bytes the text has, where the status is `DONE` or `TOO_SHORT`.
+    /// How many bytes the text has, where the status is `DONE`, `TOO_SHORT` or `NOT_CONFIRMED`.
     pub length: u64,
 }
 

@@ -2,10 +2,11 @@
 ghost use Rattle.std.specs.Prelude.{◌≡◌, ◌⊎◌, ◌∷◌, ℕ, IfErr, IfOk, List};
 ghost use Rattle.aig_circuit.specs.declared.circuit.Circuit.{Circuit};
 ghost use Rattle.aig_rows.specs.Lines.{Line as LineRecord, line as made_line, lines_of};
+ghost use Rattle.aig_rows.specs.Messages.{message_text};
 ghost use Rattle.aig_step.specs.Stimulus.{text_of};
 ghost use Rattle.aig_step.specs.declared.fault.SimFault.TheVariants as faults;
 ghost use Rattle.aig_witness.specs.Witness.{Claim, IsVerdict, SaysClaim};
-ghost use Rattle.aig_engines.specs.WitnessDump.{IsRunDump};
+ghost use Rattle.aig_engines.specs.WitnessDump.{IsRunDump, comment_line};
 ghost use Rattle.aig_memory.specs.Answers.{IsBadWitness};
 ghost use Rattle.aig_memory.specs.Outcome.{out_of_memory, sim_outcome};
 
@@ -16,6 +17,7 @@ use aig_core::{Checked, OutOfMemory};
 use aig_lines::without_return;
 use aig_rows::{Line, split_line};
 use aig_step::SimFault;
+use aig_text::Message;
 use aig_witness::Verdict;
 use std::alloc::Global;
 
@@ -95,5 +97,15 @@ pub fn judge_and_dump(
             drop(found);
             Err(refused(fault))
         }
+    }
+}
+
+/// The verdict as a comment, which is the first line of a dump.
+pub fn comment_line(verdict: Verdict) -> Message
+    ensures { message_text result ≡ comment_line verdict }
+{
+    match verdict {
+        Verdict::Confirmed(step) => Message::around("$comment confirmed ", step, " $end\n"),
+        Verdict::NotConfirmed => Message::new("$comment not confirmed $end\n"),
     }
 }

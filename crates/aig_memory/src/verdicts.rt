@@ -40,13 +40,13 @@ fn verdict(alloc: Global, max_var: u32, model: &[u8], witness: &[u8]) -> Result<
     Ok(judged?)
 }
 
-/// The outcome of a verdict.
-fn verdict_outcome(verdict: Verdict) -> Outcome
-    ensures { result ≡ verdict_outcome verdict }
+/// The outcome of a verdict, with a text of so many bytes.
+pub(crate) fn verdict_outcome(verdict: Verdict, length: u64) -> Outcome
+    ensures { result ≡ verdict_outcome verdict length }
 {
     match verdict {
-        Verdict::Confirmed(step) => ending(DONE, step, 0),
-        Verdict::NotConfirmed => ending(NOT_CONFIRMED, 0, 0),
+        Verdict::Confirmed(step) => ending(DONE, step, length),
+        Verdict::NotConfirmed => ending(NOT_CONFIRMED, 0, length),
     }
 }
 
@@ -59,7 +59,7 @@ pub fn witness(alloc: Global, max_var: u32, model: &[u8], witness: &[u8]) -> Out
         return ending(BAD_OPTIONS, 0, 0);
     }
     match verdict(alloc, max_var, model, witness) {
-        Ok(verdict) => verdict_outcome(verdict),
+        Ok(verdict) => verdict_outcome(verdict, 0),
         Err(fault) => fault_outcome(&fault),
     }
 }

@@ -1,7 +1,6 @@
 //! What is written for a witness file: the verdict in a line, or the dump of the run that it claims.
 ghost use Rattle.std.specs.Prelude.{◌≡◌, ◌++◌, IfErr, IfOk, OnErr, OnOk};
 ghost use Rattle.aig_io.specs.Devices.{CanFail, gave_all, took, TookBeginning};
-ghost use Rattle.aig_rows.specs.Messages.{message_text};
 ghost use Rattle.aig_witness.specs.Confirming.{Judged};
 ghost use Rattle.aig_engines.specs.WitnessDump.{HasNoDump, IsRunDump, JudgedWith, NotDumpedFor, comment_line};
 ghost use Rattle.aig_tools.specs.SimulationOutcome.{AnsweredAs, NotAnsweredAs};
@@ -9,9 +8,9 @@ ghost use Rattle.aig_tools.specs.SimulationOutcome.{AnsweredAs, NotAnsweredAs};
 use aig_command::Sim;
 use aig_core::{Checked, Output, ReadError, Sink, Source, read_all};
 use aig_engines::{ToolFault, judge};
-use aig_memory::judge_and_dump;
+use aig_memory::{comment_line, judge_and_dump};
 use aig_step::SimFault;
-use aig_text::{Message, WriteFault};
+use aig_text::WriteFault;
 use aig_witness::Verdict;
 use std::alloc::Global;
 
@@ -53,16 +52,6 @@ fn read_and_dump<R: Source>(
             drop(found);
             Err(fault)
         }
-    }
-}
-
-/// The verdict as a comment of a dump.
-fn comment_line(verdict: Verdict) -> Message
-    ensures { message_text result ≡ comment_line verdict }
-{
-    match verdict {
-        Verdict::Confirmed(step) => Message::around("$comment confirmed ", step, " $end\n"),
-        Verdict::NotConfirmed => Message::new("$comment not confirmed $end\n"),
     }
 }
 

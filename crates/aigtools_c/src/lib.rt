@@ -1,4 +1,4 @@
-//! The calls of `aig_memory` for programs in C, and in languages that call C. `include/aiger.h` declares and documents
+//! The calls of `aig_memory` for programs in C, and in languages that call C. `include/aigtools.h` declares and documents
 //! them.
 #![tactic(auto)]
 
@@ -6,19 +6,19 @@ ghost use Rattle.std.specs.Prelude.{◌≡◌, ◌⊎◌};
 ghost use Rattle.aig_engines.specs.Conversion.{IsConversionRefused, IsConversionText};
 ghost use Rattle.aig_engines.specs.Simulation.{IsWrittenText};
 ghost use Rattle.aig_engines.specs.Unrolling.{IsUnrollingRefused, IsUnrollingText};
-ghost use Rattle.aig_memory.specs.Answers.{Answers, IsSimulationRefused, WitnessAnswers};
+ghost use Rattle.aig_memory.specs.Answers.{Answers, DumpAnswers, IsSimulationRefused, WitnessAnswers};
 ghost use Rattle.aig_memory.specs.Asked.{CanConvert, CanSimulate, CanUnroll, conversion, simulation, unrolling};
 ghost use Rattle.aig_memory.specs.Message.{IsWritten, message_text};
 
-use aig_memory::{Outcome, convert, message, simulate, unroll, witness};
+use aig_memory::{Outcome, convert, dump_witness, message, simulate, unroll, witness};
 use std::alloc::Global;
 
-/// The version in three bytes: 1.0.0 is 0x010000.
-const VERSION: u32 = 0x01_00_00;
+/// The version in three bytes: 1.1.0 is 0x010100.
+const VERSION: u32 = 0x01_01_00;
 
 /// Converts the bytes of an AIGER file.
 #[unsafe(no_mangle)]
-pub extern "C" fn aiger_convert(
+pub extern "C" fn aigtools_convert(
     alloc: Global,
     options: u32,
     max_var: u32,
@@ -37,7 +37,7 @@ pub extern "C" fn aiger_convert(
 
 /// Unrolls the circuit of an AIGER file.
 #[unsafe(no_mangle)]
-pub extern "C" fn aiger_unroll(
+pub extern "C" fn aigtools_unroll(
     alloc: Global,
     options: u32,
     frames: u32,
@@ -57,7 +57,7 @@ pub extern "C" fn aiger_unroll(
 
 /// Simulates the circuit of an AIGER file over a stimulus.
 #[unsafe(no_mangle)]
-pub extern "C" fn aiger_simulate(
+pub extern "C" fn aigtools_simulate(
     alloc: Global,
     options: u32,
     max_var: u32,
@@ -77,7 +77,7 @@ pub extern "C" fn aiger_simulate(
 
 /// Judges a witness file for the circuit of an AIGER file.
 #[unsafe(no_mangle)]
-pub extern "C" fn aiger_witness(
+pub extern "C" fn aigtools_witness(
     alloc: Global,
     max_var: u32,
     model: &[u8],
@@ -91,9 +91,26 @@ pub extern "C" fn aiger_witness(
     outcome.status
 }
 
+/// Judges a witness file for the circuit of an AIGER file, and dumps the run that it claims.
+#[unsafe(no_mangle)]
+pub extern "C" fn aigtools_dump(
+    alloc: Global,
+    max_var: u32,
+    model: &[u8],
+    file: &[u8],
+    output: &mut [u8],
+    outcome: &mut Outcome,
+) -> u32
+    ensures status { result ≡ outcome.new.status }
+    ensures answers { DumpAnswers max_var model.now file.now output.old output.new outcome.new }
+{
+    *outcome = dump_witness(alloc, max_var, model, file, output);
+    outcome.status
+}
+
 /// Puts the words for an outcome into the output, and answers how many bytes they have.
 #[unsafe(no_mangle)]
-pub extern "C" fn aiger_message(alloc: Global, outcome: &Outcome, output: &mut [u8]) -> usize
+pub extern "C" fn aigtools_message(alloc: Global, outcome: &Outcome, output: &mut [u8]) -> usize
     ensures { IsWritten (message_text outcome.now) output.old output.new result
         ⊎ ((result ≡ 0) × (output.new ≡ output.old)) }
 {
@@ -102,7 +119,7 @@ pub extern "C" fn aiger_message(alloc: Global, outcome: &Outcome, output: &mut [
 
 /// The version of the library.
 #[unsafe(no_mangle)]
-pub extern "C" fn aiger_version() -> u32
+pub extern "C" fn aigtools_version() -> u32
     ensures { result ≡ VERSION }
 {
     VERSION

@@ -1,0 +1,156 @@
+/*
+ * libaigtools: AIGER files converted, unrolled and simulated, and witnesses judged, in the memory of a program.
+ *
+ * The functions are those of the program `aiger`, and proved as it is. docs/FORMAT.md says what each text is, and
+ * examples/c has a program in C and one in Rust.
+ *
+ * Calls        A call reads its inputs, makes its whole text, and then copies it to `output` where there is room for
+ *              all of it. It keeps nothing: no state, no file, no pointer that it was given.
+ * Threads      Any thread may call any function at any time. Calls that run at once share nothing, unless their
+ *              outputs or outcomes overlap.
+ * Ownership    All memory that is passed stays the caller's. What a call takes for itself comes from malloc and
+ *              realloc, and goes back to free before it returns. No signal handler may call.
+ * Pointers     No pointer is null: where a length is 0, pass any address. An output overlaps no input and no outcome.
+ *              Inputs are not changed.
+ * Errors       Each call returns outcome->status. For AIGTOOLS_REFUSED the outcome says what the first fault is and
+ *              where, and aigtools_message has the words. Without a text the output is as it was.
+ * Units        Lengths are in bytes. Lines and gates are counted from 1, steps from 0. No text ends in a zero byte.
+ *
+ * Compile and link with what `pkg-config --cflags --libs aigtools` says, or with libaigtools.a alone. x86-64 with
+ * SSE4.2 (x86-64-v2), Linux.
+ */
+#ifndef AIGTOOLS_H
+#define AIGTOOLS_H
+
+#include <stddef.h>
+#include <stdint.h>
+
+#ifdef __cplusplus
+extern "C" {
+#endif
+
+/* The version of this header, as aigtools_version tells that of the library: a byte each for major, minor and patch. */
+#define AIGTOOLS_VERSION 0x010100u
+
+/* The largest `max_var`: a file with a larger index, or with more of a kind, is refused with AIGTOOLS_TOO_LARGE. */
+#define AIGTOOLS_LARGEST 2147483647u
+
+/* How a call ended. */
+enum aigtools_status {
+    AIGTOOLS_DONE = 0,          /* the text was written, or the witness is confirmed */
+    AIGTOOLS_TOO_SHORT = 1,     /* the output has no room for the text, which has outcome.length bytes */
+    AIGTOOLS_REFUSED = 2,       /* the input has a fault: see kind, place, number and subject */
+    AIGTOOLS_OUT_OF_MEMORY = 3, /* memory was refused; nothing is said of the input */
+    AIGTOOLS_BAD_OPTIONS = 4,   /* options exclude each other or are not known, or a number is out of its range */
+    AIGTOOLS_NOT_CONFIRMED = 5  /* the witness file is right, and the model does not do what it claims: its waveform
+                                   was written, if one was asked for */
+};
+
+/* Options, a bit each. */
+enum aigtools_option {
+    AIGTOOLS_ASCII = 1,     /* convert, unroll: write ASCII, and not binary */
+    AIGTOOLS_STRIP = 2,     /* convert: leave out symbols and comment */
+    AIGTOOLS_KEEP_MAP = 4,  /* convert: begin the comment with a map that undoes the conversion; with no other option */
+    AIGTOOLS_UNDO_MAP = 8,  /* convert: undo a conversion by the map of its image */
+    AIGTOOLS_PROPERTIES = 16, /* simulate: show bad states and constraints too */
+    AIGTOOLS_VCD = 32       /* simulate: write the trace as a waveform, with them; without AIGTOOLS_PROPERTIES */
+};
+
+/* What is wrong, where the status is AIGTOOLS_REFUSED. */
+enum aigtools_kind {
+    AIGTOOLS_NO_FAULT = 0,
+    AIGTOOLS_NOT_AIGER = 1,           /* the first word is neither aag nor aig */
+    AIGTOOLS_BAD_HEADER = 2,
+    AIGTOOLS_TOO_LARGE = 3,           /* a number is above the limit */
+    AIGTOOLS_BAD_LINE = 4,
+    AIGTOOLS_NOT_VARIABLE = 5,        /* a definition is not an even literal from 2 on */
+    AIGTOOLS_LITERAL_RANGE = 6,
+    AIGTOOLS_BAD_RESET = 7,
+    AIGTOOLS_TRUNCATED = 8,
+    AIGTOOLS_BAD_DELTA = 9,
+    AIGTOOLS_BAD_SYMBOL = 10,
+    AIGTOOLS_SYMBOL_RANGE = 11,
+    AIGTOOLS_SYMBOL_TWICE = 12,
+    AIGTOOLS_REDEFINED = 13,          /* outcome.subject is the variable */
+    AIGTOOLS_UNDEFINED = 14,          /* outcome.subject is the literal */
+    AIGTOOLS_CYCLIC = 15,             /* outcome.subject is the literal of the gate */
+    AIGTOOLS_NOT_ORDERED = 16,        /* to undo a map, the gates must be in binary order */
+    AIGTOOLS_NO_MAP = 17,
+    AIGTOOLS_BAD_MAP_LINE = 18,       /* outcome.number counts lines of the map */
+    AIGTOOLS_MAP_MISMATCH = 19,
+    AIGTOOLS_MAP_FORGED = 20,         /* the map belongs to another circuit */
+    AIGTOOLS_NOT_UNROLLABLE = 21,     /* there are justice properties or fairness constraints */
+    AIGTOOLS_TOO_LARGE_UNROLLED = 22,
+    AIGTOOLS_BAD_STIMULUS = 23,       /* the model is right; the line is of the stimulus */
+    AIGTOOLS_BAD_WITNESS = 24         /* the model is right; the line is of the witness file */
+};
+
+/* Where it is wrong. */
+enum aigtools_place {
+    AIGTOOLS_WHOLE = 0,   /* no one place */
+    AIGTOOLS_LINE = 1,    /* outcome.number is a line */
+    AIGTOOLS_GATE = 2,    /* outcome.number is a gate of a binary file, whose gates stand in no line */
+    AIGTOOLS_MAP_LINE = 3 /* outcome.number is a line of the map */
+};
+
+/* What came of a call. A field that says nothing is 0. */
+typedef struct aigtools_outcome {
+    uint32_t status;  /* enum aigtools_status */
+    uint32_t kind;    /* enum aigtools_kind */
+    uint32_t place;   /* enum aigtools_place */
+    uint32_t subject; /* the variable or the literal that the fault names */
+    uint64_t number;  /* the line or the gate; or the step at which a witness is confirmed */
+    uint64_t length;  /* how many bytes the text has, where it was written or has no room */
+} aigtools_outcome;
+
+/*
+ * Converts an AIGER file, ASCII or binary, to the canonical text of its circuit, as `aiger aigtoaig`. The same input
+ * and options always make the same bytes. Pass a likely size first: to ask for the length takes a whole conversion.
+ */
+uint32_t aigtools_convert(uint32_t options, uint32_t max_var, const uint8_t *input, size_t input_length,
+                          uint8_t *output, size_t output_length, aigtools_outcome *outcome);
+
+/* Unrolls the circuit of an AIGER file over so many frames, from 1 to 1000000, as `aiger aigunroll`. */
+uint32_t aigtools_unroll(uint32_t options, uint32_t frames, uint32_t max_var,
+                         const uint8_t *input, size_t input_length,
+                         uint8_t *output, size_t output_length, aigtools_outcome *outcome);
+
+/*
+ * Simulates the circuit of an AIGER file over a stimulus, as `aiger aigsim --batch`. The text is the trace, or, with
+ * AIGTOOLS_VCD, its waveform (a Value Change Dump). A bad line of the stimulus leaves no text.
+ */
+uint32_t aigtools_simulate(uint32_t options, uint32_t max_var, const uint8_t *model, size_t model_length,
+                           const uint8_t *stimulus, size_t stimulus_length,
+                           uint8_t *output, size_t output_length, aigtools_outcome *outcome);
+
+/*
+ * Judges a witness file for the circuit of an AIGER file, as `aiger aigsim --witness`: AIGTOOLS_DONE, and
+ * outcome->number is the first step that shows the bad state, or AIGTOOLS_NOT_CONFIRMED.
+ */
+uint32_t aigtools_witness(uint32_t max_var, const uint8_t *model, size_t model_length,
+                          const uint8_t *witness, size_t witness_length, aigtools_outcome *outcome);
+
+/*
+ * The same, and the text is the waveform of the run that the witness file claims, as `aiger aigsim --witness --vcd`.
+ * Its first line has the verdict, too. With AIGTOOLS_DONE and with AIGTOOLS_NOT_CONFIRMED the text was written, and
+ * outcome->length says how long it is. AIGTOOLS_TOO_SHORT tells no verdict.
+ */
+uint32_t aigtools_dump(uint32_t max_var, const uint8_t *model, size_t model_length,
+                       const uint8_t *witness, size_t witness_length,
+                       uint8_t *output, size_t output_length, aigtools_outcome *outcome);
+
+/*
+ * Puts the words for an outcome into the output, as the program reports it, without a file's name or a line feed:
+ * "line 3: bad line". Returns how many bytes they have, at most 80; with less room nothing is written. It is 0 where
+ * the status tells of no fault, or memory is refused.
+ */
+size_t aigtools_message(const aigtools_outcome *outcome, uint8_t *output, size_t output_length);
+
+/* The version of the library. */
+uint32_t aigtools_version(void);
+
+#ifdef __cplusplus
+}
+#endif
+
+#endif

@@ -1,0 +1,317 @@
+"""AIGER files converted, unrolled and simulated, and witnesses judged, by libaigtools.
+
+The functions take and give bytes, and are those of the program ``aiger``: docs/FORMAT.md says what each text is. The
+library is the one that the variable LIBAIGTOOLS names; or that beside this file or in the folder ``lib`` that holds it;
+or, in a clone of the repository, the released one; or that of the system. Calls may run in several threads at once.
+
+>>> and_gate = b"aag 3 2 0 1 1\\n2\\n4\\n6\\n6 4 2\\n"
+>>> image = convert(and_gate, keep_map=True)
+>>> image[:14]
+b'aig 3 2 0 1 1\\n'
+>>> convert(image, ascii=True, undo_map=True) == and_gate
+True
+>>> simulate(and_gate, b"01\\n1x\\n")
+b' 01 0 \\n 1x x \\n.\\n'
+>>> try:
+...     convert(b"aag 1 1 0 0 0\\n3\\n")
+... except Refused as refused:
+...     print(refused.kind.name, refused.line, refused)
+NOT_VARIABLE 2 line 2: not a variable
+"""
+
+import ctypes
+import enum
+import gzip
+import operator
+import os
+from pathlib import Path
+from typing import Any, Callable, Optional, Tuple, Union
+
+__all__ = ["LARGEST", "Kind", "Refused", "confirm", "convert", "dump", "simulate", "unroll", "version"]
+
+Data = Union[bytes, bytearray, memoryview]
+
+#: The largest ``max_var``, and the one that is taken where none is given.
+LARGEST = 2147483647
+
+#: The most ``frames``.
+MOST_FRAMES = 1000000
+
+
+class Kind(enum.IntEnum):
+    """What is wrong with an input. docs/FORMAT.md says when each comes."""
+
+    NOT_AIGER = 1
+    BAD_HEADER = 2
+    TOO_LARGE = 3
+    BAD_LINE = 4
+    NOT_VARIABLE = 5
+    LITERAL_RANGE = 6
+    BAD_RESET = 7
+    TRUNCATED = 8
+    BAD_DELTA = 9
+    BAD_SYMBOL = 10
+    SYMBOL_RANGE = 11
+    SYMBOL_TWICE = 12
+    REDEFINED = 13
+    UNDEFINED = 14
+    CYCLIC = 15
+    NOT_ORDERED = 16
+    NO_MAP = 17
+    BAD_MAP_LINE = 18
+    MAP_MISMATCH = 19
+    MAP_FORGED = 20
+    NOT_UNROLLABLE = 21
+    TOO_LARGE_UNROLLED = 22
+    BAD_STIMULUS = 23
+    BAD_WITNESS = 24
+
+
+class Refused(ValueError):
+    """An input is refused. ``str`` of it is what the program says.
+
+    kind      what is wrong
+    line      the line, counted from 1, where it is wrong in one; for BAD_MAP_LINE a line of the map
+    gate      the gate of a binary file, counted from 1, where it is wrong in one
+    subject   the variable or the literal that the fault names, or 0
+    """
+
+    def __init__(self, message: str, kind: Kind, line: Optional[int], gate: Optional[int], subject: int) -> None:
+        super().__init__(message)
+        self.message = message
+        self.kind = kind
+        self.line = line
+        self.gate = gate
+        self.subject = subject
+
+
+class _Outcome(ctypes.Structure):
+    _fields_ = [(name, ctypes.c_uint32) for name in ("status", "kind", "place", "subject")] + [
+        (name, ctypes.c_uint64) for name in ("number", "length")
+    ]
+
+
+_DONE, _TOO_SHORT, _REFUSED, _OUT_OF_MEMORY, _BAD_OPTIONS, _NOT_CONFIRMED = range(6)
+_WHOLE, _LINE, _GATE, _MAP_LINE = range(4)
+_ASCII, _STRIP, _KEEP_MAP, _UNDO_MAP, _PROPERTIES, _VCD = 1, 2, 4, 8, 16, 32
+
+
+_NAME = "libaigtools.so.1"
+
+
+def _unpacked(packed: Path) -> ctypes.CDLL:
+    """The released library of a clone, in memory: no file is left behind."""
+    held = os.memfd_create(_NAME)
+    try:
+        with open(held, "wb", closefd=False) as file:
+            file.write(gzip.decompress(packed.read_bytes()))
+        return ctypes.CDLL(f"/proc/self/fd/{held}")
+    finally:
+        os.close(held)
+
+
+def _place() -> str:
+    """Where the library lies as a file, or its name, for the system to find."""
+    here = Path(__file__).resolve().parent
+    for folder in (here, *here.parents):
+        if folder in (here, folder.parent / "lib") and (folder / _NAME).exists():
+            return str(folder / _NAME)
+    return _NAME
+
+
+def _opened() -> ctypes.CDLL:
+    named = os.environ.get("LIBAIGTOOLS") or _place()
+    packed = Path(__file__).resolve().parents[1] / "release" / f"{_NAME}.gz"
+    try:
+        return _unpacked(packed) if named == _NAME and packed.exists() else ctypes.CDLL(named)
+    except (OSError, EOFError) as why:
+        raise ImportError(f"{why}; release/install of the repository installs {_NAME}") from why
+
+
+def _load() -> ctypes.CDLL:
+    library = _opened()
+    number, text, size = ctypes.c_uint32, (ctypes.c_char_p, ctypes.c_size_t), ctypes.c_size_t
+    room, outcome = (ctypes.c_void_p, ctypes.c_size_t), ctypes.POINTER(_Outcome)
+    for name, arguments, result in (
+        ("aigtools_convert", (number, number, *text, *room, outcome), number),
+        ("aigtools_unroll", (number, number, number, *text, *room, outcome), number),
+        ("aigtools_simulate", (number, number, *text, *text, *room, outcome), number),
+        ("aigtools_witness", (number, *text, *text, outcome), number),
+        ("aigtools_dump", (number, *text, *text, *room, outcome), number),
+        ("aigtools_message", (outcome, *room), size),
+        ("aigtools_version", (), number),
+    ):
+        function = getattr(library, name)
+        function.argtypes, function.restype = arguments, result
+    return library
+
+
+_library = _load()
+
+
+def _raise(outcome: _Outcome) -> None:
+    if outcome.status == _OUT_OF_MEMORY:
+        raise MemoryError
+    if outcome.status == _BAD_OPTIONS:
+        raise ValueError(f"an option that libaigtools {version()} does not know")
+    room = ctypes.create_string_buffer(80)
+    length = _library.aigtools_message(outcome, room, len(room))
+    words = room.raw[:length].decode()
+    line = outcome.number if outcome.place in (_LINE, _MAP_LINE) else None
+    gate = outcome.number if outcome.place == _GATE else None
+    raise Refused(words, Kind(outcome.kind), line, gate, outcome.subject)
+
+
+def _made(room: int, call: Callable[[int, int, _Outcome], int]) -> Tuple[bytes, _Outcome]:
+    """The text that a call makes, and its outcome. It is called again where a first guess of its length is short."""
+    outcome = _Outcome()
+    while True:
+        output = bytearray(room)
+        status = call(ctypes.addressof(ctypes.c_char.from_buffer(output)), room, outcome)
+        if status in (_DONE, _NOT_CONFIRMED):
+            return bytes(memoryview(output)[: outcome.length]), outcome
+        if status != _TOO_SHORT:
+            _raise(outcome)
+        room = outcome.length
+
+
+def _step(outcome: _Outcome) -> Optional[int]:
+    """The verdict of an outcome."""
+    return outcome.number if outcome.status == _DONE else None
+
+
+def _bytes(data: Data) -> bytes:
+    """The bytes of what has bytes; anything else is a TypeError."""
+    return data if isinstance(data, bytes) else bytes(memoryview(data))
+
+
+def _number(name: str, value: int, least: int = 0, most: int = LARGEST) -> int:
+    if not least <= operator.index(value) <= most:
+        raise ValueError(f"{name} is not from {least} to {most}: {value}")
+    return value
+
+
+def _options(*given: Tuple[Any, int]) -> int:
+    """The options that are given, a bit each."""
+    return sum(bit for value, bit in given if value)
+
+
+def _excludes(name: str, **others: Any) -> None:
+    """Refuses an option beside the others that it excludes."""
+    for other, value in others.items():
+        if value:
+            raise ValueError(f"{name} excludes {other}")
+
+
+def convert(
+    data: Data,
+    *,
+    ascii: bool = False,
+    strip: bool = False,
+    keep_map: bool = False,
+    undo_map: bool = False,
+    max_var: int = LARGEST,
+) -> bytes:
+    """The canonical text of the circuit of an AIGER file, as ``aiger aigtoaig`` writes it.
+
+    ascii      write ASCII, and not binary
+    strip      leave out symbols and comment
+    keep_map   begin the comment with a map, by which the conversion can be undone; with no other option
+    undo_map   undo a conversion by the map of its image
+    max_var    refuse a file with a larger index, or with more of a kind
+    """
+    data = _bytes(data)
+    if keep_map:
+        _excludes("keep_map", ascii=ascii, strip=strip, undo_map=undo_map)
+    options = _options((ascii, _ASCII), (strip, _STRIP), (keep_map, _KEEP_MAP), (undo_map, _UNDO_MAP))
+    limit = _number("max_var", max_var)
+    return _made(
+        (4 if ascii else 2) * len(data) + 64,
+        lambda output, room, outcome: _library.aigtools_convert(
+            options, limit, data, len(data), output, room, outcome
+        ),
+    )[0]
+
+
+def unroll(data: Data, frames: int, *, ascii: bool = False, max_var: int = LARGEST) -> bytes:
+    """The circuit of an AIGER file unrolled over 1 to 1000000 frames, as ``aiger aigunroll`` writes it.
+
+    >>> unroll(b"aag 1 0 1 1 0\\n2 3\\n2\\n", 2, ascii=True)
+    b'aag 0 0 0 2 0\\n0\\n1\\n'
+    """
+    data = _bytes(data)
+    options, limit = _options((ascii, _ASCII)), _number("max_var", max_var)
+    count = _number("frames", frames, 1, MOST_FRAMES)
+    return _made(
+        min(count, 64) * (4 if ascii else 2) * len(data) + 64,
+        lambda output, room, outcome: _library.aigtools_unroll(
+            options, count, limit, data, len(data), output, room, outcome
+        ),
+    )[0]
+
+
+def simulate(
+    model: Data, stimulus: Data, *, properties: bool = False, vcd: bool = False, max_var: int = LARGEST
+) -> bytes:
+    """The trace of a stimulus, as ``aiger aigsim --batch`` writes it.
+
+    properties   show bad states and constraints too
+    vcd          write the trace as a waveform (Value Change Dump), with them; without properties
+
+    >>> simulate(b"aag 1 1 0 1 0\\n2\\n3\\n", b"0\\n1\\n", vcd=True).splitlines()[-9:]
+    [b'0i0', b'1o0', b'#1', b'1i0', b'0o0', b'#2', b'zi0', b'zo0', b'#3']
+    """
+    model, stimulus = _bytes(model), _bytes(stimulus)
+    if vcd:
+        _excludes("vcd", properties=properties)
+    options, limit = _options((properties, _PROPERTIES), (vcd, _VCD)), _number("max_var", max_var)
+    return _made(
+        _room_of_dump(model, stimulus) if vcd else 2 * len(stimulus) + 64,
+        lambda output, room, outcome: _library.aigtools_simulate(
+            options, limit, model, len(model), stimulus, len(stimulus), output, room, outcome
+        ),
+    )[0]
+
+
+def _room_of_dump(model: bytes, steps: bytes) -> int:
+    """A guess of how long a waveform is."""
+    return 8 * len(steps) + len(model) + 512
+
+
+def confirm(model: Data, witness: Data, *, max_var: int = LARGEST) -> Optional[int]:
+    """The first step, counted from 0, at which a witness shows the bad state that it claims, or None.
+
+    >>> confirm(b"aag 1 0 1 0 0 1\\n2 3\\n2\\n", b"1\\nb0\\n0\\n\\n\\n.\\n")
+    1
+    """
+    model, witness = _bytes(model), _bytes(witness)
+    outcome = _Outcome()
+    limit = _number("max_var", max_var)
+    status = _library.aigtools_witness(limit, model, len(model), witness, len(witness), outcome)
+    if status not in (_DONE, _NOT_CONFIRMED):
+        _raise(outcome)
+    return _step(outcome)
+
+
+def dump(model: Data, witness: Data, *, max_var: int = LARGEST) -> Tuple[Optional[int], bytes]:
+    """What ``confirm`` answers, and the waveform of the run, as ``aiger aigsim --witness --vcd`` writes it.
+
+    >>> step, text = dump(b"aag 1 0 1 0 0 1\\n2 3\\n2\\n", b"1\\nb0\\n0\\n\\n\\n.\\n")
+    >>> step, text.splitlines()[0]
+    (1, b'$comment confirmed 1 $end')
+    """
+    model, witness = _bytes(model), _bytes(witness)
+    limit = _number("max_var", max_var)
+    text, outcome = _made(
+        _room_of_dump(model, witness),
+        lambda output, room, outcome: _library.aigtools_dump(
+            limit, model, len(model), witness, len(witness), output, room, outcome
+        ),
+    )
+    return _step(outcome), text
+
+
+def version() -> str:
+    """The version of the library."""
+    number = _library.aigtools_version()
+    return f"{number >> 16}.{number >> 8 & 255}.{number & 255}"
