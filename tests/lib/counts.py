@@ -1,4 +1,5 @@
 """How each program in tests/run ends, so that ./test can add it up."""
+import os
 import sys
 
 SHOWN = 5
@@ -17,3 +18,10 @@ def need(found, name):
     """Ends the program where nothing has the name that was asked for in its own."""
     if not found:
         finish([f"{name}: wanted rows with this in their names; came none"], 0)
+
+
+def need_program(path):
+    """The whole path of the program that is tried, which must be there."""
+    if not os.access(path, os.X_OK):
+        finish([f"wanted an executable file {path}; came none"], 0)
+    return os.path.abspath(path)

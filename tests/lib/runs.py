@@ -63,6 +63,7 @@ def judge_rows(judged, program, name=""):
     fail_call.c was compiled to, of a folder and of the row's number, which gives how often what came, and what was
     wrong. Prints the sums."""
     total, wrong = collections.Counter(), []
+    program = counts.need_program(program)
     numbers = [number for number, row in enumerate(small.ROWS) if name in row.name]
     counts.need(numbers, name)
     pools = concurrent.futures.ProcessPoolExecutor(os.cpu_count())
@@ -73,7 +74,7 @@ def judge_rows(judged, program, name=""):
         preload = f"{compiled}/fail_call.so"
         if not os.path.exists(preload):
             counts.finish([f"tests/preload/fail_call.c compiles: {said}"], 0)
-        asked = [pool.submit(judged, os.path.abspath(program), preload, under, number) for number in numbers]
+        asked = [pool.submit(judged, program, preload, under, number) for number in numbers]
         for came, said in (it.result() for it in asked):
             total += came
             wrong += said

@@ -7,7 +7,6 @@ out here, value by value, from the circuit's own equations.
 """
 import random
 import subprocess
-import sys
 from pathlib import Path
 
 from lib import images
@@ -95,7 +94,7 @@ def ran(program, text, *words):
 def converted(program, text, *words):
     output, errors, status = ran(program, text, "aigtoaig", *words)
     if (errors, status) != (b"", 0):
-        sys.exit(f"{words} does not take {text!r}: {errors!r}")
+        raise ValueError(f"{words} does not take {text!r}: {errors!r}")
     return output
 
 

@@ -29,12 +29,20 @@ def cases(program, folder, kinds, number):
                 yield f"{kind} {at}", *case
 
 
+def why_wrong(case):
+    """What is wrong with a case, if anything is; that it has no answer at all is."""
+    try:
+        return case.result()
+    except Exception as why:
+        return repr(why)
+
+
 def main(program, kind=None, number=None):
     kinds, skipped = [it for it in KINDS if kind in (None, it)], 0
-    program, number = os.path.abspath(program), None if number is None else int(number)
+    program, number = counts.need_program(program), None if number is None else int(number)
     with tempfile.TemporaryDirectory() as folder, concurrent.futures.ProcessPoolExecutor(os.cpu_count()) as pool:
         asked = [(name, pool.submit(*case)) for name, *case in cases(program, folder, kinds, number)]
-        said = [(name, it.result()) for name, it in asked]
+        said = [(name, why_wrong(it)) for name, it in asked]
     counts.need(said, kind if number is None else f"{kind} {number}")
     for count, reason in waves.left_out() if "waves" in kinds and number is None else ():
         skipped += count

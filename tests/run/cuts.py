@@ -156,7 +156,7 @@ def tasks():
 
 
 def main(program, name=""):
-    program, total, wrong = os.path.abspath(program), collections.Counter(), []
+    program, total, wrong = counts.need_program(program), collections.Counter(), []
     with runs.folder() as under, concurrent.futures.ProcessPoolExecutor(os.cpu_count()) as pool:
         asked = []
         for file, *task in [it for it in tasks() if name in it[0]]:

@@ -41,7 +41,7 @@ def printed(program, words):
     script = "\n".join(f"{command}\nprintf '\\0'" for command in words)
     with tempfile.TemporaryDirectory() as room:
         shutil.copytree(TOP / "examples", Path(room) / "examples")
-        (Path(room) / "aiger").symlink_to(Path(program).resolve())
+        (Path(room) / "aiger").symlink_to(program)
         path = {**os.environ, "PATH": f"{room}:{os.environ['PATH']}"}
         how = {"cwd": room, "env": path, "stdout": subprocess.PIPE, "stderr": subprocess.STDOUT, "text": True}
         return subprocess.run(["bash", "-c", script], check=False, **how).stdout.split("\0")
@@ -62,6 +62,7 @@ def judged(program, page):
 
 
 def main(program, *pages):
+    program = counts.need_program(program)
     said = [it for page in pages or PAGES for it in judged(program, page)]
     wrong = [it for it in said if it]
     counts.finish(wrong, len(said) - len(wrong))

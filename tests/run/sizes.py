@@ -262,7 +262,7 @@ def main(program, name=""):
     _, most = resource.getrlimit(resource.RLIMIT_AS)
     # the limit is that of this process, and each run has it from here
     resource.setrlimit(resource.RLIMIT_AS, (MEMORY if most == resource.RLIM_INFINITY else min(most, MEMORY), most))
-    room, asked = Room(os.path.abspath(program)), [it for it in JUDGES if name in it.__name__]
+    room, asked = Room(counts.need_program(program)), [it for it in JUDGES if name in it.__name__]
     counts.need(asked, name)
     for judge in asked:
         with tempfile.TemporaryDirectory() as folder:

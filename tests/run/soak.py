@@ -20,7 +20,6 @@ import argparse
 import collections
 import concurrent.futures
 import itertools
-import os
 import random
 import resource
 import shlex
@@ -33,7 +32,7 @@ from pathlib import Path
 
 sys.dont_write_bytecode = True
 sys.path[0] = str(Path(__file__).resolve().parent.parent)
-from lib import refusals
+from lib import counts, refusals
 from lib.soak.calls import Failed, Round
 from lib.soak.rounds import KINDS
 
@@ -144,20 +143,17 @@ def main():
     # the limit is that of this process, and each run has it from here
     resource.setrlimit(resource.RLIMIT_AS, (memory, most))
     seed = asked.seed or str(random.SystemRandom().randrange(10**9))
-    program = str(Path(asked.program).resolve())
-    if not os.access(program, os.X_OK):
-        print(f"FAILED wanted an executable file {program}; came none\n0 passed, 1 failed")
-        sys.exit(1)
+    program = counts.need_program(asked.program)
     numbers = itertools.count() if asked.round is None else iter([asked.round])
     passed, total, wrong = soak(program, seed, numbers, asked.seconds)
     tell(total)
+    said = []
     if wrong:
         number, (failed, text) = wrong
         again = f"tests/run/soak.py {shlex.quote(asked.program)} --seed {shlex.quote(seed)} --round {number}"
         folder = keep(program, failed, text, asked.keep, again)
-        print(f"FAILED round {number}: {failed.what}; see {folder}\n    again: {again}")
-    print(f"{passed} passed, {int(wrong is not None)} failed")
-    sys.exit(wrong is not None)
+        said = [f"round {number}: {failed.what}; see {folder}\n    again: {again}"]
+    counts.finish(said, passed)
 
 
 if __name__ == "__main__":

@@ -46,12 +46,12 @@ def time_of(program, words, given, output):
     actions.append((os.POSIX_SPAWN_OPEN, 1, output, os.O_WRONLY | os.O_CREAT | os.O_TRUNC, 0o600))
     _, ended, used = os.wait4(os.posix_spawn(program, [program, *words], {}, file_actions=actions), 0)
     if ended:
-        sys.exit(f"{words} of {given} ended with {ended}")
+        counts.finish([f"{words} of {given} ended with {ended}"], 0)
     return used.ru_utime + used.ru_stime
 
 
 def main(program):
-    program, wrong, passed = os.path.abspath(program), [], 0
+    program, wrong, passed = counts.need_program(program), [], 0
     lines = list(generate.gates(GATES, times=generate.LARGEST))
     shuffled = lines[:-GATES] + random.Random(1).sample(lines[-GATES:], GATES)
     with tempfile.TemporaryDirectory() as folder:

@@ -57,6 +57,7 @@ def made_places():
 
 
 def main(program):
+    program = counts.need_program(program)
     wanted = found(r"^## \[(\d[^]]*)\]", read("CHANGELOG.md"))
     those, left_out = list(places(program)), []
     if said(["bash", "-c", SUM, "bash", TOP]).strip() == found(r"^sources (.*)$", read("release/MANIFEST")):
