@@ -38,16 +38,17 @@ def why_wrong(case):
 
 
 def main(program, kind=None, number=None):
-    kinds, skipped = [it for it in KINDS if kind in (None, it)], 0
+    kinds = [it for it in KINDS if kind in (None, it)]
     program, number = counts.need_program(program), None if number is None else int(number)
     with tempfile.TemporaryDirectory() as folder, concurrent.futures.ProcessPoolExecutor(os.cpu_count()) as pool:
         asked = [(name, pool.submit(*case)) for name, *case in cases(program, folder, kinds, number)]
         said = [(name, why_wrong(it)) for name, it in asked]
     counts.need(said, kind if number is None else f"{kind} {number}")
-    for count, reason in waves.left_out() if "waves" in kinds and number is None else ():
-        skipped += count
+    left_out = list(waves.left_out()) if "waves" in kinds and number is None else []
+    for count, reason in left_out:
         print(f"SKIPPED {count}: {reason}")
-    counts.finish([f"{name}: {why}" for name, why in said if why], sum(not why for _, why in said), skipped)
+    wrong = [f"{name}: {why}" for name, why in said if why]
+    counts.finish(wrong, len(said) - len(wrong), sum(count for count, _ in left_out))
 
 
 if __name__ == "__main__":
