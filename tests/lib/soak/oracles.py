@@ -1,0 +1,196 @@
+"""What holds of the answers about a text that is accepted."""
+import dataclasses
+import itertools
+
+from lib import images, refusals, traces, unrolled, waves, witnesses
+from lib.soak.calls import Call, Failed
+from lib.soak.editors import edited
+from lib.soak.generators import parsed, simulation, some_rows, stimulus
+
+# of circuits with more inputs only conversions are looked at
+MANY_INPUTS = 3000
+
+
+def relations(here, text):
+    """All that must hold between the answers about an accepted text."""
+    canonical, image, mapped = there_and_back(here, text)
+    made, end = parsed(canonical)
+    spelled = images.ascii_text(made) + end
+    if spelled != canonical:
+        raise Failed("ASCII output is canonical", Call(["aigtoaig", "--ascii"], text), spelled, canonical)
+    bodies = [whole[: len(whole) - len(end)] for whole in (canonical, image)]
+    here.converts("without symbols and comment the rest is the same", bodies[0], text, "--strip", "--ascii")
+    here.converts("without symbols and comment the image is the same", bodies[1], text, "--strip")
+    by_name(here, text, canonical, image)
+    limited(here, text, canonical, made)
+    undone(here, text, image)
+    if len(made.inputs) > MANY_INPUTS:
+        return
+    models = [text, image, mapped, canonical]
+    traces_alike(here, models, made, waves.names_of(end))
+    unrolled_alike(here, models, made)
+    witnesses_alike(here, models, made)
+
+
+def there_and_back(here, text):
+    """The canonical ASCII text, the image and the mapped image, once they were seen to come back."""
+    canonical, image = here.converted(text, "--ascii"), here.converted(text)
+    mapped = here.converted(text, "--keep-map")
+    here.converts("ASCII output is a fixed point", canonical, canonical, "--ascii")
+    here.converts("a text and its ASCII output have one image", image, canonical)
+    here.converts("an image is its own image", image, image)
+    here.converts("an image survives the trip through ASCII", image, here.converted(image, "--ascii"))
+    here.converts("a text and its ASCII output have one mapped image", mapped, canonical, "--keep-map")
+    here.converts("what has a map is undone", canonical, mapped, "--undo-map", "--ascii")
+    here.converts("what is undone to binary is the image", image, mapped, "--undo-map")
+    as_text = here.converted(mapped, "--ascii")
+    here.converts("what has a map is undone from ASCII too", canonical, as_text, "--undo-map", "--ascii")
+    return canonical, image, mapped
+
+
+def by_name(here, text, canonical, image):
+    """Files with names get what streams get, also where the destination is there, or is the source."""
+    for name, wanted in (("out.aag", canonical), ("out.aig", image), ("source", image)):
+        before = {name: b"there before, and longer" * 50} if here.chance.randrange(2) else {}
+        call = Call(["aigtoaig", "source", name], b"", {**before, "source": text})
+        here.expect("a file with a name is converted", call, b"")
+        if here.left(name) != wanted:
+            raise Failed(f"the file {name} has what a stream gets", call, wanted, here.left(name))
+    here.expect("names of streams", Call(["aigtoaig", "--ascii", "-", "-"], text), canonical)
+
+
+def limited(here, text, canonical, made):
+    """The largest number of a header is a limit that is kept, and one less is not."""
+    largest = max([*map(int, canonical.split(b"\n", 1)[0].split()[1:]), sum(map(len, made.justice))])
+    here.converts("a limit that is kept", canonical, text, "--ascii", "--max-var", str(largest))
+    if largest:
+        call = Call(["aigtoaig", f"--max-var={largest - 1}"], text)
+        came = here.ask(call)
+        if came[2] != 1 or not came[1].endswith(b": number above the limit\n"):
+            raise Failed("a limit that is not kept", call, "number above the limit", came)
+
+
+def undone(here, text, image):
+    """If the text itself is undone, it is the mapped image of what comes of it; or it is refused for its map."""
+    call = Call(["aigtoaig", "--undo-map", "--ascii"], text)
+    came = here.ask(call)
+    if came[2] == 0:
+        here.converts("what is undone was converted so", image, came[0], "--keep-map")
+    elif refusals.kind_of(came[1]) not in refusals.OF_MAPS:
+        raise Failed("what is accepted is refused for its map alone", call, refusals.OF_MAPS, came)
+
+
+def trace_of(made, given):
+    """The texts of the trace without and with properties, and the number of the first bad line, if there is one."""
+    return traces.texts(made, witnesses.lines_of(given.decode("latin-1")))
+
+
+def wanted_trace(made, names, name, given, words):
+    """Standard output, standard error and the status of a simulation with these words, over a stimulus of this name, of a
+    circuit with these names."""
+    if "--vcd" in words:
+        return waves.wanted(made, names, name, witnesses.lines_of(given.decode("latin-1")), "--batch" in words)
+    texts, bad_at = trace_of(made, given)
+    errors = f"aiger: {name}: line {bad_at}: bad stimulus line\n".encode() if bad_at else b""
+    output = b"" if bad_at and "--batch" in words else texts["--properties" in words]
+    return output, errors, 1 if bad_at else 0
+
+
+def same_trace(here, models, made, names, given):
+    """The models have the trace that is evaluated here, without and with properties, and as a dump, also as a batch."""
+    for model, batch, shown in itertools.product(models, ([], ["--batch"]), ([], ["--properties"], ["--vcd"])):
+        call, name = simulation(here.chance, model, given, *batch, *shown)
+        here.expect("the trace", call, *wanted_trace(made, names, name, given, call.words))
+
+
+def program_trace(here, model, rows):
+    """The lines of the program's trace of these steps, with properties, without the end of the run."""
+    call, _ = simulation(here.chance, model, "".join(f"{row}\n" for row in rows).encode(), "--properties")
+    came = here.ask(call)
+    *lines, end, rest = came[0].decode().split("\n") if rows else ["", ".", ""][1:]
+    if came[1:] != (b"", 0) or len(lines) != len(rows) or (end, rest) != (".", ""):
+        raise Failed("a step has a line, and the run an end", call, f"{len(rows)} lines and a dot", came)
+    return lines
+
+
+def traces_alike(here, models, made, names):
+    """One trace of all models; and what is known stays so, whatever each x stands for."""
+    chance = here.chance
+    same_trace(here, models, made, names, stimulus(chance, made))
+    rows = some_rows(chance, made, 6)
+    settled = ["".join(chance.choice("01") if it == "x" else it for it in row) for row in rows]
+    model = chance.choice(models)
+    before = program_trace(here, model, rows)
+    for old, new in zip(before, program_trace(here, model, settled)):
+        if len(old) != len(new) or any(was not in ("x", now) for was, now in zip(old, new)):
+            call, _ = simulation(chance, model, "".join(f"{row}\n" for row in settled).encode(), "--properties")
+            raise Failed("what is known stays, whatever x stands for", call, f"{old} but for x, of {rows}", new)
+
+
+def unrolled_alike(here, models, made):
+    """The unrolled circuit is one, and its row is the trace; it is refused if there is justice or fairness."""
+    chance = here.chance
+    frames = str(chance.randrange(1, unrolled.FRAMES + 1 if len(made.gates) < 50 else 3))
+    words = ["aigunroll", "--frames", frames]
+    if made.justice or made.fairness:
+        refusal = b"aiger: -: justice or fairness cannot be unrolled\n"
+        for model in models[:2]:
+            here.expect("liveness is not unrolled", Call(words, model), b"", refusal, 1)
+        made = dataclasses.replace(made, justice=[], fairness=[])
+        text = images.ascii_text(made)
+        models = [text, here.converted(text)]
+    text, binary = here.accepted(models[0], *words, "--ascii"), here.accepted(models[0], *words)
+    here.expect("the image is unrolled as the source", Call(words, models[1]), binary)
+    here.converts("unrolled, ASCII and binary are one circuit", text, binary, "--ascii")
+    here.converts("unrolled, binary and ASCII are one circuit", binary, text)
+    call = Call([*words, "source", "out.aag"], b"", {"source": models[0]})
+    here.expect("a file with a name is unrolled", call, b"")
+    if here.left("out.aag") != text:
+        raise Failed("the file has what a stream gets", call, text, here.left("out.aag"))
+    given, wanted = unrolled.lines_of_steps(chance, made, int(frames))
+    here.expect("the unrolled row", simulation(chance, text, given, "--properties")[0], wanted)
+    here.expect("the unrolled row, from binary", simulation(chance, binary, given, "--properties")[0], wanted)
+    unrolled_trace(here, models[0], made, text, int(frames))
+
+
+def unrolled_trace(here, model, made, text, frames):
+    """The row of the unrolled circuit, where first values are not known, is the program's own trace side by side."""
+    rows = (some_rows(here.chance, made, 1) * frames)[:frames]
+    rows = [here.chance.choice([row, "0" * len(row), "1" * len(row), "x" * len(row)]) for row in rows]
+    first = "x" * len(unrolled.free_latches(made))
+    wanted = f"{unrolled.side_by_side(first, program_trace(here, model, rows))}.\n".encode()
+    call, _ = simulation(here.chance, text, f"{first}{''.join(rows)}\n".encode(), "--properties")
+    here.expect("the unrolled row is the trace", call, wanted)
+
+
+def same_answer(here, models, made, text):
+    """The models have the answer to a witness that is worked out here."""
+    for model in models:
+        call, name = simulation(here.chance, model, text, "--witness")
+        here.expect("the answer to a witness", call, *witnesses.wanted(made, name, text.decode("latin-1")))
+
+
+def answer_of_trace(lines, position):
+    """What the lines of a trace with properties say to a witness of its steps."""
+    for number, line in enumerate(lines):
+        *_, bad, constraints = line.split(" ")
+        if set(constraints) - {"1"}:
+            break
+        if bad[position] == "1":
+            return f"confirmed {number}\n".encode(), b"", 0
+    return b"not confirmed\n", b"", 1
+
+
+def witnesses_alike(here, models, made):
+    """A witness is confirmed exactly where the program's own trace says so, for all models; what any other one is
+    answered is the plain evaluation's answer."""
+    chance = here.chance
+    same_answer(here, models[:2], made, witnesses.given(chance, made).encode())
+    if not made.bad:
+        return
+    rows, position = some_rows(chance, made, 8), chance.randrange(len(made.bad))
+    wanted = answer_of_trace(program_trace(here, models[0], rows), position)
+    text = "".join(f"{line}\n" for line in ["1", f"b{position}", "".join(made.resets), *rows, "."]).encode()
+    for model in models:
+        here.expect("the answer that the trace gives", simulation(chance, model, text, "--witness")[0], *wanted)
+    same_answer(here, models[2:], made, edited(chance, text, text))

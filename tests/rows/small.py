@@ -1,0 +1,108 @@
+"""The rows of the hostile programs: small circuits, and what each tool makes of them.
+
+Each answer was worked out by hand from docs/FORMAT.md. Between them the circuits have each section of a file,
+resets of each kind, symbols of each kind, and comments.
+"""
+import dataclasses
+
+HALF = b"aag 7 2 0 2 3\n2\n4\n6\n12\n6 13 15\n12 2 4\n14 3 5\ni0 x\ni1 y\no0 s\no1 c\nc\nhalf adder\n"
+HALF_GATES = b"aig 5 2 0 2 3\n10\n6\n\x02\x02\x03\x02\x01\x02"
+HALF_NAMES = b"i0 x\ni1 y\no0 s\no1 c\nc\n"
+HALF_IMAGE = HALF_GATES + HALF_NAMES + b"half adder\n"
+HALF_BLOCK = b"aigmap 1 7 2 0 3 1\n1\n2\n3 2 1\n6 0 1\n7 1 1\naigmap end\n"
+HALF_MAPPED = HALF_GATES + HALF_NAMES + HALF_BLOCK + b"half adder\n"
+SUMS = b" 01 10 \n 11 01 \n.\n 10 10 \n x0 x0 \n" * 6 + b".\n"
+EQUAL = b"aag 2 1 0 1 1\n2\n4\n4 2 2\n"
+EQUAL_IMAGE = b"aig 2 1 0 1 1\n4\n\x02\x00"
+EQUAL_MAPPED = EQUAL_IMAGE + b"c\naigmap 1 2 1 0 1 0\n1\n2 0 0\naigmap end\n"
+TOGGLE = b"aag 1 0 1 2 0\n2 3\n2\n3\n"
+HELD = b"aag 3 1 1 1 1\n2\n4 6\n6\n6 2 5\n"
+HELD_IMAGE = b"aig 3 1 1 1 1\n6\n6\n\x01\x03"
+# the same with a CR in each line, and deltas that could be shorter
+HELD_PADDED = b"aig 3 1 1 1 1 \r\n6\r\n6 \r\n\x81\x80\x00\x83\x80\x80\x80\x00"
+HELD_TWICE = b"aag 4 2 0 2 2\n2\n4\n6\n8\n6 2 1\n8 7 4\n"
+HELD_TWICE_IMAGE = b"aig 4 2 0 2 2\n6\n8\n\x04\x01\x01\x03"
+# its first delta has two bytes
+FAR_IMAGE = b"aig 66 65 0 1 1\n132\n\x82\x01\x00i64 far\nc\n"
+FAR = b"aag 66 65 0 1 1\n%s132\n132 2 2\ni64 far\nc\n" % b"".join(b"%d\n" % it for it in range(2, 132, 2))
+BAD = b"aag 1 0 1 0 0 1\n2 3\n2\n"
+EVERY = b"aag 9 1 2 1 1 2 1 2 1\n18\n4 19 1\n14 4 14\n6\n14\n15\n7\n2\n1\n19\n4\n6\n5\n6 19 14\n"
+EVERY_NAMES = b"b1 a\nc0 b\nj0 c\nf0 d\no0 e\nl1 f\ni0 g\nc\n"
+EVERY_IMAGE = b"aig 4 1 2 1 1 2 1 2 1\n3 1\n4 6\n8\n6\n7\n9\n2\n1\n3\n4\n8\n5\n\x02\x03"
+EVERY_MAPPED = EVERY_IMAGE + EVERY_NAMES + b"aigmap 1 9 1 2 1 1\n9\n2\n7\n3 0 1\naigmap end\nx"
+
+DUMP = b"$version aiger $end\n$timescale 1 ns $end\n$scope module aiger $end\n$var integer 64 r run $end\n"
+TOGGLE_DUMP = (
+    DUMP + b"$scope module latches $end\n$var reg 1 l0 l0 $end\n$upscope $end\n"
+    b"$scope module outputs $end\n$var wire 1 o0 o0 $end\n$var wire 1 o1 o1 $end\n$upscope $end\n"
+    b"$upscope $end\n$enddefinitions $end\n"
+    b"#0\nb0 r\n0l0\n0o0\n1o1\n#1\n1l0\n1o0\n0o1\n#2\n0l0\n0o0\n1o1\n#3\n1l0\nzo0\nzo1\n#4\n"
+)
+EVERY_DUMP = (
+    DUMP + b"$scope module inputs $end\n$var wire 1 i0 g $end\n$upscope $end\n"
+    b"$scope module latches $end\n$var reg 1 l0 l0 $end\n$var reg 1 l1 f $end\n$upscope $end\n"
+    b"$scope module outputs $end\n$var wire 1 o0 e $end\n$upscope $end\n"
+    b"$scope module bad $end\n$var wire 1 b0 b0 $end\n$var wire 1 b1 a $end\n$upscope $end\n"
+    b"$scope module constraints $end\n$var wire 1 c0 b $end\n$upscope $end\n"
+    b"$upscope $end\n$enddefinitions $end\n"
+    b"#0\nb0 r\nzi0\n1l0\nxl1\nzo0\nzb0\nzb1\nzc0\n#1\nb1 r\n0i0\nxo0\nxb0\nxb1\nxc0\n"
+    b"#2\nzi0\n1l1\nzo0\nzb0\nzb1\nzc0\n#3\n"
+)
+BAD_RUN = (
+    b"$comment confirmed 1 $end\n" + DUMP + b"$scope module latches $end\n$var reg 1 l0 l0 $end\n$upscope $end\n"
+    b"$scope module bad $end\n$var wire 1 b0 b0 $end\n$upscope $end\n$upscope $end\n$enddefinitions $end\n"
+    b"#0\nb0 r\n0l0\n0b0\n#1\n1l0\n1b0\n#2\n0l0\nzb0\n#3\n"
+)
+
+
+@dataclasses.dataclass
+class Row:
+    """The words of a command line, its standard input, its output, and the file `model` or `steps` if it has one."""
+
+    name: str
+    words: str
+    given: bytes
+    output: bytes
+    files: dict = dataclasses.field(default_factory=dict)
+
+
+def simulated(name, words, model, steps, output):
+    """A simulation, once with the model and once with the stimulus or the witness by standard input."""
+    yield Row(name, f"aigsim {words} model", steps, output, {"model": model})
+    yield Row(f"{name}, the model by standard input", f"aigsim {words} - steps", model, output, {"steps": steps})
+
+
+ROWS = [
+    Row("a half adder to binary", "aigtoaig", HALF, HALF_IMAGE),
+    Row("a half adder to binary, stripped", "aigtoaig --strip", HALF, HALF_GATES),
+    Row("a half adder with its map", "aigtoaig --keep-map", HALF, HALF_MAPPED),
+    Row("a half adder by its map", "aigtoaig --undo-map --ascii", HALF_MAPPED, HALF),
+    Row("equal operands with their map", "aigtoaig --keep-map", EQUAL, EQUAL_MAPPED),
+    Row("equal operands by their map", "aigtoaig --undo-map --ascii", EQUAL_MAPPED, EQUAL),
+    *simulated("a toggle", "", TOGGLE, b"\n\n\n.\n", b"0  01 1\n1  10 0\n0  01 1\n.\n"),
+    *simulated("a latch and a gate", "", HELD, b"1\n1\n", b"0 1 1 1\n1 1 0 0\n.\n"),
+    *simulated("the dump of a toggle", "--vcd", TOGGLE, b"\n\n\n.\n", TOGGLE_DUMP),
+    Row("a latch and a gate, unrolled", "aigunroll --frames 2 --ascii", HELD, HELD_TWICE),
+    Row("a latch and a gate, unrolled to binary", "aigunroll --frames 2", HELD, HELD_TWICE_IMAGE),
+    Row("a latch and a gate to binary", "aigtoaig", HELD, HELD_IMAGE),
+    Row("a latch and a gate in padded deltas", "aigtoaig", HELD_PADDED, HELD_IMAGE),
+    Row("a gate far from its operand", "aigtoaig --ascii", FAR_IMAGE, FAR),
+    *simulated("two runs", "", HELD_IMAGE, b"1\n.\n1\n.\n", b"0 1 1 1\n.\n0 1 1 1\n.\n"),
+    *simulated("steps without latches", "", HALF, b"01\n11\n.\n10\nx0\n" * 6, SUMS),
+    *simulated("steps without latches in a batch", "--batch", HALF, b"01\n11\n.\n10\nx0\n" * 6, SUMS),
+    *simulated("two runs in a batch", "--batch", HELD_IMAGE, b"1\n.\n1\n.\n", b"0 1 1 1\n.\n0 1 1 1\n.\n"),
+    *simulated("a witness", "--witness", BAD, b"1\nb0\n0\n\n\n.\n", b"confirmed 1\n"),
+    *simulated("the dump of a witness", "--witness --vcd", BAD, b"1\nb0\n0\n\n\n.\n", BAD_RUN),
+    Row("every section", "aigtoaig --ascii", EVERY + EVERY_NAMES, EVERY + EVERY_NAMES),
+    Row("every section with its map", "aigtoaig --keep-map", EVERY + EVERY_NAMES + b"x", EVERY_MAPPED),
+    Row("every section by its map", "aigtoaig --undo-map --ascii", EVERY_MAPPED, EVERY + EVERY_NAMES + b"x"),
+    *simulated("every section simulated", "--properties", EVERY, b"0\n1\n", b"1x 0 x 11 xx x\n11 1 0 01 10 1\n.\n"),
+    *simulated("every section in a batch", "--batch --properties", EVERY_MAPPED, b".\n0\n", b".\n1x 0 x 11 xx x\n.\n"),
+    *simulated("the dump of every section, in a batch", "--batch --vcd", EVERY_MAPPED, b".\n0\n", EVERY_DUMP),
+    *simulated("every section and a witness", "--witness", EVERY, b"1\nb1\n1x\n1\n0\n.\n", b"not confirmed\n"),
+]
+
+
+def status_of(row):
+    """The status with which a row ends well."""
+    return 1 if b"not confirmed" in row.output else 0

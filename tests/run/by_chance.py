@@ -1,0 +1,55 @@
+#!/usr/bin/env python3
+"""Compares what the program makes of circuits, stimuli and witnesses made by chance with plain evaluations.
+
+    tests/run/by_chance.py PROGRAM [KIND [NUMBER]]     all of it, or one kind, or one circuit of it
+
+A kind is a module of tests/lib: see its head for what is compared. Its circuits have numbers from 0 on, and a circuit of
+one number is always the same one.
+
+The last line is 'N passed, M failed', with ', K skipped' behind it if something is not there that a kind compares with.
+"""
+import concurrent.futures
+import os
+import sys
+import tempfile
+from pathlib import Path
+
+sys.dont_write_bytecode = True
+sys.path[0] = str(Path(__file__).resolve().parent.parent)
+from lib import batches, counts, images, traces, unrolled, waves, witnesses
+
+KINDS = {it.__name__.rpartition(".")[2]: it for it in (images, traces, batches, unrolled, witnesses, waves)}
+
+
+def cases(program, folder, kinds, number):
+    """Each case that is asked for: its name, the function that judges it, and what that is called with."""
+    for kind in kinds:
+        for at, case in enumerate(KINDS[kind].cases(program, folder)):
+            if number in (None, at):
+                yield f"{kind} {at}", *case
+
+
+def why_wrong(case):
+    """What is wrong with a case, if anything is; that it has no answer at all is."""
+    try:
+        return case.result()
+    except Exception as why:
+        return repr(why)
+
+
+def main(program, kind=None, number=None):
+    kinds = [it for it in KINDS if kind in (None, it)]
+    program, number = counts.need_program(program), None if number is None else int(number)
+    with tempfile.TemporaryDirectory() as folder, concurrent.futures.ProcessPoolExecutor(os.cpu_count()) as pool:
+        asked = [(name, pool.submit(*case)) for name, *case in cases(program, folder, kinds, number)]
+        said = [(name, why_wrong(it)) for name, it in asked]
+    counts.need(said, kind if number is None else f"{kind} {number}")
+    left_out = list(waves.left_out()) if "waves" in kinds and number is None else []
+    for count, reason in left_out:
+        print(f"SKIPPED {count}: {reason}")
+    wrong = [f"{name}: {why}" for name, why in said if why]
+    counts.finish(wrong, len(said) - len(wrong), sum(count for count, _ in left_out))
+
+
+if __name__ == "__main__":
+    main(*sys.argv[1:])

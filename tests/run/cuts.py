@@ -1,0 +1,183 @@
+#!/usr/bin/env python3
+"""Cuts small files after each byte, changes each byte to ten others, and gives them to every tool that takes them.
+
+    tests/run/cuts.py PROGRAM [NAME]     all files, or those that have NAME in their names
+
+The files are those of rows/small.py: circuits in ASCII and binary, with and without a map, stimuli and witnesses.
+What is refused as a circuit must be refused by all tools in the same words. What is accepted must have the image, the
+traces, the unrolled circuit and the answer to a witness that are worked out here from its ASCII text. A cut or
+changed stimulus must have the trace that is worked out here up to its first bad line, and nothing with --batch if
+there is one; a witness must have its answer, and its dump. Whatever comes, the status is 0, 1 or 2, a refusal is one
+line of a kind that is known, and with it nothing is sent but the trace before a bad line.
+
+The last line is 'N passed, M failed', and counts files that were cut or changed.
+"""
+import collections
+import concurrent.futures
+import itertools
+import os
+import sys
+from pathlib import Path
+
+sys.dont_write_bytecode = True
+sys.path[0] = str(Path(__file__).resolve().parent.parent)
+from lib import counts, images, refusals, runs, unrolled, waves, witnesses
+from lib.soak import calls, generators, oracles
+from rows import small
+
+# of these each byte is changed to the first ten that it is not
+OTHERS = b"\x00\n\r 029cx\x80\xff"
+TIMES = 10
+FRAMES = 2
+CIRCUITS = {
+    "a half adder": small.HALF,
+    "a half adder with its map": small.HALF_MAPPED,
+    "equal operands": small.EQUAL,
+    "equal operands in binary": small.EQUAL_IMAGE,
+    "equal operands with their map": small.EQUAL_MAPPED,
+    "a toggle": small.TOGGLE,
+    "a latch and a gate": small.HELD,
+    "a latch and a gate in binary": small.HELD_IMAGE,
+    "a latch and a gate in padded deltas": small.HELD_PADDED,
+    "a bad state": small.BAD,
+    "every section": small.EVERY + small.EVERY_NAMES,
+    "every section with its map": small.EVERY_MAPPED,
+}
+# what stands beside a circuit that is cut or changed
+STEPS, WITNESS = b"0\n1\n.\nx\n", b"1\nb0\n0\n\n\n.\n"
+STIMULI = {
+    "three steps of a toggle": (small.TOGGLE, b"\n\n\n.\n"),
+    "two runs": (small.HELD_IMAGE, b"1\n.\n1\n.\n"),
+    "runs with CR LF": (small.HELD, b"1\r\n0\r\n.\r\n.\r\nx"),
+}
+WITNESSES = {
+    "a witness of a toggle": (small.BAD, b"1\nb0\n0\n\n\n.\n"),
+    "a witness of every section": (small.EVERY, b"1\nb1\n1x\n1\n0\n.\n"),
+}
+
+
+class Wrong(Exception):
+    """A run that was not answered as it must be."""
+
+
+class Judge:
+    """Runs the program, judges each answer, and counts what came."""
+
+    def __init__(self, program, under):
+        self.runner, self.came = runs.Runner(program, under), collections.Counter()
+
+    def ask(self, words, given):
+        """The answer, once its form was judged."""
+        came = self.runner.run(words.split(), given)
+        wrong = calls.wrong_form(calls.Call(words.split(), given), *came)
+        if wrong:
+            raise Wrong(f"{words} of {given!r}: wanted {wrong}, came {came!r}")
+        self.came["runs"] += 1
+        self.came[refusals.kind_of(came[1]) if came[1] else "answers"] += 1
+        return came
+
+    def expect(self, words, given, *wanted):
+        """Asks, and wants this output, and these errors and this status if they are not those of success."""
+        wanted = (*wanted, b"", 0) if len(wanted) == 1 else wanted
+        came = self.ask(words, given)
+        if came != wanted:
+            raise Wrong(f"{words} of {given!r}: wanted {wanted!r}, came {came!r}")
+
+    def circuit(self, text, _):
+        """All tools over the text of a circuit."""
+        self.runner.put("steps", STEPS)
+        self.runner.put("witness", WITNESS)
+        canonical, errors, status = self.ask("aigtoaig --ascii", text)
+        undoing, unrolling = "aigtoaig --undo-map --ascii", f"aigunroll --frames {FRAMES}"
+        if status:
+            simulations = ["aigsim - steps", "aigsim --batch --properties - steps", "aigsim --witness - witness"]
+            for words in ("aigtoaig --keep-map", undoing, unrolling, *simulations):
+                self.expect(words, text, b"", errors, 1)
+            return
+        made, end = generators.parsed(canonical)
+        self.expect("aigtoaig", text, images.image(made) + end)
+        mapped, _, _ = self.ask("aigtoaig --keep-map", text)
+        self.expect(undoing, mapped, canonical)
+        source, _, status = self.ask(undoing, text)
+        if not status:
+            self.expect("aigtoaig --strip", source, images.image(made))
+        names = waves.names_of(end)
+        for words in ("", "--batch --properties ", "--vcd "):
+            self.expect(f"aigsim {words}- steps", text, *oracles.wanted_trace(made, names, "steps", STEPS, words))
+        self.expect("aigsim --witness - witness", text, *witnesses.wanted(made, "witness", WITNESS.decode()))
+        if made.justice or made.fairness:
+            self.expect(unrolling, text, b"", b"aiger: -: justice or fairness cannot be unrolled\n", 1)
+        else:
+            self.expect(unrolling, text, images.binary_text(unrolled.unrolled(made, FRAMES)))
+
+    def stimulus(self, text, model):
+        """Simulations of a model over the text of a stimulus."""
+        self.runner.put("model", model)
+        made, _ = generators.parsed(self.ask("aigtoaig --ascii", model)[0])
+        for words in ("", "--properties ", "--vcd ", "--batch ", "--batch --properties ", "--batch --vcd "):
+            self.expect(f"aigsim {words}model", text, *oracles.wanted_trace(made, {}, "-", text, words))
+
+    def witness(self, text, model):
+        """What is answered to the text of a witness."""
+        self.runner.put("model", model)
+        made, _ = generators.parsed(self.ask("aigtoaig --ascii", model)[0])
+        self.expect("aigsim --witness model", text, *witnesses.wanted(made, "-", text.decode("latin-1")))
+        wanted = waves.wanted_of_run(made, {}, "-", text.decode("latin-1"))
+        self.expect("aigsim --witness --vcd model", text, *wanted)
+
+
+def edits(text, place):
+    """The text cut before this byte, and with the byte changed."""
+    yield "cuts", text[:place]
+    if place < len(text):
+        for other in [it for it in OTHERS if it != text[place]][:TIMES]:
+            yield "changes", text[:place] + bytes([other]) + text[place + 1 :]
+
+
+def judge(program, under, how, text, beside, place):
+    """What came of the edits at this place, and what was wrong."""
+    it, wrong = Judge(program, under), []
+    for kind, edited in edits(text, place):
+        it.came[kind] += 1
+        try:
+            getattr(it, how)(edited, beside)
+        except Wrong as said:
+            wrong.append(str(said))
+    return it.came, wrong
+
+
+def tasks():
+    """The name of each file, how it is judged, its text and what stands beside it."""
+    for name, text in CIRCUITS.items():
+        yield name, "circuit", text, b""
+    for how, files in (("stimulus", STIMULI), ("witness", WITNESSES)):
+        for name, (model, text) in files.items():
+            yield name, how, text, model
+
+
+def main(program, name=""):
+    program, total, wrong = counts.need_program(program), collections.Counter(), []
+    with runs.folder() as under, concurrent.futures.ProcessPoolExecutor(os.cpu_count()) as pool:
+        asked = []
+        for file, *task in [it for it in tasks() if name in it[0]]:
+            for place in range(len(task[1]) + 1):
+                asked.append((file, pool.submit(judge, program, under, *task, place)))
+        counts.need(asked, name)
+        for file, found in itertools.groupby(asked, lambda it: it[0]):
+            came = collections.Counter()
+            for _, it in found:
+                some, said = it.result()
+                came += some
+                wrong += said
+            edited = f"{came['cuts']} cuts, {came['changes']} changes"
+            print(f"{file}: {edited}, {came['runs']} runs, {came['answers']} answered")
+            total += came
+    for kind in refusals.ALL:
+        if total[kind]:
+            print(f"{total[kind]:7} {kind}")
+    print(f"{total['runs']} runs, {total['answers']} answered, {total['runs'] - total['answers']} refused")
+    counts.finish(wrong, total["cuts"] + total["changes"] - len(wrong))
+
+
+if __name__ == "__main__":
+    main(*sys.argv[1:])

@@ -1,0 +1,500 @@
+#!/usr/bin/env bash
+# Files with names, and what is answered to arguments: the linked program over files, folders, pipes and devices of the system.
+#
+#     tests/run/files.sh
+. "$(dirname "${BASH_SOURCE[0]}")/../lib/judge.sh"
+. "$top/tests/lib/streams.sh"
+need_program
+
+aig() { "$program" aigtoaig "$@"; }
+files=$work/files
+mkdir "$files"
+source=$files/source.aag
+cp "$top/examples/canonical/half_adder.aag" "$source"
+aig --ascii < "$source" > "$work/ascii"
+aig < "$source" > "$work/binary"
+aig --ascii < "$work/binary" > "$work/renumbered"
+aig --keep-map < "$source" > "$work/mapped"
+
+# made NAME FILE WORD..: the words succeed without a word, and the file is then as wanted
+made() {
+    local name=$1 file=$2
+    shift 2
+    wants '' '' 0
+    check "$name" "$@"
+    if cmp -s "$file" "$work/want_file"; then pass; else
+        fail "$name: the file" "wanted '$(shown "$work/want_file")'" "came   '$(shown "$file" 2> /dev/null)'"
+    fi
+}
+
+# --- names, and what decides the form ---
+cp "$work/binary" "$work/want_file"
+made 'to a file' "$files/a.aig" aig "$source" "$files/a.aig"
+made 'from standard input to a file' "$files/b.aig" aig - "$files/b.aig" < "$source"
+made 'names behind --' "$files/c.aig" aig -- "$source" "$files/c.aig"
+made 'a name without an ending' "$files/plain" aig "$source" "$files/plain"
+made 'an ending in capitals is no .aag' "$files/a.AAG" aig "$source" "$files/a.AAG"
+cp "$work/renumbered" "$work/want_file"
+made 'to a name that ends in .aag' "$files/a.aag" aig "$files/a.aig" "$files/a.aag"
+made 'to the name .aag' "$files/.aag" aig "$files/a.aig" "$files/.aag"
+made '--ascii to any name' "$files/text" aig --ascii "$files/a.aig" "$files/text"
+made 'options behind names' "$files/text" aig "$files/a.aig" "$files/text" --ascii
+cp "$work/ascii" "$work/want_file"
+made 'a limit that is reached' "$files/text" aig --max-var=7 "$source" --ascii "$files/text"
+made 'a limit in two arguments' "$files/text" aig --max-var 7 "$source" --ascii "$files/text"
+cp "$work/mapped" "$work/want_file"
+made 'with a map' "$files/mapped.aig" aig --keep-map "$source" "$files/mapped.aig"
+cp "$source" "$work/want_file"
+made 'and undone' "$files/again.aag" aig --undo-map "$files/mapped.aig" "$files/again.aag"
+cp "$source" "$files/same.aag"
+made 'a file as source and destination' "$files/same.aag" aig "$files/same.aag" "$files/same.aag"
+cp "$work/binary" "$work/want_file"
+made 'and once more, to binary' "$files/same.aag" eval 'aig "$files/same.aag" "$files/same" && mv "$files/same" "$files/same.aag"'
+
+wants '' '' 0
+cp "$work/binary" "$work/want_out"
+check 'from a file to standard output' aig "$source"
+check 'from a file to -' aig "$source" -
+cp "$work/renumbered" "$work/want_out"
+check '--ascii from a file' aig --ascii "$files/a.aig" -
+aig --strip --ascii "$source" > "$work/out"
+if ! grep -q '^[ilo][0-9]\|^c' "$work/out" && [ "$(head -n 1 "$work/out")" = "$(head -n 1 "$source")" ]; then pass; else
+    fail 'symbols and comment are stripped' "came   '$(shown "$work/out")'"
+fi
+
+# --- refused files: with their names, and no destination is touched ---
+printf 'aag 1 1 0 0 0\n' > "$files/short.aag"
+# untouched NAME FILE WORD..: what is wanted comes, and the file is as it was, to the time of its change
+untouched() {
+    local name=$1 file=$2 before
+    shift 2
+    cp -p "$file" "$work/before"
+    before=$(stat -c '%Y %Z %i' "$file")
+    check "$name" "$@"
+    if cmp -s "$file" "$work/before" && [ "$(stat -c '%Y %Z %i' "$file")" = "$before" ]; then pass; else
+        fail "$name: the destination is left alone"
+    fi
+}
+wants '' "aiger: $files/short.aag: line 2: file ends too early\n" 1
+untouched 'a refused source' "$files/a.aig" aig "$files/short.aag" "$files/a.aig"
+untouched 'a refused source that is the destination' "$files/short.aag" aig "$files/short.aag" "$files/short.aag"
+wants '' "aiger: $files/a.aig: no map\n" 1
+untouched 'no map' "$files/b.aig" aig --undo-map "$files/a.aig" "$files/b.aig"
+wants '' "aiger: $source: line 1: number above the limit\n" 1
+untouched 'a limit that is passed' "$files/a.aig" aig --max-var 6 "$source" "$files/a.aig"
+wants '' 'aiger: -: line 1: not an AIGER file\n' 1
+untouched 'a refused standard input' "$files/a.aig" aig - "$files/a.aig" < /dev/null
+rm -f "$files/none.aig"
+check 'a refused standard input, and a new file' aig - "$files/none.aig" < /dev/null
+if [ ! -e "$files/none.aig" ]; then pass; else fail 'no file is made for a refused source'; fi
+
+
+# a name is reported as it was given, and nothing is looked up or shortened in it
+cd "$files" || exit
+mkdir -p 'a folder'
+# refused_by TEXT FILE_TEXT WORD..: a source of these bytes, by a name with spaces and a relative path
+refused_by() {
+    local wanted=$1
+    printf '%b' "$2" > './a folder/in put.aag'
+    shift 2
+    wants '' "aiger: ./a folder/../a folder/in put.aag: $wanted\n" 1
+    untouched "a file is named where it is refused: $wanted" a.aig aig "$@" './a folder/../a folder/in put.aag' a.aig
+}
+refused_by 'line 1: not an AIGER file' ''
+refused_by 'line 1: bad header' 'aag\n'
+refused_by 'line 1: number above the limit' 'aag 2147483648 0 0 0 0\n'
+refused_by 'line 2: bad line' 'aag 1 1 0 0 0\nx\n'
+refused_by 'line 2: not a variable' 'aag 1 1 0 0 0\n3\n'
+refused_by 'line 2: literal out of range' 'aag 1 0 0 1 0\n4\n'
+refused_by 'line 2: file ends too early' 'aag 1 1 0 0 0\n'
+refused_by 'gate 1: bad delta' 'aig 1 0 0 0 1\n\003\000'
+refused_by 'line 2: bad symbol line' 'aag 0 0 0 0 0\nx\n'
+refused_by 'line 2: symbol position out of range' 'aag 0 0 0 0 0\ni0 a\n'
+refused_by 'line 4: symbol given twice' 'aag 1 1 0 0 0\n2\ni0 a\ni0 a\n'
+refused_by 'variable 1 defined twice' 'aag 2 2 0 0 0\n2\n2\n'
+refused_by 'literal 4 not defined' 'aag 2 1 0 1 0\n2\n4\n'
+refused_by 'gate 2 depends on a cycle' 'aag 1 0 0 0 1\n2 2 2\n'
+refused_by 'not in binary order' 'aag 9 1 0 0 0\n18\n' --undo-map
+refused_by 'no map' 'aig 0 0 0 0 0\n' --undo-map
+refused_by 'map line 1: bad line' 'aig 0 0 0 0 0\nc\naigmap 2\n' --undo-map
+refused_by 'map counts differ' 'aig 0 0 0 0 0\nc\naigmap 1 1 1 0 0 0\n1\naigmap end\n' --undo-map
+refused_by 'map does not belong to this circuit' 'aig 0 0 0 0 0\nc\naigmap 1 0 0 0 0 0\naigmap end\nx' --undo-map
+cd "$top" || exit
+
+# --- files that cannot be read or written ---
+cannot_read() {
+    wants '' "aiger: $2: cannot read\n" 1
+    untouched "$1" "$files/a.aig" aig "$2" "$files/a.aig"
+}
+cannot_write() {
+    wants '' "aiger: $2: cannot write\n" 1
+    check "$1" aig "$source" "$2"
+}
+cannot_read 'a source that is not there' "$files/none.aag"
+cannot_read 'a source in a folder that is not there' "$files/none/a.aag"
+cannot_read 'a folder as source' "$files"
+cannot_read 'an empty name as source' ''
+cannot_read 'a name of spaces' "$files/a b  c"
+ln -s "$files/none.aag" "$files/dangling"
+cannot_read 'a dangling link as source' "$files/dangling"
+cannot_write 'a folder as destination' "$files"
+cannot_write 'an empty name as destination' ''
+cannot_write 'a folder that is not there' "$files/none/a.aig"
+cannot_write 'a full device' /dev/full
+cannot_write 'a file in the place of a folder' "$files/a.aig/b.aig"
+# a source is read to its end first, and this one has none
+wants '' 'aiger: out of memory\n' 1
+untouched 'a device without an end as source' "$files/a.aig" within 20480 "$program" aigtoaig /dev/full "$files/a.aig"
+# what cannot be read is reported before what cannot be written
+wants '' "aiger: $files/none.aag: cannot read\n" 1
+check 'neither can be opened' aig "$files/none.aag" "$files/none/a.aig"
+cp "$work/binary" "$work/want_file"
+made 'a dangling link as destination is made' "$files/none.aag" aig "$source" "$files/dangling"
+rm "$files/none.aag"
+
+# as somebody who may not: root may read and write whatever it likes
+if [ "$(id -u)" = 0 ]; then as_nobody=(setpriv --reuid=65534 --regid=65534 --clear-groups); else as_nobody=(); fi
+if "${as_nobody[@]}" test -x "$program" 2> /dev/null; then
+    closed=$(mktemp -d)
+    chmod 755 "$closed"
+    cp "$source" "$closed/closed.aag"
+    chmod 0 "$closed/closed.aag"
+    wants '' "aiger: $closed/closed.aag: cannot read\n" 1
+    check 'a source without permission' "${as_nobody[@]}" "$program" aigtoaig "$closed/closed.aag"
+    wants '' "aiger: $closed/closed.aag: cannot write\n" 1
+    check 'a destination without permission' \
+        "${as_nobody[@]}" "$program" aigtoaig - "$closed/closed.aag" < "$source"
+    rm -rf "$closed"
+else
+    skip 2 'files without permission: nobody else can run the program here'
+fi
+
+# a disk that is full, and a limit on the size of files: what shows only when bytes are written is not lost
+awk 'BEGIN { print "aag 0 0 0 100000 0"; for (i = 0; i < 100000; i++) print i % 2 }' > "$work/long"
+limited() { ( trap '' XFSZ; ulimit -f 16 && exec "$program" aigtoaig "$work/long" "$files/limited.aag" ); }
+wants '' "aiger: $files/limited.aag: cannot write\n" 1
+check 'a file above the limit on sizes' limited
+if cmp -s -n "$(stat -c %s "$files/limited.aag")" "$files/limited.aag" "$work/long"; then pass; else
+    fail 'what was written of it is a beginning'
+fi
+mkdir "$work/disk"
+if mount -t tmpfs -o size=64k tmpfs "$work/disk" 2> /dev/null; then
+    wants '' "aiger: $work/disk/full.aag: cannot write\n" 1
+    check 'a full disk' aig "$work/long" "$work/disk/full.aag"
+    umount "$work/disk"
+else
+    skip 1 'a full disk: nothing can be mounted here'
+fi
+
+# what a file system says only when it is to keep a file is not lost
+if compile_preload fail_sync; then
+    closing() { LD_PRELOAD=$work/fail_sync.so "$program" aigtoaig "$@"; }
+    wants '' "aiger: $files/closed.aig: cannot write\n" 1
+    check 'a destination that is not kept' closing "$source" "$files/closed.aig"
+    check 'and from standard input' closing - "$files/closed.aig" < "$source"
+    wants '' "aiger: $files/short.aag: line 2: file ends too early\n" 1
+    check 'a refused source is reported, and nothing is to be kept' closing "$files/short.aag" "$files/closed.aig"
+    wants '' '' 0
+    cp "$work/binary" "$work/want_out"
+    check 'standard output is not waited for' closing "$source"
+else
+    fail 'tests/preload/fail_sync.c compiles' "came   $(cat "$work/compile" 2> /dev/null)"
+fi
+
+# --- streams beside files ---
+wants '' '' 0
+cp "$work/binary" "$work/want_file"
+streams_closed() { "$@" <&- >&- 2>&-; }
+made 'all streams closed, and two files' "$files/e.aig" streams_closed aig "$source" "$files/e.aig"
+wants '' 'aiger: -: cannot write\n' 1
+check 'a file into a full standard output' output_full aig "$source"
+check 'a file into a closed standard output' output_closed aig "$source"
+wants '' 'aiger: -: cannot read\n' 1
+untouched 'a closed standard input, and a file' "$files/e.aig" aig - "$files/e.aig" <&-
+then_rest() { aig "$source" "$files/f.aig" && cat; }
+wants "$small" '' 0
+check 'standard input is left alone where a source is named' then_rest < "$work/small"
+wants '' '' 1
+untouched 'a refusal with a closed standard error, and files' "$files/a.aig" \
+    errors_closed aig "$files/short.aag" "$files/a.aig"
+ln "$files/a.aig" "$files/linked.aig"
+ln -s a.aig "$files/symbolic.aig"
+made 'a link to the source as destination' "$files/a.aig" aig "$files/a.aig" "$files/symbolic.aig"
+made 'a second name of the source as destination' "$files/a.aig" aig "$files/a.aig" "$files/linked.aig"
+printf 'longer than what comes, so that a file that is not cut would show %s' "$(printf '%5000s' '' | tr ' ' x)" > "$files/longer"
+made 'an existing file is cut' "$files/longer" aig "$source" "$files/longer"
+chmod 640 "$files/longer"
+made 'an existing file, once more' "$files/longer" aig "$source" "$files/longer"
+wants '640\n' '' 0
+check 'and keeps its permissions' stat -c %a "$files/longer"
+
+# --- a model and a stimulus with names ---
+sim() { "$program" aigsim "$@"; }
+printf '00\n1x\n' > "$files/steps"
+printf '00\n1\n' > "$files/bad_steps"
+trace=' 00 00 \n 1x xx \n.\n'
+wants "$trace" '' 0
+check 'model and stimulus by their names' sim "$source" "$files/steps"
+check 'the image and the stimulus by their names' sim "$files/a.aig" "$files/steps"
+check 'model and stimulus by links' eval 'ln -sf steps "$files/steps.link" && ln -sf source.aag "$files/model.link" &&
+    sim "$files/model.link" "$files/steps.link"'
+cp "$files/steps" "$files/steps.gz"
+cp "$source" "$files/model.gz"
+check 'any ending of names' sim "$files/model.gz" "$files/steps.gz"
+check 'a stimulus and a model with names, all other streams closed' eval 'sim "$source" "$files/steps" <&- 2>&-'
+check 'the stimulus by standard input' sim "$source" < "$files/steps"
+check 'the model by standard input' sim - "$files/steps" < "$source"
+cp "$files/steps" "$files/-s"
+cp "$source" "$files/-m"
+check 'names that begin with - behind --, to simulate' eval 'cd "$files" && sim -- -m -s'
+check 'a limit on the model that is reached' sim --max-var=7 "$source" "$files/steps"
+wants "${trace}00 00 rest\n" '' 0
+check 'standard input is left alone where both are named' eval 'sim "$source" "$files/steps" && cat' <<< '00 00 rest'
+wants '' "aiger: $source: line 1: number above the limit\n" 1
+check 'a limit on the model that is passed' sim --max-var 6 "$source" "$files/steps"
+wants ' 00 00 \n' "aiger: $files/bad_steps: line 2: bad stimulus line\n" 1
+check 'a bad stimulus is named' sim "$source" "$files/bad_steps"
+check 'and so it is where the model is standard input' sim - "$files/bad_steps" < "$source"
+wants '' "aiger: $files/short.aag: line 2: file ends too early\n" 1
+check 'a refused model is named' sim "$files/short.aag" "$files/bad_steps"
+check 'a refused model is reported, and not a stimulus that is not there' sim "$files/short.aag" "$files/none"
+wants '' 'aiger: -: line 2: file ends too early\n' 1
+check 'a refused model by standard input' sim - "$files/none" < "$files/short.aag"
+# neither: NAME FILE MESSAGE: as model, and as stimulus
+neither() {
+    wants '' "aiger: $2: cannot read\n" 1
+    check "$1 as model" sim "$2" "$files/steps"
+    check "$1 as stimulus" sim "$source" "$2"
+    check "$1 as stimulus, the model by standard input" sim - "$2" < "$source"
+}
+neither 'a file that is not there' "$files/none.aag"
+neither 'a file in a folder that is not there' "$files/none/a.aag"
+neither 'a folder' "$files"
+neither 'an empty name' ''
+neither 'a dangling link' "$files/dangling"
+wants '' 'aiger: -: cannot write\n' 1
+check 'a trace of named files into a full standard output' output_full sim "$source" "$files/steps"
+check 'a trace of named files into a closed standard output' output_closed sim "$source" "$files/steps"
+wants '' "aiger: $files/none: cannot read\n" 1
+check 'a stimulus that is not there, and a full standard output' output_full sim "$source" "$files/none"
+cp -p "$source" "$work/before"
+cp -p "$files/steps" "$work/before_steps"
+wants "$trace" '' 0
+chmod 400 "$source" "$files/steps"
+check 'a model and a stimulus that may only be read' sim "$source" "$files/steps"
+chmod 644 "$source" "$files/steps"
+if cmp -s "$source" "$work/before" && cmp -s "$files/steps" "$work/before_steps"; then pass; else fail 'neither is changed'; fi
+
+# --- an unrolled circuit between files with names ---
+held=$files/held.aag
+printf 'aag 3 1 1 1 1\n2\n4 6\n6\n6 2 5\ni0 hold\nc\nheld' > "$held"
+printf 'aag 4 2 0 2 2\n2\n4\n6\n8\n6 2 1\n8 7 4\n' > "$work/frames"
+printf 'aig 4 2 0 2 2\n6\n8\n\004\001\001\003' > "$work/binary_frames"
+cp "$work/binary_frames" "$work/want_file"
+made 'unrolled to a file' "$files/u.aig" unroll 2 "$held" "$files/u.aig"
+made 'unrolled from standard input to a file' "$files/v.aig" unroll 2 - "$files/v.aig" < "$held"
+made 'unrolled to a name without an ending' "$files/unrolled" unroll 2 "$held" "$files/unrolled"
+made 'unrolled to an ending in capitals, which is no .aag' "$files/u.AAG" unroll 2 "$held" "$files/u.AAG"
+made 'unrolled, names behind --' "$files/w.aig" unroll 2 -- "$held" "$files/w.aig"
+aig "$held" "$files/held.aig"
+made 'unrolled from a binary file' "$files/x.aig" unroll 2 "$files/held.aig" "$files/x.aig"
+made 'a file as source and destination, unrolled' "$files/held.aig" unroll 2 "$files/held.aig" "$files/held.aig"
+cp "$work/frames" "$work/want_file"
+made 'unrolled to a name that ends in .aag' "$files/u.aag" unroll 2 "$held" "$files/u.aag"
+made 'unrolled with --ascii to any name' "$files/unrolled" unroll 2 --ascii "$held" "$files/unrolled"
+made 'unrolled, options behind names' "$files/unrolled" "$program" aigunroll "$held" "$files/unrolled" --ascii --frames=2 --max-var 3
+cp "$held" "$files/same.aag"
+made 'a file as source and destination, unrolled to ASCII' "$files/same.aag" unroll 2 "$files/same.aag" "$files/same.aag"
+wants '' '' 0
+cp "$work/binary_frames" "$work/want_out"
+check 'unrolled from a file to standard output' unroll 2 "$held"
+check 'unrolled from a file to -' unroll 2 "$held" -
+cp "$work/frames" "$work/want_out"
+check 'unrolled from a file to standard output in ASCII' unroll 2 "$held" --ascii
+
+printf 'aag 0 0 0 0 0 0 0 0 1\n1\n' > "$files/live.aag"
+printf 'aig 2148 2148 0 0 0\n' > "$files/large.aig"
+wants '' "aiger: $files/live.aag: justice or fairness cannot be unrolled\n" 1
+untouched 'a circuit that cannot be unrolled' "$files/u.aig" unroll 2 "$files/live.aag" "$files/u.aig"
+untouched 'a circuit that cannot be unrolled, as destination' "$files/live.aag" unroll 2 "$files/live.aag" "$files/live.aag"
+wants '' "aiger: $files/large.aig: too large to unroll\n" 1
+untouched 'a circuit that is too large to unroll' "$files/u.aig" unroll 1000000 "$files/large.aig" "$files/u.aig"
+wants '' "aiger: $files/short.aag: line 2: file ends too early\n" 1
+untouched 'a refused source to unroll' "$files/u.aig" unroll 2 "$files/short.aag" "$files/u.aig"
+wants '' "aiger: $held: line 1: number above the limit\n" 1
+untouched 'a limit that is passed, to unroll' "$files/u.aig" unroll 2 --max-var 2 "$held" "$files/u.aig"
+wants '' 'aiger: -: line 1: not an AIGER file\n' 1
+untouched 'a refused standard input to unroll' "$files/u.aig" unroll 2 - "$files/u.aig" < /dev/null
+wants '' 'aiger: out of memory\n' 1
+untouched 'a device without an end to unroll' "$files/u.aig" within 20480 "$program" aigunroll --frames 2 /dev/full "$files/u.aig"
+wants '' "aiger: $files/none.aag: cannot read\n" 1
+untouched 'a file to unroll that is not there' "$files/u.aig" unroll 2 "$files/none.aag" "$files/u.aig"
+check 'neither can be opened to unroll' unroll 2 "$files/none.aag" "$files/none/u.aig"
+wants '' "aiger: $files: cannot read\n" 1
+untouched 'a folder to unroll' "$files/u.aig" unroll 2 "$files" "$files/u.aig"
+rm -f "$files/none.aig"
+wants '' "aiger: $files/live.aag: justice or fairness cannot be unrolled\n" 1
+check 'a circuit that cannot be unrolled, and a new file' unroll 2 "$files/live.aag" "$files/none.aig"
+check 'and a folder that is not there' unroll 2 "$files/live.aag" "$files/none/u.aig"
+if [ ! -e "$files/none.aig" ]; then pass; else fail 'no file is made for a circuit that cannot be unrolled'; fi
+# cannot_unroll_to NAME FILE
+cannot_unroll_to() {
+    wants '' "aiger: $2: cannot write\n" 1
+    check "$1 to unroll to" unroll 2 "$held" "$2"
+}
+cannot_unroll_to 'a folder' "$files"
+cannot_unroll_to 'an empty name' ''
+cannot_unroll_to 'a folder that is not there' "$files/none/u.aig"
+cannot_unroll_to 'a full device' /dev/full
+limited_frames() { ( trap '' XFSZ; ulimit -f 16 && exec "$program" aigunroll --frames 5000 "$held" "$files/limited.aag" ); }
+wants '' "aiger: $files/limited.aag: cannot write\n" 1
+check 'an unrolled file above the limit on sizes' limited_frames
+unroll 5000 --ascii "$held" > "$work/long_frames"
+if [ -s "$files/limited.aag" ] && cmp -s -n "$(stat -c %s "$files/limited.aag")" "$files/limited.aag" "$work/long_frames"; then pass; else
+    fail 'what was written of an unrolled file is a beginning'
+fi
+if [ -e "$work/fail_sync.so" ]; then
+    wants '' "aiger: $files/u.aig: cannot write\n" 1
+    check 'an unrolled file that is not kept' eval 'LD_PRELOAD=$work/fail_sync.so unroll 2 "$held" "$files/u.aig"'
+fi
+cp "$work/binary_frames" "$work/want_file"
+made 'all streams closed, and two files to unroll' "$files/u.aig" streams_closed unroll 2 "$held" "$files/u.aig"
+wants 'rest\n' '' 0
+check 'standard input is left alone where a file to unroll is named' eval 'unroll 2 "$held" "$files/u.aig" && cat' <<< 'rest'
+
+# --- pipes with names ---
+mkfifo "$files/pipe"
+cat "$source" > "$files/pipe" &
+cp "$work/binary" "$work/want_file"
+made 'a pipe as source' "$files/d.aig" aig "$files/pipe" "$files/d.aig"
+wait
+cat "$files/pipe" > "$work/through" &
+wants '' '' 0
+check 'a pipe as destination' aig "$source" "$files/pipe"
+wait
+if cmp -s "$work/through" "$work/binary"; then pass; else fail 'what came through the pipe'; fi
+
+wants '' "aiger: $files/short.aag: line 2: file ends too early\n" 1
+check 'no pipe is waited for where a source is refused' timeout 10 "$program" aigtoaig "$files/short.aag" "$files/pipe"
+wants '' "aiger: $files/pipe: cannot write\n" 1
+head -c 1 < "$files/pipe" > "$work/first" &
+check 'a pipe that nobody reads any more' aig --ascii "$work/long" "$files/pipe"
+wait
+
+mkfifo "$files/model_pipe"
+cat "$source" > "$files/model_pipe" &
+cat "$files/steps" > "$files/pipe" &
+wants "$trace" '' 0
+check 'pipes as model and as stimulus' sim "$files/model_pipe" "$files/pipe"
+wait
+wants '' "aiger: $files/short.aag: line 2: file ends too early\n" 1
+check 'no stimulus is waited for where a model is refused' timeout 10 "$program" aigsim "$files/short.aag" "$files/pipe"
+wants '' "aiger: $files/live.aag: justice or fairness cannot be unrolled\n" 1
+check 'no pipe is waited for where nothing is unrolled' timeout 10 "$program" aigunroll --frames 2 "$files/live.aag" "$files/pipe"
+cat "$held" > "$files/model_pipe" &
+cat "$files/pipe" > "$work/through" &
+wants '' '' 0
+check 'pipes as source and destination, to unroll' unroll 2 "$files/model_pipe" "$files/pipe"
+wait
+if cmp -s "$work/through" "$work/binary_frames"; then pass; else fail 'what came unrolled through the pipe'; fi
+
+# --- names that look like options, and many or long arguments ---
+cd "$files" || exit
+cp "$source" ./-x.aag
+cp "$work/binary" "$work/want_file"
+made 'names that begin with - behind --' "$files/-y" aig -- -x.aag -y
+cd "$top" || exit
+wants '' '' 0
+cp "$work/ascii" "$work/want_out"
+name=$files/$'two\nlines and spaces.aag'
+cp "$source" "$name"
+check 'a name with a line feed and spaces' aig --ascii "$name"
+mapfile -t many < <(yes x | head -n 300)
+longest=$(head -c 131071 /dev/zero | tr '\0' x)   # the longest argument that Linux passes on
+refused '300 arguments' 'x' aigtoaig "${many[@]}"
+refused 'a very long option' '--x' aigtoaig "--${longest:2}"
+wants '' "aiger: $longest: cannot read\n" 1
+check 'a very long name' aig "$longest"
+refused 'an unknown option' '--asci' aigtoaig --asci
+refused 'an option close to one' '--ascii' aigtoaig --asci
+refused 'an option of simulations alone' '--batch' aigtoaig --batch
+refused 'a limit that is no number' '--max-var' aigtoaig --max-var x
+refused 'a limit above the largest' '2147483648' aigtoaig --max-var 2147483648
+refused 'three names' 'c' aigtoaig a b c
+refused 'a model that is not named' 'model' aigsim
+refused 'three names to simulate' 'c' aigsim a b c
+refused 'an option that a simulation does not have' '--ascii' aigsim --ascii a
+refused 'frames that are not given' '--frames' aigunroll a b
+refused 'no frames at all' '0 is not in 1..=1000000' aigunroll --frames 0
+refused 'too many frames' '1000001 is not in 1..=1000000' aigunroll --frames 1000001
+refused 'three names to unroll' 'c' aigunroll --frames 1 a b c
+refused 'an option that unrolling does not have' '--properties' aigunroll --frames 1 --properties
+refused 'no subcommand' 'aigtoaig'
+refused 'an unknown subcommand' 'aigsom' aigsom
+refused 'no help as a subcommand' 'help' help
+refused 'an argument that is no text' 'not UTF-8' aigtoaig $'\377.aag'
+refused 'a map in ASCII' 'aiger: --keep-map needs binary output' aigtoaig --keep-map --ascii
+refused 'a map to a name that ends in .aag' 'aiger: --keep-map needs binary output' aigtoaig --keep-map - "$files/b.aag"
+refused 'a map of a stripped circuit' 'aiger: --keep-map excludes --strip' aigtoaig --keep-map --strip --undo-map
+refused 'a map kept and undone' 'aiger: --keep-map excludes --undo-map' aigtoaig --keep-map --undo-map
+refused 'one stream for model and stimulus' 'aiger: model and stimulus are both standard input' aigsim -
+refused 'a compressed destination' 'aiger: compressed output is not supported' aigtoaig - x.aig.gz
+refused 'a compressed destination to unroll to' 'aiger: compressed output is not supported' aigunroll --frames 1 - x.aag.gz
+
+# --- help ---
+# each line of help has at most 80 columns, and nothing else comes
+helps() {
+    local name=$1
+    shift
+    "$program" "$@" > "$work/out" 2> "$work/err" < /dev/null
+    if [ $? = 0 ] && [ -s "$work/out" ] && [ ! -s "$work/err" ] && ! grep -q '.\{81\}' "$work/out"; then pass; else
+        fail "$name" "came   '$(shown "$work/out")', errors '$(shown "$work/err")'"
+    fi
+}
+helps 'help' --help
+helps 'the short option for help' -h
+helps 'help of aigtoaig' aigtoaig --help
+# its examples run as they stand, one after the other
+grep '^  aiger aigtoaig ' "$work/out" | sed 's/^  aiger/"$program"/; s/   .*//' > "$work/examples"
+cp "$source" "$files/model.aag"
+ran=$(cd "$files" && set -e && . "$work/examples" 2>&1 && echo all)
+if [ "$ran" = all ] && [ "$(wc -l < "$work/examples")" = 4 ] && grep -aq '^aigmap 1 ' "$files/image.aig" &&
+    cmp -s "$files/model.aig" "$work/binary" && cmp -s "$files/again.aag" "$files/model.aag"; then pass; else
+    fail 'the examples of help run' "came   $ran, of" "$(cat "$work/examples")"
+fi
+helps 'help of aigsim' aigsim --help
+# its examples run as they stand too, over a half adder whose carry is the bad state: its traces come, and a witness is
+# confirmed
+printf 'aag 7 2 0 2 3 1\n2\n4\n6\n12\n12\n6 13 15\n12 2 4\n14 3 5\n' > "$files/model.aag"
+grep '^  printf \|^  aiger aigsim ' "$work/out" | sed 's/aiger aigsim /"$program" aigsim /; s/   .*//' > "$work/examples"
+simulation_examples() { ( cd "$files" && set -e && . "$work/examples" ); }
+half=' 10 10 \n.\n 1x xx \n.\n'
+wants " 10 10 \n 1x xx \n.\n 10 10  0 \n.\n 1x xx  x \n.\n${half}confirmed 0\n$half" '' 0
+check 'the examples of help of aigsim run' simulation_examples
+if grep -q '^#4$' "$files/a.vcd"; then pass; else fail 'the example of help of aigsim writes a waveform'; fi
+if grep -q '^$comment confirmed 0 $end$' "$files/w.vcd"; then pass; else
+    fail 'the example of help of aigsim writes the waveform of a witness'
+fi
+helps 'help of aigunroll' aigunroll --help
+# its examples too; the half adder has no latches, so each frame is a copy of it
+grep '^  aiger aigunroll ' "$work/out" | sed 's/^  aiger/"$program"/; s/   .*//' > "$work/examples"
+unroll 20 "$files/model.aig" > "$work/want_file"
+unroll 2 "$files/model.aag" --ascii > "$work/frames"
+ran=$(cd "$files" && set -e && . "$work/examples" 2>&1 && echo all)
+if [ "$ran" = all ] && [ "$(wc -l < "$work/examples")" = 3 ] && cmp -s "$files/long.aig" "$work/want_file" &&
+    cmp -s "$files/out" "$work/want_file" && cmp -s "$files/two.aag" "$work/frames"; then pass; else
+    fail 'the examples of help of aigunroll run' "came   $ran, of" "$(cat "$work/examples")"
+fi
+# the manual page has the same options
+options() { grep -o -- '--[a-z][a-z-]*' | sort -u; }
+{ "$program" aigtoaig --help; "$program" aigsim --help; "$program" aigunroll --help; } | options > "$work/help_options"
+sed 's/Fl \\-/--/g; s/\\-/-/g' "$top/man/aiger.1" | options > "$work/man_options"
+wants '' '' 0
+cp "$work/help_options" "$work/want_out"
+check 'the manual page has the options of help' cat "$work/man_options"
+wants '' 'aiger: -: cannot write\n' 1
+check 'help into a full standard output' output_full "$program" --help
+check 'help into a closed standard output' output_closed "$program" aigtoaig --help
+check 'the version into a full standard output' output_full "$program" --version
+
+finish

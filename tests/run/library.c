@@ -1,0 +1,249 @@
+/* Calls of libaigtools that Python cannot make: memory is refused, outputs are too short by one byte, exact and longer,
+   and threads call at once. Each check that fails says so; the status is 1 then.
+
+       cc -Iinclude -Wl,--wrap=malloc,--wrap=realloc,--wrap=free tests/run/library.c libaigtools.a -lpthread
+       library                 the checks
+       library FILE TIMES      how many nanoseconds a conversion of the file to binary takes, over so many */
+#define _POSIX_C_SOURCE 200809L
+#include "aigtools.h"
+
+#include <pthread.h>
+#include <stdio.h>
+#include <stdlib.h>
+#include <string.h>
+#include <time.h>
+
+#define ROOM 4096
+#define UNTOUCHED 0xAA
+/* an array of characters as the two arguments of an input */
+#define TEXT(it) (const uint8_t *)(it), sizeof(it) - 1
+
+void *__real_malloc(size_t size);
+void *__real_realloc(void *old, size_t size);
+void __real_free(void *old);
+
+/* the growths of memory before the one that is refused, or none if negative; how many there were; and how many blocks
+   are held */
+static long before = -1, growths, held;
+
+static int is_refused(void) { return growths++ == before; }
+
+void *__wrap_malloc(size_t size) {
+    void *block = is_refused() ? NULL : __real_malloc(size);
+    if (block) __atomic_add_fetch(&held, 1, __ATOMIC_SEQ_CST);
+    return block;
+}
+
+void *__wrap_realloc(void *old, size_t size) {
+    void *block = is_refused() ? NULL : __real_realloc(old, size);
+    if (block && !old) __atomic_add_fetch(&held, 1, __ATOMIC_SEQ_CST);
+    return block;
+}
+
+void __wrap_free(void *old) {
+    if (old) __atomic_sub_fetch(&held, 1, __ATOMIC_SEQ_CST);
+    __real_free(old);
+}
+
+static const char gate[] = "aag 7 2 0 2 3\n2\n4\n6\n12\n6 13 15\n12 2 4\n14 3 5\ni0 x\nc\nhalf adder\n";
+static const char toggle[] = "aag 1 0 1 1 0 1\n2 3\n2\n2\n";
+static const char steps[] = "\n\n\n";
+static const char claim[] = "1\nb0\n0\n\n\n.\n";
+static const char wrong_claim[] = "1\nb0\n0\n\n.\n";
+
+typedef uint32_t call(uint8_t *output, size_t room, aigtools_outcome *outcome);
+
+static uint32_t to_binary(uint8_t *output, size_t room, aigtools_outcome *outcome) {
+    return aigtools_convert(AIGTOOLS_KEEP_MAP, AIGTOOLS_LARGEST, TEXT(gate), output, room, outcome);
+}
+static uint32_t to_ascii(uint8_t *output, size_t room, aigtools_outcome *outcome) {
+    return aigtools_convert(AIGTOOLS_ASCII, AIGTOOLS_LARGEST, TEXT(gate), output, room, outcome);
+}
+static uint32_t frames(uint8_t *output, size_t room, aigtools_outcome *outcome) {
+    return aigtools_unroll(0, 5, AIGTOOLS_LARGEST, TEXT(toggle), output, room, outcome);
+}
+static uint32_t trace(uint8_t *output, size_t room, aigtools_outcome *outcome) {
+    return aigtools_simulate(AIGTOOLS_PROPERTIES, AIGTOOLS_LARGEST, TEXT(toggle), TEXT(steps), output, room, outcome);
+}
+static uint32_t dump(uint8_t *output, size_t room, aigtools_outcome *outcome) {
+    return aigtools_simulate(AIGTOOLS_VCD, AIGTOOLS_LARGEST, TEXT(toggle), TEXT(steps), output, room, outcome);
+}
+/* the witness has no text: its words stand for it */
+static uint32_t judged(uint8_t *output, size_t room, aigtools_outcome *outcome) {
+    char words[32];
+    uint32_t status = aigtools_witness(AIGTOOLS_LARGEST, TEXT(toggle), TEXT(claim), outcome);
+    if (status != AIGTOOLS_DONE) return status;
+    outcome->length = (uint64_t)snprintf(words, sizeof words, "confirmed %lu", (unsigned long)outcome->number);
+    if (outcome->length > room) return outcome->status = AIGTOOLS_TOO_SHORT;
+    memcpy(output, words, outcome->length);
+    return status;
+}
+
+static uint32_t run_of(const char *witness, size_t length, uint8_t *output, size_t room, aigtools_outcome *outcome) {
+    return aigtools_dump(AIGTOOLS_LARGEST, TEXT(toggle), (const uint8_t *)witness, length, output, room, outcome);
+}
+static uint32_t run(uint8_t *output, size_t room, aigtools_outcome *outcome) {
+    return run_of(claim, sizeof claim - 1, output, room, outcome);
+}
+
+static const struct { const char *name; call *of; } calls[] = {
+    {"to binary", to_binary}, {"to ascii", to_ascii}, {"frames", frames}, {"trace", trace},
+    {"dump", dump},           {"judged", judged},     {"run", run},
+};
+#define CALLS (sizeof calls / sizeof *calls)
+
+static int failed;
+
+static void check(int holds, const char *name, const char *what, long number) {
+    if (holds) return;
+    failed = 1;
+    printf("FAILED %s: %s, %ld\n", name, what, number);
+}
+
+static int is_untouched(const uint8_t *from, size_t count) {
+    while (count && *from == UNTOUCHED) from++, count--;
+    return count == 0;
+}
+
+static void check_rooms(const char *name, call *of, const uint8_t *text, size_t length) {
+    size_t rooms[] = {0, length - 1, length, length + 7}, i;
+    for (i = 0; i < 4; i++) {
+        uint8_t output[ROOM];
+        aigtools_outcome outcome;
+        size_t written = rooms[i] < length ? 0 : length;
+        uint32_t status;
+        memset(output, UNTOUCHED, sizeof output);
+        status = of(output, rooms[i], &outcome);
+        check(status == (written ? AIGTOOLS_DONE : AIGTOOLS_TOO_SHORT), name, "status for the room", (long)rooms[i]);
+        check(outcome.status == status && outcome.length == length, name, "outcome for the room", (long)rooms[i]);
+        check(memcmp(output, text, written) == 0, name, "text in the room", (long)rooms[i]);
+        check(is_untouched(output + written, ROOM - written), name, "what stands behind the text", (long)rooms[i]);
+    }
+}
+
+static void check_refusals(const char *name, call *of) {
+    long all, number, blocks = held;
+    uint8_t output[ROOM];
+    aigtools_outcome outcome;
+    growths = 0;
+    of(output, ROOM, &outcome);
+    all = growths;
+    check(all > 0 && held == blocks, name, "growths of memory, and all given back", all);
+    for (number = 0; number < all; number++) {
+        memset(output, UNTOUCHED, sizeof output);
+        growths = 0;
+        before = number;
+        of(output, ROOM, &outcome);
+        before = -1;
+        check(outcome.status == AIGTOOLS_OUT_OF_MEMORY && outcome.length == 0 && outcome.kind == 0, name,
+              "out of memory", number);
+        check(is_untouched(output, ROOM), name, "output untouched, out of memory", number);
+        check(held == blocks, name, "all given back, out of memory", number);
+    }
+    printf("%s: %ld growths refused\n", name, all);
+}
+
+static uint8_t texts[CALLS][ROOM];
+static size_t lengths[CALLS];
+
+static void *call_often(void *wrong) {
+    int i;
+    for (i = 0; i < 2000; i++) {
+        uint8_t output[ROOM];
+        aigtools_outcome outcome;
+        size_t k = (size_t)i % CALLS;
+        if (calls[k].of(output, ROOM, &outcome) != AIGTOOLS_DONE || outcome.length != lengths[k] ||
+            memcmp(output, texts[k], lengths[k]) != 0)
+            *(int *)wrong = 1;
+    }
+    return NULL;
+}
+
+static void check_threads(void) {
+    pthread_t threads[4];
+    int wrong[4] = {0, 0, 0, 0}, i;
+    for (i = 0; i < 4; i++)
+        check(pthread_create(&threads[i], NULL, call_often, &wrong[i]) == 0, "threads", "started", i);
+    for (i = 0; i < 4; i++) pthread_join(threads[i], NULL);
+    for (i = 0; i < 4; i++) check(!wrong[i], "threads", "the same texts", i);
+}
+
+static void check_refused_options(void) {
+    static const uint32_t bad[] = {AIGTOOLS_KEEP_MAP | AIGTOOLS_ASCII, AIGTOOLS_KEEP_MAP | AIGTOOLS_STRIP,
+                                   AIGTOOLS_KEEP_MAP | AIGTOOLS_UNDO_MAP, AIGTOOLS_PROPERTIES, AIGTOOLS_VCD, 1u << 31};
+    static const uint32_t no_trace[] = {AIGTOOLS_ASCII, AIGTOOLS_PROPERTIES | AIGTOOLS_VCD,
+                                        AIGTOOLS_VCD | AIGTOOLS_ASCII, 64};
+    static const uint32_t above = AIGTOOLS_LARGEST + 1;
+    const uint8_t *text = (const uint8_t *)gate;
+    uint8_t output[1] = {UNTOUCHED};
+    aigtools_outcome x;
+    size_t i;
+#define IS_BAD(of) check((of) == AIGTOOLS_BAD_OPTIONS, "options", #of, (long)i)
+    for (i = 0; i < sizeof bad / sizeof *bad; i++) IS_BAD(aigtools_convert(bad[i], 1, text, 0, output, 1, &x));
+    for (i = 0; i < sizeof no_trace / sizeof *no_trace; i++)
+        IS_BAD(aigtools_simulate(no_trace[i], 1, text, 0, text, 0, output, 1, &x));
+    IS_BAD(aigtools_convert(0, above, text, 0, output, 1, &x));
+    IS_BAD(aigtools_unroll(AIGTOOLS_STRIP, 1, 1, text, 0, output, 1, &x));
+    IS_BAD(aigtools_unroll(0, 0, 1, text, 0, output, 1, &x));
+    IS_BAD(aigtools_unroll(0, 1000001, 1, text, 0, output, 1, &x));
+    IS_BAD(aigtools_witness(above, text, 0, text, 0, &x));
+    IS_BAD(aigtools_dump(above, text, 0, text, 0, output, 1, &x));
+    check(aigtools_message(&x, output, 1) == 0 && output[0] == UNTOUCHED, "message", "no fault", 0);
+    check(aigtools_convert(0, 1, text, 0, output, 1, &x) == AIGTOOLS_REFUSED && x.kind == AIGTOOLS_NOT_AIGER &&
+              x.place == AIGTOOLS_LINE && x.number == 1, "convert", "nothing at all", 0);
+    check(aigtools_message(&x, output, 1) == 25 && output[0] == UNTOUCHED, "message", "too short", 0);
+    check(aigtools_version() == AIGTOOLS_VERSION, "version", "that of the header", aigtools_version());
+}
+
+static void check_verdicts_with_runs(void) {
+    static const char line[] = "$comment not confirmed $end\n";
+    uint8_t output[ROOM];
+    aigtools_outcome x, too_short;
+    run(output, ROOM, &x);
+    check(x.status == AIGTOOLS_DONE && x.number == 1, "run", "confirmed at step 1", (long)x.number);
+    memset(output, UNTOUCHED, sizeof output);
+    run_of(wrong_claim, sizeof wrong_claim - 1, output, ROOM, &x);
+    check(x.status == AIGTOOLS_NOT_CONFIRMED && x.number == 0, "run", "not confirmed", x.status);
+    check(memcmp(output, line, sizeof line - 1) == 0 && is_untouched(output + x.length, ROOM - x.length), "run",
+          "the text that is not confirmed", (long)x.length);
+    run_of(wrong_claim, sizeof wrong_claim - 1, output, x.length - 1, &too_short);
+    check(too_short.status == AIGTOOLS_TOO_SHORT && too_short.length == x.length && too_short.number == 0, "run",
+          "too short", (long)too_short.length);
+    run_of(claim, 4, output, ROOM, &x);
+    check(x.status == AIGTOOLS_REFUSED && x.kind == AIGTOOLS_BAD_WITNESS, "run", "refused", x.status);
+}
+
+static int time_conversion(const char *path, long times) {
+    FILE *file = fopen(path, "rb");
+    size_t length;
+    uint8_t *text = malloc(1u << 30), *output = malloc(1u << 30);
+    aigtools_outcome outcome;
+    struct timespec from, to;
+    long i;
+    if (!file || !text || !output) return 2;
+    length = fread(text, 1, 1u << 30, file);
+    fclose(file);
+    clock_gettime(CLOCK_MONOTONIC, &from);
+    for (i = 0; i < times; i++)
+        if (aigtools_convert(0, AIGTOOLS_LARGEST, text, length, output, 1u << 30, &outcome) != AIGTOOLS_DONE) return 2;
+    clock_gettime(CLOCK_MONOTONIC, &to);
+    printf("%.0f ns\n",
+           ((double)(to.tv_sec - from.tv_sec) * 1e9 + (double)(to.tv_nsec - from.tv_nsec)) / (double)times);
+    return 0;
+}
+
+int main(int count, char **words) {
+    size_t i;
+    if (count == 3) return time_conversion(words[1], atol(words[2]));
+    for (i = 0; i < CALLS; i++) {
+        aigtools_outcome outcome;
+        check(calls[i].of(texts[i], ROOM, &outcome) == AIGTOOLS_DONE, calls[i].name, "done", (long)i);
+        lengths[i] = outcome.length;
+        check_rooms(calls[i].name, calls[i].of, texts[i], lengths[i]);
+        check_refusals(calls[i].name, calls[i].of);
+    }
+    check_verdicts_with_runs();
+    check_refused_options();
+    check_threads();
+    return failed;
+}

@@ -1,0 +1,276 @@
+#!/usr/bin/env python3
+"""Large inputs are answered, where the contracts would allow that the program says it is out of memory.
+
+    tests/run/sizes.py PROGRAM [NAME]     all, or what has NAME in the name of its function
+
+Files, stimuli, witnesses and map blocks have more than 64 MB. Each section has 500,000 lines. There are 20,000 runs,
+1,000 frames, and 4,000,000 gates, each before the one that it is over. What is wanted is made here by rule. A run may
+take 1.5 GB of memory.
+
+The last line is 'N passed, M failed'.
+"""
+import filecmp
+import itertools
+import os
+import resource
+import subprocess
+import sys
+import tempfile
+from pathlib import Path
+
+sys.dont_write_bytecode = True
+sys.path[0] = str(Path(__file__).resolve().parent.parent)
+from lib import counts
+
+# bytes: a large file, and what a run may take; seconds that a run may take
+MANY, MEMORY, PATIENCE = 70_000_000, 1_500_000_000, 100
+# lines of each section; gates of a chain; runs
+LINES, GATES, RUNS = 500_000, 4_000_000, 20_000
+# latches and inputs to simulate; inputs of a long stimulus; frames, and gates in each
+WIDTH, INPUTS, FRAMES, CARRIED = 5_000, 1_000, 1_000, 1_000
+# bytes of a file that are held at a time
+EDGE = 65_536
+# lines that are made at once
+PIECE = 10_000
+
+
+class Room:
+    """The program in a folder of files, and what was judged."""
+
+    def __init__(self, program):
+        self.program, self.passed, self.wrong = program, 0, []
+
+    def judge(self, name, is_right, came=""):
+        self.passed += is_right
+        if not is_right:
+            self.wrong.append(f"{name}: came {came}")
+
+    def run(self, words, given, output):
+        """Standard error and the status of the words over this file; standard output goes to another."""
+        with open(given, "rb") as source, open(output, "wb") as sink:
+            how = {"stdin": source, "stdout": sink, "stderr": subprocess.PIPE, "timeout": PATIENCE}
+            done = subprocess.run([self.program, *words.split()], check=False, **how)
+        return done.stderr, done.returncode
+
+    def made(self, words, given, output="made"):
+        """The file that the words write."""
+        came = self.run(words, given, output)
+        self.judge(f"{words} < {given}", came == (b"", 0), came)
+        return output
+
+    def gives(self, words, given, wanted):
+        """That the words write what this file holds."""
+        came = self.run(words, given, "came")
+        self.judge(f"{words} < {given}", came == (b"", 0) and is_same("came", wanted), came)
+
+
+def is_same(first, second):
+    return os.path.exists(second) and filecmp.cmp(first, second, shallow=False)
+
+
+def write(name, *parts):
+    """A file of these parts: bytes, or texts that are made one by one."""
+    with open(name, "wb") as file:
+        for part in parts:
+            if isinstance(part, bytes):
+                file.write(part)
+                continue
+            texts = iter(part)
+            while piece := "".join(itertools.islice(texts, PIECE)):
+                file.write(piece.encode())
+    return name
+
+
+def comes_back(room, source, ordered):
+    """That a file comes back as ASCII and by its map, and that this is the text of its image."""
+    room.gives("aigtoaig --ascii", source, source)
+    room.gives("aigtoaig --ascii", room.made("aigtoaig", source), ordered)
+    room.gives("aigtoaig --undo-map --ascii", room.made("aigtoaig --keep-map", source), source)
+
+
+def chain(places):
+    """The gates of these places, each over the one before it and the input."""
+    yield f"aag {GATES + 1} 1 0 1 {GATES}\n2\n{2 * GATES + 2}\n"
+    yield from (f"{2 * place + 2} {2 * place} 2\n" for place in places)
+
+
+def large_chains(room):
+    write("ordered", chain(range(1, GATES + 1)))
+    write("chain", chain(range(GATES, 0, -1)))
+    comes_back(room, "chain", "ordered")
+    room.judge("the map block is large", os.path.getsize("made") > MANY)
+    write("steps", b"1\n0\nx\n")
+    write("trace", b" 1 1 \n 0 0 \n x x \n.\n")
+    room.gives("aigsim chain", "steps", "trace")
+    room.gives("aigsim --batch chain", "steps", "trace")
+
+
+def large_tails(room):
+    for name, text in (("comment", b"c\n%b"), ("name", b"o0 %b\n")):
+        write(name, b"aag 0 0 0 1 0\n1\n", text % (b"any bytes \0\r" * (MANY // 12)))
+        comes_back(room, name, name)
+        # 4,000 bytes of a name, and 100,000 digits
+        room.made(f"aigtoaig {'./' * 1990}{name} binary", os.devnull)
+        room.made(f"aigtoaig binary {'./' * 1990}again.aag --max-var {'0' * 100_000}1", os.devnull)
+        room.judge(f"a large {name} comes back by names", is_same(name, "again.aag"))
+        Path("again.aag").unlink(missing_ok=True)
+
+
+def wide(count, numbers, letters):
+    """So many entries of each section, with justice and fairness if there are letters for them, and the gates of these
+    numbers. The next state of a latch is an input, and each latch is an output. Each gate is a bad state: the
+    conjunction of all inputs up to its own."""
+    latch, gate, live = 2 * count + 2, 4 * count + 2, count * ("j" in letters)
+    yield f"aag {3 * count}{f' {count}' * 6}{f' {live} {live}' if live else ''}\n"
+    yield from (f"{2 * n + 2}\n" for n in range(count))
+    yield from (f"{latch + 2 * n} {2 * n + 2}{['', ' 1', f' {latch + 2 * n}'][n % 3]}\n" for n in range(count))
+    yield from (f"{latch + 2 * n}\n" for n in range(count))
+    yield from (f"{gate + 2 * n}\n" for n in range(count))
+    yield from itertools.repeat("1\n", count + live)
+    yield from (f"{latch + 2 * n}\n" for n in range(live))
+    yield from (f"{2 * n + 3}\n" for n in range(live))
+    yield from (f"{gate + 2 * n} {gate + 2 * n - 2 if n else 2} {2 * n + 2}\n" for n in numbers)
+    yield from (f"{letter}{n} {n}\n" for letter in letters for n in range(count))
+    yield "c\nwide\n"
+
+
+def reset(count):
+    """The first state."""
+    return ("01x" * count)[:count]
+
+
+def conjunctions(values):
+    """The values of the gates, over these inputs."""
+    zero, unknown = (values.find(it) % (len(values) + 1) for it in "0x")
+    return "1" * min(zero, unknown) + "x" * max(zero - unknown, 0) + "0" * (len(values) - zero)
+
+
+def trace(count, run):
+    """The lines of a run, with properties."""
+    state = reset(count)
+    for values in run:
+        yield f"{state} {values} {state} {values} {conjunctions(values)} {'1' * count}\n"
+        state = values
+    yield ".\n"
+
+
+def inputs(count):
+    """Some values of so many inputs, with which no bad state is 1 behind the first half, and then all 1."""
+    half = count // 2
+    return [("1" * half + "0x1x1"[at:] * count)[:count] for at in range(4)] + ["1" * count]
+
+
+def traces(room, count, runs):
+    """That these runs of the wide circuit give their traces."""
+    write("steps", ("".join(f"{values}\n" for values in run) + ".\n" for run in runs))
+    write("trace", (line for run in runs for line in trace(count, run)))
+    room.gives("aigsim --properties wide", "steps", "trace")
+    room.gives("aigsim --properties --batch wide", "steps", "trace")
+
+
+def judges(room, count, before):
+    """That a witness for the last bad state is confirmed behind so many steps, and not confirmed before."""
+    *some, last = (f"{values}\n" for values in inputs(count))
+    head = f"1\nb{count - 1}\n{reset(count)}\n".encode()
+    for end, answer in ((last, (0, f"confirmed {before}\n")), ("", (1, "not confirmed\n"))):
+        write("witness", head, itertools.islice(itertools.cycle(some), before), f"{end}.\n".encode())
+        errors, status = room.run("aigsim --witness wide", "witness", "came")
+        came = errors, status, Path("came").read_text(encoding="ascii")
+        room.judge(f"a witness of {before} steps over {count} inputs", came == (b"", *answer), came)
+
+
+def large_sections(room):
+    for name, numbers in (("wide", range(LINES - 1, -1, -1)), ("ordered", range(LINES))):
+        write(name, wide(LINES, numbers, "ilobcjf"))
+    room.judge("the sections are large", os.path.getsize("wide") > MANY)
+    comes_back(room, "wide", "ordered")
+    traces(room, LINES, [inputs(LINES)[:2]])
+    judges(room, LINES, 1)
+    write("safe", wide(LINES, range(LINES), "ilobc"))
+    room.made("aigunroll --frames 2 --ascii", "safe", "unrolled")
+    room.gives("aigtoaig --ascii", room.made("aigunroll --frames 2", "safe"), "unrolled")
+
+
+def many_runs(room):
+    write("wide", wide(1, range(1), "ilobcjf"))
+    traces(room, 1, [[*"10x"[at % 3 :]] for at in range(RUNS)])
+
+
+def many_latches(room):
+    write("wide", wide(WIDTH, range(WIDTH), "ilobcjf"))
+    values = inputs(WIDTH)
+    traces(room, WIDTH, [values[at % 5 :][:2] for at in range(300)])
+    judges(room, WIDTH, MANY // WIDTH)
+
+
+def long_stimuli(room):
+    """A conjunction of all inputs, over a stimulus of many bytes."""
+    gates = (f"{2 * (INPUTS + n)} {2 * (INPUTS + n) - 2 if n > 1 else 2} {2 * n + 2}\n" for n in range(1, INPUTS))
+    lines = (f"{2 * n + 2}\n" for n in range(INPUTS))
+    head = f"{2 * INPUTS - 1} {INPUTS} 0 1 {INPUTS - 1}\n"
+    write("wide", f"aag {head}".encode(), lines, f"{4 * INPUTS - 2}\n".encode(), gates)
+    steps = [(values, conjunctions(values)[-1]) for values in inputs(INPUTS)]
+    for runs, of_each in ((1, MANY // INPUTS), (RUNS // 10, 10 * MANY // RUNS // INPUTS)):
+        many = [steps[at % 5] for at in range(of_each)]
+        write("steps", ("".join(f"{values}\n" for values, _ in many) + ".\n" for _ in range(runs)))
+        write("trace", ("".join(f" {values} {out} \n" for values, out in many) + ".\n" for _ in range(runs)))
+        room.gives("aigsim wide", "steps", "trace")
+        room.gives("aigsim --batch wide", "steps", "trace")
+
+
+def many_frames(room):
+    """A chain of gates over the input, which begins at a latch that starts at 1 and ends as its next state."""
+    end, all_gates = 2 * CARRIED + 4, FRAMES * CARRIED
+    first, last = 2 * FRAMES + 2, 2 * (FRAMES + all_gates)
+    gates = (f"{2 * n + 4} {2 * n + 2} 2\n" for n in range(1, CARRIED + 1))
+    write("chain", f"aag {CARRIED + 2} 1 1 1 {CARRIED}\n2\n4 {end} 1\n{end}\n".encode(), gates)
+    write(
+        "wanted",
+        f"aag {FRAMES + all_gates} {FRAMES} 0 {FRAMES} {all_gates}\n".encode(),
+        (f"{2 * frame}\n" for frame in range(1, FRAMES + 1)),
+        (f"{2 * (FRAMES + frame * CARRIED)}\n" for frame in range(1, FRAMES + 1)),
+        f"{first} 2 1\n".encode(),
+        (f"{own} {own - 2} {2 * (n // CARRIED) + 2}\n" for n, own in enumerate(range(first + 2, last + 1, 2), 1)),
+    )
+    room.gives(f"aigunroll --frames {FRAMES} --ascii", "chain", "wanted")
+    room.gives("aigtoaig --ascii", room.made(f"aigunroll --frames {FRAMES}", "chain"), "wanted")
+
+
+def window_edges(room):
+    """Files that are longer than the part of a file that is held at a time, which ends at each byte of a row in one of
+    them: at a number, a space, a carriage return or a line feed."""
+    gates, head = 400, len(f"aag 401 1 0 {EDGE // 2} 400\n2\n")
+    for shift in range(30):
+        # bytes of outputs, so that some gates stand before the edge and some behind it
+        short = (EDGE - head - 2000) // 2 - shift
+        text = [f"aag {gates + 1} 1 0 {short + shift} {gates}", "2", *["3"] * short, *["10"] * shift]
+        text += [f"{at} {at - 2} {2 * (at % 3)}" for at in range(4, 2 * gates + 4, 2)]
+        write("edge", ("\n".join([*text, "i0 x", "c", "edge", ""])).encode())
+        room.gives("aigtoaig --ascii", "edge", "edge")
+        write("returns", ("\r\n".join(text) + "\r\ni0 x\nc\nedge\n").encode())
+        room.gives("aigtoaig --ascii", "returns", "edge")
+        for number in range(len(text) - gates + 205, len(text) - gates + 217):
+            write("wrong", "\n".join([*text[: number - 1], "4 4", *text[number:], ""]).encode())
+            came = room.run("aigtoaig", "wrong", "came")
+            room.judge(f"line {number}", came == (f"aiger: -: line {number}: bad line\n".encode(), 1), came)
+
+
+JUDGES = [large_chains, large_tails, large_sections, many_runs, many_latches, long_stimuli, many_frames, window_edges]
+
+
+def main(program, name=""):
+    _, most = resource.getrlimit(resource.RLIMIT_AS)
+    # the limit is that of this process, and each run has it from here
+    resource.setrlimit(resource.RLIMIT_AS, (MEMORY if most == resource.RLIM_INFINITY else min(most, MEMORY), most))
+    room, asked = Room(counts.need_program(program)), [it for it in JUDGES if name in it.__name__]
+    counts.need(asked, name)
+    for judge in asked:
+        with tempfile.TemporaryDirectory() as folder:
+            os.chdir(folder)
+            judge(room)
+            os.chdir("/")
+    counts.finish(room.wrong, room.passed)
+
+
+if __name__ == "__main__":
+    main(*sys.argv[1:])

@@ -1,0 +1,81 @@
+#!/usr/bin/env bash
+# What only the static program has: it runs in a root without a C library, asks for large pages by itself, and says what an
+# older processor lacks. Its answers are those of the program: see the rows.
+#
+#     tests/run/static.sh PROGRAM
+export AIGER=$1
+. "$(dirname "${BASH_SOURCE[0]}")/../lib/judge.sh"
+. "$top/tests/lib/streams.sh"
+need_program
+
+# --- a root that has the program, a circuit, and nothing else ---
+root=$work/root
+mkdir "$root"
+cp "$program" "$root/aiger"
+cp "$work/small" "$root/small"
+way=
+for words in chroot 'unshare --user --map-root-user chroot'; do
+    ! $words / true 2> /dev/null || way=${way:-$words}
+done
+if [ -n "$way" ]; then
+    in_root() { $way "$root" /aiger "$@"; }
+    wants "$small" '' 0
+    check 'a conversion in a root without a C library' in_root aigtoaig --ascii /small
+    wants '' 'aiger: /none: cannot read\n' 1
+    check 'a refusal in a root without a C library' in_root aigtoaig /none
+    wants '' '' 0
+    check 'a destination in a root without a C library' in_root aigtoaig --ascii /small /made
+    check 'and what stands there' cmp "$work/small" "$root/made"
+else
+    skip 4 'the root cannot be changed here'
+fi
+
+# --- large pages ---
+# asked_for WORD..: whether memory of the program that the words run is marked for large pages, once it has read a part of a
+# circuit
+asked_for() {
+    local from child marked
+    rm -f "$work/pipe"
+    mkfifo "$work/pipe"
+    "$@" aigtoaig - /dev/null < "$work/pipe" > /dev/null 2>&1 &
+    child=$!
+    exec {from}> "$work/pipe"
+    { echo 'aag 400000 400000 0 0 0'; seq 2 2 400000; } >&"$from"
+    for _ in {1..100}; do
+        marked=$(grep -c '^VmFlags:.* hg' "/proc/$child/smaps")
+        [ "$marked" = 0 ] || break
+        sleep 0.01
+    done
+    exec {from}>&-
+    wait "$child"
+    [ "$marked" != 0 ] && echo yes || echo no
+}
+read -r pages 2> /dev/null < /sys/kernel/mm/transparent_hugepage/enabled
+if [[ $pages = *'[madvise]'* ]]; then
+    wants 'yes\n' '' 0
+    check 'it asks for large pages' asked_for env -u GLIBC_TUNABLES "$program"
+    check 'and where there is no variable' asked_for env -i "$program"
+    check 'and beside one with a name that begins so' asked_for env -i GLIBC_TUNABLE=1 GLIBC_TUNABLES2=2 "$program"
+    wants 'no\n' '' 0
+    check 'unless the variable asks for something else' asked_for env GLIBC_TUNABLES=glibc.malloc.check=0 "$program"
+    check 'or for nothing' asked_for env GLIBC_TUNABLES= "$program"
+else
+    skip 5 'the system gives large pages to all, or to none'
+fi
+wants "$small" '' 0
+many=()
+for i in {1..1000}; do many+=("V$i=$i"); done
+check 'a thousand variables' env -i "${many[@]}" "$program" aigtoaig --ascii "$work/small"
+
+# --- an older processor ---
+if command -v qemu-x86_64 > /dev/null; then
+    older='this machine lacks a feature of x86-64-v2, which this program was built for: '
+    older+='run it on another machine, or build it with --cpu x86-64\n'
+    wants '' "$older" 127
+    check 'a processor before x86-64-v2' qemu-x86_64 -cpu core2duo "$program" --version
+    wants "$small" '' 0
+    check 'the first of x86-64-v2' qemu-x86_64 -cpu Nehalem "$program" aigtoaig --ascii "$work/small"
+else
+    skip 2 'no qemu-x86_64'
+fi
+finish

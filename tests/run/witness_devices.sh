@@ -1,0 +1,202 @@
+#!/usr/bin/env bash
+# Witnesses over devices of the system: standard streams that fail, names, pipes, and little memory.
+#
+#     tests/run/witness_devices.sh
+. "$(dirname "${BASH_SOURCE[0]}")/../lib/judge.sh"
+. "$top/tests/lib/streams.sh"
+need_program
+
+# a toggle that is bad where it is 1, and its witnesses: confirmed, not confirmed, and with bad lines
+make_witnesses() {
+    local toggle='aag 1 0 1 0 0 1\n2 3\n2\n'
+    judged=$work/judged
+    mkdir "$judged"
+    printf '%b' "$toggle" > "$judged/model.aag"
+    printf '1\nb0\n0\n\n\n.\n' > "$judged/witness"
+    printf '1\nb0\n0\n\n.\n' > "$judged/short"
+    printf '2\n' > "$judged/early_bad"
+    printf '1\nb0\n0\n\n\n.\n\n' > "$judged/late_bad"
+    printf 'aag 1 1 0 0 0\n' > "$judged/cut.aag"
+}
+confirm() { "$program" aigsim --witness "$judged/model.aag" "$@"; }
+
+witness_outputs() {
+    local stream
+    for stream in closed full; do
+        wants '' 'aiger: -: cannot write\n' 1
+        check "a witness that is confirmed, a $stream standard output" "output_$stream" confirm "$judged/witness"
+        check "a witness that is not confirmed, a $stream standard output" "output_$stream" confirm "$judged/short"
+        wants '' "aiger: $judged/early_bad: line 1: bad witness line\n" 1
+        check "a bad witness, a $stream standard output" "output_$stream" confirm "$judged/early_bad"
+        wants '' '' 1
+        check "a bad witness, a $stream standard error" "errors_$stream" confirm "$judged/late_bad"
+        wants 'not confirmed\n' '' 1
+        check "a witness that is not confirmed, a $stream standard error" "errors_$stream" confirm "$judged/short"
+        wants 'confirmed 1\n' '' 0
+        check "a witness that is confirmed, a $stream standard error" "errors_$stream" confirm "$judged/witness"
+    done
+    # the reader of the pipe has gone when the answer comes
+    wants '' 'aiger: -: cannot write\n' 1
+    : > "$work/out"
+    { sleep 0.3; confirm "$judged/witness"; } 2> "$work/err" | :
+    judge 'an answer into a pipe that nobody reads any more' "${PIPESTATUS[0]}"
+}
+
+witness_inputs() {
+    wants '' 'aiger: -: cannot read\n' 1
+    check 'a directory as witness by standard input' confirm < "$work"
+    check 'a closed standard input as witness' confirm <&-
+    check 'a closed standard input as model of a witness' "$program" aigsim --witness - "$judged/witness" <&-
+    wants '' "aiger: $work: cannot read\n" 1
+    check 'a directory as witness' confirm "$work"
+    wants '' "aiger: $judged/none: cannot read\n" 1
+    check 'a witness that is not there, a full standard output' output_full confirm "$judged/none"
+    wants 'confirmed 1\n' '' 0
+    check 'the witness by standard input' confirm < "$judged/witness"
+    check 'the witness by -' confirm - < "$judged/witness"
+    check 'the model of a witness by standard input' \
+        "$program" aigsim --witness - "$judged/witness" < "$judged/model.aag"
+    check 'all other streams closed' eval 'confirm "$judged/witness" <&- 2>&-'
+}
+
+# a witness whose model is refused, or of which the words are, is left alone for whoever reads standard input next
+witness_left_alone() {
+    wants '1\nb0\n0\n\n\n.\n' '' 0
+    check 'the witness of a model that is refused' unread aigsim --witness "$judged/cut.aag" < "$judged/witness"
+    check 'the witness of a model that is not there' unread aigsim --witness "$judged/none" < "$judged/witness"
+    check 'the witness of words that are refused' \
+        unread aigsim --witness --batch "$judged/model.aag" < "$judged/witness"
+    wants 'confirmed 1\n1\nb0\n0\n\n\n.\n' '' 0
+    check 'standard input, where model and witness are named' \
+        unread aigsim --witness "$judged/model.aag" "$judged/witness" < "$judged/witness"
+}
+
+# the answer waits for the end of the witness, since a line behind the dot would make it a bad one
+witness_in_pieces() {
+    pieces() { printf '1\nb'; sleep 0.1; printf '0\n0\r'; sleep 0.1; printf '\n\n'; sleep 0.1; printf '\n.'; }
+    bad_pieces() { printf '1\nb0\n0\n0'; sleep 0.1; printf '0'; sleep 0.1; printf '0\n.\n'; }
+    dot_then() { printf '1\nb0\n0\n\n\n.\n'; sleep 0.2; wc -c < "$work/out" > "$work/between"; printf '%b' "$1"; }
+    wants 'confirmed 1\n' '' 0
+    pieces | confirm > "$work/out" 2> "$work/err"
+    judge 'a witness that comes in pieces' "${PIPESTATUS[1]}"
+    wants '' 'aiger: -: line 4: bad witness line\n' 1
+    bad_pieces | confirm > "$work/out" 2> "$work/err"
+    judge 'a line of a witness that is too long and comes in pieces' "${PIPESTATUS[1]}"
+    wants '' 'aiger: -: line 7: bad witness line\n' 1
+    : > "$work/out"
+    dot_then 'z' | confirm > "$work/out" 2> "$work/err"
+    judge 'a byte that comes late behind the dot' "${PIPESTATUS[1]}"
+    wants 'confirmed 1\n' '' 0
+    : > "$work/out"
+    dot_then '' | confirm > "$work/out" 2> "$work/err"
+    judge 'a witness that ends late' "${PIPESTATUS[1]}"
+    if [ "$(< "$work/between")" = 0 ]; then pass; else
+        fail 'nothing is answered before the witness ends' "came   $(< "$work/between") bytes"
+    fi
+}
+
+witness_names() {
+    local name=$judged/$'two\nlines and spaces'
+    cp "$judged/witness" "$judged/-w"
+    cp "$judged/model.aag" "$judged/-m"
+    cp "$judged/witness" "$judged/witness.gz"
+    cp "$judged/witness" "$name"
+    ln -s witness "$judged/link"
+    chmod 400 "$judged/model.aag" "$judged/witness"
+    wants 'confirmed 1\n' '' 0
+    check 'model and witness that may only be read' confirm "$judged/witness"
+    check 'a link to a witness' confirm "$judged/link"
+    check 'any ending of the name of a witness' confirm "$judged/witness.gz"
+    check 'a name of a witness with a line feed and spaces' confirm "$name"
+    check 'names that begin with - behind --, to judge' eval 'cd "$judged" && "$program" aigsim --witness -- -m -w'
+    check 'options behind the names of model and witness' \
+        "$program" aigsim "$judged/model.aag" "$judged/link" --max-var=1 --witness
+    wants '' "aiger: $judged/late_bad: line 7: bad witness line\n" 1
+    check 'a bad witness is named' confirm "$judged/late_bad"
+    wants '' "aiger: $judged/cut.aag: line 2: file ends too early\n" 1
+    check 'a refused model is named, and not the bad witness' \
+        "$program" aigsim --witness "$judged/cut.aag" "$judged/late_bad"
+    check 'a refused model is named, and not a witness that is not there' \
+        "$program" aigsim --witness "$judged/cut.aag" "$judged/none"
+    refused 'a witness in a batch' 'aiger: --witness stands alone' aigsim --witness --batch a b
+    refused 'a witness with properties' 'aiger: --witness stands alone' aigsim --witness --properties a
+    refused 'one stream for model and witness' 'aiger: model and stimulus are both standard input' aigsim --witness -
+    refused 'three names to judge' 'c' aigsim --witness a b c
+}
+
+witness_pipes() {
+    mkfifo "$judged/model_pipe" "$judged/pipe"
+    timeout 10 bash -c 'cat "$1/model.aag" > "$1/model_pipe"' cat "$judged" &
+    timeout 10 bash -c 'cat "$1/witness" > "$1/pipe"' cat "$judged" &
+    wants 'confirmed 1\n' '' 0
+    check 'pipes as model and as witness' "$program" aigsim --witness "$judged/model_pipe" "$judged/pipe"
+    wait
+    wants '' "aiger: $judged/cut.aag: line 2: file ends too early\n" 1
+    check 'no witness is waited for where a model is refused' \
+        timeout 10 "$program" aigsim --witness "$judged/cut.aag" "$judged/pipe"
+}
+
+# memory is taken for the model and one line, before the witness is read, however many steps it has
+witness_memory() {
+    local input='aag 10 10 0 0 0 1\n2\n4\n6\n8\n10\n12\n14\n16\n18\n20\n20\n'
+    in_little_memory() { ( ulimit -v 20480 && exec timeout 300 "$program" aigsim --witness "$work/model" ); }
+    # head_of COUNT LINE: a witness of the input's model whose first COUNT steps are LINE
+    head_of() { printf '1\nb0\n\n'; yes "$2" 2> /dev/null | head -n "$1"; }
+    printf '%b' "$input" > "$work/model"
+    wants 'confirmed 1000000\n' '' 0
+    { head_of 1000000 1111111110; printf '0000000001\n.\n'; } | in_little_memory > "$work/out" 2> "$work/err"
+    judge '1,000,001 steps in 20 MB of memory' "${PIPESTATUS[1]}"
+    wants 'not confirmed\n' '' 1
+    { head_of 1000000 xxxxxxxxxx; printf '.\n'; } | in_little_memory > "$work/out" 2> "$work/err"
+    judge '1,000,000 steps that are not confirmed in 20 MB of memory' "${PIPESTATUS[1]}"
+    wants '' 'aiger: -: line 1000005: bad witness line\n' 1
+    { head_of 1000000 1111111111; printf '.\n.\n'; } | in_little_memory > "$work/out" 2> "$work/err"
+    judge 'a bad line behind 1,000,000 steps' "${PIPESTATUS[1]}"
+    wants '' 'aiger: -: line 4: bad witness line\n' 1
+    { printf '1\nb0\n\n'; head -c 100000000 /dev/zero | tr '\0' 1; } | in_little_memory > "$work/out" 2> "$work/err"
+    judge 'a step of 100 MB in 20 MB of memory' "${PIPESTATUS[1]}"
+    wants '' 'aiger: -: line 1: bad witness line\n' 1
+    head -c 100000000 /dev/zero | tr '\0' 1 | in_little_memory > "$work/out" 2> "$work/err"
+    judge 'a first line of 100 MB in 20 MB of memory' "${PIPESTATUS[2]}"
+    wants '' 'aiger: -: line 2: bad witness line\n' 1
+    { printf '1\nb'; head -c 100000000 /dev/zero | tr '\0' 0; } | in_little_memory > "$work/out" 2> "$work/err"
+    judge 'a position of 100 MB in 20 MB of memory' "${PIPESTATUS[1]}"
+    witness_of_a_chain 'in the order of the chain' 1 200000
+    witness_of_a_chain 'each before the gate that it is over' 200000 -1 1
+    printf 'aag 2147483647 2 0 0 0 1\n4294967294\n2\n4294967295\n' > "$work/in"
+    printf '1\nb0\n\n10\n00\n.\n' > "$work/witness"
+    wants 'confirmed 1\n' '' 0
+    check '20 MB are enough to judge a witness of the largest variable' \
+        within 20480 "$program" aigsim --witness - "$work/witness" < "$work/in"
+    witness_without_memory
+}
+
+# witness_of_a_chain NAME NUMBER..: 200,000 gates, of which each is the input, and the last is the bad state
+witness_of_a_chain() {
+    chain 0 "${@:2}" | sed '1s/.*/aag 200001 1 0 0 200000 1/' > "$work/chain"
+    printf '1\nb0\n\n0\nx\n1\n.\n' > "$work/in"
+    wants 'confirmed 2\n' '' 0
+    check "a witness of 200,000 gates, $1" "$program" aigsim --witness "$work/chain" < "$work/in"
+}
+
+# a model of few bytes with 10^8 inputs: nothing was read of its witness when memory runs out
+witness_without_memory() {
+    printf 'aig 100000000 100000000 0 0 0\n' > "$work/inputs"
+    printf '1\nb0\n\n' > "$work/in"
+    too_large_to_judge() { within 204800 "$program" aigsim --witness "$work/inputs" 2> "$work/told"; cat; }
+    wants '1\nb0\n\n' '' 0
+    check 'a model too large for the memory, and its witness' too_large_to_judge < "$work/in"
+    if [ "$(cat "$work/told")" = 'aiger: out of memory' ]; then pass; else
+        fail 'a model of a witness too large for the memory' "came   $(cat "$work/told")"
+    fi
+}
+
+make_witnesses
+witness_outputs
+witness_inputs
+witness_left_alone
+witness_in_pieces
+witness_names
+witness_pipes
+witness_memory
+finish
