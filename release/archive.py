@@ -15,19 +15,26 @@ from pathlib import Path
 CRATE = Path(__file__).resolve().parent.parent / "crates" / "aigtools_c"
 
 
-def build_over_ci(rt, flags):
-    """Builds the archive over what `rt ci` left. Returns the status, or None where something else was kept."""
+def crate_over_ci(rt, folder):
+    """The crate of this folder, over what `rt ci` left of those below it, or None where something else was kept."""
     sys.path.insert(0, str(Path(shutil.which(rt)).resolve().parent))
     try:
         import rtlib
 
-        crate = rtlib.Crate(str(CRATE), str(CRATE.parent.parent), {}, name=None)
+        crate = rtlib.Crate(str(folder), str(folder.parent.parent), {}, name=None)
         folders = [Path(it.folder, "out", "rlib") for it in crate.below()]
         is_whole = all(os.path.isdir(it.rlib) for it in crate.below())
-        if not is_whole or any(Path(it, "stamp").exists() for it in folders):
-            return None
-        return crate.build_static(["--jobs", "2", *flags])
+        return crate if is_whole and not any(Path(it, "stamp").exists() for it in folders) else None
     except (ImportError, AttributeError, TypeError, SystemExit):  # another kit has other words for this
+        return None
+
+
+def build_over_ci(rt, flags):
+    """Builds the archive over what `rt ci` left. Returns the status, or None where that is not to be had."""
+    crate = crate_over_ci(rt, CRATE)
+    try:
+        return crate and crate.build_static(["--jobs", "2", *flags])
+    except (AttributeError, TypeError, SystemExit):
         return None
 
 
